@@ -2,6 +2,7 @@ mod Changes
 mod Crash
 mod Deeds
 mod Drives
+mod Exits
 mod Lists
 mod Moments
 mod OneState
@@ -12,3 +13,4 @@ mod Replays
 mod Rest
 mod Told
 mod Writes
+mod Stops

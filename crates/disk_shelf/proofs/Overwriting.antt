@@ -1,9 +1,9 @@
 -- What a write does to bytes in memory, and to the first half of it that a stop leaves, is what a disk's write may do.
-use Rattle.std.proofs.Common.{◌≡◌, ◌⊎◌, inl, inr, ℕ, ◌+◌, ◌-◌, ◌/◌, ◌<◌, ◌≤◌, Bool, true, false, List, [], ◌∷◌, ◌++◌, length, take, drop, replicate, refl, sym, ap, subst, ◌∙◌, arith, append-nil, length-append, length-take, length-drop}
+use Rattle.std.proofs.Common.{◌≡◌, ◌⊎◌, inl, inr, ℕ, ◌+◌, ◌-◌, ◌/◌, ◌<◌, ◌≤◌, Bool, true, false, List, ◌++◌, length, take, drop, replicate, refl, sym, ap, subst, ◌∙◌, arith, append-nil, length-append, length-take}
 use Rattle.std.proofs.lemmas.Bool.{cases_lt}
 use Rattle.std.proofs.lemmas.List.{take_all, drop_all, length-replicate}
 use Rattle.disk_shelf.specs.Disk.{Writes, Torn, Follows, NoOther}
-use Rattle.disk_shelf.specs.Deeds.{Images, after_deed, first_half, IsImage, padded, stopped_at, written_over}
+use Rattle.disk_shelf.specs.Deeds.{Images, after_deed, first_half, IsImage, padded, written_over}
 use Rattle.disk_shelf.specs.Deeds.Deed.{Write, Sync}
 use Rattle.disk_shelf.proofs.Crash.{written_torn, beyond_torn, torn_wider}
 
@@ -35,7 +35,7 @@ over_torn old at piece = by (cases_lt (length old) at)
         (beyond old at piece (omega (arith, past)))
     by (inr within) = written_torn old at piece (written_over old at piece) within (over_writes old at piece within)
 
-half_torn : (old : List ℕ) (at : ℕ) (piece : List ℕ) → Torn at (length piece) old (written_over old at (first_half piece))
+pub half_torn : (old : List ℕ) (at : ℕ) (piece : List ℕ) → Torn at (length piece) old (written_over old at (first_half piece))
 half_torn old at piece =
     torn_wider at (length (first_half piece)) (length piece) old (written_over old at (first_half piece))
     (omega (arith, length-take (length piece - length piece / 2) piece)) (over_torn old at (first_half piece))

@@ -7,3 +7,5 @@ pub mod MemDisk
 pub mod Opening
 pub mod Reading
 pub mod Records
+pub mod Steps
+pub mod Stops

@@ -1,9 +1,9 @@
 -- A disk in memory, as contracts see it.
-use Rattle.std.specs.Prelude.{◌≡◌, ℕ, ◌+◌, ◌-◌, ◌≤◌, Bool, true, false, min, Option, Some, None, List, [], ◌∷◌, ◌++◌, length, take, drop, nat_eq, if◌then◌else◌}
+use Rattle.std.specs.Prelude.{◌≡◌, ℕ, ◌+◌, ◌-◌, ◌≤◌, Bool, true, false, Option, Some, None, List, [], ◌∷◌, ◌++◌, length, take, drop, nat_eq, if◌then◌else◌}
 use Rattle.disk_shelf.specs.declared.logged.Logged.{Logged}
 use Rattle.disk_shelf.specs.declared.logged.Logged.TheVariants as logged
 use Rattle.xfs_base.specs.Causes.{next_count}
-use Rattle.disk_shelf.specs.Deeds.{Deed, Images, images}
+use Rattle.disk_shelf.specs.Deeds.{Deed, images}
 use Rattle.disk_shelf.specs.Deeds.Deed.{Write, Sync}
 
 -- all that it did, how many passes a stop that waits has left, whether it is stopped, and how often it failed

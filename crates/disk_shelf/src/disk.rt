@@ -1,5 +1,5 @@
 //! A disk: what it reads, and what a crash may leave of it.
-ghost use Rattle.std.specs.Prelude.{◌≡◌, ◌≤◌, ◌<◌, ◌+◌, ◌-◌, ◌^◌, List, ℕ, length, take, drop, min, IfOk, OnOk};
+ghost use Rattle.std.specs.Prelude.{◌≡◌, ◌≤◌, ◌<◌, ◌+◌, ◌-◌, ◌^◌, Bool, List, ℕ, length, take, drop, min, is_ok, IfOk, OnOk};
 ghost use Rattle.xfs_base.specs.Causes.{CountsFaults};
 ghost use Rattle.disk_shelf.specs.Disk.{Only, NoOther, Follows, Torn, Writes, Elapses, Uses};
 
@@ -8,7 +8,8 @@ use xfs_base::{Failed, Mem};
 
 /// Bytes that outlast a crash. A disk means what it reads now, the images that a crash now may leave, those of
 /// all moments since an earlier one, how often it failed, and for how many more writes and syncs, and bytes in
-/// them, room was made. What it reads is one of its images.
+/// them, room was made. What it reads is one of its images. A disk that a contract may follow call by call says what
+/// each call that changes it makes of it; of any other these three say nothing.
 pub trait Disk {
     /// What it reads now.
     ghost seen: { Self → List ℕ };
@@ -30,6 +31,15 @@ pub trait Disk {
 
     /// For how many more bytes in them.
     ghost bytes_left: { Self → ℕ };
+
+    /// What making room makes of it.
+    ghost by_room: { Self → Self → Type 0 };
+
+    /// What a write of these bytes at this offset makes of it, answered `Ok` or not.
+    ghost by_write: { Self → ℕ → List ℕ → Bool → Self → Type 0 };
+
+    /// What a sync makes of it, answered `Ok` or not.
+    ghost by_sync: { Self → Bool → Self → Type 0 };
 
     /// How many bytes it has.
     fn len(&self) -> u64
@@ -53,7 +63,8 @@ pub trait Disk {
         ensures seen { seen self.new ≡ seen self.old }
         ensures crash { NoOther (may_leave self.old) (may_leave self.new) }
         ensures time { Elapses (moment self.old) (moment self.new) (left_since self.old) (left_since self.new) (may_leave self.new) }
-        ensures faults { faults self.new ≡ faults self.old };
+        ensures faults { faults self.new ≡ faults self.old }
+        ensures exact { by_room self.old self.new };
 
     /// Writes over what is there, and past the end. Until a sync, a crash may leave any bytes in the range, and any
     /// length up to the end of it. It fails only where the count of faults rises.
@@ -66,7 +77,8 @@ pub trait Disk {
         ensures crash { Follows (Torn at (length piece.now)) (may_leave self.old) (may_leave self.new) }
         ensures time { Elapses (moment self.old) (moment self.new) (left_since self.old) (left_since self.new) (may_leave self.new) }
         ensures spare { Uses 1 (length piece.now) (calls_left self.old) (bytes_left self.old) (calls_left self.new) (bytes_left self.new) }
-        ensures cause { CountsFaults (faults self.old) (faults self.new) result };
+        ensures cause { CountsFaults (faults self.old) (faults self.new) result }
+        ensures exact { by_write self.old at piece.now (is_ok result) self.new };
 
     /// After it, a crash leaves what a read gives. It fails only where the count of faults rises.
     fn sync(&mut self) -> Result<(), Failed>
@@ -76,7 +88,8 @@ pub trait Disk {
         ensures crash { NoOther (may_leave self.old) (may_leave self.new) }
         ensures time { Elapses (moment self.old) (moment self.new) (left_since self.old) (left_since self.new) (may_leave self.new) }
         ensures spare { Uses 1 0 (calls_left self.old) (bytes_left self.old) (calls_left self.new) (bytes_left self.new) }
-        ensures cause { CountsFaults (faults self.old) (faults self.new) result };
+        ensures cause { CountsFaults (faults self.old) (faults self.new) result }
+        ensures exact { by_sync self.old (is_ok result) self.new };
 
     /// What it reads is one of its images.
     ghost reads_an_image: { (disk : Self) → may_leave disk (seen disk) };

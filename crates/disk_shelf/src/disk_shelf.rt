@@ -1,5 +1,5 @@
 //! A shelf that is kept on a disk.
-ghost use Rattle.std.specs.Prelude.{◌≡◌, ◌≢◌, ◌⊎◌, ◌↔◌, ◌<◌, ◌≤◌, ◌+◌, ◌^◌, ◌||◌, List, ℕ, length, not, IfOk, IfErr, OnOk, OnErr, IsErrOf, IsTrue, IsFalse, Some, None, MatchResult};
+ghost use Rattle.std.specs.Prelude.{◌≡◌, ◌≢◌, ◌⊎◌, ◌↔◌, ◌<◌, ◌≤◌, ◌+◌, ◌^◌, ◌||◌, List, ℕ, length, not, true, false, IfOk, IfErr, OnOk, OnErr, IsErrOf, IsTrue, IsFalse, Some, None, MatchResult};
 ghost use Rattle.xfs_base.specs.Causes.{Rose};
 ghost use Rattle.xfs_base.specs.Segments.{pass_cmp};
 ghost use Rattle.xfs_base.specs.Stamps.{is_greater};
@@ -9,9 +9,10 @@ ghost use Rattle.disk_shelf.specs.declared.disk_error.DiskError.TheVariants.{Mem
 ghost use Rattle.disk_shelf.specs.Disk.{LeavesOnly};
 ghost use Rattle.disk_shelf.specs.Records.{DiskState, body, text, after_record, StandsFor, Leaves};
 ghost use Rattle.disk_shelf.specs.Kept.{Kept, LeavesEither, in_disk};
-ghost use Rattle.disk_shelf.specs.MemDisk.{set_to_stop, started};
+ghost use Rattle.disk_shelf.specs.MemDisk.{disk_bytes, set_to_stop, started};
 ghost use Rattle.disk_shelf.specs.Opening.{disk_of, HasCause};
 ghost use Rattle.disk_shelf.specs.Reading.{StandsAs};
+ghost use Rattle.disk_shelf.specs.Steps.{TookRecord};
 
 use crate::applied::apply;
 use crate::durable::append;
@@ -22,6 +23,7 @@ use crate::{Disk, DiskError, MemDisk, OpenError, Record};
 use fragment_store::{Missing, Shelf, StoreError};
 use std::alloc::Global;
 use std::marker::Model;
+use std::mem;
 use xfs_base::{Crosses, FragMeta, Fragment, List, LogId, Mem, Pass, SegName};
 
 /// A shelf that is kept on a disk. Whatever a crash leaves of the disk during a call stands for the shelf before
@@ -76,6 +78,8 @@ impl<D: Disk> DiskShelf<D> {
         ensures fault { IsErrOf result Fault → Rose (D.faults self.old.disk) (D.faults self.new.disk) }
         ensures no_other { (e : _) → IsErrOf result e → (e ≡ Memory) ⊎ (e ≡ Fault) }
         ensures closed { IsTrue self.new.closed ↔ IsErrOf result Fault }
+        ensures exact { OnOk result (TookRecord D.seen D.may_leave D.by_room D.by_write D.by_sync self.old.disk self.old.state (after_record self.old.state change) true self.new.disk) }
+        ensures cut { IsErrOf result Fault → TookRecord D.seen D.may_leave D.by_room D.by_write D.by_sync self.old.disk self.old.state (after_record self.old.state change) false self.new.disk }
     {
         let gate = self.gate;
         let behind = encode(alloc, &change)?;
@@ -120,6 +124,8 @@ impl<D: Disk> DiskShelf<D> {
         ensures same { (e : _) → e ≢ Fault → IsErrOf result e → (self.new.state ≡ self.old.state) × (D.seen self.new.disk ≡ D.seen self.old.disk) }
         ensures fault { IsErrOf result Fault → Rose (D.faults self.old.disk) (D.faults self.new.disk) }
         ensures closes { IsTrue self.new.closed ↔ (IsTrue self.old.closed ⊎ IsErrOf result Fault) }
+        ensures exact { OnOk result ((self.new ≡ self.old) ⊎ TookRecord D.seen D.may_leave D.by_room D.by_write D.by_sync self.old.disk self.old.state (after_record self.old.state (Record.Fence log pass)) true self.new.disk) }
+        ensures cut { IsErrOf result Fault → TookRecord D.seen D.may_leave D.by_room D.by_write D.by_sync self.old.disk self.old.state (after_record self.old.state (Record.Fence log pass)) false self.new.disk }
     {
         if self.closed {
             return Err(DiskError::Closed);
@@ -146,6 +152,8 @@ impl<D: Disk> DiskShelf<D> {
         ensures same { (e : _) → e ≢ Fault → IsErrOf result e → (self.new.state ≡ self.old.state) × (D.seen self.new.disk ≡ D.seen self.old.disk) }
         ensures fault { IsErrOf result Fault → Rose (D.faults self.old.disk) (D.faults self.new.disk) }
         ensures closes { IsTrue self.new.closed ↔ (IsTrue self.old.closed ⊎ IsErrOf result Fault) }
+        ensures exact { OnOk result ((self.new ≡ self.old) ⊎ TookRecord D.seen D.may_leave D.by_room D.by_write D.by_sync self.old.disk self.old.state (after_record self.old.state (Record.Welcome generation)) true self.new.disk) }
+        ensures cut { IsErrOf result Fault → TookRecord D.seen D.may_leave D.by_room D.by_write D.by_sync self.old.disk self.old.state (after_record self.old.state (Record.Welcome generation)) false self.new.disk }
     {
         if self.closed {
             return Err(DiskError::Closed);
@@ -169,6 +177,8 @@ impl<D: Disk> DiskShelf<D> {
         ensures same { (e : _) → e ≢ Fault → IsErrOf result e → (self.new.state ≡ self.old.state) × (D.seen self.new.disk ≡ D.seen self.old.disk) }
         ensures fault { IsErrOf result Fault → Rose (D.faults self.old.disk) (D.faults self.new.disk) }
         ensures closes { IsTrue self.new.closed ↔ (IsTrue self.old.closed ⊎ IsErrOf result Fault) }
+        ensures exact { OnOk result (TookRecord D.seen D.may_leave D.by_room D.by_write D.by_sync self.old.disk self.old.state (record self.old.state { shelf = on_lose self.old.state.shelf }) true self.new.disk) }
+        ensures cut { IsErrOf result Fault → TookRecord D.seen D.may_leave D.by_room D.by_write D.by_sync self.old.disk self.old.state (record self.old.state { shelf = on_lose self.old.state.shelf }) false self.new.disk }
     {
         if self.closed {
             return Err(DiskError::Closed);
@@ -190,6 +200,8 @@ impl<D: Disk> DiskShelf<D> {
         ensures same { (e : _) → e ≢ Fault → IsErrOf result e → (self.new.state ≡ self.old.state) × (D.seen self.new.disk ≡ D.seen self.old.disk) }
         ensures fault { IsErrOf result Fault → Rose (D.faults self.old.disk) (D.faults self.new.disk) }
         ensures closes { IsTrue self.new.closed ↔ (IsTrue self.old.closed ⊎ IsErrOf result Fault) }
+        ensures exact { OnOk result ((self.new ≡ self.old) ⊎ TookRecord D.seen D.may_leave D.by_room D.by_write D.by_sync self.old.disk self.old.state (record self.old.state { shelf = on_delete self.old.state.shelf name }) true self.new.disk) }
+        ensures cut { IsErrOf result Fault → TookRecord D.seen D.may_leave D.by_room D.by_write D.by_sync self.old.disk self.old.state (record self.old.state { shelf = on_delete self.old.state.shelf name }) false self.new.disk }
     {
         if self.closed {
             return Err(DiskError::Closed);
@@ -216,6 +228,8 @@ impl<D: Disk> DiskShelf<D> {
         ensures same { (e : _) → e ≢ Fault → IsErrOf result e → (self.new.state ≡ self.old.state) × (D.seen self.new.disk ≡ D.seen self.old.disk) }
         ensures fault { IsErrOf result Fault → Rose (D.faults self.old.disk) (D.faults self.new.disk) }
         ensures closes { IsTrue self.new.closed ↔ (IsTrue self.old.closed ⊎ IsErrOf result Fault) }
+        ensures exact { OnOk result ((self.new ≡ self.old) ⊎ TookRecord D.seen D.may_leave D.by_room D.by_write D.by_sync self.old.disk self.old.state (record self.old.state { shelf = on_fill self.old.state.shelf fragment }) true self.new.disk) }
+        ensures cut { IsErrOf result Fault → TookRecord D.seen D.may_leave D.by_room D.by_write D.by_sync self.old.disk self.old.state (record self.old.state { shelf = on_fill self.old.state.shelf fragment }) false self.new.disk }
     {
         if self.closed {
             return Err(DiskError::Closed);
@@ -251,6 +265,8 @@ impl<D: Disk> DiskShelf<D> {
         ensures same { (e : _) → e ≢ Fault → IsErrOf result e → (self.new.state ≡ self.old.state) × (D.seen self.new.disk ≡ D.seen self.old.disk) }
         ensures fault { IsErrOf result Fault → Rose (D.faults self.old.disk) (D.faults self.new.disk) }
         ensures closes { IsTrue self.new.closed ↔ (IsTrue self.old.closed ⊎ IsErrOf result Fault) }
+        ensures exact { OnOk result ((self.new ≡ self.old) ⊎ TookRecord D.seen D.may_leave D.by_room D.by_write D.by_sync self.old.disk self.old.state (record self.old.state { shelf = kept self.old.state.shelf fragment }) true self.new.disk) }
+        ensures cut { IsErrOf result Fault → TookRecord D.seen D.may_leave D.by_room D.by_write D.by_sync self.old.disk self.old.state (record self.old.state { shelf = kept self.old.state.shelf fragment }) false self.new.disk }
     {
         if self.closed {
             return Err(DiskError::Closed);
@@ -288,6 +304,13 @@ impl<D: Disk> DiskShelf<D> {
         self.shelf.barred(alloc)
     }
 
+    /// The shelf, as it is in memory. Takes no memory.
+    pub fn shelf(&self) -> &Shelf
+        ensures { result.now ≡ self.now.state.shelf }
+    {
+        &self.shelf
+    }
+
     /// How often the disk was lost, and one. Takes no memory.
     pub fn generation(&self) -> u32
         ensures { result ≡ self.now.state.shelf.generation }
@@ -311,7 +334,8 @@ impl<D: Disk> DiskShelf<D> {
 
     /// The disk. Takes no memory.
     pub fn close(self) -> D
-        ensures { result ≡ self.disk }
+        ensures disk { result ≡ self.disk }
+        ensures stands { IsFalse self.closed → StandsFor self.state (D.seen result) }
     {
         let DiskShelf {
             disk,
@@ -339,6 +363,26 @@ impl DiskShelf<MemDisk> {
         ensures { self.new ≡ record self.old { disk = record self.old.disk { drive = started self.old.disk.drive } } }
     {
         self.disk.start();
+    }
+
+    /// Starts the disk, whatever stopped it, and opens it again, as `open` does: the shelf is then the one for which the disk
+    /// stands. Where that can't be done the shelf stays closed, with an empty disk, and the error gives the disk back.
+    pub fn reopen(&mut self, alloc: Global) -> Result<(), OpenError<MemDisk>>
+        ensures stands { OnOk result (StandsFor self.new.state (disk_bytes self.old.disk)) }
+        ensures open { OnOk result (IsFalse self.new.closed) }
+        ensures runs { OnOk result (IsFalse self.new.disk.drive.stopped × (self.new.disk.drive.passes ≡ None)) }
+    {
+        self.closed = true;
+        let mut disk = mem::replace(&mut self.disk, MemDisk::new(alloc));
+        disk.start();
+        match open(alloc, disk) {
+            Ok(opened) => {
+                drop(mem::replace(self, opened));
+                self.start();
+                Ok(())
+            }
+            Err(error) => Err(error),
+        }
     }
 
     /// How many writes and syncs of the disk a stop that waits still lets pass; none where none waits. Takes

@@ -1,8 +1,9 @@
 //! Writes that are on the disk when they are answered.
-ghost use Rattle.std.specs.Prelude.{◌≡◌, ◌≢◌, ◌⊎◌, ◌≤◌, ◌<◌, ◌+◌, ◌^◌, ◌++◌, ◌∷◌, [], List, ℕ, length, take, OnOk};
+ghost use Rattle.std.specs.Prelude.{◌≡◌, ◌≢◌, ◌⊎◌, ◌≤◌, ◌<◌, ◌+◌, ◌^◌, ◌++◌, ◌∷◌, [], List, ℕ, length, take, is_ok, OnOk};
 ghost use Rattle.xfs_base.specs.Causes.{CountsFaults};
 ghost use Rattle.disk_shelf.specs.Disk.{Only, Torn, Writes, LeavesOnly, Uses};
 ghost use Rattle.disk_shelf.specs.Gates.{HasClosed, HasOpen};
+ghost use Rattle.disk_shelf.specs.Steps.{PutBy, AppendedBy};
 
 use crate::Disk;
 use xfs_base::Failed;
@@ -19,6 +20,7 @@ pub fn put<D: Disk>(disk: &mut D, at: u64, piece: &[u8]) -> Result<(), Failed>
     ensures any_moment { LeavesOnly D.moment D.left_since disk.old disk.new (Torn at (length piece.now) (D.seen disk.old)) }
     ensures spare { Uses 2 (length piece.now) (D.calls_left disk.old) (D.bytes_left disk.old) (D.calls_left disk.new) (D.bytes_left disk.new) }
     ensures cause { CountsFaults (D.faults disk.old) (D.faults disk.new) result }
+    ensures exact { PutBy D.by_write D.by_sync disk.old at piece.now (is_ok result) disk.new }
 {
     disk.write_at(at, piece)?;
     disk.sync()
@@ -37,6 +39,7 @@ pub fn append<D: Disk>(disk: &mut D, gate: u64, behind: &[u8]) -> Result<(), Fai
     ensures any_moment { LeavesOnly D.moment D.left_since disk.old disk.new
         (λ c. HasClosed gate (take gate (D.seen disk.old)) c ⊎ HasOpen (take gate (D.seen disk.old)) behind.now c) }
     ensures cause { CountsFaults (D.faults disk.old) (D.faults disk.new) result }
+    ensures exact { AppendedBy D.by_write D.by_sync disk.old gate behind.now (is_ok result) disk.new }
 {
     put(disk, gate + 1, behind)?;
     put(disk, gate, &[1])

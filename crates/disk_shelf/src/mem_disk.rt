@@ -1,5 +1,5 @@
 //! A disk in memory, which can be stopped.
-ghost use Rattle.std.specs.Prelude.{◌≡◌, ◌⊎◌, ◌↔◌, ◌<◌, ◌≤◌, ◌+◌, ◌-◌, ◌/◌, ◌^◌, [], ◌∷◌, ◌++◌, List, ℕ, length, take, drop, min, refl, true, OnOk, OnErr, IfOk, IsErr, IsTrue, IsFalse, if◌then◌else◌};
+ghost use Rattle.std.specs.Prelude.{◌≡◌, ◌⊎◌, ◌↔◌, ◌<◌, ◌≤◌, ◌+◌, ◌-◌, ◌/◌, ◌^◌, [], ◌∷◌, ◌++◌, List, ℕ, length, take, drop, min, refl, true, not, is_ok, OnOk, OnErr, IfOk, IsErr, IsTrue, IsFalse, if◌then◌else◌};
 ghost use Rattle.std.specs.Vec.{vec_capacity};
 ghost use Rattle.std.proofs.Common.{inl, sym, subst};
 ghost use Rattle.std.proofs.Math.Nat.{le_refl};
@@ -124,7 +124,7 @@ impl MemDisk {
     fn pass(&mut self, stops: bool) -> Result<(), Failed>
         ensures drive { self.new ≡ record self.old { drive = passed stops self.old.drive } }
         ensures ok { OnOk result (IsFalse stops) }
-        ensures err { OnErr result (IsTrue stops) }
+        ensures answered { IsFalse self.old.drive.stopped → is_ok result ≡ not self.new.drive.stopped }
     {
         if stops {
             self.stopped = true;
@@ -162,6 +162,12 @@ impl Disk for MemDisk {
     ghost calls_left = { λ m. m.calls_left };
 
     ghost bytes_left = { λ m. m.bytes_left };
+
+    ghost by_room = { λ m n. n.drive ≡ m.drive };
+
+    ghost by_write = { λ m at piece ok n. (n.drive ≡ acted m.drive (Write at piece)) × (ok ≡ not n.drive.stopped) };
+
+    ghost by_sync = { λ m ok n. (n.drive ≡ acted m.drive Sync) × (ok ≡ not n.drive.stopped) };
 
     ghost reads_an_image = { λ m. inl refl };
 
@@ -211,7 +217,7 @@ impl Disk for MemDisk {
         ensures crash { NoOther (IsImage (images self.old.drive.deeds)) (IsImage (images self.new.drive.deeds)) }
         ensures time { Goes self.old.drive.deeds self.new.drive.deeds }
         ensures faults { self.new.drive.faults ≡ self.old.drive.faults }
-        ensures drive { self.new.drive ≡ self.old.drive }
+        ensures exact { self.new.drive ≡ self.old.drive }
     {
         let bytes = bytes as usize;
         let longer = match (self.bytes.len() - self.kept.len()).checked_add(bytes) {
@@ -236,9 +242,7 @@ impl Disk for MemDisk {
         ensures spare { Uses 1 (length piece.now) self.old.calls_left self.old.bytes_left self.new.calls_left self.new.bytes_left }
         ensures cause { CountsFaults self.old.drive.faults self.new.drive.faults result }
         // What it does, and that it fails exactly where it is stopped then.
-        ensures drive { self.new.drive ≡ acted self.old.drive (Write at piece.now) }
-        ensures ok { OnOk result (IsFalse self.new.drive.stopped) }
-        ensures err { OnErr result (IsTrue self.new.drive.stopped) }
+        ensures exact { (self.new.drive ≡ acted self.old.drive (Write at piece.now)) × (is_ok result ≡ not self.new.drive.stopped) }
     {
         if self.stopped {
             return Err(self.refuse());
@@ -261,9 +265,7 @@ impl Disk for MemDisk {
         ensures spare { Uses 1 0 self.old.calls_left self.old.bytes_left self.new.calls_left self.new.bytes_left }
         ensures cause { CountsFaults self.old.drive.faults self.new.drive.faults result }
         // What it does, and that it fails exactly where it is stopped then.
-        ensures drive { self.new.drive ≡ acted self.old.drive Sync }
-        ensures ok { OnOk result (IsFalse self.new.drive.stopped) }
-        ensures err { OnErr result (IsTrue self.new.drive.stopped) }
+        ensures exact { (self.new.drive ≡ acted self.old.drive Sync) × (is_ok result ≡ not self.new.drive.stopped) }
     {
         if self.stopped {
             return Err(self.refuse());

@@ -1,4 +1,7 @@
-use Rattle.std.proofs.Common.{rules, ◌≡◌, ◌⊎◌, ap, subst}
+use Rattle.std.proofs.Common.{rules, ◌≡◌, ◌⊎◌, true, false, inr, ap, subst}
+use Rattle.std.proofs.lemmas.Result.{on_ok_weaker}
+use Rattle.fragment_store.specs.ShelfState.{ShelfState}
+use Rattle.disk_shelf.specs.Steps.{TookRecord}
 use Rattle.fragment_store.specs.Calls.{kept, on_fill}
 use Rattle.disk_shelf.specs.Disk.{LeavesOnly}
 use Rattle.disk_shelf.specs.Records.{DiskState, StandsFor}
@@ -16,3 +19,23 @@ returns-clause-any_moment g c open_ =
     let same : on_fill old.state.shelf c.args.fragment ≡ kept old.state.shelf c.args.fragment = search rules in
     subst (λ (t : DiskState). LeavesOnly g.D.Disk.moment g.D.Disk.left_since old.disk c.change.new.self.disk (λ f. StandsFor old.state f ⊎ StandsFor t f))
     (ap (λ s. record old.state { shelf = s }) same) (c.change.ensures.any_moment open_)
+
+pub returns-clause-exact : goal.returns-clause-exact
+returns-clause-exact g c =
+    let old = c.args.self.now in
+    let same : on_fill old.state.shelf c.args.fragment ≡ kept old.state.shelf c.args.fragment = search rules in
+    on_ok_weaker c.change.result
+    (λ took. inr (subst
+    (λ (t : ShelfState). TookRecord g.D.Disk.seen g.D.Disk.may_leave g.D.Disk.by_room g.D.Disk.by_write g.D.Disk.by_sync old.disk old.state
+    (record old.state { shelf = t }) true c.change.new.self.disk)
+    same took))
+    c.change.ensures.exact
+
+pub returns-clause-cut : goal.returns-clause-cut
+returns-clause-cut g c failed =
+    let old = c.args.self.now in
+    let same : on_fill old.state.shelf c.args.fragment ≡ kept old.state.shelf c.args.fragment = search rules in
+    subst
+    (λ (t : ShelfState). TookRecord g.D.Disk.seen g.D.Disk.may_leave g.D.Disk.by_room g.D.Disk.by_write g.D.Disk.by_sync old.disk old.state
+    (record old.state { shelf = t }) false c.change.new.self.disk)
+    same (c.change.ensures.cut failed)

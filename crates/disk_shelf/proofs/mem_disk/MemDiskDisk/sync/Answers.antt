@@ -1,4 +1,4 @@
-use Rattle.std.proofs.Common.{◌≡◌, ℕ, ◌+◌, ◌-◌, ◌≤◌, Bool, List, [], ◌∷◌, ◌++◌, length, sym, ap, subst, ◌∙◌, arith}
+use Rattle.std.proofs.Common.{◌≡◌, List, [], ◌∷◌, ◌++◌, sym, ap, ◌∙◌, arith}
 use Rattle.std.proofs.lemmas.Result.{on_ok_weaker}
 use Rattle.disk_shelf.specs.Deeds.{Deed, Images, after_deed, images}
 use Rattle.disk_shelf.specs.Deeds.Deed.{Sync}
@@ -23,23 +23,25 @@ invariant_of-self c =
       room = (omega (arith, kept.room.0, c.refresh.ensures.longer, c.refresh.ensures.capacity.0), omega (arith, kept.room.1, c.refresh.ensures.longer, c.refresh.ensures.capacity.1));
     }
 
-pub returns-clause-drive : goal.returns-clause-drive
-returns-clause-drive c =
+pub returns-clause-exact : goal.returns-clause-exact
+returns-clause-exact c =
     let old = c.self.inside in
     let stops = c.is_due-stops.result in
-    let before : Drive = record { deeds = told old.written.items old.deeds.items; passes = old.passes; stopped = old.stopped; faults = old.faults } in
-    ap (λ (m : MemState). m.drive) c.pass.ensures.drive
-    ∙ ap (λ (ds : List Deed). passed stops (record before { deeds = ds }))
-    (told_sync old.written.items old.deeds.items c.push_reserved.new.self.items stops c.self.invariant.all c.push_reserved.ensures.items)
-    ∙ runs_on before (λ b. Sync b) stops (c.is_due-stops.ensures ∙ sym (ap (λ (m : MemState). is_due m.drive.passes) c.self.view_is)) c.if-self.false
-    ∙ ap (λ (m : MemState). acted m.drive (λ b. Sync b)) c.self.view_is
+    let before : Drive = record { deeds = told old.written.items old.deeds.items; passes = old.passes; stopped = old.stopped; faults = old.faults } in (
+      ap (λ (m : MemState). m.drive) c.pass.ensures.drive
+          ∙ ap (λ (ds : List Deed). passed stops (record before { deeds = ds }))
+          (told_sync old.written.items old.deeds.items c.push_reserved.new.self.items stops c.self.invariant.all c.push_reserved.ensures.items)
+          ∙ runs_on before (λ b. Sync b) stops (c.is_due-stops.ensures ∙ sym (ap (λ (m : MemState). is_due m.drive.passes) c.self.view_is)) c.if-self.false
+          ∙ ap (λ (m : MemState). acted m.drive (λ b. Sync b)) c.self.view_is,
+      c.pass.ensures.answered c.if-self.false,
+    )
 
 pub returns-clause-durable : goal.returns-clause-durable
 returns-clause-durable c =
     let drive = c.args.self.now.drive in
     let stops = c.is_due-stops.result in
     let runs = sym (ap (λ (m : MemState). m.drive.stopped) c.self.view_is) ∙ c.if-self.false in
-    let more = ap (λ (d : Drive). d.deeds) (returns-clause-drive c) ∙ acted_deeds drive (λ b. Sync b) stops c.is_due-stops.ensures runs in
+    let more = ap (λ (d : Drive). d.deeds) (returns-clause-exact c).0 ∙ acted_deeds drive (λ b. Sync b) stops c.is_due-stops.ensures runs in
     on_ok_weaker c.pass.result (λ passes. only_by drive.deeds c.pass.new.self.drive.deeds stops more passes) c.pass.ensures.ok
 
 pub returns-clause-seen : goal.returns-clause-seen
@@ -47,7 +49,7 @@ returns-clause-seen c =
     let drive = c.args.self.now.drive in
     let stops = c.is_due-stops.result in
     let runs = sym (ap (λ (m : MemState). m.drive.stopped) c.self.view_is) ∙ c.if-self.false in
-    let more = ap (λ (d : Drive). d.deeds) (returns-clause-drive c) ∙ acted_deeds drive (λ b. Sync b) stops c.is_due-stops.ensures runs in
+    let more = ap (λ (d : Drive). d.deeds) (returns-clause-exact c).0 ∙ acted_deeds drive (λ b. Sync b) stops c.is_due-stops.ensures runs in
     on_ok_weaker c.pass.result (λ passes. same_by drive.deeds c.pass.new.self.drive.deeds stops more passes) c.pass.ensures.ok
 
 pub returns-clause-crash : goal.returns-clause-crash
@@ -55,7 +57,7 @@ returns-clause-crash c =
     let drive = c.args.self.now.drive in
     let stops = c.is_due-stops.result in
     let runs = sym (ap (λ (m : MemState). m.drive.stopped) c.self.view_is) ∙ c.if-self.false in
-    let more = ap (λ (d : Drive). d.deeds) (returns-clause-drive c) ∙ acted_deeds drive (λ b. Sync b) stops c.is_due-stops.ensures runs in
+    let more = ap (λ (d : Drive). d.deeds) (returns-clause-exact c).0 ∙ acted_deeds drive (λ b. Sync b) stops c.is_due-stops.ensures runs in
     none_by drive.deeds c.pass.new.self.drive.deeds stops more
 
 pub returns-clause-time : goal.returns-clause-time
@@ -63,5 +65,5 @@ returns-clause-time c =
     let drive = c.args.self.now.drive in
     let stops = c.is_due-stops.result in
     let runs = sym (ap (λ (m : MemState). m.drive.stopped) c.self.view_is) ∙ c.if-self.false in
-    let more = ap (λ (d : Drive). d.deeds) (returns-clause-drive c) ∙ acted_deeds drive (λ b. Sync b) stops c.is_due-stops.ensures runs in
+    let more = ap (λ (d : Drive). d.deeds) (returns-clause-exact c).0 ∙ acted_deeds drive (λ b. Sync b) stops c.is_due-stops.ensures runs in
     went drive.deeds c.pass.new.self.drive.deeds (Sync stops) more

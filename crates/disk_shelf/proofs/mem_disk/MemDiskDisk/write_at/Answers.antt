@@ -1,4 +1,4 @@
-use Rattle.std.proofs.Common.{◌≡◌, ℕ, ◌+◌, ◌-◌, ◌≤◌, min, Bool, List, [], ◌∷◌, ◌++◌, length, sym, ap, subst, ◌∙◌, arith, length-append}
+use Rattle.std.proofs.Common.{◌≡◌, ◌≤◌, List, [], ◌∷◌, ◌++◌, length, sym, ap, subst, ◌∙◌, arith, length-append}
 use Rattle.std.proofs.lemmas.Result.{on_ok_weaker}
 use Rattle.disk_shelf.specs.Deeds.{Deed, Images, after_deed, images}
 use Rattle.disk_shelf.specs.Deeds.Deed.{Write}
@@ -35,26 +35,28 @@ invariant_of-self c =
       room = (omega (arith, room.0, c.write_both.ensures.longer, c.write_both.ensures.capacity.0), omega (arith, room.1, c.write_both.ensures.longer, c.write_both.ensures.capacity.1));
     }
 
-pub returns-clause-drive : goal.returns-clause-drive
-returns-clause-drive c =
+pub returns-clause-exact : goal.returns-clause-exact
+returns-clause-exact c =
     let old = c.self.inside in
     let at = c.args.at in
     let piece = c.args.piece.now in
     let stops = c.is_due-stops.result in
     let before : Drive = record { deeds = told old.written.items old.deeds.items; passes = old.passes; stopped = old.stopped; faults = old.faults } in
     let more = told_write old.written.items piece c.append.new.bytes.items old.deeds.items c.push_reserved.new.self.items at stops c.self.invariant.all
-    c.append.ensures.items c.push_reserved.ensures.items in
-    ap (λ (m : MemState). m.drive) c.pass.ensures.drive
-    ∙ ap (λ (ds : List Deed). passed stops (record before { deeds = ds })) more
-    ∙ runs_on before (λ b. Write at piece b) stops (c.is_due-stops.ensures ∙ sym (ap (λ (m : MemState). is_due m.drive.passes) c.self.view_is)) c.if-self.false
-    ∙ ap (λ (m : MemState). acted m.drive (λ b. Write at piece b)) c.self.view_is
+    c.append.ensures.items c.push_reserved.ensures.items in (
+      ap (λ (m : MemState). m.drive) c.pass.ensures.drive
+          ∙ ap (λ (ds : List Deed). passed stops (record before { deeds = ds })) more
+          ∙ runs_on before (λ b. Write at piece b) stops (c.is_due-stops.ensures ∙ sym (ap (λ (m : MemState). is_due m.drive.passes) c.self.view_is)) c.if-self.false
+          ∙ ap (λ (m : MemState). acted m.drive (λ b. Write at piece b)) c.self.view_is,
+      c.pass.ensures.answered c.if-self.false,
+    )
 
 pub returns-clause-written : goal.returns-clause-written
 returns-clause-written c =
     let drive = c.args.self.now.drive in
     let stops = c.is_due-stops.result in
     let runs = sym (ap (λ (m : MemState). m.drive.stopped) c.self.view_is) ∙ c.if-self.false in
-    let more = ap (λ (d : Drive). d.deeds) (returns-clause-drive c) ∙ acted_deeds drive (λ b. Write c.args.at c.args.piece.now b) stops c.is_due-stops.ensures runs in
+    let more = ap (λ (d : Drive). d.deeds) (returns-clause-exact c).0 ∙ acted_deeds drive (λ b. Write c.args.at c.args.piece.now b) stops c.is_due-stops.ensures runs in
     on_ok_weaker c.pass.result (λ passes. written_by drive.deeds c.pass.new.self.drive.deeds c.args.at c.args.piece.now stops more c.requires.inside passes) c.pass.ensures.ok
 
 pub returns-clause-crash : goal.returns-clause-crash
@@ -62,7 +64,7 @@ returns-clause-crash c =
     let drive = c.args.self.now.drive in
     let stops = c.is_due-stops.result in
     let runs = sym (ap (λ (m : MemState). m.drive.stopped) c.self.view_is) ∙ c.if-self.false in
-    let more = ap (λ (d : Drive). d.deeds) (returns-clause-drive c) ∙ acted_deeds drive (λ b. Write c.args.at c.args.piece.now b) stops c.is_due-stops.ensures runs in
+    let more = ap (λ (d : Drive). d.deeds) (returns-clause-exact c).0 ∙ acted_deeds drive (λ b. Write c.args.at c.args.piece.now b) stops c.is_due-stops.ensures runs in
     torn_by drive.deeds c.pass.new.self.drive.deeds c.args.at c.args.piece.now stops more
 
 pub returns-clause-time : goal.returns-clause-time
@@ -70,5 +72,5 @@ returns-clause-time c =
     let drive = c.args.self.now.drive in
     let stops = c.is_due-stops.result in
     let runs = sym (ap (λ (m : MemState). m.drive.stopped) c.self.view_is) ∙ c.if-self.false in
-    let more = ap (λ (d : Drive). d.deeds) (returns-clause-drive c) ∙ acted_deeds drive (λ b. Write c.args.at c.args.piece.now b) stops c.is_due-stops.ensures runs in
+    let more = ap (λ (d : Drive). d.deeds) (returns-clause-exact c).0 ∙ acted_deeds drive (λ b. Write c.args.at c.args.piece.now b) stops c.is_due-stops.ensures runs in
     went drive.deeds c.pass.new.self.drive.deeds (Write c.args.at c.args.piece.now stops) more

@@ -1,0 +1,11 @@
+pub mod Begun
+pub mod Closing
+pub mod Happening
+pub mod Left
+pub mod Making
+pub mod Passing
+pub mod Places
+pub mod Running
+pub mod Seating
+pub mod Starting
+pub mod Turning

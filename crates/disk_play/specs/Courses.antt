@@ -1,0 +1,285 @@
+-- The play of a script with servers that stop: a function of the script. It is played as by one thread, but that a server may stop within a change of its
+-- shelf, and takes no event then until it is started.
+use Rattle.std.specs.Prelude.{ℕ, zero, suc, ◌-◌, nat_lt, Bool, true, false, not, ◌||◌, ◌==◌, if◌then◌else◌, List, [], ◌∷◌, ◌++◌, drop, length, fold, replicate, slice_get, slice_set, Option, Some, None}
+use Rattle.std.specs.List.{count_by}
+use Rattle.disk_shelf.specs.declared.ask.Ask.{Ask}
+use Rattle.disk_shelf.specs.declared.ask.Ask.TheVariants as asks
+use Rattle.disk_shelf.specs.Stops.{is_answered, is_there, passes_after}
+use Rattle.fragment_store.specs.ShelfState.{ShelfState}
+use Rattle.play.specs.declared.player.Player.{Player}
+use Rattle.play.specs.Plays.{answers, delivery_told, happens, sent_since, starts, told_of, with_event, with_one_more, with_schedule}
+use Rattle.script_text.specs.declared.script.Line.{Line}
+use Rattle.script_text.specs.declared.script.Script.{Script}
+use Rattle.shelved_nodes.specs.Asking.{asked}
+use Rattle.version_model.specs.declared.act.Act.{Act}
+use Rattle.version_model.specs.declared.act.Act.TheVariants as acts
+use Rattle.version_model.specs.declared.work.Work.{Work}
+use Rattle.version_model.specs.declared.work.Work.TheVariants as works
+use Rattle.wire_msg.specs.declared.packet.Do.{Do}
+use Rattle.wire_msg.specs.declared.packet.Packet.{Packet}
+use Rattle.wire_msg.specs.NodeStep.{NodeStep}
+use Rattle.world_base.specs.declared.event.Event.{Event}
+use Rattle.world_base.specs.declared.event.Event.TheVariants.{Begin, Deliver, Tick}
+use Rattle.world_base.specs.declared.estate.Estate.{Estate}
+use Rattle.world_base.specs.declared.schedule.Next.{Next}
+use Rattle.world_base.specs.declared.schedule.Next.TheVariants as next
+use Rattle.world_base.specs.declared.world.World.{World}
+use Rattle.world_base.specs.Cluster.{nodes_of, place_of}
+use Rattle.world_base.specs.Events.{node_of, what_of}
+use Rattle.world_base.specs.Items.{actor_of}
+use Rattle.world_base.specs.NextWorld.{next_world, start_world}
+use Rattle.world_base.specs.Schedule.{Going, goes, item_begun, left}
+use Rattle.xfs_base.specs.declared.node.NodeId.{NodeId}
+use Rattle.xfs_base.specs.declared.node.NodeId.TheVariants as nodes
+use Rattle.xfs_base.specs.declared.setup.Setup.{Setup}
+use Rattle.xfs_base.specs.Nodes.{same_node}
+use Rattle.disk_play.specs.declared.course.Course.{Course}
+use Rattle.disk_play.specs.declared.course.Seat.{Seat}
+use Rattle.disk_play.specs.declared.stop.Fate.{Fate}
+use Rattle.disk_play.specs.declared.stop.Fate.TheVariants.{Answered, Unanswered, Lost}
+use Rattle.disk_play.specs.declared.stop.Stop.{Stop}
+
+-- ---- stops
+
+-- a server that runs, and for which no stop waits; and one that is stopped
+abbrev pub running : Stop
+running = record { stopped = false; passes = None }
+
+abbrev pub down : Stop
+down = record { stopped = true; passes = None }
+
+-- the writes and syncs of a store, a fence and a deletion count for a stop
+abbrev pub counts : Ask → Bool
+counts (asks.Store fragment generation) = true
+counts (asks.Fence log pass) = true
+counts (asks.Delete name) = true
+counts call = false
+
+-- how many writes and syncs of a change a stop that waits lets pass
+abbrev pub passes_for : Stop → Ask → Option ℕ
+passes_for stop call = if counts call then stop.passes else None
+
+-- a server after a change of its shelf: stopped, where too few were left, or with so many less
+abbrev pub stop_after : Stop → Ask → Stop
+stop_after stop call =
+    if not (counts call) then stop
+    else if not (is_answered stop.passes) then down
+    else record { stopped = stop.stopped; passes = passes_after stop.passes }
+
+abbrev pub seat_with : ℕ → Option Stop → Option Seat
+seat_with place None = None
+seat_with place (Some stop) = Some (record { place = place; stop = stop })
+
+-- where a server stands among the servers, and its stops; none where there is no such server
+abbrev pub seat_of : List Stop → NodeId → Option Seat
+seat_of stops (nodes.Server number) = if nat_lt 0 number then seat_with (number - 1) (slice_get stops (number - 1)) else None
+seat_of stops node = None
+
+abbrev pub fate_by : Bool → Bool → Fate
+fate_by true there = Answered
+fate_by false true = Unanswered
+fate_by false false = Lost
+
+-- what of an event counts, that makes this change of the shelf
+abbrev pub fate_for : Stop → Option Ask → Fate
+fate_for stop None = Answered
+fate_for stop (Some call) = fate_by (is_answered (passes_for stop call)) (is_there (passes_for stop call))
+
+abbrev pub stop_for : Stop → Option Ask → Stop
+stop_for stop None = stop
+stop_for stop (Some call) = stop_after stop call
+
+-- ---- items
+
+abbrev pub is_begin_of : NodeId → Event → Bool
+is_begin_of node (Begin actor) = same_node actor node
+is_begin_of node event = false
+
+abbrev pub is_answer_of : NodeId → Act → Bool
+is_answer_of node (acts.Answered actor item answer) = same_node actor node
+is_answer_of node act = false
+
+-- ---- the course of a play
+
+module _ {N : Type 0} where
+  abbrev pub with_player : Course N → Player N → Course N
+  with_player c p = record { player = p; stops = c.stops }
+
+  abbrev pub with_stop : Course N → ℕ → Stop → Course N
+  with_stop c place stop = record { player = c.player; stops = slice_set c.stops place stop }
+
+  -- an event of which no packet goes out
+  abbrev pub with_event_unsent : Player N → Event → World N → Player N
+  with_event_unsent p event world = with_schedule (with_event p event world) p.schedule
+
+  -- what an event leaves of the play, by what of it counts
+  abbrev pub player_by : Fate → Player N → Event → World N → Player N
+  player_by Answered p event world = with_event p event world
+  player_by Unanswered p event world = with_event_unsent p event world
+  player_by Lost p event world = p
+
+  -- an event of a server that runs made this world, with this change of the shelf
+  abbrev pub took : Course N → Seat → Event → World N → Option Ask → Course N
+  took c seat event world call =
+      with_stop (with_player c (player_by (fate_for seat.stop call) c.player event world)) seat.place (stop_for seat.stop call)
+
+  -- what was sent since there was so much goes out
+  abbrev pub with_sent : Course N → ℕ → Course N
+  with_sent c sent = with_player c (with_schedule c.player (sent_since c.player.schedule sent (length c.player.world.sent)))
+
+  -- an event that made this world stands behind the others, and what was answered since is no longer unanswered
+  abbrev pub noted : Course N → Event → ℕ → Course N
+  noted c event done = with_player c
+      (record {
+        world = c.player.world;
+        events = c.player.events ++ event ∷ [];
+        schedule = c.player.schedule;
+        unanswered = c.player.unanswered - answers (drop done c.player.world.acts);
+      })
+
+  abbrev pub with_world : Course N → World N → Course N
+  with_world c world =
+      with_player c (record { world = world; events = c.player.events; schedule = c.player.schedule; unanswered = c.player.unanswered })
+
+  -- a stopped server is started; one that runs stays as it is
+  abbrev pub woken_at : Course N → Option Seat → Course N
+  woken_at c None = c
+  woken_at c (Some seat) = if seat.stop.stopped then with_stop c seat.place running else c
+
+  unfoldable pub woken : Course N → NodeId → Course N
+  woken c node = woken_at c (seat_of c.stops node)
+
+  -- how many items of a node were begun and have no answer
+  abbrev pub unanswered_of : NodeId → Player N → ℕ
+  unanswered_of node p = count_by (is_begin_of node) p.events - count_by (is_answer_of node) p.world.acts
+
+  -- a stop is to come after so many writes and syncs: not where the server is stopped, or an item of it is unanswered
+  abbrev pub stops_at : Course N → NodeId → ℕ → Option Seat → Course N
+  stops_at c node passes None = c
+  stops_at c node passes (Some seat) =
+      if seat.stop.stopped || not (unanswered_of node c.player == 0) then c
+      else with_stop c seat.place (record { stopped = false; passes = Some passes })
+
+  -- a server is started, and no stop waits for it
+  abbrev pub started_at : Course N → Option Seat → Course N
+  started_at c None = c
+  started_at c (Some seat) = with_stop c seat.place running
+
+  -- and the queue is drained, unless the packets are held back
+  abbrev pub queue_drained : Course N → Course N
+  queue_drained c = with_player c (with_schedule c.player (item_begun c.player.unanswered c.player.schedule))
+
+  abbrev pub one_more : Course N → Course N
+  one_more c = with_player c (with_one_more c.player)
+
+  abbrev pub delivery_noted : ℕ → Course N → Course N
+  delivery_noted number c = with_player c (delivery_told number c.player)
+
+  abbrev pub with_told : Course N → Work → Course N
+  with_told c work = with_player c (told_of c.player work)
+
+  -- a line that is no item
+  unfoldable pub tells : Course N → Work → Course N
+  tells c (works.ServerStop server passes) =
+      with_told (stops_at c (nodes.Server server) passes (seat_of c.stops (nodes.Server server))) (works.ServerStop server passes)
+  tells c (works.ServerStart server) = queue_drained (started_at c (seat_of c.stops (nodes.Server server)))
+  tells c work = with_told c work
+
+-- the shelf of a node; none where there is no such node, or it keeps none
+abbrev pub kept_by : {N : Type 0} → (N → Option ShelfState) → Option N → Option ShelfState
+kept_by shelf_of None = None
+kept_by shelf_of (Some node) = shelf_of node
+
+abbrev pub kept_at : {N : Type 0} → (N → Option ShelfState) → List N → Option ℕ → Option ShelfState
+kept_at shelf_of nodes None = None
+kept_at shelf_of nodes (Some place) = kept_by shelf_of (slice_get nodes place)
+
+abbrev pub shelf_at : {N : Type 0} → (N → Option ShelfState) → World N → NodeId → Option ShelfState
+shelf_at shelf_of w node = kept_at shelf_of w.nodes (place_of w.cluster node)
+
+-- the change of a shelf by an event
+abbrev pub asked_of : Do → Option ShelfState → Option ShelfState → Option Ask
+asked_of what (Some old) (Some new) = asked what old new
+asked_of what old new = None
+
+-- what of an event counts that made this world
+abbrev pub settled : {N : Type 0} → (N → Do → NodeStep N) → (NodeId → Setup → List Work → N) → Script → Fate → Course N → Event → ℕ → ℕ → Course N
+settled step first script Answered c event sent done = noted (with_sent c sent) event done
+settled step first script Unanswered c event sent done = noted c event done
+settled step first script Lost c event sent done = with_world c (fold (next_world step) (start_world first script) c.player.events)
+
+-- before the first line all servers run
+abbrev pub starts_on : {N : Type 0} → (NodeId → Setup → List Work → N) → Script → Course N
+starts_on first script = record { player = starts first script; stops = replicate script.setup.servers running }
+
+module _ {N : Type 0} (step : N → Do → NodeStep N) (shelf_of : N → Option ShelfState) where
+  -- an event of a server that runs
+  abbrev pub happens_at : Course N → Seat → Event → Course N
+  happens_at c seat event =
+      took c seat event (next_world step c.player.world event)
+      (asked_of (what_of event) (shelf_at shelf_of c.player.world (node_of event)) (shelf_at shelf_of (next_world step c.player.world event) (node_of event)))
+
+  -- a stopped server takes no event
+  abbrev pub happens_to : Course N → Option Seat → Event → Course N
+  happens_to c None event = with_player c (happens step c.player event)
+  happens_to c (Some seat) event = if seat.stop.stopped then c else happens_at c seat event
+
+  -- an event happens
+  unfoldable pub happens_on : Course N → Event → Course N
+  happens_on c event = happens_to c (seat_of c.stops (node_of event)) event
+
+  -- a node begins its next item; one that is stopped is started first
+  unfoldable pub begins_on : Course N → NodeId → Course N
+  begins_on c node = queue_drained (happens_on (one_more (woken c node)) (Begin node))
+
+  -- a packet that was sent is delivered, also to a server that is stopped, which doesn't take it
+  abbrev pub delivers_on : Course N → ℕ → Option Packet → Course N
+  delivers_on c number None = c
+  delivers_on c number (Some packet) = delivery_noted number (happens_on c (Deliver packet))
+
+  unfoldable pub delivered_on : Course N → ℕ → Course N
+  delivered_on c number = delivers_on c number (slice_get c.player.world.sent number)
+
+  -- time passes at every node that isn't stopped, in their order
+  unfoldable pub ticks_on : Course N → NodeId → Course N
+  ticks_on c node = happens_on c (Tick node)
+
+  unfoldable pub rounded_on : Course N → Course N
+  rounded_on c = fold ticks_on c (nodes_of c.player.world.cluster)
+
+  -- what comes next happens
+  abbrev pub comes_on : Course N → Next → Course N
+  comes_on c (next.Deliver number) = delivered_on c number
+  comes_on c next.Round = rounded_on c
+  comes_on c next.Done = c
+
+  abbrev pub goes_on_by : Course N → Going → Course N
+  goes_on_by c going = comes_on (with_player c (with_schedule c.player going.state)) going.next
+
+  -- so many times; once the line is done nothing more does
+  unfoldable pub goes_on_for : ℕ → Course N → Course N
+  goes_on_for zero c = c
+  goes_on_for (suc count) c = goes_on_for count (goes_on_by c (goes c.player.unanswered c.player.schedule))
+
+  unfoldable pub goes_out_on : Course N → Course N
+  goes_out_on c = goes_on_for (left c.player.schedule) c
+
+  abbrev pub opens_on_for : Course N → Work → Option NodeId → Course N
+  opens_on_for c work None = tells c work
+  opens_on_for c work (Some node) = begins_on c node
+
+  -- an item is begun at its line; any other line stops or starts a server, or is told to the schedule
+  unfoldable pub opens_on : Course N → Work → Course N
+  opens_on c work = opens_on_for c work (actor_of work)
+
+  unfoldable pub plays_line_on : Course N → Line → Course N
+  plays_line_on c line = goes_out_on (opens_on c line.work)
+
+  -- the play of a script, line by line
+  unfoldable pub played_on : (NodeId → Setup → List Work → N) → Script → Course N
+  played_on first script = fold plays_line_on (starts_on first script) script.lines
+
+  -- the run that a script determines, with servers that stop, and the world in which it ends
+  abbrev pub disk_estate_of : (NodeId → Setup → List Work → N) → Script → Estate N
+  disk_estate_of first script =
+      record { script = script; events = (played_on first script).player.events; world = (played_on first script).player.world }

@@ -1,0 +1,3 @@
+pub mod AnyShelf
+pub mod Asking
+pub mod Shelves
