@@ -1,5 +1,4 @@
 mod Lowest
-mod Deleting
 mod Lapsing
 mod Holding
 mod Standing

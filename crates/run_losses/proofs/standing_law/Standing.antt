@@ -61,7 +61,7 @@ use Rattle.xfs_base.specs.declared.segment.LogId.{LogId}
 use Rattle.xfs_base.specs.declared.segment.SegName.{SegName}
 use Rattle.xfs_base.specs.declared.segment.SegRef.{SegRef}
 use Rattle.xfs_base.specs.Limits.{slot_count, block_logs}
-use Rattle.run_losses.proofs.standing_law.Deleting.{deleted_below, none_deleted}
+use Rattle.run_drops.proofs.drop_law.Deleting.{deleted_below, none_deleted}
 use Rattle.run_losses.proofs.standing_law.Holding.{ServesThere, has_begun, horizon_below, is_manager, nobody_yet, part_or_filed, parts_known, serves_there}
 use Rattle.run_losses.proofs.standing_law.Lapsing.{Lapsed, lapsed}
 use Rattle.run_losses.specs.standing_law.Gone.{GonesAreOfWhatStands, ToldTorn}
