@@ -1,0 +1,9 @@
+mod Telling
+mod Foundations
+mod Plans
+mod Calling
+mod Clients
+mod Filing
+mod Cleaners
+mod Others
+mod Runs

@@ -1,0 +1,255 @@
+-- What an event of the cleaner answers is founded, and the item that is open while it opens its log is a restart.
+use Rattle.std.proofs.Common.{◌≡◌, ℕ, List, [], ◌∷◌, ◌++◌, Option, Some, None, inl, refl, sym, ap, subst, ◌∙◌}
+use Rattle.cleaner_job.specs.declared.lasting.Lasting.{Lasting}
+use Rattle.cleaner_node.specs.CleanerEvents.{Went_to, after_opening, begun_life, crashes, down_at, down_wishes, happens, hears, lasting_of, on_begin, on_deliver, on_time, opened_on, opening_at, opening_wishes, phase_room, restarts, serves_on, serving_at, serving_wishes, takes, wish_of}
+use Rattle.cleaner_node.specs.declared.cleaner.Cleaner.{Cleaner}
+use Rattle.cleaner_node.specs.declared.cleaner.Phase.{Phase}
+use Rattle.cleaner_node.specs.declared.cleaner.Phase.TheVariants.{Down, Opening, Serving}
+use Rattle.cleaner_serving.specs.declared.emptying.Emptying.{Emptying}
+use Rattle.cleaner_serving.specs.EmptyingEvents.{on_clean, on_packet, on_tick}
+use Rattle.cleaner_serving.specs.Jobs.{Done}
+use Rattle.log_owner.proofs.Behaving as behaving
+use Rattle.log_owner.specs.Behaves.{Behaves, IsOf}
+use Rattle.log_owner.specs.declared.ended.Owner.{Owner}
+use Rattle.log_owner.specs.declared.opened.Progress.{Progress}
+use Rattle.log_owner.specs.declared.opened.Progress.TheVariants as progress
+use Rattle.log_owner.specs.declared.opening.Opening as openings
+use Rattle.log_owner.specs.Opening as opening
+use Rattle.log_owner.specs.Opening.{Went}
+use Rattle.log_owner.specs.Sending.{name_of, pushes_all}
+use Rattle.node_base.specs.Beginning.{answers_unanswered, next_item, work_at}
+use Rattle.node_base.specs.declared.effects.Effect.{Effect}
+use Rattle.node_base.specs.declared.effects.Effect.TheVariants.{Answer as Answers, Does}
+use Rattle.node_base.specs.declared.peers.Peers.{Peers}
+use Rattle.node_base.specs.Shape.{is_well_formed}
+use Rattle.token_protocol.specs.Basics.{In}
+use Rattle.version_model.specs.declared.act.Act.{Act}
+use Rattle.version_model.specs.declared.act.Act.TheVariants as act
+use Rattle.version_model.specs.declared.answer.Answer.{Answer}
+use Rattle.version_model.specs.declared.answer.Answer.TheVariants as answer
+use Rattle.version_model.specs.declared.work.Work.{Work}
+use Rattle.version_model.specs.declared.work.Work.TheVariants as work
+use Rattle.wire_msg.specs.declared.packet.Do.{Do}
+use Rattle.wire_msg.specs.declared.packet.Do.TheVariants.{Begin, Deliver, Tick}
+use Rattle.wire_msg.specs.declared.packet.Packet.{Packet}
+use Rattle.xfs_base.proofs.Booleans.{by_test}
+use Rattle.xfs_base.specs.declared.node.NodeId.{NodeId}
+use Rattle.xfs_base.specs.declared.segment.End.{End}
+use Rattle.xfs_base.specs.declared.segment.LogId.{LogId}
+use Rattle.xfs_base.specs.Logs.{cleaner_log}
+use Rattle.xfs_base.specs.Steps.{saying, still}
+use Rattle.run_answers.proofs.act_law.Filing as filing
+use Rattle.run_answers.proofs.act_law.Filing.{SaysFiled, WentSo}
+use Rattle.run_answers.proofs.act_law.Telling.{Foundation, Founded, Grows, Within, acted, acted_before, acted_by, closes_founded, founded_then, open_founded, plain_founded}
+use Rattle.run_answers.proofs.once_law.Emptying as emptied
+use Rattle.run_answers.proofs.once_law.Items.{begun_open, begun_works, next_is_new}
+use Rattle.run_answers.proofs.once_law.Ledger.{AllPlain, IsMidway, OpenOr, all_pushed_plain, one_number}
+use Rattle.run_answers.proofs.once_law.Openings.{behaves_plain}
+use Rattle.run_answers.specs.act_law.Founded.{IsCleaners, IsCrash, IsReopened}
+use Rattle.run_answers.specs.act_law.Works.{asked_at}
+use Rattle.run_answers.specs.once_law.Ledgers.{IsOpen, OpenHasBegun}
+
+abbrev IsRestart : Option Work → Type 0
+IsRestart (Some (work.Restart node)) = Unit {0}
+IsRestart _ = ⊥
+
+reopened_more : (w : Option Work) (some more : List Act) → Within some more → IsReopened w some → IsReopened w more
+reopened_more (Some (work.Restart node)) some more within f = (f.0, within (act.Filed (name_of cleaner_log f.0)) f.1)
+reopened_more _ some more within f = tt
+
+module _ (works : List Work) where
+  -- what an answer of the cleaner is founded on
+  abbrev pub Its : Foundation
+  Its item before done a = IsCleaners works (asked_at works item) before done a
+
+  pub its_grow : Grows Its
+  its_grow item some more done all answer.Done within up f = reopened_more (asked_at works item) some more within f
+  its_grow item some more done all answer.Cut within up f = (f.0, (f.1.0, up f.0 f.1.1))
+  its_grow item some more done all _ within up f = tt
+
+  midway_founded : (item : ℕ) (said : List Act) (done : ℕ → Type 0) (a : Answer) → IsMidway a → Its item said done a
+  midway_founded item said done answer.Done so = absurd so
+  midway_founded item said done answer.Cut so = absurd so
+  midway_founded item said done _ so = tt
+
+  abbrev PhaseFits : Phase → Type 0
+  PhaseFits (Down l) = Unit {0}
+  PhaseFits (Opening l o) = (o.known.owner.log ≡ cleaner_log) × ((item : ℕ) → IsOpen l.items item → IsRestart (asked_at works item))
+  PhaseFits (Serving e) = Unit {0}
+
+  -- it has these items
+  pub record PhaseHolds (p : Phase) : Type 0 where
+    pub its : (lasting_of p).items.works ≡ works
+    pub fits : PhaseFits p
+
+  pub record Turned (w : Went_to) : Type 0 where
+    pub holds : PhaseHolds w.state
+    pub founded : Founded Its [] w.outs
+
+  unmoved : (p : Phase) → PhaseHolds p → Turned (still p)
+  unmoved p h = record { holds = h; founded = tt }
+
+  served : (e : Emptying) (d : Done) → e.lasting.items.works ≡ works → emptied.Goes e d → Turned (serves_on d)
+  served e d its g = record {
+    holds = record { its = g.items.works ∙ its; fits = tt };
+    founded = closes_founded Its its_grow IsMidway midway_founded (IsOpen e.lasting.items) (IsOpen d.state.lasting.items) [] d.outs g.closes;
+  }
+
+  -- ---- an opening
+
+  restart_done : (w : Option Work) (end : End) (said : List Act) → IsRestart w → In (act.Filed (name_of cleaner_log end)) said → IsReopened w said
+  restart_done (Some (work.Restart node)) end said is among = (end, among)
+  restart_done _ end said is among = absurd is
+
+  module _ (l : Lasting) (o : openings.Opening) (h : PhaseHolds (Opening l o)) where
+    -- its first segment is filed, and then the restart is answered
+    back_founded : (end : End) (pushed : List Effect) → AllPlain pushed → (said : List Act) → In (act.Filed (name_of cleaner_log end)) said
+        → Founded Its said (pushed ++ answers_unanswered l.items.unanswered answer.Done)
+    back_founded end pushed plain said among =
+        founded_then Its its_grow said pushed (answers_unanswered l.items.unanswered answer.Done) (plain_founded Its its_grow said pushed plain)
+        (open_founded Its its_grow (acted said pushed) l.items.unanswered answer.Done
+        (λ item waits. restart_done (asked_at works item) end (acted said pushed) (h.fits.1 item waits)
+        (acted_before (act.Filed (name_of cleaner_log end)) said pushed among)))
+
+    opened_so : (w : Went) → Behaves o.known.owner w → WentSo o.known.owner.log w → Turned (opened_on l w)
+    unfolding after_opening
+    opened_so w b so = by w.progress b.stays_its so
+      where
+        first : Founded Its [] w.effects
+        first = plain_founded Its its_grow [] w.effects (behaves_plain o.known.owner w b)
+
+        by : (p : Progress) → IsOf o.known.owner p → SaysFiled o.known.owner.log p w.effects
+            → Turned (saying w.effects (after_opening (record l { questions = w.questions }) p))
+        by (progress.Opening r) owner filed = record {
+          holds = record { its = h.its; fits = (ap (λ (x : Owner). x.log) owner ∙ h.fits.0, h.fits.1) };
+          founded = founded_then Its its_grow [] w.effects [] first tt;
+        }
+        by (progress.Opened r) owner filed = record {
+          holds = record { its = h.its; fits = tt };
+          founded = founded_then Its its_grow [] w.effects _ first
+              (back_founded filed.0 (pushes_all r.promised.managers r.feed) (all_pushed_plain r.promised.managers r.feed) (acted [] w.effects)
+              (acted_by (act.Filed (name_of cleaner_log filed.0)) [] w.effects
+              (subst (λ (log : LogId). In (Does (act.Filed (name_of log filed.0))) w.effects) h.fits.0 filed.1)));
+        }
+        by (progress.Lost name) owner filed = record {
+          holds = record { its = h.its; fits = tt };
+          founded = founded_then Its its_grow [] w.effects (answers_unanswered l.items.unanswered (answer.Lost name)) first
+              (open_founded Its its_grow (acted [] w.effects) l.items.unanswered (answer.Lost name) (λ item waits. tt));
+        }
+
+  -- ---- an item begins
+
+  module _ (number : ℕ) (l : Lasting) (its : l.items.works ≡ works) where
+    crash_so : (node : NodeId) → asked_at works number ≡ Some (work.Crash node) → Turned (crashes l number)
+    unfolding crashes
+    crash_so node asked = record { holds = record { its = its; fits = tt }; founded = by l.items.unanswered }
+      where
+        done : IsReopened (asked_at works number) []
+        done = subst (λ w. IsReopened w []) (sym asked) tt
+
+        crash : IsCrash (asked_at works number)
+        crash = subst IsCrash (sym asked) tt
+
+        by : (o : Option ℕ) → Founded Its [] (answers_unanswered o answer.Cut ++ Answers number answer.Done ∷ [])
+        by None = (done, tt)
+        by (Some item) = ((number, (crash, inl refl)), (done, tt))
+
+    restart_so : (servers : ℕ) (node : NodeId) → asked_at works number ≡ Some (work.Restart node) → Turned (restarts servers l number)
+    unfolding restarts
+    restart_so servers node asked = record {
+      holds = record { its = its; fits = (refl, λ item waits. subst (λ n. IsRestart (asked_at works n)) (one_number number item waits) is) };
+      founded = tt;
+    }
+      where
+        is : IsRestart (asked_at works number)
+        is = subst IsRestart (sym asked) tt
+
+    down_so : (servers : ℕ) (wanted : Option Work) → asked_at works number ≡ wanted → Turned (down_wishes servers l number (wish_of wanted))
+    down_so servers None asked = record { holds = record { its = its; fits = tt }; founded = (tt, tt) }
+    down_so servers (Some (work.Restart node)) asked = restart_so servers node asked
+    down_so servers (Some _) asked = record { holds = record { its = its; fits = tt }; founded = (tt, tt) }
+
+    opening_so : (o : openings.Opening) → PhaseFits (Opening l o) → (wanted : Option Work) → asked_at works number ≡ wanted
+        → Turned (opening_wishes l o number (wish_of wanted))
+    opening_so o fits None asked = record { holds = record { its = its; fits = fits }; founded = (tt, tt) }
+    opening_so o fits (Some (work.Crash node)) asked = crash_so node asked
+    opening_so o fits (Some _) asked = record { holds = record { its = its; fits = fits }; founded = (tt, tt) }
+
+  module _ (number : ℕ) (e : Emptying) (its : e.lasting.items.works ≡ works) (fresh : e.lasting.items.unanswered ≡ Some number → ⊥) where
+    clean_so : (count : ℕ) → Turned (serves_on (on_clean e number count))
+    clean_so count =
+        let d : Done = on_clean e number count in
+        let c = emptied.clean_goes e number count fresh in
+        record {
+          holds = record { its = c.items.works ∙ its; fits = tt };
+          founded = closes_founded Its its_grow IsMidway midway_founded (OpenOr e.lasting.items.unanswered number) (IsOpen d.state.lasting.items) [] d.outs
+              c.closes;
+        }
+
+    serving_so : (wanted : Option Work) → asked_at works number ≡ wanted → Turned (serving_wishes e number (wish_of wanted))
+    serving_so None asked = clean_so 0
+    serving_so (Some (work.Crash node)) asked = crash_so number e.lasting its node asked
+    serving_so (Some (work.Restart node)) asked = record { holds = record { its = its; fits = tt }; founded = (tt, tt) }
+    serving_so (Some (work.Clean count)) asked = clean_so count
+    serving_so (Some _) asked = clean_so 0
+
+  begin_turned : (servers : ℕ) (p : Phase) → PhaseHolds p → OpenHasBegun (lasting_of p).items → Turned (on_begin servers p)
+  unfolding on_begin
+  begin_turned servers (Down l) h sound = by (next_item l.items)
+    where
+      its : (begun_life l).items.works ≡ works
+      its = begun_works l.items ∙ h.its
+
+      by : (item : Option ℕ) → Turned (down_at servers (begun_life l) item)
+      by None = record { holds = record { its = its; fits = tt }; founded = tt }
+      by (Some number) = down_so number (begun_life l) its servers (work_at (begun_life l).items number) (sym (ap (λ (ws : List Work). asked_at ws number) its))
+  begin_turned servers (Opening l o) h sound = by (next_item l.items)
+    where
+      its : (begun_life l).items.works ≡ works
+      its = begun_works l.items ∙ h.its
+
+      fits : PhaseFits (Opening (begun_life l) o)
+      fits = (h.fits.0, λ item waits. h.fits.1 item (sym (begun_open l.items) ∙ waits))
+
+      by : (item : Option ℕ) → Turned (opening_at (begun_life l) o item)
+      by None = record { holds = record { its = its; fits = fits }; founded = tt }
+      by (Some number) =
+          opening_so number (begun_life l) its o fits (work_at (begun_life l).items number) (sym (ap (λ (ws : List Work). asked_at ws number) its))
+  begin_turned servers (Serving e) h sound = by (next_item e.lasting.items) refl
+    where
+      its : (begun_life e.lasting).items.works ≡ works
+      its = begun_works e.lasting.items ∙ h.its
+
+      by : (item : Option ℕ) → next_item e.lasting.items ≡ item → Turned (serving_at (record e { lasting = begun_life e.lasting }) item)
+      by None next = record { holds = record { its = its; fits = tt }; founded = tt }
+      by (Some number) next =
+          serving_so number (record e { lasting = begun_life e.lasting }) its (next_is_new e.lasting.items number sound next)
+          (work_at (begun_life e.lasting).items number) (sym (ap (λ (ws : List Work). asked_at ws number) its))
+
+  -- ---- packets and time
+
+  hears_turned : (p : Phase) (packet : Packet) → PhaseHolds p → Turned (hears p packet)
+  unfolding hears
+  hears_turned (Down l) packet h = unmoved (Down l) h
+  hears_turned (Opening l o) packet h =
+      opened_so l o h (opening.on_packet o l.questions packet) (behaving.packet_so o l.questions packet) (filing.packet_so o l.questions packet)
+  hears_turned (Serving e) packet h = served e (on_packet e packet) h.its (emptied.packet_goes e packet)
+
+  time_turned : (p : Phase) → PhaseHolds p → Turned (on_time p)
+  unfolding on_time
+  time_turned (Down l) h = unmoved (Down l) h
+  time_turned (Opening l o) h =
+      opened_so l o h (opening.on_tick o l.questions) (behaving.tick_so o l.questions) (filing.tick_so o l.questions)
+  time_turned (Serving e) h = served e (on_tick e) h.its (emptied.tick_goes e)
+
+  happens_turned : (peers : Peers) (p : Phase) (what : Do) → PhaseHolds p → OpenHasBegun (lasting_of p).items → Turned (happens peers p what)
+  unfolding on_deliver
+  happens_turned peers p Begin h sound = begin_turned peers.servers p h sound
+  happens_turned peers p (Deliver packet) h sound =
+      by_test Turned (is_well_formed peers packet) (hears p packet) (still p) (λ _. hears_turned p packet h) (λ _. unmoved p h)
+  happens_turned peers p Tick h sound = time_turned p h
+
+  pub cleaner_answers : (c : Cleaner) (what : Do) → PhaseHolds c.phase → OpenHasBegun (lasting_of c.phase).items → Turned (takes c.peers c.phase what)
+  cleaner_answers c what h sound =
+      by_test Turned (phase_room c.phase) (happens c.peers c.phase what) (still c.phase) (λ _. happens_turned c.peers c.phase what h sound)
+      (λ _. unmoved c.phase h)

@@ -1,0 +1,252 @@
+-- What an event of a client answers is founded, and its open call stays one of its open item.
+use Rattle.std.proofs.Common.{◌≡◌, ℕ, List, [], ◌∷◌, ◌++◌, Option, Some, None, inl, refl, sym, ap, subst, ◌∙◌}
+use Rattle.client_node.specs.declared.client.Client.{Client}
+use Rattle.client_node.specs.declared.phase.Phase.{Phase}
+use Rattle.client_node.specs.declared.phase.Phase.TheVariants.{Down, Opening, Serving as Serves}
+use Rattle.client_node.specs.Phases.{Went_to, after_opening, begins_item, client_room, down_begins, happens, item_begins, lasting_of, on_begin, on_deliver, on_time, opened_on, opening_begins, serving_begins, takes, then_runs, wish_of, with_begun}
+use Rattle.client_running.specs.Opens.{opens}
+use Rattle.client_running.specs.Running.{runs}
+use Rattle.client_serving.specs.declared.lasting.Lasting.{Lasting}
+use Rattle.client_serving.specs.declared.serving.Serving.{Serving}
+use Rattle.client_serving.specs.Packets.{on_packet, on_tick}
+use Rattle.client_serving.specs.Sends.{Done}
+use Rattle.log_owner.proofs.Behaving as behaving
+use Rattle.log_owner.specs.declared.opened.Progress.{Progress}
+use Rattle.log_owner.specs.declared.opened.Progress.TheVariants as progress
+use Rattle.log_owner.specs.declared.opening.Opening as openings
+use Rattle.log_owner.specs.Opening as opening
+use Rattle.log_owner.specs.Opening.{Went}
+use Rattle.log_owner.specs.Sending.{pushes_all}
+use Rattle.node_base.specs.Beginning.{answers_unanswered, begun, next_item, work_at}
+use Rattle.node_base.specs.declared.effects.Effect.{Effect}
+use Rattle.node_base.specs.declared.effects.Effect.TheVariants.{Answer as Answers}
+use Rattle.node_base.specs.declared.items.Items.{Items}
+use Rattle.node_base.specs.Shape.{is_well_formed}
+use Rattle.token_protocol.specs.Basics.{In}
+use Rattle.version_model.specs.declared.act.Act.{Act}
+use Rattle.version_model.specs.declared.act.Act.TheVariants as act
+use Rattle.version_model.specs.declared.answer.Answer.TheVariants as answer
+use Rattle.version_model.specs.declared.work.Work.{Work}
+use Rattle.version_model.specs.declared.work.Work.TheVariants as work
+use Rattle.wire_msg.specs.declared.packet.Do.{Do}
+use Rattle.wire_msg.specs.declared.packet.Do.TheVariants.{Begin, Deliver, Tick}
+use Rattle.wire_msg.specs.declared.packet.Packet.{Packet}
+use Rattle.xfs_base.proofs.Booleans.{by_test}
+use Rattle.xfs_base.specs.declared.node.NodeId.{NodeId}
+use Rattle.xfs_base.specs.declared.segment.SegName.{SegName}
+use Rattle.xfs_base.specs.Steps.{saying, still}
+use Rattle.run_answers.proofs.act_law.Calling.{CallFits, Holds, IsNoRestart, Runs, all_run, goes_run, opens_run, then_runs as runs_behind}
+use Rattle.run_answers.proofs.act_law.Foundations.{Its, its_grow}
+use Rattle.run_answers.proofs.act_law.Telling.{Founded, acted, acted_before, founded_then, open_founded, plain_founded}
+use Rattle.run_answers.proofs.once_law.Arriving.{packet_goes, tick_goes}
+use Rattle.run_answers.proofs.once_law.Following.{Goes}
+use Rattle.run_answers.proofs.once_law.Items.{begun_open, begun_works}
+use Rattle.run_answers.proofs.once_law.Ledger.{AllPlain, all_pushed_plain, no_item, one_number}
+use Rattle.run_answers.proofs.once_law.Openings.{behaves_plain}
+use Rattle.run_answers.specs.act_law.Founded.{IsCrash, IsDone}
+use Rattle.run_answers.specs.act_law.Works.{asked_at}
+use Rattle.run_answers.specs.once_law.Ledgers.{IsOpen}
+
+-- the item that is open while a client opens its log is a restart
+abbrev IsRestart : Option Work → Type 0
+IsRestart (Some (work.Restart node)) = Unit {0}
+IsRestart _ = ⊥
+
+module _ (client : ℕ) (works : List Work) where
+  abbrev PhaseFits : Phase → Type 0
+  PhaseFits (Down l) = Unit {0}
+  PhaseFits (Opening l o) = (item : ℕ) → IsOpen l.items item → IsRestart (asked_at works item)
+  PhaseFits (Serves s) = CallFits client works s
+
+  -- it is this client, with these items
+  pub record PhaseHolds (p : Phase) : Type 0 where
+    pub number : (lasting_of p).number ≡ client
+    pub its : (lasting_of p).items.works ≡ works
+    pub fits : PhaseFits p
+
+  pub record Turned (w : Went_to) : Type 0 where
+    pub holds : PhaseHolds w.state
+    pub founded : Founded (Its client works) [] w.outs
+
+  unmoved : (p : Phase) → PhaseHolds p → Turned (still p)
+  unmoved p h = record { holds = h; founded = tt }
+
+  serves : (s : Serving) → PhaseHolds (Serves s) → Holds client works s
+  serves s h = record { number = h.number; its = h.its; fits = h.fits }
+
+  served : (d : Done) → Runs client works d → Turned (record { state = Serves d.state; outs = d.outs })
+  served d r = record { holds = record { number = r.holds.number; its = r.holds.its; fits = r.holds.fits }; founded = r.founded }
+
+  -- ---- an opening
+
+  restart_done : (w : Option Work) (chain : List SegName) (said : List Act) → IsRestart w → In (act.Back client chain) said → IsDone client w said
+  restart_done (Some (work.Restart node)) chain said is among = (chain, among)
+  restart_done _ chain said is among = absurd is
+
+  module _ (l : Lasting) (o : openings.Opening) (capacity : ℕ) (h : PhaseHolds (Opening l o)) where
+    -- it is back: that is acted, and then the restart is answered
+    back_founded : (chain : List SegName) (pushed : List Effect) → AllPlain pushed → (said : List Act)
+        → Founded (Its client works) (act.Back l.number chain ∷ said) (pushed ++ answers_unanswered l.items.unanswered answer.Done)
+    back_founded chain pushed plain said =
+        let more : List Act = act.Back l.number chain ∷ said in
+        founded_then (Its client works) (its_grow client works) more pushed (answers_unanswered l.items.unanswered answer.Done) (plain_founded (Its client works) (its_grow client works) more pushed plain)
+        (open_founded (Its client works) (its_grow client works) (acted more pushed) l.items.unanswered answer.Done
+        (λ item waits. restart_done (asked_at works item) chain (acted more pushed) (h.fits item waits)
+        (acted_before (act.Back client chain) more pushed (inl (ap (λ n. act.Back n chain) (sym h.number))))))
+
+    opened_so : (w : Went) → AllPlain w.effects → Turned (opened_on l capacity w)
+    opened_so w plain = by w.progress
+      where
+        first : Founded (Its client works) [] w.effects
+        first = plain_founded (Its client works) (its_grow client works) [] w.effects plain
+
+        by : (p : Progress) → Turned (saying w.effects (after_opening (record l { questions = w.questions }) capacity p))
+        by (progress.Opening r) = record {
+          holds = record { number = h.number; its = h.its; fits = h.fits };
+          founded = founded_then (Its client works) (its_grow client works) [] w.effects [] first tt;
+        }
+        by (progress.Opened r) = record {
+          holds = record { number = h.number; its = h.its; fits = λ item waits call fact. absurd (no_item item waits) };
+          founded = founded_then (Its client works) (its_grow client works) [] w.effects _ first (
+            tt,
+            back_founded r.chain (pushes_all r.promised.managers r.feed) (all_pushed_plain r.promised.managers r.feed)
+                (acted [] w.effects),
+          );
+        }
+        by (progress.Lost name) = record {
+          holds = record { number = h.number; its = h.its; fits = tt };
+          founded = founded_then (Its client works) (its_grow client works) [] w.effects (answers_unanswered l.items.unanswered (answer.Lost name)) first
+              (open_founded (Its client works) (its_grow client works) (acted [] w.effects) l.items.unanswered (answer.Lost name) (λ item waits. tt));
+        }
+
+  -- ---- an item begins
+
+  -- the open item is cut, and the item that begins is answered, which asks for a crash
+  crash_founded : (said : List Act) (o : Option ℕ) (number : ℕ) (node : NodeId) → asked_at works number ≡ Some (work.Crash node)
+      → Founded (Its client works) said (answers_unanswered o answer.Cut ++ Answers number answer.Done ∷ [])
+  crash_founded said o number node asked = by o
+    where
+      done : IsDone client (asked_at works number) said
+      done = subst (λ w. IsDone client w said) (sym asked) tt
+
+      crash : IsCrash (asked_at works number)
+      crash = subst IsCrash (sym asked) tt
+
+      by : (p : Option ℕ) → Founded (Its client works) said (answers_unanswered p answer.Cut ++ Answers number answer.Done ∷ [])
+      by None = (done, tt)
+      by (Some item) = ((number, (crash, inl refl)), (done, tt))
+
+  module _ (l : Lasting) (number : ℕ) (numbered : l.number ≡ client) (its : l.items.works ≡ works) where
+    abbrev m : Lasting
+    m = record l { items = begun l.items }
+
+    its_begun : m.items.works ≡ works
+    its_begun = begun_works l.items ∙ its
+
+    restart_fits : (node : NodeId) → asked_at works number ≡ Some (work.Restart node) → (item : ℕ) → Some number ≡ Some item → IsRestart (asked_at works item)
+    restart_fits node asked item waits =
+        subst (λ n. IsRestart (asked_at works n)) (one_number number item waits) (subst IsRestart (sym asked) tt)
+
+    down_so : (servers : ℕ) (wanted : Option Work) → asked_at works number ≡ wanted → Turned (down_begins servers m number (wish_of wanted))
+    down_so servers None asked = record { holds = record { number = numbered; its = its_begun; fits = tt }; founded = (tt, tt) }
+    down_so servers (Some (work.Restart node)) asked =
+        record { holds = record { number = numbered; its = its_begun; fits = restart_fits node asked }; founded = tt }
+    down_so servers (Some (work.Crash node)) asked = record { holds = record { number = numbered; its = its_begun; fits = tt }; founded = (tt, tt) }
+    down_so servers (Some other) asked = record { holds = record { number = numbered; its = its_begun; fits = tt }; founded = (tt, tt) }
+
+    opening_so : (o : openings.Opening) → ((item : ℕ) → IsOpen l.items item → IsRestart (asked_at works item)) → (wanted : Option Work)
+        → asked_at works number ≡ wanted → Turned (opening_begins m o number (wish_of wanted))
+    opening_so o fits None asked =
+        record { holds = record { number = numbered; its = its_begun; fits = λ item waits. fits item (sym (begun_open l.items) ∙ waits) }; founded = (tt, tt) }
+    opening_so o fits (Some (work.Crash node)) asked = record {
+      holds = record { number = numbered; its = its_begun; fits = tt };
+      founded = crash_founded [] m.items.unanswered number node asked;
+    }
+    opening_so o fits (Some (work.Restart node)) asked =
+        record { holds = record { number = numbered; its = its_begun; fits = λ item waits. fits item (sym (begun_open l.items) ∙ waits) }; founded = (tt, tt) }
+    opening_so o fits (Some other) asked =
+        record { holds = record { number = numbered; its = its_begun; fits = λ item waits. fits item (sym (begun_open l.items) ∙ waits) }; founded = (tt, tt) }
+
+  module _ (s : Serving) (number : ℕ) (h : Holds client works s) where
+    abbrev t : Serving
+    t = record s { lasting = record s.lasting { items = begun s.lasting.items } }
+
+    t_holds : Holds client works t
+    t_holds = record {
+      number = h.number;
+      its = begun_works s.lasting.items ∙ h.its;
+      fits = λ item waits call fact. h.fits item (sym (begun_open s.lasting.items) ∙ waits) call fact;
+    }
+
+    opens_so : (wanted : Option Work) → asked_at works number ≡ wanted → IsNoRestart client works wanted
+        → Turned (record { state = Serves (opens t number).state; outs = (opens t number).outs })
+    opens_so wanted asked none =
+        served (opens t number) (opens_run client works t number t_holds (subst (IsNoRestart client works) (sym asked) none))
+
+    serving_so : (wanted : Option Work) → asked_at works number ≡ wanted → Turned (serving_begins t number (wish_of wanted))
+    serving_so None asked = opens_so None asked tt
+    serving_so (Some (work.Crash node)) asked = record {
+      holds = record { number = h.number; its = begun_works s.lasting.items ∙ h.its; fits = tt };
+      founded = (tt, crash_founded _ t.lasting.items.unanswered number node asked);
+    }
+    serving_so (Some (work.Restart node)) asked = record {
+      holds = record { number = t_holds.number; its = t_holds.its; fits = t_holds.fits };
+      founded = (tt, tt);
+    }
+    serving_so (Some other) asked = opens_so (Some other) asked tt
+
+  item_so : (servers : ℕ) (p : Phase) (number : ℕ) (wanted : Option Work) → PhaseHolds p → asked_at works number ≡ wanted
+      → Turned (item_begins servers (with_begun p) number (wish_of wanted))
+  item_so servers (Down l) number wanted h asked = down_so l number h.number h.its servers wanted asked
+  item_so servers (Opening l o) number wanted h asked = opening_so l number h.number h.its o h.fits wanted asked
+  item_so servers (Serves s) number wanted h asked = serving_so s number (serves s h) wanted asked
+
+  begun_items : (p : Phase) → (lasting_of (with_begun p)).items ≡ begun (lasting_of p).items
+  begun_items (Down l) = refl
+  begun_items (Opening l o) = refl
+  begun_items (Serves s) = refl
+
+  begin_turned : (servers : ℕ) (p : Phase) → PhaseHolds p → Turned (on_begin servers p)
+  unfolding on_begin
+  begin_turned servers p h = by (next_item (lasting_of p).items)
+    where
+      its : (lasting_of (with_begun p)).items.works ≡ works
+      its = ap (λ (i : Items). i.works) (begun_items p) ∙ (begun_works (lasting_of p).items ∙ h.its)
+
+      by : (item : Option ℕ) → Turned (begins_item servers p item)
+      by None = unmoved p h
+      by (Some number) =
+          item_so servers p number (work_at (lasting_of (with_begun p)).items number) h (sym (ap (λ (ws : List Work). asked_at ws number) its))
+
+  -- ---- packets and time
+
+  runs_then : (s : Serving) (d : Done) → Holds client works s → Goes s d → Turned (then_runs d)
+  runs_then s d h g =
+      let r : Runs client works d = goes_run client works s d g h in
+      served (saying d.outs (runs d.state)) (runs_behind client works d (runs d.state) r (all_run client works d.state r.holds))
+
+  deliver_turned : (capacity : ℕ) (p : Phase) (packet : Packet) → PhaseHolds p → Turned (on_deliver capacity p packet)
+  unfolding on_deliver
+  deliver_turned capacity (Down l) packet h = unmoved (Down l) h
+  deliver_turned capacity (Opening l o) packet h =
+      opened_so l o capacity h (opening.on_packet o l.questions packet)
+      (behaves_plain o.known.owner (opening.on_packet o l.questions packet) (behaving.packet_so o l.questions packet))
+  deliver_turned capacity (Serves s) packet h = runs_then s (on_packet s packet) (serves s h) (packet_goes s packet)
+
+  time_turned : (capacity : ℕ) (p : Phase) → PhaseHolds p → Turned (on_time capacity p)
+  unfolding on_time
+  time_turned capacity (Down l) h = unmoved (Down l) h
+  time_turned capacity (Opening l o) h =
+      opened_so l o capacity h (opening.on_tick o l.questions)
+      (behaves_plain o.known.owner (opening.on_tick o l.questions) (behaving.tick_so o l.questions))
+  time_turned capacity (Serves s) h = runs_then s (on_tick s) (serves s h) (tick_goes s)
+
+  happens_turned : (c : Client) (what : Do) → PhaseHolds c.phase → Turned (happens c what)
+  happens_turned c Begin h = begin_turned c.peers.servers c.phase h
+  happens_turned c (Deliver packet) h =
+      by_test Turned (is_well_formed c.peers packet) (on_deliver c.cache c.phase packet) (still c.phase) (λ _. deliver_turned c.cache c.phase packet h)
+      (λ _. unmoved c.phase h)
+  happens_turned c Tick h = time_turned c.cache c.phase h
+
+  pub client_answers : (c : Client) (what : Do) → PhaseHolds c.phase → Turned (takes c what)
+  client_answers c what h = by_test Turned (client_room c) (happens c what) (still c.phase) (λ _. happens_turned c what h) (λ _. unmoved c.phase h)

@@ -1,0 +1,237 @@
+-- What each packet, and time, make of a client that serves: they answer nothing but the open item, where a segment is lost.
+use Rattle.std.proofs.Common.{ℕ, ◌==◌, Bool, List, [], ◌∷◌, ◌++◌, Option, Some, None, nat_lt, refl}
+use Rattle.client_log.specs.declared.input.In.TheVariants as log_in
+use Rattle.client_call.specs.Reads.{block_read, fetches_again, heard, reading_in, value_at}
+use Rattle.client_serving.specs.declared.serving.Serving.{Serving}
+use Rattle.client_serving.specs.Flights.{held_at, writes}
+use Rattle.client_serving.specs.Follow.{follows, hands, takes_back}
+use Rattle.client_serving.specs.Grants.{is_stamp, supplies}
+use Rattle.client_serving.specs.Packets.{again, asks_for_maps, ends_fetch, hears, is_acked, is_gone, is_news, may_report, on_ack, on_body, on_forward, on_gone, on_grant, on_news, on_packet, on_poll, on_recall, on_supply, on_told, on_tick, on_welcome, polled, promised_in, promises, regroups, renews, reports, says_again, takes_news, told_at, told_by}
+use Rattle.client_serving.specs.Reads.{ends_reading, loses, with_reading}
+use Rattle.client_serving.specs.Sends.{Done, gives, report}
+use Rattle.delta_feed.specs.Transition.{acknowledged, new_epoch}
+use Rattle.group_map.specs.GroupMapState.{GroupMapState}
+use Rattle.log_owner.specs.Promised.{manager_set}
+use Rattle.log_owner.specs.Sending.{fetch, pushes_all}
+use Rattle.node_base.specs.declared.effects.Effect.{Effect}
+use Rattle.node_base.specs.Known.{names_known}
+use Rattle.node_base.specs.Maps.{fits, is_older, taken}
+use Rattle.segment_reading.specs.declared.reading.Next.{Next}
+use Rattle.segment_reading.specs.declared.reading.Next.TheVariants as next
+use Rattle.segment_reading.specs.declared.target.BlockAt.{BlockAt}
+use Rattle.segment_reading.specs.Reading.{ReadingState, to_ask}
+use Rattle.stripe_code.specs.declared.round.Told.{Told as Answered}
+use Rattle.stripe_code.specs.declared.round.Told.TheVariants as answered
+use Rattle.token_client.specs.declared.input.In.TheVariants as input
+use Rattle.token_client.specs.declared.output.Out as outputs
+use Rattle.token_client.specs.declared.output.Out.TheVariants as output
+use Rattle.token_client.specs.State.{epoch_of}
+use Rattle.token_client.specs.Transition as client
+use Rattle.wire_msg.specs.declared.body.Body.{Body}
+use Rattle.wire_msg.specs.declared.body.Body.TheVariants as body
+use Rattle.wire_msg.specs.declared.deltas.DeltaAck.{DeltaAck}
+use Rattle.wire_msg.specs.declared.deltas.Poll.{Poll}
+use Rattle.wire_msg.specs.declared.packet.Packet.{Packet}
+use Rattle.wire_msg.specs.declared.registry.News.{News}
+use Rattle.wire_msg.specs.declared.registry.Welcome.{Welcome}
+use Rattle.wire_msg.specs.declared.tokens.Forward.{Forward}
+use Rattle.wire_msg.specs.declared.tokens.Gone.{Gone}
+use Rattle.wire_msg.specs.declared.tokens.Grant.{Grant}
+use Rattle.wire_msg.specs.declared.tokens.Recall.{Recall}
+use Rattle.wire_msg.specs.declared.tokens.Supply.{Supply}
+use Rattle.xfs_base.proofs.Booleans.{by_test}
+use Rattle.xfs_base.specs.declared.news.SlotNews.{SlotNews}
+use Rattle.xfs_base.specs.declared.node.NodeId.{NodeId}
+use Rattle.xfs_base.specs.declared.node.NodeId.TheVariants as node
+use Rattle.xfs_base.specs.Steps.{saying, steps, still}
+use Rattle.xfs_base.proofs.Alls.{all_flat_map, all_map}
+use Rattle.run_answers.proofs.once_law.Following.{Goes, Kept, ends_kept, first_goes, follows_go, from_goes, hands_go, itself, loses_go, plainly, reading_kept, same_call, stays, steps_go, takes_back_goes, then_goes, then_kept, writes_go}
+use Rattle.run_answers.proofs.once_law.Items.{same}
+use Rattle.run_answers.proofs.once_law.Ledger.{AllPlain, IsPlain, all_pushed_plain}
+
+-- ---- promises
+
+renews_kept : (s : Serving) (slot epoch : ℕ) → Kept s (renews s slot epoch)
+unfolding renews
+renews_kept s slot epoch =
+    by_test (Kept s) (nat_lt (epoch_of s.tokens.epochs slot) epoch) (record s { feed = new_epoch s.feed slot }) s
+    (λ _. record { calls = same_call _; number = refl; items = same _ }) (λ _. itself s)
+
+promises_keep : (s : Serving) (slot epoch manager : ℕ) → Kept s (promises s slot epoch manager).state
+unfolding promises
+promises_keep s slot epoch manager =
+    let t : Serving = renews s slot epoch in
+    let u : Serving = record t { managers = manager_set t.managers slot manager; tokens = (client.on_promise t.tokens slot epoch).state } in
+    let k : Kept u (ends_reading u) = ends_kept u in
+    then_kept s t (ends_reading u) (renews_kept s slot epoch) (record { calls = k.calls; number = k.number; items = k.items })
+
+followed_goes : (s : Serving) (slot epoch manager : ℕ) → Goes s (follows (promises s slot epoch manager).state (promises s slot epoch manager).outs)
+followed_goes s slot epoch manager =
+    let p = promises s slot epoch manager in
+    from_goes s p.state (follows p.state p.outs) (promises_keep s slot epoch manager) (follows_go p.state p.outs)
+
+polled_goes : (s : Serving) (manager : ℕ) (p : Poll) → Goes s (polled s manager p)
+unfolding polled
+polled_goes s manager p =
+    let kept = promises s p.slot p.epoch manager in
+    by_test (Goes s) (may_report s p) (reports p.slot p.epoch kept) (still s)
+    (λ _. first_goes s (report kept.state p.slot p.epoch ∷ []) (follows kept.state kept.outs) (tt, tt) (followed_goes s p.slot p.epoch manager))
+    (λ _. stays s s (itself s))
+
+poll_goes : (s : Serving) (from : NodeId) (p : Poll) → Goes s (on_poll s from p)
+poll_goes s (node.Manager manager) p = polled_goes s manager p
+poll_goes s (node.Client k) p = stays s s (itself s)
+poll_goes s (node.Server k) p = stays s s (itself s)
+poll_goes s node.Cleaner p = stays s s (itself s)
+poll_goes s node.Registry p = stays s s (itself s)
+
+hears_goes : (s : Serving) (news : SlotNews) → Goes s (hears s news)
+unfolding hears
+hears_goes s news =
+    by_test (Goes s) (is_news s news) (promised_in s news) (still s) (λ _. followed_goes s news.slot news.epoch news.manager) (λ _. stays s s (itself s))
+
+regroups_goes : (s : Serving) (newer : Bool) (m : GroupMapState) → Goes s (regroups s newer m)
+regroups_goes s newer m = by_test (Goes s) newer (writes s (log_in.Maps m)) (still s) (λ _. writes_go s (log_in.Maps m)) (λ _. stays s s (itself s))
+
+-- ---- tokens
+
+grant_goes : (s : Serving) (g : Grant) → Goes s (on_grant s g)
+unfolding on_grant
+grant_goes s g =
+    by_test (Goes s) _ (still s) (hands s (input.Granted g.block g.stamp g.inc g.req g.mode g.entry)) (λ _. stays s s (itself s))
+    (λ _. hands_go s (input.Granted g.block g.stamp g.inc g.req g.mode g.entry))
+
+supply_goes : (s : Serving) (m : Supply) → Goes s (on_supply s m)
+unfolding on_supply
+supply_goes s m = hands_go s (input.Supplied m.block m.stamp m.inc m.req m.ver m.value)
+
+supplies_plain : (f : Forward) (o : outputs.Out) → AllPlain (supplies f o)
+supplies_plain f (output.Supply block ver value) = (tt, tt)
+supplies_plain f (output.Want block req again mode) = tt
+supplies_plain f (output.Gave block stamp) = tt
+supplies_plain f (output.Flush block) = tt
+supplies_plain f (output.Read block place) = tt
+supplies_plain f (output.Ready block) = tt
+
+forward_goes : (s : Serving) (f : Forward) → Goes s (on_forward s f)
+unfolding on_forward
+forward_goes s f =
+    plainly s (on_forward s f) (record { calls = same_call _; number = refl; items = same _ })
+    (all_flat_map IsPlain (supplies f) (supplies_plain f) (client.on_forwarded s.tokens f.block f.stamp f.ver).outs)
+
+again_plain : (s : Serving) (r : Recall) (outs : List outputs.Out) → AllPlain (again s r outs)
+again_plain s r [] = tt
+again_plain s r (o ∷ outs) = (tt, tt)
+
+recall_goes : (s : Serving) (r : Recall) → Goes s (on_recall s r)
+unfolding on_recall
+recall_goes s r =
+    let d = client.on_recalled s.tokens r.block r.stamp r.keep in
+    by_test (Goes s) (is_stamp (held_at s r.block).stamp r.stamp) (says_again s r d) (takes_back s r.block r.stamp r.keep)
+    (λ _. plainly s (says_again s r d) (record { calls = same_call _; number = refl; items = same _ }) (again_plain (record s { tokens = d.state }) r d.outs))
+    (λ _. takes_back_goes s r.block r.stamp r.keep)
+
+gone_goes : (s : Serving) (g : Gone) → Goes s (on_gone s g)
+unfolding on_gone
+gone_goes s g = by_test (Goes s) (is_gone s g) (loses s g.block g.seg) (still s) (λ _. loses_go s g.block g.seg) (λ _. stays s s (itself s))
+
+ack_goes : (s : Serving) (a : DeltaAck) → Goes s (still (on_ack s a))
+unfolding on_ack
+ack_goes s a =
+    by_test (λ (t : Serving). Goes s (still t)) (is_acked s a) (record s { feed = acknowledged s.feed a.slot a.applied }) s
+    (λ _. stays s (record s { feed = acknowledged s.feed a.slot a.applied }) (record { calls = same_call _; number = refl; items = same _ }))
+    (λ _. stays s s (itself s))
+
+-- ---- fragments
+
+fetch_goes : (s : Serving) (at : BlockAt) (x : Next) → Goes s (ends_fetch s at x)
+fetch_goes s at next.Again = hands_go s (input.Reask at.block)
+fetch_goes s at (next.Read segment) = hands_go s (input.Fetched at.block (value_at segment at.item))
+fetch_goes s at next.Wait = stays s s (itself s)
+fetch_goes s at next.Ask = stays s s (itself s)
+fetch_goes s at next.Lost = stays s s (itself s)
+
+told_goes : (s : Serving) (server ask : ℕ) (t : Answered) → Goes s (told_by s server ask t)
+unfolding told_by
+told_goes s server ask t =
+    let h = heard (reading_in s.call) s.maps.groups ask server t in
+    by (block_read (reading_in s.call))
+  where
+    by : (at : Option BlockAt) → Goes s (told_at s at (heard (reading_in s.call) s.maps.groups ask server t))
+    by None = stays s s (itself s)
+    by (Some at) =
+        let h = heard (reading_in s.call) s.maps.groups ask server t in
+        from_goes s (with_reading s h.reading) (ends_fetch (with_reading s h.reading) at h.next) (reading_kept s h.reading)
+        (fetch_goes (with_reading s h.reading) at h.next)
+
+on_told_goes : (s : Serving) (from : NodeId) (ask : ℕ) (t : Answered) → Goes s (on_told s from ask t)
+on_told_goes s (node.Server server) ask t = told_goes s server ask t
+on_told_goes s (node.Client k) ask t = stays s s (itself s)
+on_told_goes s (node.Manager k) ask t = stays s s (itself s)
+on_told_goes s node.Cleaner ask t = stays s s (itself s)
+on_told_goes s node.Registry ask t = stays s s (itself s)
+
+-- ---- maps
+
+takes_news_goes : (s : Serving) (news : News) → Goes s (takes_news s news)
+unfolding takes_news
+takes_news_goes s news =
+    let t : Serving = record s { maps = taken s.maps news } in
+    let d : Done = steps hears t news.slots in
+    from_goes s t (saying d.outs (regroups d.state (is_older s.maps news) news.groups)) (record { calls = same_call _; number = refl; items = same _ })
+    (then_goes t d (regroups d.state (is_older s.maps news) news.groups) (steps_go hears hears_goes t news.slots)
+    (regroups_goes d.state (is_older s.maps news) news.groups))
+
+news_goes : (s : Serving) (news : News) → Goes s (on_news s news)
+news_goes s news =
+    by_test (Goes s) (fits s.maps news) (takes_news s news) (still s) (λ _. takes_news_goes s news) (λ _. stays s s (itself s))
+
+welcome_goes : (s : Serving) (w : Welcome) → Goes s (on_welcome s w)
+unfolding on_welcome
+welcome_goes s w =
+    by_test (Goes s) (w.inc == s.lasting.inc) (on_news s w.news) (still s) (λ _. news_goes s w.news) (λ _. stays s s (itself s))
+
+-- ---- a packet
+
+body_goes : (s : Serving) (from : NodeId) (b : Body) → Goes s (on_body s from b)
+body_goes s from (body.Grant m) = grant_goes s m
+body_goes s from (body.Supply m) = supply_goes s m
+body_goes s from (body.Forward m) = forward_goes s m
+body_goes s from (body.Recall m) = recall_goes s m
+body_goes s from (body.Gone m) = gone_goes s m
+body_goes s from (body.DeltaAck m) = ack_goes s m
+body_goes s from (body.Poll m) = poll_goes s from m
+body_goes s from (body.Stored m) = writes_go s (log_in.Acked m.name m.index m.generation)
+body_goes s from (body.Fragment m) = on_told_goes s from m.ask (answered.Held m.fragment)
+body_goes s from (body.Missing m) = on_told_goes s from m.ask (answered.Missing m.generation)
+body_goes s from (body.MapNews m) = news_goes s m
+body_goes s from (body.Welcome m) = welcome_goes s m
+body_goes s from _ = stays s s (itself s)
+
+asks_goes : (s : Serving) → Goes s (asks_for_maps s)
+unfolding asks_for_maps
+asks_goes s = plainly s (asks_for_maps s) (record { calls = same_call _; number = refl; items = same _ }) (tt, tt)
+
+pub packet_goes : (s : Serving) (packet : Packet) → Goes s (on_packet s packet)
+unfolding on_packet
+packet_goes s packet =
+    by_test (Goes s) (names_known s.maps packet.body) (on_body s packet.from packet.body) (asks_for_maps s) (λ _. body_goes s packet.from packet.body)
+    (λ _. asks_goes s)
+
+-- ---- time
+
+again_fetched : (o : Option ReadingState) → AllPlain (fetches_again o)
+again_fetched None = tt
+again_fetched (Some r) = all_map IsPlain (fetch r.target.seg.name r.ask) (λ member. tt) (to_ask r)
+
+pub tick_goes : (s : Serving) → Goes s (on_tick s)
+unfolding on_tick
+tick_goes s =
+    let w : Done = hands s input.Tick in
+    let l : Done = writes w.state log_in.Tick in
+    let again : List Effect = fetches_again (reading_in w.state.call) in
+    let pushed : List Effect = pushes_all l.state.managers l.state.feed in
+    then_goes s w (gives l.state (again ++ (l.outs ++ pushed))) (hands_go s input.Tick)
+    (first_goes w.state again (gives l.state (l.outs ++ pushed)) (again_fetched (reading_in w.state.call))
+    (then_goes w.state l (gives l.state pushed) (writes_go w.state log_in.Tick)
+    (plainly l.state (gives l.state pushed) (itself l.state) (all_pushed_plain l.state.managers l.state.feed))))

@@ -1,0 +1,446 @@
+-- A cleaner that serves answers nothing but the open item, and of its items none begins but by a Begin.
+use Rattle.std.proofs.Common.{◌≡◌, ℕ, ◌==◌, ◌&&◌, Bool, cond, List, [], ◌∷◌, Option, Some, None, is_some, nat_lt, inr, refl}
+use Rattle.std.specs.List.{range_with_len}
+use Rattle.cleaner_serving.specs.declared.emptying.Emptying.{Emptying}
+use Rattle.cleaner_serving.specs.EmptyingEvents as emptying
+use Rattle.cleaner_serving.specs.Jobs as jobs
+use Rattle.cleaner_serving.specs.Jobs.{Done}
+use Rattle.cleaner_job.specs.declared.hand.Hand.{Hand}
+use Rattle.cleaner_job.specs.declared.job.Job.{Job}
+use Rattle.cleaner_job.specs.Hands.{fetches, fetches_for}
+use Rattle.cleaner_job.specs.Jobs.{check_of, drops, greeted, hand_of, hello_of, is_out, is_whole, job_read, lists_of, usages_of}
+use Rattle.cleaner_job.specs.Starting.{cleaner_log}
+use Rattle.client_log.specs.declared.input.In.{In as LogIn}
+use Rattle.client_log.specs.declared.input.In.TheVariants as log_in
+use Rattle.client_log.specs.declared.output.Out.{Out as LogOut}
+use Rattle.client_log.specs.declared.output.Out.TheVariants as log_out
+use Rattle.client_log.specs.Transition as log
+use Rattle.delta_feed.specs.Transition as feed
+use Rattle.group_map.specs.GroupMapState.{GroupMapState}
+use Rattle.log_owner.specs.Opening.{stored}
+use Rattle.log_owner.specs.Promised.{epoch_of}
+use Rattle.log_owner.specs.Sending.{fetch, name_of, pushes_all, server_in}
+use Rattle.node_base.specs.Asking.{drawn, next_ask}
+use Rattle.node_base.specs.declared.effects.Effect.{Effect}
+use Rattle.node_base.specs.declared.effects.Effect.TheVariants.{Send, Answer as Answers, Does}
+use Rattle.node_base.specs.declared.items.Items.{Items}
+use Rattle.node_base.specs.Known.{names_known}
+use Rattle.node_base.specs.Maps.{fits, is_older, taken}
+use Rattle.segment_format.specs.declared.segment.Segment.{Segment}
+use Rattle.segment_reading.specs.declared.reading.Next.{Next}
+use Rattle.segment_reading.specs.declared.reading.Next.TheVariants as next
+use Rattle.segment_reading.specs.Reading.{ReadingState, to_ask}
+use Rattle.stripe_cleaner.specs.declared.input.In.{In}
+use Rattle.stripe_cleaner.specs.declared.input.In.TheVariants as input
+use Rattle.stripe_cleaner.specs.declared.output.Out.{Out}
+use Rattle.stripe_cleaner.specs.declared.output.Out.TheVariants as out
+use Rattle.stripe_code.specs.declared.round.Told.{Told as Answered}
+use Rattle.stripe_code.specs.declared.round.Told.TheVariants as answered
+use Rattle.version_model.specs.declared.act.Act.TheVariants.{Dropped, Filed}
+use Rattle.version_model.specs.declared.answer.Answer.TheVariants as answer
+use Rattle.wire_msg.specs.declared.body.Body.{Body}
+use Rattle.wire_msg.specs.declared.body.Body.TheVariants as body
+use Rattle.wire_msg.specs.declared.cleaning.Dead.{Dead}
+use Rattle.wire_msg.specs.declared.cleaning.Live.{Live}
+use Rattle.wire_msg.specs.declared.cleaning.Usage.{Usage}
+use Rattle.wire_msg.specs.declared.deltas.DeltaAck.{DeltaAck}
+use Rattle.wire_msg.specs.declared.deltas.Poll.{Poll}
+use Rattle.wire_msg.specs.declared.packet.Packet.{Packet}
+use Rattle.wire_msg.specs.declared.registry.News.{News}
+use Rattle.wire_msg.specs.declared.registry.Welcome.{Welcome}
+use Rattle.wire_msg.specs.declared.storage.Listed.{Listed}
+use Rattle.wire_msg.specs.declared.storage.Deleted.{Deleted}
+use Rattle.xfs_base.proofs.Booleans.{by_test}
+use Rattle.xfs_base.specs.declared.block.BlockId.{BlockId}
+use Rattle.xfs_base.specs.declared.entry.Entry.{Entry}
+use Rattle.xfs_base.specs.declared.entry.Place.{Place}
+use Rattle.xfs_base.specs.declared.news.SlotNews.{SlotNews}
+use Rattle.xfs_base.specs.declared.node.NodeId.{NodeId}
+use Rattle.xfs_base.specs.declared.node.NodeId.TheVariants as node
+use Rattle.xfs_base.specs.declared.segment.End.{End}
+use Rattle.xfs_base.specs.declared.segment.SegName.{SegName}
+use Rattle.xfs_base.specs.declared.segment.SegRef.{SegRef}
+use Rattle.xfs_base.specs.Steps.{saying, steps, still}
+use Rattle.xfs_base.proofs.Alls.{all_append, all_flat_map, all_map}
+use Rattle.run_answers.proofs.once_law.Items.{Same, Steady, same, steady, steady_same, steady_then}
+use Rattle.run_answers.proofs.once_law.Ledger.{AllPlain, IsMidway, Closes, IsPlain, OpenOr, all_pushed_plain, answers_so, closes_append, closes_more, closes_open, closes_plain, one_number}
+
+abbrev items_of : Emptying → Items
+items_of e = e.lasting.items
+
+-- the item that is open
+abbrev pub IsOpen : Emptying → ℕ → Type 0
+IsOpen e number = e.lasting.items.unanswered ≡ Some number
+
+-- the same items have begun, only the open one is answered, and it is open no more
+pub record Goes (e : Emptying) (d : Done) : Type 0 where
+  pub items : Steady (items_of e) (items_of d.state)
+  pub closes : Closes IsMidway (IsOpen e) d.outs (IsOpen d.state)
+
+quietly : (e : Emptying) (d : Done) → Same (items_of e) (items_of d.state) → AllPlain d.outs → Goes e d
+quietly e d fact plain = record {
+  items = steady_same (items_of e) (items_of d.state) fact;
+  closes = closes_plain IsMidway (IsOpen e) (IsOpen d.state) fact.waits d.outs plain;
+}
+
+stays : (e f : Emptying) → Same (items_of e) (items_of f) → Goes e (still f)
+stays e f fact = quietly e (still f) fact tt
+
+rests : (e : Emptying) → Goes e (still e)
+rests e = stays e e (same (items_of e))
+
+then_goes : (e : Emptying) (d x : Done) → Goes e d → Goes d.state x → Goes e (saying d.outs x)
+then_goes e d x a b = record {
+  items = steady_then (items_of e) (items_of d.state) (items_of x.state) a.items b.items;
+  closes = closes_append IsMidway (IsOpen e) (IsOpen d.state) (IsOpen x.state) d.outs x.outs a.closes b.closes;
+}
+
+from_goes : (e f : Emptying) (d : Done) → Same (items_of e) (items_of f) → Goes f d → Goes e d
+from_goes e f d fact g = then_goes e (still f) d (stays e f fact) g
+
+first_goes : (e : Emptying) (outs : List Effect) (x : Done) → AllPlain outs → Goes e x → Goes e (saying outs x)
+first_goes e outs x plain g =
+    then_goes e (record { state = e; outs = outs }) x (quietly e (record { state = e; outs = outs }) (same (items_of e)) plain) g
+
+steps_go : {A : Type 0} (step : Emptying → A → Done) → ((e : Emptying) (x : A) → Goes e (step e x)) → (e : Emptying) (xs : List A)
+    → Goes e (steps step e xs)
+steps_go step each e [] = rests e
+steps_go step each e (x ∷ xs) =
+    then_goes e (step e x) (steps step (step e x).state xs) (each e x) (steps_go step each (step e x).state xs)
+
+-- what is taken where a test holds
+if_goes : (t : Bool) (e : Emptying) (d : Done) → Goes e d → Goes e (cond t d (still e))
+if_goes t e d g = by_test (Goes e) t d (still e) (λ _. g) (λ _. rests e)
+
+-- ---- what the job has it do
+
+stored_plain : (o : LogOut) → AllPlain (stored o)
+stored_plain (log_out.Send fragment member) = (tt, tt)
+stored_plain (log_out.Settled end rows) = tt
+
+maps_go : (e : Emptying) (job : Option Job) → Goes e (jobs.asks_maps e job)
+maps_go e None = rests e
+maps_go e (Some job) = quietly _ _ (same (items_of e)) ((tt, tt))
+
+list_goes : (e : Emptying) (job : Option Job) (server : ℕ) → Goes e (jobs.asks_list e job server)
+list_goes e None server = rests e
+list_goes e (Some job) server = quietly _ _ (same (items_of e)) ((tt, tt))
+
+usage_goes : (e : Emptying) (job : Option Job) (slot : ℕ) → Goes e (jobs.asks_usage e job slot)
+usage_goes e None slot = rests e
+usage_goes e (Some job) slot = quietly _ _ (same (items_of e)) ((tt, tt))
+
+sent_goes : (e : Emptying) (block : BlockId) (place : Place) (ask : Option ℕ) → Goes e (jobs.check_sent e block place ask)
+sent_goes e block place None = rests e
+sent_goes e block place (Some ask) = quietly _ _ (same (items_of e)) ((tt, tt))
+
+checked_same : (e : Emptying) (job : Option Job) (block : BlockId) → Same (items_of e) (items_of (jobs.checked_in e job block).state)
+checked_same e None block = same (items_of e)
+checked_same e (Some job) block = same (items_of e)
+
+check_goes : (e : Emptying) (block : BlockId) (place : Place) → Goes e (jobs.asks_check e block place)
+unfolding jobs.asks_check jobs.checks_block
+check_goes e block place =
+    let c = jobs.checked_in e e.job block in
+    from_goes e c.state (jobs.check_sent c.state block place c.ask) (checked_same e e.job block) (sent_goes c.state block place c.ask)
+
+for_plain : (name : SegName) (r : Option ReadingState) → AllPlain (fetches_for name r)
+for_plain name None = tt
+for_plain name (Some r) = all_map IsPlain (fetch name r.ask) (λ member. tt) (to_ask r)
+
+fetches_plain : (hand : Option Hand) → AllPlain (fetches hand)
+fetches_plain None = tt
+fetches_plain (Some hand) = for_plain hand.seg.name hand.reading
+
+holds_same : (e : Emptying) (job : Option Job) (seg : SegRef) → Same (items_of e) (items_of (jobs.holds_in e job seg))
+holds_same e None seg = same (items_of e)
+holds_same e (Some job) seg = same (items_of e)
+
+reads_go : (e : Emptying) (seg : SegRef) → Goes e (jobs.reads e seg)
+unfolding jobs.reads jobs.holds
+reads_go e seg = quietly e _ (holds_same e e.job seg) (fetches_plain (hand_of (jobs.holds_in e e.job seg).job))
+
+puts_go : (e : Emptying) (i : LogIn) → Goes e (jobs.puts e i)
+unfolding jobs.puts
+puts_go e i = quietly _ _ (same (items_of e)) (all_flat_map IsPlain stored stored_plain (log.transition e.log i).outs)
+
+block_goes : (e : Emptying) (one : BlockId × Entry × Option (List ℕ)) → Goes e (jobs.puts_block e one)
+unfolding jobs.puts_block
+block_goes e one = puts_go e (log_in.Put one.0 one.1 one.2)
+
+moves_go : (e : Emptying) (blocks : List (BlockId × Entry × Option (List ℕ))) → Goes e (jobs.moves e blocks)
+unfolding jobs.moves
+moves_go e blocks =
+    let d : Done = steps jobs.puts_block e blocks in
+    then_goes e d (jobs.puts d.state log_in.Seal) (steps_go jobs.puts_block block_goes e blocks) (puts_go d.state log_in.Seal)
+
+drops_plain : (first : Bool) (name : SegName) → AllPlain (drops first name)
+drops_plain first name = by_test AllPlain first (Does (Dropped name) ∷ []) [] (λ _. (tt, tt)) (λ _. tt)
+
+deletes_go : (e : Emptying) (job : Option Job) (server : ℕ) (name : SegName) → Goes e (jobs.deletes e job server name)
+deletes_go e None server name = rests e
+deletes_go e (Some job) server name =
+    quietly _ _ (same (items_of e)) (all_append IsPlain (drops (is_whole job.hand) name) _ (drops_plain (is_whole job.hand) name) (tt, tt))
+
+says_go : (e : Emptying) (o : Out) → Goes e (jobs.says e o)
+unfolding jobs.says
+says_go e out.Hello = maps_go e e.job
+says_go e (out.List server) = list_goes e e.job server
+says_go e (out.UsageAsk slot) = usage_goes e e.job slot
+says_go e (out.Fetch seg) = reads_go e seg
+says_go e (out.Check block place) = check_goes e block place
+says_go e (out.Move blocks) = moves_go e blocks
+says_go e (out.Delete server name) = deletes_go e e.job server name
+says_go e (out.Finished count) =
+    record {
+      items = record { works = refl; begun = refl };
+      closes = closes_open IsMidway e.lasting.items.unanswered (answer.Count count) tt;
+    }
+
+taken_same : (e : Emptying) (job : Option Job) (given : In) → Same (items_of e) (items_of (jobs.takes_in e job given).state)
+taken_same e None given = same (items_of e)
+taken_same e (Some job) given = same (items_of e)
+
+cleans_go : (e : Emptying) (given : In) → Goes e (jobs.cleans e given)
+unfolding jobs.cleans jobs.job_takes
+cleans_go e given =
+    let t = jobs.takes_in e e.job given in
+    from_goes e t.state (steps jobs.says t.state t.outs) (taken_same e e.job given) (steps_go jobs.says says_go t.state t.outs)
+
+-- ---- what comes for it
+
+ends_go : (e : Emptying) (read : Option Segment) → Goes e (jobs.ends_reading e read)
+unfolding jobs.ends_reading
+ends_go e read =
+    let f : Emptying = record e { job = job_read e.job } in
+    from_goes e f (jobs.cleans f (input.Read read)) (same (items_of e)) (cleans_go f (input.Read read))
+
+confirmed_go : (e : Emptying) (x : Next) → Goes e (jobs.after_confirmed e x)
+confirmed_go e next.Ask = quietly _ _ (same (items_of e)) (fetches_plain (hand_of e.job))
+confirmed_go e next.Lost = ends_go e None
+confirmed_go e next.Wait = rests e
+confirmed_go e next.Again = rests e
+confirmed_go e (next.Read segment) = rests e
+
+confirmed_same : (e : Emptying) (job : Option Job) (ask : ℕ) → Same (items_of e) (items_of (jobs.confirmed_in e job ask).state)
+confirmed_same e None ask = same (items_of e)
+confirmed_same e (Some job) ask = same (items_of e)
+
+again_goes : (e : Emptying) → Goes e (jobs.reads_again e)
+unfolding jobs.reads_again jobs.confirmed
+again_goes e =
+    let f : Emptying = jobs.with_questions e (drawn e.lasting.questions) in
+    let h = jobs.confirmed_in f f.job (next_ask e.lasting.questions) in
+    from_goes e h.state (jobs.after_confirmed h.state h.next) (confirmed_same f f.job (next_ask e.lasting.questions)) (confirmed_go h.state h.next)
+
+after_told_goes : (e : Emptying) (x : Next) → Goes e (jobs.after_told e x)
+after_told_goes e next.Wait = rests e
+after_told_goes e next.Ask = rests e
+after_told_goes e next.Again = again_goes e
+after_told_goes e (next.Read segment) = ends_go e (Some segment)
+after_told_goes e next.Lost = ends_go e None
+
+told_same : (e : Emptying) (job : Option Job) (groups : Option GroupMapState) (ask server : ℕ) (t : Answered)
+    → Same (items_of e) (items_of (jobs.told_in e job groups ask server t).state)
+told_same e None groups ask server t = same (items_of e)
+told_same e (Some job) None ask server t = same (items_of e)
+told_same e (Some job) (Some groups) ask server t = same (items_of e)
+
+told_goes : (e : Emptying) (server : Option ℕ) (ask : ℕ) (t : Answered) → Goes e (jobs.on_told e server ask t)
+unfolding jobs.on_told jobs.told_by
+told_goes e None ask t = rests e
+told_goes e (Some server) ask t =
+    let h = jobs.told_in e e.job e.maps.groups ask server t in
+    from_goes e h.state (jobs.after_told h.state h.next) (told_same e e.job e.maps.groups ask server t) (after_told_goes h.state h.next)
+
+listed_goes : (e : Emptying) (server : Option ℕ) (listed : Listed) → Goes e (jobs.on_listed e server listed)
+unfolding jobs.on_listed
+listed_goes e None listed = rests e
+listed_goes e (Some server) listed = if_goes (is_out (lists_of e.job) listed.ask) e _ (cleans_go e (input.Listed server listed.held))
+
+usages_go : (e : Emptying) (usage : Usage) → Goes e (jobs.on_usage e usage)
+unfolding jobs.on_usage
+usages_go e usage = if_goes (is_out (usages_of e.job) usage.ask) e _ (cleans_go e (input.Usage usage.slot usage.epoch usage.counts))
+
+live_goes : (e : Emptying) (live : Live) → Goes e (jobs.on_live e live)
+unfolding jobs.on_live
+live_goes e live = if_goes (is_out (check_of (hand_of e.job) live.block) live.ask) e _ (cleans_go e (input.Live live.block live.epoch live.entry))
+
+dead_goes : (e : Emptying) (dead : Dead) → Goes e (jobs.on_dead e dead)
+unfolding jobs.on_dead
+dead_goes e dead = if_goes (is_out (check_of (hand_of e.job) dead.block) dead.ask) e _ (cleans_go e (input.Dead dead.block dead.epoch))
+
+deleted_goes : (e : Emptying) (server : Option ℕ) (deleted : Deleted) → Goes e (jobs.on_deleted e server deleted)
+unfolding jobs.on_deleted
+deleted_goes e None deleted = rests e
+deleted_goes e (Some server) deleted = cleans_go e (input.Deleted server deleted.name)
+
+-- ---- a job begins
+
+promise_goes : (e : Emptying) (slot : ℕ) → Goes e (emptying.promises_slot e slot)
+unfolding emptying.promises_slot
+promise_goes e slot = cleans_go e (input.Promise slot (epoch_of e.promised slot))
+
+-- only what was open before or begins is answered, and is open then
+pub record Cleans (e : Emptying) (number : ℕ) (d : Done) : Type 0 where
+  pub items : Steady (items_of e) (items_of d.state)
+  pub closes : Closes IsMidway (OpenOr e.lasting.items.unanswered number) d.outs (IsOpen d.state)
+
+begins_go : (e : Emptying) (number count : ℕ) → Cleans e number (emptying.begins_job e number count)
+unfolding emptying.begins_job emptying.promises_all
+begins_go e number count =
+    let f : Emptying = emptying.with_new_job e number count in
+    let d : Done = steps emptying.promises_slot f (range_with_len 0 8) in
+    let g : Goes f (saying d.outs (jobs.cleans d.state input.Tick)) =
+    then_goes f d (jobs.cleans d.state input.Tick) (steps_go emptying.promises_slot promise_goes f (range_with_len 0 8)) (cleans_go d.state input.Tick) in
+    record {
+      items = record { works = g.items.works; begun = g.items.begun };
+      closes = closes_more IsMidway IsMidway (λ a so. so) (IsOpen f) (OpenOr e.lasting.items.unanswered number)
+          (IsOpen (jobs.cleans d.state input.Tick).state) (IsOpen (jobs.cleans d.state input.Tick).state) (λ n fact. inr (one_number number n fact))
+          (λ n fact. fact) (saying d.outs (jobs.cleans d.state input.Tick)).outs g.closes;
+    }
+
+pub clean_goes : (e : Emptying) (number count : ℕ) → (IsOpen e number → ⊥) → Cleans e number (emptying.on_clean e number count)
+unfolding emptying.on_clean
+clean_goes e number count fresh =
+    by_test (Cleans e number) (is_some e.lasting.items.unanswered) (record { state = e; outs = Answers number answer.Busy ∷ [] })
+    (emptying.begins_job e number count)
+    (λ _. record { items = steady (items_of e); closes = answers_so e.lasting.items.unanswered number fresh IsMidway answer.Busy tt [] tt })
+    (λ _. begins_go e number count)
+
+-- ---- the log
+
+settles_go : (e : Emptying) (end : End) (rows : List (BlockId × Entry)) → Goes e (emptying.settles e end rows)
+unfolding emptying.settles
+settles_go e end rows =
+    let f : Emptying = emptying.fed e end rows in
+    first_goes e (Does (Filed (name_of cleaner_log end)) ∷ pushes_all f.promised.managers f.feed) (jobs.cleans f input.Moved)
+    (tt, all_pushed_plain f.promised.managers f.feed) (from_goes e f (jobs.cleans f input.Moved) (same (items_of e)) (cleans_go f input.Moved))
+
+one_goes : (e : Emptying) (o : LogOut) → Goes e (emptying.writes_one e o)
+unfolding emptying.writes_one
+one_goes e (log_out.Send fragment member) = quietly _ _ (same (items_of e)) ((tt, tt))
+one_goes e (log_out.Settled end rows) = settles_go e end rows
+
+writes_go : (e : Emptying) (i : LogIn) → Goes e (emptying.writes e i)
+unfolding emptying.writes
+writes_go e i =
+    let f : Emptying = record e { log = (log.transition e.log i).state } in
+    from_goes e f (steps emptying.writes_one f (log.transition e.log i).outs) (same (items_of e))
+    (steps_go emptying.writes_one one_goes f (log.transition e.log i).outs)
+
+ack_goes : (e : Emptying) (a : DeltaAck) → Goes e (emptying.on_ack e a)
+unfolding emptying.on_ack
+ack_goes e a =
+    let f : Emptying = record e { feed = feed.acknowledged e.feed a.slot a.applied } in
+    if_goes (epoch_of e.promised a.slot == a.epoch) e (still f) (stays e f (same (items_of e)))
+
+-- ---- promises
+
+renews_same : (e : Emptying) (slot epoch : ℕ) → Same (items_of e) (items_of (emptying.renews e slot epoch))
+renews_same e slot epoch =
+    by_test (λ (f : Emptying). Same (items_of e) (items_of f)) (nat_lt (epoch_of e.promised slot) epoch) (record e { feed = feed.new_epoch e.feed slot }) e
+    (λ _. same (items_of e)) (λ _. same (items_of e))
+
+promises_same : (e : Emptying) (slot epoch manager : ℕ) → Same (items_of e) (items_of (emptying.promises e slot epoch manager))
+unfolding emptying.promises
+promises_same e slot epoch manager = renews_same e slot epoch
+
+promised_goes : (e : Emptying) (slot epoch manager : ℕ) (given : In) → Goes e (jobs.cleans (emptying.promises e slot epoch manager) given)
+promised_goes e slot epoch manager given =
+    let f : Emptying = emptying.promises e slot epoch manager in
+    from_goes e f (jobs.cleans f given) (promises_same e slot epoch manager) (cleans_go f given)
+
+polled_goes : (e : Emptying) (manager : ℕ) (p : Poll) → Goes e (emptying.polled e manager p)
+polled_goes e manager p =
+    let kept : Emptying = emptying.promises e p.slot p.epoch manager in
+    let said : List Effect = Send (node.Manager manager) (body.Report (record { slot = p.slot; epoch = p.epoch; held = []; end = kept.log.end })) ∷ [] in
+    by_test (Goes e) (nat_lt p.epoch (epoch_of e.promised p.slot)) (still e) (emptying.reports e manager p) (λ _. rests e)
+    (λ _. first_goes e said (jobs.cleans kept (input.Promise p.slot p.epoch)) (tt, tt)
+    (promised_goes e p.slot p.epoch manager (input.Promise p.slot p.epoch)))
+
+poll_goes : (e : Emptying) (from : NodeId) (p : Poll) → Goes e (emptying.on_poll e from p)
+unfolding emptying.on_poll
+poll_goes e (node.Manager manager) p = polled_goes e manager p
+poll_goes e (node.Client k) p = rests e
+poll_goes e (node.Server k) p = rests e
+poll_goes e node.Cleaner p = rests e
+poll_goes e node.Registry p = rests e
+
+-- ---- the maps
+
+slot_goes : (e : Emptying) (news : SlotNews) → Goes e (emptying.hears_slot e news)
+unfolding emptying.hears_slot
+slot_goes e news =
+    if_goes (nat_lt (epoch_of e.promised news.slot) news.epoch) e _
+    (promised_goes e news.slot news.epoch news.manager (input.Promise news.slot news.epoch))
+
+slots_go : (e : Emptying) (slots : List SlotNews) → Goes e (emptying.hears_slots e slots)
+unfolding emptying.hears_slots
+slots_go e slots = steps_go emptying.hears_slot slot_goes e slots
+
+takes_news_goes : (e : Emptying) (news : News) → Goes e (emptying.takes_news e news)
+unfolding emptying.takes_news
+takes_news_goes e news =
+    let newer : Bool = is_older e.maps news in
+    let f : Emptying = record e { maps = taken e.maps news } in
+    let a : Done = emptying.job_regrouped f newer news.groups in
+    let b : Done = emptying.hears_slots a.state news.slots in
+    let c : Done = emptying.log_regrouped b.state newer news.groups in
+    from_goes e f (saying a.outs (saying b.outs c)) (same (items_of e))
+    (then_goes f a (saying b.outs c) (if_goes newer f _ (cleans_go f (input.Maps news.groups)))
+    (then_goes a.state b c (slots_go a.state news.slots) (if_goes newer b.state _ (writes_go b.state (log_in.Maps news.groups)))))
+
+news_goes : (e : Emptying) (news : News) → Goes e (emptying.on_news e news)
+news_goes e news = if_goes (fits e.maps news) e _ (takes_news_goes e news)
+
+over_goes : (e : Emptying) (slots : List SlotNews) (groups : Option GroupMapState) → Goes e (emptying.welcomes_over e slots groups)
+over_goes e slots None = rests e
+over_goes e slots (Some groups) = cleans_go e (input.Welcome slots groups)
+
+welcomes_go : (e : Emptying) (w : Welcome) → Goes e (emptying.welcomes e w)
+unfolding emptying.welcomes
+welcomes_go e w =
+    let f : Emptying = record e { job = greeted e.job } in
+    if_goes (is_out (hello_of e.job) w.ask) e _
+    (from_goes e f (emptying.welcomes_over f w.news.slots e.maps.groups) (same (items_of e)) (over_goes f w.news.slots e.maps.groups))
+
+welcome_goes : (e : Emptying) (w : Welcome) → Goes e (emptying.on_welcome e w)
+unfolding emptying.on_welcome
+welcome_goes e w =
+    let d : Done = emptying.takes_news e w.news in
+    if_goes ((w.inc == e.lasting.inc) && fits e.maps w.news) e _
+    (then_goes e d (emptying.welcomes d.state w) (takes_news_goes e w.news) (welcomes_go d.state w))
+
+-- ---- packets and time
+
+body_goes : (e : Emptying) (from : NodeId) (b : Body) → Goes e (emptying.on_body e from b)
+body_goes e from (body.MapNews m) = news_goes e m
+body_goes e from (body.Welcome m) = welcome_goes e m
+body_goes e from (body.Poll m) = poll_goes e from m
+body_goes e from (body.DeltaAck m) = ack_goes e m
+body_goes e from (body.Stored m) = writes_go e (log_in.Acked m.name m.index m.generation)
+body_goes e from (body.Listed m) = listed_goes e (server_in from) m
+body_goes e from (body.Usage m) = usages_go e m
+body_goes e from (body.Fragment m) = told_goes e (server_in from) m.ask (answered.Held m.fragment)
+body_goes e from (body.Missing m) = told_goes e (server_in from) m.ask (answered.Missing m.generation)
+body_goes e from (body.Live m) = live_goes e m
+body_goes e from (body.Dead m) = dead_goes e m
+body_goes e from (body.Deleted m) = deleted_goes e (server_in from) m
+body_goes e from _ = rests e
+
+pub packet_goes : (e : Emptying) (packet : Packet) → Goes e (emptying.on_packet e packet)
+unfolding emptying.on_packet
+packet_goes e packet =
+    by_test (Goes e) (names_known e.maps packet.body) (emptying.on_body e packet.from packet.body) (emptying.asks_for_maps e)
+    (λ _. body_goes e packet.from packet.body) (λ _. quietly _ _ (same (items_of e)) ((tt, tt)))
+
+pub tick_goes : (e : Emptying) → Goes e (emptying.on_tick e)
+unfolding emptying.on_tick
+tick_goes e =
+    let j : Done = jobs.cleans e input.Tick in
+    let l : Done = emptying.writes j.state log_in.Tick in
+    let pushed : List Effect = pushes_all l.state.promised.managers l.state.feed in
+    then_goes e j (saying l.outs (record { state = l.state; outs = pushed })) (cleans_go e input.Tick)
+    (then_goes j.state l (record { state = l.state; outs = pushed }) (writes_go j.state log_in.Tick)
+    (quietly _ _ (same (items_of l.state)) (all_pushed_plain l.state.promised.managers l.state.feed)))

@@ -1,0 +1,2 @@
+pub mod act_law
+pub mod once_law

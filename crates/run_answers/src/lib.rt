@@ -1,0 +1,9 @@
+//! What a run's answers say, in every run of the nodes: each item is answered at most once, by its own node, after its Begin (`once_law`), and what a client
+//! answers it has acted (`act_law`). It has no code of
+//! the product: its functions have empty bodies, and their contracts are laws.
+//!
+//! Each module is a law of its own: its definitions stand in `specs/`, its lemmas in `proofs/`, below the module's name.
+#![tactic(auto)]
+
+pub mod act_law;
+pub mod once_law;
