@@ -14,7 +14,7 @@ use world_base::{Estate, Event};
 use xfs_base::{List, Mem};
 
 /// A mark of a picture. Rows and columns count from 0.
-#[derive(Clone, Copy)]
+#[derive(Clone, Copy, PartialEq, Eq)]
 pub enum Mark {
     /// At this row the node of this column doesn't serve: a grey bar.
     Out {
