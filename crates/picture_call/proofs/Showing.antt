@@ -9,10 +9,9 @@ use Rattle.top_call.specs.Claim as claim
 use Rattle.top_call.specs.Claim.{Ends, Reading, Wanted, Writing, refusal, run_wanted}
 use Rattle.top_call.specs.Commands.{command_of}
 use Rattle.top_call.specs.Spoken.{refused_text}
-use Rattle.script_text.specs.declared.script.Script.{Script}
 use Rattle.world_base.specs.declared.estate.Estate.{Estate}
 use Rattle.picture_call.specs.declared.asked.Asked.{Asked}
-use Rattle.picture_call.specs.Shown.{Answers, CannotRead, Drawn, Draws, GivesUp, Refused, Written, run_of, run_word}
+use Rattle.picture_call.specs.Shown.{Answers, CannotRead, Drawn, Draws, GivesUp, Refused, run_of, run_word}
 
 -- the words by which `solo` is called ask it to run
 pub is_run : command_of (run_word ∷ []) ≡ Some Run

@@ -1,10 +1,20 @@
 -- From what the parts of a call tell to the claim of the whole.
-use Rattle.std.proofs.Common.{◌≡◌, ◌≤◌, ℕ, false, List, [], Option, Some, None, refl, sym, ap, inl, inr, subst, arith}
+use Rattle.std.proofs.Common.{◌≡◌, ◌≤◌, ℕ, true, false, List, [], Option, Some, None, refl, sym, ap, ◌∙◌, inl, inr, subst, arith}
 use Rattle.std.specs.Prelude.{IfSome}
 use Rattle.std.specs.Io.KnownBytes.{Consumes, Keeps}
+use Rattle.board_law.specs.OneRun.{HasRegistry}
+use Rattle.board_play.specs.declared.estate.BoardEstate.{BoardEstate}
+use Rattle.board_play.specs.Played.{IsBoardPlayed}
+use Rattle.board_play.specs.Plays.{estate_of as board_estate_of}
+use Rattle.board_world.specs.declared.board_event.BoardEvent.{BoardEvent}
+use Rattle.live_run.specs.Live.{IsLive}
 use Rattle.play.specs.Plays.{actors_of, estate_of}
 use Rattle.node_base.specs.Setups.{IsSetup}
+use Rattle.script_print.specs.Printing.{IsScript}
 use Rattle.script_text.specs.declared.script.Script.{Script}
+use Rattle.script_text.specs.Script.{IsScriptOf}
+use Rattle.transcript.specs.Replies.{open_items}
+use Rattle.transcript.specs.Text.{text_of}
 use Rattle.version_model.specs.declared.work.Work.{Work}
 use Rattle.wire_msg.specs.declared.packet.Do.{Do}
 use Rattle.wire_msg.specs.NodeStep.{NodeStep}
@@ -14,10 +24,12 @@ use Rattle.xfs_base.specs.declared.node.NodeId.{NodeId}
 use Rattle.xfs_base.specs.declared.setup.Setup.{Setup}
 use Rattle.xfs_base.specs.Causes.{Rose}
 use Rattle.top_call.specs.declared.command.Command.{Command}
+use Rattle.top_call.specs.declared.command.Command.TheVariants.{Run, Live, Gen, Big, Audit, Boards}
 use Rattle.top_call.specs.declared.outcome.Outcome.{Outcome}
-use Rattle.top_call.specs.Commands.{reads}
-use Rattle.top_call.specs.Claim.{Wanted, Writing, Reading, reading, writing, line, run_answer, IsRead, IsInput, Tells, GivesUp, TellsOrGivesUp, CannotRead, Wants, AnswersOrGivesUp, Ends, IsPlayed, Claim}
+use Rattle.top_call.specs.Commands.{is_live, plays_boards, reads}
+use Rattle.top_call.specs.Claim.{Wanted, Writing, Reading, reading, writing, line, run_answer, IsRead, IsInput, Tells, GivesUp, TellsOrGivesUp, CannotRead, Wants, AnswersOrGivesUp, Ends, IsPlayed, IsPlayedWithBoards, IsRunBy, TellsLive, boards_in, boards_of, Claim}
 use Rattle.top_call.specs.Spoken.{usage_text}
+use Rattle.top_call.specs.Told.{boards_where}
 
 -- known bytes stay as they are where nothing is written
 keeps_same : (o : Option (List ℕ)) → Keeps o o
@@ -30,13 +42,13 @@ consumes_nothing None = tt
 consumes_nothing (Some xs) = refl
 
 -- an outcome without a run ends in want of memory, with nothing written
-pub gives_up : {N K : Type 0} (written : K → Option (List ℕ)) (faults : K → ℕ) (sink : K) (o : Outcome N) → o ≡ record { status = 7; estate = None }
+pub gives_up : {N K : Type 0} (written : K → Option (List ℕ)) (faults : K → ℕ) (sink : K) (o : Outcome N) → o ≡ record { status = 7; estate = None; boards = None }
     → GivesUp (writing written faults sink sink) o
 gives_up written faults sink o e = (ap (λ x. x.status) e, ap (λ x. x.estate) e, keeps_same (written sink))
 
 -- or since a read failed
 pub cannot_read : {N K : Type 0} (r : Reading) (written : K → Option (List ℕ)) (faults : K → ℕ) (sink : K) (o : Outcome N) → Rose r.faults r.faults_after
-    → o ≡ record { status = 4; estate = None } → CannotRead r (writing written faults sink sink) o
+    → o ≡ record { status = 4; estate = None; boards = None } → CannotRead r (writing written faults sink sink) o
 cannot_read r written faults sink o rose e = (ap (λ x. x.status) e, ap (λ x. x.estate) e, keeps_same (written sink), rose)
 
 -- a text that equals the wanted one is told
@@ -50,9 +62,9 @@ run_told s o text wanted e k h = subst (λ x. Tells s o (run_answer x e)) k h
 
 module _ {N : Type 0} (step : N → Do → NodeStep N) (first : NodeId → Setup → List Work → N) where
   -- the run that a script determines was played
-  pub is_played : (script : Script) (e : Estate N) → IsSetup script.setup → e ≡ estate_of step first script → IsRun step first script e.events e.world
-      → begun_in e.events ≡ actors_of script.lines → BeginsAll script.lines e.events → IsPlayed step first e
-  is_played script e setup k run order all =
+  pub is_played : (script : Script) (e : Estate N) → IsScript script → IsSetup script.setup → e ≡ estate_of step first script
+      → IsRun step first script e.events e.world → begun_in e.events ≡ actors_of script.lines → BeginsAll script.lines e.events → IsPlayed step first e
+  is_played script e accepted setup k run order all =
       let same : script ≡ e.script = sym (ap (λ (x : Estate N). x.script) k) in
       record {
         whole = record {
@@ -61,6 +73,8 @@ module _ {N : Type 0} (step : N → Do → NodeStep N) (first : NodeId → Setup
           complete = subst (λ (x : Script). BeginsAll x.lines e.events) same all;
         };
         in_order = subst (λ (x : Script). begun_in e.events ≡ actors_of x.lines) same order;
+        accepted = subst IsScript same accepted;
+        exact = subst (λ x. e ≡ estate_of step first x) same k;
       }
 
   pub some_played : (o : Option (Estate N)) (e : Estate N) → IfSome o (λ x. x ≡ e) → IsPlayed step first e → IfSome o (λ x. IsPlayed step first x)
@@ -69,6 +83,68 @@ module _ {N : Type 0} (step : N → Do → NodeStep N) (first : NodeId → Setup
 
   pub none_played : (o : Option (Estate N)) → o ≡ None → IfSome o (λ x. IsPlayed step first x)
   none_played o k = subst (λ y. IfSome y (λ x. IsPlayed step first x)) (sym k) tt
+
+  -- by whichever words but `boards` and those that start threads
+  pub by_one : (command : Option Command) → is_live command ≡ false → plays_boards command ≡ false → (o : Option (Estate N)) → IfSome o (λ x. IsPlayed step first x)
+      → IfSome o (IsRunBy step first command)
+  by_one command alone unboarded None h = tt
+  by_one None alone unboarded (Some e) h = h
+  by_one (Some Run) alone unboarded (Some e) h = h
+  by_one (Some (Live workers)) alone unboarded (Some e) h = absurd (cc)
+  by_one (Some (Gen drawn)) alone unboarded (Some e) h = h
+  by_one (Some (Big drawn)) alone unboarded (Some e) h = h
+  by_one (Some Audit) alone unboarded (Some e) h = h
+  by_one (Some Boards) alone unboarded (Some e) h = absurd (cc)
+
+  -- with boards
+  pub none_boarded : (o : Option (Estate N)) → o ≡ None → IfSome o (λ x. IsPlayedWithBoards step first x)
+  none_boarded o k = subst (λ y. IfSome y (λ x. IsPlayedWithBoards step first x)) (sym k) tt
+
+  pub none_told : (o : Option (Estate N)) (boards : Option (List BoardEvent)) → o ≡ None → boards ≡ None → boards ≡ boards_in step first o
+  none_told o boards k h = h ∙ ap (λ y. boards_in step first y) (sym k)
+
+  pub some_boarded : (script : Script) (e : BoardEstate N) (o : Option (Estate N)) → IfSome o (λ x. x ≡ e.estate) → e ≡ board_estate_of step first script
+      → (HasRegistry step first → IsBoardPlayed step first e) → IfSome o (λ x. IsPlayedWithBoards step first x)
+  some_boarded script e None k is h = tt
+  some_boarded script e (Some x) k is h =
+      let same : x ≡ (board_estate_of step first script).estate = k ∙ ap (λ (b : BoardEstate N). b.estate) is in
+      subst (λ y. IsPlayedWithBoards step first y) (sym same)
+      (record { determined = refl; played = λ has. subst (λ b. IsBoardPlayed step first b) is (h has) })
+
+  pub some_told : (script : Script) (e : BoardEstate N) (o : Option (Estate N)) (boards : Option (List BoardEvent)) → IfSome o (λ x. x ≡ e.estate)
+      → e ≡ board_estate_of step first script → boards ≡ boards_where o e.events → boards ≡ boards_in step first o
+  some_told script e None boards k is h = h
+  some_told script e (Some x) boards k is h =
+      let same : x ≡ (board_estate_of step first script).estate = k ∙ ap (λ (b : BoardEstate N). b.estate) is in
+      h ∙ ap (λ (b : BoardEstate N). Some b.events) is ∙ ap (λ (y : Estate N). Some (board_estate_of step first y.script).events) (sym same)
+
+  pub by_boards : (o : Option (Estate N)) → IfSome o (λ x. IsPlayedWithBoards step first x) → IfSome o (IsRunBy step first (Some Boards))
+  by_boards None h = tt
+  by_boards (Some e) h = h
+
+  -- a run by workers was made
+  pub some_lived : (o : Option (Estate N)) (e : Estate N) → IfSome o (λ x. x ≡ e) → IsLive step first e → IfSome o (λ x. IsLive step first x)
+  some_lived None e k h = tt
+  some_lived (Some x) e k h = subst (λ y. IsLive step first y) (sym k) h
+
+  pub none_lived : (o : Option (Estate N)) → o ≡ None → IfSome o (λ x. IsLive step first x)
+  none_lived o k = subst (λ y. IfSome y (λ x. IsLive step first x)) (sym k) tt
+
+  pub by_workers : (workers : ℕ) (o : Option (Estate N)) → IfSome o (λ x. IsLive step first x) → IfSome o (IsRunBy step first (Some (Live workers)))
+  by_workers workers None h = tt
+  by_workers workers (Some e) h = h
+
+  -- the text of such a run is told
+  pub live_told : (script : Script) (s : Writing) (o : Outcome N) (e : Estate N) → e.script ≡ script → IsLive step first e → open_items e ≡ 0
+      → TellsOrGivesUp s o (run_answer (text_of e) e) → TellsLive step first script s o
+  live_told script s o e is live none (inl t) =
+      inl (run_answer (text_of e) e, record { run = e; of_script = is; live = live; none_open = none; answer = refl }, t)
+  live_told script s o e is live none (inr g) = inr g
+
+  pub live_answers : (workers : ℕ) (input : List ℕ) (script : Script) (s : Writing) (o : Outcome N) → IsScriptOf true input script → TellsLive step first script s o
+      → AnswersOrGivesUp step first (Some (Live workers)) input s o
+  live_answers workers input script s o of (inl (w, a, t)) = inl (record { wanted = w; wants = inl (script, of, a); told = t })
+  live_answers workers input script s o of (inr g) = inr g
 
   -- what is wanted of an input is told, or memory is wanting
   pub answers : (command : Option Command) (input : List ℕ) (s : Writing) (o : Outcome N) (w : Wanted N) → Wants step first command input w
@@ -86,16 +162,18 @@ module _ {N : Type 0} (step : N → Do → NodeStep N) (first : NodeId → Setup
       → reads command ≡ false
       → (command ≡ None → Tells s o (line usage_text 2))
       → AnswersOrGivesUp step first command [] s o
-      → IfSome o.estate (λ e. IsPlayed step first e)
+      → IfSome o.estate (IsRunBy step first command)
+      → o.boards ≡ boards_of step first command o.estate
       → s.faults ≤ s.faults_after
       → Claim step first command (reading left faults source source) s o
-  claims_unread left faults source command s o none usage told run later =
+  claims_unread left faults source command s o none usage told run boards later =
       let r : Reading = reading left faults source source in
       let nothing : IsInput command r [] = subst (λ b. IsRead b r []) (sym none) refl in
       record {
         usage = usage;
         ends = ends_of command r s o [] nothing told;
         run = run;
+        boards = boards;
         bounded = ([], omega arith, consumes_nothing (left source));
         later = (omega arith, later);
       }

@@ -1,3 +1,5 @@
+pub mod Answered
 pub mod Claims
 pub mod Loops
+pub mod Named
 pub mod Setups

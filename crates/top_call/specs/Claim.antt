@@ -2,9 +2,14 @@
 use Rattle.std.specs.Prelude.{◌≡◌, ◌⊎◌, ◌≤◌, ℕ, ◌==◌, Bool, true, false, IsTrue, IfSome, List, [], length, Option, Some, None, Err, if◌then◌else◌}
 use Rattle.std.specs.Io.KnownBytes.{Appends, Consumes, Keeps}
 use Rattle.audit.specs.Journal.{IsAudited, read_journal}
+use Rattle.board_law.specs.OneRun.{HasRegistry}
+use Rattle.board_play.specs.Played.{IsBoardPlayed}
+use Rattle.board_play.specs.Plays.{estate_of as board_estate_of}
+use Rattle.board_world.specs.declared.board_event.BoardEvent.{BoardEvent}
+use Rattle.live_run.specs.Live.{IsLive}
 use Rattle.play.specs.Plays.{actors_of, estate_of}
 use Rattle.script_print.specs.Generator.{generated}
-use Rattle.script_print.specs.Printing.{printed}
+use Rattle.script_print.specs.Printing.{IsScript, printed}
 use Rattle.script_text.specs.declared.refusal.Kind.{Kind}
 use Rattle.script_text.specs.declared.script.Script.{Script}
 use Rattle.script_text.specs.Script.{IsScriptOf, IsFirstBad}
@@ -22,7 +27,7 @@ use Rattle.xfs_base.specs.declared.node.NodeId.{NodeId}
 use Rattle.xfs_base.specs.declared.setup.Setup.{Setup}
 use Rattle.xfs_base.specs.Causes.{Rose}
 use Rattle.top_call.specs.declared.command.Command.{Command}
-use Rattle.top_call.specs.declared.command.Command.TheVariants.{Run, Gen, Big, Audit}
+use Rattle.top_call.specs.declared.command.Command.TheVariants.{Run, Live, Gen, Big, Audit, Boards}
 use Rattle.top_call.specs.declared.command.Drawn.{Drawn}
 use Rattle.top_call.specs.declared.outcome.Outcome.{Outcome}
 use Rattle.top_call.specs.Commands.{reads}
@@ -123,11 +128,39 @@ module _ {N : Type 0} (step : N → Do → NodeStep N) (first : NodeId → Setup
   abbrev pub brief_wanted : Script → Wanted N
   brief_wanted script = run_answer (brief_of (estate_of step first script)) (estate_of step first script)
 
+  -- the text of the run of a script with boards, which is that of the run with one registry that it stands for
+  abbrev pub boards_wanted : Script → Wanted N
+  boards_wanted script = run_answer (text_of (board_estate_of step first script).estate) (board_estate_of step first script).estate
+
   -- an input is a script, which is played, or has a first bad line
   abbrev pub AnswersScript : List ℕ → Wanted N → Type 0
   AnswersScript input w =
       ((script : Script) × IsScriptOf false input script × (w ≡ run_wanted script))
       ⊎ ((number : ℕ) × (kind : Kind) × IsFirstBad false input number kind × (w ≡ refusal number kind))
+
+  -- an input is a script, which is played with boards, or has a first bad line
+  abbrev pub AnswersBoards : List ℕ → Wanted N → Type 0
+  AnswersBoards input w =
+      ((script : Script) × IsScriptOf false input script × (w ≡ boards_wanted script))
+      ⊎ ((number : ℕ) × (kind : Kind) × IsFirstBad false input number kind × (w ≡ refusal number kind))
+
+  -- what is wanted of a script that workers run: the text of some run of it in which each item is begun at its due, and answered
+  pub record IsLiveAnswer (script : Script) (w : Wanted N) : Type 0 where
+    pub run : Estate N
+    pub of_script : run.script ≡ script
+    pub live : IsLive step first run
+    pub none_open : open_items run ≡ 0
+    pub answer : w ≡ run_answer (text_of run) run
+
+  -- it is told, or memory is wanting
+  abbrev pub TellsLive : Script → Writing → Outcome N → Type 0
+  TellsLive script s o = ((w : Wanted N) × IsLiveAnswer script w × Tells s o w) ⊎ GivesUp s o
+
+  -- an input is a script, each crash of which is followed by a restart of that node, and workers run it; or has a first bad line
+  abbrev pub AnswersLive : List ℕ → Wanted N → Type 0
+  AnswersLive input w =
+      ((script : Script) × IsScriptOf true input script × IsLiveAnswer script w)
+      ⊎ ((number : ℕ) × (kind : Kind) × IsFirstBad true input number kind × (w ≡ refusal number kind))
 
   -- an input is a journal, which is judged, or has a first bad line
   abbrev pub AnswersJournal : List ℕ → Wanted N → Type 0
@@ -139,9 +172,11 @@ module _ {N : Type 0} (step : N → Do → NodeStep N) (first : NodeId → Setup
   abbrev pub Wants : Option Command → List ℕ → Wanted N → Type 0
   Wants None input w = w ≡ line usage_text 2
   Wants (Some Run) input w = AnswersScript input w
+  Wants (Some (Live workers)) input w = AnswersLive input w
   Wants (Some (Gen d)) input w = w ≡ line (printed (script_of d)) 0
   Wants (Some (Big d)) input w = w ≡ brief_wanted (script_of d)
   Wants (Some Audit) input w = AnswersJournal input w
+  Wants (Some Boards) input w = AnswersBoards input w
 
   -- what is wanted of the input is told
   pub record Answers (command : Option Command) (input : List ℕ) (s : Writing) (o : Outcome N) : Type 0 where
@@ -158,10 +193,34 @@ module _ {N : Type 0} (step : N → Do → NodeStep N) (first : NodeId → Setup
       ((input : List ℕ) × IsInput command r input × Answers command input s o)
       ⊎ (GivesUp s o ⊎ (IsTrue (reads command) × CannotRead r s o))
 
-  -- it is a whole run of its script, played by one thread: all items are begun in the order of their lines
+  -- it is a whole run of its script, played by one thread: all items are begun in the order of their lines; and it is the one run that the script, which some
+  -- text spells, determines
   pub record IsPlayed (e : Estate N) : Type 0 where
     pub whole : IsWholeRun step first e
     pub in_order : begun_in e.events ≡ actors_of e.script.lines
+    pub accepted : IsScript e.script
+    pub exact : e ≡ estate_of step first e.script
+
+  -- It is the run that its script determines with boards, and where the registry is among the nodes it stands for one of the script with one registry.
+  pub record IsPlayedWithBoards (e : Estate N) : Type 0 where
+    pub determined : e ≡ (board_estate_of step first e.script).estate
+    pub played : HasRegistry step first → IsBoardPlayed step first (board_estate_of step first e.script)
+
+  -- what a command runs: by workers, each item begun at its due and answered; else by one thread, with boards or without
+  abbrev pub IsRunBy : Option Command → Estate N → Type 0
+  IsRunBy (Some (Live workers)) e = IsLive step first e
+  IsRunBy (Some Boards) e = IsPlayedWithBoards e
+  IsRunBy command e = IsPlayed e
+
+  -- what happened to nodes and boards in a run that a script determines with boards
+  abbrev pub boards_in : Option (Estate N) → Option (List BoardEvent)
+  boards_in None = None
+  boards_in (Some e) = Some (board_estate_of step first e.script).events
+
+  -- it is told where the words are `boards` and there is a run
+  abbrev pub boards_of : Option Command → Option (Estate N) → Option (List BoardEvent)
+  boards_of (Some Boards) o = boards_in o
+  boards_of command o = None
 
   -- what a call of the program answers
   pub record Claim (command : Option Command) (r : Reading) (s : Writing) (o : Outcome N) : Type 0 where
@@ -169,8 +228,10 @@ module _ {N : Type 0} (step : N → Do → NodeStep N) (first : NodeId → Setup
     pub usage : command ≡ None → Tells s o (line usage_text 2)
     -- a command is answered by the text or the counts of its run, its script, its verdict or its refusal; or memory is wanting, or a read failed
     pub ends : Ends command r s o
-    -- what was played is a whole run of its script, by one thread
-    pub run : IfSome o.estate IsPlayed
+    -- what was run is a whole run of its script, by one thread or by workers; or, with boards, a run that stands for one with one registry
+    pub run : IfSome o.estate (IsRunBy command)
+    -- and what happened to nodes and boards is told
+    pub boards : o.boards ≡ boards_of command o.estate
     -- at most 1,048,577 bytes are read, and no count of faults falls
     pub bounded : ReadsAtMost r limit
     pub later : (r.faults ≤ r.faults_after) × (s.faults ≤ s.faults_after)

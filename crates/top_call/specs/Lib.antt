@@ -4,3 +4,4 @@ pub mod Input
 pub mod Memory
 pub mod Output
 pub mod Spoken
+pub mod Told

@@ -1,7 +1,8 @@
 //! The words of the command line.
-ghost use Rattle.std.specs.Prelude.{◌≡◌, map, string_bytes};
+ghost use Rattle.std.specs.Prelude.{◌≡◌, false, map, string_bytes, MatchOption, Some};
 ghost use Rattle.script_text.specs.Reading.{number_in};
-ghost use Rattle.top_call.specs.Commands.{drawn_of, command_of_word, command_drawn, command_of, HasFewTurns};
+ghost use Rattle.top_call.specs.declared.command.Command.TheVariants as commands;
+ghost use Rattle.top_call.specs.Commands.{drawn_of, command_of_word, command_live, command_drawn, command_of, is_live, HasFewTurns};
 
 use script_text::word::number_of;
 
@@ -11,17 +12,24 @@ const MAX_NUMBER: u32 = 2_147_483_647;
 /// The most turns of a generated script.
 const MAX_TURNS: u32 = 2_000;
 
+/// The most workers of a run.
+const MAX_WORKERS: u32 = 16;
+
 /// What the words ask for.
 #[derive(Clone, Copy, PartialEq, Eq)]
 pub enum Command {
     /// `run`: plays the script that is read.
     Run,
+    /// `live W`: runs the script that is read by so many workers, 1 to 16.
+    Live(u8),
     /// `gen NUMBER N`: writes a generated script.
     Gen(Drawn),
     /// `big NUMBER N`: plays a generated script.
     Big(Drawn),
     /// `audit`: judges the journal that is read.
     Audit,
+    /// `boards`: plays the script that is read with three boards in the registry's place.
+    Boards,
 }
 
 /// Which script is generated.
@@ -40,6 +48,22 @@ fn number_within(limit: u32, word: &String) -> Option<u32>
     match number_of(word.as_bytes()) {
         None => None,
         Some(number) => { if number <= limit { Some(number) } else { None } }
+    }
+}
+
+/// How many workers a word asks for.
+fn workers_of(word: &String) -> Option<u8>
+    ensures { result ≡ number_in 1 16 (string_bytes word.now) }
+{
+    match number_of(word.as_bytes()) {
+        None => None,
+        Some(number) => {
+            if 1 <= number && number <= MAX_WORKERS {
+                Some(number as u8)
+            } else {
+                None
+            }
+        }
     }
 }
 
@@ -66,6 +90,20 @@ fn command_of_word(word: &str) -> Option<Command>
     if word == "audit" {
         return Some(Command::Audit);
     }
+    if word == "boards" {
+        return Some(Command::Boards);
+    }
+    None
+}
+
+/// What two words ask for.
+fn command_live(word: &str, workers: Option<u8>) -> Option<Command>
+    ensures { result ≡ command_live word.now workers }
+{
+    let workers = workers?;
+    if word == "live" {
+        return Some(Command::Live(workers));
+    }
     None
 }
 
@@ -90,7 +128,23 @@ pub fn read_words(words: &[String]) -> Option<Command>
 {
     match words {
         [word] => command_of_word(word.as_str()),
+        [word, workers] => command_live(word.as_str(), workers_of(workers)),
         [word, number, turns] => command_drawn(word.as_str(), drawn_of(number, turns)),
         _ => None,
+    }
+}
+
+/// How many workers the words ask for; none where they are no form or start no threads.
+pub fn workers_asked(words: &[String]) -> Option<u8>
+    ensures { MatchOption result (is_live (command_of (map string_bytes words.now)) ≡ false)
+        (λ workers. command_of (map string_bytes words.now) ≡ Some (commands.Live workers)) }
+{
+    match read_words(words)? {
+        Command::Live(workers) => Some(workers),
+        Command::Run => None,
+        Command::Gen(_) => None,
+        Command::Big(_) => None,
+        Command::Audit => None,
+        Command::Boards => None,
     }
 }

@@ -2,7 +2,9 @@
 //! The claim of the top call stands here, in `specs/Claim.antt`.
 #![tactic(auto)]
 
+pub mod boards;
 pub mod command;
+pub mod many_threads;
 pub mod memory_sink;
 pub mod memory_source;
 pub mod one_thread;
@@ -12,6 +14,8 @@ pub mod outside;
 pub mod spoken;
 pub mod whole_input;
 
+pub use command::workers_asked;
+pub use many_threads::answer_live;
 pub use memory_sink::MemSink;
 pub use memory_source::MemSource;
 pub use one_thread::answer;

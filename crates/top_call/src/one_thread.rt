@@ -6,10 +6,11 @@ ghost use Rattle.transcript.specs.Counts.{brief_of};
 ghost use Rattle.transcript.specs.Text.{text_of};
 ghost use Rattle.top_call.specs.declared.command.Command.TheVariants as commands;
 ghost use Rattle.top_call.specs.Claim.{writing, reading, line, run_answer, run_status, verdict_status, Tells, TellsOrGivesUp, run_wanted, brief_wanted, script_of, IsPlayed, AnswersOrGivesUp, Ends, Claim, ReadsAtMost};
-ghost use Rattle.top_call.specs.Commands.{command_of, reads, HasFewTurns};
+ghost use Rattle.top_call.specs.Commands.{command_of, is_live, reads, HasFewTurns};
 ghost use Rattle.top_call.specs.Input.{limit};
 ghost use Rattle.top_call.specs.Spoken.{refused_text, verdict_text};
 
+use crate::boards::answer_boards;
 use crate::command::{Command, Drawn, read_words};
 use crate::output::write_output;
 use crate::outside::{Sink, Source};
@@ -26,12 +27,13 @@ use world_base::{Estate, Member};
 use xfs_base::{Mem, Text};
 
 /// An outcome without a run.
-fn ended<N>(status: u8) -> Outcome<N>
-    ensures { result ≡ record { status = status; estate = None } }
+pub(crate) fn ended<N>(status: u8) -> Outcome<N>
+    ensures { result ≡ record { status = status; estate = None; boards = None } }
 {
     Outcome {
         status,
         estate: None,
+        boards: None,
     }
 }
 
@@ -39,6 +41,7 @@ fn ended<N>(status: u8) -> Outcome<N>
 fn tell<N, K: Sink>(sink: &mut K, text: &[u8], status: u8) -> Outcome<N>
     ensures told { Tells (writing K.written K.faults sink.old sink.new) result (line text.now status) }
     ensures no_run { result.estate ≡ None }
+    ensures no_boards { result.boards ≡ None }
     ensures later { K.faults sink.old ≤ K.faults sink.new }
 {
     match write_output(sink, text) {
@@ -48,9 +51,10 @@ fn tell<N, K: Sink>(sink: &mut K, text: &[u8], status: u8) -> Outcome<N>
 }
 
 /// Writes the line that names the first bad line.
-fn refuse<N, K: Sink>(alloc: Global, number: u32, kind: Kind, sink: &mut K) -> Outcome<N>
+pub(crate) fn refuse<N, K: Sink>(alloc: Global, number: u32, kind: Kind, sink: &mut K) -> Outcome<N>
     ensures told { TellsOrGivesUp (writing K.written K.faults sink.old sink.new) result (line (refused_text number kind) 3) }
     ensures no_run { result.estate ≡ None }
+    ensures no_boards { result.boards ≡ None }
     ensures later { K.faults sink.old ≤ K.faults sink.new }
 {
     match spoken::refused(alloc, number, kind) {
@@ -70,6 +74,7 @@ fn status_of<N>(estate: &Estate<N>) -> u8
 fn hand_out<N, K: Sink>(estate: Estate<N>, text: &Text, sink: &mut K) -> Outcome<N>
     ensures told { Tells (writing K.written K.faults sink.old sink.new) result (run_answer text.now estate) }
     ensures estate { result.estate ≡ Some estate }
+    ensures no_boards { result.boards ≡ None }
     ensures later { K.faults sink.old ≤ K.faults sink.new }
 {
     let status = match write_output(sink, text.as_bytes()) {
@@ -79,6 +84,7 @@ fn hand_out<N, K: Sink>(estate: Estate<N>, text: &Text, sink: &mut K) -> Outcome
     Outcome {
         status,
         estate: Some(estate),
+        boards: None,
     }
 }
 
@@ -93,9 +99,14 @@ fn played<N: Member>(alloc: Global, script: &Script) -> Mem<Estate<N>>
 }
 
 /// Writes the text of an estate.
-fn write_run<N: Drop, K: Sink>(alloc: Global, estate: Estate<N>, sink: &mut K) -> Outcome<N>
+pub(crate) fn write_run<N: Drop, K: Sink>(
+    alloc: Global,
+    estate: Estate<N>,
+    sink: &mut K,
+) -> Outcome<N>
     ensures told { TellsOrGivesUp (writing K.written K.faults sink.old sink.new) result (run_answer (text_of estate) estate) }
     ensures estate { IfSome result.estate (λ left. left ≡ estate) }
+    ensures no_boards { result.boards ≡ None }
     ensures later { K.faults sink.old ≤ K.faults sink.new }
 {
     match text(alloc, &estate) {
@@ -108,6 +119,7 @@ fn write_run<N: Drop, K: Sink>(alloc: Global, estate: Estate<N>, sink: &mut K) -
 fn write_brief<N: Drop, K: Sink>(alloc: Global, estate: Estate<N>, sink: &mut K) -> Outcome<N>
     ensures told { TellsOrGivesUp (writing K.written K.faults sink.old sink.new) result (run_answer (brief_of estate) estate) }
     ensures estate { IfSome result.estate (λ left. left ≡ estate) }
+    ensures no_boards { result.boards ≡ None }
     ensures later { K.faults sink.old ≤ K.faults sink.new }
 {
     match brief(alloc, &estate) {
@@ -121,6 +133,7 @@ fn play_script<N: Member, K: Sink>(alloc: Global, script: &Script, sink: &mut K)
     requires { IsScript script.now }
     ensures told { TellsOrGivesUp (writing K.written K.faults sink.old sink.new) result (run_wanted N.transition N.first script.now) }
     ensures one_run { IfSome result.estate (λ e. IsPlayed N.transition N.first e) }
+    ensures no_boards { result.boards ≡ None }
     ensures later { K.faults sink.old ≤ K.faults sink.new }
 {
     match played::<N>(alloc, script) {
@@ -134,6 +147,7 @@ fn count_script<N: Member, K: Sink>(alloc: Global, script: &Script, sink: &mut K
     requires { IsScript script.now }
     ensures told { TellsOrGivesUp (writing K.written K.faults sink.old sink.new) result (brief_wanted N.transition N.first script.now) }
     ensures one_run { IfSome result.estate (λ e. IsPlayed N.transition N.first e) }
+    ensures no_boards { result.boards ≡ None }
     ensures later { K.faults sink.old ≤ K.faults sink.new }
 {
     match played::<N>(alloc, script) {
@@ -147,6 +161,7 @@ fn play_drawn<N: Member, K: Sink>(alloc: Global, drawn: Drawn, sink: &mut K) -> 
     requires { drawn.turns ≤ 2000 }
     ensures told { TellsOrGivesUp (writing K.written K.faults sink.old sink.new) result (brief_wanted N.transition N.first (script_of drawn)) }
     ensures one_run { IfSome result.estate (λ e. IsPlayed N.transition N.first e) }
+    ensures no_boards { result.boards ≡ None }
     ensures later { K.faults sink.old ≤ K.faults sink.new }
 {
     match generate(alloc, drawn.number, drawn.turns) {
@@ -159,6 +174,7 @@ fn play_drawn<N: Member, K: Sink>(alloc: Global, drawn: Drawn, sink: &mut K) -> 
 fn write_script<N, K: Sink>(alloc: Global, script: &Script, sink: &mut K) -> Outcome<N>
     ensures told { TellsOrGivesUp (writing K.written K.faults sink.old sink.new) result (line (printed script.now) 0) }
     ensures no_run { result.estate ≡ None }
+    ensures no_boards { result.boards ≡ None }
     ensures later { K.faults sink.old ≤ K.faults sink.new }
 {
     match print(alloc, script) {
@@ -172,6 +188,7 @@ fn print_drawn<N, K: Sink>(alloc: Global, drawn: Drawn, sink: &mut K) -> Outcome
     requires { drawn.turns ≤ 2000 }
     ensures told { TellsOrGivesUp (writing K.written K.faults sink.old sink.new) result (line (printed (script_of drawn)) 0) }
     ensures no_run { result.estate ≡ None }
+    ensures no_boards { result.boards ≡ None }
     ensures later { K.faults sink.old ≤ K.faults sink.new }
 {
     match generate(alloc, drawn.number, drawn.turns) {
@@ -194,6 +211,7 @@ fn status_of_verdict(verdict: Verdict) -> u8
 fn say<N, K: Sink>(alloc: Global, verdict: Verdict, sink: &mut K) -> Outcome<N>
     ensures told { TellsOrGivesUp (writing K.written K.faults sink.old sink.new) result (line (verdict_text verdict) (verdict_status verdict)) }
     ensures no_run { result.estate ≡ None }
+    ensures no_boards { result.boards ≡ None }
     ensures later { K.faults sink.old ≤ K.faults sink.new }
 {
     match spoken::verdict(alloc, verdict) {
@@ -206,6 +224,7 @@ fn say<N, K: Sink>(alloc: Global, verdict: Verdict, sink: &mut K) -> Outcome<N>
 fn run_input<N: Member, K: Sink>(alloc: Global, input: &[u8], sink: &mut K) -> Outcome<N>
     ensures told { AnswersOrGivesUp N.transition N.first (Some commands.Run) input.now (writing K.written K.faults sink.old sink.new) result }
     ensures one_run { IfSome result.estate (λ e. IsPlayed N.transition N.first e) }
+    ensures no_boards { result.boards ≡ None }
     ensures later { K.faults sink.old ≤ K.faults sink.new }
 {
     match parse(alloc, input, false) {
@@ -219,6 +238,7 @@ fn run_input<N: Member, K: Sink>(alloc: Global, input: &[u8], sink: &mut K) -> O
 fn audit_input<N: Member, K: Sink>(alloc: Global, input: &[u8], sink: &mut K) -> Outcome<N>
     ensures told { AnswersOrGivesUp N.transition N.first (Some commands.Audit) input.now (writing K.written K.faults sink.old sink.new) result }
     ensures one_run { IfSome result.estate (λ e. IsPlayed N.transition N.first e) }
+    ensures no_boards { result.boards ≡ None }
     ensures later { K.faults sink.old ≤ K.faults sink.new }
 {
     match audit(alloc, input) {
@@ -239,6 +259,7 @@ fn answer_run<N: Member, S: Source, K: Sink>(
     ensures bounded { ReadsAtMost (reading S.left S.faults source.old source.new) limit }
     ensures read_later { S.faults source.old ≤ S.faults source.new }
     ensures one_run { IfSome result.estate (λ e. IsPlayed N.transition N.first e) }
+    ensures no_boards { result.boards ≡ None }
     ensures later { K.faults sink.old ≤ K.faults sink.new }
 {
     match read_input(alloc, source) {
@@ -259,6 +280,7 @@ fn answer_audit<N: Member, S: Source, K: Sink>(
     ensures bounded { ReadsAtMost (reading S.left S.faults source.old source.new) limit }
     ensures read_later { S.faults source.old ≤ S.faults source.new }
     ensures one_run { IfSome result.estate (λ e. IsPlayed N.transition N.first e) }
+    ensures no_boards { result.boards ≡ None }
     ensures later { K.faults sink.old ≤ K.faults sink.new }
 {
     match read_input(alloc, source) {
@@ -275,7 +297,8 @@ fn carry_out<N: Member, S: Source, K: Sink>(
     source: &mut S,
     sink: &mut K,
 ) -> Outcome<N>
-    requires { HasFewTurns (Some command) }
+    requires few { HasFewTurns (Some command) }
+    requires alone { is_live (Some command) ≡ false }
     ensures claim { Claim N.transition N.first (Some command) (reading S.left S.faults source.old source.new)
         (writing K.written K.faults sink.old sink.new) result }
     ensures untouched { reads (Some command) ≡ false → source.new ≡ source.old }
@@ -285,6 +308,8 @@ fn carry_out<N: Member, S: Source, K: Sink>(
         Command::Big(drawn) => play_drawn(alloc, drawn, sink),
         Command::Run => answer_run(alloc, source, sink),
         Command::Audit => answer_audit(alloc, source, sink),
+        Command::Boards => answer_boards(alloc, source, sink),
+        Command::Live(_) => unreachable!(),
     }
 }
 
@@ -296,6 +321,7 @@ pub fn answer<N: Member, S: Source, K: Sink>(
     source: &mut S,
     sink: &mut K,
 ) -> Outcome<N>
+    requires { is_live (command_of (map string_bytes words.now)) ≡ false }
     ensures claim { Claim N.transition N.first (command_of (map string_bytes words.now)) (reading S.left S.faults source.old source.new)
         (writing K.written K.faults sink.old sink.new) result }
     ensures untouched { reads (command_of (map string_bytes words.now)) ≡ false → source.new ≡ source.old }

@@ -1,12 +1,44 @@
--- What holds of every run holds of the run that was played.
-use Rattle.std.proofs.Common.{Option, Some, None}
+-- What holds of every run holds of the run of a call, by one thread or by workers, with boards or without.
+use Rattle.std.proofs.Common.{Option, Some, None, refl, subst, sym}
 use Rattle.std.specs.Prelude.{IfSome}
+use Rattle.board_law.specs.OneRun.{HasRegistry}
 use Rattle.core_world.specs.AnyNode.{any_start, any_step}
 use Rattle.core_world.specs.declared.any_node.AnyNode.{AnyNode}
-use Rattle.top_call.specs.Claim.{IsPlayed}
+use Rattle.core_world.specs.declared.any_node.AnyNode.TheVariants.{Registry}
+use Rattle.node_base.specs.Setups.{IsSetup}
+use Rattle.top_call.specs.declared.command.Command.{Command}
+use Rattle.top_call.specs.declared.command.Command.TheVariants.{Audit, Big, Boards, Gen, Live, Run}
+use Rattle.top_call.specs.Claim.{IsPlayedWithBoards, IsRunBy}
 use Rattle.world_base.specs.declared.estate.Estate.{Estate}
+use Rattle.world_base.specs.Runs.{IsRun, IsWholeRun}
+use Rattle.xfs_top.specs.Headline.{BoardHeadline, Headline, HeadlineOf, IsSafe}
 
-module _ (Law : Estate AnyNode → Type 0) (law : (e : Estate AnyNode) → IsPlayed any_step any_start e → Law e) where
-  pub played_has : (o : Option (Estate AnyNode)) → IfSome o (IsPlayed any_step any_start) → IfSome o Law
-  played_has None played = tt
-  played_has (Some e) played = law e played
+-- the registry is among the nodes
+has_registry : HasRegistry any_step any_start
+has_registry = record { of = Registry; starts = λ setup items. refl; steps = λ node what. refl }
+
+module _ (safe : (e : Estate AnyNode) → IsSetup e.script.setup → IsRun any_step any_start e.script e.events e.world → IsSafe e) where
+  whole : (e : Estate AnyNode) → IsWholeRun any_step any_start e → Headline e
+  whole e w = record { whole = w; safe = safe e w.setup w.one_run }
+
+  with_boards : (e : Estate AnyNode) → IsPlayedWithBoards any_step any_start e → BoardHeadline e
+  with_boards e p =
+      let played = p.played has_registry in
+      record {
+        determined = p.determined;
+        played = played;
+        safe = subst IsSafe (sym p.determined) (safe _ played.setup played.one_run);
+      }
+
+  headline : (command : Option Command) (e : Estate AnyNode) → IsRunBy any_step any_start command e → HeadlineOf command e
+  headline None e p = whole e p.whole
+  headline (Some Run) e p = whole e p.whole
+  headline (Some (Live workers)) e p = whole e p.whole
+  headline (Some (Gen drawn)) e p = whole e p.whole
+  headline (Some (Big drawn)) e p = whole e p.whole
+  headline (Some Audit) e p = whole e p.whole
+  headline (Some Boards) e p = with_boards e p
+
+  pub played_has : (command : Option Command) (o : Option (Estate AnyNode)) → IfSome o (IsRunBy any_step any_start command) → IfSome o (HeadlineOf command)
+  played_has command None played = tt
+  played_has command (Some e) played = headline command e played

@@ -1,10 +1,16 @@
 -- What is claimed of the run that a call of the program played: the headline, in one record, of a run in whatever order its items begin; in which order one
--- thread begins them the claim of the call says (`run`). Two premises stand before all of it: the registry does not fail, no line of a script stops it; and
--- want of memory ends the call, and then there is no run. What is said of versions (`legal_acts`, `holders_newest`), of indexes (`indexes`), of what clients
--- that serve lose, and that what takeovers lose had been filed (both in `losses_earned`), ends with the first restart that is doubtful; nothing else does. A
--- script without a line by which a server loses its disk has no such restart (`undoubted`).
+-- thread begins them the claim of the call says (`run`). Two premises stand before all of it: the registry does not fail, no line of a script stops it, but by
+-- `boards`, where three boards stand in its place, of which any may stop; and want of memory ends the call, and then there is no run. What is said of versions
+-- (`legal_acts`, `holders_newest`), of indexes (`indexes`), of what clients that serve lose, and that what takeovers lose had been filed (both in
+-- `losses_earned`), ends with the first restart that is doubtful; nothing else does. A script without a line by which a server loses its disk has no such
+-- restart (`undoubted`).
+use Rattle.board_play.specs.Played.{IsBoardPlayed}
+use Rattle.board_play.specs.Plays.{estate_of as board_estate_of}
 use Rattle.core_world.specs.AnyNode.{any_start, any_step}
 use Rattle.core_world.specs.declared.any_node.AnyNode.{AnyNode}
+use Rattle.run_answers.specs.act_law.Runs.{AnswersAreActs}
+use Rattle.run_answers.specs.once_law.Runs.{ItemsAnsweredOnce}
+use Rattle.run_drops.specs.drop_law.Drops.{DeletesBelowHorizons, DropsWhatItDeletes}
 use Rattle.run_losses.specs.answer_law.Runs.{LostAnswersEarned}
 use Rattle.run_losses.specs.earned_law.Earned.{EachLostActIsEarned}
 use Rattle.run_laws.specs.restart_law.Restarts.{NoDoubtfulRestart}
@@ -17,7 +23,9 @@ use Rattle.run_laws.specs.world_logs.Logs.{CleanersLogStands, LogsStand, Manager
 use Rattle.run_laws.specs.world_reads.Holders.{HoldersAreNewestThroughout}
 use Rattle.run_laws.specs.world_reads.Indexes.{IndexesAreItsOwn}
 use Rattle.run_laws.specs.world_reads.Legal.{LegalActs, LegalWithoutLosses}
-use Rattle.std.specs.Prelude.{ℕ}
+use Rattle.std.specs.Prelude.{◌≡◌, ℕ, Option, Some}
+use Rattle.top_call.specs.declared.command.Command.{Command}
+use Rattle.top_call.specs.declared.command.Command.TheVariants.{Boards}
 use Rattle.world_base.specs.declared.estate.Estate.{Estate}
 use Rattle.world_base.specs.Items.{works_of}
 use Rattle.world_base.specs.Runs.{IsWholeRun}
@@ -33,10 +41,8 @@ pub record LossesEarned (e : Estate AnyNode) : Type 0 where
 abbrev pub WithoutLossesNoDoubt : Estate AnyNode → Type 0
 WithoutLossesNoDoubt e = LosesNone (works_of e.script.lines) → (count : ℕ) → NoDoubtfulRestart e count
 
--- Whatever messages are lost, repeated or reordered and whichever nodes stop:
-pub record Headline (e : Estate AnyNode) : Type 0 where
-  -- its events are one run of the xFS nodes, of its script: each node begins its items in order, each once, and none is left out
-  pub whole : IsWholeRun any_step any_start e
+-- Of each run of the xFS nodes, whatever messages are lost, repeated or reordered and whichever nodes stop:
+pub record IsSafe (e : Estate AnyNode) : Type 0 where
   -- at no moment has a block two owners among the clients that serve, nor another holder beside an owner
   pub one_owner : OneOwnerThroughout e
   -- what a client that serves holds of a block, where it keeps a value, is the newest version, with its value: up to the first doubtful restart
@@ -53,6 +59,10 @@ pub record Headline (e : Estate AnyNode) : Type 0 where
   pub managers_logs_stand : ManagersLogsStand e
   -- and the least horizon that the registry keeps of a client's log, or of the cleaner's, is 1 at most, or at most one beyond a segment that its owner filed
   pub horizons_filed : HorizonsReached e
+  -- what servers were told to delete was dropped in an act by then, and is below the least horizon of its log that the registry keeps; what the cleaner drops in
+  -- an event it tells a server in it
+  pub deletes_dropped : DropsWhatItDeletes e
+  pub deletes_below : DeletesBelowHorizons e
   -- each act Read is of its block's newest version, with its value, and no fall goes below a version that was synced or read elsewhere: up to the first
   -- doubtful restart
   pub legal_acts : LegalActs e
@@ -63,7 +73,34 @@ pub record Headline (e : Estate AnyNode) : Type 0 where
   -- row of a block is in none that a server was told to delete; no row is newer than what a client that has the block dirty knows as settled, all versions
   -- above that being its own: up to the first doubtful restart
   pub indexes : IndexesAreItsOwn e
+  -- each item is answered at most once, by its own node, after its Begin: so the text shows for an item its one answer, and as open are counted those that no
+  -- act answers
+  pub answered_once : ItemsAnsweredOnce e
+  -- what a client answers it has acted before, in the same event: what it read, or wrote, that all is settled, or that it is back; the cleaner, whose restart is
+  -- done, that a segment of its log is filed; and an item of any node is cut only where a crash, or the loss of a disk, is answered behind it
+  pub answers_acted : AnswersAreActs e
   -- only what is gone is refused as lost
   pub losses_earned : LossesEarned e
   -- and where no line of the script has a server lose its disk, no restart is doubtful
   pub undoubted : WithoutLossesNoDoubt e
+
+-- Of a run that was played:
+pub record Headline (e : Estate AnyNode) : Type 0 where
+  -- its events are one run of the xFS nodes, of its script: each node begins its items in order, each once, and none is left out
+  pub whole : IsWholeRun any_step any_start e
+  pub safe : IsSafe e
+
+-- Of a run that was played with three boards in the registry's place, whichever of them stop:
+pub record BoardHeadline (e : Estate AnyNode) : Type 0 where
+  -- it is the one that its script determines
+  pub determined : e ≡ (board_estate_of any_step any_start e.script).estate
+  -- what happened to nodes and boards stands for its events, which are a run of the xFS nodes with one registry, of its script: each node but the registry
+  -- begins its items in order, each once, and none is left out; the registry begins its first so many
+  pub played : IsBoardPlayed any_step any_start (board_estate_of any_step any_start e.script)
+  -- and all that is said of a run with a registry that doesn't fail is so of it
+  pub safe : IsSafe e
+
+-- what is claimed of the run of a command
+abbrev pub HeadlineOf : Option Command → Estate AnyNode → Type 0
+HeadlineOf (Some Boards) e = BoardHeadline e
+HeadlineOf command e = Headline e

@@ -1,11 +1,21 @@
 //! The two calls of the program, and how the process ends.
 ghost use Rattle.std.specs.Prelude.{◌≡◌, false, IfSome, map, string_bytes};
 ghost use Rattle.core_world.specs.AnyNode.{any_step, any_start};
+ghost use Rattle.core_world.specs.declared.any_node.AnyNode.{AnyNode as Node};
 ghost use Rattle.top_call.specs.Claim.{writing, reading, Claim};
-ghost use Rattle.top_call.specs.Commands.{command_of, reads};
-ghost use Rattle.xfs_top.specs.Headline.{Headline};
+ghost use Rattle.top_call.specs.Commands.{command_of, is_live, reads};
+ghost use Rattle.node_base.specs.Setups.{IsSetup};
+ghost use Rattle.world_base.specs.declared.estate.Estate.{Estate};
+ghost use Rattle.world_base.specs.Runs.{IsRun};
+ghost use Rattle.xfs_top.specs.Bounds.{BoundsOf};
+ghost use Rattle.xfs_top.specs.Headline.{HeadlineOf, IsSafe};
 
 use core_world::AnyNode;
+use quiet_run::private_scripts_are_answered;
+use quiet_script::accepted_scripts_are_orderly;
+use run_answers::act_law::answers_are_acts;
+use run_answers::once_law::items_are_answered_once;
+use run_drops::drop_law::what_is_deleted_was_dropped;
 use run_laws::restart_law::without_losses_no_restart_is_doubtful;
 use run_laws::world_law::{
     every_run_has_one_manager, every_run_has_one_owner, what_fell_is_held_by_nobody,
@@ -18,11 +28,28 @@ use std::alloc::Global;
 use std::mem;
 use std::sync::Wait;
 use std::thread::Threads;
-use top_call::{Outcome, Sink, Source, answer};
+use top_call::{Outcome, Sink, Source, answer, answer_live, workers_asked};
 use xfs_base::Gate;
 
-/// The program for all words but those that start threads. `docs/LANGUAGE.md` lists the statuses, and
-/// `docs/PROMISES.md` says what is promised.
+/// What is so of every run of the xFS nodes.
+fn every_run_is_safe()
+    ensures { (e : Estate Node) → IsSetup e.script.setup → IsRun any_step any_start e.script e.events e.world → IsSafe e }
+{
+    every_run_has_one_owner();
+    every_run_has_one_manager();
+    what_fell_is_held_by_nobody();
+    runs_keep_logs();
+    what_is_deleted_was_dropped();
+    every_runs_acts_are_legal();
+    each_lost_act_is_earned();
+    lost_answers_are_said();
+    items_are_answered_once();
+    answers_are_acts();
+    without_losses_no_restart_is_doubtful();
+}
+
+/// The program for all words but those that start threads, which are `live W`. `docs/LANGUAGE.md` lists the statuses,
+/// and `docs/PROMISES.md` says what is promised.
 ///
 /// - `claim`: what the call answers, of the words, the input and the output.
 /// - `untouched`: words by which nothing is read, those that are no form and those by which a script is drawn, leave
@@ -30,45 +57,55 @@ use xfs_base::Gate;
 /// - `headline`: what is so of the run that was played, whatever messages were lost, repeated or reordered and
 ///   whichever nodes stopped, with the premises named there (`specs/Headline.antt`): it is one run of the xFS nodes in
 ///   which no block has two owners, and only what is gone is refused as lost; up to the first doubtful restart each act
-///   Read is of its block's newest version, and no fall goes below what was synced or read elsewhere.
+///   Read is of its block's newest version, and no fall goes below what was synced or read elsewhere. Of `boards` it is
+///   said of the run with one registry that the run with three boards stands for, whichever of them stopped.
+/// - `bounds`: where the script has only the lines `bput`, `bget` and `sync`, and no block is named by two clients, each item
+///   was answered, once, within 128 deliveries and one tick of each node (`specs/Bounds.antt`). Of `boards` nothing is said.
 pub fn solo<S: Source, K: Sink>(
     alloc: Global,
     words: &[String],
     source: &mut S,
     sink: &mut K,
 ) -> Outcome<AnyNode>
+    requires { is_live (command_of (map string_bytes words.now)) ≡ false }
     ensures claim { Claim any_step any_start (command_of (map string_bytes words.now)) (reading S.left S.faults source.old source.new)
         (writing K.written K.faults sink.old sink.new) result }
     ensures untouched { reads (command_of (map string_bytes words.now)) ≡ false → source.new ≡ source.old }
-    ensures headline { IfSome result.estate Headline }
+    ensures headline { IfSome result.estate (HeadlineOf (command_of (map string_bytes words.now))) }
+    ensures bounds { IfSome result.estate (BoundsOf (command_of (map string_bytes words.now))) }
 {
-    every_run_has_one_owner();
-    every_run_has_one_manager();
-    what_fell_is_held_by_nobody();
-    runs_keep_logs();
-    every_runs_acts_are_legal();
-    each_lost_act_is_earned();
-    lost_answers_are_said();
-    without_losses_no_restart_is_doubtful();
+    every_run_is_safe();
+    accepted_scripts_are_orderly();
+    private_scripts_are_answered();
     answer(alloc, words, source, sink)
 }
 
-/// The program, for all words. The runtime is for runs with threads, which the gate watches; no form
-/// starts any yet. It promises what `solo` does.
+/// The program, for all words. What `live W` does, W workers do, in threads of the runtime, which the gate watches: if the
+/// call returns, the run is one run of the nodes, and it promises what `solo` does; that it returns is not claimed. All
+/// other words `solo` answers.
+///
+/// - `bounds`: of the answers of a private script, as `solo` says it; of `live W` nothing is said.
 pub fn xfs<R: Threads + Wait + Sync, S: Source, K: Sink, G: Gate>(
-    _rt: &R,
+    rt: &R,
     alloc: Global,
     words: &[String],
     source: &mut S,
     sink: &mut K,
-    _gate: &G,
+    gate: &G,
 ) -> Outcome<AnyNode>
     ensures claim { Claim any_step any_start (command_of (map string_bytes words.now)) (reading S.left S.faults source.old source.new)
         (writing K.written K.faults sink.old sink.new) result }
     ensures untouched { reads (command_of (map string_bytes words.now)) ≡ false → source.new ≡ source.old }
-    ensures headline { IfSome result.estate Headline }
+    ensures headline { IfSome result.estate (HeadlineOf (command_of (map string_bytes words.now))) }
+    ensures bounds { IfSome result.estate (BoundsOf (command_of (map string_bytes words.now))) }
 {
-    solo(alloc, words, source, sink)
+    every_run_is_safe();
+    accepted_scripts_are_orderly();
+    private_scripts_are_answered();
+    match workers_asked(words) {
+        Some(workers) => answer_live(rt, alloc, workers, source, sink, gate),
+        None => solo(alloc, words, source, sink),
+    }
 }
 
 /// The status with which the process ends. The memory of the run is given back by that end: to let go of each event and

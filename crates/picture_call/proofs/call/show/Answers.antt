@@ -1,9 +1,22 @@
-use Rattle.std.proofs.Common.{Some, [], ap, refl, subst, ◌∙◌}
+use Rattle.std.proofs.Common.{Some, ap, map, refl, string_bytes, subst, ◌∙◌}
+use Rattle.std.specs.Prelude.{IfSome}
 use Rattle.core_world.specs.AnyNode.{any_start, any_step}
 use Rattle.top_call.specs.Claim.{Ends, Writing, reading, writing}
-use Rattle.top_call.specs.Commands.{command_of}
+use Rattle.top_call.specs.Commands.{command_of, is_live}
+use Rattle.xfs_top.specs.Headline.{HeadlineOf}
 use Rattle.picture_call.proofs.Showing.{is_run, refused, shown}
 use Rattle.picture_call.proofs.call.show.Goals as goal
+
+pub draw-requires : goal.draw-requires
+draw-requires g c =
+    let e = c.in-Some.estate in
+    let command = command_of (map string_bytes c.args.words.now) in
+    let held = subst (λ o. IfSome o (HeadlineOf command)) c.in-Some.is c.solo-outcome.ensures.headline in
+    let whole = subst (λ asked. HeadlineOf asked e) (ap command_of c.requires ∙ is_run) held in
+    whole.whole.setup
+
+pub solo-outcome-requires : goal.solo-outcome-requires
+solo-outcome-requires g c = ap is_live (ap command_of c.requires ∙ is_run)
 
 pub returns-in-Some : goal.returns-in-Some
 returns-in-Some g c =

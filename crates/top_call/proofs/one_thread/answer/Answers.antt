@@ -1,8 +1,8 @@
-use Rattle.std.proofs.Common.{◌≡◌, None, [], false, inl, refl, subst}
+use Rattle.std.proofs.Common.{◌≡◌, None, [], false, inl, refl, subst, sym}
 use Rattle.top_call.specs.Claim.{Claim, line, reading, writing}
-use Rattle.top_call.specs.Commands.{reads}
+use Rattle.top_call.specs.Commands.{is_live, reads}
 use Rattle.top_call.specs.Spoken.{usage_text}
-use Rattle.top_call.proofs.Claims.{answers, claims_unread, line_told, none_played}
+use Rattle.top_call.proofs.Claims.{answers, by_one, claims_unread, line_told, none_played}
 use Rattle.top_call.proofs.one_thread.answer.Goals as goal
 
 pub returns-in-None-clause-claim : goal.returns-in-None-clause-claim
@@ -16,7 +16,7 @@ returns-in-None-clause-claim g c =
     let answer = answers step first None [] s o (line usage_text 2) refl (inl told) in
     subst (λ command. Claim step first command r s o) c.in-None.ensures.command
     (claims_unread step first g.S.Source.left g.S.Source.faults c.args.source.now None s o refl (λ e. told) answer
-    (none_played step first o.estate c.tell.ensures.no_run) c.tell.ensures.later)
+    (by_one step first None refl refl o.estate (none_played step first o.estate c.tell.ensures.no_run)) c.tell.ensures.no_boards c.tell.ensures.later)
 
 pub returns-in-Some-clause-claim : goal.returns-in-Some-clause-claim
 returns-in-Some-clause-claim g c =
@@ -27,3 +27,6 @@ returns-in-Some-clause-claim g c =
 pub returns-in-Some-clause-untouched : goal.returns-in-Some-clause-untouched
 returns-in-Some-clause-untouched g c =
     subst (λ command. reads command ≡ false → c.carry_out.new.source ≡ c.args.source.now) c.in-Some.ensures.command c.carry_out.ensures.untouched
+
+pub carry_out-requires-clause-alone : goal.carry_out-requires-clause-alone
+carry_out-requires-clause-alone g c = subst (λ command. is_live command ≡ false) (sym c.in-Some.ensures.command) c.requires

@@ -8,5 +8,5 @@ play-requires g c = script_setup c.args.script.now c.requires
 pub returns-clause-run : goal.returns-clause-run
 returns-clause-run g c =
     let e = c.in_ok-estate.ensures in
-    is_played g.N.Actor.transition g.N.Member.first c.args.script.now c.in_ok-estate.estate
+    is_played g.N.Actor.transition g.N.Member.first c.args.script.now c.in_ok-estate.estate c.requires
     (script_setup c.args.script.now c.requires) e.exact e.one_run e.in_order e.complete
