@@ -12,6 +12,9 @@ pub trait Gate: Sync {
 
     /// Is called after the node's turn, before the worker gives the lock back.
     fn leave(&self, node: NodeId);
+
+    /// Is called after an application has made a call at a client, numbered from 1.
+    fn called(&self, _client: u8) {}
 }
 
 /// A gate that lets every worker pass.
