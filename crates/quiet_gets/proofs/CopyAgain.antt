@@ -25,14 +25,14 @@ use Rattle.xfs_base.specs.declared.setup.Setup.{Setup}
 use Rattle.xfs_base.specs.declared.token.Mode.{Mode}
 use Rattle.xfs_base.specs.declared.token.Mode.TheVariants.{Nothing, Copy, Own}
 use Rattle.xfs_base.specs.declared.token.Stamp.{Stamp}
-use Rattle.xfs_base.specs.Limits.{max_lines}
 use Rattle.xfs_base.specs.Modes.{is_nothing, is_own}
 use Rattle.quiet_law.proofs.Changing.{AreFit, ButForTwo, drained_both}
 use Rattle.quiet_law.proofs.Counters.{low_next}
 use Rattle.quiet_law.proofs.Keeping.{lower, quiet_more}
 use Rattle.quiet_law.proofs.Waiting.{not_the_block}
-use Rattle.quiet_law.specs.Drained.{AreSquare, Drained, IsCalm, IsIdle, IsLow, IsNewest, IsQuietBlock, WaitsForDirty, mode_number}
+use Rattle.quiet_law.specs.Drained.{AreSquare, Drained, IsCalm, IsIdle, IsLow, IsNewest, IsQuietBlock, WaitsForDirty, mode_number, most_steps}
 use Rattle.quiet_law.specs.Lines.{IsNamed, Names, holders}
+use Rattle.quiet_law.proofs.Ordered.{ordered_held}
 use Rattle.quiet_nodes.proofs.Rooms.{slot_within}
 use Rattle.quiet_nodes.proofs.Tests.{not_lt_test, other_test, same_test}
 use Rattle.quiet_nodes.specs.Scene.{ClientPart, Scene, with_client, with_slot}
@@ -56,7 +56,7 @@ pub record IsCopy (h : Held) (ver : ℕ) (stamp : Stamp) : Type 0 where
   pub giving : h.giving ≡ None
 
 module _ (setup : Setup) (works : NodeId → List Work) (k : ℕ) (s : Scene) (c : ℕ) (d : Drained setup works k s) (least : 1 ≤ c) (most : c ≤ setup.clients)
-    (b : BlockId) (few : k < max_lines) (asks : is_nothing (held_of (s.client c).blocks b).mode ≡ true) (nobody : holders setup works s c b ≡ []) where
+    (b : BlockId) (few : k < most_steps) (asks : is_nothing (held_of (s.client c).blocks b).mode ≡ true) (nobody : holders setup works s c b ≡ []) where
   abbrev i : ℕ
   i = slot_of b.ino.0
 
@@ -206,6 +206,7 @@ module _ (setup : Setup) (works : NodeId → List Work) (k : ℕ) (s : Scene) (c
       jobs = calm.jobs;
       alone = held_alone z.beliefs b c nobody calm.alone;
       believed = held_believed z.beliefs b c (λ o. (1 ≤ o.client) × (o.client ≤ setup.clients)) calm.believed (least, most);
+      ordered = ordered_held z.beliefs (holder b c) calm.ordered;
       applied = calm.applied;
       counted = calm.counted;
       rows_low = lower k (length z.index.rows) calm.rows_low;

@@ -36,12 +36,12 @@ use Rattle.xfs_base.specs.declared.setup.Setup.{Setup}
 use Rattle.xfs_base.specs.declared.token.Mode.{Mode}
 use Rattle.xfs_base.specs.declared.token.Mode.TheVariants.{Nothing, Copy, Own}
 use Rattle.xfs_base.specs.declared.token.Stamp.{Stamp}
-use Rattle.xfs_base.specs.Limits.{max_lines, u32_end}
+use Rattle.xfs_base.specs.Limits.{u32_end}
 use Rattle.xfs_base.specs.Modes.{allows, is_nothing}
 use Rattle.xfs_base.specs.Stamps.{is_later}
 use Rattle.quiet_law.proofs.Counters.{below_long, below_short, calm_turns, low_room_next}
 use Rattle.quiet_law.proofs.Keeping.{idle_room, low_room, room_of}
-use Rattle.quiet_law.specs.Drained.{AreSquare, Drained, IsCalm, IsIdle, IsLow, IsQuietBlock}
+use Rattle.quiet_law.specs.Drained.{AreSquare, Drained, IsCalm, IsIdle, IsLow, IsQuietBlock, most_steps}
 use Rattle.quiet_law.specs.Lines.{IsNext, Stands, holders}
 use Rattle.quiet_nodes.proofs.Begins.{HasRoom}
 use Rattle.quiet_nodes.proofs.Managing.{want_comes}
@@ -63,7 +63,7 @@ may_not_read Own h = absurd (cc)
 
 module _ (setup : Setup) (works : NodeId → List Work) (k : ℕ) (s : Scene) (t : Stage AnyNode) (c : ℕ) (d : Drained setup works k s)
     (stands : Stands setup works s t) (managers : 1 ≤ setup.managers) (least : 1 ≤ c) (most : c ≤ setup.clients) (b : BlockId)
-    (few : k < max_lines) (next : IsNext setup works s c (work.Bget c b))
+    (few : k < most_steps) (next : IsNext setup works s c (work.Bget c b))
     (asks : is_nothing (held_of (s.client c).blocks b).mode ≡ true) (nobody : holders setup works s c b ≡ []) where
   abbrev pub i : ℕ
   i = slot_of b.ino.0

@@ -29,13 +29,12 @@ use Rattle.xfs_base.specs.declared.node.NodeId.TheVariants.{Client, Manager}
 use Rattle.xfs_base.specs.declared.setup.Setup.{Setup}
 use Rattle.xfs_base.specs.declared.token.Mode.TheVariants.{Copy}
 use Rattle.xfs_base.specs.declared.token.Stamp.{Stamp}
-use Rattle.xfs_base.specs.Limits.{max_lines}
 use Rattle.xfs_base.specs.Modes.{is_nothing}
 use Rattle.quiet_law.proofs.Changing.{ButForTwo}
 use Rattle.quiet_law.proofs.Counters.{low_next}
 use Rattle.quiet_law.proofs.Keeping.{lower}
 use Rattle.quiet_law.proofs.Waiting.{other_held}
-use Rattle.quiet_law.specs.Drained.{Drained, IsIdle}
+use Rattle.quiet_law.specs.Drained.{Drained, IsIdle, most_steps}
 use Rattle.quiet_law.specs.Lines.{Ends, IsNext, Stands, holders}
 use Rattle.quiet_nodes.proofs.Begins.{HasRoom}
 use Rattle.quiet_nodes.proofs.Moving.{empties_layer, empties_none, moves_none}
@@ -51,7 +50,7 @@ use Rattle.quiet_reads.proofs.Evicting.{OrGone, each_or_gone, some_room}
 
 module _ (setup : Setup) (works : NodeId → List Work) (k : ℕ) (s : Scene) (t : Stage AnyNode) (c : ℕ) (d : Drained setup works k s)
     (stands : Stands setup works s t) (managers : 1 ≤ setup.managers) (least : 1 ≤ c) (most : c ≤ setup.clients) (b : BlockId)
-    (few : k < max_lines) (next : IsNext setup works s c (work.Bget c b))
+    (few : k < most_steps) (next : IsNext setup works s c (work.Bget c b))
     (asks : is_nothing (held_of (s.client c).blocks b).mode ≡ true) (nobody : holders setup works s c b ≡ [])
     (nowhere : (entry_of (s.slot (slot_of b.ino.0)).index.rows b).place ≡ None) where
   abbrev p : ClientPart

@@ -9,9 +9,8 @@ use Rattle.version_model.specs.declared.work.Work.TheVariants as work
 use Rattle.xfs_base.specs.declared.block.BlockId.{BlockId}
 use Rattle.xfs_base.specs.declared.node.NodeId.{NodeId}
 use Rattle.xfs_base.specs.declared.setup.Setup.{Setup}
-use Rattle.xfs_base.specs.Limits.{max_lines}
 use Rattle.xfs_base.specs.Modes.{is_nothing}
-use Rattle.quiet_law.specs.Drained.{Drained}
+use Rattle.quiet_law.specs.Drained.{Drained, most_steps}
 use Rattle.quiet_law.specs.Lines.{Ends, IsNext, Stands, fetching, holders}
 use Rattle.quiet_nodes.specs.Scene.{Scene}
 
@@ -20,6 +19,6 @@ use Rattle.quiet_nodes.specs.Scene.{Scene}
 abbrev pub LonelyGetsAreAnswered : Type 0
 LonelyGetsAreAnswered =
     (setup : Setup) (works : NodeId → List Work) → IsSetup setup
-    → (k : ℕ) (s : Scene) (t : Stage AnyNode) (c : ℕ) (b : BlockId) → k < max_lines → Drained setup works k s → Stands setup works s t
+    → (k : ℕ) (s : Scene) (t : Stage AnyNode) (c : ℕ) (b : BlockId) → k < most_steps → Drained setup works k s → Stands setup works s t
     → IsNext setup works s c (work.Bget c b) → is_nothing (held_of (s.client c).blocks b).mode ≡ true → holders setup works s c b ≡ []
     → Ends setup works k (2 + fetching setup works s b) s t c ((s.client c).begun + 1)

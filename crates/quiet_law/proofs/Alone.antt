@@ -16,9 +16,8 @@ use Rattle.xfs_base.specs.declared.block.BlockId.{BlockId}
 use Rattle.xfs_base.specs.declared.node.NodeId.{NodeId}
 use Rattle.xfs_base.specs.declared.node.NodeId.TheVariants.{Client}
 use Rattle.xfs_base.specs.declared.setup.Setup.{Setup}
-use Rattle.xfs_base.specs.Limits.{max_lines}
 use Rattle.xfs_base.specs.Modes.{is_own}
-use Rattle.quiet_law.specs.Drained.{Drained, IsIdle}
+use Rattle.quiet_law.specs.Drained.{Drained, IsIdle, most_steps}
 use Rattle.quiet_law.specs.Lines.{Ends, IsNext, Stands, holders}
 use Rattle.quiet_script.specs.Quiet.{is_in_range}
 use Rattle.quiet_nodes.specs.Scene.{ClientPart, Scene}
@@ -32,7 +31,7 @@ use Rattle.quiet_law.proofs.Owning as own
 
 module _ (setup : Setup) (works : NodeId → List Work) (k : ℕ) (s : Scene) (t : Stage AnyNode) (c : ℕ) (d : Drained setup works k s)
     (stands : Stands setup works s t) (managers : 1 ≤ setup.managers) (least : 1 ≤ c) (most : c ≤ setup.clients) (b : BlockId) (value : Option (List ℕ))
-    (few : k < max_lines) (next : IsNext setup works s c (work.Bput c b value)) (range : is_in_range setup (work.Bput c b value) ≡ true)
+    (few : k < most_steps) (next : IsNext setup works s c (work.Bput c b value)) (range : is_in_range setup (work.Bput c b value) ≡ true)
     (asks : is_own (held_of (s.client c).blocks b).mode ≡ false) (nobody : holders setup works s c b ≡ [])
     (not_full : nat_le 24 (length (waiting_then (own.second setup works k s t c d stands managers least most b value few next range asks nobody) b value)) ≡ false) where
   abbrev p : ClientPart

@@ -30,9 +30,9 @@ use Rattle.xfs_base.specs.declared.node.NodeId.{NodeId}
 use Rattle.xfs_base.specs.declared.node.NodeId.TheVariants.{Client, Manager}
 use Rattle.xfs_base.specs.declared.setup.Setup.{Setup}
 use Rattle.xfs_base.specs.declared.token.Mode.TheVariants.{Own}
-use Rattle.xfs_base.specs.Limits.{max_lines, u32_end}
+use Rattle.xfs_base.specs.Limits.{u32_end}
 use Rattle.xfs_base.specs.Modes.{is_own}
-use Rattle.quiet_law.specs.Drained.{AreSquare, Drained, IsCalm, IsIdle}
+use Rattle.quiet_law.specs.Drained.{AreSquare, Drained, IsCalm, IsIdle, most_steps}
 use Rattle.quiet_law.specs.Lines.{Ends, IsNext, Stands, holders, sealing, tail}
 use Rattle.quiet_script.specs.Quiet.{is_in_range}
 use Rattle.quiet_nodes.specs.Layers.{stores_to}
@@ -60,7 +60,7 @@ use Rattle.quiet_law.proofs.Writes.{ends_more}
 use Rattle.quiet_law.proofs.Writing.{IsReady, count_is}
 
 module _ (setup : Setup) (works : NodeId → List Work) (k : ℕ) (s : Scene) (t : Stage AnyNode) (c : ℕ) (d : Drained setup works k s) (stands : Stands setup works s t)
-    (ok : IsSetup setup) (few : k < max_lines) (b : BlockId) (value : Option (List ℕ)) (next : IsNext setup works s c (work.Bput c b value))
+    (ok : IsSetup setup) (few : k < most_steps) (b : BlockId) (value : Option (List ℕ)) (next : IsNext setup works s c (work.Bput c b value))
     (range : is_in_range setup (work.Bput c b value) ≡ true) (asks : is_own (held_of (s.client c).blocks b).mode ≡ false) (nobody : holders setup works s c b ≡ []) where
   managers : 1 ≤ setup.managers
   managers = ok.managers.0
@@ -128,13 +128,13 @@ module _ (setup : Setup) (works : NodeId → List Work) (k : ℕ) (s : Scene) (t
   linked : is_known (its_groups setup works) (prior_from q.end) ≡ true
   linked = d.linked c least most
 
-  few_more : suc k ≤ 20000
+  few_more : suc k ≤ 40000
   few_more = few
 
   acked : (x : ℕ) → x < 8 → slice_index q.acked x ≡ q.end.seq
   acked x within = sym (ap (λ t. cond t (slice_index p.acked x) 0) (lt_test x 8 within)) ∙ (d.square c x least most within).acked
 
-  enough : (n : ℕ) → n ≤ 64 * suc k → n ≤ 1280000
+  enough : (n : ℕ) → n ≤ 64 * suc k → n ≤ 2560000
   enough n low = omega (arith, low, few_more)
 
   long_room : (n : ℕ) → n ≤ 64 * suc k → has_long_room n ≡ true

@@ -22,9 +22,9 @@ use Rattle.xfs_base.specs.declared.block.BlockId.{BlockId}
 use Rattle.xfs_base.specs.declared.node.NodeId.{NodeId}
 use Rattle.xfs_base.specs.declared.node.NodeId.TheVariants.{Client}
 use Rattle.xfs_base.specs.declared.setup.Setup.{Setup}
-use Rattle.xfs_base.specs.Limits.{max_lines, u32_end}
+use Rattle.xfs_base.specs.Limits.{u32_end}
 use Rattle.xfs_base.specs.Modes.{is_nothing}
-use Rattle.quiet_law.specs.Drained.{AreSquare, Drained, IsIdle}
+use Rattle.quiet_law.specs.Drained.{AreSquare, Drained, IsIdle, most_steps}
 use Rattle.quiet_law.specs.Lines.{Ends, IsNext, Stands}
 use Rattle.quiet_nodes.specs.Scene.{ClientPart, Scene, client_at, node_at, with_client}
 use Rattle.quiet_nodes.proofs.AtOnce.{get_here, read_here, sync_here, synced_part}
@@ -97,7 +97,7 @@ module _ (setup : Setup) (works : NodeId → List Work) (k : ℕ) (s : Scene) (t
   p_idle : IsIdle k p
   p_idle = d.clients c least most
 
-  module _ (w : Work) (next : IsNext setup works s c w) (few : k < max_lines) where
+  module _ (w : Work) (next : IsNext setup works s c w) (few : k < most_steps) where
     within : p.begun < length (works (Client c))
     within = slice_get_within (works (Client c)) p.begun w next.next
 
@@ -129,7 +129,7 @@ module _ (setup : Setup) (works : NodeId → List Work) (k : ℕ) (s : Scene) (t
     like_square i inside = let sq = d.square c i least most inside in
         record { acked = sq.acked; applied = sq.applied; below = sq.below; covered = sq.covered }
 
-  pub gets_here : (b : BlockId) → k < max_lines → IsNext setup works s c (work.Bget c b) → is_nothing (held_of p.blocks b).mode ≡ false
+  pub gets_here : (b : BlockId) → k < most_steps → IsNext setup works s c (work.Bget c b) → is_nothing (held_of p.blocks b).mode ≡ false
       → Ends setup works k 0 s t c (p.begun + 1)
   gets_here b few next held =
       let q : ClientPart = read_here setup works c p b in
@@ -142,7 +142,7 @@ module _ (setup : Setup) (works : NodeId → List Work) (k : ℕ) (s : Scene) (t
       refl
       (like_square q)
 
-  pub syncs_nothing : k < max_lines → IsNext setup works s c (work.Sync c) → p.dirty ≡ [] → Ends setup works k 0 s t c (p.begun + 1)
+  pub syncs_nothing : k < most_steps → IsNext setup works s c (work.Sync c) → p.dirty ≡ [] → Ends setup works k 0 s t c (p.begun + 1)
   syncs_nothing few next none =
       let q : ClientPart = synced_part setup works c p in
       ends_at_once q (acts.Synced c ∷ []) (p.begun + 1) Finished

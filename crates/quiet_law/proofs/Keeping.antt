@@ -34,7 +34,7 @@ put_each P f n x here others m =
 pub lower : (k n : ℕ) → IsLow k n → IsLow (suc k) n
 lower k n h = omega arith
 
-pub low_room : (k n : ℕ) → k < 20000 → IsLow k n → n ≤ 4294901759
+pub low_room : (k n : ℕ) → k < 40000 → IsLow k n → n ≤ 4294901759
 low_room k n h low = omega arith
 
 pub room_of : (n : ℕ) → n ≤ 4294901759 → has_room n ≡ true
@@ -49,6 +49,7 @@ calm_more setup k z c = record {
   jobs = c.jobs;
   alone = c.alone;
   believed = c.believed;
+  ordered = c.ordered;
   applied = c.applied;
   counted = c.counted;
   rows_low = lower k (length z.index.rows) c.rows_low;
@@ -73,7 +74,7 @@ idle_again k p h = record {
 }
 
 -- an idle client has room
-pub idle_room : (setup : Setup) (works : NodeId → List Work) (c k : ℕ) (p : ClientPart) → k < 20000 → IsIdle k p → HasRoom setup works c p
+pub idle_room : (setup : Setup) (works : NodeId → List Work) (c k : ℕ) (p : ClientPart) → k < 40000 → IsIdle k p → HasRoom setup works c p
 idle_room setup works c k p few h = record {
   asked = room_of p.asked (low_room k p.asked few h.asked_low);
   req = room_of p.req (low_room k p.req few h.req_low);
@@ -130,3 +131,16 @@ module _ (setup : Setup) (works : NodeId → List Work) (k : ℕ) (s : Scene) (c
     legible = λ i within b of_slot. readable b (entry_of (s.slot i).index.rows b).place (d.legible i within b of_slot);
     shelved = λ v l m. all_shelved setup works s then_ (λ e. ap (λ (x : End). x.seq) (ends e)) (s.held v) (d.shelved v l m);
   }
+
+-- what is drained is so a step later, too
+pub drained_more : (setup : Setup) (works : NodeId → List Work) (k : ℕ) (s : Scene) → Drained setup works k s → Drained setup works (suc k) s
+drained_more setup works k s d = record {
+  clients = λ c least most. idle_again k (s.client c) (d.clients c least most);
+  fed = d.fed;
+  linked = d.linked;
+  passes = d.passes;
+  slots = λ i within. calm_more setup k (s.slot i) (d.slots i within);
+  square = d.square;
+  legible = d.legible;
+  shelved = d.shelved;
+}

@@ -1,3 +1,4 @@
+pub mod Ordered
 pub mod Starting
 pub mod Keeping
 pub mod Counters
@@ -22,3 +23,6 @@ pub mod Tailing
 pub mod Filled
 pub mod Writes
 pub mod AloneFull
+pub mod Alike
+pub mod AsIf
+pub mod Listed

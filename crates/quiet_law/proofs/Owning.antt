@@ -14,7 +14,7 @@ use Rattle.node_base.specs.Nodes.{has_node, peers_of}
 use Rattle.node_base.specs.Room.{has_long_room, has_room}
 use Rattle.node_base.specs.Shape.{is_place}
 use Rattle.quiet_flow.specs.Flow.{Stage}
-use Rattle.slot_beliefs.specs.Beliefs.{share_of}
+use Rattle.slot_beliefs.specs.Beliefs.{holder, share_of}
 use Rattle.slot_beliefs.specs.Recalls.{applied_of, stamp}
 use Rattle.token_client.proofs.Tables.{held_of-put_itself}
 use Rattle.token_client.specs.declared.held.Held.{Held}
@@ -38,10 +38,10 @@ use Rattle.xfs_base.specs.declared.node.NodeId.TheVariants.{Client, Manager}
 use Rattle.xfs_base.specs.declared.setup.Setup.{Setup}
 use Rattle.xfs_base.specs.declared.token.Mode.TheVariants.{Own}
 use Rattle.xfs_base.specs.declared.token.Stamp.{Stamp}
-use Rattle.xfs_base.specs.Limits.{max_lines, u32_end, u64_end}
+use Rattle.xfs_base.specs.Limits.{u32_end, u64_end}
 use Rattle.xfs_base.specs.Modes.{is_own}
 use Rattle.xfs_base.specs.Stamps.{is_later}
-use Rattle.quiet_law.specs.Drained.{AreSquare, Drained, IsCalm, IsIdle, IsLow, IsPlaceReadable, IsQuietBlock, mode_number}
+use Rattle.quiet_law.specs.Drained.{AreSquare, Drained, IsCalm, IsIdle, IsLow, IsPlaceReadable, IsQuietBlock, mode_number, most_steps}
 use Rattle.quiet_law.specs.Lines.{IsNext, Names, Stands, holders}
 use Rattle.quiet_script.specs.Quiet.{is_client, is_in_range}
 use Rattle.quiet_nodes.specs.Scene.{ClientPart, Scene, its_groups, manager_of_slot, tokens_at}
@@ -51,6 +51,7 @@ use Rattle.quiet_law.proofs.Changing.{ButForTwo}
 use Rattle.quiet_nodes.proofs.Granting.{owning}
 use Rattle.quiet_law.proofs.Keeping.{idle_room, low_room, lower, quiet_more, room_of}
 use Rattle.quiet_law.proofs.Lonely as lonely
+use Rattle.quiet_law.proofs.Ordered.{ordered_owned}
 use Rattle.quiet_law.proofs.Lonely.{AsksFits, GrantFits}
 use Rattle.quiet_law.proofs.Waiting.{not_the_block, other_held, waits_put}
 use Rattle.quiet_nodes.proofs.Wanting.{feed_at}
@@ -65,7 +66,7 @@ use Rattle.std.specs.List.{AllByRecursion}
 
 module _ (setup : Setup) (works : NodeId → List Work) (k : ℕ) (s : Scene) (t : Stage AnyNode) (c : ℕ) (d : Drained setup works k s)
     (stands : Stands setup works s t) (managers : 1 ≤ setup.managers) (least : 1 ≤ c) (most : c ≤ setup.clients) (b : BlockId) (value : Option (List ℕ))
-    (few : k < max_lines) (next : IsNext setup works s c (work.Bput c b value)) (range : is_in_range setup (work.Bput c b value) ≡ true)
+    (few : k < most_steps) (next : IsNext setup works s c (work.Bput c b value)) (range : is_in_range setup (work.Bput c b value) ≡ true)
     (asks : is_own (held_of (s.client c).blocks b).mode ≡ false) (nobody : holders setup works s c b ≡ []) where
   abbrev pub i : ℕ
   i = slot_of b.ino.0
@@ -322,6 +323,7 @@ module _ (setup : Setup) (works : NodeId → List Work) (k : ℕ) (s : Scene) (t
     jobs = calm.jobs;
     alone = owned_alone z.beliefs b c nobody calm.alone;
     believed = owned_believed z.beliefs b c (λ o. (1 ≤ o.client) × (o.client ≤ setup.clients)) calm.believed (least, most);
+    ordered = ordered_owned z.beliefs (holder b c) calm.ordered;
     applied = calm.applied;
     counted = calm.counted;
     rows_low = lower k (length z.index.rows) calm.rows_low;

@@ -133,7 +133,7 @@ lives seg (m ∷ ms) = by (segment_of m.1) (lives seg ms)
     by None h = omega arith
     by (Some x) h = by_test (λ (n : ℕ). n + live_in seg ms ≤ suc (length ms)) _ 1 0 (λ _. omega (arith, h)) (λ _. omega (arith, h))
 
-pub counts_rise : (i : Indexed) (more : ℕ) → IsCounted i → length i.rows ≤ 1280000 → more ≤ 24 → (rows : List (BlockId × Entry)) → has_room more i.usage rows ≡ true
+pub counts_rise : (i : Indexed) (more : ℕ) → IsCounted i → length i.rows ≤ 2560000 → more ≤ 24 → (rows : List (BlockId × Entry)) → has_room more i.usage rows ≡ true
 counts_rise i more counted few small [] = refl
 counts_rise i more counted few small (m ∷ ms) = ap (λ t. t && has_room more i.usage ms) (by (segment_of m.1)) ∙ counts_rise i more counted few small ms
   where

@@ -9,6 +9,7 @@ use Rattle.xfs_base.specs.declared.node.NodeId.{NodeId}
 use Rattle.xfs_base.specs.declared.setup.Setup.{Setup}
 use Rattle.quiet_law.specs.Drained.{AreSquare, Drained, IsCalm, IsIdle, IsQuietBlock, IsShelved}
 use Rattle.quiet_nodes.specs.Start.{first_part, first_slot, start_scene}
+use Rattle.quiet_law.proofs.Ordered.{none_ordered}
 
 all_zero : (n i : ℕ) → slice_index (replicate n 0) i ≡ 0
 all_zero zero i = refl
@@ -41,6 +42,7 @@ module _ (setup : Setup) (works : NodeId → List Work) where
     jobs = refl;
     alone = λ b c d differs. omega arith;
     believed = All-nil (λ e. (1 ≤ e.0.client) × (e.0.client ≤ setup.clients));
+    ordered = none_ordered;
     applied = refl;
     counted = nothing_counted;
     rows_low = omega arith;

@@ -34,8 +34,8 @@ use Rattle.xfs_base.specs.declared.entry.Entry.{Entry}
 use Rattle.xfs_base.specs.declared.node.NodeId.{NodeId}
 use Rattle.xfs_base.specs.declared.node.NodeId.TheVariants.{Client}
 use Rattle.xfs_base.specs.declared.setup.Setup.{Setup}
-use Rattle.xfs_base.specs.Limits.{max_lines, u32_end}
-use Rattle.quiet_law.specs.Drained.{AreSquare, Drained, IsCalm, IsIdle}
+use Rattle.xfs_base.specs.Limits.{u32_end}
+use Rattle.quiet_law.specs.Drained.{AreSquare, Drained, IsCalm, IsIdle, most_steps}
 use Rattle.quiet_law.specs.Lines.{Ends, IsNext, Stands, sealing}
 use Rattle.quiet_nodes.specs.Layers.{stores_to}
 use Rattle.quiet_nodes.specs.Moves.{Empties}
@@ -58,7 +58,7 @@ use Rattle.quiet_law.proofs.Writing as writing
 use Rattle.quiet_law.proofs.Writing.{IsReady, LastSo, NotedSo, acts_are, count_is, segment_spelled, its, lands, of_log, striped_so, taken, told_at, waits, writes_on}
 
 module _ (setup : Setup) (works : NodeId → List Work) (k : ℕ) (s : Scene) (t : Stage AnyNode) (c : ℕ) (d : Drained setup works k s) (stands : Stands setup works s t)
-    (ok : IsSetup setup) (few : k < max_lines) (next : IsNext setup works s c (work.Sync c)) (some : 1 ≤ length (s.client c).dirty) where
+    (ok : IsSetup setup) (few : k < most_steps) (next : IsNext setup works s c (work.Sync c)) (some : 1 ≤ length (s.client c).dirty) where
   abbrev p : ClientPart
   p = s.client c
 
@@ -109,7 +109,7 @@ module _ (setup : Setup) (works : NodeId → List Work) (k : ℕ) (s : Scene) (t
   linked : is_known (its_groups setup works) (prior_from p.end) ≡ true
   linked = d.linked c least most
 
-  few_more : suc k ≤ 20000
+  few_more : suc k ≤ 40000
   few_more = few
 
   -- ---- the segment

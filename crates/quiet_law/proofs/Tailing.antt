@@ -67,7 +67,7 @@ module _ (setup : Setup) (works : NodeId → List Work) (f : FlightState) where
   same_shelves (x ∷ xs) place g h same v =
       same_shelves xs (place + 1) (with_piece setup works g f x place) (with_piece setup works h f x place) (one_same x place g h same) v
 
-module _ (setup : Setup) (works : NodeId → List Work) (k c : ℕ) (m : Scene) (p : ClientPart) (can : CanSeal (suc k) (answered p)) (ok : IsSetup setup) (few : suc k ≤ 20000)
+module _ (setup : Setup) (works : NodeId → List Work) (k c : ℕ) (m : Scene) (p : ClientPart) (can : CanSeal (suc k) (answered p)) (ok : IsSetup setup) (few : suc k ≤ 40000)
     (least : 1 ≤ c) (most : c ≤ setup.clients) (fed : p.fed ≡ p.end.seq) (linked : is_known (its_groups setup works) (prior_from p.end) ≡ true)
     (acked : (i : ℕ) → i < 8 → slice_index p.acked i ≡ p.end.seq) (ready : (i : ℕ) → i < 8 → IsReady c p.end.seq (m.slot i)) where
   abbrev base : ClientPart
@@ -192,6 +192,7 @@ module _ (setup : Setup) (works : NodeId → List Work) (k c : ℕ) (m : Scene) 
             jobs = now.jobs;
             alone = now.alone;
             believed = now.believed;
+            ordered = now.ordered;
             applied = length-set (m.slot i).applied (c - 1) seq ∙ now.applied;
             counted = subst IsCounted same then_.counted;
             rows_low = subst (λ (x : Indexed). IsLow (suc k) (length x.rows)) same then_.rows_low;

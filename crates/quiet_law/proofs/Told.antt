@@ -123,6 +123,7 @@ calm_told setup k z log upto rows calm few low = record {
   jobs = calm.jobs;
   alone = calm.alone;
   believed = calm.believed;
+  ordered = calm.ordered;
   applied = set_length z.applied (log.0 - 1) upto ∙ calm.applied;
   counted = keeps-counted-all z.index rows calm.counted;
   rows_low = more (length (indexed_all z.index rows).rows) (length z.index.rows) (length rows) (indexed_length rows z.index) calm.rows_low few;

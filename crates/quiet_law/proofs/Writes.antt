@@ -26,9 +26,9 @@ use Rattle.xfs_base.specs.declared.block.BlockId.{BlockId}
 use Rattle.xfs_base.specs.declared.node.NodeId.{NodeId}
 use Rattle.xfs_base.specs.declared.node.NodeId.TheVariants.{Client}
 use Rattle.xfs_base.specs.declared.setup.Setup.{Setup}
-use Rattle.xfs_base.specs.Limits.{max_lines, u32_end, u64_end}
+use Rattle.xfs_base.specs.Limits.{u32_end, u64_end}
 use Rattle.xfs_base.specs.Modes.{is_own}
-use Rattle.quiet_law.specs.Drained.{AreSquare, Drained, IsIdle, IsQuietBlock, IsWritable, WaitsForDirty, mode_number}
+use Rattle.quiet_law.specs.Drained.{AreSquare, Drained, IsIdle, IsQuietBlock, IsWritable, WaitsForDirty, mode_number, most_steps}
 use Rattle.quiet_law.specs.Lines.{Ends, IsNext, Stands, sealing, tail}
 use Rattle.quiet_script.specs.Quiet.{is_client, is_in_range}
 use Rattle.quiet_nodes.specs.Moves.{Empties}
@@ -72,7 +72,7 @@ ends_more setup works k a most s t c item less e = record {
 }
 
 module _ (setup : Setup) (works : NodeId → List Work) (k : ℕ) (s : Scene) (t : Stage AnyNode) (c : ℕ) (d : Drained setup works k s) (stands : Stands setup works s t)
-    (ok : IsSetup setup) (few : k < max_lines) (b : BlockId) (value : Option (List ℕ)) (next : IsNext setup works s c (work.Bput c b value))
+    (ok : IsSetup setup) (few : k < most_steps) (b : BlockId) (value : Option (List ℕ)) (next : IsNext setup works s c (work.Bput c b value))
     (range : is_in_range setup (work.Bput c b value) ≡ true) (own : is_own (held_of (s.client c).blocks b).mode ≡ true) where
   abbrev p : ClientPart
   p = s.client c
@@ -200,7 +200,7 @@ module _ (setup : Setup) (works : NodeId → List Work) (k : ℕ) (s : Scene) (t
   linked : is_known (its_groups setup works) (prior_from w.end) ≡ true
   linked = d.linked c least most
 
-  few_more : suc k ≤ 20000
+  few_more : suc k ≤ 40000
   few_more = few
 
   acked : (i : ℕ) → i < 8 → slice_index w.acked i ≡ w.end.seq

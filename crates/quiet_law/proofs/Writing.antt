@@ -65,9 +65,9 @@ pub record IsReady (c seq : ℕ) (z : SlotState) : Type 0 where
   pub jobs : z.jobs ≡ []
   pub applied : applied_of z.applied c ≡ seq
   pub counted : IsCounted z.index
-  pub rows_low : length z.index.rows ≤ 1280000
+  pub rows_low : length z.index.rows ≤ 2560000
 
-module _ (setup : Setup) (works : NodeId → List Work) (k c : ℕ) (m : Scene) (p : ClientPart) (can : CanSeal k p) (ok : IsSetup setup) (few : k ≤ 20000) (least : 1 ≤ c)
+module _ (setup : Setup) (works : NodeId → List Work) (k c : ℕ) (m : Scene) (p : ClientPart) (can : CanSeal k p) (ok : IsSetup setup) (few : k ≤ 40000) (least : 1 ≤ c)
     (most : c ≤ setup.clients) (fed : p.fed ≡ p.end.seq) (linked : is_known (its_groups setup works) (prior_from p.end) ≡ true)
     (acked : (i : ℕ) → i < 8 → slice_index p.acked i ≡ p.end.seq) (ready : (i : ℕ) → i < 8 → IsReady c p.end.seq (m.slot i)) where
   abbrev pub f : FlightState

@@ -1,6 +1,8 @@
 -- The drained state: how the nodes of a quiet run stand between two lines, when nothing is on its way.
 use Rattle.std.specs.Prelude.{◌≡◌, ◌≤◌, ◌<◌, ◌*◌, ℕ, Bool, true, false, All, List, [], ◌∷◌, length, slice_get, slice_index_or, Option, Some, None, IfSome, Ok}
 use Rattle.std.specs.List.{AllByRecursion, list_any}
+use Rattle.std.specs.List.Sorted.{IsStrictlySortedBy}
+use Rattle.std.specs.Map.{keys_of}
 use Rattle.client_log.specs.Transition.{prior_from}
 use Rattle.delta_feed.specs.declared.feed.FiledDeltas.{FiledDeltas}
 use Rattle.delta_feed.specs.FeedState.{acked_of}
@@ -20,7 +22,7 @@ use Rattle.segment_format.specs.Ranges.{FitsPrior, FitsRow}
 use Rattle.segment_format.specs.ReadingItems.{answer_of}
 use Rattle.segment_format.specs.Text.{text_of}
 use Rattle.segment_reading.specs.Reading.{is_block, is_known}
-use Rattle.slot_beliefs.specs.Beliefs.{share_of}
+use Rattle.slot_beliefs.specs.Beliefs.{holder_cmp, share_of}
 use Rattle.slot_beliefs.specs.declared.job.Holder.{Holder}
 use Rattle.slot_beliefs.specs.Index.{IsCounted}
 use Rattle.slot_beliefs.specs.Recalls.{applied_of}
@@ -42,9 +44,13 @@ use Rattle.xfs_base.specs.declared.token.Mode.TheVariants.{Nothing, Copy, Own}
 use Rattle.xfs_base.specs.Modes.{is_own}
 use Rattle.quiet_nodes.specs.Scene.{ClientPart, Scene, its_groups}
 
--- how high any counter may stand after so many lines: a line can seal twice, each time 24 blocks, which may all be new rows of one slot
+-- how high any counter may stand after so many steps: a step seals once at most, 24 blocks, which may all be new rows of one slot
 abbrev pub IsLow : ℕ → ℕ → Type 0
 IsLow k n = n ≤ 64 * k
+
+-- a line is two steps at most: what others have to do first, and what the client does then; and a script has no more than 20,000 lines
+abbrev pub most_steps : ℕ
+most_steps = 40000
 
 -- ---- a client by itself
 
@@ -104,6 +110,8 @@ pub record IsCalm (setup : Setup) (k : ℕ) (z : SlotState) : Type 0 where
   -- an owner is believed to be alone, and who is believed to hold anything is a client
   pub alone : OwnsAlone z.beliefs
   pub believed : All (λ (e : Holder × Bool). (1 ≤ e.0.client) × (e.0.client ≤ setup.clients)) z.beliefs
+  -- and that of each of them is believed once
+  pub ordered : IsStrictlySortedBy holder_cmp (keys_of z.beliefs)
   pub applied : length z.applied ≡ 9
   -- counters; a count of live blocks is no more than there are rows
   pub counted : IsCounted z.index
