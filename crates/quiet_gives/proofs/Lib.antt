@@ -1,0 +1,12 @@
+pub mod Recalled
+pub mod RecallLayer
+pub mod WantRecalls
+pub mod Noted
+pub mod Gave
+pub mod SlotAgain
+pub mod GaveLayer
+pub mod Given
+pub mod Givers
+pub mod GivenDrained
+pub mod Taking
+pub mod FromClean

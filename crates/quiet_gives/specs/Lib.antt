@@ -1,0 +1,2 @@
+pub mod Recalls
+pub mod Laws
