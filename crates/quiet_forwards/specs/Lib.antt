@@ -1,0 +1,3 @@
+pub mod Forwards
+pub mod Passing
+pub mod Laws

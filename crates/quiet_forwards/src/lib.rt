@@ -1,0 +1,11 @@
+//! Gets of blocks of which other clients have copies, in quiet runs, from one drained state to the next: definitions and proofs about them. It has no code: the
+//! function below has an empty body, and its contract is a law.
+#![tactic(auto)]
+
+ghost use Rattle.quiet_forwards.specs.Laws.{CopiesArePassedOn};
+
+/// A get of a block that the client doesn't hold, of which others are believed to have copies and which nobody is believed to own, is answered: one of them passes
+/// its copy on, and where that one has none any more the client asks again in the next round and is granted a copy.
+pub fn copies_are_passed_on()
+    ensures passed { CopiesArePassedOn }
+{}
