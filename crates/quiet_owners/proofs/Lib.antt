@@ -1,0 +1,14 @@
+pub mod Recalling
+pub mod GivingUp
+pub mod SettlingGives
+pub mod SlotsWait
+pub mod Recalls
+pub mod OwnerFacts
+pub mod OwnerLayers
+pub mod OwnerGives
+pub mod OwnerWay
+pub mod OwnerAsIf
+pub mod BeliefsGiven
+pub mod OwnerDrained
+pub mod PutAsking
+pub mod PutsFromDirty
