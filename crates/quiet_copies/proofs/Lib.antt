@@ -1,0 +1,3 @@
+pub mod OrderKept
+pub mod GetAsking
+pub mod GetsFromDirty
