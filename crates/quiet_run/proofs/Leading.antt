@@ -14,6 +14,7 @@ use Rattle.script_text.specs.declared.script.Script.{Script}
 use Rattle.version_model.specs.declared.work.Work.{Work}
 use Rattle.version_model.specs.declared.work.Work.TheVariants as works
 use Rattle.world_base.specs.Items.{actor_of, is_for, is_for_actor, items_of, works_of}
+use Rattle.world_base.specs.Cluster.{HasNode}
 use Rattle.xfs_base.proofs.NodeOrder.{same_node_itself}
 use Rattle.xfs_base.specs.declared.node.NodeId.{NodeId}
 use Rattle.xfs_base.specs.declared.node.NodeId.TheVariants.{Client}
@@ -23,7 +24,7 @@ use Rattle.quiet_flow.specs.Flow.{Stage}
 use Rattle.quiet_law.proofs.Starting.{start_is_drained}
 use Rattle.quiet_nodes.proofs.Starts.{starts_as}
 use Rattle.quiet_nodes.specs.Start.{start_scene}
-use Rattle.quiet_law.specs.Drained.{Drained}
+use Rattle.quiet_law.specs.Drained.{Drained, most_steps}
 use Rattle.quiet_law.specs.Lines.{Ends, EndsAfterRound, IsNext, Stands}
 use Rattle.quiet_nodes.proofs.Blind.{any_blind}
 use Rattle.quiet_nodes.specs.Scene.{Scene}
@@ -31,7 +32,13 @@ use Rattle.quiet_script.proofs.Answered.{items_counted, items_more}
 use Rattle.quiet_script.proofs.Induction.{script_answers}
 use Rattle.quiet_script.specs.Lines.{EndsLater, EndsSoon, LeadsOn}
 use Rattle.quiet_script.specs.Quiet.{AnswersWithinBounds, IsOrderly, IsQuiet, is_client, is_in_range, is_quiet, most_deliveries}
+use Rattle.quiet_run.proofs.Asking.{AllAsk, asks_later, asks_then, in_order, start_asks}
 use Rattle.quiet_run.specs.Runs.{EachLineLeadsOn, QuietScriptsAreAnswered}
+
+-- the steps that lines take, two each
+abbrev pub steps_of : List Line → ℕ
+steps_of [] = 0
+steps_of (line ∷ lines) = suc (suc (steps_of lines))
 
 -- what is so of all lines is so of this one
 pub of_line : (p : Line → Bool) (played rest : List Line) (line : Line) → list_all p (played ++ line ∷ rest) ≡ true → p line ≡ true
@@ -43,28 +50,28 @@ module _ (script : Script) (orderly : IsOrderly script) (quiet : IsQuiet script)
   abbrev its_works : NodeId → List Work
   its_works node = items_of script.lines node
 
-  -- these lines are played: the state is drained, and so many items of each client are begun
+  -- these lines are played: the state is drained, two steps a line, and so many items of each client are begun
   pub record Between (played : List Line) (t : Stage AnyNode) : Type 0 where
     pub scene : Scene
     pub stands : Stands script.setup its_works scene t
-    pub drained : Drained script.setup its_works (length played) scene
+    pub drained : Drained script.setup its_works (steps_of played) scene
     pub begun : (c : ℕ) → (scene.client c).begun ≡ length (items_of played (Client c))
     pub extra : Extra played scene
 
   -- a line ends from this scene, and what is so beside is so again
   pub record EndsSo (played : List Line) (line : Line) (s : Scene) (t : Stage AnyNode) (c : ℕ) : Type 0 where
-    pub ends : Ends script.setup its_works (length played) most_deliveries s t c ((s.client c).begun + 1)
+    pub ends : Ends script.setup its_works (suc (steps_of played)) most_deliveries s t c ((s.client c).begun + 1)
     pub extra : Extra (played ++ line ∷ []) ends.scene
 
   pub record EndsSoLater (played : List Line) (line : Line) (s : Scene) (t : Stage AnyNode) (c : ℕ) : Type 0 where
-    pub ends : EndsAfterRound script.setup its_works (length played) 63 65 s t c ((s.client c).begun + 1)
+    pub ends : EndsAfterRound script.setup its_works (suc (steps_of played)) 63 65 s t c ((s.client c).begun + 1)
     pub extra : Extra (played ++ line ∷ []) ends.scene
 
   -- each line does
   abbrev pub EachEnds : Type 0
   EachEnds =
-      (played rest : List Line) (line : Line) → script.lines ≡ played ++ line ∷ rest → (s : Scene) (t : Stage AnyNode) (c : ℕ) → length played < max_lines
-      → Drained script.setup its_works (length played) s → Stands script.setup its_works s t → IsNext script.setup its_works s c line.work
+      (played rest : List Line) (line : Line) → script.lines ≡ played ++ line ∷ rest → (s : Scene) (t : Stage AnyNode) (c : ℕ) → suc (steps_of played) < most_steps
+      → Drained script.setup its_works (steps_of played) s → Stands script.setup its_works s t → IsNext script.setup its_works s c line.work
       → is_quiet line.work ≡ true → is_in_range script.setup line.work ≡ true → actor_of line.work ≡ Some (Client c) → Extra played s
       → EndsSo played line s t c ⊎ EndsSoLater played line s t c
 
@@ -81,6 +88,10 @@ module _ (script : Script) (orderly : IsOrderly script) (quiet : IsQuiet script)
   get_at (x ∷ xs) w ys = get_at xs w ys
 
   module _ (played rest : List Line) (line : Line) (t : Stage AnyNode) (is : script.lines ≡ played ++ line ∷ rest) (b : Between played t) where
+    two_each : (lines : List Line) → steps_of lines ≡ length lines + length lines
+    two_each [] = refl
+    two_each (l ∷ lines) = (let rest = two_each lines in omega arith)
+
     short : length played ≤ 19999
     short =
         let long : length script.lines ≡ length (played ++ line ∷ rest) = ap length is in
@@ -128,7 +139,7 @@ module _ (script : Script) (orderly : IsOrderly script) (quiet : IsQuiet script)
       item_is = let same = b.begun c in omega arith
 
       between_then : (scene : Scene) (end : Stage AnyNode) → Stands script.setup its_works scene end
-          → Drained script.setup its_works (suc (length played)) scene → (scene.client c).begun ≡ (b.scene.client c).begun + 1
+          → Drained script.setup its_works (suc (suc (steps_of played))) scene → (scene.client c).begun ≡ (b.scene.client c).begun + 1
           → ((d : ℕ) → (d ≡ c → ⊥) → (scene.client d).begun ≡ (b.scene.client d).begun) → Extra (played ++ line ∷ []) scene → Between (played ++ line ∷ []) end
       between_then scene end stands drained one others extra = record {
         scene = scene;
@@ -138,9 +149,9 @@ module _ (script : Script) (orderly : IsOrderly script) (quiet : IsQuiet script)
         extra = extra;
       }
         where
-          longer : (lines : List Line) → suc (length lines) ≡ length (lines ++ line ∷ [])
+          longer : (lines : List Line) → suc (suc (steps_of lines)) ≡ steps_of (lines ++ line ∷ [])
           longer [] = refl
-          longer (l ∷ lines) = ap suc (longer lines)
+          longer (l ∷ lines) = ap (λ n. suc (suc n)) (longer lines)
 
           begun_then : (d : ℕ) → (scene.client d).begun ≡ length (items_of (played ++ line ∷ []) (Client d))
           begun_then d =
@@ -199,8 +210,8 @@ module _ (script : Script) (orderly : IsOrderly script) (quiet : IsQuiet script)
       leads : EachEnds → LeadsOn any_step script Between played line t
       leads law = record { node = Client c; actor = actor; has = its_number; ends = by_case (law played rest line is b.scene t c low b.drained b.stands is_next quiet_line in_range actor b.extra) }
         where
-          low : suc (length played) ≤ 20000
-          low = let s = short in omega arith
+          low : suc (suc (steps_of played)) ≤ 40000
+          low = let s = short in let twice = two_each played in omega arith
 
           by_case : EndsSo played line b.scene t c ⊎ EndsSoLater played line b.scene t c
               → EndsSoon any_step script.setup most_deliveries t (Client c) (suc (length (items_of played (Client c)))) (Between (played ++ line ∷ []))
@@ -255,21 +266,25 @@ module _ (script : Script) (orderly : IsOrderly script) (quiet : IsQuiet script)
 -- ---- where each quiet line leads on
 
 pub scripts_are_answered : EachLineLeadsOn → QuietScriptsAreAnswered
-scripts_are_answered law script orderly quiet = script_is_answered script orderly quiet Nothing ends tt
+scripts_are_answered law script orderly quiet = script_is_answered script orderly quiet Asking ends (start_asks script.setup abbrev_works orderly.setup.managers.0)
   where
-    Nothing : List Line → Scene → Type 0
-    Nothing played s = Unit {0}
-
     abbrev_works : NodeId → List Work
     abbrev_works node = items_of script.lines node
 
-    by_case : (played : List Line) (line : Line) (s : Scene) (t : Stage AnyNode) (c : ℕ)
-        → Ends script.setup abbrev_works (length played) most_deliveries s t c ((s.client c).begun + 1)
-        ⊎ EndsAfterRound script.setup abbrev_works (length played) 63 65 s t c ((s.client c).begun + 1)
-        → EndsSo script orderly quiet Nothing played line s t c ⊎ EndsSoLater script orderly quiet Nothing played line s t c
-    by_case played line s t c (inl e) = inl (record { ends = e; extra = tt })
-    by_case played line s t c (inr e) = inr (record { ends = e; extra = tt })
+    Asking : List Line → Scene → Type 0
+    Asking played s = AllAsk script.setup abbrev_works s
 
-    ends : EachEnds script orderly quiet Nothing
+    by_case : (played : List Line) (line : Line) (s : Scene) (t : Stage AnyNode) (c : ℕ) → Stands script.setup abbrev_works s t → HasNode script.setup (Client c)
+        → AllAsk script.setup abbrev_works s
+        → Ends script.setup abbrev_works (suc (steps_of played)) most_deliveries s t c ((s.client c).begun + 1)
+        ⊎ EndsAfterRound script.setup abbrev_works (suc (steps_of played)) 63 65 s t c ((s.client c).begun + 1)
+        → EndsSo script orderly quiet Asking played line s t c ⊎ EndsSoLater script orderly quiet Asking played line s t c
+    by_case played line s t c stands has all (inl e) =
+        inl (record { ends = e; extra = asks_then script.setup abbrev_works (suc (steps_of played)) s t c ((s.client c).begun + 1) stands has all most_deliveries e })
+    by_case played line s t c stands has all (inr e) =
+        inr (record { ends = e; extra = asks_later script.setup abbrev_works (suc (steps_of played)) s t c ((s.client c).begun + 1) stands has all 63 65 e })
+
+    ends : EachEnds script orderly quiet Asking
     ends played rest line is s t c few drained stands next q range actor extra =
-        by_case played line s t c (law script.setup abbrev_works orderly.setup (length played) s t c line.work few drained stands next q range actor)
+        by_case played line s t c stands next.client extra
+        (law script.setup abbrev_works orderly.setup (steps_of played) s t c line.work few drained stands next (in_order script.setup abbrev_works s extra) q range actor)

@@ -1,5 +1,5 @@
 -- In the run of a private script whoever is believed to hold a block has named it in a line so far, so nobody else is believed to hold what a line names.
-use Rattle.std.proofs.Common.{◌≡◌, ◌≤◌, ◌<◌, ◌⊎◌, inl, inr, ◌&&◌, ◌||◌, ◌==◌, not, ℕ, Bool, true, false, cond, List, [], ◌∷◌, ◌++◌, length, Some, slice_get, refl, sym, ap, subst, ◌∙◌, arith}
+use Rattle.std.proofs.Common.{◌≡◌, ◌+◌, ◌≤◌, ◌<◌, ◌⊎◌, inl, inr, ◌&&◌, ◌||◌, ◌==◌, not, ℕ, Bool, true, false, cond, List, [], ◌∷◌, ◌++◌, Some, slice_get, refl, sym, ap, subst, ◌∙◌, arith}
 use Rattle.std.specs.List.{list_all}
 use Rattle.std.specs.BTreeMap.{is_at}
 use Rattle.std.specs.Map.{lookup}
@@ -23,12 +23,13 @@ use Rattle.xfs_base.specs.Blocks.{same_block, slot_of}
 use Rattle.xfs_base.specs.declared.block.BlockId.{BlockId}
 use Rattle.xfs_base.specs.declared.node.NodeId.{NodeId}
 use Rattle.xfs_base.specs.declared.node.NodeId.TheVariants.{Client}
+use Rattle.quiet_law.proofs.AsIf.{ends_up}
 use Rattle.quiet_law.specs.Lines.{IsNamed, IsNext, Names, holders}
 use Rattle.quiet_nodes.proofs.Rooms.{slot_within}
 use Rattle.quiet_nodes.proofs.Tests.{same_test}
 use Rattle.quiet_nodes.specs.Scene.{Scene}
-use Rattle.quiet_script.specs.Quiet.{AnswersWithinBounds, IsOrderly, IsQuiet, is_quiet}
-use Rattle.quiet_run.proofs.Leading.{EachEnds, of_line, script_is_answered}
+use Rattle.quiet_script.specs.Quiet.{AnswersWithinBounds, IsOrderly, IsQuiet, is_quiet, most_deliveries}
+use Rattle.quiet_run.proofs.Leading.{EachEnds, of_line, script_is_answered, steps_of}
 use Rattle.quiet_run.specs.Private.{IsPrivate, PrivateScriptsAreAnswered, is_named, names}
 use Rattle.quiet_run.specs.Runs.{EachLonelyLineLeadsOn}
 
@@ -176,9 +177,10 @@ module _ (script : Script) (orderly : IsOrderly script) (quiet : IsQuiet script)
 
   ends : EachEnds script orderly quiet HaveNamed
   ends played rest line is s t c few drained stands next q range actor named =
-      let e = law script.setup its_works orderly.setup (length played) s t c line.work few drained stands next
+      let e = ends_up script.setup its_works (steps_of played) most_deliveries s t c ((s.client c).begun + 1)
+      (law script.setup its_works orderly.setup (steps_of played) s t c line.work (omega (arith, few)) drained stands next
       (of_line (λ (l : Line). is_one l.work) played rest line (ap (list_all (λ (l : Line). is_one l.work)) (sym is) ∙ all)) range actor
-      (nobody played rest line is s c next actor named) in
+      (nobody played rest line is s c next actor named)) in
       inl (record { ends = e; extra = named_then played rest line is s c next actor named e.scene e.believed })
 
   pub private_is_answered : AnswersWithinBounds (estate_of any_step any_start script)

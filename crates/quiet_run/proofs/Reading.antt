@@ -18,18 +18,17 @@ use Rattle.xfs_base.specs.declared.entry.Place.{Place}
 use Rattle.xfs_base.specs.declared.node.NodeId.{NodeId}
 use Rattle.xfs_base.specs.declared.node.NodeId.TheVariants.{Client}
 use Rattle.xfs_base.specs.declared.setup.Setup.{Setup}
-use Rattle.xfs_base.specs.Limits.{max_lines}
 use Rattle.xfs_base.specs.Modes.{is_nothing}
 use Rattle.quiet_law.proofs.Ending.{gets_here}
 use Rattle.quiet_law.proofs.Writes.{ends_more}
-use Rattle.quiet_law.specs.Drained.{Drained}
+use Rattle.quiet_law.specs.Drained.{Drained, most_steps}
 use Rattle.quiet_law.specs.Lines.{Ends, IsNext, Names, Stands, fetching, holders, members_at, members_of}
 use Rattle.quiet_nodes.specs.Scene.{Scene, its_groups}
 use Rattle.quiet_script.specs.Quiet.{is_in_range, is_quiet, most_deliveries}
 use Rattle.quiet_run.proofs.Writing.{each_write_leads}
 use Rattle.quiet_run.specs.Runs.{EachLonelyLineLeadsOn}
 
-module _ (setup : Setup) (its : NodeId → List Work) (ok : IsSetup setup) (k : ℕ) (s : Scene) (t : Stage AnyNode) (c : ℕ) (few : k < max_lines)
+module _ (setup : Setup) (its : NodeId → List Work) (ok : IsSetup setup) (k : ℕ) (s : Scene) (t : Stage AnyNode) (c : ℕ) (few : k < most_steps)
     (d : Drained setup its k s) (stands : Stands setup its s t) where
   abbrev Leads : Type 0
   Leads = Ends setup its k most_deliveries s t c ((s.client c).begun + 1)
@@ -42,7 +41,7 @@ module _ (setup : Setup) (its : NodeId → List Work) (ok : IsSetup setup) (k : 
       by_group None is = omega arith
       by_group (Some group) is = (is_cut setup its ok place.seg.group group is).limit
 
-  fetching_few : (b : BlockId) → fetching setup its s b ≤ 16
+  pub fetching_few : (b : BlockId) → fetching setup its s b ≤ 16
   fetching_few b = let most = members_few (entry_of (s.slot (slot_of b.ino.0)).index.rows b).place in omega arith
 
   get_leads : (b : BlockId) → IsNext setup its s c (works.Bget c b) → holders setup its s c b ≡ [] → Leads

@@ -12,14 +12,13 @@ use Rattle.xfs_base.specs.declared.block.BlockId.{BlockId}
 use Rattle.xfs_base.specs.declared.node.NodeId.{NodeId}
 use Rattle.xfs_base.specs.declared.node.NodeId.TheVariants.{Client}
 use Rattle.xfs_base.specs.declared.setup.Setup.{Setup}
-use Rattle.xfs_base.specs.Limits.{max_lines}
 use Rattle.xfs_base.specs.Modes.{is_own}
 use Rattle.quiet_law.proofs.Ending.{syncs_nothing}
 use Rattle.quiet_law.proofs.Stripes.{striped}
 use Rattle.quiet_law.proofs.Syncing.{syncs_what_waits}
 use Rattle.quiet_law.proofs.AloneFull.{puts_alone}
 use Rattle.quiet_law.proofs.Writes.{ends_more, puts_owned}
-use Rattle.quiet_law.specs.Drained.{Drained}
+use Rattle.quiet_law.specs.Drained.{Drained, most_steps}
 use Rattle.quiet_law.specs.Lines.{Ends, IsNext, Names, Stands, holders, sealing, tail}
 use Rattle.quiet_nodes.specs.Scene.{Scene}
 use Rattle.quiet_script.specs.Quiet.{is_in_range, most_deliveries}
@@ -31,7 +30,7 @@ is_writing (works.Bput client block value) = true
 is_writing (works.Sync client) = true
 is_writing work = false
 
-module _ (setup : Setup) (its : NodeId → List Work) (ok : IsSetup setup) (k : ℕ) (s : Scene) (t : Stage AnyNode) (c : ℕ) (few : k < max_lines)
+module _ (setup : Setup) (its : NodeId → List Work) (ok : IsSetup setup) (k : ℕ) (s : Scene) (t : Stage AnyNode) (c : ℕ) (few : k < most_steps)
     (d : Drained setup its k s) (stands : Stands setup its s t) where
   abbrev Leads : Type 0
   Leads = Ends setup its k most_deliveries s t c ((s.client c).begun + 1)
@@ -40,7 +39,7 @@ module _ (setup : Setup) (its : NodeId → List Work) (ok : IsSetup setup) (k : 
   sealing_few : sealing setup its s c ≤ 8
   sealing_few = (striped setup its ok c ((s.client c).end.seq + 1)).few
 
-  tail_few : tail setup its s c ≤ 32
+  pub tail_few : tail setup its s c ≤ 32
   tail_few = by_test (nat_lt (length (s.client c).dirty) 23)
     where
       by_test : (t : Bool) → (if t then 0 else 2 * sealing setup its s c + 16) ≤ 32

@@ -1,5 +1,5 @@
 -- The runs of quiet scripts.
-use Rattle.std.specs.Prelude.{◌≡◌, ◌<◌, ◌+◌, ◌⊎◌, ℕ, Bool, true, List, [], Some}
+use Rattle.std.specs.Prelude.{◌≡◌, ◌<◌, ◌+◌, ◌⊎◌, ℕ, suc, Bool, true, List, [], Some}
 use Rattle.core_world.specs.AnyNode.{any_start, any_step}
 use Rattle.core_world.specs.declared.any_node.AnyNode.{AnyNode}
 use Rattle.node_base.specs.Setups.{IsSetup}
@@ -11,25 +11,25 @@ use Rattle.xfs_base.specs.declared.block.BlockId.{BlockId}
 use Rattle.xfs_base.specs.declared.node.NodeId.{NodeId}
 use Rattle.xfs_base.specs.declared.node.NodeId.TheVariants.{Client}
 use Rattle.xfs_base.specs.declared.setup.Setup.{Setup}
-use Rattle.xfs_base.specs.Limits.{max_lines}
 use Rattle.quiet_flow.specs.Flow.{Stage}
-use Rattle.quiet_law.specs.Drained.{Drained}
+use Rattle.quiet_forwards.specs.Passing.{AreInOrder}
+use Rattle.quiet_law.specs.Drained.{Drained, most_steps}
 use Rattle.quiet_law.specs.Lines.{Ends, EndsAfterRound, IsNext, Names, Stands, holders}
 use Rattle.quiet_nodes.specs.Scene.{Scene}
 use Rattle.quiet_script.specs.Quiet.{AnswersWithinBounds, IsOrderly, IsQuiet, is_in_range, is_quiet, most_deliveries}
 
--- each quiet line of a client leads from one drained state to the next
+-- each quiet line of a client leads from one drained state, in which what clients know of blocks stands in order, to the next, two steps later
 abbrev pub EachLineLeadsOn : Type 0
 EachLineLeadsOn =
     (setup : Setup) (works : NodeId → List Work) → IsSetup setup
-    → (k : ℕ) (s : Scene) (t : Stage AnyNode) (c : ℕ) (w : Work) → k < max_lines → Drained setup works k s → Stands setup works s t → IsNext setup works s c w
-    → is_quiet w ≡ true → is_in_range setup w ≡ true → actor_of w ≡ Some (Client c)
-    → Ends setup works k most_deliveries s t c ((s.client c).begun + 1) ⊎ EndsAfterRound setup works k 63 65 s t c ((s.client c).begun + 1)
+    → (k : ℕ) (s : Scene) (t : Stage AnyNode) (c : ℕ) (w : Work) → suc k < most_steps → Drained setup works k s → Stands setup works s t → IsNext setup works s c w
+    → AreInOrder setup works s → is_quiet w ≡ true → is_in_range setup w ≡ true → actor_of w ≡ Some (Client c)
+    → Ends setup works (suc k) most_deliveries s t c ((s.client c).begun + 1) ⊎ EndsAfterRound setup works (suc k) 63 65 s t c ((s.client c).begun + 1)
 
 -- each line of a client that is such does so, by deliveries alone, if nobody else is believed to hold what it names
 abbrev pub LonelyLineLeadsOn : (Work → Bool) → Setup → (NodeId → List Work) → Type 0
 LonelyLineLeadsOn is_one setup works =
-    (k : ℕ) (s : Scene) (t : Stage AnyNode) (c : ℕ) (w : Work) → k < max_lines → Drained setup works k s → Stands setup works s t → IsNext setup works s c w
+    (k : ℕ) (s : Scene) (t : Stage AnyNode) (c : ℕ) (w : Work) → k < most_steps → Drained setup works k s → Stands setup works s t → IsNext setup works s c w
     → is_one w ≡ true → is_in_range setup w ≡ true → actor_of w ≡ Some (Client c) → ((b : BlockId) → Names (Some w) b → holders setup works s c b ≡ [])
     → Ends setup works k most_deliveries s t c ((s.client c).begun + 1)
 
