@@ -1,4 +1,5 @@
 pub mod Gets
+pub mod Keeping
 pub mod Known
 pub mod Least
 pub mod Lefts

@@ -8,7 +8,7 @@ use Rattle.version_model.specs.declared.work.Work.{Work}
 use Rattle.xfs_base.specs.declared.node.NodeId.{NodeId}
 use Rattle.xfs_base.specs.declared.setup.Setup.{Setup}
 use Rattle.world_base.specs.Cluster.{cluster_of, node_at, node_count, nodes_of}
-use Rattle.world_base.specs.NextWorld.{first_node, start_world}
+use Rattle.world_base.specs.NextWorld.{first_node, first_nodes, start_world}
 
 range_at : (i n k : ℕ) → k < n → slice_get (range_with_len i n) k ≡ Some (i + k)
 range_at i zero k lt = absurd (omega arith)
@@ -52,12 +52,16 @@ module _ {N : Type 0} (first : NodeId → Setup → List Work → N) (script : S
   unfolding start_world
   start_clocks = zeros_count (node_count (cluster_of script.setup))
 
-  pub start_node : (p : ℕ) → p < node_count (cluster_of script.setup) → slice_get (start_world first script).nodes p ≡ Some (first_node first script (node_at (cluster_of script.setup) p))
-  unfolding start_world
-  start_node p below =
+  pub first_at_place : (p : ℕ) → p < node_count (cluster_of script.setup)
+      → slice_get (first_nodes first script (cluster_of script.setup)) p ≡ Some (first_node first script (node_at (cluster_of script.setup) p))
+  first_at_place p below =
       let c = cluster_of script.setup in
       let at : slice_get (range_with_len 0 (node_count c)) p ≡ Some p = range_at 0 (node_count c) p below ∙ ap Some (omega arith) in
       map_at (first_node first script) (nodes_of c) p (node_at c p) (map_at (node_at c) (range_with_len 0 (node_count c)) p p at)
+
+  pub start_node : (p : ℕ) → p < node_count (cluster_of script.setup) → slice_get (start_world first script).nodes p ≡ Some (first_node first script (node_at (cluster_of script.setup) p))
+  unfolding start_world
+  start_node p below = first_at_place p below
 
   pub start_clock : (p c : ℕ) → slice_get (start_world first script).clocks p ≡ Some c → c ≡ 0
   unfolding start_world

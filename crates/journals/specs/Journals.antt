@@ -55,6 +55,10 @@ is_begin Tick = false
 abbrev pub begins : List Do → ℕ
 begins whats = count_by is_begin whats
 
+-- a moment with what this step sends, at the moment's clock, and does
+abbrev pub told_by : {N : Type 0} → NodeStep N → Moment → Moment
+told_by done m = record m { packets = map (sent_at m.clock) done.packets; acts = done.acts }
+
 -- an item is due: its node had so many events before, and, if it is one that waits, all items before it are answered
 pub record IsDue (node : NodeId) (due : Due) (before : List Do) (done : List Act) : Type 0 where
   pub late : due.after ≤ length before
@@ -75,6 +79,15 @@ module _ {N : Type 0} (step : N → Do → NodeStep N) where
   abbrev pub sent_in : N → List Moment → List Packet
   sent_in n [] = []
   sent_in n (m ∷ ms) = map (sent_at m.clock) (step n m.what).packets ++ sent_in (step n m.what).node ms
+
+  -- the same moments, each with what the node sends and does in it
+  abbrev pub retold : N → List Moment → List Moment
+  retold n [] = []
+  retold n (m ∷ ms) = told_by (step n m.what) m ∷ retold (step n m.what).node ms
+
+  -- each moment says what the node sent and did
+  abbrev pub IsTold : N → List Moment → Type 0
+  IsTold n ms = retold n ms ≡ ms
 
   -- after this a node may begin its next item: there is one, and it is due
   pub record MayBegin (node : NodeId) (first : N) (dues : List Due) (before : List Do) : Type 0 where

@@ -13,7 +13,7 @@ use Rattle.world_base.specs.Events.{node_of, what_of}
 use Rattle.world_base.specs.NextWorld.{clock_at, next_world}
 use Rattle.world_base.specs.Runs.{WasSent}
 use Rattle.journals.specs.declared.moment.Moment.{Moment}
-use Rattle.journals.specs.Journals.{delivered_in, is_stamped, sent_in}
+use Rattle.journals.specs.Journals.{IsTold, delivered_in, is_stamped, replayed, sent_in, whats}
 
 -- the clock of the first moment
 abbrev pub head_clock : List Moment → Option ℕ
@@ -83,6 +83,12 @@ module _ {N : Type 0} (step : N → Do → NodeStep N) where
     pub stamped : (p : ℕ) (r : List Moment) (c : ℕ) → slice_get rests p ≡ Some r → slice_get w.clocks p ≡ Some c → is_stamped c r ≡ true
     pub closed : (q : ℕ) (r : List Moment) (x : Packet) → slice_get rests q ≡ Some r → Contains (delivered_in r) x
         → (x.to ≡ node_at w.cluster q) × (WasSent w.sent x ⊎ WillSend w rests x)
+
+  -- what is left of the journals says what these nodes send and do in it, and which nodes they are in the end
+  pub record AreTold (nodes : List N) (rests : List (List Moment)) (ends : List N) : Type 0 where
+    pub count : length ends ≡ length rests
+    pub each : (p : ℕ) (n end : N) (r : List Moment) → slice_get nodes p ≡ Some n → slice_get ends p ≡ Some end → slice_get rests p ≡ Some r
+        → IsTold step n r × (replayed step n (whats r) ≡ end)
 
   -- events that happen to nodes of the world and rise by clock and place from these on
   abbrev pub Rises : World N → ℕ → ℕ → List Event → Type 0

@@ -4,16 +4,17 @@ ghost use Rattle.std.specs.List.{Contains};
 ghost use Rattle.node_base.specs.Setups.{IsSetup};
 ghost use Rattle.version_model.specs.declared.act.Act.{Act as Deed};
 ghost use Rattle.world_base.specs.Cluster.{cluster_of, node_at};
-ghost use Rattle.world_base.specs.NextWorld.{first_node, start_world};
+ghost use Rattle.world_base.specs.NextWorld.{first_node, first_nodes, start_world};
 ghost use Rattle.world_base.specs.Runs.{IsRun};
 ghost use Rattle.journals.specs.declared.moment.Moment.{Moment as One};
 ghost use Rattle.journals.specs.Journals.{acts_in, whats};
-ghost use Rattle.journals.specs.Merging.{AllEmpty, IsNext, Rises, Standing, better, least_of, whats_of};
+ghost use Rattle.journals.specs.Merging.{AllEmpty, AreTold, IsNext, Rises, Standing, better, least_of, whats_of};
 
+use crate::merged::Merged;
 use crate::{Moment, Rest};
 use script_text::Script;
 use std::alloc::Global;
-use world_base::{Estate, Event, Member, World};
+use world_base::{Cluster, Estate, Member};
 use xfs_base::{List, Mem};
 
 /// The better of two places to go on from: the one with the lesser clock, of equal ones the earlier.
@@ -70,12 +71,18 @@ fn next_moment(rests: &mut Vec<Rest>) -> Option<(usize, Moment)>
     }
 }
 
-/// Merges journals, which are in order of nodes, to one run of a script, and leads the world through it.
-/// Its events rise by clock and place. To each node happened just what its journal has, and what each node
-/// did is among the acts.
-pub fn merge<N: Member>(alloc: Global, script: &Script, journals: Vec<Rest>) -> Mem<Estate<N>>
+/// Merges journals, which are in order of nodes, to one run of a script; these are the nodes at the end. Its
+/// events rise by clock and place. To each node happened just what its journal has, and what each node did is
+/// among the acts. No step is taken again: the journals say what was sent and done.
+pub fn merge<N: Member>(
+    alloc: Global,
+    script: &Script,
+    journals: Vec<Rest>,
+    nodes: List<N>,
+) -> Mem<Estate<N>>
     requires setup { IsSetup script.now.setup }
     requires standing { Standing N.transition (start_world N.first script.now) journals.items }
+    requires told { AreTold N.transition (first_nodes N.first script.now (cluster_of script.now.setup)) journals.items nodes }
     ensures script { IfOk result (λ e. e.script ≡ script.now) }
     ensures run { IfOk result (λ e. IsRun N.transition N.first script.now e.events e.world) }
     ensures rises { IfOk result (λ e. Rises N.transition (start_world N.first script.now) 0 0 e.events) }
@@ -85,12 +92,12 @@ pub fn merge<N: Member>(alloc: Global, script: &Script, journals: Vec<Rest>) -> 
         → Contains (acts_in N.transition (first_node N.first script.now (node_at (cluster_of script.now.setup) p)) (whats j)) a
         → Contains e.world.acts a) }
 {
-    let mut world: World<N> = World::start(alloc, script)?;
-    let mut events = List::new(alloc);
+    let mut merged = Merged::none(alloc, Cluster::of(&script.setup))?;
     let mut rests = journals;
     loop {
         let (place, moment) = match next_moment(&mut rests) {
             None => {
+                let (events, world) = merged.into_world(nodes);
                 return Ok(Estate {
                     script: script.copy(alloc)?,
                     events,
@@ -99,8 +106,6 @@ pub fn merge<N: Member>(alloc: Global, script: &Script, journals: Vec<Rest>) -> 
             }
             Some(next) => next,
         };
-        let node = world.cluster.node_at(place);
-        world.happen_at(alloc, place, &moment.what)?;
-        events.push(Event::of(node, moment.into_what()))?;
+        merged.add(alloc, place, moment)?;
     }
 }

@@ -17,13 +17,13 @@ use Rattle.xfs_base.specs.declared.node.NodeId.{NodeId}
 use Rattle.xfs_base.specs.declared.setup.Setup.{Setup}
 use Rattle.world_base.specs.declared.cluster.Cluster.{Cluster}
 use Rattle.world_base.specs.Cluster.{cluster_of, node_at, node_count, place_of}
-use Rattle.world_base.specs.NextWorld.{start_world}
+use Rattle.world_base.specs.NextWorld.{first_nodes, start_world}
 use Rattle.world_base.proofs.Places.{node_there}
 use Rattle.journals.specs.declared.moment.Moment.{Moment}
-use Rattle.journals.specs.Journals.{delivered_in, is_stamped, packet_of, sent_in}
-use Rattle.journals.specs.Merging.{Standing}
+use Rattle.journals.specs.Journals.{IsTold, delivered_in, is_stamped, packet_of, replayed, sent_in, whats}
+use Rattle.journals.specs.Merging.{AreTold, Standing}
 use Rattle.journals.proofs.Gets.{contains_at, has, none_in, one_there}
-use Rattle.journals.proofs.Starts.{start_clock, start_clocks, start_cluster, start_node, start_nodes}
+use Rattle.journals.proofs.Starts.{first_at_place, start_clock, start_clocks, start_cluster, start_node, start_nodes}
 use Rattle.live_links.specs.declared.letter.Letter.{Letter}
 use Rattle.live_links.specs.Ends.{ArePairs, In, IsInsOf, IsOutsOf, IsRing, KnowsAll, Out}
 use Rattle.live_links.specs.Facts.{IsLinked, first_at}
@@ -79,35 +79,58 @@ moment_of : (ms : List Moment) (x : Packet) → Contains (delivered_in ms) x →
 moment_of [] x found = absurd (none_in [] x refl found)
 moment_of (m ∷ ms) x found = at_first m ms x (delivered_in ms) (packet_of m.what) refl (moment_of ms x) found
 
-module _ {N : Type 0} (step : N → Do → NodeStep N) (first : NodeId → Setup → List Work → N) (script : Script) (rings : List (List Out)) (js : List (List Moment)) (os : List (List Out))
-    (is : List (List In)) (all : AreParts step first script rings js os is) (whole : length js ≡ node_count (cluster_of script.setup))
+module _ {N : Type 0} (step : N → Do → NodeStep N) (first : NodeId → Setup → List Work → N) (script : Script) (rings : List (List Out)) (js : List (List Moment)) (ns : List N) (os : List (List Out))
+    (is : List (List In)) (all : AreParts step first script rings js ns os is) (whole : length js ≡ node_count (cluster_of script.setup))
     (ringed : length rings ≡ node_count (cluster_of script.setup)) where
   abbrev cluster : Cluster
   cluster = cluster_of script.setup
 
-  part_at : (p : ℕ) → p < length js → (j : List Moment) × (o : List Out) × (i : List In) × (slice_get js p ≡ Some j) × (slice_get os p ≡ Some o) × (slice_get is p ≡ Some i)
-      × IsPart step first script rings p j o i
+  -- the parts of the cell at a place
+  record PartAt (p : ℕ) : Type 0 where
+    moments : List Moment
+    node : N
+    outs : List Out
+    ins : List In
+    at : slice_get js p ≡ Some moments
+    at_node : slice_get ns p ≡ Some node
+    at_outs : slice_get os p ≡ Some outs
+    at_ins : slice_get is p ≡ Some ins
+    part : IsPart step first script rings p moments node outs ins
+
+  part_at : (p : ℕ) → p < length js → PartAt p
   part_at p within =
+      let nodes = all.nodes in
       let outs = all.outs in
       let ins = all.ins in
       let j = has js p within in
+      let n = has ns p (omega arith) in
       let o = has os p (omega arith) in
       let i = has is p (omega arith) in
-      (j.0, o.0, i.0, j.1, o.1, i.1, all.each p j.0 o.0 i.0 j.1 o.1 i.1)
+      record {
+        moments = j.0;
+        node = n.0;
+        outs = o.0;
+        ins = i.0;
+        at = j.1;
+        at_node = n.1;
+        at_outs = o.1;
+        at_ins = i.1;
+        part = all.each p j.0 n.0 o.0 i.0 j.1 n.1 o.1 i.1;
+      }
 
   out_count : (p : ℕ) (row : List Out) → slice_get os p ≡ Some row → length row ≡ length rings
   out_count p row at =
       let outs = all.outs in
       let here = slice_get_within os p row at in
       let part = part_at p (omega arith) in
-      ∥∥₁_elim part.6.linked (number_prop (length row) (length rings)) (λ k. ap length (one_there os p row part.1 at part.4) ∙ k.outs_are.count)
+      ∥∥₁_elim part.part.linked (number_prop (length row) (length rings)) (λ k. ap length (one_there os p row part.outs at part.at_outs) ∙ k.outs_are.count)
 
   in_count : (q : ℕ) (ends : List In) → slice_get is q ≡ Some ends → length ends ≡ length rings
   in_count q ends at =
       let ins = all.ins in
       let here = slice_get_within is q ends at in
       let part = part_at q (omega arith) in
-      ∥∥₁_elim part.6.linked (number_prop (length ends) (length rings)) (λ k. ap length (one_there is q ends part.2 at part.5) ∙ k.ins_are.count)
+      ∥∥₁_elim part.part.linked (number_prop (length ends) (length rings)) (λ k. ap length (one_there is q ends part.ins at part.at_ins) ∙ k.ins_are.count)
 
   pair_at : (p q : ℕ) (c : In) (row : List Out) (ends : List In) (o : Out) → slice_get is q ≡ Some ends → slice_get ends p ≡ Some c → slice_get os p ≡ Some row
       → slice_get row q ≡ Some o → IsPair o c
@@ -118,10 +141,10 @@ module _ {N : Type 0} (step : N → Do → NodeStep N) (first : NodeId → Setup
       let here_q = slice_get_within is q ends at_ends in
       let at_p = part_at p (omega arith) in
       let at_q = part_at q (omega arith) in
-      ∥∥₁_elim at_p.6.linked (pair_prop o c) (λ f.
-      ∥∥₁_elim at_q.6.linked (pair_prop o c) (λ g.
-      made_pair rings p q row ends o c (subst (IsOutsOf rings p) (one_there os p at_p.1 row at_p.4 at_row) f.outs_are)
-      (subst (IsInsOf rings q) (one_there is q at_q.2 ends at_q.5 at_ends) g.ins_are) at_o at_c))
+      ∥∥₁_elim at_p.part.linked (pair_prop o c) (λ f.
+      ∥∥₁_elim at_q.part.linked (pair_prop o c) (λ g.
+      made_pair rings p q row ends o c (subst (IsOutsOf rings p) (one_there os p at_p.outs row at_p.at_outs at_row) f.outs_are)
+      (subst (IsInsOf rings q) (one_there is q at_q.ins ends at_q.at_ins at_ends) g.ins_are) at_o at_c))
 
   pub are_pairs : ArePairs os is
   are_pairs q ends at = record {
@@ -150,18 +173,18 @@ module _ {N : Type 0} (step : N → Do → NodeStep N) (first : NodeId → Setup
         let in_p = slice_get_within i p c got.2 in
         let count = in_count q i at_i in
         let part = part_at p (omega arith) in
-        let len = out_count p part.1 part.4 in
+        let len = out_count p part.outs part.at_outs in
         let here = slice_get_within is q i at_i in
         let ins = all.ins in
-        let end = has part.1 q (omega arith) in
-        let was_sent : Contains (sent end.0) letter = known q i at_i p c part.1 end.0 letter got.2 part.4 end.1 got.3 in
-        ∥∥₁_elim part.6.linked (came_prop q m x) (λ f.
+        let end = has part.outs q (omega arith) in
+        let was_sent : Contains (sent end.0) letter = known q i at_i p c part.outs end.0 letter got.2 part.at_outs end.1 got.3 in
+        ∥∥₁_elim part.part.linked (came_prop q m x) (λ f.
         let pushed = f.pushed q end.0 letter end.1 was_sent in (
           pushed.0,
           (let e = pushed.1.0 in let lt = in_p in omega arith),
           λ k at.
               let same : m.from ≡ p = pushed.1.0 in
-              let mine : part.0 ≡ k = one_there js p part.0 k part.3 (subst (λ (r : ℕ). slice_get js r ≡ Some k) same at) in
+              let mine : part.moments ≡ k = one_there js p part.moments k part.at (subst (λ (r : ℕ). slice_get js r ≡ Some k) same at) in
               subst (λ (r : ℕ). slice_get (sent_in step (first_at first script r) k) m.number ≡ Some x) (sym same)
               (subst (λ (ms : List Moment). slice_get (sent_in step (first_at first script p) ms) m.number ≡ Some x) mine pushed.1.1),
         ))
@@ -169,8 +192,8 @@ module _ {N : Type 0} (step : N → Do → NodeStep N) (first : NodeId → Setup
     came_from : (q : ℕ) (j : List Moment) (m : Moment) (x : Packet) → slice_get js q ≡ Some j → Contains j m → m.what ≡ Deliver x → CameFrom q m x
     came_from q j m x at found what =
         let part = part_at q (slice_get_within js q j at) in
-        ∥∥₁_elim part.6.linked (came_prop q m x) (λ k.
-        came_by q m x part.2 part.0 part.1 part.5 k (subst (λ (ms : List Moment). Contains ms m) (one_there js q j part.0 at part.3) found) what)
+        ∥∥₁_elim part.part.linked (came_prop q m x) (λ k.
+        came_by q m x part.ins part.moments part.outs part.at_ins k (subst (λ (ms : List Moment). Contains ms m) (one_there js q j part.moments at part.at) found) what)
 
     pub stands : Standing step (start_world first script) js
     stands = record {
@@ -180,7 +203,7 @@ module _ {N : Type 0} (step : N → Do → NodeStep N) (first : NodeId → Setup
       stamped = λ p j c at clock.
           let part = part_at p (slice_get_within js p j at) in
           subst (λ (k : ℕ). is_stamped k j ≡ true) (sym (start_clock first script p c clock))
-          (subst (λ (ms : List Moment). is_stamped 0 ms ≡ true) (one_there js p part.0 j part.3 at) part.6.stamped);
+          (subst (λ (ms : List Moment). is_stamped 0 ms ≡ true) (one_there js p part.moments j part.at at) part.part.stamped);
       closed = λ q j x at found.
           let m = moment_of j x found in
           let came = came_from q j m.0 x at m.1 m.2 in
@@ -196,3 +219,20 @@ module _ {N : Type 0} (step : N → Do → NodeStep N) (first : NodeId → Setup
             ),
           );
     }
+
+  -- and what they say of their nodes is so
+  pub are_told : AreTold step (first_nodes first script cluster) js ns
+  are_told = record {
+    count = all.nodes;
+    each = λ p n end j at_n at_end at_j.
+        let here = slice_get_within js p j at_j in
+        let known = part_at p here in
+        let mine : n ≡ first_at first script p =
+        one_there (first_nodes first script cluster) p n (first_at first script p) at_n (first_at_place first script p (omega (arith, whole)))
+        in
+        let one : known.moments ≡ j = one_there js p known.moments j known.at at_j in
+        let node : known.node ≡ end = one_there ns p known.node end known.at_node at_end in
+        subst (λ (o : N). IsTold step o j × (replayed step o (whats j) ≡ end)) (sym mine)
+        (subst (λ (ms : List Moment). IsTold step (first_at first script p) ms × (replayed step (first_at first script p) (whats ms) ≡ end)) one
+        (known.part.told, sym known.part.ends ∙ node));
+  }

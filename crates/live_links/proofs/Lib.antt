@@ -1,4 +1,5 @@
 pub mod Acting
+pub mod Answering
 pub mod Begins
 pub mod Closing
 pub mod Each

@@ -25,44 +25,49 @@ snoc_at (x ∷ xs) y z zero is got = absurd (omega arith)
 snoc_at (x ∷ xs) y z (suc k) is got = snoc_at xs y z k (omega arith) got
 
 module _ {N : Type 0} (step : N → Do → NodeStep N) (first : NodeId → Setup → List Work → N) (script : Script) (rings : List (List Out)) where
-  pub no_parts : AreParts step first script rings [] [] []
+  pub no_parts : AreParts step first script rings [] [] [] []
   no_parts = record {
+    nodes = refl;
     outs = refl;
     ins = refl;
-    each = λ p j o i a b c. absurd (cc);
+    each = λ p j n o i a e b c. absurd (cc);
   }
 
-  pub parts_more : (js : List (List Moment)) (os : List (List Out)) (is : List (List In)) (j : List Moment) (o : List Out) (i : List In)
-      → AreParts step first script rings js os is → IsPart step first script rings (length js) j o i
-      → AreParts step first script rings (js ++ j ∷ []) (os ++ o ∷ []) (is ++ i ∷ [])
-  parts_more js os is j o i all one = record {
+  pub parts_more : (js : List (List Moment)) (ns : List N) (os : List (List Out)) (is : List (List In)) (j : List Moment) (n : N) (o : List Out) (i : List In)
+      → AreParts step first script rings js ns os is → IsPart step first script rings (length js) j n o i
+      → AreParts step first script rings (js ++ j ∷ []) (ns ++ n ∷ []) (os ++ o ∷ []) (is ++ i ∷ [])
+  parts_more js ns os is j n o i all one = record {
+    nodes = let h = all.nodes in omega (arith, length-append ns (n ∷ []), length-append js (j ∷ []));
     outs = let h = all.outs in omega (arith, length-append os (o ∷ []), length-append js (j ∷ []));
     ins = let h = all.ins in omega (arith, length-append is (i ∷ []), length-append js (j ∷ []));
-    each = λ p k q r a b c.
+    each = λ p k m q r a e b c.
         let within = slice_get_within (js ++ j ∷ []) p k a in
+        let nodes = all.nodes in
         let outs = all.outs in
         let ins = all.ins in
         elim (below_or_at p (length js) (omega (arith, length-append js (j ∷ [])))) [
           | inl less ↦
-              all.each p k q r (snoc_before js j k p less a) (snoc_before os o q p (omega arith) b) (snoc_before is i r p (omega arith) c)
+              all.each p k m q r (snoc_before js j k p less a) (snoc_before ns n m p (omega arith) e) (snoc_before os o q p (omega arith) b) (snoc_before is i r p (omega arith) c)
           | inr same ↦
-              subst (λ x. IsPart step first script rings p k q x) (snoc_at is i r p (omega arith) c)
-              (subst (λ x. IsPart step first script rings p k x i) (snoc_at os o q p (omega arith) b)
-              (subst (λ x. IsPart step first script rings p x o i) (snoc_at js j k p same a)
-              (subst (λ (x : ℕ). IsPart step first script rings x j o i) (sym same) one)))
+              subst (λ x. IsPart step first script rings p k m q x) (snoc_at is i r p (omega arith) c)
+              (subst (λ x. IsPart step first script rings p k m x i) (snoc_at os o q p (omega arith) b)
+              (subst (λ x. IsPart step first script rings p k x o i) (snoc_at ns n m p (omega arith) e)
+              (subst (λ x. IsPart step first script rings p x n o i) (snoc_at js j k p same a)
+              (subst (λ (x : ℕ). IsPart step first script rings x j n o i) (sym same) one))))
         ];
   }
 
-  pub parts_next : (js : List (List Moment)) (os : List (List Out)) (is : List (List In)) (j : List Moment) (o : List Out) (i : List In)
-      (js' : List (List Moment)) (os' : List (List Out)) (is' : List (List In))
-      → AreParts step first script rings js os is → IsPart step first script rings (length js) j o i → js' ≡ js ++ j ∷ [] → os' ≡ os ++ o ∷ [] → is' ≡ is ++ i ∷ []
-      → AreParts step first script rings js' os' is'
-  parts_next js os is j o i js' os' is' all one a b c = rw (a, b, c) (parts_more js os is j o i all one)
+  pub parts_next : (js : List (List Moment)) (ns : List N) (os : List (List Out)) (is : List (List In)) (j : List Moment) (n : N) (o : List Out) (i : List In)
+      (js' : List (List Moment)) (ns' : List N) (os' : List (List Out)) (is' : List (List In))
+      → AreParts step first script rings js ns os is → IsPart step first script rings (length js) j n o i → js' ≡ js ++ j ∷ [] → ns' ≡ ns ++ n ∷ [] → os' ≡ os ++ o ∷ []
+      → is' ≡ is ++ i ∷ [] → AreParts step first script rings js' ns' os' is'
+  parts_next js ns os is j n o i js' ns' os' is' all one a e b c = rw (a, e, b, c) (parts_more js ns os is j n o i all one)
 
   -- the parts of a cell as they are taken out of it
-  pub part_is : (p q : ℕ) (ms j : List Moment) (os o : List Out) (is i : List In) → p ≡ q → j ≡ ms → o ≡ os → i ≡ is
-      → IsPart step first script rings p ms os is → IsPart step first script rings q j o i
-  part_is p q ms j os o is i at a b c one =
-      subst (λ (k : ℕ). IsPart step first script rings k j o i) at
-      (subst (λ x. IsPart step first script rings p j o x) (sym c)
-      (subst (λ x. IsPart step first script rings p j x is) (sym b) (subst (λ x. IsPart step first script rings p x os is) (sym a) one)))
+  pub part_is : (p q : ℕ) (ms j : List Moment) (n m : N) (os o : List Out) (is i : List In) → p ≡ q → j ≡ ms → m ≡ n → o ≡ os → i ≡ is
+      → IsPart step first script rings p ms n os is → IsPart step first script rings q j m o i
+  part_is p q ms j n m os o is i at a e b c one =
+      subst (λ (k : ℕ). IsPart step first script rings k j m o i) at
+      (subst (λ x. IsPart step first script rings p j m o x) (sym c)
+      (subst (λ x. IsPart step first script rings p j m x is) (sym b)
+      (subst (λ x. IsPart step first script rings p j x os is) (sym e) (subst (λ x. IsPart step first script rings p x n os is) (sym a) one))))

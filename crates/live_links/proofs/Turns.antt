@@ -16,8 +16,9 @@ use Rattle.world_base.specs.NextWorld.{clock_after, sent_at}
 use Rattle.journals.specs.declared.answers.Answers.{Answers}
 use Rattle.journals.specs.declared.moment.Moment.{Moment}
 use Rattle.journals.specs.Answers.{AreKnown, IsSettled, has_answer, knows}
-use Rattle.journals.specs.Journals.{MayBegin, MeetsDues, acts_in, begins, is_begin, is_some_of, is_stamped, last_clock, replayed, sent_in, what_at, whats}
+use Rattle.journals.specs.Journals.{MayBegin, MeetsDues, acts_in, begins, is_begin, is_some_of, is_stamped, last_clock, replayed, sent_in, told_by, what_at, whats}
 use Rattle.journals.proofs.Gets.{get_left, get_right, get_snoc, none_in, place_of}
+use Rattle.journals.proofs.Keeping.{told_more}
 use Rattle.journals.proofs.Known.{known_more}
 use Rattle.live_links.specs.declared.letter.Letter.{Letter}
 use Rattle.live_links.specs.Ends.{letters_of}
@@ -36,7 +37,7 @@ letter_is from n (x ∷ xs) (suc k) l got =
     let number = h.1 in
     (h.0, omega arith, h.2)
 
-count_by-append : {X : Type 0} (test : X → Bool) (xs ys : List X) → count_by test (xs ++ ys) ≡ count_by test xs + count_by test ys
+pub count_by-append : {X : Type 0} (test : X → Bool) (xs ys : List X) → count_by test (xs ++ ys) ≡ count_by test xs + count_by test ys
 count_by-append test xs ys = sum_by-append (λ x. cond (test x) 1 0) xs ys
 
 map_length : {X Y : Type 0} (f : X → Y) (xs : List X) → length (map f xs) ≡ length xs
@@ -46,13 +47,17 @@ map_length f (x ∷ xs) = ap suc (map_length f xs)
 pub whats_length : (ms : List Moment) → length (whats ms) ≡ length ms
 whats_length ms = map_length what_at ms
 
-whats_more : (ms : List Moment) (m : Moment) → whats (ms ++ m ∷ []) ≡ whats ms ++ m.what ∷ []
+pub whats_more : (ms : List Moment) (m : Moment) → whats (ms ++ m ∷ []) ≡ whats ms ++ m.what ∷ []
 whats_more [] m = refl
 whats_more (x ∷ ms) m = ap (λ ds. x.what ∷ ds) (whats_more ms m)
 
 last_more : (c : ℕ) (ms : List Moment) (m : Moment) → last_clock c (ms ++ m ∷ []) ≡ m.clock
 last_more c [] m = refl
 last_more c (x ∷ ms) m = last_more x.clock ms m
+
+-- a moment that says what was sent and done
+told_is : {N : Type 0} (done : NodeStep N) (m : Moment) → m.packets ≡ map (sent_at m.clock) done.packets → m.acts ≡ done.acts → told_by done m ≡ m
+told_is done m sent acts = ap (λ xs. record m { packets = xs; acts = done.acts }) (sym sent) ∙ ap (λ ys. record m { packets = m.packets; acts = ys }) (sym acts)
 
 and_true : (a b : Bool) → a ≡ true → b ≡ true → (a && b) ≡ true
 and_true true b e f = f
@@ -82,7 +87,7 @@ module _ {N : Type 0} (step : N → Do → NodeStep N) where
   replayed_more n [] d = refl
   replayed_more n (e ∷ ds) d = replayed_more (step n e).node ds d
 
-  acts_more : (n : N) (ds : List Do) (d : Do) → acts_in step n (ds ++ d ∷ []) ≡ acts_in step n ds ++ (step (replayed step n ds) d).acts
+  pub acts_more : (n : N) (ds : List Do) (d : Do) → acts_in step n (ds ++ d ∷ []) ≡ acts_in step n ds ++ (step (replayed step n ds) d).acts
   acts_more n [] d = append-nil (step n d).acts
   acts_more n (e ∷ ds) d =
       ap (λ xs. (step n e).acts ++ xs) (acts_more (step n e).node ds d)
@@ -121,17 +126,25 @@ module _ {N : Type 0} (step : N → Do → NodeStep N) where
           known = unknown;
           settled = unknown (answers.all + 1);
           sent_are = refl;
+          told = refl;
           met = λ k got. absurd (cc);
         }
         in
         subst (λ (all : List Moment). IsJournal step node first dues all n 0 0 answers 0) (sym none) j
 
     module _ (ms : List Moment) (n : N) (clock begun : ℕ) (answers : Answers) (count : ℕ) (j : IsJournal step node first dues ms n clock begun answers count) where
+      -- what the journal says of one thing more that happens is so
+      told_now : (m : Moment) (done : NodeStep N) → done ≡ step n m.what → m.packets ≡ map (sent_at m.clock) done.packets → m.acts ≡ done.acts
+          → told_by (step (replayed step first (whats ms)) m.what) m ≡ m
+      told_now m done is sent acts =
+          let stepped : done ≡ step (replayed step first (whats ms)) m.what = is ∙ ap (λ x. step x m.what) j.replay in
+          subst (λ d. told_by d m ≡ m) stepped (told_is done m sent acts)
+
       -- and one to which one thing more happened
       journal_more : (m : Moment) (done : NodeStep N) (more : Answers) → clock_after clock m.what ≡ Some m.clock → (m.what ≡ Begin → MayBegin step node first dues (whats ms))
-          → done ≡ step n m.what → ((k : ℕ) → knows more k ≡ (knows answers k || has_answer node k done.acts)) → IsSettled more
+          → done ≡ step n m.what → m.packets ≡ map (sent_at m.clock) done.packets → m.acts ≡ done.acts → ((k : ℕ) → knows more k ≡ (knows answers k || has_answer node k done.acts)) → IsSettled more
           → IsJournal step node first dues (ms ++ m ∷ []) done.node m.clock (begun + begins (m.what ∷ [])) more (count + length done.packets)
-      journal_more m done more next due is known settled =
+      journal_more m done more next due is sends does known settled =
           let stepped : done ≡ step (replayed step first (whats ms)) m.what = is ∙ ap (λ x. step x m.what) j.replay in
           let acts : (step (replayed step first (whats ms)) m.what).acts ≡ done.acts = sym (ap (λ (x : NodeStep N). x.acts) stepped) in
           let packets : (step (replayed step first (whats ms)) m.what).packets ≡ done.packets = sym (ap (λ (x : NodeStep N). x.packets) stepped) in
@@ -151,29 +164,33 @@ module _ {N : Type 0} (step : N → Do → NodeStep N) where
                 ∙ sym (ap length (sent_more first ms m)
                 ∙ length-append (sent_in step first ms) (map (sent_at m.clock) (step (replayed step first (whats ms)) m.what).packets)
                 ∙ ap (λ k. length (sent_in step first ms) + k) (map_length (sent_at m.clock) (step (replayed step first (whats ms)) m.what).packets ∙ ap length packets));
+            told = told_more step first ms m j.told (told_now m done is sends does);
             met = subst (MeetsDues step node first dues) (sym w) (met_more (whats ms) m.what j.met due);
           }
 
       pub journal_next : (m : Moment) (done : NodeStep N) (more : Answers) (new : List Moment) (begun' count' : ℕ) → clock_after clock m.what ≡ Some m.clock
-          → (m.what ≡ Begin → MayBegin step node first dues (whats ms)) → done ≡ step n m.what → ((k : ℕ) → knows more k ≡ (knows answers k || has_answer node k done.acts))
-          → IsSettled more → new ≡ ms ++ m ∷ [] → begun' ≡ begun + begins (m.what ∷ []) → count' ≡ count + length done.packets
+          → (m.what ≡ Begin → MayBegin step node first dues (whats ms)) → done ≡ step n m.what → m.packets ≡ map (sent_at m.clock) done.packets → m.acts ≡ done.acts
+          → ((k : ℕ) → knows more k ≡ (knows answers k || has_answer node k done.acts)) → IsSettled more → new ≡ ms ++ m ∷ [] → begun' ≡ begun + begins (m.what ∷ []) → count' ≡ count + length done.packets
           → IsJournal step node first dues new done.node m.clock begun' more count'
-      journal_next m done more new begun' count' next due is known settled e f g =
-          let k = journal_more m done more next due is known settled in
+      journal_next m done more new begun' count' next due is sends does known settled e f g =
+          let k = journal_more m done more next due is sends does known settled in
           rw (e, f, g) k
 
       -- the turn itself
-      pub turned_next : (place : ℕ) (m : Moment) (packets : List Packet) (letters : List Letter) (new : List Moment) → clock_after clock m.what ≡ Some m.clock
-          → packets ≡ (step n m.what).packets → letters ≡ letters_of place count (map (sent_at m.clock) packets) → new ≡ ms ++ m ∷ []
+      pub turned_next : (place : ℕ) (m : Moment) (done : NodeStep N) (letters : List Letter) (new : List Moment) → clock_after clock m.what ≡ Some m.clock
+          → done ≡ step n m.what → m.packets ≡ map (sent_at m.clock) done.packets → m.acts ≡ done.acts → letters ≡ letters_of place count m.packets → new ≡ ms ++ m ∷ []
           → after_turn new letters ≡ turned step first place m.what m.from m.number ms
-      turned_next place m packets letters new next are is e =
-          let sends = map (sent_at m.clock) (step (replayed step first (whats ms)) m.what).packets in
-          let same : map (sent_at m.clock) packets ≡ sends = ap (map (sent_at m.clock)) (are ∙ ap (λ x. (step x m.what).packets) j.replay) in
-          let all : letters ≡ letters_of place (length (sent_in step first ms)) sends =
-          is ∙ ap (letters_of place count) same ∙ ap (λ k. letters_of place k sends) j.sent_are
+      turned_next place m done letters new next is sends does are e =
+          let sent = map (sent_at m.clock) (step (replayed step first (whats ms)) m.what).packets in
+          let told = told_now m done is sends does in
+          let same : m.packets ≡ sent = sym (ap (λ (k : Moment). k.packets) told) in
+          let all : letters ≡ letters_of place (length (sent_in step first ms)) sent =
+          are ∙ ap (letters_of place count) same ∙ ap (λ k. letters_of place k sent) j.sent_are
           in
           let now : clock_after (last_clock 0 ms) m.what ≡ Some m.clock = ap (λ k. clock_after k m.what) (sym j.last) ∙ next in
-          ap (λ ms'. after_turn ms' letters) e ∙ ap (after_turn (ms ++ m ∷ [])) all ∙ sym (ap (turned_at step first place m.what m.from m.number ms) now)
+          ap (λ ms'. after_turn ms' letters) e ∙ ap (after_turn (ms ++ m ∷ [])) all
+          ∙ ap (λ k. after_turn (ms ++ k ∷ []) (letters_of place (length (sent_in step first ms)) sent)) (sym told)
+          ∙ sym (ap (turned_at step first place m.what m.from m.number ms) now)
 
       -- where the clock would pass its end
       pub turned_none : (place : ℕ) (what : Do) (from number : ℕ) (letters : List Letter) → clock_after clock what ≡ None → letters ≡ []
@@ -196,8 +213,16 @@ module _ {N : Type 0} (step : N → Do → NodeStep N) where
       came = λ m found. inl found;
     }
     adds_at (Some clock) =
-        let m : Moment = record { clock = clock; what = what; from = from; number = number } in
         let now = map (sent_at clock) (step (replayed step first (whats ms)) what).packets in
+        let m : Moment = record {
+          clock = clock;
+          what = what;
+          from = from;
+          number = number;
+          packets = now;
+          acts = (step (replayed step first (whats ms)) what).acts;
+        }
+        in
         let count = length (sent_in step first ms) in
         let all : sent_in step first (ms ++ m ∷ []) ≡ sent_in step first ms ++ now = sent_more first ms m in
         record {

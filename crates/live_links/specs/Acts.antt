@@ -1,5 +1,5 @@
 -- What one act of a cell does.
-use Rattle.std.specs.Prelude.{◌≡◌, ℕ, Bool, true, false, List, [], ◌∷◌, ◌++◌, length, map, Option, Some, None}
+use Rattle.std.specs.Prelude.{◌≡◌, ℕ, zero, suc, Bool, true, false, List, [], ◌∷◌, ◌++◌, length, map, Option, Some, None}
 use Rattle.wire_msg.specs.declared.packet.Do.{Do}
 use Rattle.wire_msg.specs.declared.packet.Do.TheVariants.{Begin, Deliver, Tick}
 use Rattle.wire_msg.specs.NodeStep.{NodeStep}
@@ -28,12 +28,19 @@ TakesFor (Deliver x) from number ins new = TookOne ins (record { from = from; nu
 TakesFor Tick from number ins new = AreStill ins new
 
 module _ {N : Type 0} (step : N → Do → NodeStep N) (first : N) where
-  -- the turn of a node with this journal, whose clock is then this: what the node sends is numbered on from all that it sent before; past the end of all
-  -- clocks nothing happens
+  -- the turn of a node with this journal, whose clock is then this: what the node sends and does is in its journal, and what it sends is numbered on from all
+  -- that it sent before; past the end of all clocks nothing happens
   abbrev pub turned_at : ℕ → Do → ℕ → ℕ → List Moment → Option ℕ → AfterTurn
   turned_at place what from number before None = record { moments = before; letters = [] }
   turned_at place what from number before (Some clock) = record {
-    moments = before ++ record { clock = clock; what = what; from = from; number = number } ∷ [];
+    moments = before ++ record {
+      clock = clock;
+      what = what;
+      from = from;
+      number = number;
+      packets = map (sent_at clock) (step (replayed step first (whats before)) what).packets;
+      acts = (step (replayed step first (whats before)) what).acts;
+    } ∷ [];
     letters = letters_of place (length (sent_in step first before)) (map (sent_at clock) (step (replayed step first (whats before)) what).packets);
   }
 
@@ -49,3 +56,8 @@ module _ {N : Type 0} (step : N → Do → NodeStep N) (first : N) where
   abbrev pub Acted : Cluster → ℕ → Bool → CellView → CellView → Type 0
   Acted c place true old new = (what : Do) × (from : ℕ) × (number : ℕ) × TakesFor what from number old.ins new.ins × Turns c place what from number old new
   Acted c place false old new = (new.moments ≡ old.moments) × (new.outs ≡ old.outs) × AreStill old.ins new.ins
+
+  -- so many acts, one after the other
+  abbrev pub Acts : Cluster → ℕ → ℕ → CellView → CellView → Type 0
+  Acts c place zero old new = old ≡ new
+  Acts c place (suc count) old new = (mid : CellView) × (moved : Bool) × Acts c place count old mid × Acted c place moved mid new

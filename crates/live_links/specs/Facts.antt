@@ -18,7 +18,7 @@ use Rattle.world_base.specs.NextWorld.{first_node}
 use Rattle.journals.specs.declared.answers.Answers.{Answers}
 use Rattle.journals.specs.declared.moment.Moment.{Moment}
 use Rattle.journals.specs.Answers.{AreAnswered, AreKnown, IsSettled}
-use Rattle.journals.specs.Journals.{MeetsDues, acts_in, begins, is_stamped, last_clock, replayed, sent_in, whats}
+use Rattle.journals.specs.Journals.{IsTold, MeetsDues, acts_in, begins, is_stamped, last_clock, replayed, sent_in, whats}
 use Rattle.live_links.specs.declared.letter.Letter.{Letter}
 use Rattle.live_links.specs.Ends.{In, IsFor, IsInsOf, IsOutsOf, Out, Received}
 
@@ -36,7 +36,8 @@ first_at first script place = first_node first script (name_at script place)
 
 module _ {N : Type 0} (step : N → Do → NodeStep N) where
   module _ (node : NodeId) (first : N) where
-    -- a node is the replay of its journal, whose clocks rise, it is known which of its items have an answer, and each item was begun when it was due
+    -- a node is the replay of its journal, whose clocks rise and which says what the node sent and did; it is known which of its items have an answer, and each
+    -- item was begun when it was due
     pub record IsJournal (dues : List Due) (moments : List Moment) (n : N) (clock begun : ℕ) (answers : Answers) (count : ℕ) : Type 0 where
       pub replay : n ≡ replayed step first (whats moments)
       pub stamped : is_stamped 0 moments ≡ true
@@ -45,6 +46,7 @@ module _ {N : Type 0} (step : N → Do → NodeStep N) where
       pub known : AreKnown node answers (acts_in step first (whats moments))
       pub settled : IsSettled answers
       pub sent_are : count ≡ length (sent_in step first moments)
+      pub told : IsTold step first moments
       pub met : MeetsDues step node first dues (whats moments)
 
   module _ (first : N) where

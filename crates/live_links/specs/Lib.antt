@@ -1,4 +1,5 @@
 pub mod Acts
+pub mod Answered
 pub mod Ends
 pub mod Facts
 pub mod Made

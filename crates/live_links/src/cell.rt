@@ -1,11 +1,12 @@
 //! A node with its journal and the ends of its rings.
-ghost use Rattle.std.specs.Prelude.{◌≡◌, ◌<◌, IfOk, MatchOption, IsTrue, ◌↔◌};
+ghost use Rattle.std.specs.Prelude.{◌≡◌, ℕ, ◌<◌, ◌≤◌, ◌+◌, [], cond, true, IfOk, MatchOption, IsTrue, ◌↔◌};
 ghost use Rattle.node_base.specs.Setups.{IsSetup};
 ghost use Rattle.wire_msg.specs.declared.packet.Do.TheVariants.{Begin, Deliver};
 ghost use Rattle.wire_msg.specs.declared.packet.Packet.{Packet as Sent};
 ghost use Rattle.world_base.specs.Cluster.{cluster_of, node_count};
-ghost use Rattle.journals.specs.Journals.{MayBegin, whats};
-ghost use Rattle.live_links.specs.Acts.{Acted, Turns};
+ghost use Rattle.journals.specs.Journals.{MayBegin, begins, replayed, whats};
+ghost use Rattle.live_links.specs.Acts.{Acted, Acts, Turns};
+ghost use Rattle.live_links.specs.Answered.{AnswersMore, answered_at};
 ghost use Rattle.live_links.specs.Ends.{AreStill, IsInsOf, IsOutsOf, IsUnused, Received, TookOne};
 ghost use Rattle.live_links.specs.Facts.{IsDone, IsLinked, dues_at, first_at, name_at};
 
@@ -13,6 +14,7 @@ use crate::{Ins, Journal, Letter, Outs, RunName};
 use journals::Moment;
 use script_text::Script;
 use std::alloc::Global;
+use version_model::Act;
 use wire_msg::Do;
 use world_base::{Cluster, Member};
 use xfs_base::{List, Mem, NodeId};
@@ -47,7 +49,8 @@ impl<N: Member, R: RunName> Cell<N, R> {
         requires outs { IsOutsOf R.outs place outs }
         requires ins { IsInsOf R.outs place ins }
         requires unused { IsUnused outs }
-        ensures { IfOk result (λ c. c.journal.place ≡ place) }
+        ensures place { IfOk result (λ c. c.journal.place ≡ place) }
+        ensures empty { IfOk result (λ c. c.journal.moments ≡ []) }
     {
         let journal = Journal::start(alloc, script, place)?;
         Ok(Cell {
@@ -79,13 +82,29 @@ impl<N: Member, R: RunName> Cell<N, R> {
         self.journal.done()
     }
 
-    /// What happened to the node, and its ends.
-    pub fn into_parts(self) -> (List<Moment>, Outs, Ins)
-        ensures moments { result.0 ≡ self.journal.moments }
-        ensures outs { result.1 ≡ self.outs }
-        ensures ins { result.2 ≡ self.ins }
+    /// How many items were begun.
+    pub fn begun(&self) -> u64
+        ensures { result ≡ begins (whats self.now.journal.moments) }
     {
-        (self.journal.into_moments(), self.outs, self.ins)
+        self.journal.begun()
+    }
+
+    /// What the node answered to its own items, in the order of its journal. It takes no memory.
+    pub fn answered(&self) -> &[Act]
+        ensures { result.now ≡ answered_at N.transition N.first R.script self.now.journal.place self.now.journal.moments }
+    {
+        self.journal.answered()
+    }
+
+    /// What happened to the node, the node after it, and its ends.
+    pub fn into_parts(self) -> (List<Moment>, N, Outs, Ins)
+        ensures moments { result.0 ≡ self.journal.moments }
+        ensures node { result.1 ≡ replayed N.transition (first_at N.first R.script self.journal.place) (whats self.journal.moments) }
+        ensures outs { result.2 ≡ self.outs }
+        ensures ins { result.3 ≡ self.ins }
+    {
+        let (moments, node) = self.journal.into_told();
+        (moments, node, self.outs, self.ins)
     }
 
     /// One turn: this happens to the node, and what it sends goes on the rings.
@@ -131,6 +150,15 @@ impl<N: Member, R: RunName> Cell<N, R> {
         self.turn(alloc, Do::Deliver(letter.packet), from, number)
     }
 
+    /// Whether the node is to begin its next item now: it may, and the item is due.
+    fn is_to_begin(&self, may_begin: bool) -> bool
+        ensures may { IsTrue result → may_begin ≡ true }
+        ensures due { IsTrue result → MayBegin N.transition (name_at R.script self.now.journal.place) (first_at N.first R.script self.now.journal.place)
+            (dues_at R.script self.now.journal.place) (whats self.now.journal.moments) }
+    {
+        may_begin && self.journal.due()
+    }
+
     /// Makes at most one turn: begins the next item where it is due, else takes a packet, else lets time pass
     /// where the worker is idle. It says whether it made one. What it took from a ring is delivered in this turn,
     /// and what the node sends in it is pushed. Where memory is wanting the node is given up with its run.
@@ -139,7 +167,19 @@ impl<N: Member, R: RunName> Cell<N, R> {
         ensures acted { IfOk result (λ r. Acted N.transition (first_at N.first R.script self.journal.place) (cluster_of R.script.setup) self.journal.place r.1
             (record { moments = self.journal.moments; outs = self.outs; ins = self.ins }) (record { moments = r.0.journal.moments; outs = r.0.outs; ins = r.0.ins })) }
     {
-        if self.journal.due() {
+        self.act_when(alloc, idle, true)
+    }
+
+    /// As `act`, but the next item is begun only where the caller says that it may. What was answered stays
+    /// answered.
+    pub fn act_when(self, alloc: Global, idle: bool, may_begin: bool) -> Mem<(Cell<N, R>, bool)>
+        ensures place { IfOk result (λ r. r.0.journal.place ≡ self.journal.place) }
+        ensures acted { IfOk result (λ r. Acted N.transition (first_at N.first R.script self.journal.place) (cluster_of R.script.setup) self.journal.place r.1
+            (record { moments = self.journal.moments; outs = self.outs; ins = self.ins }) (record { moments = r.0.journal.moments; outs = r.0.outs; ins = r.0.ins })) }
+        ensures begun { IfOk result (λ r. begins (whats r.0.journal.moments) ≤ begins (whats self.journal.moments) + cond may_begin 1 0) }
+        ensures answered { IfOk result (λ r. AnswersMore N.transition N.first R.script self.journal.place self.journal.moments r.0.journal.moments) }
+    {
+        if self.is_to_begin(may_begin) {
             let begun = self.turn(alloc, Do::Begin, 0, 0)?;
             return Ok((begun, true));
         }
@@ -157,5 +197,26 @@ impl<N: Member, R: RunName> Cell<N, R> {
                 Ok((ticked, true))
             }
         }
+    }
+
+    /// Acts one after the other, as act says, until one makes no turn, and so many at most after the first. Time
+    /// passes in the first alone, and only where the worker is idle. It says whether the first made a turn.
+    pub fn act_on(self, alloc: Global, idle: bool, more: u8) -> Mem<(Cell<N, R>, bool)>
+        ensures place { IfOk result (λ r. r.0.journal.place ≡ self.journal.place) }
+        ensures acted { IfOk result (λ r. (count : ℕ) × (count ≤ more + 1) × Acts N.transition (first_at N.first R.script self.journal.place) (cluster_of R.script.setup) self.journal.place count
+            (record { moments = self.journal.moments; outs = self.outs; ins = self.ins }) (record { moments = r.0.journal.moments; outs = r.0.outs; ins = r.0.ins })) }
+    {
+        let (acted, moved) = self.act(alloc, idle)?;
+        let mut cell = acted;
+        let mut moves = moved;
+        for _ in 0..more {
+            if !moves {
+                break;
+            }
+            let (next, again) = cell.act(alloc, false)?;
+            cell = next;
+            moves = again;
+        }
+        Ok((cell, moved))
     }
 }

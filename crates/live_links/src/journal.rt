@@ -4,11 +4,13 @@ ghost use Rattle.node_base.specs.Setups.{IsSetup};
 ghost use Rattle.wire_msg.specs.declared.packet.Do.TheVariants.{Begin};
 ghost use Rattle.world_base.specs.Cluster.{HasNode, cluster_of, node_count};
 ghost use Rattle.world_base.specs.NextWorld.{first_node};
-ghost use Rattle.journals.specs.Journals.{MayBegin, begins, whats};
+ghost use Rattle.journals.specs.Journals.{MayBegin, begins, replayed, whats};
 ghost use Rattle.live_links.specs.Acts.{turned};
+ghost use Rattle.live_links.specs.Answered.{answered_at};
 ghost use Rattle.live_links.specs.Facts.{IsDone, IsJournal, dues_at, first_at, name_at};
 
-use crate::letter::letters_of;
+use crate::answered::keep_answers;
+use crate::letter::{letters_of, shared_all};
 use crate::{Letter, RunName};
 use journals::{Answers, Moment};
 use script_text::Script;
@@ -33,10 +35,12 @@ pub struct Journal<N: Member, R: RunName> {
     answers: Answers,
     sent: u64,
     dues: List<Due>,
+    answered: List<Act>,
     of: PhantomData<R>,
     ghost name_is: { name ≡ name_at R.script place },
     ghost dues_are: { dues ≡ dues_at R.script place },
     ghost is_journal: { IsJournal N.transition (name_at R.script place) (first_at N.first R.script place) dues moments node.value clock begun answers sent },
+    ghost answered_are: { answered ≡ answered_at N.transition N.first R.script place moments },
 }
 
 /// How many items begin.
@@ -113,6 +117,7 @@ impl<N: Member, R: RunName> Journal<N, R> {
             answers: Answers::none(alloc),
             sent: 0,
             dues,
+            answered: List::new(alloc),
             of: PhantomData,
         })
     }
@@ -142,11 +147,26 @@ impl<N: Member, R: RunName> Journal<N, R> {
         are_answered(self.dues.len(), self.begun, self.answers.all)
     }
 
-    /// What happened to the node.
-    pub fn into_moments(self) -> List<Moment>
-        ensures { result ≡ self.moments }
+    /// How many items were begun.
+    pub fn begun(&self) -> u64
+        ensures { result ≡ begins (whats self.now.moments) }
     {
-        self.moments
+        self.begun
+    }
+
+    /// What the node answered to its own items, in the order of its journal. It takes no memory.
+    pub fn answered(&self) -> &[Act]
+        ensures { result.now ≡ answered_at N.transition N.first R.script self.now.place self.now.moments }
+    {
+        self.answered.as_slice()
+    }
+
+    /// What happened to the node, and the node after it. It takes no memory.
+    pub fn into_told(self) -> (List<Moment>, N)
+        ensures moments { result.0 ≡ self.moments }
+        ensures node { result.1 ≡ replayed N.transition (first_at N.first R.script self.place) (whats self.moments) }
+    {
+        (self.moments, Box::into_inner(self.node))
     }
 
     /// The node's step. Where its clock would pass the end of all clocks nothing happens. The letters are the
@@ -170,15 +190,20 @@ impl<N: Member, R: RunName> Journal<N, R> {
         let (packets, acts) = step_of(alloc, &mut *node, &what)?;
         let mut answers = self.answers;
         answers.note_all(self.name, acts.as_slice())?;
+        let mut answered = self.answered;
+        keep_answers(&mut answered, alloc, self.name, acts.as_slice())?;
         let begun = sum(self.begun, begins_of(&what))?;
         let sent = sum(self.sent, packets.len() as u64)?;
-        let letters = letters_of(alloc, self.place, self.sent, clock, packets)?;
+        let shared = shared_all(alloc, clock, packets)?;
+        let letters = letters_of(alloc, self.place, self.sent, shared.as_slice())?;
         let mut moments = self.moments;
         moments.push(Moment {
             clock,
             what,
             from,
             number,
+            packets: shared,
+            acts,
         })?;
         let journal = Journal {
             place: self.place,
@@ -190,6 +215,7 @@ impl<N: Member, R: RunName> Journal<N, R> {
             answers,
             sent,
             dues: self.dues,
+            answered,
             of: PhantomData,
         };
         Ok((journal, letters))

@@ -30,23 +30,37 @@ fn shared_at(alloc: Global, clock: u64, packet: Packet) -> Mem<SharedPacket>
     SharedPacket::of(alloc, packet)
 }
 
-/// The letters of packets that a node sends at this clock, which are numbered from here on.
+/// The packets that a node sends at this clock, shared from now on.
+pub(crate) fn shared_all(
+    alloc: Global,
+    clock: u64,
+    packets: List<Packet>,
+) -> Mem<List<SharedPacket>>
+    ensures { IfOk result (λ shared. shared ≡ map (sent_at clock) packets) }
+{
+    let mut shared = List::new(alloc);
+    for packet in packets.into_vec() {
+        shared.push(shared_at(alloc, clock, packet)?)?;
+    }
+    Ok(shared)
+}
+
+/// The letters of packets, which are numbered from here on.
 pub(crate) fn letters_of(
     alloc: Global,
     from: usize,
     number: u64,
-    clock: u64,
-    packets: List<Packet>,
+    packets: &[SharedPacket],
 ) -> Mem<List<Letter>>
-    ensures { IfOk result (λ letters. letters ≡ letters_of from number (map (sent_at clock) packets)) }
+    ensures { IfOk result (λ letters. letters ≡ letters_of from number packets.now) }
 {
     let mut letters = List::new(alloc);
     let mut next = number;
-    for packet in packets.into_vec() {
+    for packet in packets {
         letters.push(Letter {
             from,
             number: next,
-            packet: shared_at(alloc, clock, packet)?,
+            packet: packet.copy(alloc)?,
         })?;
         next = next.checked_add(1).ok_or(AllocError)?;
     }

@@ -3,6 +3,7 @@
 //! their ends are in one thread again. This crate knows nothing of threads, nor of how journals merge.
 #![tactic(auto)]
 
+pub mod answered;
 pub mod cell;
 pub mod ends;
 pub mod journal;

@@ -1,5 +1,5 @@
 //! Cells that were taken apart.
-ghost use Rattle.std.specs.Prelude.{◌≡◌, ◌+◌, [], length, OnOk};
+ghost use Rattle.std.specs.Prelude.{◌≡◌, ◌+◌, ◌++◌, ◌∷◌, [], length, OnOk};
 ghost use Rattle.live_links.specs.Facts.{IsDone};
 ghost use Rattle.live_links.specs.Parts.{AreParts};
 
@@ -7,38 +7,43 @@ use crate::{Cell, Ins, Outs, RunName};
 use journals::Rest;
 use std::alloc::{AllocError, Global};
 use world_base::Member;
-use xfs_base::Mem;
+use xfs_base::{List, Mem};
 
-/// The journals and the ends of cells, in order of nodes.
-pub struct Parts {
+/// The journals, the nodes and the ends of cells, in order of nodes.
+pub struct Parts<N> {
     /// What happened to each node.
     pub journals: Vec<Rest>,
+    /// The nodes after it.
+    pub nodes: List<N>,
     /// Where each node sent.
     pub outs: Vec<Outs>,
     /// Where each node received.
     pub ins: Vec<Ins>,
 }
 
-impl Drop for Parts {
+impl<N: Drop> Drop for Parts<N> {
     fn drop(self) {
         let Parts {
             journals,
+            nodes,
             outs,
             ins,
         } = self;
         drop(journals);
+        drop(nodes);
         drop(outs);
         drop(ins);
     }
 }
 
-impl Parts {
+impl<N: Member> Parts<N> {
     /// Those of no cell.
-    pub fn none(alloc: Global) -> Parts
-        ensures { (result.journals.items ≡ []) × (result.outs.items ≡ []) × (result.ins.items ≡ []) }
+    pub fn none(alloc: Global) -> Parts<N>
+        ensures { (result.journals.items ≡ []) × (result.nodes ≡ []) × (result.outs.items ≡ []) × (result.ins.items ≡ []) }
     {
         Parts {
             journals: Vec::new(alloc),
+            nodes: List::new(alloc),
             outs: Vec::new(alloc),
             ins: Vec::new(alloc),
         }
@@ -46,31 +51,35 @@ impl Parts {
 
     /// Adds those of the next cell, all whose items are answered. A cell of another place than the next is
     /// answered like want of memory: no type says at which place a cell stands.
-    pub fn add<N: Member, R: RunName>(&mut self, cell: Cell<N, R>) -> Mem<()>
-        requires parts { AreParts N.transition N.first R.script R.outs self.old.journals.items self.old.outs.items self.old.ins.items }
+    pub fn add<R: RunName>(&mut self, cell: Cell<N, R>) -> Mem<()>
+        requires parts { AreParts N.transition N.first R.script R.outs self.old.journals.items self.old.nodes self.old.outs.items self.old.ins.items }
         requires done { IsDone N.transition N.first R.script cell.journal.place cell.journal.moments }
-        ensures parts { OnOk result (AreParts N.transition N.first R.script R.outs self.new.journals.items self.new.outs.items self.new.ins.items) }
+        ensures parts { OnOk result (AreParts N.transition N.first R.script R.outs self.new.journals.items self.new.nodes self.new.outs.items self.new.ins.items) }
         ensures count { OnOk result (length self.new.journals.items ≡ length self.old.journals.items + 1) }
+        ensures place { OnOk result (cell.journal.place ≡ length self.old.journals.items) }
+        ensures journal { OnOk result (self.new.journals.items ≡ self.old.journals.items ++ cell.journal.moments ∷ []) }
     {
         if cell.place() != self.journals.len() {
             return Err(AllocError);
         }
-        let (moments, outs, ins) = cell.into_parts();
+        let (moments, node, outs, ins) = cell.into_parts();
         self.journals.push(Rest::of(moments))?;
+        self.nodes.push(node)?;
         self.outs.push(outs)?;
         self.ins.push(ins)?;
         Ok(())
     }
 
-    /// The journals, and the ends. It takes no memory.
-    pub fn into_rows(self) -> (Vec<Rest>, Vec<Outs>, Vec<Ins>)
-        ensures { result ≡ (self.journals, self.outs, self.ins) }
+    /// The journals, the nodes, and the ends. It takes no memory.
+    pub fn into_rows(self) -> (Vec<Rest>, List<N>, Vec<Outs>, Vec<Ins>)
+        ensures { result ≡ (self.journals, self.nodes, self.outs, self.ins) }
     {
         let Parts {
             journals,
+            nodes,
             outs,
             ins,
         } = self;
-        (journals, outs, ins)
+        (journals, nodes, outs, ins)
     }
 }

@@ -1,10 +1,13 @@
 -- The ends that were made are those of the cells.
 use Rattle.std.proofs.Common.{◌≡◌, refl, sym, ap, subst, ◌∙◌, ℕ, ◌+◌, List, [], ◌∷◌, ◌++◌, length, Some, length-append}
-use Rattle.std.specs.Prelude.{slice_get}
+use Rattle.std.specs.Prelude.{slice_get, reverse, All}
+use mathlib.Core.List.{reverse-cons}
+use Rattle.std.proofs.lemmas.List.Elements.{All-head, All-push, All-same, All-tail}
 use Rattle.journals.proofs.Gets.{get_end, get_front}
 use Rattle.live_links.specs.Ends.{In, IsInsOf, IsOutsOf, IsUnused, Out}
 use Rattle.live_links.specs.Made.{AreLinks}
 use Rattle.live_links.proofs.Each.{same_out}
+use Rattle.live_run.specs.Live.{IsFront}
 
 module _ (n : ℕ) (outs rings : List (List Out)) (ins : List (List In)) (l : AreLinks n n outs ins) (are : outs ≡ rings) where
   pub outs_of : (p : ℕ) (row : List Out) → slice_get outs p ≡ Some row → IsOutsOf rings p row
@@ -25,9 +28,6 @@ module _ (n : ℕ) (outs rings : List (List Out)) (ins : List (List In)) (l : Ar
   unused_of p row at = (l.rows p row at).1
 
 -- what is left stands where it stood
-abbrev pub IsFront : {X : Type 0} → List X → List X → Type 0
-IsFront {X} xs all = (k : ℕ) (x : X) → slice_get xs k ≡ Some x → slice_get all k ≡ Some x
-
 pub front_less : {X : Type 0} (xs less all : List X) (y : X) → IsFront xs all → xs ≡ less ++ y ∷ [] → IsFront less all
 front_less {X} xs less all y f is k x at = f k x (subst (λ (ys : List X). slice_get ys k ≡ Some x) (sym is) (get_front less y x k at))
 
@@ -36,3 +36,9 @@ front_last {X} xs less all y f is = f (length less) y (subst (λ (ys : List X). 
 
 pub one_less : {X : Type 0} (xs less : List X) (y : X) → xs ≡ less ++ y ∷ [] → length xs ≡ length less + 1
 one_less {X} xs less y is = ap (λ (ys : List X). length ys) is ∙ length-append less (y ∷ [])
+
+-- what holds of all holds of all in the other order
+pub All-reverse : {X : Type 0} (P : X → Type 0) (xs : List X) → All P xs → All P (reverse xs)
+All-reverse P [] h = h
+All-reverse P (x ∷ xs) h =
+    All-same P (reverse (x ∷ xs)) (reverse xs ++ x ∷ []) (reverse-cons x xs) (All-push P (reverse xs) x (All-reverse P xs (All-tail P x xs h)) (All-head P x xs h))

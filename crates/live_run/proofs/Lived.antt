@@ -40,10 +40,10 @@ answered_too node k some all among answered =
     has_any (is_answer_to node k) all found.0 (among found.0 found.1) found.2
 
 module _ {N : Type 0} (step : N → Do → NodeStep N) (first : NodeId → Setup → List Work → N) (script : Script) (rings : List (List Out))
-    (js : List (List Moment)) (os : List (List Out)) (is : List (List In)) (events : List Event) (world : World N) where
+    (js : List (List Moment)) (ns : List N) (os : List (List Out)) (is : List (List In)) (events : List Event) (world : World N) where
   -- what is known once all journals are merged
   pub record IsJoined : Type 0 where
-    pub parts : AreParts step first script rings js os is
+    pub parts : AreParts step first script rings js ns os is
     pub whole : length js ≡ node_count (cluster_of script.setup)
     pub setup : IsSetup script.setup
     pub names : NamesNodes script
@@ -58,19 +58,22 @@ module _ {N : Type 0} (step : N → Do → NodeStep N) (first : NodeId → Setup
     record Journaled (p : ℕ) : Type 0 where
       moments : List Moment
       at : slice_get js p ≡ Some moments
+      end : N
       outs : List Out
       ins : List In
-      part : IsPart step first script rings p moments outs ins
+      part : IsPart step first script rings p moments end outs ins
 
     journaled : (p : ℕ) → p < node_count (cluster_of script.setup) → Journaled p
     journaled p below =
         let count = joined.whole in
+        let nodes = joined.parts.nodes in
         let outs = joined.parts.outs in
         let ins = joined.parts.ins in
         let j = has js p (omega arith) in
+        let n = has ns p (omega arith) in
         let o = has os p (omega arith) in
         let i = has is p (omega arith) in
-        record { moments = j.0; at = j.1; outs = o.0; ins = i.0; part = joined.parts.each p j.0 o.0 i.0 j.1 o.1 i.1 }
+        record { moments = j.0; at = j.1; end = n.0; outs = o.0; ins = i.0; part = joined.parts.each p j.0 n.0 o.0 i.0 j.1 n.1 o.1 i.1 }
 
     met_at : (p : ℕ) → p < node_count (cluster_of script.setup)
         → MeetsDues step (name_at script p) (first_at first script p) (dues_at script p) (whats_of (name_at script p) events)
@@ -130,8 +133,8 @@ module _ {N : Type 0} (step : N → Do → NodeStep N) (first : NodeId → Setup
     }
 
 module _ {N : Type 0} (step : N → Do → NodeStep N) (first : NodeId → Setup → List Work → N) (script : Script) (rings : List (List Out))
-    (js : List (List Moment)) (os : List (List Out)) (is : List (List In))
-    (parts : AreParts step first script rings js os is) (whole : length js ≡ node_count (cluster_of script.setup)) (setup : IsSetup script.setup)
+    (js : List (List Moment)) (ns : List N) (os : List (List Out)) (is : List (List In))
+    (parts : AreParts step first script rings js ns os is) (whole : length js ≡ node_count (cluster_of script.setup)) (setup : IsSetup script.setup)
     (names : NamesNodes script) where
   pub all_live : {E : Type 0} (r : Result (Estate N) E) → IfOk r (λ e. e.script ≡ script) → IfOk r (λ e. IsRun step first script e.events e.world)
       → IfOk r (λ e. Rises step (start_world first script) 0 0 e.events)
@@ -140,9 +143,9 @@ module _ {N : Type 0} (step : N → Do → NodeStep N) (first : NodeId → Setup
       → Contains (acts_in step (first_node first script (node_at (cluster_of script.setup) p)) (whats j)) a → Contains e.world.acts a)
       → IfOk r (λ e. IsLive step first e)
   all_live (Ok e) same run rises each acts =
-      let joined : IsJoined step first script rings js os is e.events e.world =
+      let joined : IsJoined step first script rings js ns os is e.events e.world =
       record { parts = parts; whole = whole; setup = setup; names = names; run = run; rises = rises; each = each; acts = acts }
       in
       subst (λ s. IsLive step first (record { script = s; events = e.events; world = e.world })) (sym same)
-      (is_live step first script rings js os is e.events e.world joined)
+      (is_live step first script rings js ns os is e.events e.world joined)
   all_live (Err e) same run rises each acts = tt

@@ -1,5 +1,5 @@
 -- What is claimed of a run by worker threads.
-use Rattle.std.specs.Prelude.{List, Option, Some, None, length}
+use Rattle.std.specs.Prelude.{◌≡◌, ℕ, List, Option, Some, None, length, slice_get}
 use Rattle.std.specs.List.{AllByRecursion}
 use Rattle.script_text.specs.declared.script.Line.{Line}
 use Rattle.script_text.specs.declared.script.Script.{Script}
@@ -29,6 +29,10 @@ IsLineOfNode setup line = IsOfNode setup (actor_of line.work)
 -- the lines of a script ask nothing of nodes that its setup has not
 abbrev pub NamesNodes : Script → Type 0
 NamesNodes script = AllByRecursion (IsLineOfNode script.setup) script.lines
+
+-- what stands at a place of one list stands there in another
+abbrev pub IsFront : {X : Type 0} → List X → List X → Type 0
+IsFront {X} xs all = (k : ℕ) (x : X) → slice_get xs k ≡ Some x → slice_get all k ≡ Some x
 
 -- A run by workers.
 pub record IsLive {N : Type 0} (step : N → Do → NodeStep N) (first : NodeId → Setup → List Work → N) (e : Estate N) : Type 0 where

@@ -1,5 +1,5 @@
-//! The cells of a run: how they are made, put behind locks, and had back.
-ghost use Rattle.std.specs.Prelude.{◌≡◌, ◌<◌, ◌++◌, ◌∷◌, [], length, IfOk, IfSome, MatchOption};
+//! The cells of a run: how they are made; and how they, or others, are put behind locks and had back.
+ghost use Rattle.std.specs.Prelude.{◌≡◌, ◌<◌, ◌++◌, ◌∷◌, [], length, reverse, All, IfOk, IfSome, MatchOption};
 ghost use Rattle.node_base.specs.Setups.{IsSetup};
 ghost use Rattle.world_base.specs.Cluster.{cluster_of, node_count};
 ghost use Rattle.live_links.specs.Ends.{IsInsOf, IsOutsOf, IsUnused};
@@ -20,8 +20,18 @@ fn pop_last<T>(all: &mut Vec<T>) -> Option<T>
     all.pop()
 }
 
+/// Those in the other order.
+pub fn turned_round<T>(all: Vec<T>) -> Vec<T>
+    ensures order { result.items ≡ reverse all.items }
+    ensures count { length result.items ≡ length all.items }
+{
+    let mut all = all;
+    all.reverse();
+    all
+}
+
 /// The cells of the nodes of a script, to which nothing happened yet, in order of nodes.
-pub(crate) fn first_cells<N: Member, R: RunName>(
+pub fn first_cells<N: Member, R: RunName>(
     alloc: Global,
     script: &Script,
     count: usize,
@@ -33,7 +43,8 @@ pub(crate) fn first_cells<N: Member, R: RunName>(
     requires count { count ≡ node_count (cluster_of script.now.setup) }
     requires outs { outs.items ≡ R.outs }
     requires links { AreLinks count count outs.items ins.items }
-    ensures { IfOk result (λ cells. length cells.items ≡ count) }
+    ensures count { IfOk result (λ cells. length cells.items ≡ count) }
+    ensures fresh { IfOk result (λ cells. All (λ c. c.journal.moments ≡ []) cells.items) }
 {
     let mut cells = Vec::new(alloc);
     let mut outs = outs;
@@ -50,37 +61,30 @@ pub(crate) fn first_cells<N: Member, R: RunName>(
         let cell = Cell::start(alloc, script, outs.len(), row, ends)?;
         cells.push(cell)?;
     }
-    cells.reverse();
-    Ok(cells)
+    Ok(turned_round(cells))
 }
 
-/// Puts each cell behind a lock of its own.
-pub(crate) fn seats_of<N: Member, R: RunName>(
-    alloc: Global,
-    cells: Vec<Cell<N, R>>,
-) -> Mem<Vec<Seat<N, R>>>
-    ensures { IfOk result (λ seats. length seats.items ≡ length cells.items) }
+/// Puts each behind a lock of its own.
+pub fn seats_of<T: Drop>(alloc: Global, all: Vec<T>) -> Mem<Vec<Seat<T>>>
+    ensures { IfOk result (λ seats. length seats.items ≡ length all.items) }
 {
     let mut seats = Vec::new(alloc);
-    for cell in cells {
-        seats.push(Mutex::new(Some(cell)))?;
+    for one in all {
+        seats.push(Mutex::new(Some(one)))?;
     }
     Ok(seats)
 }
 
-/// The cells that were left behind the locks. Where one is gone memory was wanting.
-pub(crate) fn cells_of<N: Member, R: RunName>(
-    alloc: Global,
-    seats: Vec<Seat<N, R>>,
-) -> Mem<Vec<Cell<N, R>>>
-    ensures { IfOk result (λ cells. length cells.items ≡ length seats.items) }
+/// What was left behind the locks. Where one is gone memory was wanting.
+pub fn left_at<T: Drop>(alloc: Global, seats: Vec<Seat<T>>) -> Mem<Vec<T>>
+    ensures { IfOk result (λ all. length all.items ≡ length seats.items) }
 {
-    let mut cells = Vec::new(alloc);
+    let mut all = Vec::new(alloc);
     for seat in seats {
         match seat.into_inner() {
             None => return Err(AllocError),
-            Some(cell) => cells.push(cell)?,
+            Some(one) => all.push(one)?,
         }
     }
-    Ok(cells)
+    Ok(all)
 }

@@ -7,4 +7,6 @@ pub mod cells;
 pub mod running;
 pub mod workers;
 
-pub use running::live;
+pub use cells::{first_cells, left_at, seats_of, turned_round};
+pub use running::{all_done, apart, live, merged, one_round};
+pub use workers::{MORE, QUIET, Round, Seat, Visited, go_round};

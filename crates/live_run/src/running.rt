@@ -1,14 +1,17 @@
 //! A run by worker threads: what happened to its nodes is one run of them.
-ghost use Rattle.std.specs.Prelude.{◌≡◌, true, length, All, IfOk};
+ghost use Rattle.std.specs.Prelude.{◌≡◌, ◌+◌, ℕ, true, List as Seq, length, slice_get, Some, All, IfOk};
 ghost use Rattle.node_base.specs.Setups.{IsSetup};
-ghost use Rattle.world_base.specs.Cluster.{cluster_of, node_count};
+ghost use Rattle.world_base.specs.Cluster.{cluster_of, node_at, node_count};
+ghost use Rattle.journals.specs.declared.moment.Moment.{Moment as One};
+ghost use Rattle.journals.specs.Journals.{whats};
+ghost use Rattle.journals.specs.Merging.{whats_of};
 ghost use Rattle.live_links.specs.Facts.{IsDone};
 ghost use Rattle.live_links.specs.Made.{AreLinks};
 ghost use Rattle.live_links.specs.Parts.{AreParts};
-ghost use Rattle.live_run.specs.Live.{IsLive, NamesNodes};
+ghost use Rattle.live_run.specs.Live.{IsFront, IsLive, NamesNodes};
 
-use crate::cells::{cells_of, first_cells, seats_of};
-use crate::workers::run_workers;
+use crate::cells::{first_cells, left_at, seats_of};
+use crate::workers::{Visited, run_workers};
 use journals::merge;
 use live_links::{Cell, Ins, Outs, Parts, RunName, links, look_all};
 use script_text::Script;
@@ -20,7 +23,7 @@ use world_base::{Cluster, Estate, Member};
 use xfs_base::{Gate, Mem};
 
 /// Whether all items of all nodes are answered.
-fn all_done<N: Member, R: RunName>(cells: &[Cell<N, R>]) -> bool
+pub fn all_done<N: Member, R: RunName>(cells: &[Cell<N, R>]) -> bool
     ensures { result ≡ true → All (λ c. IsDone N.transition N.first R.script c.journal.place c.journal.moments) cells.now }
 {
     for cell in cells {
@@ -31,20 +34,16 @@ fn all_done<N: Member, R: RunName>(cells: &[Cell<N, R>]) -> bool
     true
 }
 
-/// Lets each node have at most one turn, in their order, and says whether one had.
-fn one_round<N: Member, R: RunName>(
-    alloc: Global,
-    cells: Vec<Cell<N, R>>,
-    idle: bool,
-) -> Mem<(Vec<Cell<N, R>>, bool)>
-    ensures { IfOk result (λ r. length r.0.items ≡ length cells.items) }
+/// Lets each have its turns, in their order, and says whether one had any.
+pub fn one_round<T: Visited>(alloc: Global, all: Vec<T>, idle: bool) -> Mem<(Vec<T>, bool)>
+    ensures { IfOk result (λ r. length r.0.items ≡ length all.items) }
 {
     let mut next = Vec::new(alloc);
     let mut any_moved = false;
-    for cell in cells {
-        let (cell, moved) = cell.act(alloc, idle)?;
+    for one in all {
+        let (one, moved) = one.have_turns(alloc, idle)?;
         any_moved = any_moved || moved;
-        next.push(cell)?;
+        next.push(one)?;
     }
     Ok((next, any_moved))
 }
@@ -71,38 +70,42 @@ fn finish<N: Member, R: RunName, W: Wait>(
     unreachable!()
 }
 
-/// Takes cells apart, all whose items are answered.
-fn apart<N: Member, R: RunName>(alloc: Global, cells: Vec<Cell<N, R>>) -> Mem<Parts>
-    requires { All (λ c. IsDone N.transition N.first R.script c.journal.place c.journal.moments) cells.items }
-    ensures parts { IfOk result (λ p. AreParts N.transition N.first R.script R.outs p.journals.items p.outs.items p.ins.items) }
-    ensures count { IfOk result (λ p. length p.journals.items ≡ length cells.items) }
+/// Takes more cells apart, all whose items are answered, behind those that were.
+pub fn apart<N: Member, R: RunName>(parts: Parts<N>, cells: Vec<Cell<N, R>>) -> Mem<Parts<N>>
+    requires parts { AreParts N.transition N.first R.script R.outs parts.journals.items parts.nodes parts.outs.items parts.ins.items }
+    requires done { All (λ c. IsDone N.transition N.first R.script c.journal.place c.journal.moments) cells.items }
+    ensures parts { IfOk result (λ p. AreParts N.transition N.first R.script R.outs p.journals.items p.nodes p.outs.items p.ins.items) }
+    ensures count { IfOk result (λ p. length p.journals.items ≡ length parts.journals.items + length cells.items) }
+    ensures front { IfOk result (λ p. IsFront parts.journals.items p.journals.items) }
 {
-    let mut parts = Parts::none(alloc);
+    let mut parts = parts;
     for cell in cells {
         parts.add(cell)?;
     }
     Ok(parts)
 }
 
-/// Merges the journals of cells, all whose items are answered, to one run.
-fn joined<N: Member, R: RunName>(
+/// Merges the journals of all cells, all whose items are answered, to one run, in which to each node happened just what its
+/// journal has.
+pub fn merged<N: Member, R: RunName>(
     alloc: Global,
     script: &Script,
-    cells: Vec<Cell<N, R>>,
+    parts: Parts<N>,
 ) -> Mem<Estate<N>>
     requires script { script.now ≡ R.script }
     requires setup { IsSetup script.now.setup }
     requires names { NamesNodes script.now }
     requires rings { length R.outs ≡ node_count (cluster_of script.now.setup) }
-    requires count { length cells.items ≡ node_count (cluster_of script.now.setup) }
-    requires done { All (λ c. IsDone N.transition N.first R.script c.journal.place c.journal.moments) cells.items }
+    requires count { length parts.journals.items ≡ node_count (cluster_of script.now.setup) }
+    requires parts { AreParts N.transition N.first R.script R.outs parts.journals.items parts.nodes parts.outs.items parts.ins.items }
     ensures script { IfOk result (λ e. e.script ≡ script.now) }
     ensures run { IfOk result (λ e. IsLive N.transition N.first e) }
+    ensures each { IfOk result (λ e. (p : ℕ) (j : Seq One) → slice_get parts.journals.items p ≡ Some j
+        → whats_of (node_at (cluster_of script.now.setup) p) e.events ≡ whats j) }
 {
-    let parts = apart(alloc, cells)?;
-    let (journals, mut outs, mut ins) = parts.into_rows();
+    let (journals, nodes, mut outs, mut ins) = parts.into_rows();
     look_all(&mut outs, &mut ins);
-    merge(alloc, script, journals)
+    merge(alloc, script, journals, nodes)
 }
 
 /// Runs the cells of the run R by so many workers.
@@ -124,9 +127,10 @@ fn live_cells<N: Member + Send, R: RunName + Send + Sync, W: Threads + Wait + Sy
 {
     let seats = seats_of(alloc, cells)?;
     run_workers(rt, alloc, seats.as_slice(), workers, gate);
-    let cells = cells_of(alloc, seats)?;
+    let cells = left_at(alloc, seats)?;
     let cells = finish(rt, alloc, cells)?;
-    joined(alloc, script, cells)
+    let parts = apart(Parts::none(alloc), cells)?;
+    merged::<N, R>(alloc, script, parts)
 }
 
 /// Runs the nodes of a script over these rings by so many workers. Whoever calls it names the run R by the two.

@@ -1,56 +1,88 @@
-//! The workers: each goes round over all cells, and lets one node at a time have a turn, under that node's lock.
+//! The workers: each goes round over all nodes, and lets one at a time have its turns, under that node's lock.
 use live_links::{Cell, RunName};
 use std::alloc::Global;
 use std::sync::{Mutex, Wait};
 use std::thread;
 use std::thread::Threads;
 use world_base::Member;
-use xfs_base::Gate;
+use xfs_base::{Gate, Mem, NodeId};
 
-/// A node's cell behind a lock. None is left there only after want of memory.
-pub type Seat<N, R> = Mutex<Option<Cell<N, R>>>;
+/// How many turns more than one a node has at most under one lock.
+pub const MORE: u8 = 63;
+
+/// After how many rounds, one after the other, in which a worker moved nothing, it lets time pass at the nodes.
+pub const QUIET: u8 = 32;
+
+/// What stands behind a lock, and lets workers have turns with it.
+pub trait Visited: Drop {
+    /// The name of its node.
+    fn node(&self) -> NodeId;
+
+    /// Makes some turns, one after the other, or none, and says whether it made any. Time passes at the node at most once,
+    /// and only where the worker is idle. Where memory is wanting the node is given up with its run.
+    fn have_turns(self, alloc: Global, idle: bool) -> Mem<(Self, bool)>;
+
+    /// Whether each item of its node was begun and is answered.
+    fn is_over(&self) -> bool;
+}
+
+impl<N: Member, R: RunName> Visited for Cell<N, R> {
+    fn node(&self) -> NodeId {
+        self.name()
+    }
+
+    fn have_turns(self, alloc: Global, idle: bool) -> Mem<(Cell<N, R>, bool)> {
+        self.act_on(alloc, idle, MORE)
+    }
+
+    fn is_over(&self) -> bool {
+        self.done()
+    }
+}
+
+/// A cell, or what has one, behind a lock. None is left there only after want of memory.
+pub type Seat<T> = Mutex<Option<T>>;
 
 /// What a worker found at a seat.
 #[derive(Clone, Copy)]
 enum Found {
     /// No cell.
     Nothing,
+    /// Another worker.
+    Busy,
     /// A cell, whether it had a turn, and whether all its items are answered.
     Cell { moved: bool, done: bool },
 }
 
 /// What a worker found in a round over all seats.
 #[derive(Clone, Copy)]
-struct Round {
+pub struct Round {
     /// Whether a cell was gone.
-    gone: bool,
+    pub gone: bool,
     /// Whether some cell had a turn.
-    moved: bool,
+    pub moved: bool,
     /// Whether all items of all cells are answered.
-    done: bool,
+    pub done: bool,
 }
 
-/// Lets the node of a seat have at most one turn.
-fn visit<N: Member, R: RunName, W: Wait, G: Gate>(
-    rt: &W,
-    alloc: Global,
-    seat: &Seat<N, R>,
-    idle: bool,
-    gate: &G,
-) -> Found {
-    let mut guard = seat.lock(rt);
+/// Lets the node of a seat have its turns, where no other worker is there.
+fn visit<T: Visited, G: Gate>(alloc: Global, seat: &Seat<T>, idle: bool, gate: &G) -> Found {
+    let mut guard = match seat.try_lock() {
+        None => return Found::Busy,
+        Some(guard) => guard,
+    };
     let cell = match guard.take() {
         None => return Found::Nothing,
         Some(cell) => cell,
     };
-    let node = cell.name();
+    let node = cell.node();
     gate.enter(node);
-    let acted = cell.act(alloc, idle);
+    let acted = cell.have_turns(alloc, idle);
     gate.leave(node);
     match acted {
         Err(_) => Found::Nothing,
         Ok((cell, moved)) => {
-            let done = cell.done();
+            let done = cell.is_over();
             *guard = Some(cell);
             Found::Cell { moved, done }
         }
@@ -58,10 +90,9 @@ fn visit<N: Member, R: RunName, W: Wait, G: Gate>(
 }
 
 /// One round over the seats, beginning at one of them. It ends where a cell is gone.
-fn go_round<N: Member, R: RunName, W: Wait, G: Gate>(
-    rt: &W,
+pub fn go_round<T: Visited, G: Gate>(
     alloc: Global,
-    seats: &[Seat<N, R>],
+    seats: &[Seat<T>],
     first: usize,
     idle: bool,
     gate: &G,
@@ -74,11 +105,12 @@ fn go_round<N: Member, R: RunName, W: Wait, G: Gate>(
     let count = seats.len();
     for step in 0..count {
         let place = first.wrapping_add(step) % count;
-        match visit(rt, alloc, &seats[place], idle, gate) {
+        match visit(alloc, &seats[place], idle, gate) {
             Found::Nothing => {
                 round.gone = true;
                 return round;
             }
+            Found::Busy => round.done = false,
             Found::Cell { moved, done } => {
                 round.moved = round.moved || moved;
                 round.done = round.done && done;
@@ -89,32 +121,38 @@ fn go_round<N: Member, R: RunName, W: Wait, G: Gate>(
 }
 
 /// Goes round over the seats, beginning at one of them, until all items of all nodes are answered or a cell is gone.
-/// Time passes at a node only in a round after one in which nothing moved.
-fn work<N: Member, R: RunName, W: Wait, G: Gate>(
+/// Time passes at the nodes only in a round after so many in which nothing moved. A worker that moved nothing lets
+/// other threads go on.
+fn work<T: Visited, W: Wait, G: Gate>(
     rt: &W,
     alloc: Global,
-    seats: &[Seat<N, R>],
+    seats: &[Seat<T>],
     first: usize,
     gate: &G,
 ) {
-    let mut idle = false;
+    let mut quiet = 0;
     for _ in rt.forever() {
-        let round = go_round(rt, alloc, seats, first, idle, gate);
+        let round = go_round(alloc, seats, first, quiet >= QUIET, gate);
         if round.gone || round.done {
             return;
         }
-        idle = !round.moved;
-        thread::yield_now();
+        if round.moved {
+            quiet = 0;
+        } else {
+            quiet = u8::saturating_add(quiet, 1);
+            thread::yield_now();
+        }
     }
 }
 
 /// Runs so many workers, and returns when all have returned. What one that can't be started would do is done here.
-pub(crate) fn run_workers<
-    N: Member + Send,
-    R: RunName + Send + Sync,
-    W: Threads + Wait + Sync,
-    G: Gate,
->(rt: &W, alloc: Global, seats: &[Seat<N, R>], workers: u8, gate: &G) {
+pub(crate) fn run_workers<T: Visited + Send, W: Threads + Wait + Sync, G: Gate>(
+    rt: &W,
+    alloc: Global,
+    seats: &[Seat<T>],
+    workers: u8,
+    gate: &G,
+) {
     thread::scope(thread::scope_env(), rt, |scope| {
         for worker in 0..workers {
             let first = usize::from(worker);

@@ -1,7 +1,8 @@
-use Rattle.std.proofs.Common.{◌≡◌, subst, ℕ, length, Some, arith}
+use Rattle.std.proofs.Common.{◌≡◌, [], subst, ℕ, length, Some, arith}
 use Rattle.std.specs.Prelude.{slice_get}
 use Rattle.std.proofs.lemmas.Option.{slice_get_within}
-use Rattle.live_run.proofs.Begun.{front_last, front_less, ins_of, one_less, outs_of, unused_of}
+use Rattle.std.proofs.lemmas.List.Elements.{All-push, All-same}
+use Rattle.live_run.proofs.Begun.{All-reverse, front_last, front_less, ins_of, one_less, outs_of, unused_of}
 use Rattle.live_run.proofs.cells.first_cells.Goals as goal
 
 pub loop-preserved : goal.loop-preserved
@@ -19,6 +20,9 @@ loop-preserved g c =
           let more = one_less c.push.new.self.items c.loop.cells.items c.in_ok-cell.cell c.in_ok-push.ensures.items in
           let was = i.made in
           omega arith;
+      fresh =
+          All-same (λ d. d.journal.moments ≡ []) c.push.new.self.items _ c.in_ok-push.ensures.items
+          (All-push (λ d. d.journal.moments ≡ []) c.loop.cells.items c.in_ok-cell.cell i.fresh c.in_ok-cell.ensures.empty);
     }
 
 pub start-requires-clause-within : goal.start-requires-clause-within
@@ -52,3 +56,8 @@ pub start-requires-clause-unused : goal.start-requires-clause-unused
 start-requires-clause-unused g c =
     let at = front_last c.loop.outs.items c.pop_last.new.all.items c.args.outs.items c.in-Some.row c.loop.invariant.outs c.in-Some.ensures in
     unused_of c.args.count c.args.outs.items g.R.RunName.outs c.args.ins.items c.requires.links c.requires.outs (length c.pop_last.new.all.items) c.in-Some.row at
+
+pub returns-clause-fresh : goal.returns-clause-fresh
+returns-clause-fresh g c =
+    All-same (λ d. d.journal.moments ≡ []) c.turned_round.result.items _ c.turned_round.ensures.order
+    (All-reverse (λ d. d.journal.moments ≡ []) c.loop.cells.items c.loop.invariant.fresh)

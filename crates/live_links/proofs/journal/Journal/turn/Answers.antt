@@ -1,4 +1,4 @@
-use Rattle.std.proofs.Common.{◌≡◌, ◌∙◌, ap, sym, subst, ◌+◌, ◌||◌, ℕ}
+use Rattle.std.proofs.Common.{◌≡◌, ◌∙◌, refl, ap, sym, subst, ◌+◌, ◌++◌, ◌||◌, ℕ}
 use Rattle.std.specs.Prelude.{List as Seq}
 use Rattle.version_model.specs.declared.act.Act.{Act}
 use Rattle.wire_msg.specs.NodeStep.{NodeStep}
@@ -7,7 +7,10 @@ use Rattle.world_base.specs.declared.due.Due.{Due}
 use Rattle.journals.specs.declared.moment.Moment.{Moment}
 use Rattle.journals.specs.Answers.{has_answer, knows}
 use Rattle.journals.specs.Journals.{MayBegin, whats}
+use Rattle.live_links.specs.Answered.{answers_by}
+use Rattle.live_links.specs.Ends.{letters_of}
 use Rattle.live_links.specs.Facts.{first_at, name_at}
+use Rattle.live_links.proofs.Answering.{answers_next}
 use Rattle.live_links.proofs.Turns.{journal_next, turned_next, turned_none}
 use Rattle.live_links.proofs.journal.Journal.turn.Goals as goal
 
@@ -19,7 +22,15 @@ invariant_of-journal g c =
     let first = first_at g.N.Member.first script j.place in
     let acts = c.in_ok-packets.acts in
     let more = c.note_all.new.self in
-    let m : Moment = record { clock = c.in-Some.clock; what = c.args.what; from = c.args.from; number = c.args.number } in
+    let m : Moment = record {
+      clock = c.in-Some.clock;
+      what = c.args.what;
+      from = c.args.from;
+      number = c.args.number;
+      packets = c.in_ok-shared.shared;
+      acts = acts;
+    }
+    in
     let known : (k : ℕ) → knows more k ≡ (knows j.answers k || has_answer node k acts) = λ k.
     c.in_ok-note_all.ensures.noted k ∙ ap (λ (done : Seq Act). knows j.answers k || has_answer j.name k done) c.as_slice.ensures
     ∙ ap (λ (by : NodeId). knows j.answers k || has_answer by k acts) j.name_is
@@ -31,9 +42,14 @@ invariant_of-journal g c =
           journal_next g.N.Actor.transition node first j.dues j.moments j.node.value j.clock j.begun j.answers j.sent j.is_journal m
           (record { node = c.step_of.new.node; packets = c.in_ok-packets.packets; acts = acts }) more c.push.new.self c.in_ok-begun.begun c.in_ok-sent.sent
           (sym c.in-Some.ensures) (λ e. subst (λ (ds : Seq Due). MayBegin g.N.Actor.transition node first ds (whats j.moments)) (sym j.dues_are) (c.requires e))
-          (c.in_ok-packets.ensures ∙ ap (λ n. g.N.Actor.transition n c.args.what) c.deref_mut.ensures.value) known c.in_ok-note_all.ensures.settled c.in_ok-push.ensures.ok
+          (c.in_ok-packets.ensures ∙ ap (λ n. g.N.Actor.transition n c.args.what) c.deref_mut.ensures.value) c.in_ok-shared.ensures refl known
+          c.in_ok-note_all.ensures.settled c.in_ok-push.ensures.ok
           (c.in_ok-begun.ensures ∙ ap (λ n. j.begun + n) c.begins_of.ensures)
           (c.in_ok-sent.ensures ∙ ap (λ n. j.sent + n) c.len.ensures);
+      answered_are =
+          answers_next g.N.Actor.transition node first j.name j.moments c.push.new.self m j.node.value acts j.answered c.keep_answers.new.kept j.name_is j.is_journal.replay
+          (ap (λ (s : NodeStep g.row.N.Denot). s.acts) (c.in_ok-packets.ensures ∙ ap (λ n. g.N.Actor.transition n c.args.what) c.deref_mut.ensures.value))
+          c.in_ok-push.ensures.ok j.answered_are (c.in_ok-keep_answers.ensures ∙ ap (λ (done : Seq Act). j.answered ++ answers_by j.name done) c.as_slice-2.ensures);
     }
 
 pub returns-clause-exact : goal.returns-clause-exact
@@ -42,11 +58,20 @@ returns-clause-exact g c =
     let script = g.R.RunName.script in
     let node = name_at script j.place in
     let first = first_at g.N.Member.first script j.place in
-    let m : Moment = record { clock = c.in-Some.clock; what = c.args.what; from = c.args.from; number = c.args.number } in
-    turned_next g.N.Actor.transition node first j.dues j.moments j.node.value j.clock j.begun j.answers j.sent j.is_journal j.place m c.in_ok-packets.packets
-    c.in_ok-letters.letters c.push.new.self (sym c.in-Some.ensures)
-    (ap (λ (s : NodeStep g.row.N.Denot). s.packets) (c.in_ok-packets.ensures ∙ ap (λ n. g.N.Actor.transition n c.args.what) c.deref_mut.ensures.value))
-    c.in_ok-letters.ensures c.in_ok-push.ensures.ok
+    let acts = c.in_ok-packets.acts in
+    let m : Moment = record {
+      clock = c.in-Some.clock;
+      what = c.args.what;
+      from = c.args.from;
+      number = c.args.number;
+      packets = c.in_ok-shared.shared;
+      acts = acts;
+    }
+    in
+    turned_next g.N.Actor.transition node first j.dues j.moments j.node.value j.clock j.begun j.answers j.sent j.is_journal j.place m
+    (record { node = c.step_of.new.node; packets = c.in_ok-packets.packets; acts = acts }) c.in_ok-letters.letters c.push.new.self (sym c.in-Some.ensures)
+    (c.in_ok-packets.ensures ∙ ap (λ n. g.N.Actor.transition n c.args.what) c.deref_mut.ensures.value) c.in_ok-shared.ensures refl
+    (c.in_ok-letters.ensures ∙ ap (letters_of j.place j.sent) c.as_slice-3.ensures) c.in_ok-push.ensures.ok
 
 pub returns-in-None-clause-exact : goal.returns-in-None-clause-exact
 returns-in-None-clause-exact g c =

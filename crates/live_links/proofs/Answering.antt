@@ -1,0 +1,99 @@
+-- What a turn adds to what a node has begun and answered.
+use Rattle.std.proofs.Common.{◌≡◌, sym, ap, ◌∙◌, ℕ, ◌+◌, ◌≤◌, Bool, true, cond, List, [], ◌∷◌, ◌++◌, map, Option, Some, None, arith, append-nil}
+use Rattle.std.proofs.lemmas.List.Elements.{filter-append}
+use Rattle.script_text.specs.declared.script.Script.{Script}
+use Rattle.version_model.specs.declared.act.Act.{Act}
+use Rattle.version_model.specs.declared.work.Work.{Work}
+use Rattle.wire_msg.specs.declared.packet.Do.{Do}
+use Rattle.wire_msg.specs.declared.packet.Do.TheVariants.{Begin}
+use Rattle.wire_msg.specs.NodeStep.{NodeStep}
+use Rattle.xfs_base.specs.declared.node.NodeId.{NodeId}
+use Rattle.xfs_base.specs.declared.setup.Setup.{Setup}
+use Rattle.world_base.specs.NextWorld.{clock_after, sent_at}
+use Rattle.journals.specs.declared.moment.Moment.{Moment}
+use Rattle.journals.specs.Journals.{acts_in, begins, is_begin, last_clock, replayed, whats}
+use Rattle.live_links.specs.Acts.{turned, turned_at}
+use Rattle.live_links.specs.Answered.{AnswersMore, answered_at, answers_by, is_answer_by}
+use Rattle.live_links.specs.Facts.{first_at, name_at}
+use Rattle.live_links.proofs.Turns.{acts_more, count_by-append, whats_more}
+
+module _ {N : Type 0} (step : N → Do → NodeStep N) (node : NodeId) (first : N) where
+  -- the answers of one event more
+  answers_then : (ms : List Moment) (m : Moment)
+      → answers_by node (acts_in step first (whats (ms ++ m ∷ []))) ≡ answers_by node (acts_in step first (whats ms)) ++ answers_by node (step (replayed step first (whats ms)) m.what).acts
+  answers_then ms m =
+      ap (λ ds. answers_by node (acts_in step first ds)) (whats_more ms m)
+      ∙ ap (answers_by node) (acts_more step first (whats ms) m.what)
+      ∙ filter-append (is_answer_by node) (acts_in step first (whats ms)) (step (replayed step first (whats ms)) m.what).acts
+
+  -- the answers that a journal keeps
+  pub answers_next : (by : NodeId) (ms new : List Moment) (m : Moment) (n : N) (acts kept more : List Act) → by ≡ node → n ≡ replayed step first (whats ms)
+      → acts ≡ (step n m.what).acts → new ≡ ms ++ m ∷ [] → kept ≡ answers_by node (acts_in step first (whats ms)) → more ≡ kept ++ answers_by by acts
+      → more ≡ answers_by node (acts_in step first (whats new))
+  answers_next by ms new m n acts kept more name is are e old grown =
+      let same : acts ≡ (step (replayed step first (whats ms)) m.what).acts = are ∙ ap (λ x. (step x m.what).acts) is in
+      grown ∙ ap (λ who. kept ++ answers_by who acts) name
+      ∙ ap (λ xs. xs ++ answers_by node acts) old
+      ∙ ap (λ xs. answers_by node (acts_in step first (whats ms)) ++ answers_by node xs) same
+      ∙ sym (answers_then ms m)
+      ∙ sym (ap (λ all. answers_by node (acts_in step first (whats all))) e)
+
+  -- the moment that a turn adds
+  abbrev moment_at : Do → ℕ → ℕ → List Moment → ℕ → Moment
+  moment_at what from number ms clock = record {
+    clock = clock;
+    what = what;
+    from = from;
+    number = number;
+    packets = map (sent_at clock) (step (replayed step first (whats ms)) what).packets;
+    acts = (step (replayed step first (whats ms)) what).acts;
+  }
+
+  -- what was answered stays answered
+  more_at : (place : ℕ) (what : Do) (from number : ℕ) (ms : List Moment) (clock : Option ℕ)
+      → (more : List Act)
+      × (answers_by node (acts_in step first (whats (turned_at step first place what from number ms clock).moments)) ≡ answers_by node (acts_in step first (whats ms)) ++ more)
+  more_at place what from number ms None = ([], sym (append-nil (answers_by node (acts_in step first (whats ms)))))
+  more_at place what from number ms (Some clock) =
+      let m : Moment = moment_at what from number ms clock in
+      (answers_by node (step (replayed step first (whats ms)) what).acts, answers_then ms m)
+
+  -- and a turn begins an item only where it is a Begin
+  begun_at : (place : ℕ) (what : Do) (from number : ℕ) (ms : List Moment) (clock : Option ℕ)
+      → begins (whats (turned_at step first place what from number ms clock).moments) ≤ begins (whats ms) + begins (what ∷ [])
+  begun_at place what from number ms None = omega arith
+  begun_at place what from number ms (Some clock) =
+      let m : Moment = moment_at what from number ms clock in
+      let e : begins (whats (ms ++ m ∷ [])) ≡ begins (whats ms) + begins (what ∷ []) = ap begins (whats_more ms m) ∙ count_by-append is_begin (whats ms) (what ∷ []) in
+      omega arith
+
+  pub begun_then : (place : ℕ) (what : Do) (from number : ℕ) (ms new : List Moment) (bound : ℕ) → new ≡ (turned step first place what from number ms).moments
+      → begins (what ∷ []) ≤ bound → begins (whats new) ≤ begins (whats ms) + bound
+  begun_then place what from number ms new bound is most =
+      let one = begun_at place what from number ms (clock_after (last_clock 0 ms) what) in
+      let same = ap (λ all. begins (whats all)) is in
+      omega arith
+
+begin_is : begins (Begin ∷ []) ≤ 1
+begin_is = omega arith
+
+-- no more is begun where nothing happens
+pub begun_still : (old new : List Moment) (bound : ℕ) → new ≡ old → begins (whats new) ≤ begins (whats old) + bound
+begun_still old new bound is = let same = ap (λ all. begins (whats all)) is in omega arith
+
+pub one_begun : (may : Bool) → may ≡ true → begins (Begin ∷ []) ≤ cond may 1 0
+one_begun may is = rw is (omega arith)
+
+module _ {N : Type 0} (step : N → Do → NodeStep N) (first : NodeId → Setup → List Work → N) (script : Script) where
+  pub answered_then : (place other : ℕ) (what : Do) (from number : ℕ) (old ms new : List Moment) → other ≡ place → ms ≡ old
+      → new ≡ (turned step (first_at first script other) other what from number ms).moments → AnswersMore step first script place old new
+  answered_then place other what from number old ms new at same is =
+      let there : new ≡ (turned step (first_at first script place) place what from number old).moments =
+      is ∙ ap (λ (q : ℕ). (turned step (first_at first script q) q what from number ms).moments) at
+      ∙ ap (λ (all : List Moment). (turned step (first_at first script place) place what from number all).moments) same
+      in
+      let one = more_at step (name_at script place) (first_at first script place) place what from number old (clock_after (last_clock 0 old) what) in
+      (one.0, ap (answered_at step first script place) there ∙ one.1)
+
+  pub answered_still : (place : ℕ) (old new : List Moment) → new ≡ old → AnswersMore step first script place old new
+  answered_still place old new is = ([], ap (answered_at step first script place) is ∙ sym (append-nil (answered_at step first script place old)))
