@@ -1,0 +1,5 @@
+pub mod Acted
+pub mod Handing
+pub mod Joined
+pub mod Made
+pub mod Said
