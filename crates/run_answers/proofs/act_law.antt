@@ -1,9 +1,15 @@
 mod Telling
 mod Foundations
 mod Plans
+mod Trails
 mod Calling
 mod Clients
+mod Writing
+mod Versions
+mod Newest
+mod Incarnations
 mod Filing
 mod Cleaners
 mod Others
 mod Runs
+mod Answered

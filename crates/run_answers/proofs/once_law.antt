@@ -2,7 +2,6 @@ pub mod Ledger
 pub mod Items
 pub mod Openings
 pub mod Following
-pub mod Arriving
 pub mod Calling
 mod Clients
 pub mod Emptying

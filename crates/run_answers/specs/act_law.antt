@@ -1,3 +1,6 @@
 pub mod Works
 pub mod Founded
 pub mod Runs
+pub mod Planned
+pub mod Files
+pub mod Newest

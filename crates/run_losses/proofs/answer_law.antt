@@ -2,7 +2,6 @@ pub mod Telling
 mod Items
 mod Plans
 mod Following
-mod Arriving
 mod Calling
 mod Openings
 pub mod Settling

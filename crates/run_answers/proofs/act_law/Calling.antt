@@ -1,6 +1,6 @@
 -- What the open call of a client answers, and what that stands on.
-use Rattle.std.proofs.Common.{◌≡◌, ℕ, zero, suc, ◌+◌, ◌==◌, cond, Bool, true, false, List, [], ◌∷◌, ◌++◌, Option, Some, None, is_some, inl, refl, sym, ap, subst, ◌∙◌}
-use Rattle.client_call.specs.Calls.{after_answer, answer_of, going, may_make}
+use Rattle.std.proofs.Common.{◌≡◌, ℕ, zero, suc, ◌+◌, ◌==◌, cond, Bool, true, false, List, [], ◌∷◌, ◌++◌, append-nil, append_assoc, Option, Some, None, is_some, inl, refl, sym, ap, subst, ◌∙◌}
+use Rattle.client_call.specs.Calls.{after_answer, answer_of, call_of, going, going_by, may_make}
 use Rattle.client_call.specs.declared.call.Call.{Call}
 use Rattle.client_call.specs.declared.call.Going.{Going}
 use Rattle.client_call.specs.declared.call.Going.TheVariants.{On, Ends}
@@ -19,66 +19,65 @@ use Rattle.file_plan.specs.declared.block_call.BlockAnswer.TheVariants.{Got, Cha
 use Rattle.file_plan.specs.declared.block_call.BlockAnswer.TheVariants.{Put as Written}
 use Rattle.file_plan.specs.declared.block_call.BlockCall.{BlockCall}
 use Rattle.file_plan.specs.declared.block_call.BlockCall.TheVariants.{Get, Put, PutAt, Sync}
+use Rattle.file_plan.specs.declared.block_call.Next.{Next}
+use Rattle.file_plan.specs.declared.block_call.Next.TheVariants.{Step, Reply}
+use Rattle.file_plan.specs.declared.state.PlanState.{PlanState}
 use Rattle.file_plan.specs.Plan as plan
-use Rattle.node_base.specs.Beginning.{answered, answers_unanswered, waiting, work_at}
+use Rattle.node_base.specs.Beginning.{waiting, work_at}
 use Rattle.node_base.specs.declared.effects.Effect.{Effect}
 use Rattle.node_base.specs.declared.effects.Effect.TheVariants.{Answer as Answers, Does}
+use Rattle.node_base.specs.Effects.{acts_of}
 use Rattle.token_client.specs.Held.{may_write}
 use Rattle.token_protocol.specs.Basics.{In}
 use Rattle.version_model.specs.declared.act.Act.{Act}
 use Rattle.version_model.specs.declared.act.Act.TheVariants as act
 use Rattle.version_model.specs.declared.answer.Answer.{Answer}
 use Rattle.version_model.specs.declared.answer.Answer.TheVariants as answer
+use Rattle.version_model.specs.declared.file_call.FileCall.{FileCall}
 use Rattle.version_model.specs.declared.work.Work.{Work}
 use Rattle.version_model.specs.declared.work.Work.TheVariants as work
 use Rattle.xfs_base.proofs.Booleans.{by_test}
 use Rattle.xfs_base.specs.declared.block.BlockId.{BlockId}
+use Rattle.xfs_base.specs.declared.node.NodeId.{NodeId}
+use Rattle.xfs_base.specs.declared.node.NodeId.TheVariants as nodes
 use Rattle.xfs_base.specs.Modes.{is_nothing}
-use Rattle.xfs_base.specs.Steps.{saying}
-use Rattle.run_answers.proofs.act_law.Plans.{EndsWell, FileGoing, IsFilePlan, IsFileReply, after_file, file_goes}
-use Rattle.run_answers.proofs.act_law.Foundations.{Its, its_grow}
-use Rattle.run_answers.proofs.act_law.Telling.{DoneIn, Founded, acted, acted_by, closes_founded, effect_behind, founded_append, founded_then, open_founded}
-use Rattle.run_answers.proofs.once_law.Calling.{makes_go}
-use Rattle.run_answers.proofs.once_law.Following.{Goes, IsOpen, seals_go}
+use Rattle.xfs_base.specs.Steps.{saying, still}
+use Rattle.run_answers.proofs.act_law.Foundations.{Its, ItsOf, its_grow}
+use Rattle.run_answers.proofs.act_law.Plans.{EndsWell, IsFileReply, all_well, replies_well, start_well}
+use Rattle.run_answers.proofs.act_law.Telling.{DoneIn, Foundation, Founded, Grows, acted, acted_by, acted_then, closes_founded, effect_behind, founded_then, is_acted, open_founded}
+use Rattle.run_answers.proofs.act_law.Trails.{Trailed, begins_trailed, more_trailed, next_trailed, replies_so}
+use Rattle.run_answers.proofs.once_law.Following.{Goes, IsOpen, makes_go, seals_go}
 use Rattle.run_answers.proofs.once_law.Ledger.{IsLoss, effects_left, no_item, one_number}
 use Rattle.run_answers.specs.act_law.Founded.{IsDone, IsFileCall, IsFounded, IsRead, IsWritten}
+use Rattle.run_answers.specs.act_law.Planned.{IsActed, IsByPlan, IsCallsAnswer, IsGiven}
 use Rattle.run_answers.specs.act_law.Works.{asked_at}
 
 -- ---- what a call on blocks is of its item
 
 -- the item asks for this block
-abbrev IsGetOf : BlockId → Option Work → Type 0
+abbrev pub IsGetOf : BlockId → Option Work → Type 0
 IsGetOf block (Some (work.Bget c b)) = b ≡ block
 IsGetOf block _ = ⊥
 
-abbrev IsPutOf : BlockId → Option (List ℕ) → Option Work → Type 0
+abbrev pub IsPutOf : BlockId → Option (List ℕ) → Option Work → Type 0
 IsPutOf block value (Some (work.Bput c b v)) = (b ≡ block) × (v ≡ value)
 IsPutOf block value _ = ⊥
 
-abbrev IsSync : Option Work → Type 0
+abbrev pub IsSync : Option Work → Type 0
 IsSync (Some (work.Sync c)) = Unit {0}
 IsSync _ = ⊥
 
 -- the one call on blocks of the item
-abbrev StepFits : BlockCall → Option Work → Type 0
+abbrev pub StepFits : BlockCall → Option Work → Type 0
 StepFits (Get block) w = IsGetOf block w
 StepFits (Put block value) w = IsPutOf block value w
 StepFits (PutAt block ver value) w = ⊥
 StepFits Sync w = IsSync w
 
--- or one of a call on files that the item asks for
-abbrev pub PlanFits : Plan → BlockCall → Option Work → Type 0
-PlanFits One step w = StepFits step w
-PlanFits (File p) step w = IsFileCall w × EndsWell p
-
-file_fits : (p : Plan) (step : BlockCall) (w : Option Work) → IsFileCall w → IsFilePlan p → PlanFits p step w
-file_fits One step w file well = absurd well
-file_fits (File p) step w file well = (file, well)
-
 -- ---- what a call on blocks acts
 
 -- its answer tells of what is acted
-abbrev ActedFor : ℕ → BlockCall → List Effect → Option BlockAnswer → Type 0
+abbrev pub ActedFor : ℕ → BlockCall → List Effect → Option BlockAnswer → Type 0
 ActedFor client step outs None = Unit {0}
 ActedFor client (Get block) outs (Some (Got ver value)) = In (Does (act.Read client block ver value)) outs
 ActedFor client (Put block value) outs (Some (Written ver)) = In (Does (act.Wrote client block value)) outs
@@ -87,7 +86,7 @@ ActedFor client (PutAt block named value) outs (Some Changed) = Unit {0}
 ActedFor client Sync outs (Some Synced) = In (Does (act.Synced client)) outs
 ActedFor client _ outs (Some _) = ⊥
 
-abbrev MadeFor : ℕ → BlockCall → Made → Type 0
+abbrev pub MadeFor : ℕ → BlockCall → Made → Type 0
 MadeFor client step m = ActedFor client step m.done.outs m.answer
 
 gets_acted : (s : Serving) (block : BlockId) → MadeFor s.lasting.number (Get block) (gets s block)
@@ -137,14 +136,37 @@ syncs_acted s =
     by true = effect_behind (Does (act.Synced (seals s).state.lasting.number)) (seals s).outs _ (inl refl)
     by false = tt
 
-makes_acted : (s : Serving) (step : BlockCall) → MadeFor s.lasting.number step (makes s step)
+pub makes_acted : (s : Serving) (step : BlockCall) → MadeFor s.lasting.number step (makes s step)
 unfolding makes
 makes_acted s (Get block) = gets_acted s block
 makes_acted s (Put block value) = puts_acted s block value
 makes_acted s (PutAt block ver value) = puts_at_acted s block ver value
 makes_acted s Sync = syncs_acted s
 
-module _ (client : ℕ) (works : List Work) where
+-- what its acts say of its answer
+answer_acted : (client : ℕ) (step : BlockCall) (a : BlockAnswer) (outs : List Effect) → ActedFor client step outs (Some a)
+    → IsActed client step a (acts_of (nodes.Client client) outs)
+answer_acted client (Get block) (Got ver value) outs among = is_acted (nodes.Client client) (act.Read client block ver value) outs among
+answer_acted client (Put block value) (Written ver) outs among = is_acted (nodes.Client client) (act.Wrote client block value) outs among
+answer_acted client (PutAt block named value) (Written ver) outs among = is_acted (nodes.Client client) (act.Wrote client block value) outs among
+answer_acted client (PutAt block named value) Changed outs among = tt
+answer_acted client Sync Synced outs among = is_acted (nodes.Client client) (act.Synced client) outs among
+answer_acted client _ _ outs among = absurd among
+
+module _ (Began : ℕ → List Act → Type 0) (client : ℕ) (works : List Work) (first : List Act) where
+  abbrev pub me : NodeId
+  me = nodes.Client client
+
+  -- what an answer is founded on, and of the item that asks for this
+  abbrev pub F : Foundation
+  F = Its Began client works first
+
+  abbrev pub For : Option Work → ℕ → List Act → (ℕ → Type 0) → Answer → Type 0
+  For = ItsOf Began client works first
+
+  grow : Grows F
+  grow = its_grow Began client works first
+
   -- ---- an answer of one call on blocks
 
   got_founded : (w : Option Work) (block : BlockId) (ver : ℕ) (value : Option (List ℕ)) (said : List Act) → IsGetOf block w
@@ -162,16 +184,39 @@ module _ (client : ℕ) (works : List Work) where
   synced_founded (Some (work.Sync c)) said same among = among
   synced_founded _ said same among = absurd same
 
-  one_founded : (w : Option Work) (step : BlockCall) (a : BlockAnswer) (outs : List Effect) → StepFits step w → ActedFor client step outs (Some a)
-      → (done : ℕ → Type 0) → IsFounded client works w (acted [] outs) done (answer_of a)
-  one_founded w (Get block) (Got ver value) outs fits among done =
-      got_founded w block ver value (acted [] outs) fits (acted_by (act.Read client block ver value) [] outs among)
-  one_founded w (Put block value) (Written ver) outs fits among done =
-      written_founded w block value (acted [] outs) fits (acted_by (act.Wrote client block value) [] outs among)
-  one_founded w (PutAt block named value) a outs fits among done = absurd fits
-  one_founded w Sync Synced outs fits among done =
-      synced_founded w (acted [] outs) fits (acted_by (act.Synced client) [] outs among)
-  one_founded w _ _ outs fits among done = absurd among
+  one_founded : (w : Option Work) (step : BlockCall) (a : BlockAnswer) (said : List Act) (outs : List Effect) → StepFits step w
+      → ActedFor client step outs (Some a) → (done : ℕ → Type 0) → IsFounded client works w (acted me said outs) done (answer_of a)
+  one_founded w (Get block) (Got ver value) said outs fits among done =
+      got_founded w block ver value (acted me said outs) fits (acted_by me (act.Read client block ver value) said outs among)
+  one_founded w (Put block value) (Written ver) said outs fits among done =
+      written_founded w block value (acted me said outs) fits (acted_by me (act.Wrote client block value) said outs among)
+  one_founded w (PutAt block named value) a said outs fits among done = absurd fits
+  one_founded w Sync Synced said outs fits among done =
+      synced_founded w (acted me said outs) fits (acted_by me (act.Synced client) said outs among)
+  one_founded w _ _ said outs fits among done = absurd among
+
+  -- an item that asks for one call on blocks asks for none on files
+  no_file : (w : Option Work) (step : BlockCall) (item : ℕ) (acts : List Act) (a : Answer) → StepFits step w → IsCallsAnswer Began client item w acts a
+  no_file (Some (work.Bget c b)) (Get block) item acts a fits = tt
+  no_file (Some (work.Bput c b v)) (Put block value) item acts a fits = tt
+  no_file (Some (work.Sync c)) Sync item acts a fits = tt
+  no_file _ (Get block) item acts a fits = absurd fits
+  no_file _ (Put block value) item acts a fits = absurd fits
+  no_file _ (PutAt block named value) item acts a fits = absurd fits
+  no_file _ Sync item acts a fits = absurd fits
+
+  one_by_plan : (w : Option Work) (step : BlockCall) (a : BlockAnswer) (item : ℕ) (acts : List Act) → StepFits step w
+      → IsByPlan Began client item w acts (answer_of a)
+  one_by_plan w step (Got ver value) item acts fits = tt
+  one_by_plan w step (Written ver) item acts fits = tt
+  one_by_plan w step Changed item acts fits = no_file w step item acts answer.Done fits
+  one_by_plan w step Synced item acts fits = no_file w step item acts answer.Done fits
+
+  -- ---- an answer of a call on files
+
+  is_file : (w : Option Work) (item : ℕ) (acts : List Act) (p : PlanState) → Trailed Began client item w acts p → IsFileCall w
+  is_file (Some (work.File c call)) item acts p t = tt
+  is_file _ item acts p t = absurd t
 
   file_done : (w : Option Work) (said : List Act) → IsFileCall w → IsDone client w said
   file_done (Some (work.File c call)) said file = tt
@@ -186,153 +231,182 @@ module _ (client : ℕ) (works : List Work) where
   file_founded w said done (answer.File fault) file reply = file
   file_founded w said done _ file reply = absurd reply
 
+  file_by_plan : (w : Option Work) (item : ℕ) (acts : List Act) (a : Answer) → IsFileReply a → IsCallsAnswer Began client item w acts a
+      → IsByPlan Began client item w acts a
+  file_by_plan w item acts answer.Done reply its = its
+  file_by_plan w item acts (answer.Made ino) reply its = its
+  file_by_plan w item acts (answer.Bytes bytes) reply its = its
+  file_by_plan w item acts (answer.Size size) reply its = its
+  file_by_plan w item acts (answer.Names names) reply its = its
+  file_by_plan w item acts (answer.File fault) reply its = its
+  file_by_plan w item acts _ reply its = absurd reply
+
+  -- ---- the open call
+
+  -- its call on blocks is the one that the item asks for, or the next one of the plan of the call on files that it asks for
+  abbrev pub PlanFits : List Act → ℕ → Plan → BlockCall → Option Work → Type 0
+  PlanFits said item One step w = StepFits step w
+  PlanFits said item (File p) step w = (plan.next_call p ≡ Step step) × Trailed Began client item w (first ++ said) p
+
+  more_fits : (said more : List Act) (item : ℕ) (p : Plan) (step : BlockCall) (w : Option Work) → PlanFits said item p step w
+      → PlanFits (said ++ more) item p step w
+  more_fits said more item One step w fits = fits
+  more_fits said more item (File p) step w fits =
+      (fits.0, subst (λ acts. Trailed Began client item w acts p) (append_assoc first said more) (more_trailed Began client item w (first ++ said) more p fits.1))
+
+  -- it goes on so, or ends with an answer that is founded
+  abbrev pub GoingFits : List Act → ℕ → Option Work → Going → Type 0
+  GoingFits said item w (On call) = PlanFits said item call.plan call.step w
+  GoingFits said item w (Ends a) = For w item said (DoneIn []) a
+
+  file_going : (said : List Act) (item : ℕ) (w : Option Work) (p : PlanState) → EndsWell p → Trailed Began client item w (first ++ said) p
+      → GoingFits said item w (going p)
+  file_going said item w p well t = by (plan.next_call p) refl
+    where
+      by : (next : Next) → plan.next_call p ≡ next → GoingFits said item w (going_by p next)
+      by (Step step) e = (e, t)
+      by (Reply a) e =
+          let reply : IsFileReply a = replies_well p a well e in (
+            file_founded w said (DoneIn []) a (is_file w item (first ++ said) p t) reply,
+            file_by_plan w item (first ++ said) a reply (replies_so Began client item w (first ++ said) p a e t),
+          )
+
+  pub trailed_well : (w : Option Work) (item : ℕ) (acts : List Act) (p : PlanState) → Trailed Began client item w acts p → EndsWell p
+  trailed_well (Some (work.File c call)) item acts p t =
+      subst EndsWell t.1.stands (all_well (plan.start call (plan.made_by item client)) t.1.answers (start_well call (plan.made_by item client)))
+  trailed_well _ item acts p t = absurd t
+
+  after_fits : (said : List Act) (outs : List Effect) (item : ℕ) (w : Option Work) (p : Plan) (step : BlockCall) (a : BlockAnswer)
+      → ActedFor client step outs (Some a) → PlanFits said item p step w → GoingFits (acted me said outs) item w (after_answer p a)
+  after_fits said outs item w One step a among fits =
+      (one_founded w step a said outs fits among (DoneIn []), one_by_plan w step a item (first ++ acted me said outs) fits)
+  after_fits said outs item w (File p) step a among fits =
+      file_going (acted me said outs) item w (plan.after_answer p a) (trailed_well w item (first ++ acted me said outs) (plan.after_answer p a) now) now
+    where
+      now : Trailed Began client item w (first ++ acted me said outs) (plan.after_answer p a)
+      now =
+          subst (λ acts. Trailed Began client item w acts (plan.after_answer p a)) (append_assoc first said (acts_of me outs))
+          (next_trailed Began client item w (first ++ said) (acts_of me outs) p step a fits.0 (answer_acted client step a outs among) fits.1)
+
   -- ---- a client that serves
 
   -- the open call is one of the open item
-  abbrev pub CallFits : Serving → Type 0
-  CallFits s = (item : ℕ) → IsOpen s item → (call : Call) → s.call ≡ Some call → PlanFits call.plan call.step (asked_at works item)
+  abbrev pub CallFits : List Act → Serving → Type 0
+  CallFits said s = (item : ℕ) → IsOpen s item → (call : Call) → s.call ≡ Some call → PlanFits said item call.plan call.step (asked_at works item)
 
   -- it is this client, and these are its items
-  pub record Holds (s : Serving) : Type 0 where
+  pub record Holds (said : List Act) (s : Serving) : Type 0 where
     pub number : s.lasting.number ≡ client
     pub its : s.lasting.items.works ≡ works
-    pub fits : CallFits s
+    pub fits : CallFits said s
 
-  pub record Runs (d : Done) : Type 0 where
-    pub holds : Holds d.state
-    pub founded : Founded (Its client works) [] d.outs
+  pub record Runs (said : List Act) (d : Done) : Type 0 where
+    pub holds : Holds (acted me said d.outs) d.state
+    pub founded : Founded me F said d.outs
 
-  pub then_runs : (d x : Done) → Runs d → Runs x → Runs (saying d.outs x)
-  then_runs d x a b = record { holds = b.holds; founded = founded_append (Its client works) (its_grow client works) [] d.outs x.outs a.founded b.founded }
+  pub more_holds : (said more : List Act) (s : Serving) → Holds said s → Holds (said ++ more) s
+  more_holds said more s h = record {
+    number = h.number;
+    its = h.its;
+    fits = λ item waits call fact. more_fits said more item call.plan call.step (asked_at works item) (h.fits item waits call fact);
+  }
 
-  pub goes_holds : (s : Serving) (d : Done) → Goes s d → Holds s → Holds d.state
-  goes_holds s d g h = record { number = g.number ∙ h.number; its = g.items.works ∙ h.its; fits = fits_then }
+  -- nothing is done
+  rests : (said : List Act) (s : Serving) → Holds said s → Runs said (still s)
+  rests said s h = record { holds = subst (λ acts. Holds acts s) (sym (append-nil said)) h; founded = tt }
+
+  pub then_runs : (said : List Act) (d x : Done) → Runs said d → Runs (acted me said d.outs) x → Runs said (saying d.outs x)
+  then_runs said d x a b = record {
+    holds = subst (λ acts. Holds acts x.state) (acted_then me said d.outs x.outs) b.holds;
+    founded = founded_then me F grow said d.outs x.outs a.founded b.founded;
+  }
+
+  goes_holds : (said : List Act) (s : Serving) (d : Done) → Goes s d → Holds said s → Holds said d.state
+  goes_holds said s d g h = record { number = g.number ∙ h.number; its = g.items.works ∙ h.its; fits = fits_then }
     where
-      fits_then : CallFits d.state
+      fits_then : CallFits said d.state
       fits_then item waits call fact =
           let old = g.calls call fact in
-          let f : PlanFits old.0.plan old.0.step (asked_at works item) =
+          let f : PlanFits said item old.0.plan old.0.step (asked_at works item) =
           h.fits item (effects_left IsLoss (IsOpen s) (IsOpen d.state) d.outs g.closes item waits) old.0 old.1.0 in
-          subst (λ p. PlanFits p call.step (asked_at works item)) (sym old.1.1.0)
-          (subst (λ t. PlanFits old.0.plan t (asked_at works item)) (sym old.1.1.1) f)
+          subst (λ p. PlanFits said item p call.step (asked_at works item)) (sym old.1.1.0)
+          (subst (λ t. PlanFits said item old.0.plan t (asked_at works item)) (sym old.1.1.1) f)
 
-  loss_founded : (item : ℕ) (said : List Act) (done : ℕ → Type 0) (a : Answer) → IsLoss a → IsFounded client works (asked_at works item) said done a
-  loss_founded item said done (answer.Lost name) loss = tt
+  loss_founded : (item : ℕ) (said : List Act) (done : ℕ → Type 0) (a : Answer) → IsLoss a → F item said done a
+  loss_founded item said done (answer.Lost name) loss = (tt, tt)
   loss_founded item said done _ loss = absurd loss
 
-  pub goes_run : (s : Serving) (d : Done) → Goes s d → Holds s → Runs d
-  goes_run s d g h = record { holds = goes_holds s d g h; founded = closes_founded (Its client works) (its_grow client works) IsLoss loss_founded (IsOpen s) (IsOpen d.state) [] d.outs g.closes }
+  pub goes_run : (said : List Act) (s : Serving) (d : Done) → Goes s d → Holds said s → Runs said d
+  goes_run said s d g h = record {
+    holds = more_holds said (acts_of me d.outs) d.state (goes_holds said s d g h);
+    founded = closes_founded me F grow IsLoss loss_founded (IsOpen s) (IsOpen d.state) said d.outs g.closes;
+  }
 
-  -- with this call, which is of the open item; or none
-  with_call : (s : Serving) (call : Call) → Holds s → ((item : ℕ) → IsOpen s item → PlanFits call.plan call.step (asked_at works item))
-      → Holds (record s { call = Some call })
-  with_call s call h its = record { number = h.number; its = h.its; fits = by }
+  -- ---- the open call runs
+
+  -- it goes on, or its item is answered
+  goes_on_runs : (said : List Act) (s : Serving) (g : Going) → s.lasting.number ≡ client → s.lasting.items.works ≡ works
+      → ((item : ℕ) → IsOpen s item → GoingFits said item (asked_at works item) g) → Runs said (goes_on s g)
+  unfolding goes_on
+  goes_on_runs said s (On call) number its fits = rests said (record s { call = Some call }) (record { number = number; its = its; fits = by })
     where
-      by : CallFits (record s { call = Some call })
+      by : CallFits said (record s { call = Some call })
       by item waits other fact =
           let same : call ≡ other = cc in
-          subst (λ (k : Call). PlanFits k.plan k.step (asked_at works item)) same (its item waits)
+          subst (λ (k : Call). PlanFits said item k.plan k.step (asked_at works item)) same (fits item waits)
+  goes_on_runs said s (Ends a) number its fits = record {
+    holds = record { number = number; its = its; fits = λ item waits call fact. absurd (no_item item waits) };
+    founded = open_founded me F grow said s.lasting.items.unanswered a fits;
+  }
 
-  without_call : (s : Serving) → Holds s → Holds (record s { call = None })
-  without_call s h = record { number = h.number; its = h.its; fits = λ item waits call fact. absurd (none call fact) }
+  answers_run : (said : List Act) (outs : List Effect) (s : Serving) (call : Call) (a : Option BlockAnswer) → s.lasting.number ≡ client
+      → s.lasting.items.works ≡ works → ActedFor client call.step outs a
+      → ((item : ℕ) → IsOpen s item → PlanFits said item call.plan call.step (asked_at works item)) → Runs (acted me said outs) (answers_call s call a).done
+  answers_run said outs s call None number its among fits = rests (acted me said outs) (record s { call = Some call }) (record { number = number; its = its; fits = by })
+    where
+      by : CallFits (acted me said outs) (record s { call = Some call })
+      by item waits other fact =
+          let same : call ≡ other = cc in
+          more_fits said (acts_of me outs) item other.plan other.step (asked_at works item)
+          (subst (λ (k : Call). PlanFits said item k.plan k.step (asked_at works item)) same (fits item waits))
+  answers_run said outs s call (Some a) number its among fits =
+      goes_on_runs (acted me said outs) s (after_answer call.plan a) number its
+      (λ item waits. after_fits said outs item (asked_at works item) call.plan call.step a among (fits item waits))
+
+  without_call : (said : List Act) (s : Serving) → Holds said s → Holds said (record s { call = None })
+  without_call said s h = record { number = h.number; its = h.its; fits = λ item waits call fact. absurd (none call fact) }
     where
       none : (call : Call) → None ≡ Some call → ⊥
       none call fact = cc
 
-  closed : (s : Serving) → Holds s → Holds (record s { lasting = record s.lasting { items = answered s.lasting.items } })
-  closed s h = record { number = h.number; its = h.its; fits = λ item waits call fact. absurd (no_item item waits) }
-
-  -- ---- the open call
-
-  -- it goes on, or its item is answered, behind these effects
-  goes_on_runs : (s : Serving) (going : Going) (outs : List Effect) → Holds s → Founded (Its client works) [] outs
-      → ((item : ℕ) → IsOpen s item → IsFileCall (asked_at works item)) → FileGoing going → Runs (saying outs (goes_on s going))
-  unfolding goes_on
-  goes_on_runs s (On call) outs h f its well = record {
-    holds = with_call s call h (λ item waits. file_fits call.plan call.step (asked_at works item) (its item waits) well);
-    founded = founded_then (Its client works) (its_grow client works) [] outs [] f tt;
-  }
-  goes_on_runs s (Ends a) outs h f its well = record {
-    holds = closed s h;
-    founded = founded_then (Its client works) (its_grow client works) [] outs (answers_unanswered s.lasting.items.unanswered a) f
-        (open_founded (Its client works) (its_grow client works) (acted [] outs) s.lasting.items.unanswered a
-        (λ item waits. file_founded (asked_at works item) (acted [] outs) (DoneIn []) a (its item waits) well));
-  }
-
-  one_ends : (s : Serving) (a : BlockAnswer) (step : BlockCall) (outs : List Effect) → Holds s → Founded (Its client works) [] outs
-      → ((item : ℕ) → IsOpen s item → StepFits step (asked_at works item)) → ActedFor client step outs (Some a)
-      → Runs (saying outs (goes_on s (after_answer One a)))
-  unfolding goes_on
-  one_ends s a step outs h f its among = record {
-    holds = closed s h;
-    founded = founded_then (Its client works) (its_grow client works) [] outs (answers_unanswered s.lasting.items.unanswered (answer_of a)) f
-        (open_founded (Its client works) (its_grow client works) (acted [] outs) s.lasting.items.unanswered (answer_of a)
-        (λ item waits. one_founded (asked_at works item) step a outs (its item waits) among (DoneIn [])));
-  }
-
-  -- where no item is open nothing is answered
-  idle_goes : (s : Serving) (going : Going) (outs : List Effect) → Holds s → Founded (Its client works) [] outs → ((item : ℕ) → IsOpen s item → ⊥)
-      → Runs (saying outs (goes_on s going))
-  unfolding goes_on
-  idle_goes s (On call) outs h f none = record {
-    holds = with_call s call h (λ item waits. absurd (none item waits));
-    founded = founded_then (Its client works) (its_grow client works) [] outs [] f tt;
-  }
-  idle_goes s (Ends a) outs h f none = record {
-    holds = closed s h;
-    founded = founded_then (Its client works) (its_grow client works) [] outs (answers_unanswered s.lasting.items.unanswered a) f
-        (open_founded (Its client works) (its_grow client works) (acted [] outs) s.lasting.items.unanswered a (λ item waits. absurd (none item waits)));
-  }
-
-  -- the plan is of the open item
-  abbrev ItsPlan : Serving → Plan → BlockCall → Type 0
-  ItsPlan s p step = (item : ℕ) → IsOpen s item → PlanFits p step (asked_at works item)
-
-  plan_runs : (s : Serving) (p : Plan) (a : BlockAnswer) (step : BlockCall) (outs : List Effect) → Holds s → Founded (Its client works) [] outs → ItsPlan s p step
-      → ActedFor client step outs (Some a) → Runs (saying outs (goes_on s (after_answer p a)))
-  plan_runs s One a step outs h f its among = one_ends s a step outs h f its among
-  plan_runs s (File p) a step outs h f its among = by s.lasting.items.unanswered refl
-    where
-      idle_runs : s.lasting.items.unanswered ≡ None → Runs (saying outs (goes_on s (after_answer (File p) a)))
-      idle_runs e = idle_goes s (after_answer (File p) a) outs h f (λ item waits. no_item item (sym e ∙ waits))
-
-      by : (o : Option ℕ) → s.lasting.items.unanswered ≡ o → Runs (saying outs (goes_on s (after_answer (File p) a)))
-      by None e = idle_runs e
-      by (Some item) e =
-          goes_on_runs s (after_answer (File p) a) outs h f (λ n waits. (its n waits).0) (after_file p a (its item e).1)
-
-  answers_run : (s : Serving) (call : Call) (a : Option BlockAnswer) (outs : List Effect) → Holds s → Founded (Its client works) [] outs
-      → ItsPlan s call.plan call.step → ActedFor client call.step outs a → Runs (saying outs (answers_call s call a).done)
-  answers_run s call None outs h f its among = record { holds = with_call s call h its; founded = founded_then (Its client works) (its_grow client works) [] outs [] f tt }
-  answers_run s call (Some a) outs h f its among = plan_runs s call.plan a call.step outs h f its among
-
-  call_runs : (s : Serving) (call : Option Call) → s.call ≡ call → Holds s → Runs (runs_call s call).done
-  call_runs s None at h = record { holds = h; founded = tt }
-  call_runs s (Some call) at h =
+  call_runs : (said : List Act) (s : Serving) (call : Option Call) → s.call ≡ call → Holds said s → Runs said (runs_call s call).done
+  call_runs said s None at h = rests said s h
+  call_runs said s (Some call) at h =
       let u : Serving = record s { call = None } in
       let m : Made = makes u call.step in
       let g : Goes u m.done = makes_go u call.step in
-      let r : Runs m.done = goes_run u m.done g (without_call s h) in
-      answers_run m.done.state call m.answer m.done.outs r.holds r.founded
-      (λ item waits. h.fits item (effects_left IsLoss (IsOpen u) (IsOpen m.done.state) m.done.outs g.closes item waits) call at)
+      let r : Runs said m.done = goes_run said u m.done g (without_call said s h) in
+      then_runs said m.done (answers_call m.done.state call m.answer).done r
+      (answers_run said m.done.outs m.done.state call m.answer r.holds.number r.holds.its
       (subst (λ n. ActedFor n call.step m.done.outs m.answer) h.number (makes_acted u call.step))
+      (λ item waits. h.fits item (effects_left IsLoss (IsOpen u) (IsOpen m.done.state) m.done.outs g.closes item waits) call at))
 
-  once_runs : (s : Serving) → Holds s → Runs (runs_once s).done
+  pub once_runs : (said : List Act) (s : Serving) → Holds said s → Runs said (runs_once s).done
   unfolding runs_once
-  once_runs s h = call_runs s s.call refl h
+  once_runs said s h = call_runs said s s.call refl h
 
-  upto_runs : (k : ℕ) (s : Serving) → Holds s → Runs (runs_upto k s)
+  upto_runs : (said : List Act) (k : ℕ) (s : Serving) → Holds said s → Runs said (runs_upto k s)
   unfolding runs_upto
-  upto_runs zero s h = record { holds = h; founded = tt }
-  upto_runs (suc k) s h =
+  upto_runs said zero s h = rests said s h
+  upto_runs said (suc k) s h =
       let r : Ran = runs_once s in
-      let one : Runs r.done = once_runs s h in
-      by_test Runs r.goes (saying r.done.outs (runs_upto k r.done.state)) r.done
-      (λ _. then_runs r.done (runs_upto k r.done.state) one (upto_runs k r.done.state one.holds)) (λ _. one)
+      let one : Runs said r.done = once_runs said s h in
+      by_test (Runs said) r.goes (saying r.done.outs (runs_upto k r.done.state)) r.done
+      (λ _. then_runs said r.done (runs_upto k r.done.state) one (upto_runs (acted me said r.done.outs) k r.done.state one.holds)) (λ _. one)
 
-  pub all_run : (s : Serving) → Holds s → Runs (runs s)
+  pub all_run : (said : List Act) (s : Serving) → Holds said s → Runs said (runs s)
   unfolding runs
-  all_run s h = upto_runs most_steps s h
+  all_run said s h = upto_runs said most_steps s h
 
   -- ---- a call begins
 
@@ -342,65 +416,63 @@ module _ (client : ℕ) (works : List Work) where
   IsNoRestart _ = Unit {0}
 
   -- what is made of an item: a call that is its own, an answer of a call on files, or that all is done
-  abbrev BeginsFor : Option Work → Option Going → Type 0
-  BeginsFor w None = IsDone client w []
-  BeginsFor w (Some (On call)) = PlanFits call.plan call.step w
-  BeginsFor w (Some (Ends a)) = IsFileCall w × IsFileReply a
+  abbrev pub BeginsFor : Option Work → ℕ → List Act → Option Going → Type 0
+  BeginsFor w number said None = For w number said (DoneIn []) answer.Done
+  BeginsFor w number said (Some g) = GoingFits said number w g
 
-  begins_file : (c : ℕ) (call : _) (g : Going) → FileGoing g → BeginsFor (Some (work.File c call)) (Some g)
-  begins_file c call (On next) well = file_fits next.plan next.step (Some (work.File c call)) tt well
-  begins_file c call (Ends a) well = (tt, well)
+  file_begins : (c : ℕ) (call : FileCall) (number : ℕ) (said : List Act) → Began number first
+      → BeginsFor (Some (work.File c call)) number said (call_of (work.File c call) number client)
+  file_begins c call number said began =
+      by_test (BeginsFor (Some (work.File c call)) number said) (may_make number client) (Some (going (plan.start call (plan.made_by number client)))) None
+      (λ room. file_going said number (Some (work.File c call)) (plan.start call (plan.made_by number client))
+      (start_well call (plan.made_by number client)) (begins_trailed Began client number c call first said began room))
+      (λ none. (tt, subst (λ room. IsGiven Began client number call room (first ++ said) answer.Done) (sym none) refl))
 
-  begins_for : (w : Option Work) (s : Serving) (number : ℕ) → IsNoRestart w → BeginsFor w (call_at s number w)
-  begins_for None s number none = tt
-  begins_for (Some (work.Bget c block)) s number none = refl
-  begins_for (Some (work.Bput c block value)) s number none = (refl, refl)
-  begins_for (Some (work.Sync c)) s number none = tt
-  begins_for (Some (work.File c call)) s number none =
-      by_test (BeginsFor (Some (work.File c call))) (may_make number s.lasting.number)
-      (Some (going (plan.start call (plan.made_by number s.lasting.number)))) None
-      (λ _. begins_file c call (going (plan.start call (plan.made_by number s.lasting.number))) (file_goes call number s.lasting.number)) (λ _. tt)
-  begins_for (Some (work.Restart node)) s number none = absurd none
-  begins_for (Some _) s number none = tt
+  pub begins_for : (w : Option Work) (s : Serving) (number : ℕ) (said : List Act) → s.lasting.number ≡ client → Began number first → IsNoRestart w
+      → BeginsFor w number said (call_at s number w)
+  begins_for None s number said its began none = (tt, tt)
+  begins_for (Some (work.Bget c block)) s number said its began none = refl
+  begins_for (Some (work.Bput c block value)) s number said its began none = (refl, refl)
+  begins_for (Some (work.Sync c)) s number said its began none = tt
+  begins_for (Some (work.File c call)) s number said its began none =
+      subst (λ self. BeginsFor (Some (work.File c call)) number said (call_of (work.File c call) number self)) (sym its)
+      (file_begins c call number said began)
+  begins_for (Some (work.Restart node)) s number said its began none = absurd none
+  begins_for (Some _) s number said its began none = (tt, tt)
 
-  begins_run : (s : Serving) (number : ℕ) (o : Option Going) → Holds s → s.lasting.items.unanswered ≡ None → BeginsFor (asked_at works number) o
-      → Runs (begins_call s number o)
-  unfolding goes_on
-  begins_run s number None h idle its = record { holds = h; founded = (its, tt) }
-  begins_run s number (Some (On call)) h idle its =
-      let t : Serving = record s { lasting = record s.lasting { items = waiting s.lasting.items number } } in
-      let u : Serving = record t { call = Some call } in
-      all_run u (record {
-        number = h.number;
-        its = h.its;
-        fits = λ item waits other fact. both item other (one_number number item waits) fact;
-      })
-    where
-      both : (item : ℕ) (other : Call) → number ≡ item → Some call ≡ Some other → PlanFits other.plan other.step (asked_at works item)
-      both item other same fact =
-          let is : call ≡ other = cc in
-          subst (λ n. PlanFits other.plan other.step (asked_at works n)) same
-          (subst (λ (k : Call). PlanFits k.plan k.step (asked_at works number)) is its)
-  begins_run s number (Some (Ends a)) h idle its =
-      let t : Serving = record s { lasting = record s.lasting { items = answered (waiting s.lasting.items number) } } in
-      let first : Done = gives t (Answers number a ∷ []) in
-      then_runs first (runs t)
-      (record {
-        holds = record { number = h.number; its = h.its; fits = λ item waits call fact. absurd (no_item item waits) };
-        founded = (file_founded (asked_at works number) [] (DoneIn []) a its.0 its.1, tt);
-      })
-      (all_run t (record { number = h.number; its = h.its; fits = λ item waits call fact. absurd (no_item item waits) }))
+  pub begun_runs : (said : List Act) (s : Serving) (number : ℕ) (g : Going) → Holds said s → BeginsFor (asked_at works number) number said (Some g)
+      → Runs said (goes_on (record s { lasting = record s.lasting { items = waiting s.lasting.items number } }) g)
+  begun_runs said s number g h its =
+      goes_on_runs said (record s { lasting = record s.lasting { items = waiting s.lasting.items number } }) g h.number h.its
+      (λ item waits. subst (λ n. GoingFits said n (asked_at works n) g) (one_number number item waits) its)
 
-  pub opens_run : (s : Serving) (number : ℕ) → Holds s → IsNoRestart (asked_at works number) → Runs (opens s number)
+  begins_run : (said : List Act) (s : Serving) (number : ℕ) (o : Option Going) → Holds said s → BeginsFor (asked_at works number) number said o
+      → Runs said (begins_call s number o)
+  begins_run said s number None h its = record { holds = more_holds said (act.Answered me number answer.Done ∷ []) s h; founded = (its, tt) }
+  begins_run said s number (Some g) h its =
+      let d : Done = goes_on (record s { lasting = record s.lasting { items = waiting s.lasting.items number } }) g in
+      let one : Runs said d = begun_runs said s number g h its in
+      then_runs said d (runs d.state) one (all_run (acted me said d.outs) d.state one.holds)
+
+  pub opens_run : (said : List Act) (s : Serving) (number : ℕ) → Holds said s → Began number first → IsNoRestart (asked_at works number)
+      → Runs said (opens s number)
   unfolding opens
-  opens_run s number h none = by s.lasting.items.unanswered refl
+  opens_run said s number h began none =
+      by_test (Runs said) (is_some s.lasting.items.unanswered) (gives s (Answers number answer.Busy ∷ []))
+      (begins_call s number (call_at s number (work_at s.lasting.items number)))
+      (λ _. record { holds = more_holds said (act.Answered me number answer.Busy ∷ []) s h; founded = ((tt, tt), tt) })
+      (λ _.
+      subst (λ w. Runs said (begins_call s number (call_at s number w))) (sym asked)
+      (begins_run said s number (call_at s number (asked_at works number)) h
+      (begins_for (asked_at works number) s number said h.number began none)))
     where
       asked : work_at s.lasting.items number ≡ asked_at works number
       asked = ap (λ (ws : List Work). asked_at ws number) h.its
 
-      by : (o : Option ℕ) → s.lasting.items.unanswered ≡ o
-          → Runs (cond (is_some o) (gives s (Answers number answer.Busy ∷ [])) (begins_call s number (call_at s number (work_at s.lasting.items number))))
-      by (Some item) e = record { holds = h; founded = (tt, tt) }
-      by None e =
-          subst (λ w. Runs (begins_call s number (call_at s number w))) (sym asked)
-          (begins_run s number (call_at s number (asked_at works number)) h e (begins_for (asked_at works number) s number none))
+-- what an event acted was acted before the next
+module _ (Began : ℕ → List Act → Type 0) (client : ℕ) (works : List Work) (first said : List Act) where
+  pub fits_on : (item : ℕ) (p : Plan) (step : BlockCall) (w : Option Work) → PlanFits Began client works first said item p step w
+      → PlanFits Began client works (first ++ said) [] item p step w
+  fits_on item One step w fits = fits
+  fits_on item (File p) step w fits =
+      (fits.0, subst (λ acts. Trailed Began client item w acts p) (sym (append-nil (first ++ said))) fits.1)

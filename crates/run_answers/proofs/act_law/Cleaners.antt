@@ -34,13 +34,14 @@ use Rattle.wire_msg.specs.declared.packet.Do.TheVariants.{Begin, Deliver, Tick}
 use Rattle.wire_msg.specs.declared.packet.Packet.{Packet}
 use Rattle.xfs_base.proofs.Booleans.{by_test}
 use Rattle.xfs_base.specs.declared.node.NodeId.{NodeId}
+use Rattle.xfs_base.specs.declared.node.NodeId.TheVariants.{Cleaner as ACleaner}
 use Rattle.xfs_base.specs.declared.segment.End.{End}
 use Rattle.xfs_base.specs.declared.segment.LogId.{LogId}
 use Rattle.xfs_base.specs.Logs.{cleaner_log}
 use Rattle.xfs_base.specs.Steps.{saying, still}
 use Rattle.run_answers.proofs.act_law.Filing as filing
-use Rattle.run_answers.proofs.act_law.Filing.{SaysFiled, WentSo}
-use Rattle.run_answers.proofs.act_law.Telling.{Foundation, Founded, Grows, Within, acted, acted_before, acted_by, closes_founded, founded_then, open_founded, plain_founded}
+use Rattle.run_answers.proofs.act_law.Filing.{Owns, SaysFiled, StageOwn, WentSo}
+use Rattle.run_answers.proofs.act_law.Telling.{Foundation, Founded, Grows, acted, acted_before, acted_by, closes_founded, founded_then, open_founded, plain_founded}
 use Rattle.run_answers.proofs.once_law.Emptying as emptied
 use Rattle.run_answers.proofs.once_law.Items.{begun_open, begun_works, next_is_new}
 use Rattle.run_answers.proofs.once_law.Ledger.{AllPlain, IsMidway, OpenOr, all_pushed_plain, one_number}
@@ -53,28 +54,12 @@ abbrev IsRestart : Option Work → Type 0
 IsRestart (Some (work.Restart node)) = Unit {0}
 IsRestart _ = ⊥
 
-reopened_more : (w : Option Work) (some more : List Act) → Within some more → IsReopened w some → IsReopened w more
-reopened_more (Some (work.Restart node)) some more within f = (f.0, within (act.Filed (name_of cleaner_log f.0)) f.1)
-reopened_more _ some more within f = tt
-
 module _ (works : List Work) where
-  -- what an answer of the cleaner is founded on
-  abbrev pub Its : Foundation
-  Its item before done a = IsCleaners works (asked_at works item) before done a
-
-  pub its_grow : Grows Its
-  its_grow item some more done all answer.Done within up f = reopened_more (asked_at works item) some more within f
-  its_grow item some more done all answer.Cut within up f = (f.0, (f.1.0, up f.0 f.1.1))
-  its_grow item some more done all _ within up f = tt
-
-  midway_founded : (item : ℕ) (said : List Act) (done : ℕ → Type 0) (a : Answer) → IsMidway a → Its item said done a
-  midway_founded item said done answer.Done so = absurd so
-  midway_founded item said done answer.Cut so = absurd so
-  midway_founded item said done _ so = tt
-
   abbrev PhaseFits : Phase → Type 0
   PhaseFits (Down l) = Unit {0}
-  PhaseFits (Opening l o) = (o.known.owner.log ≡ cleaner_log) × ((item : ℕ) → IsOpen l.items item → IsRestart (asked_at works item))
+  PhaseFits (Opening l o) =
+      (o.known.owner.log ≡ cleaner_log)
+      × ((o.known.owner.inc ≡ l.inc) × (Owns o × ((item : ℕ) → IsOpen l.items item → IsRestart (asked_at works item))))
   PhaseFits (Serving e) = Unit {0}
 
   -- it has these items
@@ -82,59 +67,85 @@ module _ (works : List Work) where
     pub its : (lasting_of p).items.works ≡ works
     pub fits : PhaseFits p
 
-  pub record Turned (w : Went_to) : Type 0 where
-    pub holds : PhaseHolds w.state
-    pub founded : Founded Its [] w.outs
+-- in such an incarnation
+module _ (Is : ℕ → Type 0) (works : List Work) where
+  -- what an answer of the cleaner is founded on
+  abbrev pub Its : Foundation
+  Its item before done a = IsCleaners Is works (asked_at works item) before done a
 
-  unmoved : (p : Phase) → PhaseHolds p → Turned (still p)
+  pub its_grow : Grows Its
+  its_grow item said done all answer.Done up f = f
+  its_grow item said done all answer.Cut up f = (f.0, (f.1.0, up f.0 f.1.1))
+  its_grow item said done all _ up f = tt
+
+  midway_founded : (item : ℕ) (said : List Act) (done : ℕ → Type 0) (a : Answer) → IsMidway a → Its item said done a
+  midway_founded item said done answer.Done so = absurd so
+  midway_founded item said done answer.Cut so = absurd so
+  midway_founded item said done _ so = tt
+
+  pub record Turned (w : Went_to) : Type 0 where
+    pub holds : PhaseHolds works w.state
+    pub founded : Founded ACleaner Its [] w.outs
+
+  unmoved : (p : Phase) → PhaseHolds works p → Turned (still p)
   unmoved p h = record { holds = h; founded = tt }
 
   served : (e : Emptying) (d : Done) → e.lasting.items.works ≡ works → emptied.Goes e d → Turned (serves_on d)
   served e d its g = record {
     holds = record { its = g.items.works ∙ its; fits = tt };
-    founded = closes_founded Its its_grow IsMidway midway_founded (IsOpen e.lasting.items) (IsOpen d.state.lasting.items) [] d.outs g.closes;
+    founded = closes_founded ACleaner Its its_grow IsMidway midway_founded (IsOpen e.lasting.items) (IsOpen d.state.lasting.items) [] d.outs g.closes;
   }
 
   -- ---- an opening
 
-  restart_done : (w : Option Work) (end : End) (said : List Act) → IsRestart w → In (act.Filed (name_of cleaner_log end)) said → IsReopened w said
-  restart_done (Some (work.Restart node)) end said is among = (end, among)
-  restart_done _ end said is among = absurd is
+  restart_done : (w : Option Work) (end : End) (said : List Act) → IsRestart w → Is end.pass.inc → In (act.Filed (name_of cleaner_log end)) said
+      → IsReopened Is w said
+  restart_done (Some (work.Restart node)) end said restart its among = (end, (its, among))
+  restart_done _ end said restart its among = absurd restart
 
-  module _ (l : Lasting) (o : openings.Opening) (h : PhaseHolds (Opening l o)) where
+  module _ (l : Lasting) (o : openings.Opening) (is : Is l.inc) (h : PhaseHolds works (Opening l o)) where
     -- its first segment is filed, and then the restart is answered
-    back_founded : (end : End) (pushed : List Effect) → AllPlain pushed → (said : List Act) → In (act.Filed (name_of cleaner_log end)) said
-        → Founded Its said (pushed ++ answers_unanswered l.items.unanswered answer.Done)
-    back_founded end pushed plain said among =
-        founded_then Its its_grow said pushed (answers_unanswered l.items.unanswered answer.Done) (plain_founded Its its_grow said pushed plain)
-        (open_founded Its its_grow (acted said pushed) l.items.unanswered answer.Done
-        (λ item waits. restart_done (asked_at works item) end (acted said pushed) (h.fits.1 item waits)
-        (acted_before (act.Filed (name_of cleaner_log end)) said pushed among)))
+    back_founded : (end : End) (pushed : List Effect) → Is end.pass.inc → AllPlain pushed → (said : List Act) → In (act.Filed (name_of cleaner_log end)) said
+        → Founded ACleaner Its said (pushed ++ answers_unanswered l.items.unanswered answer.Done)
+    back_founded end pushed its plain said among =
+        founded_then ACleaner Its its_grow said pushed (answers_unanswered l.items.unanswered answer.Done) (plain_founded ACleaner Its its_grow said pushed plain)
+        (open_founded ACleaner Its its_grow (acted ACleaner said pushed) l.items.unanswered answer.Done
+        (λ item waits. restart_done (asked_at works item) end (acted ACleaner said pushed) (h.fits.1.1.1 item waits) its
+        (acted_before ACleaner (act.Filed (name_of cleaner_log end)) said pushed among)))
 
-    opened_so : (w : Went) → Behaves o.known.owner w → WentSo o.known.owner.log w → Turned (opened_on l w)
+    opened_so : (w : Went) → Behaves o.known.owner w → WentSo o.known.owner w → Turned (opened_on l w)
     unfolding after_opening
     opened_so w b so = by w.progress b.stays_its so
       where
-        first : Founded Its [] w.effects
-        first = plain_founded Its its_grow [] w.effects (behaves_plain o.known.owner w b)
+        first : Founded ACleaner Its [] w.effects
+        first = plain_founded ACleaner Its its_grow [] w.effects (behaves_plain o.known.owner w b)
 
-        by : (p : Progress) → IsOf o.known.owner p → SaysFiled o.known.owner.log p w.effects
+        by : (p : Progress) → IsOf o.known.owner p → SaysFiled o.known.owner p w.effects
             → Turned (saying w.effects (after_opening (record l { questions = w.questions }) p))
         by (progress.Opening r) owner filed = record {
-          holds = record { its = h.its; fits = (ap (λ (x : Owner). x.log) owner ∙ h.fits.0, h.fits.1) };
-          founded = founded_then Its its_grow [] w.effects [] first tt;
+          holds = record {
+            its = h.its;
+            fits = (
+              ap (λ (x : Owner). x.log) owner ∙ h.fits.0,
+              (
+                ap (λ (x : Owner). x.inc) owner ∙ h.fits.1.0,
+                (subst (λ (x : Owner). StageOwn x.inc r.stage) (sym owner) filed, h.fits.1.1.1),
+              ),
+            );
+          };
+          founded = founded_then ACleaner Its its_grow [] w.effects [] first tt;
         }
         by (progress.Opened r) owner filed = record {
           holds = record { its = h.its; fits = tt };
-          founded = founded_then Its its_grow [] w.effects _ first
-              (back_founded filed.0 (pushes_all r.promised.managers r.feed) (all_pushed_plain r.promised.managers r.feed) (acted [] w.effects)
-              (acted_by (act.Filed (name_of cleaner_log filed.0)) [] w.effects
-              (subst (λ (log : LogId). In (Does (act.Filed (name_of log filed.0))) w.effects) h.fits.0 filed.1)));
+          founded = founded_then ACleaner Its its_grow [] w.effects _ first
+              (back_founded filed.0 (pushes_all r.promised.managers r.feed) (subst Is (sym (filed.1.0 ∙ h.fits.1.0)) is) (all_pushed_plain r.promised.managers r.feed) (acted ACleaner [] w.effects)
+              (acted_by ACleaner (act.Filed (name_of cleaner_log filed.0)) [] w.effects
+              (subst (λ (log : LogId). In (Does (act.Filed (name_of log filed.0))) w.effects) h.fits.0 filed.1.1)));
         }
         by (progress.Lost name) owner filed = record {
           holds = record { its = h.its; fits = tt };
-          founded = founded_then Its its_grow [] w.effects (answers_unanswered l.items.unanswered (answer.Lost name)) first
-              (open_founded Its its_grow (acted [] w.effects) l.items.unanswered (answer.Lost name) (λ item waits. tt));
+          founded = founded_then ACleaner Its its_grow [] w.effects (answers_unanswered l.items.unanswered (answer.Lost name)) first
+              (open_founded ACleaner Its its_grow (acted ACleaner [] w.effects) l.items.unanswered (answer.Lost name) (λ item waits. tt));
         }
 
   -- ---- an item begins
@@ -144,32 +155,32 @@ module _ (works : List Work) where
     unfolding crashes
     crash_so node asked = record { holds = record { its = its; fits = tt }; founded = by l.items.unanswered }
       where
-        done : IsReopened (asked_at works number) []
-        done = subst (λ w. IsReopened w []) (sym asked) tt
+        done : (said : List Act) → IsReopened Is (asked_at works number) said
+        done said = subst (λ w. IsReopened Is w said) (sym asked) tt
 
         crash : IsCrash (asked_at works number)
         crash = subst IsCrash (sym asked) tt
 
-        by : (o : Option ℕ) → Founded Its [] (answers_unanswered o answer.Cut ++ Answers number answer.Done ∷ [])
-        by None = (done, tt)
-        by (Some item) = ((number, (crash, inl refl)), (done, tt))
+        by : (o : Option ℕ) → Founded ACleaner Its [] (answers_unanswered o answer.Cut ++ Answers number answer.Done ∷ [])
+        by None = (done [], tt)
+        by (Some item) = ((number, (crash, inl refl)), (done _, tt))
 
     restart_so : (servers : ℕ) (node : NodeId) → asked_at works number ≡ Some (work.Restart node) → Turned (restarts servers l number)
     unfolding restarts
     restart_so servers node asked = record {
-      holds = record { its = its; fits = (refl, λ item waits. subst (λ n. IsRestart (asked_at works n)) (one_number number item waits) is) };
+      holds = record { its = its; fits = (refl, (refl, (tt, λ item waits. subst (λ n. IsRestart (asked_at works n)) (one_number number item waits) restart))) };
       founded = tt;
     }
       where
-        is : IsRestart (asked_at works number)
-        is = subst IsRestart (sym asked) tt
+        restart : IsRestart (asked_at works number)
+        restart = subst IsRestart (sym asked) tt
 
     down_so : (servers : ℕ) (wanted : Option Work) → asked_at works number ≡ wanted → Turned (down_wishes servers l number (wish_of wanted))
     down_so servers None asked = record { holds = record { its = its; fits = tt }; founded = (tt, tt) }
     down_so servers (Some (work.Restart node)) asked = restart_so servers node asked
     down_so servers (Some _) asked = record { holds = record { its = its; fits = tt }; founded = (tt, tt) }
 
-    opening_so : (o : openings.Opening) → PhaseFits (Opening l o) → (wanted : Option Work) → asked_at works number ≡ wanted
+    opening_so : (o : openings.Opening) → PhaseFits works (Opening l o) → (wanted : Option Work) → asked_at works number ≡ wanted
         → Turned (opening_wishes l o number (wish_of wanted))
     opening_so o fits None asked = record { holds = record { its = its; fits = fits }; founded = (tt, tt) }
     opening_so o fits (Some (work.Crash node)) asked = crash_so node asked
@@ -182,7 +193,7 @@ module _ (works : List Work) where
         let c = emptied.clean_goes e number count fresh in
         record {
           holds = record { its = c.items.works ∙ its; fits = tt };
-          founded = closes_founded Its its_grow IsMidway midway_founded (OpenOr e.lasting.items.unanswered number) (IsOpen d.state.lasting.items) [] d.outs
+          founded = closes_founded ACleaner Its its_grow IsMidway midway_founded (OpenOr e.lasting.items.unanswered number) (IsOpen d.state.lasting.items) [] d.outs
               c.closes;
         }
 
@@ -193,7 +204,7 @@ module _ (works : List Work) where
     serving_so (Some (work.Clean count)) asked = clean_so count
     serving_so (Some _) asked = clean_so 0
 
-  begin_turned : (servers : ℕ) (p : Phase) → PhaseHolds p → OpenHasBegun (lasting_of p).items → Turned (on_begin servers p)
+  begin_turned : (servers : ℕ) (p : Phase) → PhaseHolds works p → OpenHasBegun (lasting_of p).items → Turned (on_begin servers p)
   unfolding on_begin
   begin_turned servers (Down l) h sound = by (next_item l.items)
     where
@@ -208,8 +219,8 @@ module _ (works : List Work) where
       its : (begun_life l).items.works ≡ works
       its = begun_works l.items ∙ h.its
 
-      fits : PhaseFits (Opening (begun_life l) o)
-      fits = (h.fits.0, λ item waits. h.fits.1 item (sym (begun_open l.items) ∙ waits))
+      fits : PhaseFits works (Opening (begun_life l) o)
+      fits = (h.fits.0, (h.fits.1.0, (h.fits.1.1.0, λ item waits. h.fits.1.1.1 item (sym (begun_open l.items) ∙ waits))))
 
       by : (item : Option ℕ) → Turned (opening_at (begun_life l) o item)
       by None = record { holds = record { its = its; fits = fits }; founded = tt }
@@ -228,28 +239,29 @@ module _ (works : List Work) where
 
   -- ---- packets and time
 
-  hears_turned : (p : Phase) (packet : Packet) → PhaseHolds p → Turned (hears p packet)
+  hears_turned : (p : Phase) (packet : Packet) → Is (lasting_of p).inc → PhaseHolds works p → Turned (hears p packet)
   unfolding hears
-  hears_turned (Down l) packet h = unmoved (Down l) h
-  hears_turned (Opening l o) packet h =
-      opened_so l o h (opening.on_packet o l.questions packet) (behaving.packet_so o l.questions packet) (filing.packet_so o l.questions packet)
-  hears_turned (Serving e) packet h = served e (on_packet e packet) h.its (emptied.packet_goes e packet)
+  hears_turned (Down l) packet is h = unmoved (Down l) h
+  hears_turned (Opening l o) packet is h =
+      opened_so l o is h (opening.on_packet o l.questions packet) (behaving.packet_so o l.questions packet)
+      (filing.packet_so o l.questions packet h.fits.1.1.0)
+  hears_turned (Serving e) packet is h = served e (on_packet e packet) h.its (emptied.packet_goes e packet)
 
-  time_turned : (p : Phase) → PhaseHolds p → Turned (on_time p)
+  time_turned : (p : Phase) → Is (lasting_of p).inc → PhaseHolds works p → Turned (on_time p)
   unfolding on_time
-  time_turned (Down l) h = unmoved (Down l) h
-  time_turned (Opening l o) h =
-      opened_so l o h (opening.on_tick o l.questions) (behaving.tick_so o l.questions) (filing.tick_so o l.questions)
-  time_turned (Serving e) h = served e (on_tick e) h.its (emptied.tick_goes e)
+  time_turned (Down l) is h = unmoved (Down l) h
+  time_turned (Opening l o) is h =
+      opened_so l o is h (opening.on_tick o l.questions) (behaving.tick_so o l.questions) (filing.tick_so o l.questions h.fits.1.1.0)
+  time_turned (Serving e) is h = served e (on_tick e) h.its (emptied.tick_goes e)
 
-  happens_turned : (peers : Peers) (p : Phase) (what : Do) → PhaseHolds p → OpenHasBegun (lasting_of p).items → Turned (happens peers p what)
+  happens_turned : (peers : Peers) (p : Phase) (what : Do) → Is (lasting_of p).inc → PhaseHolds works p → OpenHasBegun (lasting_of p).items → Turned (happens peers p what)
   unfolding on_deliver
-  happens_turned peers p Begin h sound = begin_turned peers.servers p h sound
-  happens_turned peers p (Deliver packet) h sound =
-      by_test Turned (is_well_formed peers packet) (hears p packet) (still p) (λ _. hears_turned p packet h) (λ _. unmoved p h)
-  happens_turned peers p Tick h sound = time_turned p h
+  happens_turned peers p Begin is h sound = begin_turned peers.servers p h sound
+  happens_turned peers p (Deliver packet) is h sound =
+      by_test Turned (is_well_formed peers packet) (hears p packet) (still p) (λ _. hears_turned p packet is h) (λ _. unmoved p h)
+  happens_turned peers p Tick is h sound = time_turned p is h
 
-  pub cleaner_answers : (c : Cleaner) (what : Do) → PhaseHolds c.phase → OpenHasBegun (lasting_of c.phase).items → Turned (takes c.peers c.phase what)
-  cleaner_answers c what h sound =
-      by_test Turned (phase_room c.phase) (happens c.peers c.phase what) (still c.phase) (λ _. happens_turned c.peers c.phase what h sound)
+  pub cleaner_answers : (c : Cleaner) (what : Do) → Is (lasting_of c.phase).inc → PhaseHolds works c.phase → OpenHasBegun (lasting_of c.phase).items → Turned (takes c.peers c.phase what)
+  cleaner_answers c what is h sound =
+      by_test Turned (phase_room c.phase) (happens c.peers c.phase what) (still c.phase) (λ _. happens_turned c.peers c.phase what is h sound)
       (λ _. unmoved c.phase h)

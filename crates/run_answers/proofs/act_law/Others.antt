@@ -62,14 +62,14 @@ abbrev pub IsOthers : List Work → (ℕ → Type 0) → Answer → Type 0
 IsOthers works done answer.Cut = IsCut works done
 IsOthers works done _ = Unit {0}
 
-module _ (works : List Work) where
+module _ (me : NodeId) (works : List Work) where
   -- what an answer of these nodes is founded on
   abbrev pub Its : Foundation
   Its item before done a = IsOthers works done a
 
   pub its_grow : Grows Its
-  its_grow item some more done all answer.Cut within up f = (f.0, (f.1.0, up f.0 f.1.1))
-  its_grow item some more done all _ within up f = tt
+  its_grow item said done all answer.Cut up f = (f.0, (f.1.0, up f.0 f.1.1))
+  its_grow item said done all _ up f = tt
 
   midway_founded : (item : ℕ) (said : List Act) (done : ℕ → Type 0) (a : Answer) → IsMidway a → Its item said done a
   midway_founded item said done answer.Cut so = absurd so
@@ -77,18 +77,18 @@ module _ (works : List Work) where
 
   -- the open item is cut, and the item by which the node crashes is done
   cuts_founded : (o : Option ℕ) (number : ℕ) → IsCrash (asked_at works number) → (more : List Effect) → AllPlain more
-      → Founded Its [] (answers_unanswered o answer.Cut ++ Answers number answer.Done ∷ more)
+      → Founded me Its [] (answers_unanswered o answer.Cut ++ Answers number answer.Done ∷ more)
   cuts_founded o number crash more plain = by o
     where
-      by : (p : Option ℕ) → Founded Its [] (answers_unanswered p answer.Cut ++ Answers number answer.Done ∷ more)
-      by None = (tt, plain_founded Its its_grow [] more plain)
-      by (Some item) = ((number, (crash, inl refl)), (tt, plain_founded Its its_grow [] more plain))
+      by : (p : Option ℕ) → Founded me Its [] (answers_unanswered p answer.Cut ++ Answers number answer.Done ∷ more)
+      by None = (tt, plain_founded me Its its_grow _ more plain)
+      by (Some item) = ((number, (crash, inl refl)), (tt, plain_founded me Its its_grow _ more plain))
 
   -- ---- managers
 
   pub record ManagerCuts (w : Went_to) : Type 0 where
     pub its : (lasting_of w.state).items.works ≡ works
-    pub founded : Founded Its [] w.outs
+    pub founded : Founded me Its [] w.outs
 
   idle : (p : Phase) → (lasting_of p).items.works ≡ works → ManagerCuts (still p)
   idle p its = record { its = its; founded = tt }
@@ -96,7 +96,7 @@ module _ (works : List Work) where
   served : (s : Serving) (d : Done) → s.lasting.items.works ≡ works → managing.Goes s d → ManagerCuts (serves d)
   served s d its g = record {
     its = g.items.works ∙ its;
-    founded = closes_founded Its its_grow IsMidway midway_founded (managing.IsOpen s) (managing.IsOpen d.state) [] d.outs g.closes;
+    founded = closes_founded me Its its_grow IsMidway midway_founded (managing.IsOpen s) (managing.IsOpen d.state) [] d.outs g.closes;
   }
 
   module _ (number : ℕ) (life : Life) (its : life.items.works ≡ works) where
@@ -124,7 +124,7 @@ module _ (works : List Work) where
         let d : Done = checkpoints.on_checkpoint s number in
         record {
           its = o.items.works ∙ its;
-          founded = closes_founded Its its_grow IsMidway midway_founded (OpenOr s.lasting.items.unanswered number) (managing.IsOpen d.state) [] d.outs
+          founded = closes_founded me Its its_grow IsMidway midway_founded (OpenOr s.lasting.items.unanswered number) (managing.IsOpen d.state) [] d.outs
               o.closes;
         }
 
@@ -196,7 +196,7 @@ module _ (works : List Work) where
   event_so peers p Tick its sound = time_so p its
 
   pub manager_cuts : (m : Manager) (what : Do) → (lasting_of m.phase).items.works ≡ works → OpenHasBegun (lasting_of m.phase).items
-      → Founded Its [] (manager.happens m what).outs
+      → Founded me Its [] (manager.happens m what).outs
   unfolding manager.happens
   manager_cuts m what its sound =
       (by_test ManagerCuts (phase_has_room m.phase) (manager.on_event m.peers m.phase what) (still m.phase) (λ _. event_so m.peers m.phase what its sound)
@@ -205,10 +205,10 @@ module _ (works : List Work) where
   -- ---- servers
 
   abbrev ServerCuts : rebuild.Done → Type 0
-  ServerCuts d = Founded Its [] d.outs
+  ServerCuts d = Founded me Its [] d.outs
 
   stored : (v : Node) (d : rebuild.Done) → storing.Goes v d → ServerCuts d
-  stored v d g = closes_founded Its its_grow IsMidway midway_founded (IsOpen v.items) (IsOpen d.state.items) [] d.outs g.closes
+  stored v d g = closes_founded me Its its_grow IsMidway midway_founded (IsOpen v.items) (IsOpen d.state.items) [] d.outs g.closes
 
   module _ (number : ℕ) (v : Node) (asked : asked_at works number ≡ work_at v.items number) where
     lose_so : IsCrash (asked_at works number) → ServerCuts (server.on_lose v number)
@@ -261,18 +261,18 @@ module _ (works : List Work) where
   -- ---- the registry
 
   abbrev RegistryCuts : registry.Done → Type 0
-  RegistryCuts d = Founded Its [] d.outs
+  RegistryCuts d = Founded me Its [] d.outs
 
   hears_so : (r : RegistryNode) (from : NodeId) (b : Body) → RegistryCuts (registry.hears r from b)
   unfolding registry.on_hello registry.on_done
   hears_so r from (body.Hello hello) =
       let made : Made = transition r.board (board.Hello from hello.inc) in
       let now : RegistryNode = record r { board = made.state } in
-      plain_founded Its its_grow [] _
+      plain_founded me Its its_grow [] _
       (all_append IsPlain (flat_map (registry.changed now) made.outs) _
       (all_flat_map IsPlain (registry.changed now) (registering.changed_plain now) made.outs) (tt, tt))
   hears_so r from (body.CkptDone done) =
-      plain_founded Its its_grow [] _
+      plain_founded me Its its_grow [] _
       (all_flat_map IsPlain (registry.kept from done) (registering.kept_plain from done)
       (transition r.board (board.Done done.slot done.epoch done.parts done.horizon)).outs)
   hears_so r from _ = tt
@@ -281,8 +281,8 @@ module _ (works : List Work) where
       → RegistryCuts (registry.after_move r number (record { state = b; outs = Changed ∷ Epoch epoch ∷ [] }))
   moved_so r number epoch b =
       let now : RegistryNode = record r { board = b } in
-      founded_then Its its_grow [] (tells_all now) (Answers number (answer.Epoch epoch) ∷ [])
-      (plain_founded Its its_grow [] (tells_all now) (registering.all_told now)) (tt, tt)
+      founded_then me Its its_grow [] (tells_all now) (Answers number (answer.Epoch epoch) ∷ [])
+      (plain_founded me Its its_grow [] (tells_all now) (registering.all_told now)) (tt, tt)
 
   move_so : (r : RegistryNode) (number : ℕ) (wish : Option (ℕ × ℕ)) → RegistryCuts (registry.on_item r number wish)
   unfolding registry.on_move reassign
@@ -308,7 +308,7 @@ module _ (works : List Work) where
   registry_event : (r : RegistryNode) (what : Do) → RegistryCuts (registry.on_event r what)
   registry_event r Begin = registry_begin r
   registry_event r (Deliver packet) = registry_packet r packet
-  registry_event r Tick = plain_founded Its its_grow [] (tells_all r) (registering.all_told r)
+  registry_event r Tick = plain_founded me Its its_grow [] (tells_all r) (registering.all_told r)
 
   pub registry_cuts : (r : RegistryNode) (what : Do) → RegistryCuts (registry.takes r what)
   registry_cuts r what =

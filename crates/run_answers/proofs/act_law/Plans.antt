@@ -1,16 +1,12 @@
 -- What the plan of a call on files replies: nothing but the answers of calls on files.
-use Rattle.std.proofs.Common.{ℕ, zero, suc, ◌+◌, ◌-◌, ◌/◌, ◌%◌, min, ◌&&◌, ◌==◌, nat_le, nat_lt, List, [], ◌∷◌, ◌++◌, drop, length, Option, Some, None}
+use Rattle.std.proofs.Common.{◌≡◌, ℕ, zero, suc, ◌+◌, ◌-◌, ◌/◌, ◌%◌, min, ◌&&◌, ◌==◌, nat_le, nat_lt, List, [], ◌∷◌, ◌++◌, drop, length, Option, Some, None, subst}
 use Rattle.std.specs.BTreeMap.{insert_entry}
-use Rattle.client_call.specs.Calls.{after_answer, going}
-use Rattle.client_call.specs.declared.call.Going.{Going}
-use Rattle.client_call.specs.declared.call.Going.TheVariants.{On}
-use Rattle.client_call.specs.declared.call.Going.TheVariants as goings
-use Rattle.client_call.specs.declared.call.Plan.{Plan}
-use Rattle.client_call.specs.declared.call.Plan.TheVariants.{One, File}
 use Rattle.file_plan.specs.Calls.{block_size, root}
 use Rattle.file_plan.specs.declared.block_call.BlockAnswer.{BlockAnswer}
 use Rattle.file_plan.specs.declared.block_call.BlockAnswer.TheVariants.{Got, Changed, Synced}
 use Rattle.file_plan.specs.declared.block_call.BlockAnswer.TheVariants.{Put as Written}
+use Rattle.file_plan.specs.declared.block_call.BlockCall.{BlockCall}
+use Rattle.file_plan.specs.declared.block_call.Next.TheVariants.{Step, Reply}
 use Rattle.file_plan.specs.declared.node.Kind.TheVariants as kinds
 use Rattle.file_plan.specs.declared.node.Node.{Node}
 use Rattle.file_plan.specs.declared.state.Job.{Job}
@@ -48,11 +44,6 @@ IsFileReply _ = ⊥
 abbrev pub EndsWell : PlanState → Type 0
 EndsWell (Ends a) = IsFileReply a
 EndsWell _ = Unit {0}
-
--- a plan of a call on files
-abbrev pub IsFilePlan : Plan → Type 0
-IsFilePlan One = ⊥
-IsFilePlan (File p) = EndsWell p
 
 -- ---- the plan
 
@@ -184,7 +175,7 @@ synced_well : (p : PlanState) → EndsWell p → EndsWell (plan.on_synced p)
 synced_well (Syncs dir name node) well = tt
 synced_well _ well = well
 
-answered_well : (p : PlanState) → EndsWell p → (a : BlockAnswer) → EndsWell (plan.after_answer p a)
+pub answered_well : (p : PlanState) → EndsWell p → (a : BlockAnswer) → EndsWell (plan.after_answer p a)
 answered_well p well (Got ver value) = got_well p well ver value
 answered_well p well (Written ver) = written_well p well
 answered_well p well Changed = changed_well p well
@@ -204,23 +195,22 @@ named_well (call.Ls path) ino = listing_well path
 named_well (call.Rm path) ino = path_well path fault.IsDir Removes
 named_well (call.Mv from to) ino = path_well from fault.IsDir (Moves to)
 
-start_well : (c : FileCall) (ino : Ino) → EndsWell (plan.start c ino)
+pub start_well : (c : FileCall) (ino : Ino) → EndsWell (plan.start c ino)
 start_well c ino =
     by_test EndsWell (names_are_good c) (plan.start_named c ino) (plan.refuses fault.BadName) (λ _. named_well c ino) (λ _. tt)
 
--- ---- the call
+-- by all answers that it had
+pub all_well : (p : PlanState) (answers : List BlockAnswer) → EndsWell p → EndsWell (plan.after_all p answers)
+all_well p [] well = well
+all_well p (a ∷ answers) well = all_well (plan.after_answer p a) answers (answered_well p well a)
 
--- it goes on by such a plan, or ends with such an answer
-abbrev pub FileGoing : Going → Type 0
-FileGoing (On next) = IsFilePlan next.plan
-FileGoing (goings.Ends a) = IsFileReply a
+one_reply : (a b : Answer) → Reply a ≡ Reply b → a ≡ b
+one_reply a b e = cc
 
-going_well : (p : PlanState) → EndsWell p → FileGoing (going p)
-going_well (Ends a) well = well
-going_well _ well = tt
+no_reply : (step : BlockCall) (a : Answer) → Step step ≡ Reply a → ⊥
+no_reply step a e = cc
 
-pub after_file : (p : PlanState) (a : BlockAnswer) → EndsWell p → FileGoing (after_answer (File p) a)
-after_file p a well = going_well (plan.after_answer p a) (answered_well p well a)
-
-pub file_goes : (c : FileCall) (number self : ℕ) → FileGoing (going (plan.start c (plan.made_by number self)))
-file_goes c number self = going_well (plan.start c (plan.made_by number self)) (start_well c (plan.made_by number self))
+-- what it replies is such an answer
+pub replies_well : (p : PlanState) (a : Answer) → EndsWell p → plan.next_call p ≡ Reply a → IsFileReply a
+replies_well (Ends b) a well e = subst IsFileReply (one_reply b a e) well
+replies_well _ a well e = absurd (no_reply _ a e)

@@ -31,9 +31,8 @@ use Rattle.wire_msg.specs.declared.packet.Packet.{Packet}
 use Rattle.xfs_base.proofs.Booleans.{by_test}
 use Rattle.xfs_base.specs.Steps.{saying, still}
 use Rattle.run_answers.specs.once_law.Ledgers.{IsOpen, OpenHasBegun}
-use Rattle.run_answers.proofs.once_law.Arriving.{packet_goes, tick_goes}
 use Rattle.run_answers.proofs.once_law.Calling.{Went as Ran, opens_went, runs_went, then_went, went}
-use Rattle.run_answers.proofs.once_law.Following.{Goes}
+use Rattle.run_answers.proofs.once_law.Following.{Goes, packet_goes, tick_goes}
 use Rattle.run_answers.proofs.once_law.Items.{Turned as Counted, begins, begins_answered, begins_cutting, begins_waiting, next_is_new, steadily, steady, unmoved as uncounted}
 use Rattle.run_answers.proofs.once_law.Ledger.{AllPlain, Any, Closes, all_pushed_plain, closes_append, closes_open, closes_plain}
 use Rattle.run_answers.proofs.once_law.Openings.{behaves_plain}

@@ -67,13 +67,13 @@ module _ (client : ℕ) where
   IsFounded works w before done answer.Up = Unit {0}
   IsFounded works w before done (answer.Lost seg) = Unit {0}
 
--- a restart of the cleaner is done: it has acted that a segment of its log is filed
-abbrev pub IsReopened : Option Work → List Act → Type 0
-IsReopened (Some (work.Restart node)) before = (end : End) × In (act.Filed (name_of cleaner_log end)) before
-IsReopened _ before = Unit {0}
+-- a restart of the cleaner is done: it has acted that a segment of its log is filed, of such an incarnation
+abbrev pub IsReopened : (ℕ → Type 0) → Option Work → List Act → Type 0
+IsReopened Is (Some (work.Restart node)) before = (end : End) × (Is end.pass.inc × In (act.Filed (name_of cleaner_log end)) before)
+IsReopened Is _ before = Unit {0}
 
--- So an answer of the cleaner is founded, in the same way.
-abbrev pub IsCleaners : List Work → Option Work → List Act → (ℕ → Type 0) → Answer → Type 0
-IsCleaners works w before done answer.Done = IsReopened w before
-IsCleaners works w before done answer.Cut = IsCut works done
-IsCleaners works w before done _ = Unit {0}
+-- So an answer of the cleaner, which is in such an incarnation, is founded, in the same way.
+abbrev pub IsCleaners : (ℕ → Type 0) → List Work → Option Work → List Act → (ℕ → Type 0) → Answer → Type 0
+IsCleaners Is works w before done answer.Done = IsReopened Is w before
+IsCleaners Is works w before done answer.Cut = IsCut works done
+IsCleaners Is works w before done _ = Unit {0}

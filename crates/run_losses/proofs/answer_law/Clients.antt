@@ -34,9 +34,8 @@ use Rattle.xfs_base.proofs.Booleans.{by_test}
 use Rattle.xfs_base.specs.declared.node.NodeId.TheVariants as nodes
 use Rattle.xfs_base.specs.Steps.{saying, still}
 use Rattle.xfs_base.proofs.Alls.{all_append}
-use Rattle.run_losses.proofs.answer_law.Arriving.{packet_goes, tick_goes}
 use Rattle.run_losses.proofs.answer_law.Calling.{opens_go, runs_go}
-use Rattle.run_losses.proofs.answer_law.Following.{Goes, IsOpen, then_goes}
+use Rattle.run_losses.proofs.answer_law.Following.{Goes, IsOpen, packet_goes, then_goes, tick_goes}
 use Rattle.run_losses.proofs.answer_law.Items as counting
 use Rattle.run_losses.proofs.answer_law.Openings as openly
 use Rattle.run_losses.proofs.answer_law.Settling.{UnlessScans, packet_settles, tick_settles, unless_scans, unless_then}

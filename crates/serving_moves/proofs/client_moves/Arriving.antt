@@ -1,4 +1,4 @@
--- What each packet, and time, make of a client that serves: they answer nothing but the open item, where a segment is lost.
+-- What each packet, and time, make of a client that serves is a list of moves.
 use Rattle.std.proofs.Common.{ℕ, ◌==◌, Bool, List, [], ◌∷◌, ◌++◌, Option, Some, None, nat_lt, refl}
 use Rattle.client_log.specs.declared.input.In.TheVariants as log_in
 use Rattle.client_call.specs.Reads.{block_read, fetches_again, heard, reading_in, value_at}
@@ -45,9 +45,9 @@ use Rattle.xfs_base.specs.declared.node.NodeId.{NodeId}
 use Rattle.xfs_base.specs.declared.node.NodeId.TheVariants as node
 use Rattle.xfs_base.specs.Steps.{saying, steps, still}
 use Rattle.xfs_base.proofs.Alls.{all_flat_map, all_map}
-use Rattle.run_answers.proofs.once_law.Following.{Goes, Kept, ends_kept, first_goes, follows_go, from_goes, hands_go, itself, loses_go, plainly, reading_kept, same_call, stays, steps_go, takes_back_goes, then_goes, then_kept, writes_go}
-use Rattle.run_answers.proofs.once_law.Items.{same}
-use Rattle.run_answers.proofs.once_law.Ledger.{AllPlain, IsPlain, all_pushed_plain}
+use Rattle.serving_moves.proofs.client_moves.Following.{ends_kept, follows_go, hands_go, reading_kept, takes_back_goes, writes_go}
+use Rattle.serving_moves.proofs.client_moves.Keeping.{all_pushed_plain, first_goes, from_goes, itself, lost, plainly, same, same_call, stays, steps_go, then_goes, then_kept}
+use Rattle.serving_moves.specs.client_moves.Moves.{AllPlain, IsPlain, Kept, Moves}
 
 -- ---- promises
 
@@ -65,43 +65,43 @@ promises_keep s slot epoch manager =
     let k : Kept u (ends_reading u) = ends_kept u in
     then_kept s t (ends_reading u) (renews_kept s slot epoch) (record { calls = k.calls; number = k.number; items = k.items })
 
-followed_goes : (s : Serving) (slot epoch manager : ℕ) → Goes s (follows (promises s slot epoch manager).state (promises s slot epoch manager).outs)
+followed_goes : (s : Serving) (slot epoch manager : ℕ) → Moves s (follows (promises s slot epoch manager).state (promises s slot epoch manager).outs)
 followed_goes s slot epoch manager =
     let p = promises s slot epoch manager in
     from_goes s p.state (follows p.state p.outs) (promises_keep s slot epoch manager) (follows_go p.state p.outs)
 
-polled_goes : (s : Serving) (manager : ℕ) (p : Poll) → Goes s (polled s manager p)
+polled_goes : (s : Serving) (manager : ℕ) (p : Poll) → Moves s (polled s manager p)
 unfolding polled
 polled_goes s manager p =
     let kept = promises s p.slot p.epoch manager in
-    by_test (Goes s) (may_report s p) (reports p.slot p.epoch kept) (still s)
+    by_test (Moves s) (may_report s p) (reports p.slot p.epoch kept) (still s)
     (λ _. first_goes s (report kept.state p.slot p.epoch ∷ []) (follows kept.state kept.outs) (tt, tt) (followed_goes s p.slot p.epoch manager))
     (λ _. stays s s (itself s))
 
-poll_goes : (s : Serving) (from : NodeId) (p : Poll) → Goes s (on_poll s from p)
+poll_goes : (s : Serving) (from : NodeId) (p : Poll) → Moves s (on_poll s from p)
 poll_goes s (node.Manager manager) p = polled_goes s manager p
 poll_goes s (node.Client k) p = stays s s (itself s)
 poll_goes s (node.Server k) p = stays s s (itself s)
 poll_goes s node.Cleaner p = stays s s (itself s)
 poll_goes s node.Registry p = stays s s (itself s)
 
-hears_goes : (s : Serving) (news : SlotNews) → Goes s (hears s news)
+hears_goes : (s : Serving) (news : SlotNews) → Moves s (hears s news)
 unfolding hears
 hears_goes s news =
-    by_test (Goes s) (is_news s news) (promised_in s news) (still s) (λ _. followed_goes s news.slot news.epoch news.manager) (λ _. stays s s (itself s))
+    by_test (Moves s) (is_news s news) (promised_in s news) (still s) (λ _. followed_goes s news.slot news.epoch news.manager) (λ _. stays s s (itself s))
 
-regroups_goes : (s : Serving) (newer : Bool) (m : GroupMapState) → Goes s (regroups s newer m)
-regroups_goes s newer m = by_test (Goes s) newer (writes s (log_in.Maps m)) (still s) (λ _. writes_go s (log_in.Maps m)) (λ _. stays s s (itself s))
+regroups_goes : (s : Serving) (newer : Bool) (m : GroupMapState) → Moves s (regroups s newer m)
+regroups_goes s newer m = by_test (Moves s) newer (writes s (log_in.Maps m)) (still s) (λ _. writes_go s (log_in.Maps m)) (λ _. stays s s (itself s))
 
 -- ---- tokens
 
-grant_goes : (s : Serving) (g : Grant) → Goes s (on_grant s g)
+grant_goes : (s : Serving) (g : Grant) → Moves s (on_grant s g)
 unfolding on_grant
 grant_goes s g =
-    by_test (Goes s) _ (still s) (hands s (input.Granted g.block g.stamp g.inc g.req g.mode g.entry)) (λ _. stays s s (itself s))
+    by_test (Moves s) _ (still s) (hands s (input.Granted g.block g.stamp g.inc g.req g.mode g.entry)) (λ _. stays s s (itself s))
     (λ _. hands_go s (input.Granted g.block g.stamp g.inc g.req g.mode g.entry))
 
-supply_goes : (s : Serving) (m : Supply) → Goes s (on_supply s m)
+supply_goes : (s : Serving) (m : Supply) → Moves s (on_supply s m)
 unfolding on_supply
 supply_goes s m = hands_go s (input.Supplied m.block m.stamp m.inc m.req m.ver m.value)
 
@@ -113,7 +113,7 @@ supplies_plain f (output.Flush block) = tt
 supplies_plain f (output.Read block place) = tt
 supplies_plain f (output.Ready block) = tt
 
-forward_goes : (s : Serving) (f : Forward) → Goes s (on_forward s f)
+forward_goes : (s : Serving) (f : Forward) → Moves s (on_forward s f)
 unfolding on_forward
 forward_goes s f =
     plainly s (on_forward s f) (record { calls = same_call _; number = refl; items = same _ })
@@ -123,48 +123,48 @@ again_plain : (s : Serving) (r : Recall) (outs : List outputs.Out) → AllPlain 
 again_plain s r [] = tt
 again_plain s r (o ∷ outs) = (tt, tt)
 
-recall_goes : (s : Serving) (r : Recall) → Goes s (on_recall s r)
+recall_goes : (s : Serving) (r : Recall) → Moves s (on_recall s r)
 unfolding on_recall
 recall_goes s r =
     let d = client.on_recalled s.tokens r.block r.stamp r.keep in
-    by_test (Goes s) (is_stamp (held_at s r.block).stamp r.stamp) (says_again s r d) (takes_back s r.block r.stamp r.keep)
+    by_test (Moves s) (is_stamp (held_at s r.block).stamp r.stamp) (says_again s r d) (takes_back s r.block r.stamp r.keep)
     (λ _. plainly s (says_again s r d) (record { calls = same_call _; number = refl; items = same _ }) (again_plain (record s { tokens = d.state }) r d.outs))
     (λ _. takes_back_goes s r.block r.stamp r.keep)
 
-gone_goes : (s : Serving) (g : Gone) → Goes s (on_gone s g)
+gone_goes : (s : Serving) (g : Gone) → Moves s (on_gone s g)
 unfolding on_gone
-gone_goes s g = by_test (Goes s) (is_gone s g) (loses s g.block g.seg) (still s) (λ _. loses_go s g.block g.seg) (λ _. stays s s (itself s))
+gone_goes s g = by_test (Moves s) (is_gone s g) (loses s g.block g.seg) (still s) (λ _. lost s g.block g.seg) (λ _. stays s s (itself s))
 
-ack_goes : (s : Serving) (a : DeltaAck) → Goes s (still (on_ack s a))
+ack_goes : (s : Serving) (a : DeltaAck) → Moves s (still (on_ack s a))
 unfolding on_ack
 ack_goes s a =
-    by_test (λ (t : Serving). Goes s (still t)) (is_acked s a) (record s { feed = acknowledged s.feed a.slot a.applied }) s
+    by_test (λ (t : Serving). Moves s (still t)) (is_acked s a) (record s { feed = acknowledged s.feed a.slot a.applied }) s
     (λ _. stays s (record s { feed = acknowledged s.feed a.slot a.applied }) (record { calls = same_call _; number = refl; items = same _ }))
     (λ _. stays s s (itself s))
 
 -- ---- fragments
 
-fetch_goes : (s : Serving) (at : BlockAt) (x : Next) → Goes s (ends_fetch s at x)
+fetch_goes : (s : Serving) (at : BlockAt) (x : Next) → Moves s (ends_fetch s at x)
 fetch_goes s at next.Again = hands_go s (input.Reask at.block)
 fetch_goes s at (next.Read segment) = hands_go s (input.Fetched at.block (value_at segment at.item))
 fetch_goes s at next.Wait = stays s s (itself s)
 fetch_goes s at next.Ask = stays s s (itself s)
 fetch_goes s at next.Lost = stays s s (itself s)
 
-told_goes : (s : Serving) (server ask : ℕ) (t : Answered) → Goes s (told_by s server ask t)
+told_goes : (s : Serving) (server ask : ℕ) (t : Answered) → Moves s (told_by s server ask t)
 unfolding told_by
 told_goes s server ask t =
     let h = heard (reading_in s.call) s.maps.groups ask server t in
     by (block_read (reading_in s.call))
   where
-    by : (at : Option BlockAt) → Goes s (told_at s at (heard (reading_in s.call) s.maps.groups ask server t))
+    by : (at : Option BlockAt) → Moves s (told_at s at (heard (reading_in s.call) s.maps.groups ask server t))
     by None = stays s s (itself s)
     by (Some at) =
         let h = heard (reading_in s.call) s.maps.groups ask server t in
         from_goes s (with_reading s h.reading) (ends_fetch (with_reading s h.reading) at h.next) (reading_kept s h.reading)
         (fetch_goes (with_reading s h.reading) at h.next)
 
-on_told_goes : (s : Serving) (from : NodeId) (ask : ℕ) (t : Answered) → Goes s (on_told s from ask t)
+on_told_goes : (s : Serving) (from : NodeId) (ask : ℕ) (t : Answered) → Moves s (on_told s from ask t)
 on_told_goes s (node.Server server) ask t = told_goes s server ask t
 on_told_goes s (node.Client k) ask t = stays s s (itself s)
 on_told_goes s (node.Manager k) ask t = stays s s (itself s)
@@ -173,7 +173,7 @@ on_told_goes s node.Registry ask t = stays s s (itself s)
 
 -- ---- maps
 
-takes_news_goes : (s : Serving) (news : News) → Goes s (takes_news s news)
+takes_news_goes : (s : Serving) (news : News) → Moves s (takes_news s news)
 unfolding takes_news
 takes_news_goes s news =
     let t : Serving = record s { maps = taken s.maps news } in
@@ -182,18 +182,18 @@ takes_news_goes s news =
     (then_goes t d (regroups d.state (is_older s.maps news) news.groups) (steps_go hears hears_goes t news.slots)
     (regroups_goes d.state (is_older s.maps news) news.groups))
 
-news_goes : (s : Serving) (news : News) → Goes s (on_news s news)
+news_goes : (s : Serving) (news : News) → Moves s (on_news s news)
 news_goes s news =
-    by_test (Goes s) (fits s.maps news) (takes_news s news) (still s) (λ _. takes_news_goes s news) (λ _. stays s s (itself s))
+    by_test (Moves s) (fits s.maps news) (takes_news s news) (still s) (λ _. takes_news_goes s news) (λ _. stays s s (itself s))
 
-welcome_goes : (s : Serving) (w : Welcome) → Goes s (on_welcome s w)
+welcome_goes : (s : Serving) (w : Welcome) → Moves s (on_welcome s w)
 unfolding on_welcome
 welcome_goes s w =
-    by_test (Goes s) (w.inc == s.lasting.inc) (on_news s w.news) (still s) (λ _. news_goes s w.news) (λ _. stays s s (itself s))
+    by_test (Moves s) (w.inc == s.lasting.inc) (on_news s w.news) (still s) (λ _. news_goes s w.news) (λ _. stays s s (itself s))
 
 -- ---- a packet
 
-body_goes : (s : Serving) (from : NodeId) (b : Body) → Goes s (on_body s from b)
+body_goes : (s : Serving) (from : NodeId) (b : Body) → Moves s (on_body s from b)
 body_goes s from (body.Grant m) = grant_goes s m
 body_goes s from (body.Supply m) = supply_goes s m
 body_goes s from (body.Forward m) = forward_goes s m
@@ -208,14 +208,14 @@ body_goes s from (body.MapNews m) = news_goes s m
 body_goes s from (body.Welcome m) = welcome_goes s m
 body_goes s from _ = stays s s (itself s)
 
-asks_goes : (s : Serving) → Goes s (asks_for_maps s)
+asks_goes : (s : Serving) → Moves s (asks_for_maps s)
 unfolding asks_for_maps
 asks_goes s = plainly s (asks_for_maps s) (record { calls = same_call _; number = refl; items = same _ }) (tt, tt)
 
-pub packet_goes : (s : Serving) (packet : Packet) → Goes s (on_packet s packet)
+pub packet_goes : (s : Serving) (packet : Packet) → Moves s (on_packet s packet)
 unfolding on_packet
 packet_goes s packet =
-    by_test (Goes s) (names_known s.maps packet.body) (on_body s packet.from packet.body) (asks_for_maps s) (λ _. body_goes s packet.from packet.body)
+    by_test (Moves s) (names_known s.maps packet.body) (on_body s packet.from packet.body) (asks_for_maps s) (λ _. body_goes s packet.from packet.body)
     (λ _. asks_goes s)
 
 -- ---- time
@@ -224,7 +224,7 @@ again_fetched : (o : Option ReadingState) → AllPlain (fetches_again o)
 again_fetched None = tt
 again_fetched (Some r) = all_map IsPlain (fetch r.target.seg.name r.ask) (λ member. tt) (to_ask r)
 
-pub tick_goes : (s : Serving) → Goes s (on_tick s)
+pub tick_goes : (s : Serving) → Moves s (on_tick s)
 unfolding on_tick
 tick_goes s =
     let w : Done = hands s input.Tick in

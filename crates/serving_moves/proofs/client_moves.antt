@@ -1,0 +1,5 @@
+pub mod Keeping
+pub mod Reading
+pub mod Following
+pub mod Arriving
+pub mod Blocks

@@ -1,0 +1,251 @@
+-- What a client that serves does for its tokens and its log is a list of moves.
+use Rattle.std.proofs.Common.{ℕ, ◌==◌, ◌&&◌, not, Bool, List, [], ◌∷◌, Option, Some, None, is_none, refl, sym, ap}
+use Rattle.std.specs.List.{list_any}
+use Rattle.std.specs.Prelude.{cond, fold}
+use Rattle.client_log.specs.declared.input.In.{In as LogIn}
+use Rattle.client_log.specs.declared.output.Out.{Out as LogOut}
+use Rattle.client_log.specs.declared.output.Out.TheVariants as log_out
+use Rattle.client_log.specs.Transition as log
+use Rattle.client_call.specs.declared.call.Call.{Call}
+use Rattle.client_call.specs.declared.call.Plan.{Plan}
+use Rattle.client_call.specs.Reads.{call_with, fetches, kept_while, reading_in, same_target, target_of}
+use Rattle.client_serving.specs.declared.serving.Serving.{Serving}
+use Rattle.client_serving.specs.Flights.{feeds, gives_if_clean, gives_up, held_at, keeps_clean, notes_settled, seals_again, settled_rows, settles, writes, writes_one}
+use Rattle.client_serving.specs.Follow.{evicts, follows, follows_one, hands, notes_clean, notes_copy, notes_gone, seals, takes_back}
+use Rattle.client_serving.specs.Lasting.{log_of}
+use Rattle.client_serving.specs.Reads.{ask_after, begins, begins_over, confirmed_by, confirmed_next, confirms, draws, drawn_after, ends_reading, group_in, loses_at, reads, reads_over, with_reading}
+use Rattle.client_serving.specs.Sends.{Done, deltas, gaves, gives, wants}
+use Rattle.coop_cache.specs.declared.output.Out as cache_out
+use Rattle.coop_cache.specs.declared.output.Out.TheVariants.{Victim}
+use Rattle.coop_cache.specs.Transition.{cleaned, left}
+use Rattle.file_plan.specs.declared.block_call.BlockCall.{BlockCall}
+use Rattle.group_map.specs.declared.group.Group.{Group}
+use Rattle.log_owner.specs.Opening.{stored}
+use Rattle.log_owner.specs.Sealing.{is_settling}
+use Rattle.log_owner.specs.Sending.{fetch, name_of, pushes_all}
+use Rattle.node_base.specs.Asking.{next_ask}
+use Rattle.node_base.specs.declared.effects.Effect.TheVariants.{Does}
+use Rattle.segment_reading.specs.declared.reading.Next.{Next}
+use Rattle.segment_reading.specs.declared.reading.Next.TheVariants as next
+use Rattle.segment_reading.specs.declared.reading.Stage.{Stage}
+use Rattle.segment_reading.specs.declared.reading.Stage.TheVariants.{Asking, Between, Doubted, Over}
+use Rattle.segment_reading.specs.declared.target.BlockAt.{BlockAt}
+use Rattle.segment_reading.specs.declared.target.Target.{Target}
+use Rattle.segment_reading.specs.Reading.{ReadingState, begun, on_confirmed, to_ask}
+use Rattle.token_client.specs.declared.held.Giving.{Giving}
+use Rattle.token_client.specs.declared.input.In as inputs
+use Rattle.token_client.specs.declared.input.In.TheVariants as input
+use Rattle.token_client.specs.declared.output.Out as outputs
+use Rattle.token_client.specs.declared.output.Out.TheVariants as output
+use Rattle.token_client.specs.Held.{is_dirty}
+use Rattle.token_client.specs.Settling.{is_giving}
+use Rattle.token_client.specs.State.{held_of, dirty_in}
+use Rattle.token_client.specs.Transition.{transition}
+use Rattle.version_model.specs.declared.act.Act.TheVariants.{Filed}
+use Rattle.xfs_base.proofs.Booleans.{by_test}
+use Rattle.xfs_base.specs.declared.block.BlockId.{BlockId}
+use Rattle.xfs_base.specs.declared.entry.Entry.{Entry}
+use Rattle.xfs_base.specs.declared.entry.Place.{Place}
+use Rattle.xfs_base.specs.declared.segment.End.{End}
+use Rattle.xfs_base.specs.declared.segment.SegName.{SegName}
+use Rattle.xfs_base.specs.declared.token.Mode.{Mode}
+use Rattle.xfs_base.specs.declared.token.Mode.TheVariants.{Copy}
+use Rattle.xfs_base.specs.declared.token.Stamp.{Stamp}
+use Rattle.xfs_base.specs.Modes.{is_held, is_nothing, same_mode}
+use Rattle.xfs_base.specs.Steps.{steps, still}
+use Rattle.xfs_base.proofs.Alls.{all_append, all_flat_map, all_map}
+use Rattle.serving_moves.proofs.client_moves.Keeping.{all_pushed_plain, first_goes, fold_kept, from_goes, itself, left_at, lost, plainly, pushed_plain, same, same_call, stays, steps_go, then_goes, then_kept}
+use Rattle.serving_moves.specs.client_moves.Moves.{AllPlain, CallStays, IsPlain, Kept, Moves}
+
+-- ---- the reading of the open call
+
+pub call_reads : (call : Option Call) (r : Option ReadingState) → CallStays call (call_with call r)
+call_reads None r = same_call None
+call_reads (Some old) r = λ call fact. (old, (refl, (sym (ap plan_of fact), sym (ap step_of fact))))
+  where
+    plan_of : Option Call → Plan
+    plan_of None = old.plan
+    plan_of (Some call) = call.plan
+
+    step_of : Option Call → BlockCall
+    step_of None = old.step
+    step_of (Some call) = call.step
+
+pub reading_kept : (s : Serving) (r : Option ReadingState) → Kept s (with_reading s r)
+reading_kept s r = record { calls = call_reads s.call r; number = refl; items = same _ }
+
+pub ends_kept : (s : Serving) → Kept s (ends_reading s)
+ends_kept s = reading_kept s (kept_while s.tokens (reading_in s.call))
+
+fetches_plain : (r : ReadingState) → AllPlain (fetches r)
+fetches_plain r = all_map IsPlain (fetch r.target.seg.name r.ask) (λ member. tt) (to_ask r)
+
+loses_at_go : (s : Serving) (at : Option BlockAt) (name : SegName) → Moves s (loses_at s at name)
+loses_at_go s None name = stays s s (itself s)
+loses_at_go s (Some at) name = lost s at.block name
+
+begins_go : (s : Serving) (target : Target) → Moves s (begins s target)
+unfolding begins
+begins_go s target = by (group_in s.maps.groups target.seg.group)
+  where
+    by : (group : Option Group) → Moves s (begins_over s target group)
+    by None = stays s s (itself s)
+    by (Some group) =
+        let r : ReadingState = begun target group (next_ask s.lasting.questions) in
+        plainly s (gives (with_reading (draws s) (Some r)) (fetches r))
+        (record { calls = call_reads s.call (Some r); number = refl; items = same s.lasting.items }) (fetches_plain r)
+
+next_goes : (s : Serving) (r : ReadingState) (x : Next) → Moves s (confirmed_next s r x)
+next_goes s r next.Lost = loses_at_go s r.target.block r.target.seg.name
+next_goes s r next.Ask = plainly s (gives (with_reading s (Some r)) (fetches r)) (reading_kept s (Some r)) (fetches_plain r)
+next_goes s r next.Wait = stays s (with_reading s (Some r)) (reading_kept s (Some r))
+next_goes s r next.Again = stays s (with_reading s (Some r)) (reading_kept s (Some r))
+next_goes s r (next.Read segment) = stays s (with_reading s (Some r)) (reading_kept s (Some r))
+
+drawn_kept : (s : Serving) (stage : Stage) → Kept s (drawn_after s stage)
+drawn_kept s Between = record { calls = same_call _; number = refl; items = same _ }
+drawn_kept s Asking = itself s
+drawn_kept s Doubted = itself s
+drawn_kept s Over = itself s
+
+confirms_go : (s : Serving) (r : ReadingState) → Moves s (confirms s r)
+unfolding confirms
+confirms_go s r =
+    let t : Serving = drawn_after s r.stage in
+    let step = on_confirmed r (ask_after s r.ask r.stage) in
+    from_goes s t (confirmed_by t step) (drawn_kept s r.stage) (next_goes t step.state step.next)
+
+over_goes : (s : Serving) (target : Target) (r : Option ReadingState) → Moves s (reads_over s target r)
+over_goes s target None = begins_go s target
+over_goes s target (Some r) =
+    by_test (Moves s) (same_target r.target target) (confirms s r) (begins s target) (λ _. confirms_go s r) (λ _. begins_go s target)
+
+reads_go : (s : Serving) (block : BlockId) (place : Place) → Moves s (reads s block place)
+unfolding reads
+reads_go s block place =
+    by_test (Moves s) (is_none s.call) (still s) (reads_over (with_reading s None) (target_of block place) (reading_in s.call)) (λ _. stays s s (itself s))
+    (λ _. from_goes s (with_reading s None) (reads_over (with_reading s None) (target_of block place) (reading_in s.call)) (reading_kept s None)
+    (over_goes (with_reading s None) (target_of block place) (reading_in s.call)))
+
+-- ---- the cache
+
+evicts_kept : (s : Serving) (o : cache_out.Out) → Kept s (evicts s o)
+unfolding evicts
+evicts_kept s (Victim block) = record { calls = same_call _; number = refl; items = same _ }
+
+pub notes_clean_kept : (s : Serving) (block : BlockId) → Kept s (notes_clean s block)
+unfolding notes_clean
+notes_clean_kept s block =
+    let t : Serving = record s { cache = (cleaned s.cache block).state } in
+    let k : Kept t (fold evicts t (cleaned s.cache block).outs) = fold_kept evicts evicts_kept t (cleaned s.cache block).outs in
+    record { calls = k.calls; number = k.number; items = k.items }
+
+pub notes_gone_kept : (s : Serving) (block : BlockId) → Kept s (notes_gone s block)
+unfolding notes_gone
+notes_gone_kept s block =
+    by_test (Kept s) (is_nothing (held_of s.tokens.blocks block).mode) (record s { cache = left s.cache block }) s
+    (λ _. record { calls = same_call _; number = refl; items = same _ }) (λ _. itself s)
+
+notes_copy_kept : (s : Serving) (block : BlockId) → Kept s (notes_copy s block)
+unfolding notes_copy
+notes_copy_kept s block =
+    by_test (Kept s) (same_mode (held_of s.tokens.blocks block).mode Copy) (notes_clean s block) s (λ _. notes_clean_kept s block) (λ _. itself s)
+
+-- ---- what the tokens say
+
+stored_plain : (o : LogOut) → AllPlain (stored o)
+stored_plain (log_out.Send fragment member) = (tt, tt)
+stored_plain (log_out.Settled end rows) = tt
+
+pub seals_go : (s : Serving) → Moves s (seals s)
+unfolding seals
+seals_go s =
+    plainly s (seals s) (record { calls = same_call _; number = refl; items = same _ }) (all_flat_map IsPlain stored stored_plain (log.on_seal s.log).outs)
+
+wants_plain : (s : Serving) (block : BlockId) (req again : ℕ) (mode : Mode) → AllPlain (wants s block req again mode)
+wants_plain s block req again mode =
+    all_append IsPlain (cond (again == 0) (deltas s block) []) _
+    (by_test AllPlain (again == 0) (deltas s block) [] (λ _. pushed_plain s.managers s.feed _) (λ _. tt)) (tt, tt)
+
+one_goes : (s : Serving) (o : outputs.Out) → Moves s (follows_one s o)
+unfolding follows_one
+one_goes s (output.Want block req again mode) = plainly s (gives s (wants s block req again mode)) (itself s) (wants_plain s block req again mode)
+one_goes s (output.Gave block stamp) =
+    plainly s (gives s (gaves s block stamp)) (itself s) (all_append IsPlain (deltas s block) _ (pushed_plain s.managers s.feed _) (tt, tt))
+one_goes s (output.Flush block) = seals_go s
+one_goes s (output.Read block place) = reads_go s block place
+one_goes s (output.Ready block) = stays s (notes_copy s block) (notes_copy_kept s block)
+one_goes s (output.Supply block ver value) = stays s s (itself s)
+
+pub follows_go : (s : Serving) (outs : List outputs.Out) → Moves s (follows s outs)
+unfolding follows
+follows_go s outs = steps_go follows_one one_goes s outs
+
+pub hands_go : (s : Serving) (i : inputs.In) → Moves s (hands s i)
+unfolding hands
+hands_go s i =
+    let t : Serving = record s { tokens = (transition s.tokens i).state } in
+    let k : Kept t (ends_reading t) = ends_kept t in
+    from_goes s (ends_reading t) _ (record { calls = k.calls; number = k.number; items = k.items }) (follows_go (ends_reading t) (transition s.tokens i).outs)
+
+pub takes_back_goes : (s : Serving) (block : BlockId) (stamp : Stamp) (keep : Bool) → Moves s (takes_back s block stamp keep)
+unfolding takes_back
+takes_back_goes s block stamp keep =
+    let d : Done = hands s (input.Recalled block stamp keep) in
+    left_at s d (notes_gone d.state block) (hands_go s (input.Recalled block stamp keep)) (notes_gone_kept d.state block)
+
+-- ---- the log
+
+notes_settled_kept : (s : Serving) (row : BlockId × Entry) → Kept s (notes_settled s row)
+unfolding notes_settled
+notes_settled_kept s row = record { calls = same_call _; number = refl; items = same _ }
+
+keeps_clean_kept : (s : Serving) (row : BlockId × Entry) → Kept s (keeps_clean s row)
+unfolding keeps_clean
+keeps_clean_kept s row =
+    by_test (Kept s) (not (is_dirty (held_at s row.0)) && is_held (held_at s row.0).mode) (notes_clean s row.0) s (λ _. notes_clean_kept s row.0)
+    (λ _. itself s)
+
+gives_up_goes : (s : Serving) (block : BlockId) (giving : Option Giving) → Moves s (gives_up s block giving)
+gives_up_goes s block None = stays s s (itself s)
+gives_up_goes s block (Some giving) = takes_back_goes s block giving.stamp giving.keep
+
+if_clean_goes : (s : Serving) (block : BlockId) → Moves s (gives_if_clean s block)
+unfolding gives_if_clean
+if_clean_goes s block =
+    by_test (Moves s) (is_dirty (held_at s block)) (still s) (gives_up s block (held_at s block).giving) (λ _. stays s s (itself s))
+    (λ _. gives_up_goes s block (held_at s block).giving)
+
+fed_kept : (s : Serving) (end : End) (rows : List (BlockId × Entry)) → Kept s (feeds (settled_rows s rows) end rows)
+fed_kept s end rows =
+    let k : Kept s (settled_rows s rows) =
+    then_kept s (fold notes_settled s rows) (settled_rows s rows) (fold_kept notes_settled notes_settled_kept s rows)
+    (fold_kept keeps_clean keeps_clean_kept (fold notes_settled s rows) rows) in
+    record { calls = k.calls; number = k.number; items = k.items }
+
+settles_go : (s : Serving) (end : End) (rows : List (BlockId × Entry)) → Moves s (settles s end rows)
+unfolding settles
+settles_go s end rows =
+    let fed : Serving = feeds (settled_rows s rows) end rows in
+    first_goes s (Does (Filed (name_of (log_of s.lasting) end)) ∷ pushes_all fed.managers fed.feed)
+    (steps gives_if_clean fed (dirty_in s.tokens.blocks)) (tt, all_pushed_plain fed.managers fed.feed)
+    (from_goes s fed (steps gives_if_clean fed (dirty_in s.tokens.blocks)) (fed_kept s end rows)
+    (steps_go gives_if_clean if_clean_goes fed (dirty_in s.tokens.blocks)))
+
+writes_one_goes : (s : Serving) (o : LogOut) → Moves s (writes_one s o)
+unfolding writes_one
+writes_one_goes s (log_out.Send fragment member) = plainly s (writes_one s (log_out.Send fragment member)) (itself s) (tt, tt)
+writes_one_goes s (log_out.Settled end rows) = settles_go s end rows
+
+again_goes : (s : Serving) (settling : Bool) → Moves s (seals_again s settling)
+again_goes s settling = by_test (Moves s) (settling && is_giving s.tokens) (seals s) (still s) (λ _. seals_go s) (λ _. stays s s (itself s))
+
+pub writes_go : (s : Serving) (i : LogIn) → Moves s (writes s i)
+unfolding writes
+writes_go s i =
+    let r : log.Done = log.transition s.log i in
+    let t : Serving = record s { log = r.state } in
+    let a : Moves t (steps writes_one t r.outs) = steps_go writes_one writes_one_goes t r.outs in
+    from_goes s t _ (record { calls = same_call _; number = refl; items = same _ })
+    (then_goes t (steps writes_one t r.outs) (seals_again (steps writes_one t r.outs).state (list_any is_settling r.outs)) a
+    (again_goes (steps writes_one t r.outs).state (list_any is_settling r.outs)))

@@ -1,0 +1,81 @@
+-- The moves of a client that serves: what it does for what comes, for time and for a call on blocks, one thing at a time.
+use Rattle.std.specs.List.{AllByRecursion}
+use Rattle.std.specs.Prelude.{◌≡◌, ℕ, List, Option, Some}
+use Rattle.client_call.specs.declared.call.Call.{Call}
+use Rattle.client_running.specs.Blocks.{makes}
+use Rattle.client_serving.specs.declared.serving.Serving.{Serving}
+use Rattle.client_serving.specs.Packets.{on_packet, on_tick}
+use Rattle.client_serving.specs.Reads.{loses}
+use Rattle.client_serving.specs.Sends.{Done}
+use Rattle.file_plan.specs.declared.block_call.BlockCall.{BlockCall}
+use Rattle.node_base.specs.declared.effects.Effect.{Effect}
+use Rattle.node_base.specs.declared.effects.Effect.TheVariants.{Send, Answer as Answers, Lose, Does}
+use Rattle.node_base.specs.declared.items.Items.{Items}
+use Rattle.version_model.specs.declared.act.Act.{Act}
+use Rattle.version_model.specs.declared.act.Act.TheVariants as act
+use Rattle.wire_msg.specs.declared.packet.Packet.{Packet}
+use Rattle.xfs_base.specs.declared.block.BlockId.{BlockId}
+use Rattle.xfs_base.specs.declared.segment.SegName.{SegName}
+use Rattle.xfs_base.specs.Steps.{saying}
+
+-- ---- what answers nothing
+
+-- an act that answers no item, nor says that a segment is lost
+abbrev pub IsSilent : Act → Type 0
+IsSilent (act.Answered node item a) = ⊥
+IsSilent (act.Lost node name) = ⊥
+IsSilent _ = Unit {0}
+
+abbrev pub IsPlain : Effect → Type 0
+IsPlain (Send to said) = Unit {0}
+IsPlain (Answers item a) = ⊥
+IsPlain (Lose name) = Unit {0}
+IsPlain (Does a) = IsSilent a
+
+abbrev pub AllPlain : List Effect → Type 0
+AllPlain outs = AllByRecursion IsPlain outs
+
+-- ---- what stays
+
+-- the open call is the one that was open, or none is: its plan is the same, and its call on blocks
+abbrev pub CallStays : Option Call → Option Call → Type 0
+CallStays before after =
+    (call : Call) → after ≡ Some call → (old : Call) × ((before ≡ Some old) × ((call.plan ≡ old.plan) × (call.step ≡ old.step)))
+
+-- the items ask for the same, none has begun, and no other is open
+pub record ItemsStay (before after : Items) : Type 0 where
+  pub works : after.works ≡ before.works
+  pub begun : after.begun ≡ before.begun
+  pub waits : (item : ℕ) → after.unanswered ≡ Some item → before.unanswered ≡ Some item
+
+pub record Kept (s t : Serving) : Type 0 where
+  pub calls : CallStays s.call t.call
+  pub number : t.lasting.number ≡ s.lasting.number
+  pub items : ItemsStay s.lasting.items t.lasting.items
+
+-- ---- the moves
+
+pub data Move (s : Serving) : Done → Type 0 where
+  -- Its call, its number and its items stay, and no item is answered.
+  Steps : {d : Done} → Kept s d.state → AllPlain d.outs → Move s d
+  -- A segment that it needs is lost: that is said, and the open item is answered so.
+  Loses : (block : BlockId) (name : SegName) → Move s (loses s block name)
+
+-- Any list of moves, oldest first.
+pub data Moves : Serving → Done → Type 0 where
+  Last : {s : Serving} {d : Done} → Move s d → Moves s d
+  Then : {s : Serving} (d e : Done) → Move s d → Moves d.state e → Moves s (saying d.outs e)
+
+-- What is done as a packet comes, as time passes, and for a call on blocks, is a list of moves.
+abbrev pub PacketsAreMoves : Type 0
+PacketsAreMoves = (s : Serving) (packet : Packet) → Moves s (on_packet s packet)
+
+abbrev pub TicksAreMoves : Type 0
+TicksAreMoves = (s : Serving) → Moves s (on_tick s)
+
+abbrev pub CallsAreMoves : Type 0
+CallsAreMoves = (s : Serving) (call : BlockCall) → Moves s (makes s call).done
+
+-- So the call that is open behind moves was open before them.
+abbrev pub CallsStay : Type 0
+CallsStay = (s : Serving) (d : Done) → Moves s d → CallStays s.call d.state.call
