@@ -1,0 +1,5 @@
+mod Joins
+mod Clean
+mod Rows
+mod Tables
+mod Runs
