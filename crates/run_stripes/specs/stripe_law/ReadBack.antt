@@ -1,0 +1,82 @@
+-- What was filed is read back, in the words of a run of the nodes: while no more members of its group lack their fragment than the parity makes good, what the
+-- others hold joins to the segment's text, which decodes to the segment (the 1996 paper, on RAID).
+use Rattle.std.specs.Prelude.{◌≡◌, ◌+◌, ◌-◌, ◌==◌, ◌≤◌, ℕ, List, [], ◌∷◌, Option, Some, None, Ok, if◌then◌else◌, length}
+use Rattle.core_world.specs.AnyNode.{any_start, any_step}
+use Rattle.core_world.specs.declared.any_node.AnyNode.{AnyNode}
+use Rattle.fragment_store.specs.ShelfState.{ShelfState, held_at}
+use Rattle.group_map.specs.declared.group.Group.{Group}
+use Rattle.group_map.specs.declared.group.Member.{Member}
+use Rattle.node_base.specs.Setups.{IsSetup}
+use Rattle.run_laws.specs.world_law.Owners.{moment}
+use Rattle.run_laws.specs.world_logs.Logs.{IsText}
+use Rattle.run_laws.specs.world_logs.Shelves.{group_at, shelf_at}
+use Rattle.segment_format.specs.declared.segment.Segment.{Segment}
+use Rattle.segment_format.specs.ReadingItems.{answer_of}
+use Rattle.segment_format.specs.Text.{text_of}
+use Rattle.stripe_code.specs.Joined.{HasLengths, excess, joined, missing_from}
+use Rattle.stripe_code.specs.Stripe.{IsCut, part_of}
+use Rattle.token_protocol.specs.Basics.{In}
+use Rattle.version_model.specs.declared.act.Act.TheVariants as act
+use Rattle.world_base.specs.declared.estate.Estate.{Estate}
+use Rattle.world_base.specs.declared.world.World.{World}
+use Rattle.world_base.specs.Runs.{IsRun}
+use Rattle.xfs_base.specs.declared.fragment.Fragment.{Fragment}
+use Rattle.xfs_base.specs.declared.segment.SegName.{SegName}
+
+-- ---- what servers hold
+
+-- what a shelf holds under a name; one that isn't there holds nothing
+abbrev pub held_on : Option ShelfState → SegName → Option Fragment
+held_on None name = None
+held_on (Some shelf) name = held_at shelf.held name
+
+-- its bytes, where it is the fragment of this place
+abbrev pub at_place : ℕ → Option Fragment → Option (List ℕ)
+at_place place None = None
+at_place place (Some f) = if f.meta.index == place then Some f.bytes else None
+
+module _ (w : World AnyNode) (name : SegName) where
+  -- what the servers of members hold of a segment, each of its own fragment, where the first member is at this place
+  abbrev pub parts_from : ℕ → List Member → List (Option (List ℕ))
+  parts_from place [] = []
+  parts_from place (m ∷ ms) = at_place place (held_on (shelf_at w m.server) name) ∷ parts_from (place + 1) ms
+
+  abbrev pub parts_held : Group → List (Option (List ℕ))
+  parts_held group = parts_from 0 group.members
+
+  -- how many members lack their fragment
+  abbrev pub lacking : Group → ℕ
+  lacking group = length (missing_from 0 (parts_held group))
+
+-- ---- what is read back
+
+-- Of a segment over its group: what the members hold, each at its place, is what `join` asks for, of the length that each fragment says; it refuses none of it,
+-- and gives the segment's text; and by that text `decode` gives the segment.
+pub record IsReadBack (w : World AnyNode) (s : Segment) (group : Group) : Type 0 where
+  pub size : IsCut (length (parts_held w s.name group)) group.parity
+  pub long : (v : ℕ) (f : Fragment) → held_on (shelf_at w v) s.name ≡ Some f → f.meta.len ≡ length (text_of s)
+  pub lengths : HasLengths (part_of (length (text_of s)) (length (parts_held w s.name group) - group.parity)) (parts_held w s.name group)
+  pub enough : excess group.parity (missing_from 0 (parts_held w s.name group)) ≡ None
+  pub joins : joined (parts_held w s.name group) group.parity (length (text_of s)) ≡ text_of s
+  pub decodes : answer_of (text_of s) ≡ Ok s
+
+-- A segment of this name, over a group of the registry's, by its map at the end of the run: whatever is held or was sent under its name is a fragment of it,
+-- and while no more members lack theirs than the parity makes good, it is read back.
+pub record IsKeptReadable (end w : World AnyNode) (s : Segment) (name : SegName) : Type 0 where
+  pub named : s.name ≡ name
+  pub group : Group
+  pub striped : group_at end s.group ≡ Some group
+  pub text : IsText w name s group
+  pub back : lacking w name group ≤ group.parity → IsReadBack w s group
+
+-- ---- in a run
+
+-- So it is at each moment of a run of each segment that was acted to be filed up to there: of a client's log, the cleaner's or a manager's, and it is one
+-- segment throughout the run.
+pub record FiledIsReadBack (e : Estate AnyNode) : Type 0 where
+  pub text : SegName → Segment
+  pub each : (count : ℕ) (name : SegName) → In (act.Filed name) (moment e count).acts → IsKeptReadable e.world (moment e count) (text name) name
+
+-- So it is in each run of a script of whose setup a run can be started, after doubtful restarts too.
+abbrev pub WhatIsFiledIsReadBack : Type 0
+WhatIsFiledIsReadBack = (e : Estate AnyNode) → IsSetup e.script.setup → IsRun any_step any_start e.script e.events e.world → FiledIsReadBack e
