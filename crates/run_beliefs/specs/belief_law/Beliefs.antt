@@ -1,0 +1,60 @@
+-- What a manager believes of clients, in the words of a run of the nodes: at whatever epoch it manages a slot, the registry's or an earlier one, it believes of
+-- each client that serves and has promised that epoch what that holds or reads, and what it would still accept. Of a client that has promised a later epoch
+-- nothing is said: what such a client holds it may have of a later manager (the 1996 paper, on cache consistency and on managers).
+use Rattle.std.specs.Prelude.{◌≡◌, ◌<◌, ◌≤◌, ℕ, true, Some, is_some}
+use Rattle.core_world.specs.AnyNode.{any_start, any_step}
+use Rattle.core_world.specs.declared.any_node.AnyNode.{AnyNode}
+use Rattle.node_base.specs.Setups.{IsSetup}
+use Rattle.run_laws.specs.world_law.Managers.{active_at}
+use Rattle.run_laws.specs.world_law.Owners.{moment, tokens_at}
+use Rattle.slot_beliefs.specs.Beliefs.{share_of}
+use Rattle.token_client.specs.State.{TokensState, epoch_of, held_of, is_in_slot}
+use Rattle.token_client.specs.Transition.{accepts}
+use Rattle.token_manager.specs.SlotState.{SlotState}
+use Rattle.token_tie.specs.Seen.{mode_number}
+use Rattle.wire_msg.specs.declared.body.Body.TheVariants as body
+use Rattle.wire_msg.specs.declared.packet.Packet.{Packet}
+use Rattle.wire_msg.specs.declared.tokens.Forward.{Forward}
+use Rattle.wire_msg.specs.declared.tokens.Grant.{Grant}
+use Rattle.wire_msg.specs.declared.tokens.Supply.{Supply}
+use Rattle.world_base.specs.declared.estate.Estate.{Estate}
+use Rattle.world_base.specs.declared.world.World.{World}
+use Rattle.world_base.specs.Runs.{IsRun, WasSent}
+use Rattle.xfs_base.specs.declared.block.BlockId.{BlockId}
+use Rattle.xfs_base.specs.declared.node.NodeId.TheVariants as nodes
+use Rattle.xfs_base.specs.declared.token.Mode.TheVariants.{Copy}
+use Rattle.xfs_base.specs.Limits.{slot_count}
+
+module _ (w : World AnyNode) (part : ℕ) where
+  -- A manager manages the slot with this state, and a client serves with these tokens, by which it has promised the very epoch of that.
+  pub record AreOfOneEpoch (j c : ℕ) (s : SlotState) (t : TokensState) : Type 0 where
+    pub manages : active_at w part j ≡ Some s
+    pub serves : tokens_at w c ≡ Some t
+    pub promised : s.epoch ≡ epoch_of t.epochs part
+
+  -- The manager believes of the client, of each block of the slot:
+  pub record Believes (c : ℕ) (s : SlotState) (t : TokensState) : Type 0 where
+    -- at least what it holds
+    pub held : (b : BlockId) → is_in_slot part b ≡ true → mode_number (held_of t.blocks b).mode ≤ share_of s.beliefs b c
+    -- a copy at least, where it reads the block
+    pub fetched : (b : BlockId) → is_in_slot part b ≡ true → is_some (held_of t.blocks b).fetch ≡ true → 1 ≤ share_of s.beliefs b c
+    -- what a Grant that was sent to it would give, where it would still accept that
+    pub granted : (packet : Packet) (m : Grant) → WasSent w.sent packet → packet.to ≡ nodes.Client c → packet.body ≡ body.Grant m
+        → is_in_slot part m.block ≡ true → accepts t m.block m.stamp m.inc m.req m.mode ≡ true → mode_number m.mode ≤ share_of s.beliefs m.block c
+    -- a copy at least, where it would still accept a Supply that was sent to it
+    pub supplied : (packet : Packet) (m : Supply) → WasSent w.sent packet → packet.to ≡ nodes.Client c → packet.body ≡ body.Supply m
+        → is_in_slot part m.block ≡ true → accepts t m.block m.stamp m.inc m.req Copy ≡ true → 1 ≤ share_of s.beliefs m.block c
+    -- or would still accept what a Forward to another client asks to be supplied to it
+    pub forwarded : (d : ℕ) (packet : Packet) (m : Forward) → WasSent w.sent packet → packet.to ≡ nodes.Client d → packet.body ≡ body.Forward m → m.to ≡ c
+        → is_in_slot part m.block ≡ true → accepts t m.block m.stamp m.inc m.req Copy ≡ true → 1 ≤ share_of s.beliefs m.block c
+
+  abbrev pub BelievesItsClients : Type 0
+  BelievesItsClients = (j c : ℕ) (s : SlotState) (t : TokensState) → AreOfOneEpoch j c s t → Believes c s t
+
+-- so it is at each moment of a run, of each slot
+abbrev pub BelievedThroughout : Estate AnyNode → Type 0
+BelievedThroughout e = (count part : ℕ) → part < slot_count → BelievesItsClients (moment e count) part
+
+-- So it is in each run of a script of whose setup a run can be started, whatever is lost.
+abbrev pub EveryRunsManagersBelieve : Type 0
+EveryRunsManagersBelieve = (e : Estate AnyNode) → IsSetup e.script.setup → IsRun any_step any_start e.script e.events e.world → BelievedThroughout e

@@ -1,0 +1,24 @@
+//! What managers believe of clients covers what these hold and would still accept, in every run of the nodes' world. It has no code of the product: the function
+//! below calls the laws that it stands on, and its contract is a law. `specs/belief_law/Beliefs.antt` says it in words of the nodes.
+
+ghost use Rattle.run_beliefs.specs.belief_law.Beliefs.{EveryRunsManagersBelieve};
+
+use node_slots::node_tie::{
+    client_events_are_seen, clients_ask_for_their_call, manager_events_are_seen,
+    other_events_are_seen,
+};
+use token_law::tokens_keep_their_word;
+
+/// A manager of a slot at an epoch, be it the registry's or an earlier one, believes of each client that serves and has promised that epoch at least what it
+/// holds, that it has a copy of what it reads, and what it would still accept of Grants, Supplies and Forwards that were sent: at each moment of every run,
+/// whatever messages are lost, repeated or reordered and whichever nodes stop (the 1996 paper, on cache consistency and on managers). It asks nothing of losses
+/// of storage.
+pub fn managers_believe_their_clients()
+    ensures believed { EveryRunsManagersBelieve }
+{
+    clients_ask_for_their_call();
+    client_events_are_seen();
+    manager_events_are_seen();
+    other_events_are_seen();
+    tokens_keep_their_word();
+}
