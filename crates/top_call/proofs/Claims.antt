@@ -1,5 +1,5 @@
 -- From what the parts of a call tell to the claim of the whole.
-use Rattle.std.proofs.Common.{◌≡◌, ◌≤◌, ℕ, true, false, List, [], Option, Some, None, refl, sym, ap, ◌∙◌, inl, inr, subst, arith}
+use Rattle.std.proofs.Common.{◌≡◌, ◌+◌, ◌≤◌, ℕ, true, false, List, [], Option, Some, None, refl, sym, ap, ◌∙◌, inl, inr, subst, arith}
 use Rattle.std.specs.Prelude.{IfSome}
 use Rattle.std.specs.Io.KnownBytes.{Consumes, Keeps}
 use Rattle.board_law.specs.OneRun.{HasRegistry}
@@ -7,7 +7,14 @@ use Rattle.board_play.specs.declared.estate.BoardEstate.{BoardEstate}
 use Rattle.board_play.specs.Played.{IsBoardPlayed}
 use Rattle.board_play.specs.Plays.{estate_of as board_estate_of}
 use Rattle.board_world.specs.declared.board_event.BoardEvent.{BoardEvent}
+use Rattle.disk_play.specs.Courses.{disk_estate_of, shelf_at}
+use Rattle.disk_play.specs.Standing.{DisksStand}
+use Rattle.disk_shelf.specs.MemDisk.{MemState, disk_bytes}
+use Rattle.disk_shelf.specs.Records.{DiskState, StandsFor}
+use Rattle.fragment_store.specs.ShelfState.{ShelfState}
 use Rattle.live_run.specs.Live.{IsLive}
+use Rattle.mounts.specs.declared.reply.Reply.{Reply}
+use Rattle.mounts.specs.Mounted.{IsMounted}
 use Rattle.play.specs.Plays.{actors_of, estate_of}
 use Rattle.node_base.specs.Setups.{IsSetup}
 use Rattle.script_print.specs.Printing.{IsScript}
@@ -21,15 +28,18 @@ use Rattle.wire_msg.specs.NodeStep.{NodeStep}
 use Rattle.world_base.specs.declared.estate.Estate.{Estate}
 use Rattle.world_base.specs.Runs.{BeginsAll, IsRun, begun_in}
 use Rattle.xfs_base.specs.declared.node.NodeId.{NodeId}
+use Rattle.xfs_base.specs.declared.node.NodeId.TheVariants.{Server}
 use Rattle.xfs_base.specs.declared.setup.Setup.{Setup}
 use Rattle.xfs_base.specs.Causes.{Rose}
 use Rattle.top_call.specs.declared.command.Command.{Command}
-use Rattle.top_call.specs.declared.command.Command.TheVariants.{Run, Live, Gen, Big, Audit, Boards}
+use Rattle.top_call.specs.declared.command.Command.TheVariants.{Run, Live, Mount, Gen, Big, Audit, Boards, Disks}
 use Rattle.top_call.specs.declared.outcome.Outcome.{Outcome}
-use Rattle.top_call.specs.Commands.{is_live, plays_boards, reads}
-use Rattle.top_call.specs.Claim.{Wanted, Writing, Reading, reading, writing, line, run_answer, IsRead, IsInput, Tells, GivesUp, TellsOrGivesUp, CannotRead, Wants, AnswersOrGivesUp, Ends, IsPlayed, IsPlayedWithBoards, IsRunBy, TellsLive, boards_in, boards_of, Claim}
+use Rattle.top_call.specs.Commands.{plays_plainly, reads}
+use Rattle.top_call.specs.Claim.{Wanted, Writing, Reading, reading, writing, line, run_answer, IsRead, IsInput, Tells, GivesUp, TellsOrGivesUp, CannotRead, Wants, AnswersOrGivesUp, Ends, IsPlayed, IsPlayedWithBoards, IsPlayedWithDisks, IsRunBy, TellsDisks, TellsLive, boards_in, boards_of, Claim}
+use Rattle.top_call.specs.Disks.{DisksGive, DisksIn, Gives, LeavesDisks}
+use Rattle.top_call.specs.Mounts.{LeavesMounts, MountsIn}
 use Rattle.top_call.specs.Spoken.{usage_text}
-use Rattle.top_call.specs.Told.{boards_where}
+use Rattle.top_call.specs.Told.{boards_where, disks_where, lists_where}
 
 -- known bytes stay as they are where nothing is written
 keeps_same : (o : Option (List ℕ)) → Keeps o o
@@ -42,13 +52,13 @@ consumes_nothing None = tt
 consumes_nothing (Some xs) = refl
 
 -- an outcome without a run ends in want of memory, with nothing written
-pub gives_up : {N K : Type 0} (written : K → Option (List ℕ)) (faults : K → ℕ) (sink : K) (o : Outcome N) → o ≡ record { status = 7; estate = None; boards = None }
+pub gives_up : {N K : Type 0} (written : K → Option (List ℕ)) (faults : K → ℕ) (sink : K) (o : Outcome N) → o ≡ record { status = 7; estate = None; boards = None; disks = None; calls = None; replies = None }
     → GivesUp (writing written faults sink sink) o
 gives_up written faults sink o e = (ap (λ x. x.status) e, ap (λ x. x.estate) e, keeps_same (written sink))
 
 -- or since a read failed
 pub cannot_read : {N K : Type 0} (r : Reading) (written : K → Option (List ℕ)) (faults : K → ℕ) (sink : K) (o : Outcome N) → Rose r.faults r.faults_after
-    → o ≡ record { status = 4; estate = None; boards = None } → CannotRead r (writing written faults sink sink) o
+    → o ≡ record { status = 4; estate = None; boards = None; disks = None; calls = None; replies = None } → CannotRead r (writing written faults sink sink) o
 cannot_read r written faults sink o rose e = (ap (λ x. x.status) e, ap (λ x. x.estate) e, keeps_same (written sink), rose)
 
 -- a text that equals the wanted one is told
@@ -59,6 +69,25 @@ line_told s o text wanted status e h = subst (λ x. Tells s o (line x status)) e
 pub run_told : {N : Type 0} (s : Writing) (o : Outcome N) (text wanted : List ℕ) (e : Estate N) → text ≡ wanted → Tells s o (run_answer text e)
     → Tells s o (run_answer wanted e)
 run_told s o text wanted e k h = subst (λ x. Tells s o (run_answer x e)) k h
+
+-- an image stands for one state at most, so the disks give what they stand for
+module _ (one : (s t : DiskState) (image : List ℕ) → StandsFor s image → StandsFor t image → s ≡ t) where
+  gives_that : (kept : Option ShelfState) (disk : MemState)
+      → (shelf : ShelfState) × (welcomed : ℕ) × (kept ≡ Some shelf) × StandsFor (record { shelf = shelf; welcomed = welcomed }) (disk_bytes disk)
+      → (shelf : ShelfState) × (kept ≡ Some shelf) × Gives disk shelf
+  gives_that kept disk (shelf, welcomed, is, stands) =
+      let that : DiskState = record { shelf = shelf; welcomed = welcomed } in (
+        shelf,
+        is,
+        record { welcomed = welcomed; stands = stands; only = λ s other. ap (λ (x : DiskState). x.shelf) (one s that (disk_bytes disk) other stands) },
+      )
+
+  pub disks_give : {N : Type 0} (shelf_of : N → Option ShelfState) (e : Estate N) (disks : List MemState) → DisksStand shelf_of e disks
+      → DisksGive shelf_of e disks
+  disks_give shelf_of e disks h = record {
+    count = h.count;
+    each = λ place disk is. gives_that (shelf_at shelf_of e.world (Server (place + 1))) disk (h.each place disk is);
+  }
 
 module _ {N : Type 0} (step : N → Do → NodeStep N) (first : NodeId → Setup → List Work → N) where
   -- the run that a script determines was played
@@ -84,17 +113,19 @@ module _ {N : Type 0} (step : N → Do → NodeStep N) (first : NodeId → Setup
   pub none_played : (o : Option (Estate N)) → o ≡ None → IfSome o (λ x. IsPlayed step first x)
   none_played o k = subst (λ y. IfSome y (λ x. IsPlayed step first x)) (sym k) tt
 
-  -- by whichever words but `boards` and those that start threads
-  pub by_one : (command : Option Command) → is_live command ≡ false → plays_boards command ≡ false → (o : Option (Estate N)) → IfSome o (λ x. IsPlayed step first x)
+  -- by whichever words but `boards`, `disks` and those that start threads
+  pub by_one : (command : Option Command) → plays_plainly command ≡ true → (o : Option (Estate N)) → IfSome o (λ x. IsPlayed step first x)
       → IfSome o (IsRunBy step first command)
-  by_one command alone unboarded None h = tt
-  by_one None alone unboarded (Some e) h = h
-  by_one (Some Run) alone unboarded (Some e) h = h
-  by_one (Some (Live workers)) alone unboarded (Some e) h = absurd (cc)
-  by_one (Some (Gen drawn)) alone unboarded (Some e) h = h
-  by_one (Some (Big drawn)) alone unboarded (Some e) h = h
-  by_one (Some Audit) alone unboarded (Some e) h = h
-  by_one (Some Boards) alone unboarded (Some e) h = absurd (cc)
+  by_one command plainly None h = tt
+  by_one None plainly (Some e) h = h
+  by_one (Some Run) plainly (Some e) h = h
+  by_one (Some (Live workers)) plainly (Some e) h = absurd (cc)
+  by_one (Some (Mount workers)) plainly (Some e) h = absurd (cc)
+  by_one (Some (Gen drawn)) plainly (Some e) h = h
+  by_one (Some (Big drawn)) plainly (Some e) h = h
+  by_one (Some Audit) plainly (Some e) h = h
+  by_one (Some Boards) plainly (Some e) h = absurd (cc)
+  by_one (Some Disks) plainly (Some e) h = absurd (cc)
 
   -- with boards
   pub none_boarded : (o : Option (Estate N)) → o ≡ None → IfSome o (λ x. IsPlayedWithBoards step first x)
@@ -122,6 +153,56 @@ module _ {N : Type 0} (step : N → Do → NodeStep N) (first : NodeId → Setup
   by_boards None h = tt
   by_boards (Some e) h = h
 
+  -- with servers that stop, the run that a script determines was played
+  pub is_played_with_disks : (script : Script) (e : Estate N) → IsScript script → IsSetup script.setup → e.script ≡ script
+      → IsRun step first script e.events e.world → begun_in e.events ≡ actors_of script.lines → BeginsAll script.lines e.events
+      → IsPlayedWithDisks step first e
+  is_played_with_disks script e accepted setup of run order all =
+      let same : script ≡ e.script = sym of in
+      record {
+        whole = record {
+          setup = subst (λ (x : Script). IsSetup x.setup) same setup;
+          one_run = subst (λ x. IsRun step first x e.events e.world) same run;
+          complete = subst (λ (x : Script). BeginsAll x.lines e.events) same all;
+        };
+        in_order = subst (λ (x : Script). begun_in e.events ≡ actors_of x.lines) same order;
+        accepted = subst IsScript same accepted;
+      }
+
+  pub some_stopped : (o : Option (Estate N)) (e : Estate N) → IfSome o (λ x. x ≡ e) → IsPlayedWithDisks step first e
+      → IfSome o (λ x. IsPlayedWithDisks step first x)
+  some_stopped None e k h = tt
+  some_stopped (Some x) e k h = subst (λ y. IsPlayedWithDisks step first y) (sym k) h
+
+  pub none_stopped : (o : Option (Estate N)) → o ≡ None → IfSome o (λ x. IsPlayedWithDisks step first x)
+  none_stopped o k = subst (λ y. IfSome y (λ x. IsPlayedWithDisks step first x)) (sym k) tt
+
+  pub by_disks : (o : Option (Estate N)) → IfSome o (λ x. IsPlayedWithDisks step first x) → IfSome o (IsRunBy step first (Some Disks))
+  by_disks None h = tt
+  by_disks (Some e) h = h
+
+  -- and its disks are handed out
+  module _ (shelf_of : N → Option ShelfState) where
+    pub some_disks : (o : Option (Estate N)) (e : Estate N) (disks : List MemState) (told : Option (List MemState)) → IfSome o (λ x. x ≡ e)
+        → told ≡ disks_where o disks → e ≡ disk_estate_of step shelf_of first e.script → DisksGive shelf_of e disks → DisksIn step first shelf_of o told
+    some_disks None e disks told k are is give = are
+    some_disks (Some x) e disks told k are is give =
+        subst (λ y. LeavesDisks step first shelf_of y told) (sym k) (record { determined = is; disks = disks; are = are; give = give })
+
+    pub no_disks : (o : Option (Estate N)) (told : Option (List MemState)) → o ≡ None → told ≡ None → DisksIn step first shelf_of o told
+    no_disks o told k none = subst (λ y. DisksIn step first shelf_of y told) (sym k) none
+
+  -- the text of such a run is told
+  pub disks_told : (script : Script) (s : Writing) (o : Outcome N) (e : Estate N) → e.script ≡ script → IsPlayedWithDisks step first e
+      → TellsOrGivesUp s o (run_answer (text_of e) e) → TellsDisks step first script s o
+  disks_told script s o e of played (inl t) = inl (run_answer (text_of e) e, record { run = e; of_script = of; played = played; answer = refl }, t)
+  disks_told script s o e of played (inr g) = inr g
+
+  pub disks_answers : (input : List ℕ) (script : Script) (s : Writing) (o : Outcome N) → IsScriptOf false input script → TellsDisks step first script s o
+      → AnswersOrGivesUp step first (Some Disks) input s o
+  disks_answers input script s o of (inl (w, a, t)) = inl (record { wanted = w; wants = inl (script, of, a); told = t })
+  disks_answers input script s o of (inr g) = inr g
+
   -- a run by workers was made
   pub some_lived : (o : Option (Estate N)) (e : Estate N) → IfSome o (λ x. x ≡ e) → IsLive step first e → IfSome o (λ x. IsLive step first x)
   some_lived None e k h = tt
@@ -145,6 +226,26 @@ module _ {N : Type 0} (step : N → Do → NodeStep N) (first : NodeId → Setup
       → AnswersOrGivesUp step first (Some (Live workers)) input s o
   live_answers workers input script s o of (inl (w, a, t)) = inl (record { wanted = w; wants = inl (script, of, a); told = t })
   live_answers workers input script s o of (inr g) = inr g
+
+  -- with an application for each client
+  pub by_applications : (workers : ℕ) (o : Option (Estate N)) → IfSome o (λ x. IsLive step first x) → IfSome o (IsRunBy step first (Some (Mount workers)))
+  by_applications workers None h = tt
+  by_applications workers (Some e) h = h
+
+  pub mount_answers : (workers : ℕ) (input : List ℕ) (script : Script) (s : Writing) (o : Outcome N) → IsScriptOf true input script → TellsLive step first script s o
+      → AnswersOrGivesUp step first (Some (Mount workers)) input s o
+  mount_answers workers input script s o of (inl (w, a, t)) = inl (record { wanted = w; wants = inl (script, of, a); told = t })
+  mount_answers workers input script s o of (inr g) = inr g
+
+  pub some_mounted : (o : Option (Estate N)) (e : Estate N) (calls : List (List ℕ)) (replies : List (List Reply)) (called : Option (List (List ℕ))) (replied : Option (List (List Reply)))
+      → IfSome o (λ x. x ≡ e) → called ≡ lists_where o calls → replied ≡ lists_where o replies → IsMounted step first e calls replies → MountsIn step first o called replied
+  some_mounted None e calls replies called replied k are is m = (are, is)
+  some_mounted (Some x) e calls replies called replied k are is m =
+      subst (λ y. LeavesMounts step first y called replied) (sym k) (record { calls = calls; replies = replies; calls_are = are; replies_are = is; mounted = m })
+
+  pub none_mounted : (o : Option (Estate N)) (called : Option (List (List ℕ))) (replied : Option (List (List Reply))) → o ≡ None → called ≡ None → replied ≡ None
+      → MountsIn step first o called replied
+  none_mounted o called replied k none nothing = subst (λ y. MountsIn step first y called replied) (sym k) (none, nothing)
 
   -- what is wanted of an input is told, or memory is wanting
   pub answers : (command : Option Command) (input : List ℕ) (s : Writing) (o : Outcome N) (w : Wanted N) → Wants step first command input w

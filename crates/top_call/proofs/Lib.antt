@@ -3,3 +3,4 @@ pub mod Claims
 pub mod Loops
 pub mod Named
 pub mod Setups
+pub mod Threads

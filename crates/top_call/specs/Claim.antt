@@ -27,7 +27,7 @@ use Rattle.xfs_base.specs.declared.node.NodeId.{NodeId}
 use Rattle.xfs_base.specs.declared.setup.Setup.{Setup}
 use Rattle.xfs_base.specs.Causes.{Rose}
 use Rattle.top_call.specs.declared.command.Command.{Command}
-use Rattle.top_call.specs.declared.command.Command.TheVariants.{Run, Live, Gen, Big, Audit, Boards}
+use Rattle.top_call.specs.declared.command.Command.TheVariants.{Run, Live, Mount, Gen, Big, Audit, Boards, Disks}
 use Rattle.top_call.specs.declared.command.Drawn.{Drawn}
 use Rattle.top_call.specs.declared.outcome.Outcome.{Outcome}
 use Rattle.top_call.specs.Commands.{reads}
@@ -152,6 +152,29 @@ module _ {N : Type 0} (step : N → Do → NodeStep N) (first : NodeId → Setup
     pub none_open : open_items run ≡ 0
     pub answer : w ≡ run_answer (text_of run) run
 
+  -- It is a whole run of its script, which some text spells, played by one thread: all items are begun in the order of their lines. It is the one that the
+  -- script determines with servers that stop (`DisksOf`).
+  pub record IsPlayedWithDisks (e : Estate N) : Type 0 where
+    pub whole : IsWholeRun step first e
+    pub in_order : begun_in e.events ≡ actors_of e.script.lines
+    pub accepted : IsScript e.script
+
+  -- what is wanted of a script that is played with servers that stop: the text of such a run
+  pub record IsDisksAnswer (script : Script) (w : Wanted N) : Type 0 where
+    pub run : Estate N
+    pub of_script : run.script ≡ script
+    pub played : IsPlayedWithDisks run
+    pub answer : w ≡ run_answer (text_of run) run
+
+  abbrev pub TellsDisks : Script → Writing → Outcome N → Type 0
+  TellsDisks script s o = ((w : Wanted N) × IsDisksAnswer script w × Tells s o w) ⊎ GivesUp s o
+
+  -- an input is a script, which is played with servers that stop, or has a first bad line
+  abbrev pub AnswersDisks : List ℕ → Wanted N → Type 0
+  AnswersDisks input w =
+      ((script : Script) × IsScriptOf false input script × IsDisksAnswer script w)
+      ⊎ ((number : ℕ) × (kind : Kind) × IsFirstBad false input number kind × (w ≡ refusal number kind))
+
   -- it is told, or memory is wanting
   abbrev pub TellsLive : Script → Writing → Outcome N → Type 0
   TellsLive script s o = ((w : Wanted N) × IsLiveAnswer script w × Tells s o w) ⊎ GivesUp s o
@@ -173,10 +196,12 @@ module _ {N : Type 0} (step : N → Do → NodeStep N) (first : NodeId → Setup
   Wants None input w = w ≡ line usage_text 2
   Wants (Some Run) input w = AnswersScript input w
   Wants (Some (Live workers)) input w = AnswersLive input w
+  Wants (Some (Mount workers)) input w = AnswersLive input w
   Wants (Some (Gen d)) input w = w ≡ line (printed (script_of d)) 0
   Wants (Some (Big d)) input w = w ≡ brief_wanted (script_of d)
   Wants (Some Audit) input w = AnswersJournal input w
   Wants (Some Boards) input w = AnswersBoards input w
+  Wants (Some Disks) input w = AnswersDisks input w
 
   -- what is wanted of the input is told
   pub record Answers (command : Option Command) (input : List ℕ) (s : Writing) (o : Outcome N) : Type 0 where
@@ -206,10 +231,12 @@ module _ {N : Type 0} (step : N → Do → NodeStep N) (first : NodeId → Setup
     pub determined : e ≡ (board_estate_of step first e.script).estate
     pub played : HasRegistry step first → IsBoardPlayed step first (board_estate_of step first e.script)
 
-  -- what a command runs: by workers, each item begun at its due and answered; else by one thread, with boards or without
+  -- what a command runs: by workers, each item begun at its due and answered; else by one thread, with boards, with servers that stop, or plainly
   abbrev pub IsRunBy : Option Command → Estate N → Type 0
   IsRunBy (Some (Live workers)) e = IsLive step first e
+  IsRunBy (Some (Mount workers)) e = IsLive step first e
   IsRunBy (Some Boards) e = IsPlayedWithBoards e
+  IsRunBy (Some Disks) e = IsPlayedWithDisks e
   IsRunBy command e = IsPlayed e
 
   -- what happened to nodes and boards in a run that a script determines with boards

@@ -3,7 +3,7 @@ use Rattle.std.specs.Prelude.{◌≤◌, ℕ, Bool, true, false, List, [], ◌�
 use Rattle.std.specs.Str.{bytes_eq}
 use Rattle.script_text.specs.Reading.{number_in}
 use Rattle.top_call.specs.declared.command.Command.{Command}
-use Rattle.top_call.specs.declared.command.Command.TheVariants.{Run, Live, Gen, Big, Audit, Boards}
+use Rattle.top_call.specs.declared.command.Command.TheVariants.{Run, Live, Mount, Gen, Big, Audit, Boards, Disks}
 use Rattle.top_call.specs.declared.command.Drawn.{Drawn}
 
 -- the script that is drawn by a number below 2^31, of at most 2,000 turns
@@ -21,12 +21,16 @@ command_of_word word =
     if bytes_eq word (codes "run") then Some Run
     else if bytes_eq word (codes "audit") then Some Audit
     else if bytes_eq word (codes "boards") then Some Boards
+    else if bytes_eq word (codes "disks") then Some Disks
     else None
 
 -- a word and a number of workers
 abbrev pub command_live : List ℕ → Option ℕ → Option Command
 command_live word None = None
-command_live word (Some workers) = if bytes_eq word (codes "live") then Some (Live workers) else None
+command_live word (Some workers) =
+    if bytes_eq word (codes "live") then Some (Live workers)
+    else if bytes_eq word (codes "mount") then Some (Mount workers)
+    else None
 
 -- a word and a script that is drawn
 abbrev pub command_drawn : List ℕ → Option Drawn → Option Command
@@ -36,7 +40,7 @@ command_drawn word (Some drawn) =
     else if bytes_eq word (codes "big") then Some (Big drawn)
     else None
 
--- `run`, `audit`, `boards`, `live W` with W from 1 to 16, `gen NUMBER N` or `big NUMBER N`; none where the words are no form
+-- `run`, `audit`, `boards`, `disks`, `live W` or `mount W` with W from 1 to 16, `gen NUMBER N` or `big NUMBER N`; none where the words are no form
 abbrev pub command_of : List (List ℕ) → Option Command
 command_of [] = None
 command_of (word ∷ []) = command_of_word word
@@ -49,37 +53,45 @@ abbrev pub reads : Option Command → Bool
 reads None = false
 reads (Some Run) = true
 reads (Some (Live workers)) = true
+reads (Some (Mount workers)) = true
 reads (Some (Gen drawn)) = false
 reads (Some (Big drawn)) = false
 reads (Some Audit) = true
 reads (Some Boards) = true
+reads (Some Disks) = true
 
--- whether a command plays a script with boards
-abbrev pub plays_boards : Option Command → Bool
-plays_boards None = false
-plays_boards (Some Run) = false
-plays_boards (Some (Live workers)) = false
-plays_boards (Some (Gen drawn)) = false
-plays_boards (Some (Big drawn)) = false
-plays_boards (Some Audit) = false
-plays_boards (Some Boards) = true
+-- whether what a command plays is played by one thread, with one registry and no disks
+abbrev pub plays_plainly : Option Command → Bool
+plays_plainly None = true
+plays_plainly (Some Run) = true
+plays_plainly (Some (Live workers)) = false
+plays_plainly (Some (Mount workers)) = false
+plays_plainly (Some (Gen drawn)) = true
+plays_plainly (Some (Big drawn)) = true
+plays_plainly (Some Audit) = true
+plays_plainly (Some Boards) = false
+plays_plainly (Some Disks) = false
 
 -- whether a command is carried out by threads
 abbrev pub is_live : Option Command → Bool
 is_live None = false
 is_live (Some Run) = false
 is_live (Some (Live workers)) = true
+is_live (Some (Mount workers)) = true
 is_live (Some (Gen drawn)) = false
 is_live (Some (Big drawn)) = false
 is_live (Some Audit) = false
 is_live (Some Boards) = false
+is_live (Some Disks) = false
 
 -- a script that is drawn has at most 2,000 turns
 abbrev pub HasFewTurns : Option Command → Type 0
 HasFewTurns None = Unit {0}
 HasFewTurns (Some Run) = Unit {0}
 HasFewTurns (Some (Live workers)) = Unit {0}
+HasFewTurns (Some (Mount workers)) = Unit {0}
 HasFewTurns (Some (Gen drawn)) = drawn.turns ≤ 2000
 HasFewTurns (Some (Big drawn)) = drawn.turns ≤ 2000
 HasFewTurns (Some Audit) = Unit {0}
 HasFewTurns (Some Boards) = Unit {0}
+HasFewTurns (Some Disks) = Unit {0}

@@ -1,7 +1,9 @@
 pub mod Claim
 pub mod Commands
+pub mod Disks
 pub mod Input
 pub mod Memory
+pub mod Mounts
 pub mod Output
 pub mod Spoken
 pub mod Told

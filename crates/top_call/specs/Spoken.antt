@@ -26,4 +26,4 @@ verdict_text (Legal count) = codes "legal " ++ (decimal count ++ 10 ∷ [])
 verdict_text (Illegal line) = codes "illegal " ++ (decimal line ++ 10 ∷ [])
 
 abbrev pub usage_text : List ℕ
-usage_text = codes "usage: xfs run | live W | gen NUMBER N | big NUMBER N | audit | boards" ++ 10 ∷ []
+usage_text = codes "usage: xfs run | live W | mount W | gen NUMBER N | big NUMBER N | audit | boards | disks" ++ 10 ∷ []

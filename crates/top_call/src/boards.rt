@@ -1,5 +1,5 @@
 //! What the program does for the word `boards`: it plays a script with three boards in the registry's place.
-ghost use Rattle.std.specs.Prelude.{◌≡◌, ◌≤◌, Some, IfOk, IfSome};
+ghost use Rattle.std.specs.Prelude.{◌≡◌, ◌≤◌, None, Some, IfOk, IfSome};
 ghost use Rattle.board_law.specs.OneRun.{HasRegistry};
 ghost use Rattle.script_print.specs.Printing.{IsScript};
 ghost use Rattle.board_play.specs.Played.{IsBoardPlayed};
@@ -8,6 +8,7 @@ ghost use Rattle.top_call.specs.declared.command.Command.TheVariants as commands
 ghost use Rattle.top_call.specs.Claim.{writing, reading, boards_in, boards_wanted, run_answer, IsPlayedWithBoards, TellsOrGivesUp, AnswersOrGivesUp, Ends, ReadsAtMost};
 ghost use Rattle.transcript.specs.Text.{text_of};
 ghost use Rattle.top_call.specs.Input.{limit};
+ghost use Rattle.top_call.specs.Mounts.{NoReplies};
 ghost use Rattle.top_call.specs.Told.{boards_where};
 
 use crate::Outcome;
@@ -35,6 +36,8 @@ fn write_boards<N: Drop, K: Sink>(alloc: Global, played: BoardEstate<N>, sink: &
     ensures told { TellsOrGivesUp (writing K.written K.faults sink.old sink.new) result (run_answer (text_of played.estate) played.estate) }
     ensures estate { IfSome result.estate (λ left. left ≡ played.estate) }
     ensures boards { result.boards ≡ boards_where result.estate played.events }
+    ensures no_disks { result.disks ≡ None }
+    ensures no_replies { NoReplies result.calls result.replies }
     ensures later { K.faults sink.old ≤ K.faults sink.new }
 {
     let (estate, events) = played.into_parts();
@@ -48,6 +51,8 @@ fn play_boards<N: Member, K: Sink>(alloc: Global, script: &Script, sink: &mut K)
     ensures told { TellsOrGivesUp (writing K.written K.faults sink.old sink.new) result (boards_wanted N.transition N.first script.now) }
     ensures one_run { IfSome result.estate (λ e. IsPlayedWithBoards N.transition N.first e) }
     ensures boards { result.boards ≡ boards_in N.transition N.first result.estate }
+    ensures no_disks { result.disks ≡ None }
+    ensures no_replies { NoReplies result.calls result.replies }
     ensures later { K.faults sink.old ≤ K.faults sink.new }
 {
     match played::<N>(alloc, script) {
@@ -61,6 +66,8 @@ fn boards_input<N: Member, K: Sink>(alloc: Global, input: &[u8], sink: &mut K) -
     ensures told { AnswersOrGivesUp N.transition N.first (Some commands.Boards) input.now (writing K.written K.faults sink.old sink.new) result }
     ensures one_run { IfSome result.estate (λ e. IsPlayedWithBoards N.transition N.first e) }
     ensures boards { result.boards ≡ boards_in N.transition N.first result.estate }
+    ensures no_disks { result.disks ≡ None }
+    ensures no_replies { NoReplies result.calls result.replies }
     ensures later { K.faults sink.old ≤ K.faults sink.new }
 {
     match parse(alloc, input, false) {
@@ -82,6 +89,8 @@ pub(crate) fn answer_boards<N: Member, S: Source, K: Sink>(
     ensures read_later { S.faults source.old ≤ S.faults source.new }
     ensures one_run { IfSome result.estate (λ e. IsPlayedWithBoards N.transition N.first e) }
     ensures boards { result.boards ≡ boards_in N.transition N.first result.estate }
+    ensures no_disks { result.disks ≡ None }
+    ensures no_replies { NoReplies result.calls result.replies }
     ensures later { K.faults sink.old ≤ K.faults sink.new }
 {
     match read_input(alloc, source) {

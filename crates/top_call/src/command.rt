@@ -1,7 +1,6 @@
 //! The words of the command line.
-ghost use Rattle.std.specs.Prelude.{◌≡◌, false, map, string_bytes, MatchOption, Some};
+ghost use Rattle.std.specs.Prelude.{◌≡◌, true, false, map, string_bytes, MatchOption, Some};
 ghost use Rattle.script_text.specs.Reading.{number_in};
-ghost use Rattle.top_call.specs.declared.command.Command.TheVariants as commands;
 ghost use Rattle.top_call.specs.Commands.{drawn_of, command_of_word, command_live, command_drawn, command_of, is_live, HasFewTurns};
 
 use script_text::word::number_of;
@@ -22,6 +21,8 @@ pub enum Command {
     Run,
     /// `live W`: runs the script that is read by so many workers, 1 to 16.
     Live(u8),
+    /// `mount W`: runs it so, with an application for each client that calls its items from a thread of its own.
+    Mount(u8),
     /// `gen NUMBER N`: writes a generated script.
     Gen(Drawn),
     /// `big NUMBER N`: plays a generated script.
@@ -30,6 +31,8 @@ pub enum Command {
     Audit,
     /// `boards`: plays the script that is read with three boards in the registry's place.
     Boards,
+    /// `disks`: plays the script that is read with servers that stop and keep their disk.
+    Disks,
 }
 
 /// Which script is generated.
@@ -93,6 +96,9 @@ fn command_of_word(word: &str) -> Option<Command>
     if word == "boards" {
         return Some(Command::Boards);
     }
+    if word == "disks" {
+        return Some(Command::Disks);
+    }
     None
 }
 
@@ -103,6 +109,9 @@ fn command_live(word: &str, workers: Option<u8>) -> Option<Command>
     let workers = workers?;
     if word == "live" {
         return Some(Command::Live(workers));
+    }
+    if word == "mount" {
+        return Some(Command::Mount(workers));
     }
     None
 }
@@ -134,17 +143,20 @@ pub fn read_words(words: &[String]) -> Option<Command>
     }
 }
 
-/// How many workers the words ask for; none where they are no form or start no threads.
-pub fn workers_asked(words: &[String]) -> Option<u8>
+/// What the words ask for where they start threads; none where they are no form or start none.
+pub fn threads_asked(words: &[String]) -> Option<Command>
     ensures { MatchOption result (is_live (command_of (map string_bytes words.now)) ≡ false)
-        (λ workers. command_of (map string_bytes words.now) ≡ Some (commands.Live workers)) }
+        (λ command. (command_of (map string_bytes words.now) ≡ Some command) × (is_live (Some command) ≡ true)) }
 {
-    match read_words(words)? {
-        Command::Live(workers) => Some(workers),
+    let command = read_words(words)?;
+    match command {
+        Command::Live(_) => Some(command),
+        Command::Mount(_) => Some(command),
         Command::Run => None,
         Command::Gen(_) => None,
         Command::Big(_) => None,
         Command::Audit => None,
         Command::Boards => None,
+        Command::Disks => None,
     }
 }

@@ -1,4 +1,4 @@
-//! What the program does for the words that start threads, over nodes of any kind.
+//! What the program does for the words `live W`, over nodes of any kind.
 ghost use Rattle.std.specs.Prelude.{◌≡◌, ◌≤◌, None, Some, IfOk, IfSome};
 ghost use Rattle.live_run.specs.Live.{IsLive};
 ghost use Rattle.script_print.specs.Printing.{IsScript};
@@ -6,6 +6,7 @@ ghost use Rattle.transcript.specs.Replies.{open_items};
 ghost use Rattle.top_call.specs.declared.command.Command.TheVariants as commands;
 ghost use Rattle.top_call.specs.Claim.{writing, reading, TellsLive, AnswersOrGivesUp, Ends, Claim, ReadsAtMost};
 ghost use Rattle.top_call.specs.Input.{limit};
+ghost use Rattle.top_call.specs.Mounts.{NoReplies};
 
 use crate::Outcome;
 use crate::one_thread::{ended, refuse, write_run};
@@ -49,6 +50,8 @@ fn run_script<N: Member + Send, R: Threads + Wait + Sync, K: Sink, G: Gate>(
     ensures told { TellsLive N.transition N.first script.now (writing K.written K.faults sink.old sink.new) result }
     ensures one_run { IfSome result.estate (λ e. IsLive N.transition N.first e) }
     ensures no_boards { result.boards ≡ None }
+    ensures no_disks { result.disks ≡ None }
+    ensures no_replies { NoReplies result.calls result.replies }
     ensures later { K.faults sink.old ≤ K.faults sink.new }
 {
     match lived::<N, R, G>(rt, alloc, script, workers, gate) {
@@ -70,6 +73,8 @@ fn run_input<N: Member + Send, R: Threads + Wait + Sync, K: Sink, G: Gate>(
     ensures told { AnswersOrGivesUp N.transition N.first (Some (commands.Live workers)) input.now (writing K.written K.faults sink.old sink.new) result }
     ensures one_run { IfSome result.estate (λ e. IsLive N.transition N.first e) }
     ensures no_boards { result.boards ≡ None }
+    ensures no_disks { result.disks ≡ None }
+    ensures no_replies { NoReplies result.calls result.replies }
     ensures later { K.faults sink.old ≤ K.faults sink.new }
 {
     match parse(alloc, input, true) {
@@ -80,7 +85,7 @@ fn run_input<N: Member + Send, R: Threads + Wait + Sync, K: Sink, G: Gate>(
 }
 
 /// What the program answers to `live W`, over nodes of any kind: reads an input, and runs the script that it is by so many
-/// workers. If the call returns, it answers as the claim says; that it returns is not claimed.
+/// workers. If the call returns, it answers as the claim says, and hands out no disks; that it returns is not claimed.
 pub fn answer_live<N: Member + Send, R: Threads + Wait + Sync, S: Source, K: Sink, G: Gate>(
     rt: &R,
     alloc: Global,
@@ -91,6 +96,8 @@ pub fn answer_live<N: Member + Send, R: Threads + Wait + Sync, S: Source, K: Sin
 ) -> Outcome<N>
     ensures claim { Claim N.transition N.first (Some (commands.Live workers)) (reading S.left S.faults source.old source.new)
         (writing K.written K.faults sink.old sink.new) result }
+    ensures no_disks { result.disks ≡ None }
+    ensures no_replies { NoReplies result.calls result.replies }
 {
     match read_input(alloc, source) {
         Ok(input) => run_input(rt, alloc, input.as_bytes(), workers, sink, gate),

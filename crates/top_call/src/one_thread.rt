@@ -7,11 +7,14 @@ ghost use Rattle.transcript.specs.Text.{text_of};
 ghost use Rattle.top_call.specs.declared.command.Command.TheVariants as commands;
 ghost use Rattle.top_call.specs.Claim.{writing, reading, line, run_answer, run_status, verdict_status, Tells, TellsOrGivesUp, run_wanted, brief_wanted, script_of, IsPlayed, AnswersOrGivesUp, Ends, Claim, ReadsAtMost};
 ghost use Rattle.top_call.specs.Commands.{command_of, is_live, reads, HasFewTurns};
+ghost use Rattle.top_call.specs.Disks.{DisksOf};
 ghost use Rattle.top_call.specs.Input.{limit};
+ghost use Rattle.top_call.specs.Mounts.{NoReplies};
 ghost use Rattle.top_call.specs.Spoken.{refused_text, verdict_text};
 
 use crate::boards::answer_boards;
 use crate::command::{Command, Drawn, read_words};
+use crate::disks::answer_disks;
 use crate::output::write_output;
 use crate::outside::{Sink, Source};
 use crate::whole_input::{InputError, read_input};
@@ -20,6 +23,7 @@ use audit::audit;
 use play::play;
 use script_print::{generate, print};
 use script_text::{Kind, Script, ScriptError, parse};
+use shelved_nodes::Shelved;
 use std::alloc::Global;
 use transcript::{brief, open_items, text};
 use version_model::Verdict;
@@ -28,12 +32,15 @@ use xfs_base::{Mem, Text};
 
 /// An outcome without a run.
 pub(crate) fn ended<N>(status: u8) -> Outcome<N>
-    ensures { result ≡ record { status = status; estate = None; boards = None } }
+    ensures { result ≡ record { status = status; estate = None; boards = None; disks = None; calls = None; replies = None } }
 {
     Outcome {
         status,
         estate: None,
         boards: None,
+        disks: None,
+        calls: None,
+        replies: None,
     }
 }
 
@@ -42,6 +49,8 @@ fn tell<N, K: Sink>(sink: &mut K, text: &[u8], status: u8) -> Outcome<N>
     ensures told { Tells (writing K.written K.faults sink.old sink.new) result (line text.now status) }
     ensures no_run { result.estate ≡ None }
     ensures no_boards { result.boards ≡ None }
+    ensures no_disks { result.disks ≡ None }
+    ensures no_replies { NoReplies result.calls result.replies }
     ensures later { K.faults sink.old ≤ K.faults sink.new }
 {
     match write_output(sink, text) {
@@ -55,6 +64,8 @@ pub(crate) fn refuse<N, K: Sink>(alloc: Global, number: u32, kind: Kind, sink: &
     ensures told { TellsOrGivesUp (writing K.written K.faults sink.old sink.new) result (line (refused_text number kind) 3) }
     ensures no_run { result.estate ≡ None }
     ensures no_boards { result.boards ≡ None }
+    ensures no_disks { result.disks ≡ None }
+    ensures no_replies { NoReplies result.calls result.replies }
     ensures later { K.faults sink.old ≤ K.faults sink.new }
 {
     match spoken::refused(alloc, number, kind) {
@@ -75,6 +86,8 @@ fn hand_out<N, K: Sink>(estate: Estate<N>, text: &Text, sink: &mut K) -> Outcome
     ensures told { Tells (writing K.written K.faults sink.old sink.new) result (run_answer text.now estate) }
     ensures estate { result.estate ≡ Some estate }
     ensures no_boards { result.boards ≡ None }
+    ensures no_disks { result.disks ≡ None }
+    ensures no_replies { NoReplies result.calls result.replies }
     ensures later { K.faults sink.old ≤ K.faults sink.new }
 {
     let status = match write_output(sink, text.as_bytes()) {
@@ -85,6 +98,9 @@ fn hand_out<N, K: Sink>(estate: Estate<N>, text: &Text, sink: &mut K) -> Outcome
         status,
         estate: Some(estate),
         boards: None,
+        disks: None,
+        calls: None,
+        replies: None,
     }
 }
 
@@ -107,6 +123,8 @@ pub(crate) fn write_run<N: Drop, K: Sink>(
     ensures told { TellsOrGivesUp (writing K.written K.faults sink.old sink.new) result (run_answer (text_of estate) estate) }
     ensures estate { IfSome result.estate (λ left. left ≡ estate) }
     ensures no_boards { result.boards ≡ None }
+    ensures no_disks { result.disks ≡ None }
+    ensures no_replies { NoReplies result.calls result.replies }
     ensures later { K.faults sink.old ≤ K.faults sink.new }
 {
     match text(alloc, &estate) {
@@ -120,6 +138,8 @@ fn write_brief<N: Drop, K: Sink>(alloc: Global, estate: Estate<N>, sink: &mut K)
     ensures told { TellsOrGivesUp (writing K.written K.faults sink.old sink.new) result (run_answer (brief_of estate) estate) }
     ensures estate { IfSome result.estate (λ left. left ≡ estate) }
     ensures no_boards { result.boards ≡ None }
+    ensures no_disks { result.disks ≡ None }
+    ensures no_replies { NoReplies result.calls result.replies }
     ensures later { K.faults sink.old ≤ K.faults sink.new }
 {
     match brief(alloc, &estate) {
@@ -134,6 +154,8 @@ fn play_script<N: Member, K: Sink>(alloc: Global, script: &Script, sink: &mut K)
     ensures told { TellsOrGivesUp (writing K.written K.faults sink.old sink.new) result (run_wanted N.transition N.first script.now) }
     ensures one_run { IfSome result.estate (λ e. IsPlayed N.transition N.first e) }
     ensures no_boards { result.boards ≡ None }
+    ensures no_disks { result.disks ≡ None }
+    ensures no_replies { NoReplies result.calls result.replies }
     ensures later { K.faults sink.old ≤ K.faults sink.new }
 {
     match played::<N>(alloc, script) {
@@ -148,6 +170,8 @@ fn count_script<N: Member, K: Sink>(alloc: Global, script: &Script, sink: &mut K
     ensures told { TellsOrGivesUp (writing K.written K.faults sink.old sink.new) result (brief_wanted N.transition N.first script.now) }
     ensures one_run { IfSome result.estate (λ e. IsPlayed N.transition N.first e) }
     ensures no_boards { result.boards ≡ None }
+    ensures no_disks { result.disks ≡ None }
+    ensures no_replies { NoReplies result.calls result.replies }
     ensures later { K.faults sink.old ≤ K.faults sink.new }
 {
     match played::<N>(alloc, script) {
@@ -162,6 +186,8 @@ fn play_drawn<N: Member, K: Sink>(alloc: Global, drawn: Drawn, sink: &mut K) -> 
     ensures told { TellsOrGivesUp (writing K.written K.faults sink.old sink.new) result (brief_wanted N.transition N.first (script_of drawn)) }
     ensures one_run { IfSome result.estate (λ e. IsPlayed N.transition N.first e) }
     ensures no_boards { result.boards ≡ None }
+    ensures no_disks { result.disks ≡ None }
+    ensures no_replies { NoReplies result.calls result.replies }
     ensures later { K.faults sink.old ≤ K.faults sink.new }
 {
     match generate(alloc, drawn.number, drawn.turns) {
@@ -175,6 +201,8 @@ fn write_script<N, K: Sink>(alloc: Global, script: &Script, sink: &mut K) -> Out
     ensures told { TellsOrGivesUp (writing K.written K.faults sink.old sink.new) result (line (printed script.now) 0) }
     ensures no_run { result.estate ≡ None }
     ensures no_boards { result.boards ≡ None }
+    ensures no_disks { result.disks ≡ None }
+    ensures no_replies { NoReplies result.calls result.replies }
     ensures later { K.faults sink.old ≤ K.faults sink.new }
 {
     match print(alloc, script) {
@@ -189,6 +217,8 @@ fn print_drawn<N, K: Sink>(alloc: Global, drawn: Drawn, sink: &mut K) -> Outcome
     ensures told { TellsOrGivesUp (writing K.written K.faults sink.old sink.new) result (line (printed (script_of drawn)) 0) }
     ensures no_run { result.estate ≡ None }
     ensures no_boards { result.boards ≡ None }
+    ensures no_disks { result.disks ≡ None }
+    ensures no_replies { NoReplies result.calls result.replies }
     ensures later { K.faults sink.old ≤ K.faults sink.new }
 {
     match generate(alloc, drawn.number, drawn.turns) {
@@ -212,6 +242,8 @@ fn say<N, K: Sink>(alloc: Global, verdict: Verdict, sink: &mut K) -> Outcome<N>
     ensures told { TellsOrGivesUp (writing K.written K.faults sink.old sink.new) result (line (verdict_text verdict) (verdict_status verdict)) }
     ensures no_run { result.estate ≡ None }
     ensures no_boards { result.boards ≡ None }
+    ensures no_disks { result.disks ≡ None }
+    ensures no_replies { NoReplies result.calls result.replies }
     ensures later { K.faults sink.old ≤ K.faults sink.new }
 {
     match spoken::verdict(alloc, verdict) {
@@ -225,6 +257,8 @@ fn run_input<N: Member, K: Sink>(alloc: Global, input: &[u8], sink: &mut K) -> O
     ensures told { AnswersOrGivesUp N.transition N.first (Some commands.Run) input.now (writing K.written K.faults sink.old sink.new) result }
     ensures one_run { IfSome result.estate (λ e. IsPlayed N.transition N.first e) }
     ensures no_boards { result.boards ≡ None }
+    ensures no_disks { result.disks ≡ None }
+    ensures no_replies { NoReplies result.calls result.replies }
     ensures later { K.faults sink.old ≤ K.faults sink.new }
 {
     match parse(alloc, input, false) {
@@ -239,6 +273,8 @@ fn audit_input<N: Member, K: Sink>(alloc: Global, input: &[u8], sink: &mut K) ->
     ensures told { AnswersOrGivesUp N.transition N.first (Some commands.Audit) input.now (writing K.written K.faults sink.old sink.new) result }
     ensures one_run { IfSome result.estate (λ e. IsPlayed N.transition N.first e) }
     ensures no_boards { result.boards ≡ None }
+    ensures no_disks { result.disks ≡ None }
+    ensures no_replies { NoReplies result.calls result.replies }
     ensures later { K.faults sink.old ≤ K.faults sink.new }
 {
     match audit(alloc, input) {
@@ -260,6 +296,8 @@ fn answer_run<N: Member, S: Source, K: Sink>(
     ensures read_later { S.faults source.old ≤ S.faults source.new }
     ensures one_run { IfSome result.estate (λ e. IsPlayed N.transition N.first e) }
     ensures no_boards { result.boards ≡ None }
+    ensures no_disks { result.disks ≡ None }
+    ensures no_replies { NoReplies result.calls result.replies }
     ensures later { K.faults sink.old ≤ K.faults sink.new }
 {
     match read_input(alloc, source) {
@@ -281,6 +319,8 @@ fn answer_audit<N: Member, S: Source, K: Sink>(
     ensures read_later { S.faults source.old ≤ S.faults source.new }
     ensures one_run { IfSome result.estate (λ e. IsPlayed N.transition N.first e) }
     ensures no_boards { result.boards ≡ None }
+    ensures no_disks { result.disks ≡ None }
+    ensures no_replies { NoReplies result.calls result.replies }
     ensures later { K.faults sink.old ≤ K.faults sink.new }
 {
     match read_input(alloc, source) {
@@ -291,7 +331,7 @@ fn answer_audit<N: Member, S: Source, K: Sink>(
 }
 
 /// Carries out a command.
-fn carry_out<N: Member, S: Source, K: Sink>(
+fn carry_out<N: Shelved, S: Source, K: Sink>(
     alloc: Global,
     command: Command,
     source: &mut S,
@@ -301,6 +341,8 @@ fn carry_out<N: Member, S: Source, K: Sink>(
     requires alone { is_live (Some command) ≡ false }
     ensures claim { Claim N.transition N.first (Some command) (reading S.left S.faults source.old source.new)
         (writing K.written K.faults sink.old sink.new) result }
+    ensures disks { DisksOf N.transition N.first N.shelf_of (Some command) result.estate result.disks }
+    ensures no_replies { NoReplies result.calls result.replies }
     ensures untouched { reads (Some command) ≡ false → source.new ≡ source.old }
 {
     match command {
@@ -309,13 +351,15 @@ fn carry_out<N: Member, S: Source, K: Sink>(
         Command::Run => answer_run(alloc, source, sink),
         Command::Audit => answer_audit(alloc, source, sink),
         Command::Boards => answer_boards(alloc, source, sink),
+        Command::Disks => answer_disks(alloc, source, sink),
         Command::Live(_) => unreachable!(),
+        Command::Mount(_) => unreachable!(),
     }
 }
 
 /// What the program answers to all words but those that start threads, over nodes of any kind.
-/// `docs/LANGUAGE.md` lists the statuses, and `docs/PROMISES.md` says what the claim promises.
-pub fn answer<N: Member, S: Source, K: Sink>(
+/// `docs/LANGUAGE.md` lists the statuses, and `docs/PROMISES.md` says what the claim promises, and what the disks.
+pub fn answer<N: Shelved, S: Source, K: Sink>(
     alloc: Global,
     words: &[String],
     source: &mut S,
@@ -324,6 +368,8 @@ pub fn answer<N: Member, S: Source, K: Sink>(
     requires { is_live (command_of (map string_bytes words.now)) ≡ false }
     ensures claim { Claim N.transition N.first (command_of (map string_bytes words.now)) (reading S.left S.faults source.old source.new)
         (writing K.written K.faults sink.old sink.new) result }
+    ensures disks { DisksOf N.transition N.first N.shelf_of (command_of (map string_bytes words.now)) result.estate result.disks }
+    ensures no_replies { NoReplies result.calls result.replies }
     ensures untouched { reads (command_of (map string_bytes words.now)) ≡ false → source.new ≡ source.old }
 {
     match read_words(words) {

@@ -1,8 +1,10 @@
 //! What a call of the program answers.
 ghost use Rattle.std.specs.Prelude.{◌≡◌};
-ghost use Rattle.top_call.specs.Told.{with_boards};
+ghost use Rattle.top_call.specs.Told.{with_boards, with_disks, with_replies};
 
 use board_world::BoardEvent;
+use disk_shelf::MemDisk;
+use mounts::Reply;
 use world_base::Estate;
 use xfs_base::List;
 
@@ -16,6 +18,13 @@ pub struct Outcome<N> {
     pub estate: Option<Estate<N>>,
     /// What happened to nodes and boards; there exactly where the words are `boards` and the run is there.
     pub boards: Option<List<BoardEvent>>,
+    /// The disks of the servers, in their order; there exactly where the word is `disks` and the run is there.
+    pub disks: Option<List<MemDisk>>,
+    /// For each client the items that its application called, in that order; there exactly where the words are `mount W`
+    /// and the run is there.
+    pub calls: Option<List<List<u32>>>,
+    /// For each client what its application was replied, in that order; there where the calls are.
+    pub replies: Option<List<List<Reply>>>,
 }
 
 impl<N: Drop> Drop for Outcome<N> {
@@ -24,9 +33,15 @@ impl<N: Drop> Drop for Outcome<N> {
             status: _,
             estate,
             boards,
+            disks,
+            calls,
+            replies,
         } = self;
         drop(estate);
         drop(boards);
+        drop(disks);
+        drop(calls);
+        drop(replies);
     }
 }
 
@@ -39,6 +54,9 @@ impl<N: Drop> Outcome<N> {
             status,
             estate,
             boards,
+            disks,
+            calls,
+            replies,
         } = self;
         drop(boards);
         match estate {
@@ -46,11 +64,88 @@ impl<N: Drop> Outcome<N> {
                 status,
                 estate: Some(estate),
                 boards: Some(events),
+                disks,
+                calls,
+                replies,
             },
             None => Outcome {
                 status,
                 estate: None,
                 boards: None,
+                disks,
+                calls,
+                replies,
+            },
+        }
+    }
+
+    /// This outcome with the disks of the servers, where there is a run.
+    pub(crate) fn with_disks(self, all: List<MemDisk>) -> Outcome<N>
+        ensures { result ≡ with_disks self all }
+    {
+        let Outcome {
+            status,
+            estate,
+            boards,
+            disks,
+            calls,
+            replies,
+        } = self;
+        drop(disks);
+        match estate {
+            Some(estate) => Outcome {
+                status,
+                estate: Some(estate),
+                boards,
+                disks: Some(all),
+                calls,
+                replies,
+            },
+            None => Outcome {
+                status,
+                estate: None,
+                boards,
+                disks: None,
+                calls,
+                replies,
+            },
+        }
+    }
+
+    /// This outcome with what applications called and were replied, where there is a run.
+    pub(crate) fn with_replies(
+        self,
+        all_calls: List<List<u32>>,
+        all_replies: List<List<Reply>>,
+    ) -> Outcome<N>
+        ensures { result ≡ with_replies self all_calls all_replies }
+    {
+        let Outcome {
+            status,
+            estate,
+            boards,
+            disks,
+            calls,
+            replies,
+        } = self;
+        drop(calls);
+        drop(replies);
+        match estate {
+            Some(estate) => Outcome {
+                status,
+                estate: Some(estate),
+                boards,
+                disks,
+                calls: Some(all_calls),
+                replies: Some(all_replies),
+            },
+            None => Outcome {
+                status,
+                estate: None,
+                boards,
+                disks,
+                calls: None,
+                replies: None,
             },
         }
     }

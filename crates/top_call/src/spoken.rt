@@ -60,5 +60,5 @@ pub fn verdict(alloc: Global, verdict: Verdict) -> Mem<Text>
 pub fn usage() -> &'static [u8]
     ensures { result.now ≡ usage_text }
 {
-    b"usage: xfs run | live W | gen NUMBER N | big NUMBER N | audit | boards\n"
+    b"usage: xfs run | live W | mount W | gen NUMBER N | big NUMBER N | audit | boards | disks\n"
 }

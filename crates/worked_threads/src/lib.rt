@@ -8,3 +8,5 @@ mod calls;
 mod meeting;
 #[cfg(test)]
 mod tests;
+#[cfg(test)]
+mod waiting;

@@ -1,5 +1,6 @@
-use crate::calls::{ANSWERS, FILES, answers, answers_alone};
+use crate::calls::{ANSWERS, BACK, CRASH, FILES, answers, answers_alone, is_replied};
 use crate::meeting::Meeting;
+use crate::waiting::Waiting;
 use std::test::Fail;
 use xfs_top::OpenGate;
 
@@ -28,5 +29,33 @@ fn cells_in_one_thread(rt: HostRuntime) -> Result<(), Fail> {
 fn files_by_four_workers(rt: HostRuntime) -> Result<(), Fail> {
     let alloc = rt.alloc();
     assert!(rt; answers(&rt, alloc, &["live", "4"], FILES, &OpenGate, 0, ANSWERS)?);
+    Ok(())
+}
+
+/// Four workers and two applications answer calls on files as one thread does.
+#[test]
+fn files_by_applications(rt: HostRuntime) -> Result<(), Fail> {
+    let alloc = rt.alloc();
+    assert!(rt; answers(&rt, alloc, &["mount", "4"], FILES, &OpenGate, 0, ANSWERS)?);
+    Ok(())
+}
+
+/// A client crashes and comes back: its application is replied to each of its six calls.
+#[test]
+fn replies_of_a_crash(rt: HostRuntime) -> Result<(), Fail> {
+    let alloc = rt.alloc();
+    assert!(rt; answers(&rt, alloc, &["mount", "2"], CRASH, &OpenGate, 0, BACK)?);
+    assert!(rt; is_replied(&rt, alloc, &["mount", "2"], CRASH, b"vdgddg")?);
+    assert!(rt; !is_replied(&rt, alloc, &["live", "2"], CRASH, b"vdgddg")?);
+    Ok(())
+}
+
+/// While a worker holds the lock of client 1, an application calls there: the rings carry the calls.
+#[test]
+fn called_while_entered(rt: HostRuntime) -> Result<(), Fail> {
+    let alloc = rt.alloc();
+    let gate = Waiting::new();
+    assert!(rt; answers(&rt, alloc, &["mount", "2"], FILES, &gate, 0, ANSWERS)?);
+    assert!(rt; gate.was_called());
     Ok(())
 }

@@ -1,4 +1,4 @@
--- What holds of every run holds of the run of a call, by one thread or by workers, with boards or without.
+-- What holds of every run holds of the run of a call, by one thread or by workers, with boards, with servers that stop, or plainly.
 use Rattle.std.proofs.Common.{Option, Some, None, refl, subst, sym}
 use Rattle.std.specs.Prelude.{IfSome}
 use Rattle.board_law.specs.OneRun.{HasRegistry}
@@ -7,7 +7,7 @@ use Rattle.core_world.specs.declared.any_node.AnyNode.{AnyNode}
 use Rattle.core_world.specs.declared.any_node.AnyNode.TheVariants.{Registry}
 use Rattle.node_base.specs.Setups.{IsSetup}
 use Rattle.top_call.specs.declared.command.Command.{Command}
-use Rattle.top_call.specs.declared.command.Command.TheVariants.{Audit, Big, Boards, Gen, Live, Run}
+use Rattle.top_call.specs.declared.command.Command.TheVariants.{Audit, Big, Boards, Disks, Gen, Live, Mount, Run}
 use Rattle.top_call.specs.Claim.{IsPlayedWithBoards, IsRunBy}
 use Rattle.world_base.specs.declared.estate.Estate.{Estate}
 use Rattle.world_base.specs.Runs.{IsRun, IsWholeRun}
@@ -34,10 +34,12 @@ module _ (safe : (e : Estate AnyNode) → IsSetup e.script.setup → IsRun any_s
   headline None e p = whole e p.whole
   headline (Some Run) e p = whole e p.whole
   headline (Some (Live workers)) e p = whole e p.whole
+  headline (Some (Mount workers)) e p = whole e p.whole
   headline (Some (Gen drawn)) e p = whole e p.whole
   headline (Some (Big drawn)) e p = whole e p.whole
   headline (Some Audit) e p = whole e p.whole
   headline (Some Boards) e p = with_boards e p
+  headline (Some Disks) e p = whole e p.whole
 
   pub played_has : (command : Option Command) (o : Option (Estate AnyNode)) → IfSome o (IsRunBy any_step any_start command) → IfSome o (HeadlineOf command)
   played_has command None played = tt

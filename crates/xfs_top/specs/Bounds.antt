@@ -1,19 +1,17 @@
 -- What is claimed of the answers of a run that a call of the program played by one thread, and when they come.
 use Rattle.core_world.specs.declared.any_node.AnyNode.{AnyNode}
-use Rattle.quiet_run.specs.Private.{IsPrivate}
 use Rattle.quiet_script.specs.Quiet.{QuietIsAnswered}
 use Rattle.std.specs.Prelude.{Option, Some}
 use Rattle.top_call.specs.declared.command.Command.{Command}
-use Rattle.top_call.specs.declared.command.Command.TheVariants.{Boards, Live}
+use Rattle.top_call.specs.declared.command.Command.TheVariants.{Boards, Disks, Live, Mount}
 use Rattle.world_base.specs.declared.estate.Estate.{Estate}
 
--- Where each line of its script after the setup is a bput, a bget or a sync, and no block is named by two clients, each item is answered, once; between the
--- Begins of two items, one after the other, there are at most 128 deliveries and one tick of each node; and as many packets are delivered as were sent.
-abbrev pub PrivateIsAnswered : Estate AnyNode → Type 0
-PrivateIsAnswered e = IsPrivate e.script → QuietIsAnswered e
-
--- what is claimed of the run of a command; nothing of one with boards, nor of one by workers
+-- What is claimed of the run of a command: where each line of its script after the setup is a bput, a bget or a sync, each item is answered, once; between the
+-- Begins of two items, one after the other, there are at most 128 deliveries and one tick of each node; and as many packets are delivered as were sent. Nothing of a
+-- run with boards or with servers that stop, nor of one by workers.
 abbrev pub BoundsOf : Option Command → Estate AnyNode → Type 0
 BoundsOf (Some (Live workers)) e = Unit {0}
+BoundsOf (Some (Mount workers)) e = Unit {0}
 BoundsOf (Some Boards) e = Unit {0}
-BoundsOf command e = PrivateIsAnswered e
+BoundsOf (Some Disks) e = Unit {0}
+BoundsOf command e = QuietIsAnswered e

@@ -1,15 +1,18 @@
 -- What is claimed of the run that a call of the program played: the headline, in one record, of a run in whatever order its items begin; in which order one
 -- thread begins them the claim of the call says (`run`). Two premises stand before all of it: the registry does not fail, no line of a script stops it, but by
 -- `boards`, where three boards stand in its place, of which any may stop; and want of memory ends the call, and then there is no run. What is said of versions
--- (`legal_acts`, `holders_newest`), of indexes (`indexes`), of what clients that serve lose, and that what takeovers lose had been filed (both in
--- `losses_earned`), ends with the first restart that is doubtful; nothing else does. A script without a line by which a server loses its disk has no such
--- restart (`undoubted`).
+-- (`legal_acts`, `holders_newest`, `versions_newest`, `settled`), of indexes (`indexes`), of what clients that serve lose, and that what takeovers lose had been
+-- filed (both in `losses_earned`), ends with the first restart that is doubtful; nothing else does. A script without a line by which a server loses its disk has
+-- no such restart (`undoubted`).
 use Rattle.board_play.specs.Played.{IsBoardPlayed}
 use Rattle.board_play.specs.Plays.{estate_of as board_estate_of}
 use Rattle.core_world.specs.AnyNode.{any_start, any_step}
 use Rattle.core_world.specs.declared.any_node.AnyNode.{AnyNode}
+use Rattle.run_answers.specs.act_law.Files.{FileAnswersArePlanned}
+use Rattle.run_answers.specs.act_law.Newest.{VersionsAreNewest}
 use Rattle.run_answers.specs.act_law.Runs.{AnswersAreActs}
 use Rattle.run_answers.specs.once_law.Runs.{ItemsAnsweredOnce}
+use Rattle.run_beliefs.specs.belief_law.Beliefs.{BelievedThroughout}
 use Rattle.run_drops.specs.drop_law.Drops.{DeletesBelowHorizons, DropsWhatItDeletes}
 use Rattle.run_losses.specs.answer_law.Runs.{LostAnswersEarned}
 use Rattle.run_losses.specs.earned_law.Earned.{EachLostActIsEarned}
@@ -23,6 +26,8 @@ use Rattle.run_laws.specs.world_logs.Logs.{CleanersLogStands, LogsStand, Manager
 use Rattle.run_laws.specs.world_reads.Holders.{HoldersAreNewestThroughout}
 use Rattle.run_laws.specs.world_reads.Indexes.{IndexesAreItsOwn}
 use Rattle.run_laws.specs.world_reads.Legal.{LegalActs, LegalWithoutLosses}
+use Rattle.run_settled.specs.settled_law.Settled.{BlocksAreSettled}
+use Rattle.run_stripes.specs.stripe_law.ReadBack.{FiledIsReadBack}
 use Rattle.std.specs.Prelude.{◌≡◌, ℕ, Option, Some}
 use Rattle.top_call.specs.declared.command.Command.{Command}
 use Rattle.top_call.specs.declared.command.Command.TheVariants.{Boards}
@@ -47,9 +52,10 @@ pub record IsSafe (e : Estate AnyNode) : Type 0 where
   pub one_owner : OneOwnerThroughout e
   -- what a client that serves holds of a block, where it keeps a value, is the newest version, with its value: up to the first doubtful restart
   pub holders_newest : HoldersAreNewestThroughout e
-  -- nor has a slot two managers at one epoch, or one above the registry's; whoever serves has promised each epoch that is managed, and the present manager
-  -- believes of each client what that holds or would still accept
+  -- nor has a slot two managers at one epoch, or one above the registry's; whoever serves has promised each epoch that is managed
   pub one_manager : OneManagerThroughout e
+  -- and who manages it at an epoch, deposed or not, believes of each client that has promised just that what it holds, reads or would still accept
+  pub beliefs : BelievedThroughout e
   -- nobody holds what a client fell with until it is back, no client falls again before, and no fall names a block twice
   pub nobody_holds : NobodyHoldsThroughout e
   pub falls_apart : FallsApartThroughout e
@@ -57,6 +63,8 @@ pub record IsSafe (e : Estate AnyNode) : Type 0 where
   pub logs_stand : LogsStand e
   pub cleaners_log_stands : CleanersLogStands e
   pub managers_logs_stand : ManagersLogsStand e
+  -- and each filed segment is read back while no more members lack their fragment than the parity makes good
+  pub read_back : FiledIsReadBack e
   -- and the least horizon that the registry keeps of a client's log, or of the cleaner's, is 1 at most, or at most one beyond a segment that its owner filed
   pub horizons_filed : HorizonsReached e
   -- what servers were told to delete was dropped in an act by then, and is below the least horizon of its log that the registry keeps; what the cleaner drops in
@@ -70,15 +78,21 @@ pub record IsSafe (e : Estate AnyNode) : Type 0 where
   pub legal_without_losses : LegalWithoutLosses e
   -- the index of each slot is the join of what its manager has applied of the segments that were filed, and a present manager has applied at least what the
   -- kept checkpoint covers; of each log there is one segment of a number, each linked to the next from the least horizon on, none ever changes, and the newest
-  -- row of a block is in none that a server was told to delete; no row is newer than what a client that has the block dirty knows as settled, all versions
-  -- above that being its own: up to the first doubtful restart
+  -- row of a block is in none that a server was told to delete: up to the first doubtful restart
   pub indexes : IndexesAreItsOwn e
+  -- up to there all that is filed of a block joins to its newest version, with its value, where nobody has it dirty or fell with it; and where a client has it
+  -- dirty, to what that knows as settled, all versions above being its own
+  pub settled : BlocksAreSettled e
   -- each item is answered at most once, by its own node, after its Begin: so the text shows for an item its one answer, and as open are counted those that no
   -- act answers
   pub answered_once : ItemsAnsweredOnce e
-  -- what a client answers it has acted before, in the same event: what it read, or wrote, that all is settled, or that it is back; the cleaner, whose restart is
-  -- done, that a segment of its log is filed; and an item of any node is cut only where a crash, or the loss of a disk, is answered behind it
+  -- what a client answers to a call on a block, a sync or a restart it has acted before, in the same event; the cleaner, whose restart is done, that a segment
+  -- of its log and of its new incarnation is filed; and an item is cut only where a crash, or the loss of a disk, is answered behind it
   pub answers_acted : AnswersAreActs e
+  -- a call on files answers what its plan says of the answers of its calls on blocks, each acted since it began
+  pub files_planned : FileAnswersArePlanned e
+  -- and a write its block's newest version, with its value: up to the first doubtful restart
+  pub versions_newest : VersionsAreNewest e
   -- only what is gone is refused as lost
   pub losses_earned : LossesEarned e
   -- and where no line of the script has a server lose its disk, no restart is doubtful

@@ -8,6 +8,6 @@ pub mod host;
 pub use calls::{ended, solo, xfs};
 pub use core_world::AnyNode;
 pub use host::{StdSink, StdSource};
-pub use top_call::{MemSink, MemSource, Outcome, Sink, Source};
+pub use top_call::{MemSink, MemSource, Outcome, Reply, Sink, Source};
 pub use world_base::{Estate, Event, World};
 pub use xfs_base::{Failed, Gate, OpenGate};

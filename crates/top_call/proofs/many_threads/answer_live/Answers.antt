@@ -22,6 +22,8 @@ returns-in-Ok g c =
         bounded = c.read_input.ensures.taken;
         later = (c.read_input.ensures.later, c.run_input.ensures.later);
       };
+      no_disks = c.run_input.ensures.no_disks;
+      no_replies = c.run_input.ensures.no_replies;
     }
 
 pub returns-in-Err-Failed : goal.returns-in-Err-Failed
@@ -42,6 +44,8 @@ returns-in-Err-Failed g c =
         bounded = c.read_input.ensures.taken;
         later = (c.read_input.ensures.later, omega arith);
       };
+      no_disks = ap (λ x. x.disks) c.ended.ensures;
+      no_replies = (ap (λ x. x.calls) c.ended.ensures, ap (λ x. x.replies) c.ended.ensures);
     }
 
 pub returns-in-Err-Memory : goal.returns-in-Err-Memory
@@ -58,4 +62,6 @@ returns-in-Err-Memory g c =
         bounded = c.read_input.ensures.taken;
         later = (c.read_input.ensures.later, omega arith);
       };
+      no_disks = ap (λ x. x.disks) c.ended-in-Err-Memory.ensures;
+      no_replies = (ap (λ x. x.calls) c.ended-in-Err-Memory.ensures, ap (λ x. x.replies) c.ended-in-Err-Memory.ensures);
     }

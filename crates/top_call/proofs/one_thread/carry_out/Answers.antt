@@ -1,8 +1,9 @@
 use Rattle.std.proofs.Common.{◌≡◌, Some, [], refl, subst, sym}
 use Rattle.script_print.specs.Printing.{printed}
-use Rattle.top_call.specs.declared.command.Command.TheVariants.{Audit, Big, Boards, Gen, Run}
+use Rattle.top_call.specs.declared.command.Command.TheVariants.{Audit, Big, Boards, Disks, Gen, Run}
 use Rattle.top_call.specs.Claim.{Claim, brief_wanted, line, reading, script_of, writing}
-use Rattle.top_call.proofs.Claims.{answers, by_boards, by_one, claims_unread, none_played}
+use Rattle.top_call.specs.Disks.{DisksOf}
+use Rattle.top_call.proofs.Claims.{answers, by_boards, by_disks, by_one, claims_unread, none_played}
 use Rattle.top_call.proofs.one_thread.carry_out.Goals as goal
 
 pub returns-in-Gen-clause-claim : goal.returns-in-Gen-clause-claim
@@ -17,7 +18,7 @@ returns-in-Gen-clause-claim g c =
     let fact : Gen drawn ≡ c.args.command = sym c.in-Gen.is in
     subst (λ command. Claim step first (Some command) r s o) fact
     (claims_unread step first g.S.Source.left g.S.Source.faults c.args.source.now (Some (Gen drawn)) s o refl (λ e. cc) answer
-    (by_one step first (Some (Gen drawn)) refl refl o.estate (none_played step first o.estate c.print_drawn.ensures.no_run)) c.print_drawn.ensures.no_boards
+    (by_one step first (Some (Gen drawn)) refl o.estate (none_played step first o.estate c.print_drawn.ensures.no_run)) c.print_drawn.ensures.no_boards
     c.print_drawn.ensures.later)
 
 pub returns-in-Big-clause-claim : goal.returns-in-Big-clause-claim
@@ -32,7 +33,7 @@ returns-in-Big-clause-claim g c =
     let fact : Big drawn ≡ c.args.command = sym c.in-Big.is in
     subst (λ command. Claim step first (Some command) r s o) fact
     (claims_unread step first g.S.Source.left g.S.Source.faults c.args.source.now (Some (Big drawn)) s o refl
-    (λ e. cc) answer (by_one step first (Some (Big drawn)) refl refl o.estate c.play_drawn.ensures.one_run) c.play_drawn.ensures.no_boards c.play_drawn.ensures.later)
+    (λ e. cc) answer (by_one step first (Some (Big drawn)) refl o.estate c.play_drawn.ensures.one_run) c.play_drawn.ensures.no_boards c.play_drawn.ensures.later)
 
 pub returns-in-Run-clause-claim : goal.returns-in-Run-clause-claim
 returns-in-Run-clause-claim g c =
@@ -46,7 +47,7 @@ returns-in-Run-clause-claim g c =
     (record {
       usage = λ h. cc;
       ends = e.ends;
-      run = by_one step first (Some Run) refl refl c.answer_run.result.estate e.one_run;
+      run = by_one step first (Some Run) refl c.answer_run.result.estate e.one_run;
       boards = e.no_boards;
       bounded = e.bounded;
       later = (e.read_later, e.later);
@@ -64,7 +65,7 @@ returns-in-Audit-clause-claim g c =
     (record {
       usage = λ h. cc;
       ends = e.ends;
-      run = by_one step first (Some Audit) refl refl c.answer_audit.result.estate e.one_run;
+      run = by_one step first (Some Audit) refl c.answer_audit.result.estate e.one_run;
       boards = e.no_boards;
       bounded = e.bounded;
       later = (e.read_later, e.later);
@@ -87,3 +88,57 @@ returns-in-Boards-clause-claim g c =
       bounded = e.bounded;
       later = (e.read_later, e.later);
     })
+
+pub returns-in-Disks-clause-claim : goal.returns-in-Disks-clause-claim
+returns-in-Disks-clause-claim g c =
+    let step = g.N.Actor.transition in
+    let first = g.N.Member.first in
+    let r = reading g.S.Source.left g.S.Source.faults c.args.source.now c.answer_disks.new.source in
+    let s = writing g.K.Sink.written g.K.Sink.faults c.args.sink.now c.answer_disks.new.sink in
+    let e = c.answer_disks.ensures in
+    let fact : Disks ≡ c.args.command = sym c.in-Disks.is in
+    subst (λ command. Claim step first (Some command) r s c.answer_disks.result) fact
+    (record {
+      usage = λ h. cc;
+      ends = e.ends;
+      run = by_disks step first c.answer_disks.result.estate e.one_run;
+      boards = e.no_boards;
+      bounded = e.bounded;
+      later = (e.read_later, e.later);
+    })
+
+pub returns-in-Gen-clause-disks : goal.returns-in-Gen-clause-disks
+returns-in-Gen-clause-disks g c =
+    let o = c.print_drawn.result in
+    let fact : Gen c.in-Gen.drawn ≡ c.args.command = sym c.in-Gen.is in
+    subst (λ command. DisksOf g.N.Actor.transition g.N.Member.first g.N.Shelved.shelf_of (Some command) o.estate o.disks) fact c.print_drawn.ensures.no_disks
+
+pub returns-in-Big-clause-disks : goal.returns-in-Big-clause-disks
+returns-in-Big-clause-disks g c =
+    let o = c.play_drawn.result in
+    let fact : Big c.in-Big.drawn ≡ c.args.command = sym c.in-Big.is in
+    subst (λ command. DisksOf g.N.Actor.transition g.N.Member.first g.N.Shelved.shelf_of (Some command) o.estate o.disks) fact c.play_drawn.ensures.no_disks
+
+pub returns-in-Run-clause-disks : goal.returns-in-Run-clause-disks
+returns-in-Run-clause-disks g c =
+    let o = c.answer_run.result in
+    let fact : Run ≡ c.args.command = sym c.in-Run.is in
+    subst (λ command. DisksOf g.N.Actor.transition g.N.Member.first g.N.Shelved.shelf_of (Some command) o.estate o.disks) fact c.answer_run.ensures.no_disks
+
+pub returns-in-Audit-clause-disks : goal.returns-in-Audit-clause-disks
+returns-in-Audit-clause-disks g c =
+    let o = c.answer_audit.result in
+    let fact : Audit ≡ c.args.command = sym c.in-Audit.is in
+    subst (λ command. DisksOf g.N.Actor.transition g.N.Member.first g.N.Shelved.shelf_of (Some command) o.estate o.disks) fact c.answer_audit.ensures.no_disks
+
+pub returns-in-Boards-clause-disks : goal.returns-in-Boards-clause-disks
+returns-in-Boards-clause-disks g c =
+    let o = c.answer_boards.result in
+    let fact : Boards ≡ c.args.command = sym c.in-Boards.is in
+    subst (λ command. DisksOf g.N.Actor.transition g.N.Member.first g.N.Shelved.shelf_of (Some command) o.estate o.disks) fact c.answer_boards.ensures.no_disks
+
+pub returns-in-Disks-clause-disks : goal.returns-in-Disks-clause-disks
+returns-in-Disks-clause-disks g c =
+    let o = c.answer_disks.result in
+    let fact : Disks ≡ c.args.command = sym c.in-Disks.is in
+    subst (λ command. DisksOf g.N.Actor.transition g.N.Member.first g.N.Shelved.shelf_of (Some command) o.estate o.disks) fact c.answer_disks.ensures.disks

@@ -19,5 +19,11 @@ returns-clause-headline g c =
 
 pub returns-clause-bounds : goal.returns-clause-bounds
 returns-clause-bounds g c =
-    played_within c.accepted_scripts_are_orderly.ensures.orderly c.private_scripts_are_answered.ensures.answered (command_of (map string_bytes c.args.words.now))
+    played_within c.accepted_scripts_are_orderly.ensures.orderly c.all_quiet_scripts_are_answered.ensures.answered (command_of (map string_bytes c.args.words.now))
     c.answer.result.estate c.answer.ensures.claim.run
+
+pub returns-clause-disks : goal.returns-clause-disks
+returns-clause-disks g c = c.answer.ensures.disks
+
+pub returns-clause-no_replies : goal.returns-clause-no_replies
+returns-clause-no_replies g c = c.answer.ensures.no_replies

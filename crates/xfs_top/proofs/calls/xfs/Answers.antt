@@ -1,10 +1,15 @@
-use Rattle.std.proofs.Common.{Some, ap, subst, sym}
+use Rattle.std.proofs.Common.{Some, ap, map, string_bytes, subst, sym}
 use Rattle.std.specs.Prelude.{IfSome}
 use Rattle.core_world.specs.AnyNode.{any_start, any_step}
-use Rattle.top_call.specs.declared.command.Command.TheVariants.{Live}
+use Rattle.shelved_nodes.specs.AnyShelf.{any_shelf}
 use Rattle.top_call.specs.Claim.{Claim, reading, writing}
-use Rattle.top_call.specs.Commands.{reads}
+use Rattle.top_call.specs.Commands.{command_of, reads}
+use Rattle.top_call.specs.Disks.{DisksOf}
+use Rattle.top_call.specs.Mounts.{MountsOf}
+use Rattle.top_call.proofs.Threads.{no_mounts, threads_read}
 use Rattle.xfs_top.proofs.Answered.{played_within}
+use Rattle.xfs_top.proofs.Diskless.{threads_leave_none}
+use Rattle.xfs_top.proofs.Replied.{none_replied, replies_are}
 use Rattle.xfs_top.proofs.Runs.{played_has}
 use Rattle.xfs_top.specs.Bounds.{BoundsOf}
 use Rattle.xfs_top.specs.Headline.{HeadlineOf}
@@ -12,25 +17,43 @@ use Rattle.xfs_top.proofs.calls.xfs.Goals as goal
 
 pub returns-in-Some-clause-claim : goal.returns-in-Some-clause-claim
 returns-in-Some-clause-claim g c =
-    let r = reading g.S.Source.left g.S.Source.faults c.args.source.now c.answer_live.new.source in
-    let s = writing g.K.Sink.written g.K.Sink.faults c.args.sink.now c.answer_live.new.sink in
-    subst (λ command. Claim any_step any_start command r s c.answer_live.result) (sym c.in-Some.ensures) c.answer_live.ensures.claim
+    let r = reading g.S.Source.left g.S.Source.faults c.args.source.now c.answer_threads.new.source in
+    let s = writing g.K.Sink.written g.K.Sink.faults c.args.sink.now c.answer_threads.new.sink in
+    subst (λ command. Claim any_step any_start command r s c.answer_threads.result) (sym c.in-Some.ensures.0) c.answer_threads.ensures.claim
 
 pub returns-in-Some-clause-untouched : goal.returns-in-Some-clause-untouched
-returns-in-Some-clause-untouched g c none = absurd (let e = ap reads c.in-Some.ensures in cc)
+returns-in-Some-clause-untouched g c none =
+    absurd (let e = ap reads c.in-Some.ensures.0 in let r = threads_read c.in-Some.command c.in-Some.ensures.1 in cc)
 
 pub returns-in-Some-clause-headline : goal.returns-in-Some-clause-headline
 returns-in-Some-clause-headline g c =
-    let estate = c.answer_live.result.estate in
-    subst (λ command. IfSome estate (HeadlineOf command)) (sym c.in-Some.ensures)
-    (played_has c.every_run_is_safe.ensures (Some (Live c.in-Some.workers)) estate c.answer_live.ensures.claim.run)
+    let estate = c.answer_threads.result.estate in
+    subst (λ command. IfSome estate (HeadlineOf command)) (sym c.in-Some.ensures.0)
+    (played_has c.every_run_is_safe.ensures (Some c.in-Some.command) estate c.answer_threads.ensures.claim.run)
 
 pub returns-in-Some-clause-bounds : goal.returns-in-Some-clause-bounds
 returns-in-Some-clause-bounds g c =
-    let estate = c.answer_live.result.estate in
-    subst (λ command. IfSome estate (BoundsOf command)) (sym c.in-Some.ensures)
-    (played_within c.accepted_scripts_are_orderly.ensures.orderly c.private_scripts_are_answered.ensures.answered (Some (Live c.in-Some.workers)) estate
-    c.answer_live.ensures.claim.run)
+    let estate = c.answer_threads.result.estate in
+    subst (λ command. IfSome estate (BoundsOf command)) (sym c.in-Some.ensures.0)
+    (played_within c.accepted_scripts_are_orderly.ensures.orderly c.all_quiet_scripts_are_answered.ensures.answered (Some c.in-Some.command) estate
+    c.answer_threads.ensures.claim.run)
+
+pub returns-in-Some-clause-disks : goal.returns-in-Some-clause-disks
+returns-in-Some-clause-disks g c =
+    let o = c.answer_threads.result in
+    subst (λ command. DisksOf any_step any_start any_shelf command o.estate o.disks) (sym c.in-Some.ensures.0)
+    (threads_leave_none c.in-Some.command c.in-Some.ensures.1 o.estate o.disks c.answer_threads.ensures.no_disks)
+
+pub returns-in-Some-clause-mounts : goal.returns-in-Some-clause-mounts
+returns-in-Some-clause-mounts g c =
+    let o = c.answer_threads.result in
+    subst (λ command. MountsOf any_step any_start command o.estate o.calls o.replies) (sym c.in-Some.ensures.0) c.answer_threads.ensures.mounts
+
+pub returns-in-Some-clause-replies : goal.returns-in-Some-clause-replies
+returns-in-Some-clause-replies g c =
+    let o = c.answer_threads.result in
+    let run = c.answer_threads.ensures.claim.run in
+    replies_are (Some c.in-Some.command) o.estate o.calls o.replies run (played_has c.every_run_is_safe.ensures (Some c.in-Some.command) o.estate run) c.answer_threads.ensures.mounts
 
 pub solo-requires : goal.solo-requires
 solo-requires g c = c.in-None.ensures
@@ -46,3 +69,14 @@ returns-in-None-clause-headline g c = c.solo.ensures.headline
 
 pub returns-in-None-clause-bounds : goal.returns-in-None-clause-bounds
 returns-in-None-clause-bounds g c = c.solo.ensures.bounds
+
+pub returns-in-None-clause-disks : goal.returns-in-None-clause-disks
+returns-in-None-clause-disks g c = c.solo.ensures.disks
+
+pub returns-in-None-clause-mounts : goal.returns-in-None-clause-mounts
+returns-in-None-clause-mounts g c =
+    let o = c.solo.result in
+    no_mounts any_step any_start (command_of (map string_bytes c.args.words.now)) c.in-None.ensures o.estate o.calls o.replies c.solo.ensures.no_replies
+
+pub returns-in-None-clause-replies : goal.returns-in-None-clause-replies
+returns-in-None-clause-replies g c = none_replied c.solo.result.estate c.solo.result.replies c.solo.ensures.no_replies.1
