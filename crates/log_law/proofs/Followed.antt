@@ -26,7 +26,7 @@ use Rattle.log_law.specs.Net.{Owner, Net, no_end, opening}
 use Rattle.log_law.specs.Net.Owner.{Down, Opening, Writing, Serving}
 use Rattle.log_law.specs.Events.{Happens, Runs}
 use Rattle.log_law.specs.Events.Runs.{Begun, On}
-use Rattle.log_law.specs.Restarts.{is_down, spans, in_span, Lacks, LackedInSpan, is_writing, EndsRestart, IsDoubtful, IsSureRun, is_serving, last_flight}
+use Rattle.log_law.specs.Restarts.{writes_since, wrote_in, spans, in_span, Lacks, LackedInSpan, is_writing, EndsRestart, IsDoubtful, IsSureRun, is_serving, last_flight}
 use Rattle.log_law.specs.Below.{Below}
 use Rattle.log_law.proofs.Views.{OwnerShown, View, PickShown}
 use Rattle.log_law.proofs.Next.{Aside, Alone, Next}
@@ -46,26 +46,31 @@ not_open (Opening x) s t = contrary s
 not_open (Writing chain x) s t = contrary s
 not_open (Serving x) s t = contrary t
 
-not_down : (o : Owner) → is_serving o ≡ true → is_down o ≡ true → ⊥
-not_down Down s t = contrary s
-not_down (Opening x) s t = contrary s
-not_down (Writing chain x) s t = contrary s
-not_down (Serving x) s t = contrary t
+spans_open : (o : Owner) (wrote : Bool) → is_open o ≡ true → spans o wrote ≡ true
+spans_open Down wrote t = contrary t
+spans_open (Opening s) wrote t = refl
+spans_open (Writing chain s) wrote t = refl
+spans_open (Serving s) wrote t = contrary t
 
-spans_open : (o : Owner) (before : Bool) → is_open o ≡ true → spans o before ≡ true
-spans_open Down before t = contrary t
-spans_open (Opening s) before t = refl
-spans_open (Writing chain s) before t = refl
-spans_open (Serving s) before t = contrary t
+-- where an opening segment was written the span stands
+spans_written : (o : Owner) (wrote : Bool) → writes_since o wrote ≡ true → spans o wrote ≡ true
+spans_written Down wrote t = t
+spans_written (Opening s) wrote t = refl
+spans_written (Writing chain s) wrote t = refl
+spans_written (Serving s) wrote t = contrary t
 
 module _ (g : Setting) (a : Net) (serves : is_serving a.owner ≡ true) where
   open_spans : (n : Net) (run : Runs g a n) → is_open n.owner ≡ true → in_span run ≡ true
   open_spans n Begun t = absurd (not_open a.owner serves t)
-  open_spans n (On {o = o} run happens) t = spans_open o.owner (in_span run) t
+  open_spans n (On {o = o} run happens) t = spans_open o.owner (wrote_in run) t
+
+  written_spans : (n : Net) (run : Runs g a n) → wrote_in run ≡ true → in_span run ≡ true
+  written_spans n Begun t = contrary t
+  written_spans n (On {o = o} run happens) t = spans_written o.owner (wrote_in run) t
 
   -- an owner that stays as it is stays in its span
-  span_before : (n : Net) (run : Runs g a n) (o : Owner) → o ≡ n.owner → spans o (in_span run) ≡ true → in_span run ≡ true
-  span_before n run Down e t = t
+  span_before : (n : Net) (run : Runs g a n) (o : Owner) → o ≡ n.owner → spans o (wrote_in run) ≡ true → in_span run ≡ true
+  span_before n run Down e t = written_spans n run t
   span_before n run (Opening s) e t = open_spans n run (ap is_open (sym e))
   span_before n run (Writing chain s) e t = open_spans n run (ap is_open (sym e))
   span_before n run (Serving s) e t = contrary t
@@ -98,7 +103,7 @@ module _ (k : Below) (g : Setting) (none : g.doubts ≡ false) (a : Net) (serves
 
   -- what is carried along a run
   pub record Followed : Type 0 where
-    pub fallen : is_down n.owner ≡ true → 0 < h.w.spanning → in_span run ≡ true
+    pub wrote : 0 < h.w.spanning → wrote_in run ≡ true
     pub hurt : (i : ℕ) → InSpan h.w → 0 < h.w.head → h.w.span_low ≤ h.w.head → i < h.w.member_count highest → 0 < h.w.hurt i
         → LackedInSpan run (name_of g highest) (h.w.member_server highest i)
 
@@ -112,35 +117,34 @@ module _ (k : Below) (g : Setting) (none : g.doubts ≡ false) (a : Net) (serves
     abbrev later : Runs g a o
     later = On run happens
 
-    now_fallen : is_down o.owner ≡ true → 0 < u.spanning → in_span later ≡ true
-    now_fallen down some = down_spans o.owner down (by n.owner refl h.owner)
+    now_clean : u.clean ≡ 1
+    now_clean = t.view.calm none
+
+    now_wrote : 0 < u.spanning → wrote_in later ≡ true
+    now_wrote some = by o.owner refl t.view.owner
       where
-        down_spans : (p : Owner) → is_down p ≡ true → in_span run ≡ true → spans p (in_span run) ≡ true
-        down_spans Down e before = before
-        down_spans (Opening s) e before = contrary e
-        down_spans (Writing chain s) e before = contrary e
-        down_spans (Serving s) e before = contrary e
+        before : is_writing o.owner ≡ false → is_serving o.owner ≡ false → wrote_in run ≡ true
+        before writes serves = f.wrote (let e = t.spans writes serves in omega arith)
 
-        before_some : 0 < h.w.spanning
-        before_some = let e = t.fallen down in omega arith
+        -- what its owner is tells whether it wrote since
+        so : (p : Owner) → o.owner ≡ p → writes_since p (wrote_in run) ≡ true → wrote_in later ≡ true
+        so p e since = ap (λ q. writes_since q (wrote_in run)) e ∙ since
 
-        by : (p : Owner) → n.owner ≡ p → OwnerShown g h.w h.book h.hellos p → in_span run ≡ true
-        by Down e shown = f.fallen (ap is_down e) before_some
-        by (Opening s) e shown = open_spans g a serves n run (ap is_open e)
-        by (Writing chain s) e shown = open_spans g a serves n run (ap is_open e)
-        by (Serving s) e shown = absurd (let a = idle h.w h.reached clean shown.0.phase in let b = before_some in omega arith)
+        by : (p : Owner) → o.owner ≡ p → OwnerShown g u t.view.book t.view.hellos p → wrote_in later ≡ true
+        by Down e shown = so Down e (before (ap is_writing e) (ap is_serving e))
+        by (Opening s) e shown = so (Opening s) e (before (ap is_writing e) (ap is_serving e))
+        by (Writing chain s) e shown = so (Writing chain s) e refl
+        by (Serving s) e shown = absurd (let a = idle u t.view.reached now_clean shown.0.phase in let b = some in omega arith)
 
     now_spans : InSpan u → in_span later ≡ true
     now_spans span = by o.owner refl t.view.owner
       where
         by : (p : Owner) → o.owner ≡ p → OwnerShown g u t.view.book t.view.hellos p → in_span later ≡ true
-        by Down e shown = ⊎_elim (λ some. absurd (let p = shown in omega arith)) (λ some. now_fallen (ap is_down e) some) span.begun
-        by (Opening s) e shown = spans_open o.owner (in_span run) (ap is_open e)
-        by (Writing chain s) e shown = spans_open o.owner (in_span run) (ap is_open e)
+        by Down e shown =
+            ⊎_elim (λ some. absurd (let p = shown in omega arith)) (λ some. spans_written o.owner (wrote_in run) (now_wrote some)) span.begun
+        by (Opening s) e shown = spans_open o.owner (wrote_in run) (ap is_open e)
+        by (Writing chain s) e shown = spans_open o.owner (wrote_in run) (ap is_open e)
         by (Serving s) e shown = absurd (let p = shown.0.phase in let q = span.not_serving in omega arith)
-
-    now_clean : u.clean ≡ 1
-    now_clean = t.view.calm none
 
     abbrev x : ℕ
     x = u.line u.head
@@ -331,7 +335,7 @@ pub along : (k : Below) (g : Setting) (none : g.doubts ≡ false) (first : Net) 
 along k g none first serves seen fed gapless n Begun s = record {
   view = seen;
   followed = record {
-    fallen = λ down some. absurd (not_down first.owner serves down);
+    wrote = λ some. absurd (let e = idle seen.w seen.reached (seen.calm none) (serving_phase g first seen serves) in omega arith);
     hurt = λ i span some low member hurt. absurd (let p = serving_phase g first seen serves in let q = span.not_serving in omega arith);
   };
   flown = first_kept g k first seen (seen.calm none) serves;
@@ -345,7 +349,7 @@ along k g none first serves seen fed gapless n (On {m = m} run happens) s = on (
     on b = let t = followed_by k g none first serves m run b n happens s.1 in record {
       view = t.view;
       followed = record {
-        fallen = now_fallen k g none first serves m run b.view b.followed n happens t;
+        wrote = now_wrote k g none first serves m run b.view b.followed n happens t;
         hurt = now_hurt k g none first serves m run b.view b.followed n happens t;
       };
       flown = now_kept g k m b.view n t (t.view.calm none) (last_flight run) b.flown;

@@ -12,6 +12,7 @@ mod OtherTurns
 mod Logs
 mod Moves
 mod Picking
+mod Unwritten
 mod OwnerTurns
 mod Renewing
 mod ScanTurns
@@ -44,3 +45,4 @@ mod ScanEnds
 mod GoingOn
 mod Flying
 mod Unfiled
+mod Boots

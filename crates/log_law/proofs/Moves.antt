@@ -1,10 +1,10 @@
 -- What the owner does keeps the small world seen, where its steps are those of an input.
 use Rattle.log_law.proofs.Steady.{Steady}
-use Rattle.log_law.specs.Restarts.{is_down, is_serving}
+use Rattle.log_law.specs.Restarts.{is_serving, is_writing}
 use Rattle.log_law.proofs.Next.{Alone, Next}
 use Rattle.fragment_store.specs.ShelfState.{ShelfState, held_at}
 use Rattle.xfs_base.specs.declared.fragment.Fragment.{Fragment}
-use Rattle.std.proofs.Common.{◌≡◌, ℕ, suc, ◌≤◌, ◌⊎◌, List, [], ◌∷◌, ◌++◌, sym, ap, subst, ◌∙◌, inl, inr, arith, Option, Some, None, true, false}
+use Rattle.std.proofs.Common.{◌≡◌, ℕ, suc, ◌≤◌, ◌⊎◌, List, [], ◌∷◌, ◌++◌, sym, ap, subst, ◌∙◌, inl, inr, arith, Option, Some, None, false}
 use Rattle.xfs_base.specs.declared.segment.SegName.{SegName}
 use Rattle.segment_format.specs.declared.segment.Segment.{Segment}
 use Rattle.client_log.specs.declared.output.Out.{Out}
@@ -108,7 +108,7 @@ module _ (k : Below) (g : Setting) (n : Net) (h : View g n) where
       pub shown : AllShown g t.world t.later hellos new
       pub filed : (name : SegName) → In name m.filed → IsFiled g t.world name
       pub highest : (t.world.end ≡ 0) ⊎ In (name_of g t.world.end) m.filed
-      pub fallen : is_down m.owner ≡ true → t.world.spanning ≡ h.w.spanning
+      pub spans : is_writing m.owner ≡ false → is_serving m.owner ≡ false → t.world.spanning ≡ h.w.spanning
       pub steady : is_serving m.owner ≡ false → Steady h.w t.world
 
     abbrev pub moved : (m : Net) (hellos : List Asked) (new : List Packet) → Move m hellos new → View g m
@@ -158,7 +158,7 @@ module _ (k : Below) (g : Setting) (n : Net) (h : View g n) where
 
     -- the event is followed
     pub next : (m : Net) (hellos : List Asked) (new : List Packet) → Move m hellos new → Next g n h m
-    next m hellos new v = record { view = moved m hellos new v; steps = t.steps; by = inr by_owner; fallen = v.fallen; steady = v.steady }
+    next m hellos new v = record { view = moved m hellos new v; steps = t.steps; by = inr by_owner; spans = v.spans; steady = v.steady }
 
     -- what was filed stays so
     pub filed_still : (name : SegName) → In name n.filed → IsFiled g t.world name

@@ -1,7 +1,7 @@
 -- How one event of the small world is followed: it is seen after it, by steps of which it is known what they leave alone.
 use Rattle.log_law.proofs.Steady.{Steady}
-use Rattle.log_law.specs.Restarts.{is_down, is_serving}
-use Rattle.std.proofs.Common.{◌≡◌, ℕ, ◌⊎◌, true, false}
+use Rattle.log_law.specs.Restarts.{is_serving, is_writing}
+use Rattle.std.proofs.Common.{◌≡◌, ℕ, ◌⊎◌, false}
 use Rattle.log_protocol.specs.State.{State}
 use Rattle.log_protocol.specs.Step.{Steps}
 use Rattle.log_tie.specs.Setting.{Setting}
@@ -23,7 +23,7 @@ pub record Next (g : Setting) (n : Net) (h : View g n) (o : Net) : Type 0 where
   pub view : View g o
   pub steps : Steps h.w view.w
   pub by : Aside n o h.w view.w ⊎ Alone h.w view.w
-  -- a fall neither begins nor ends a span
-  pub fallen : is_down o.owner ≡ true → view.w.spanning ≡ h.w.spanning
+  -- an opening segment that is written begins a span, and one that serves ends it: nothing else does
+  pub spans : is_writing o.owner ≡ false → is_serving o.owner ≡ false → view.w.spanning ≡ h.w.spanning
   -- where the owner doesn't serve, the last boot that served stays so
   pub steady : is_serving o.owner ≡ false → Steady h.w view.w

@@ -86,7 +86,7 @@ module _ (k : Below) (g : Setting) (n : Net) (h : View g n) where
       filed = filed_said g goes.world goes.later served.outs n.filed goes.said (filed_still k g n h Now served.outs goes);
       highest = topped k g n h Now served.outs goes (log_filed g.log served.outs ++ n.filed)
           (λ name among. in_right (log_filed g.log served.outs) n.filed name among) (λ name among. in_left (log_filed g.log served.outs) n.filed name among);
-      fallen = λ down. contrary down;
+      spans = λ writes serves. contrary (sym serves);
       steady = λ serving. contrary (sym serving);
     })
 
@@ -137,7 +137,7 @@ module _ (k : Below) (g : Setting) (n : Net) (h : View g n) where
       filed = filed_said g t.world t.later d.outs n.filed t.said (filed_still k g n h P d.outs t);
       highest = topped k g n h P d.outs t (log_filed g.log d.outs ++ n.filed) (λ name among. in_right (log_filed g.log d.outs) n.filed name among)
           (λ name among. in_left (log_filed g.log d.outs) n.filed name among);
-      fallen = λ down. contrary down;
+      spans = λ writes serves. contrary (sym writes);
       steady = λ serving. steady k h.w t.world h.reached t.steps (let p = there.0.phase in omega arith) (let p = there.0.phase in omega arith)
           (let p = v.phase in omega arith) (let p = v.phase in omega arith) (ap (λ (o : Others). o.incarnation) t.frame.others);
     })
@@ -158,7 +158,7 @@ module _ (k : Below) (g : Setting) (n : Net) (h : View g n) where
       highest = topped k g n h P d.outs t (log_filed g.log d.outs ++ (names_of chain ++ n.filed))
           (λ name among. in_right (log_filed g.log d.outs) (names_of chain ++ n.filed) name (in_right (names_of chain) n.filed name among))
           (λ name among. in_left (log_filed g.log d.outs) (names_of chain ++ n.filed) name among);
-      fallen = λ down. contrary down;
+      spans = λ writes serves. contrary (sym serves);
       steady = λ serving. contrary (sym serving);
     })
 
@@ -197,7 +197,7 @@ module _ (k : Below) (g : Setting) (n : Net) (h : View g n) where
     shown = tt;
     filed = filed_still k g n h (λ v later. v.phase ≡ 0) [] crash;
     highest = h.highest;
-    fallen = λ down. refl;
+    spans = λ writes serves. refl;
     steady = λ serving. record { served = refl; head = refl; booked = λ x booked boot. booked };
   })
 
@@ -232,7 +232,7 @@ module _ (k : Below) (g : Setting) (n : Net) (h : View g n) where
     };
     steps = More (More Done (Begins (record { down = owner_there Down fact }))) (Fences 0 (suc h.w.incarnation) (record { begun = omega arith }));
     by = inr (record { generation = refl; holds = refl; dropped = refl });
-    fallen = λ down. contrary down;
+    spans = λ writes serves. refl;
     steady = λ serving. record { served = refl; head = refl; booked = λ x booked boot. booked };
   }
     where

@@ -92,6 +92,6 @@ module _ (k : Below) (g : Setting) (n : Net) (h : View g n) (m : GroupMapState) 
     };
     steps = steps;
     by = inr (record { generation = refl; holds = refl; dropped = refl });
-    fallen = λ down. contrary down;
+    spans = λ writes serves. contrary (sym serves);
     steady = λ serving. contrary (sym serving);
   }

@@ -39,6 +39,7 @@ use Rattle.log_law.proofs.Turning.{AllShown}
 use Rattle.log_law.proofs.Moves.{later_goes, packets_shown, filed_said, in_right, in_left, moved, filed_still, topped, by_owner}
 use Rattle.log_law.proofs.Logs.{ran_first, now_behind, now_spelled, now_flown}
 use Rattle.log_law.proofs.Picking.{pick_stays}
+use Rattle.log_law.proofs.Unwritten.{unwritten}
 
 -- ---- questions
 
@@ -179,24 +180,30 @@ module _ (k : Below) (g : Setting) (n : Net) (h : View g n) (s : ScanState) (i :
 
   -- the phases of an opening
   opening_phase : (w : State) (book : ℕ → Segment) (asked : List Asked) (o : OpeningState) (st : Stage) → StageShown g w book asked o st
-      → (0 < w.phase) × (w.phase < 4)
+      → (0 < w.phase) × (w.phase < 3)
   opening_phase w book asked o Hails shown = (let p = shown.0 in omega arith, let p = shown.0 in omega arith)
   opening_phase w book asked o (Gathers lists) shown = (let p = shown.phase in omega arith, let p = shown.phase in omega arith)
   opening_phase w book asked o (Asks lists) shown = (let p = shown.gathering.phase in omega arith, let p = shown.gathering.phase in omega arith)
   opening_phase w book asked o (Reads b r) shown = (let p = shown.0.phase in omega arith, let p = shown.0.phase in omega arith)
   opening_phase w book asked o Over shown = (let p = shown in omega arith, let p = shown in omega arith)
 
-  phase_before : (0 < h.w.phase) × (h.w.phase < 4)
+  phase_before : (0 < h.w.phase) × (h.w.phase < 3)
   phase_before = opening_phase h.w h.book h.hellos s.opening s.stage as_it_opens.stage
 
-  phase_after : (0 < t.world.phase) × (t.world.phase < 4)
+  phase_after : (0 < t.world.phase) × (t.world.phase < 3)
   phase_after = opening_phase t.world t.later hellos d.state.opening d.state.stage t.shows.0.shown.stage
 
   same_boot : t.world.incarnation ≡ h.w.incarnation
   same_boot = ap (λ (o : Others). o.incarnation) t.frame.others
 
   on_steady : Steady h.w t.world
-  on_steady = steady k h.w t.world h.reached t.steps phase_before.0 phase_before.1 phase_after.0 phase_after.1 same_boot
+  on_steady =
+      let before = phase_before.1 in
+      let after = phase_after.1 in
+      steady k h.w t.world h.reached t.steps phase_before.0 (omega arith) phase_after.0 (omega arith) same_boot
+
+  on_spans : t.world.spanning ≡ h.w.spanning
+  on_spans = unwritten h.w t.world t.steps same_boot phase_after.0 phase_after.1
 
   -- the opening goes on
   abbrev on : View g (scans_on n s d)
@@ -217,7 +224,7 @@ module _ (k : Below) (g : Setting) (n : Net) (h : View g n) (s : ScanState) (i :
         (λ a among. subst (λ inc. In a (asked_by inc t.world.low d.outs h.hellos)) (sym incs) among);
     filed = filed_still k g n h P [] t;
     highest = topped k g n h P [] t n.filed (λ name among. among) (λ name among. absurd among);
-    fallen = λ down. contrary down;
+    spans = λ writes serves. on_spans;
     steady = λ serving. on_steady;
   })
 
@@ -278,8 +285,8 @@ module _ (k : Below) (g : Setting) (n : Net) (h : View g n) (s : ScanState) (i :
       filed = filed_said g e.world e.later first.outs n.filed e.said (filed_still k g (scans_on n s d) on Q first.outs e);
       highest = topped k g (scans_on n s d) on Q first.outs e (log_filed g.log first.outs ++ n.filed)
           (λ name among. in_right (log_filed g.log first.outs) n.filed name among) (λ name among. in_left (log_filed g.log first.outs) n.filed name among);
-      fallen = λ down. contrary down;
-      steady = λ serving. steady k t.world e.world on.reached e.steps phase_after.0 phase_after.1 (let p = e.shows.phase in omega arith)
+      spans = λ writes serves. contrary (sym writes);
+      steady = λ serving. steady k t.world e.world on.reached e.steps phase_after.0 (let p = phase_after.1 in omega arith) (let p = e.shows.phase in omega arith)
           (let p = e.shows.phase in omega arith) (ap (λ (o : Others). o.incarnation) e.frame.others);
     })
 
@@ -289,8 +296,9 @@ module _ (k : Below) (g : Setting) (n : Net) (h : View g n) (s : ScanState) (i :
       steps = steps_through h.w t.world e.world t.steps e.steps;
       by = (let a = by_owner k g n h P [] t in let b = by_owner k g (scans_on n s d) on Q first.outs e in
           inr (record { generation = b.generation ∙ a.generation; holds = b.holds ∙ a.holds; dropped = b.dropped ∙ a.dropped }));
-      fallen = λ down. contrary down;
-      steady = λ serving. steady k h.w e.world h.reached (steps_through h.w t.world e.world t.steps e.steps) phase_before.0 phase_before.1
+      spans = λ writes serves. contrary (sym writes);
+      steady = λ serving. steady k h.w e.world h.reached (steps_through h.w t.world e.world t.steps e.steps) phase_before.0
+          (let p = phase_before.1 in omega arith)
           (let p = e.shows.phase in omega arith) (let p = e.shows.phase in omega arith) (ap (λ (o : Others). o.incarnation) e.frame.others ∙ same_boot);
     }
 
@@ -300,5 +308,5 @@ module _ (k : Below) (g : Setting) (n : Net) (h : View g n) (s : ScanState) (i :
       by : (o : Option Told) → chain_in d.outs ≡ o → IfSome o (AllRead g t.world t.later d.state.opening) → IfSome o (StartsWith g n.inc d)
           → Next g n h (after_told g n s d o d.state.opening.groups)
       by None at read starts_so =
-          record { view = on; steps = t.steps; by = inr (by_owner k g n h P [] t); fallen = λ down. contrary down; steady = λ serving. on_steady }
+          record { view = on; steps = t.steps; by = inr (by_owner k g n h P [] t); spans = λ writes serves. on_spans; steady = λ serving. on_steady }
       by (Some told) at read starts_so = subst (λ groups. Next g n h (after_told g n s d (Some told) groups)) (sym read.taken) (starts told read at starts_so)

@@ -97,6 +97,6 @@ module _ (k : Below) (g : Setting) (n : Net) (h : View g n) where
         view = view_after m u new t;
         steps = t.steps;
         by = inl (record { owner = t.rests.owner; servers = t.servers });
-        fallen = λ down. same g h.w u h.book t.apart (λ o. o.spanning ≡ h.w.spanning) refl;
+        spans = λ writes serves. same g h.w u h.book t.apart (λ o. o.spanning ≡ h.w.spanning) refl;
         steady = λ serving. steady_apart m u new t;
       }

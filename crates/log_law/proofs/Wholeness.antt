@@ -112,8 +112,25 @@ module _ (k : Below) (g : Setting) (n : Net) (h : View g n) where
     stored = λ v generation f fact.
         (let s : StoreSeen g h.w.booked h.book h.w.stores v f generation = h.sent (StoreSent v f generation) fact in piece f s.name s.index s.known s.fragment);
     told = λ f fact. (let s : FragmentSeen g h.w h.book f = h.sent (FragmentSent f) fact in piece f s.name s.index s.known s.is_piece);
+    own = λ s flew v f fact place within at. own s v f (h.flown.booked s flew) fact place within at;
   }
     where
+      own : (s : Segment) (v : ℕ) (f : Fragment) → (x : ℕ) × (h.w.booked x ≡ 1) × (s ≡ h.book x) → held_at (n.shelves v).held s.name ≡ Some f → (place : ℕ)
+          → place < length (members_of g s) → server_of (members_of g s) place ≡ v → f.meta.index ≡ place
+      own s v f x fact place within at =
+          let named : s.name ≡ name_of g x.0 = ap (λ (z : Segment). z.name) x.2 ∙ (page x.0 x.1).named in
+          let kept : Kept g (h.book x.0) (Some f) (h.w.booked x.0) (h.w.holds v x.0) (h.w.kept_index v x.0) =
+          subst (λ o. Kept g (h.book x.0) o (h.w.booked x.0) (h.w.holds v x.0) (h.w.kept_index v x.0))
+          (ap (held_at (n.shelves v).held) (sym named) ∙ fact) ((h.shelves v).keeps x.0) in
+          let shelves = k.protocol.shelves h.w h.reached in
+          let below : place < h.w.member_count x.0 =
+          subst (λ c. place < c) (sym (page x.0 x.1).counted) (subst (λ (z : Segment). place < length (members_of g z)) x.2 within) in
+          let there : h.w.member_server x.0 place ≡ v =
+          (page x.0 x.1).at_server place ∙ (ap (λ (z : Segment). server_of (members_of g z) place) (sym x.2) ∙ at) in
+          ap (λ (z : Fragment). z.meta.index) kept.2
+          ∙ (k.protocol.book h.w h.reached).distinct x.0 (h.w.kept_index v x.0) place x.1 (shelves.held_index v x.0 kept.0) below
+          (shelves.held_member v x.0 kept.0 ∙ sym there)
+
       one : (s t : Segment) → (x : ℕ) × (h.w.booked x ≡ 1) × (s ≡ h.book x) → (y : ℕ) × (h.w.booked y ≡ 1) × (t ≡ h.book y) → s.name ≡ t.name → s ≡ t
       one s t x y same =
           let e : x.0 ≡ y.0 =
@@ -146,4 +163,4 @@ pub logs_stay_whole : Below → LogsStayWhole
 logs_stay_whole k g n m = let l = logs_whole k (doubtful g) n (seen k g n m) in record { flown = l.flown; striped = l.striped; whole = l.whole }
 
 pub one_name_one_text : Below → OneNameOneText
-one_name_one_text k g n m = let l = one_text k (doubtful g) n (seen k g n m) in record { one = l.one; held = l.held; stored = l.stored; told = l.told }
+one_name_one_text k g n m = let l = one_text k (doubtful g) n (seen k g n m) in record { one = l.one; held = l.held; stored = l.stored; told = l.told; own = l.own }

@@ -46,6 +46,9 @@ pub record OneText (g : Setting) (n : Net) : Type 0 where
       → (s : Segment) × In s n.flown × (s.name ≡ name) × (f ≡ fragment_of g s f.meta.index)
   pub stored : (v generation : ℕ) (f : Fragment) → In (StoreSent v f generation) n.sent → (s : Segment) × In s n.flown × (f ≡ fragment_of g s f.meta.index)
   pub told : (f : Fragment) → In (FragmentSent f) n.sent → (s : Segment) × In s n.flown × (f ≡ fragment_of g s f.meta.index)
+  -- what a server holds under its name is the fragment at the place of that server in its group
+  pub own : (s : Segment) → In s n.flown → (v : ℕ) (f : Fragment) → held_at (n.shelves v).held s.name ≡ Some f → (place : ℕ) → place < length (members_of g s)
+      → server_of (members_of g s) place ≡ v → f.meta.index ≡ place
 
 -- so it is after doubtful restarts, too
 abbrev pub LogsStayWhole : Type 0

@@ -13,3 +13,4 @@ pub mod Written
 pub mod ReadBack
 pub mod BeingRead
 pub mod Groups
+pub mod Boots

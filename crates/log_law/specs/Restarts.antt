@@ -34,16 +34,28 @@ is_serving (Serving s) = true
 abbrev pub EndsRestart : Net → Net → Type 0
 EndsRestart n o = (is_writing n.owner ≡ true) × (is_serving o.owner ≡ true)
 
--- The span of a restart is from where it began until the owner serves, with the attempts that a fall cut short.
+-- the owner has written an opening segment since it served last
+abbrev pub writes_since : Owner → Bool → Bool
+writes_since Down before = before
+writes_since (Opening s) before = before
+writes_since (Writing chain s) before = true
+writes_since (Serving s) before = false
+
+abbrev pub wrote_in : {g : Setting} {n m : Net} → Runs g n m → Bool
+wrote_in Begun = false
+wrote_in (On {o = o} run happens) = writes_since o.owner (wrote_in run)
+
+-- The span of a restart is from where it began until the owner serves. Where attempts since the owner served last were cut short by a fall once they had written
+-- their opening segments, it is from where the first of these began: one that had written none leaves nothing that a later one could meet.
 abbrev pub spans : Owner → Bool → Bool
-spans Down before = before
-spans (Opening s) before = true
-spans (Writing chain s) before = true
-spans (Serving s) before = false
+spans Down wrote = wrote
+spans (Opening s) wrote = true
+spans (Writing chain s) wrote = true
+spans (Serving s) wrote = false
 
 abbrev pub in_span : {g : Setting} {n m : Net} → Runs g n m → Bool
 in_span Begun = false
-in_span (On {o = o} run happens) = spans o.owner (in_span run)
+in_span (On {o = o} run happens) = spans o.owner (wrote_in run)
 
 -- a server lacks its fragment of a segment that isn't dropped
 abbrev pub Lacks : Net → SegName → ℕ → Type 0

@@ -5,6 +5,7 @@
 #![tactic(auto)]
 
 ghost use Rattle.log_law.specs.BeingRead.{WhatIsReadIsWhole};
+ghost use Rattle.log_law.specs.Boots.{ARestartFilesOneOfItsBoot};
 ghost use Rattle.log_law.specs.Ends.{EndsAreLast, FilesItsFlight};
 ghost use Rattle.log_law.specs.Groups.{EndsNameGroups, PriorsNameGroups};
 ghost use Rattle.log_law.specs.Held.{WhatFlewIsOfTheLog, WhatIsHeldFlew, WhatIsListedFlew};
@@ -105,8 +106,9 @@ pub fn what_flew_is_written()
 
 /// One line: while no restart that ended was doubtful, no two filed segments of the log have one number, none is missing below a filed one, and each above the
 /// least horizon names the pass of the one before it, through all falls and reopenings, and whichever tails were adopted or discarded. A restart is doubtful
-/// where of the newest segment that was filed before it each member lacked its fragment at some moment of the restart while the segment wasn't dropped, unless
-/// the horizon by which the chain was picked had passed the segment (the 1996 paper, on recovery).
+/// where of the newest segment that was filed before it each member lacked its fragment at some moment of its span while the segment wasn't dropped, unless the
+/// horizon by which the chain was picked had passed the segment; the span begins with the restart or, where attempts since the owner served last were cut short
+/// once they had written their opening segments, with the first of these (the 1996 paper, on recovery).
 pub fn logs_stay_in_line()
     ensures line { LogsStayInLine }
 {
@@ -170,12 +172,13 @@ pub fn the_feed_is_whole()
 }
 
 /// Openings go on: where the number of all that was in flight has one after it, a log can be started behind the end that an opening tells, whatever comes next;
-/// unless the owner falls, what begins to fly has no number beyond the one after the end of its log; and nothing is filed up to a moment at which it doesn't
-/// serve.
+/// unless the owner falls, what begins to fly has no number beyond the one after the end of its log; nothing is filed up to a moment at which it doesn't
+/// serve; and where it serves again, of its new boot just one segment is filed, after doubtful restarts, too.
 pub fn openings_go_on()
     ensures on { OpeningsGoOn }
     ensures flies { FliesNext }
     ensures unfiled { NothingFiledOpening }
+    ensures one { ARestartFilesOneOfItsBoot }
 {
     below();
 }

@@ -12,7 +12,8 @@ ghost use Rattle.node_logs.specs.client_log_tie.Texts.{WhatFitsStaysWritten};
 /// - `start`: a client at its start is seen in the opening of the small world; its log can be spelled where the ids of the setup's groups fit.
 /// - `events`: a client that is seen there before an event is seen after it in a world to which that one runs on, by its owner alone; all that the client sends
 ///   was sent there, and all that it tells to be filed is filed there; it stores to its own log, and bars it, alone; the owner doesn't fall on the way, or
-///   nothing begins to fly; and unless it serves then, it serves nowhere on the way, and where it comes to serve, that is by one thing that happens.
+///   nothing begins to fly; unless it serves then, it serves nowhere on the way, and where it comes to serve, that is by one thing that happens; and unless it
+///   serves or writes its opening segment then, it does neither on the way.
 pub fn client_log_events_are_seen()
     ensures start { ClientStarts }
     ensures events { ClientTakes }

@@ -1,4 +1,5 @@
 pub mod Progress
+pub mod Written
 pub mod Deletes
 pub mod Nodes
 pub mod Spans

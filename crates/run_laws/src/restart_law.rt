@@ -16,8 +16,9 @@ use loss_law::fragments_go_with_disks;
 
 /// Where no restart that ended up to a count of the events of a run was doubtful, the line of each client's log and of the cleaner's is sure up to there, as
 /// the laws of logs assume it. A restart is doubtful where each member of the newest segment of the log, as its owner had it when it served last, unless that
-/// is below the low by which the opening picked its chain, lacked its fragment at some moment since the owner began to open the log again, while no server was
-/// told to delete the segment (the 1996 paper, on recovery).
+/// is below the low by which the opening picked its chain, lacked its fragment, or lost its disk, at some moment of the restart's span while no server was told
+/// to delete the segment; the span begins with the restart or, where attempts since the owner served last were cut short once they had written their opening
+/// segments, with the first of these (the 1996 paper, on recovery).
 pub fn undoubted_runs_are_sure()
     ensures sure { UndoubtedRunsAreSure }
 {

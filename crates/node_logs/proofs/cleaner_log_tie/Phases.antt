@@ -56,7 +56,7 @@ use Rattle.node_logs.specs.node_log_tie.Sight.{AskedBy, BodySeen, PacketSeen, Ef
 use Rattle.node_logs.specs.node_log_tie.Sight.Question.{OfOpening}
 use Rattle.node_logs.proofs.node_log_tie.Emptied.{OnlyOrdered, only_deleted}
 use Rattle.node_logs.proofs.node_log_tie.Lists.{answers_send, packets_all}
-use Rattle.node_logs.specs.client_log_tie.ClientEvents.{FliesInBoot, NeverServes, ServesStraight}
+use Rattle.node_logs.specs.client_log_tie.ClientEvents.{FliesInBoot, NeverHasLog, ServesStraight, has_log}
 use Rattle.node_logs.specs.client_log_tie.Owner.{Scene, SeesLog}
 use Rattle.client_log.specs.LogState.{LogState}
 use Rattle.node_logs.proofs.client_log_tie.Boots.{same_boot, stage_up, log_up}
@@ -163,9 +163,9 @@ module _ (g : Setting) (fact : g.log ≡ cleaner_log) (w : Scene) where
         asked = λ k some. refl;
       }
 
-  fallen_never : (v : Scene) → NeverServes (fallen_grows v).runs
+  fallen_never : (v : Scene) → NeverHasLog (fallen_grows v).runs
   unfolding fallen_grows
-  fallen_never v = (ap is_serving (fall_of v.net).down, tt)
+  fallen_never v = (ap has_log (fall_of v.net).down, tt)
 
   fallen_agrees : (v : Scene) (l : Lasting) → LastsAs g v l → CleanerAgrees g (fallen v) (Down l)
   fallen_agrees v l lasts = (record { number = refl; inc = (fall_of v.net).inc ∙ lasts.inc; fresh = lasts.fresh }, (fall_of v.net).down)
@@ -235,7 +235,7 @@ module _ (g : Setting) (fact : g.log ≡ cleaner_log) (w : Scene) where
           tt,
         );
         flies = inr (refl, refl);
-        straight = record { never = λ e. (refl, (refl, tt)); once = λ a b. contrary b; stays = λ a b. contrary b; picks = λ e. contrary e };
+        straight = record { never = λ e. (refl, (refl, tt)); once = λ a b. contrary b; stays = λ a b. contrary b; picks = λ e. contrary e; rests = λ e. (refl, (refl, tt)) };
         only = λ name fact. inl fact;
       }
 
@@ -249,7 +249,7 @@ module _ (g : Setting) (fact : g.log ≡ cleaner_log) (w : Scene) where
       in_boot still_up = inl (same_boot w.net t.next.net up still_up (t.lasts.inc ∙ sym lasts.inc))
 
       by_progress : (p : Progress) → ProgressSeen g its_number t.next x.questions.last p → ProgressAsks p x.questions.last
-          → (IsLost g its_number p → (t.next.net.flown ≡ w.net.flown) × ((t.next.net.filed ≡ w.net.filed) × (is_serving t.next.net.owner ≡ false)))
+          → (IsLost g its_number p → (t.next.net.flown ≡ w.net.flown) × ((t.next.net.filed ≡ w.net.filed) × (has_log t.next.net.owner ≡ false)))
           → Goes (saying x.effects (after_opening (record l { questions = x.questions }) p))
       by_progress (progress.Opening o) shows asks lost = record {
         next = t.next;
@@ -280,7 +280,7 @@ module _ (g : Setting) (fact : g.log ≡ cleaner_log) (w : Scene) where
         flies = inr ((fall_of t.next.net).flown ∙ (lost tt).0, (fall_of t.next.net).filed ∙ (lost tt).1.0);
         straight = down_straight g w.net (fallen t.next).net (then_on t.grown.runs (fallen_grows t.next).runs)
             (never_then g w.net t.next.net (fallen t.next).net t.grown.runs (fallen_grows t.next).runs
-            ((once_straight g w.net t.next.net t.grown.runs t.once).never (lost tt).1.1) (fallen_never t.next))
+            ((once_straight g w.net t.next.net t.grown.runs t.once).rests (lost tt).1.1) (fallen_never t.next))
             (fall_of t.next.net).down;
         only = λ name fact. inl (subst (In name) ((fall_of t.next.net).dropped ∙ t.kept) fact);
       }

@@ -30,10 +30,9 @@ use Rattle.log_tie.specs.Setting.{Setting}
 use Rattle.node_logs.specs.node_log_tie.Sight.{Question, AnsweredBy, ReachedBy, BodySeen}
 use Rattle.node_logs.specs.node_log_tie.Sight.Question.{Unasked, OfMaps, OfOpening}
 use Rattle.node_logs.proofs.node_log_tie.Sights.{at_once}
-use Rattle.node_logs.specs.client_log_tie.ClientEvents.{IsOnce, StageWritten, StageTells, BodyFits, ActSeen as ClientActs}
+use Rattle.node_logs.specs.client_log_tie.ClientEvents.{IsOnce, StageWritten, StageTells, BodyFits, ActSeen as ClientActs, has_log}
 use Rattle.node_logs.specs.client_log_tie.Owner.{Scene, asker, Lasts, SeesStage}
 use Rattle.node_logs.proofs.client_log_tie.Frames.{ClientDoes, says_seen}
-use Rattle.log_law.specs.Restarts.{is_serving}
 use Rattle.node_logs.proofs.client_log_tie.OpeningEvents as events
 use Rattle.node_logs.proofs.client_log_tie.OpeningLog.{IsLost, ProgressSeen, WentTo}
 use Rattle.node_logs.proofs.client_log_tie.Owed.{StageOwed, in_range, owed_so}
@@ -155,8 +154,8 @@ module _ (g : Setting) where
     pub lasts : Lasts g its_number next its_number life x.questions.last
     pub shows : ProgressSeen g its_number next x.questions.last x.progress
     pub does : AllDone g next x.effects
-    -- where a segment is lost, nothing began to fly, nothing was filed, and the owner doesn't serve
-    pub lost : IsLost g its_number x.progress → (next.net.flown ≡ w.net.flown) × ((next.net.filed ≡ w.net.filed) × (is_serving next.net.owner ≡ false))
+    -- where a segment is lost, nothing began to fly, nothing was filed, and the owner neither writes nor serves
+    pub lost : IsLost g its_number x.progress → (next.net.flown ≡ w.net.flown) × ((next.net.filed ≡ w.net.filed) × (has_log next.net.owner ≡ false))
     pub kept : next.net.dropped ≡ w.net.dropped
     pub once : IsOnce grown.runs
 

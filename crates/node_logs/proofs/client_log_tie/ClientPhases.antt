@@ -61,7 +61,7 @@ use Rattle.client_log.specs.LogState.{LogState}
 use Rattle.node_logs.specs.client_log_tie.Texts.{StaysWritten}
 use Rattle.node_logs.specs.opening_law.Questions.{AsksOn, ProgressAsks}
 use Rattle.node_logs.proofs.opening_law.Asking.{packet_few, starts_few, tick_few}
-use Rattle.node_logs.specs.client_log_tie.ClientEvents.{StageWritten, StageTells, PhaseWritten, PhaseOwed, PacketOwed, ClientOwed, FliesInBoot, Grown, NeverServes}
+use Rattle.node_logs.specs.client_log_tie.ClientEvents.{StageWritten, StageTells, PhaseWritten, PhaseOwed, PacketOwed, ClientOwed, FliesInBoot, Grown, NeverHasLog, has_log}
 use Rattle.node_logs.specs.client_log_tie.Puts.{PutsOwn}
 use Rattle.node_logs.proofs.client_log_tie.Boots.{same_boot, stage_away, stage_up, log_up}
 use Rattle.node_logs.proofs.client_log_tie.Puts.{took_nothing}
@@ -152,9 +152,9 @@ module _ (g : Setting) (c : ℕ) (fact : g.log ≡ record { 0 = c }) (small : is
         asked = λ k some. refl;
       }
 
-  fallen_never : (v : Scene) → NeverServes (fallen_grown v).runs
+  fallen_never : (v : Scene) → NeverHasLog (fallen_grown v).runs
   unfolding fallen_grown
-  fallen_never v = (ap is_serving (fall_of v.net).down, tt)
+  fallen_never v = (ap has_log (fall_of v.net).down, tt)
 
   -- one that fell
   fallen_agrees : (v : Scene) (l : Lasting) → LastsAs g c v l → ClientAgrees g c (fallen v) (Down l)
@@ -234,7 +234,7 @@ module _ (g : Setting) (c : ℕ) (fact : g.log ≡ record { 0 = c }) (small : is
             })
             (All-nil (ClientDoes g c v));
         flies = inr (refl, refl);
-        straight = record { never = λ e. (refl, (refl, tt)); once = λ a b. contrary b; stays = λ a b. contrary b; picks = λ e. contrary e };
+        straight = record { never = λ e. (refl, (refl, tt)); once = λ a b. contrary b; stays = λ a b. contrary b; picks = λ e. contrary e; rests = λ e. (refl, (refl, tt)) };
         puts = λ s owns serves. contrary serves;
       }
 
@@ -271,7 +271,7 @@ module _ (g : Setting) (c : ℕ) (fact : g.log ≡ record { 0 = c }) (small : is
         in_boot still_up = inl (same_boot w.net t.next.net up still_up (t.lasts.inc ∙ sym lasts.inc))
 
         by_progress : (p : Progress) → ProgressSeen g c t.next x.questions.last p
-            → (IsLost g c p → (t.next.net.flown ≡ w.net.flown) × ((t.next.net.filed ≡ w.net.filed) × (is_serving t.next.net.owner ≡ false)))
+            → (IsLost g c p → (t.next.net.flown ≡ w.net.flown) × ((t.next.net.filed ≡ w.net.filed) × (has_log t.next.net.owner ≡ false)))
             → ProgressAsks p x.questions.last
             → Goes (saying x.effects (after_opening (record l { questions = x.questions }) capacity p))
         by_progress (progress.Opening o) shows lost asks = record {
@@ -305,7 +305,7 @@ module _ (g : Setting) (c : ℕ) (fact : g.log ≡ record { 0 = c }) (small : is
           flies = inr ((fall_of t.next.net).flown ∙ (lost tt).0, (fall_of t.next.net).filed ∙ (lost tt).1.0);
           straight = down_straight g w.net (fallen t.next).net (frames.grown_on g w t.next (fallen t.next) t.grown (fallen_grown t.next)).runs
               (frames.never_on g w t.next (fallen t.next) t.grown (fallen_grown t.next)
-              ((once_straight g w.net t.next.net t.grown.runs t.once).never (lost tt).1.1) (fallen_never t.next))
+              ((once_straight g w.net t.next.net t.grown.runs t.once).rests (lost tt).1.1) (fallen_never t.next))
               (fall_of t.next.net).down;
           puts = λ s owns serves. contrary (sym away ∙ ap is_serving owns);
         }

@@ -30,7 +30,7 @@ use Rattle.node_logs.specs.client_log_tie.Owner.{Scene, asker, Lasts, SeesLog, C
 use Rattle.node_logs.specs.client_log_tie.Puts.{LogTook, PutsOwn, ServesBy}
 use Rattle.node_logs.specs.client_log_tie.Texts.{StaysWritten}
 use Rattle.node_logs.proofs.client_log_tie.Puts.{took_both, took_nothing}
-use Rattle.node_logs.specs.client_log_tie.ClientEvents.{ActSeen, OfItsLog, PhaseWritten, FliesInBoot, Grown, IsOnce, NeverServes, ServesStraight}
+use Rattle.node_logs.specs.client_log_tie.ClientEvents.{ActSeen, OfItsLog, PhaseWritten, FliesInBoot, Grown, IsOnce, NeverHasLog, ServesStraight}
 
 -- ---- lists
 
@@ -74,18 +74,18 @@ module _ (g : Setting) where
     asked = λ k some. b.asked k (λ none. some (sym (a.asked k some) ∙ none)) ∙ a.asked k some;
   }
 
-  -- ---- where the owner serves on the way
+  -- ---- what the owner is on the way
 
   pub still_once : (w : Scene) → IsOnce (grown_still w).runs
   unfolding grown_still
   still_once w = tt
 
-  never_through : (n m o : Net) (first : Runs g n m) (run : Runs g m o) → NeverServes first → NeverServes run → NeverServes (runs_on n m o first run)
+  never_through : (n m o : Net) (first : Runs g n m) (run : Runs g m o) → NeverHasLog first → NeverHasLog run → NeverHasLog (runs_on n m o first run)
   unfolding runs_on
   never_through n m o first Begun a b = a
   never_through n m o first (On {m = k} run happens) a b = (b.0, never_through n m k first run a b.1)
 
-  pub never_on : (u v w : Scene) (a : Grown g u v) (b : Grown g v w) → NeverServes a.runs → NeverServes b.runs → NeverServes (grown_on u v w a b).runs
+  pub never_on : (u v w : Scene) (a : Grown g u v) (b : Grown g v w) → NeverHasLog a.runs → NeverHasLog b.runs → NeverHasLog (grown_on u v w a b).runs
   unfolding grown_on
   never_on u v w a b x y = never_through u.net v.net w.net a.runs b.runs x y
 

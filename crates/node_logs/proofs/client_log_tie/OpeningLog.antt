@@ -32,14 +32,13 @@ use Rattle.log_law.specs.Net.{Packet, log_packets, names_of, after_flight, after
 use Rattle.log_law.specs.Net.{Owner as owner}
 use Rattle.log_law.specs.Net.Packet.{StoredSent, MapSent}
 use Rattle.log_law.specs.ReadBack.{ReadsDown}
-use Rattle.log_law.specs.Restarts.{is_serving}
 use Rattle.log_law.specs.Events.{Happens}
 use Rattle.log_law.specs.Events.Happens.{Writes}
 use Rattle.log_law.specs.Events.Runs.{Begun, On}
 use Rattle.node_logs.proofs.node_log_tie.OwnLogs.{SendsOwn, own_log}
 use Rattle.node_logs.specs.client_log_tie.Owner.{Scene, IsOwn, Lasts, SeesStage, SeesWriting, SeesLog}
 use Rattle.node_logs.specs.client_log_tie.Texts.{InputFits, MapFits, StaysWritten}
-use Rattle.node_logs.specs.client_log_tie.ClientEvents.{StageWritten, Grown, IsOnce}
+use Rattle.node_logs.specs.client_log_tie.ClientEvents.{StageWritten, Grown, IsOnce, has_log}
 use Rattle.node_logs.proofs.client_log_tie.Frames.{ClientDoes}
 use Rattle.node_logs.proofs.client_log_tie.Frames as frames
 use Rattle.node_logs.proofs.client_log_tie.Frames.{in_after, in_before}
@@ -66,8 +65,8 @@ module _ (g : Setting) (c : ℕ) where
     pub lasts : Lasts g c next its life x.questions.last
     pub shows : ProgressSeen next x.questions.last x.progress
     pub does : All (ClientDoes g c next) x.effects
-    -- where a segment is lost, nothing began to fly, nothing was filed, and the owner doesn't serve
-    pub lost : IsLost x.progress → (next.net.flown ≡ w.net.flown) × ((next.net.filed ≡ w.net.filed) × (is_serving next.net.owner ≡ false))
+    -- where a segment is lost, nothing began to fly, nothing was filed, and the owner neither writes nor serves
+    pub lost : IsLost x.progress → (next.net.flown ≡ w.net.flown) × ((next.net.filed ≡ w.net.filed) × (has_log next.net.owner ≡ false))
     pub once : IsOnce grown.runs
 
   -- ---- the log of an opening took an input

@@ -1,5 +1,6 @@
 -- How the owner comes to serve in an event: by one thing that happens, or it served before, in the same boot; where it doesn't serve then, it served nowhere on
--- the way; and where it has picked then where its log goes on, one thing happened at most.
+-- the way; where it has picked then where its log goes on, one thing happened at most; and where it is down or has yet to write its opening segment, it neither
+-- wrote one nor served on the way.
 use Rattle.std.proofs.Common.{◌≡◌, true, false, List, Option, Some, None, refl, sym, ap, ◌∙◌}
 use Rattle.client_log.specs.Transition as log
 use Rattle.group_map.specs.GroupMapState.{GroupMapState}
@@ -12,11 +13,11 @@ use Rattle.log_law.specs.Events.Happens.{Acts, Bars, Crashes, Drops, Hears, List
 use Rattle.log_law.specs.Events.Runs.{Begun, On}
 use Rattle.log_law.specs.Net.{Net, Owner, Told, after_flight, after_told, chain_in}
 use Rattle.log_law.specs.Net.Owner.{Down, Opening, Serving, Writing}
-use Rattle.log_law.specs.Restarts.{is_serving}
+use Rattle.log_law.specs.Restarts.{is_down, is_serving}
 use Rattle.log_law.specs.Tails.{then_on}
 use Rattle.segment_format.specs.declared.segment.Segment.{Segment}
 use Rattle.xfs_base.proofs.Booleans.{contrary}
-use Rattle.node_logs.specs.client_log_tie.ClientEvents.{IsOnce, NeverServes, ServesStraight, has_picked}
+use Rattle.node_logs.specs.client_log_tie.ClientEvents.{IsOnce, NeverHasLog, NeverServes, ServesStraight, has_log, has_picked}
 
 -- the opening segment is settled, or goes on, in one boot
 writes_stays : (g : Setting) (n : Net) (chain : List Segment) (d : log.Done) (o : Option FlightState) → (after_flight g n chain d o).inc ≡ n.inc
@@ -30,39 +31,63 @@ opens_stays g n s d None groups = refl
 opens_stays g n s d (Some t) None = refl
 opens_stays g n s d (Some t) (Some m) = refl
 
--- one thing that happens to an owner that serves leaves its incarnation
-pub boot_stays : (g : Setting) (n o : Net) → Happens g n o → is_serving n.owner ≡ true → o.inc ≡ n.inc
-boot_stays g n o (Acts s i fact came texts) serves = refl
-boot_stays g n o (Writes chain s i fact came texts) serves = writes_stays g n chain (log.transition s i) (log.transition s i).state.flight
-boot_stays g n o (Opens s i fact came can) serves =
+-- one thing that happens to an owner that isn't down leaves its incarnation
+pub boot_stays : (g : Setting) (n o : Net) → Happens g n o → is_down n.owner ≡ false → o.inc ≡ n.inc
+boot_stays g n o (Acts s i fact came texts) up = refl
+boot_stays g n o (Writes chain s i fact came texts) up = writes_stays g n chain (log.transition s i) (log.transition s i).state.flight
+boot_stays g n o (Opens s i fact came can) up =
     opens_stays g n s (scan.transition s i) (chain_in (scan.transition s i).outs) (scan.transition s i).state.opening.groups
-boot_stays g n o Crashes serves = refl
-boot_stays g n o (Restarts down) serves = contrary (sym (ap is_serving down) ∙ serves)
-boot_stays g n o (Renews map high doubts down came) serves = contrary (sym (ap is_serving down) ∙ serves)
-boot_stays g n o (Serves v deed some came) serves = refl
-boot_stays g n o (Bars v l pass) serves = refl
-boot_stays g n o (Lists v) serves = refl
-boot_stays g n o (Hears v generation past reached) serves = refl
-boot_stays g n o (Raises low name past fact below) serves = refl
-boot_stays g n o (Publishes map whole) serves = refl
-boot_stays g n o (Welcomes inc ask news map hello low whole) serves = refl
-boot_stays g n o (Drops lists meta listed within below) serves = refl
+boot_stays g n o Crashes up = refl
+boot_stays g n o (Restarts down) up = contrary (sym up ∙ ap is_down down)
+boot_stays g n o (Renews map high doubts down came) up = contrary (sym up ∙ ap is_down down)
+boot_stays g n o (Serves v deed some came) up = refl
+boot_stays g n o (Bars v l pass) up = refl
+boot_stays g n o (Lists v) up = refl
+boot_stays g n o (Hears v generation past reached) up = refl
+boot_stays g n o (Raises low name past fact below) up = refl
+boot_stays g n o (Publishes map whole) up = refl
+boot_stays g n o (Welcomes inc ask news map hello low whole) up = refl
+boot_stays g n o (Drops lists meta listed within below) up = refl
+
+serving_up : (x : Owner) → is_serving x ≡ true → is_down x ≡ false
+serving_up Down fact = contrary fact
+serving_up (Opening s) fact = refl
+serving_up (Writing chain s) fact = refl
+serving_up (Serving s) fact = refl
+
+-- one without its log doesn't serve
+without_log : (x : Owner) → has_log x ≡ false → is_serving x ≡ false
+without_log Down none = refl
+without_log (Opening s) none = refl
+without_log (Writing chain s) none = refl
+without_log (Serving s) none = none
+
+never_serves : (g : Setting) (n o : Net) (runs : Runs g n o) → NeverHasLog runs → NeverServes runs
+never_serves g n o Begun never = tt
+never_serves g n o (On {m = m} run happens) never = (without_log o.owner never.0, never_serves g n m run never.1)
 
 -- one thing at most happened
 pub once_straight : (g : Setting) (n o : Net) (runs : Runs g n o) → IsOnce runs → ServesStraight runs
-once_straight g n o Begun once = record { never = λ e. tt; once = λ a b. tt; stays = λ a b. refl; picks = λ e. tt }
+once_straight g n o Begun once = record { never = λ e. tt; once = λ a b. tt; stays = λ a b. refl; picks = λ e. tt; rests = λ e. tt }
 once_straight g n o (On Begun happens) once =
-    record { never = λ e. (e, tt); once = λ a b. tt; stays = λ a b. boot_stays g n o happens a; picks = λ e. tt }
+    record {
+      never = λ e. (e, tt);
+      once = λ a b. tt;
+      stays = λ a b. boot_stays g n o happens (serving_up n.owner a);
+      picks = λ e. tt;
+      rests = λ e. (e, tt);
+    }
 once_straight g n o (On (On run before) happens) once = absurd once
 
 -- it is down then
-pub down_straight : (g : Setting) (n o : Net) (runs : Runs g n o) → NeverServes runs → o.owner ≡ Down → ServesStraight runs
+pub down_straight : (g : Setting) (n o : Net) (runs : Runs g n o) → NeverHasLog runs → o.owner ≡ Down → ServesStraight runs
 down_straight g n o runs never down =
     record {
-      never = λ e. never;
+      never = λ e. never_serves g n o runs never;
       once = λ a b. contrary (sym (ap is_serving down) ∙ b);
       stays = λ a b. contrary (sym (ap is_serving down) ∙ b);
       picks = λ e. contrary (sym (ap has_picked down) ∙ e);
+      rests = λ e. never;
     }
 
 -- one that serves opens no log
@@ -81,10 +106,11 @@ served_straight g n o runs before now boot =
       once = λ a b. contrary (sym a ∙ before);
       stays = λ a b. boot;
       picks = λ e. contrary (sym (serving_picks_none o.owner now) ∙ e);
+      rests = λ e. contrary (sym (without_log o.owner e) ∙ now);
     }
 
 -- one run goes on by another
-pub never_then : (g : Setting) (n m o : Net) (first : Runs g n m) (later : Runs g m o) → NeverServes first → NeverServes later
-    → NeverServes (then_on first later)
+pub never_then : (g : Setting) (n m o : Net) (first : Runs g n m) (later : Runs g m o) → NeverHasLog first → NeverHasLog later
+    → NeverHasLog (then_on first later)
 never_then g n m o first Begun a b = a
 never_then g n m o first (On {m = k} run happens) a b = (b.0, never_then g n m k first run a b.1)

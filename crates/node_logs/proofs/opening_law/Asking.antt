@@ -19,7 +19,7 @@ use Rattle.log_owner.specs.declared.opening.Scanning.{Scanning}
 use Rattle.log_owner.specs.declared.opening.Settling.{Settling}
 use Rattle.log_owner.specs.declared.opening.Stage.{Stage}
 use Rattle.log_owner.specs.declared.opening.Stage.TheVariants as stage
-use Rattle.log_owner.specs.Opening.{Went, Moved, went, stays, drops, asking, at_scan, nothing_asked, said, scanned, written, opens, writes, behind, settles_over, follows, scans_on, scans_at, scans, welcomed_with, welcomed, welcomed_as, is_meant, on_welcome, regrouped, on_news, is_fenced, fenced_by, by_server, on_fenced, own_in, answers, found_by, missing_by, on_found, on_missing, on_stored, on_tick, on_body, on_packet}
+use Rattle.log_owner.specs.Opening.{Went, Moved, went, stays, drops, at_scan, nothing_asked, said, scanned, written, opens, writes, behind, settles_over, follows, scans_on, scans_at, scans, welcomed_with, welcomed, welcomed_as, is_meant, on_welcome, regrouped, on_news, is_fenced, fenced_by, by_server, on_fenced, own_in, answers, found_by, missing_by, on_found, on_missing, on_stored, on_tick, on_body, on_packet}
 use Rattle.log_owner.specs.Promised.{promised_in}
 use Rattle.log_owner.specs.Sending.{server_in}
 use Rattle.log_scan.specs.declared.input.In.{In}
@@ -40,8 +40,6 @@ use Rattle.wire_msg.specs.declared.body.Body.TheVariants as body
 use Rattle.wire_msg.specs.declared.registry.News.{News}
 use Rattle.wire_msg.specs.declared.registry.Welcome.{Welcome}
 use Rattle.wire_msg.specs.declared.storage.Fenced.{Fenced}
-use Rattle.wire_msg.specs.declared.storage.Found.{Found as Fragment}
-use Rattle.wire_msg.specs.declared.storage.Missing.{Missing}
 use Rattle.wire_msg.specs.declared.storage.Stored.{Stored}
 use Rattle.node_logs.specs.opening_law.Questions.{WaitsInVain, PastStage, ScanAsks, StageAsks, ProgressAsks, AsksOn, StartAsksFew, PacketAsksFew, TickAsksFew, GroupsAfter, GroupsCome, QuestionsAreLeft}
 use Rattle.node_logs.proofs.opening_law.Steps.{UpTo, AsksBy, Old, New, Steps, Still, says_so, still_so}

@@ -121,6 +121,18 @@ abbrev pub NeverServes : {g : Setting} {n o : Net} → Runs g n o → Type 0
 NeverServes Begun = Unit {0}
 NeverServes (On {o = o} run happens) = (is_serving o.owner ≡ false) × NeverServes run
 
+-- it writes its opening segment, or it serves
+abbrev pub has_log : owner → Bool
+has_log owner.Down = false
+has_log (owner.Opening s) = false
+has_log (owner.Writing chain s) = true
+has_log (owner.Serving s) = true
+
+-- once something happened, the owner neither writes an opening segment nor serves on the way
+abbrev pub NeverHasLog : {g : Setting} {n o : Net} → Runs g n o → Type 0
+NeverHasLog Begun = Unit {0}
+NeverHasLog (On {o = o} run happens) = (has_log o.owner ≡ false) × NeverHasLog run
+
 -- one thing happens at most
 abbrev pub IsOnce : {g : Setting} {n o : Net} → Runs g n o → Type 0
 IsOnce Begun = Unit {0}
@@ -135,12 +147,14 @@ has_picked (owner.Writing chain s) = true
 has_picked (owner.Serving s) = false
 
 -- Unless the owner serves then, it served nowhere on the way; where it didn't serve before and does then, that is by one thing that happens; where it served
--- before and does then, it stayed in its boot; and where it opens its log and has picked then where that goes on, one thing happened at most.
+-- before and does then, it stayed in its boot; where it opens its log and has picked then where that goes on, one thing happened at most; and unless it writes
+-- its opening segment or serves then, it did neither on the way.
 pub record ServesStraight {g : Setting} {n o : Net} (runs : Runs g n o) : Type 0 where
   pub never : is_serving o.owner ≡ false → NeverServes runs
   pub once : is_serving n.owner ≡ false → is_serving o.owner ≡ true → IsOnce runs
   pub stays : is_serving n.owner ≡ true → is_serving o.owner ≡ true → o.inc ≡ n.inc
   pub picks : has_picked o.owner ≡ true → IsOnce runs
+  pub rests : has_log o.owner ≡ false → NeverHasLog runs
 
 -- It runs on to one in which the client is seen as it is then, all that it sends was sent, and all that it tells to be filed is filed; it stores to its own log
 -- alone.

@@ -40,9 +40,10 @@ use Rattle.run_laws.specs.restart_law.Below.{Below}
 use Rattle.run_laws.specs.restart_law.Restarts as nodes
 use Rattle.run_laws.specs.restart_law.Restarts.{DoubtfulRestart, LackedBetween, LostDisk, ReadsBackTo, newest}
 use Rattle.run_laws.proofs.restart_law.Deletes.{deletes_are_drops}
-use Rattle.run_laws.proofs.restart_law.Nodes.{ShelfIs, away_there, boot_is, low_is, serves_there, shelf_is, some_serving}
-use Rattle.run_laws.proofs.restart_law.Picks.{picks, writing_picked}
-use Rattle.run_laws.proofs.restart_law.Spans.{Lacked, LacksOrLoses, Span, span}
+use Rattle.run_laws.proofs.restart_law.Nodes.{ShelfIs, away_there, boot_is, low_is, serves_there, shelf_is, some_serving, writes_is}
+use Rattle.run_laws.proofs.restart_law.Picks.{picks}
+use Rattle.run_laws.proofs.restart_law.Spans.{Lacked, LacksOrLoses, Span, Wrote, boot_then, span}
+use Rattle.run_laws.proofs.restart_law.Written.{writing_picked, writing_wrote}
 
 -- ---- shelves
 
@@ -103,13 +104,21 @@ module _ (b : Below) (base : Setting) (e : Estate AnyNode) (r : Role) (is_there 
       inr (lost_so (shelf_at (moment e at) v) (shelf_at (moment e (suc at)) v) ((small at).shelves v) ((small (suc at)).shelves v)
       (shelf_is base e r is_there keeps line at v) (shelf_is base e r is_there keeps line (suc at) v) less)
 
-  lacked_between : (from to : ℕ) (name : SegName) (v : ℕ) → name.log ≡ g.log → Lacked b base e r keeps line from to name v
+  lacked_between : (from to : ℕ) (name : SegName) (v : ℕ) → name.log ≡ g.log → Wrote b base e r keeps line from to (boot_then b base e r keeps line to)
+      → Lacked b base e r keeps line from to name v
       → LackedBetween e r from to name v
-  lacked_between from to name v own l = record {
+  lacked_between from to name v own w l = record {
     when = l.when;
     since = l.since;
     before = l.before;
-    begun = (let a = boot_is base e r is_there keeps line from in let c = boot_is base e r is_there keeps line (suc l.when) in let d = l.begun in omega arith);
+    wrote = w.when;
+    after = w.since;
+    within = w.within;
+    writes = writes_is base e r is_there keeps line w.when ∙ w.writes;
+    begun =
+        (let a = boot_is base e r is_there keeps line w.when in
+        let c = boot_is base e r is_there keeps line (suc l.when) in
+        let first = w.begun in let d = l.begun in omega arith);
     kept = not_deleted l.when name own l.kept;
     lacked = lacked_or_lost l.when name v l.lacked;
   }
@@ -224,6 +233,10 @@ module _ (b : Below) (base : Setting) (e : Estate AnyNode) (r : Role) (is_there 
           covers = (let limit = p.bound.limit in let above = d.above in omega arith);
         }
 
+    -- its opening segment is in flight before it ends
+    wrote : Wrote b base e r keeps line sp.last count (boot_then b base e r keeps line count)
+    wrote = sp.wrote (writing_wrote g _ (small count) (moment_at count).run refl writes)
+
     pub doubtful_restart : DoubtfulRestart e r count
     doubtful_restart = record {
       last = sp.last;
@@ -240,6 +253,6 @@ module _ (b : Below) (base : Setting) (e : Estate AnyNode) (r : Role) (is_there 
       striped = grouped.1;
       text = λ k since within. its_text count d.segment d.flown grouped.0 grouped.1 k within;
       lost = λ place within.
-          lacked_between sp.last count d.segment.name (server_of grouped.0.members place) own
+          lacked_between sp.last count d.segment.name (server_of grouped.0.members place) own wrote
           (sp.lacked d.segment.name (server_of grouped.0.members place) own (lost place within));
     }

@@ -18,7 +18,7 @@ use Rattle.core_world.specs.declared.any_node.AnyNode.TheVariants as any
 use Rattle.fragment_store.specs.ShelfState.{ShelfState}
 use Rattle.log_law.specs.Net.{Owner}
 use Rattle.log_law.specs.Net.Owner.{Down, Opening, Serving, Writing}
-use Rattle.log_law.specs.Restarts.{is_serving}
+use Rattle.log_law.specs.Restarts.{is_serving, is_writing}
 use Rattle.log_owner.specs.declared.known.Known.{Known}
 use Rattle.log_owner.specs.declared.opening.Stage.{Stage}
 use Rattle.log_owner.specs.declared.opening.Stage.TheVariants as stage
@@ -43,7 +43,7 @@ use Rattle.run_laws.specs.world_logs.Standing.{CleanerThere, ClientThere, Seen, 
 use Rattle.xfs_base.proofs.Booleans.{contrary}
 use Rattle.xfs_base.specs.declared.node.NodeId.{NodeId}
 use Rattle.xfs_base.specs.declared.node.NodeId.TheVariants.{Server}
-use Rattle.run_laws.specs.restart_law.Restarts.{boot_at, boot_in, cleaner_reads_to, cleaners_log, client_reads_to, clients_log, log_at, log_in, low_at, low_in, reads_to, scans_to}
+use Rattle.run_laws.specs.restart_law.Restarts.{boot_at, boot_in, cleaner_reads_to, cleaner_writes, cleaners_log, client_reads_to, client_writes, clients_log, is_settling, log_at, log_in, low_at, low_in, reads_to, scans_to, writes_at, writes_in}
 
 -- ---- the node of a name is there at each moment
 
@@ -143,6 +143,10 @@ module _ (g : Setting) (w : Scene) where
   stage_low c k last (stage.Scanning s) sees = ap owner_reads_to sees.owner
   stage_low c k last (stage.Settling s) sees = ap owner_reads_to sees.owner
 
+  stage_writes : (c : ℕ) (k : Known) (last : ℕ) (at : Stage) → SeesStage g c w k last at → is_settling at ≡ is_writing w.net.owner
+  stage_writes c k last (stage.Scanning s) sees = sym (ap is_writing sees.owner)
+  stage_writes c k last (stage.Settling s) sees = sym (ap is_writing sees.owner)
+
   client_log : (c : ℕ) (p : clients.Phase) → ClientAgrees g c w p → clients_log p ≡ serving_log w.net.owner
   client_log c (phase.Down l) agrees = sym (ap serving_log agrees.1)
   client_log c (phase.Opening l o) agrees = sym (stage_log c o.known l.questions.last o.stage agrees.1)
@@ -163,6 +167,16 @@ module _ (g : Setting) (w : Scene) where
   cleaner_low (cleaning.Opening l o) agrees = sym (stage_low its_number o.known l.questions.last o.stage agrees.sees)
   cleaner_low (cleaning.Serving e) agrees = sym (ap owner_reads_to agrees.log.owner)
 
+  client_writing : (c : ℕ) (p : clients.Phase) → ClientAgrees g c w p → client_writes p ≡ is_writing w.net.owner
+  client_writing c (phase.Down l) agrees = sym (ap is_writing agrees.1)
+  client_writing c (phase.Opening l o) agrees = stage_writes c o.known l.questions.last o.stage agrees.1
+  client_writing c (phase.Serving s) agrees = sym (ap is_writing agrees.1.owner)
+
+  cleaner_writing : (p : cleaners.Phase) → CleanerAgrees g w p → cleaner_writes p ≡ is_writing w.net.owner
+  cleaner_writing (cleaning.Down l) agrees = sym (ap is_writing agrees.1)
+  cleaner_writing (cleaning.Opening l o) agrees = stage_writes its_number o.known l.questions.last o.stage agrees.sees
+  cleaner_writing (cleaning.Serving e) agrees = sym (ap is_writing agrees.log.owner)
+
   client_boot : (c : ℕ) (p : clients.Phase) → ClientAgrees g c w p → (clients_lasting p).inc ≡ w.net.inc
   client_boot c (phase.Down l) agrees = sym agrees.0.inc
   client_boot c (phase.Opening l o) agrees = sym agrees.0.inc
@@ -178,12 +192,14 @@ module _ (g : Setting) (w : Scene) where
     pub log : log_in (Some x) ≡ serving_log w.net.owner
     pub boot : boot_in (Some x) ≡ w.net.inc
     pub low : low_in (Some x) ≡ owner_reads_to w.net.owner
+    pub writes : writes_in (Some x) ≡ is_writing w.net.owner
 
   client_there : (c : ℕ) (x : AnyNode) → ClientThere g (OfClient c) w c x → IsOwner x
   client_there c (any.Client node) h = record {
     log = client_log c node.phase (h refl).agrees;
     boot = client_boot c node.phase (h refl).agrees;
     low = client_low c node.phase (h refl).agrees;
+    writes = client_writing c node.phase (h refl).agrees;
   }
   client_there c (any.Manager node) h = absurd h
   client_there c (any.Server node) h = absurd h
@@ -194,8 +210,12 @@ module _ (g : Setting) (w : Scene) where
   cleaner_there (any.Client node) h = absurd h
   cleaner_there (any.Manager node) h = absurd h
   cleaner_there (any.Server node) h = absurd h
-  cleaner_there (any.Cleaner node) h =
-      record { log = cleaner_log node.phase h.agrees; boot = cleaner_boot node.phase h.agrees; low = cleaner_low node.phase h.agrees }
+  cleaner_there (any.Cleaner node) h = record {
+    log = cleaner_log node.phase h.agrees;
+    boot = cleaner_boot node.phase h.agrees;
+    low = cleaner_low node.phase h.agrees;
+    writes = cleaner_writing node.phase h.agrees;
+  }
   cleaner_there (any.Registry node) h = absurd h
 
   is_owner : (r : Role) → renews r ≡ false → (x : AnyNode) → Seen g r w (owner_by r) x → IsOwner x
@@ -244,6 +264,10 @@ module _ (base : Setting) (e : Estate AnyNode) (r : Role) (is_there : IsThere e.
   -- and it reads back as far
   pub low_is : (count : ℕ) → low_at e r count ≡ owner_reads_to (owner count)
   low_is count = (let x = there_at count in ap low_in x.1 ∙ x.2.low)
+
+  -- it writes its opening segment where it writes there
+  pub writes_is : (count : ℕ) → writes_at e r count ≡ is_writing (owner count)
+  writes_is count = (let x = there_at count in ap writes_in x.1 ∙ x.2.writes)
 
   pub serves_there : (count : ℕ) (s : LogState) → owner count ≡ Serving s → log_at e r count ≡ Some s
   serves_there count s fact = log_is count ∙ ap serving_log fact

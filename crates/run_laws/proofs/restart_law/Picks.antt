@@ -17,7 +17,7 @@ use Rattle.log_law.specs.Net.{Net, Owner, Told, after_flight, after_told, chain_
 use Rattle.log_law.specs.Net.Owner.{Down, Opening, Serving, Writing}
 use Rattle.log_law.specs.Net as net
 use Rattle.log_law.specs.ReadBack.{OpeningsReadDown, ReadsDown}
-use Rattle.log_law.specs.Restarts.{is_serving, is_writing}
+use Rattle.log_law.specs.Restarts.{is_serving}
 use Rattle.log_scan.specs.declared.stage.Stage.{Stage}
 use Rattle.log_scan.specs.declared.stage.Stage.TheVariants.{Asks, Gathers, Hails, Over, Reads}
 use Rattle.log_scan.specs.ScanState.{ScanState}
@@ -147,12 +147,6 @@ serves_unpicked Down fact = refl
 serves_unpicked (Opening s) fact = contrary fact
 serves_unpicked (Writing chain s) fact = contrary fact
 serves_unpicked (Serving s) fact = refl
-
-pub writing_picked : (x : Owner) → is_writing x ≡ true → has_picked x ≡ true
-writing_picked Down fact = contrary fact
-writing_picked (Opening s) fact = contrary fact
-writing_picked (Writing chain s) fact = refl
-writing_picked (Serving s) fact = contrary fact
 
 module _ (b : Below) (base : Setting) (e : Estate AnyNode) (r : Role) (keeps : renews r ≡ false) (line : Line base e r) where
   abbrev small : ℕ → Net

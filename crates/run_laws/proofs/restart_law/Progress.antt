@@ -1,8 +1,8 @@
 -- Along a run the owner of a log only goes forward, through one boot into the next: so where it is at the end where it was at the start no restart ended in it.
-use Rattle.std.proofs.Common.{◌≡◌, ◌<◌, Bool, ℕ, ◌+◌, ◌*◌, ◌≤◌, true, false, List, Option, Some, None, refl, sym, ap, ◌∙◌, arith}
+use Rattle.std.proofs.Common.{◌≡◌, ℕ, ◌+◌, ◌*◌, ◌≤◌, ◌==◌, ◌||◌, true, false, List, Option, Some, None, refl, sym, ap, ◌∙◌, arith}
 use Rattle.client_log.specs.LogState.{LogState}
 use Rattle.client_log.specs.Transition as log
-use Rattle.node_logs.specs.client_log_tie.ClientEvents.{NeverServes}
+use Rattle.node_logs.specs.client_log_tie.ClientEvents.{NeverHasLog, NeverServes, has_log}
 use Rattle.group_map.specs.GroupMapState.{GroupMapState}
 use Rattle.log_flight.specs.Flights.{FlightState}
 use Rattle.log_law.specs.Events.{Happens, Runs}
@@ -10,7 +10,7 @@ use Rattle.log_law.specs.Events.Happens.{Acts, Bars, Crashes, Drops, Hears, List
 use Rattle.log_law.specs.Events.Runs.{Begun, On}
 use Rattle.log_law.specs.Net.{Net, Owner, Told, after_flight, after_told, chain_in}
 use Rattle.log_law.specs.Net.Owner.{Down, Opening, Serving, Writing}
-use Rattle.log_law.specs.Restarts.{EndsRestart, IsSureRun, in_span, is_serving, is_writing, spans}
+use Rattle.log_law.specs.Restarts.{EndsRestart, IsSureRun, is_serving, is_writing}
 use Rattle.log_law.specs.Tails.{then_on}
 use Rattle.log_scan.specs.ScanState.{ScanState}
 use Rattle.log_scan.specs.Transition as scan
@@ -19,7 +19,7 @@ use Rattle.segment_format.specs.declared.segment.Segment.{Segment}
 use Rattle.xfs_base.proofs.Booleans.{contrary}
 
 -- how far an owner is in its boot
-abbrev stage_of : Owner → ℕ
+abbrev pub stage_of : Owner → ℕ
 stage_of (Opening s) = 0
 stage_of (Writing chain s) = 1
 stage_of (Serving s) = 2
@@ -70,13 +70,13 @@ run_rises g n o (On {m = m} run happens) = (let a = run_rises g n m run in let b
 
 -- ---- where a restart ends
 
-stage_writing : (x : Owner) → is_writing x ≡ true → stage_of x ≡ 1
+pub stage_writing : (x : Owner) → is_writing x ≡ true → stage_of x ≡ 1
 stage_writing Down fact = contrary fact
 stage_writing (Opening s) fact = contrary fact
 stage_writing (Writing chain s) fact = refl
 stage_writing (Serving s) fact = contrary fact
 
-stage_serving : (x : Owner) → is_serving x ≡ true → stage_of x ≡ 2
+pub stage_serving : (x : Owner) → is_serving x ≡ true → stage_of x ≡ 2
 stage_serving Down fact = contrary fact
 stage_serving (Opening s) fact = contrary fact
 stage_serving (Writing chain s) fact = contrary fact
@@ -116,44 +116,51 @@ pub none_ends_away : (g : Setting) (n o : Net) (runs : Runs g n o) → NeverServ
 none_ends_away g n o Begun never = tt
 none_ends_away g n o (On {m = m} run happens) never = (none_ends_away g n m run never.1, λ ends. contrary (sym never.0 ∙ ends.1))
 
--- ---- what is in the span of a restart
-
--- one that serves is in none
-pub no_span : (g : Setting) (a n : Net) (run : Runs g a n) → is_serving n.owner ≡ true → in_span run ≡ true → ⊥
-no_span g a n Begun serves spanning = contrary spanning
-no_span g a n (On run happens) serves spanning = contrary (sym (ended n.owner (in_span run) serves) ∙ spanning)
-  where
-    ended : (x : Owner) (t : Bool) → is_serving x ≡ true → spans x t ≡ false
-    ended Down t fact = contrary fact
-    ended (Opening s) t fact = contrary fact
-    ended (Writing chain s) t fact = contrary fact
-    ended (Serving s) t fact = refl
-
--- since it served last its owner has begun another boot
-pub span_rises : (g : Setting) (a n o : Net) (run : Runs g a n) (more : Runs g n o) → is_serving n.owner ≡ true → in_span (then_on run more) ≡ true
-    → n.inc < o.inc
-span_rises g a n o run Begun serves spanning = absurd (no_span g a n run serves spanning)
-span_rises g a n o run (On {m = m} more happens) serves spanning =
-    by o.owner refl spanning (λ before. span_rises g a n m run more serves before)
-  where
-    first : stage_of n.owner ≡ 2
-    first = stage_serving n.owner serves
-
-    through : progress n ≤ progress o
-    through = run_rises g n o (On more happens)
-
-    last : progress m ≤ progress o
-    last = rises g m o happens
-
-    by : (x : Owner) → o.owner ≡ x → spans x (in_span (then_on run more)) ≡ true → (in_span (then_on run more) ≡ true → n.inc < m.inc) → n.inc < o.inc
-    by Down fact t before = (let a_ = before t in let b = ap stage_of fact in let c = last in omega arith)
-    by (Opening s) fact t before = (let a_ = ap stage_of fact in let b = first in let c = through in omega arith)
-    by (Writing chain s) fact t before = (let a_ = ap stage_of fact in let b = first in let c = through in omega arith)
-    by (Serving s) fact t before = contrary t
-
 -- a boot ends no earlier than it begins
 pub boot_rises : (g : Setting) (n o : Net) → Runs g n o → n.inc ≤ o.inc
 boot_rises g n o runs = (let a = run_rises g n o runs in let b = last_stage o.owner in omega arith)
+
+-- ---- an owner that is at the end where it was at the start was there all the way
+
+serves_at_stage : (x : Owner) → is_serving x ≡ (stage_of x == 2)
+serves_at_stage (Opening s) = refl
+serves_at_stage (Writing chain s) = refl
+serves_at_stage (Serving s) = refl
+serves_at_stage Down = refl
+
+has_log_at_stage : (x : Owner) → has_log x ≡ ((stage_of x == 1) || (stage_of x == 2))
+has_log_at_stage (Opening s) = refl
+has_log_at_stage (Writing chain s) = refl
+has_log_at_stage (Serving s) = refl
+has_log_at_stage Down = refl
+
+same_stage : (n o : Net) → progress n ≤ progress o → progress o ≤ progress n → stage_of o.owner ≡ stage_of n.owner
+same_stage n o up down = by n.inc o.inc (stage_of n.owner) (stage_of o.owner) (last_stage n.owner) (last_stage o.owner) up down
+  where
+    by : (i j a b : ℕ) → a ≤ 3 → b ≤ 3 → 4 * i + a ≤ 4 * j + b → 4 * j + b ≤ 4 * i + a → b ≡ a
+    by i j a b first last up down = omega arith
+
+pub never_serves_there : (g : Setting) (n o : Net) (runs : Runs g n o) → progress o ≤ progress n → is_serving n.owner ≡ false → NeverServes runs
+never_serves_there g n o Begun still none = tt
+never_serves_there g n o (On {m = m} run happens) still none =
+    let a = run_rises g n m run in
+    let b = rises g m o happens in (
+      serves_at_stage o.owner ∙ (ap (λ k. k == 2) (same_stage n o (omega arith) still) ∙ (sym (serves_at_stage n.owner) ∙ none)),
+      never_serves_there g n m run (omega arith) none,
+    )
+
+pub never_has_log_there : (g : Setting) (n o : Net) (runs : Runs g n o) → progress o ≤ progress n → has_log n.owner ≡ false → NeverHasLog runs
+never_has_log_there g n o Begun still none = tt
+never_has_log_there g n o (On {m = m} run happens) still none =
+    let a = run_rises g n m run in
+    let b = rises g m o happens in (
+      has_log_at_stage o.owner ∙ (ap (λ k. (k == 1) || (k == 2)) (same_stage n o (omega arith) still) ∙ (sym (has_log_at_stage n.owner) ∙ none)),
+      never_has_log_there g n m run (omega arith) none,
+    )
+
+-- its owner is the same, in the same boot
+pub left_there : (n o : Net) → o.inc ≡ n.inc → o.owner ≡ n.owner → progress o ≤ progress n
+left_there n o inc owner = (let a = inc in let b = ap stage_of owner in omega arith)
 
 -- ---- sure runs
 

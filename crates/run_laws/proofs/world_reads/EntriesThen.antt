@@ -88,7 +88,7 @@ use Rattle.xfs_base.specs.declared.segment.LogId.{LogId}
 use Rattle.xfs_base.specs.declared.segment.SegName.{SegName}
 use Rattle.xfs_base.proofs.Booleans.{equal_itself}
 use Rattle.xfs_base.specs.Limits.{slot_count}
-use Rattle.xfs_base.specs.Logs.{cleaner_log, cleaners_number}
+use Rattle.xfs_base.specs.Logs.{cleaners_number}
 
 -- the laws of the crates below on which it stands
 pub record EntryLaws : Type 0 where

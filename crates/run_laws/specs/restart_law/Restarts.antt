@@ -1,5 +1,5 @@
 -- When a restart of the owner of a log, a client or the cleaner, is doubtful, in the words of a run of the nodes (the 1996 paper, on recovery).
-use Rattle.std.specs.Prelude.{◌≡◌, ◌⊎◌, ◌<◌, ◌≤◌, ◌+◌, ◌-◌, ℕ, suc, true, Option, Some, None, IfSome, is_some, length}
+use Rattle.std.specs.Prelude.{◌≡◌, ◌⊎◌, ◌<◌, ◌≤◌, ◌+◌, ◌-◌, ℕ, suc, Bool, true, false, Option, Some, None, IfSome, is_some, length}
 use Rattle.cleaner_node.specs.CleanerEvents.{lasting_of as cleaners_lasting}
 use Rattle.cleaner_node.specs.declared.cleaner.Phase as cleaners
 use Rattle.cleaner_node.specs.declared.cleaner.Phase.TheVariants as cleaning
@@ -53,6 +53,29 @@ boot_in (Some (any.Manager node)) = 0
 boot_in (Some (any.Server node)) = 0
 boot_in (Some (any.Cleaner node)) = (cleaners_lasting node.phase).inc
 boot_in (Some (any.Registry node)) = 0
+
+-- one that opens its log writes its opening segment: it sent it to each member of a group, and waits for their answers
+abbrev pub is_settling : opening.Stage → Bool
+is_settling (stage.Scanning s) = false
+is_settling (stage.Settling s) = true
+
+abbrev pub client_writes : clients.Phase → Bool
+client_writes (phase.Down l) = false
+client_writes (phase.Opening l o) = is_settling o.stage
+client_writes (phase.Serving s) = false
+
+abbrev pub cleaner_writes : cleaners.Phase → Bool
+cleaner_writes (cleaning.Down l) = false
+cleaner_writes (cleaning.Opening l o) = is_settling o.stage
+cleaner_writes (cleaning.Serving e) = false
+
+abbrev pub writes_in : Option AnyNode → Bool
+writes_in None = false
+writes_in (Some (any.Client node)) = client_writes node.phase
+writes_in (Some (any.Manager node)) = false
+writes_in (Some (any.Server node)) = false
+writes_in (Some (any.Cleaner node)) = cleaner_writes node.phase
+writes_in (Some (any.Registry node)) = false
 
 -- Down to which number a log is read back, once it is picked where that goes on: a scan reads down to the horizon that it took last; where the opening segment
 -- is in flight, the chain before it is read.
@@ -110,6 +133,10 @@ module _ (e : Estate AnyNode) where
   abbrev pub boot_at : Role → ℕ → ℕ
   boot_at r count = boot_in (node_named (moment e count) (owner_by r))
 
+  -- whether an owner writes its opening segment at a moment of the run
+  abbrev pub writes_at : Role → ℕ → Bool
+  writes_at r count = writes_in (node_named (moment e count) (owner_by r))
+
   -- down to which number an owner reads its log back at a moment of the run, where it has picked where that goes on
   abbrev pub low_at : Role → ℕ → Option ℕ
   low_at r count = low_in (node_named (moment e count) (owner_by r))
@@ -125,17 +152,23 @@ module _ (e : Estate AnyNode) where
     pub covers : low ≤ seq
 
   -- At a moment from one on and before another, while no server was told to delete the segment, a server lacked its fragment, or it lost its disk in the event
-  -- there; and by the end of this event the owner had begun a boot since the first of the two moments.
+  -- there; and by the end of this event the owner had begun a boot in which, since the first of the two moments and up to the second, it wrote its opening
+  -- segment, or a later boot.
   pub record LackedBetween (r : Role) (from to : ℕ) (name : SegName) (v : ℕ) : Type 0 where
     pub when : ℕ
     pub since : from ≤ when
     pub before : when < to
-    pub begun : boot_at r from < boot_at r (suc when)
+    pub wrote : ℕ
+    pub after : from ≤ wrote
+    pub within : wrote ≤ to
+    pub writes : writes_at r wrote ≡ true
+    pub begun : boot_at r wrote ≤ boot_at r (suc when)
     pub kept : NotDeleted (moment e when) name
     pub lacked : Lacks (shelf_at (moment e when) v) name ⊎ LostDisk (shelf_at (moment e when) v) (shelf_at (moment e (suc when)) v)
 
   -- A doubtful restart, which ends in the event at this count: each member of the newest segment of the log, unless that is below the low by which the opening
-  -- picked its chain, lacked its fragment at some moment since the owner began to open the log, after it served last, with the attempts that a fall cut short.
+  -- picked its chain, lacked its fragment at some moment of its span. That is from where it began on; where attempts since the owner served last were cut short
+  -- by a fall once they had written their opening segments, it is from where the first of these began.
   pub record DoubtfulRestart (r : Role) (count : ℕ) : Type 0 where
     -- the owner served last at this moment, and serves again after the event
     pub last : ℕ
