@@ -1,0 +1,2 @@
+pub mod client_walk
+pub mod manager_walk

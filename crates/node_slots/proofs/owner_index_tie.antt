@@ -9,10 +9,9 @@ pub mod OpeningLog
 pub mod Openings
 pub mod Running
 pub mod Caching
-pub mod ServingTokens
+pub mod ServingWalk
 pub mod ServingLog
-pub mod ServingCalls
-pub mod ServingHears
+pub mod Polling
 pub mod ServingPackets
 pub mod ClientPhases
 pub mod Start

@@ -3,21 +3,13 @@ pub mod Rising
 pub mod ClientTokens
 pub mod ClientReads
 mod Feeds
-mod LogTurns
-mod ServingTokens
-mod ServingLog
-mod ServingCalls
-mod ServingPackets
+mod ServingWalk
 pub mod Openings
 pub mod ClientPhases
 pub mod Rows
 pub mod Slots
-mod Taking
-mod SlotPhases
-mod Tables
 mod LogParts
-mod Checkpointing
-mod ManagerServing
+mod ManagerWalk
 pub mod Managers
 pub mod CleanerChecks
 pub mod CleanerMoves

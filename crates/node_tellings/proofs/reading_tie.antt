@@ -1,8 +1,7 @@
 pub mod Readings
 pub mod Arriving
 pub mod Taking
-mod ClientReadings
-mod ClientServing
+mod ServingWalk
 mod Openings
 pub mod Clients
 pub mod Cleaners

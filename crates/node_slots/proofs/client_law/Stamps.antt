@@ -5,7 +5,6 @@ use Rattle.client_log.specs.declared.input.In as log_in
 use Rattle.client_log.specs.declared.input.In.TheVariants as log_ins
 use Rattle.client_node.specs.declared.client.Client.{Client}
 use Rattle.client_node.specs.declared.phase.Phase.TheVariants.{Serving as Serves}
-use Rattle.client_node.specs.Phases.{takes}
 use Rattle.client_node.specs.Starting.{first_client}
 use Rattle.client_running.specs.Blocks.{changes, wrote}
 use Rattle.client_serving.specs.declared.serving.Serving.{Serving}

@@ -53,7 +53,9 @@ use Rattle.node_slots.proofs.owner_index_tie.Frames as frames
 use Rattle.node_slots.proofs.owner_index_tie.OpeningLog as log
 use Rattle.node_slots.proofs.owner_index_tie.Openings as events
 use Rattle.node_slots.proofs.owner_index_tie.Running.{texts_after, others_after, runs_after}
-use Rattle.node_slots.proofs.owner_index_tie.ServingCalls as calls
+use Rattle.node_slots.proofs.owner_index_tie.ServingWalk as owned
+use Rattle.node_moves.proofs.client_walk.Calls as calls
+use Rattle.node_moves.proofs.client_walk.Readings as readings
 use Rattle.node_slots.proofs.owner_index_tie.ServingPackets as serving
 use Rattle.node_slots.proofs.owner_index_tie.Standing.{Stands, pushes_all_plain}
 
@@ -137,8 +139,9 @@ module _ (New : Filed → Segment → Type 0) (part : ℕ) (texts : Texts) (n : 
   begins_so f s number (Some x) h =
       let t : Serving = record s { lasting = record s.lasting { items = waiting s.lasting.items number } } in
       let d : Done = goes_on t x in
-      let p = calls.goes_on_so part n c since some limit f t x h in
-      let q = calls.runs_so part n c since some limit f d.state p.stands in
+      let its = owned.walk part n c since some limit f in
+      let p = owned.quiet part n c since some limit f d (calls.goes_on_so its t x (readings.going_any (λ r. Unit {0}) (λ r. tt) x) h) in
+      let q = owned.quiet part n c since some limit f (runs d.state) (calls.runs_so its d.state p.stands) in
       quiet f (Serves (runs d.state).state) (d.outs ++ (runs d.state).outs) q.stands
       (all_append (frames.Plain part n c since f) d.outs (runs d.state).outs p.plain q.plain)
 

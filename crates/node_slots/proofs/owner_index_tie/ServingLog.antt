@@ -1,83 +1,71 @@
 -- What a client that serves does once its log takes an input: it files nothing, or what was in flight first.
-use Rattle.std.proofs.Common.{⊎_elim, ◌≡◌, ◌≤◌, ◌<◌, ℕ, suc, ◌&&◌, Bool, List, [], ◌∷◌, Option, Some, None, sym, ap, subst, ◌∙◌}
+use Rattle.std.proofs.Common.{⊎_elim, ◌≡◌, ◌≤◌, ◌<◌, ℕ, suc, Bool, List, ◌∷◌, sym, ap, subst, ◌∙◌}
 use Rattle.std.specs.List.{AllByRecursion, list_any}
 use Rattle.client_log.specs.declared.input.In.{In as Input}
-use Rattle.client_log.specs.declared.input.In.TheVariants as log_in
 use Rattle.client_log.specs.declared.output.Out.{Out}
-use Rattle.client_log.specs.declared.output.Out.TheVariants.{Send, Settled}
+use Rattle.client_log.specs.declared.output.Out.TheVariants.{Settled}
 use Rattle.client_log.specs.Transition as log
 use Rattle.client_log.specs.Transition.{end_from}
 use Rattle.client_serving.specs.declared.serving.Serving.{Serving}
-use Rattle.client_serving.specs.Flights.{held_at, gives_up, gives_if_clean, feeds, settled_rows, settles, writes_one, seals_again, writes}
-use Rattle.client_serving.specs.Follow.{seals}
+use Rattle.client_serving.specs.Flights.{gives_if_clean, feeds, settled_rows, settles, writes_one, seals_again, writes}
 use Rattle.client_serving.specs.Lasting.{log_of}
-use Rattle.client_serving.specs.Sends.{Done, gives}
+use Rattle.client_serving.specs.Sends.{Done}
 use Rattle.delta_feed.specs.Transition as feeding
 use Rattle.index_tie.specs.Filed.{Filed}
 use Rattle.index_tie.specs.Net.{Net}
 use Rattle.log_owner.specs.Sealing.{is_settling}
-use Rattle.log_owner.specs.Sending.{store, name_of, pushes_all}
+use Rattle.log_owner.specs.Sending.{name_of, pushes_all}
+use Rattle.node_moves.proofs.client_walk.Flights as logs
+use Rattle.node_moves.proofs.client_walk.Frames as walk
+use Rattle.node_moves.proofs.client_walk.Laws.{Walk}
+use Rattle.node_moves.proofs.client_walk.LogTurns as turns
+use Rattle.node_base.specs.declared.effects.Effect.{Effect}
 use Rattle.node_slots.specs.node_index_tie.Pages.{FlightIsText}
 use Rattle.node_slots.specs.node_index_tie.Sight.{Texts}
-use Rattle.node_slots.proofs.node_index_tie.Flights.{IsSend}
 use Rattle.segment_format.specs.Rows.{rows_of}
 use Rattle.segment_format.specs.declared.segment.Segment.{Segment}
-use Rattle.token_client.specs.declared.held.Giving.{Giving}
-use Rattle.token_client.specs.Held.{is_dirty}
-use Rattle.token_client.specs.Settling.{is_giving}
 use Rattle.token_client.specs.State.{dirty_in}
 use Rattle.version_model.specs.declared.act.Act.TheVariants.{Filed as ActsFiled}
-use Rattle.xfs_base.proofs.Booleans.{by_test}
 use Rattle.xfs_base.specs.declared.block.BlockId.{BlockId}
-use Rattle.xfs_base.specs.declared.entry.Entry.{Entry}
 use Rattle.xfs_base.specs.declared.segment.LogId.{LogId}
 use Rattle.xfs_base.specs.declared.segment.SegName.{SegName}
-use Rattle.xfs_base.specs.Steps.{still, saying, steps}
+use Rattle.xfs_base.specs.Steps.{saying, steps}
 use Rattle.xfs_base.specs.Limits.{block_logs}
 use Rattle.node_slots.specs.owner_index_tie.Filing.{with_name, OwedAct}
 use Rattle.node_slots.specs.owner_index_tie.Owners.{LogNext}
 use Rattle.node_slots.proofs.owner_index_tie.Caching as cache
 use Rattle.node_slots.proofs.owner_index_tie.Frames as frames
 use Rattle.node_slots.proofs.owner_index_tie.Growing.{filed_stands}
-use Rattle.node_slots.proofs.owner_index_tie.ServingTokens as tokens
+use Rattle.node_slots.proofs.owner_index_tie.ServingWalk as serving
 use Rattle.node_slots.proofs.owner_index_tie.Standing.{Stands, rested, pushes_all_plain}
-use Rattle.node_slots.proofs.owner_index_tie.Turns.{Rests, Lands, Turns, Stays, put_stays, tick_stays, log_turns}
+use Rattle.node_slots.proofs.owner_index_tie.Turns.{Rests, Lands, Turns, Stays, log_turns}
 
 -- ---- what files nothing
 
 module _ (part : ℕ) (n : Net) (l since : ℕ) (some : 0 < l) (limit : l ≤ block_logs) (f : Filed) where
   abbrev At : Serving → Type 0
-  At s = tokens.At part n l since some limit f s
+  At s = serving.At part n l since some limit f s
 
   abbrev Goes : Done → Type 0
-  Goes d = tokens.Goes part n l since some limit f d
+  Goes d = serving.Goes part n l since some limit f d
 
-  gives_up_so : (s : Serving) (block : BlockId) (giving : Option Giving) → At s → Goes (gives_up s block giving)
-  gives_up_so s block None h = tokens.still_so part n l since some limit f s h
-  gives_up_so s block (Some giving) h = tokens.takes_back_so part n l since some limit f s block giving.stamp giving.keep h
+  abbrev Plain : Effect → Type 0
+  Plain e = frames.Plain part n l since f e
 
-  gives_if_clean_so : (s : Serving) (block : BlockId) → At s → Goes (gives_if_clean s block)
-  unfolding gives_if_clean
-  gives_if_clean_so s block h =
-      by_test (λ (d : Done). Goes d) (is_dirty (held_at s block)) (still s) (gives_up s block (held_at s block).giving)
-      (λ t. tokens.still_so part n l since some limit f s h) (λ t. gives_up_so s block (held_at s block).giving h)
+  abbrev its_walk : Walk
+  its_walk = serving.walk part n l since some limit f
+
+  quiet : (d : Done) → walk.Goes Plain walk.Any At d → Goes d
+  quiet d p = serving.quiet part n l since some limit f d p
 
   pub given_up : (s : Serving) (blocks : List BlockId) → At s → Goes (steps gives_if_clean s blocks)
-  given_up s blocks h = frames.quiet_steps part n l since f At gives_if_clean gives_if_clean_so s blocks h
+  given_up s blocks h = quiet (steps gives_if_clean s blocks) (walk.goes_steps Plain walk.Any At gives_if_clean (logs.gives_if_clean_so its_walk) s blocks h)
 
-  pub sends_so : (s : Serving) (outs : List Out) → At s → AllByRecursion IsSend outs → Goes (steps writes_one s outs)
-  unfolding writes_one
-  sends_so s [] h all = tokens.still_so part n l since some limit f s h
-  sends_so s (Send fragment member ∷ outs) h all =
-      frames.quiet_on part n l since f At (gives s (store fragment member ∷ [])) (steps writes_one s outs)
-      (tokens.plain_so part n l since some limit f s (store fragment member ∷ []) h (tt, tt))
-      (λ k. sends_so s outs k all.1)
-  sends_so s (Settled end rows ∷ outs) h all = absurd all.0
+  pub sends_so : (s : Serving) (outs : List Out) → At s → AllByRecursion turns.IsSend outs → Goes (steps writes_one s outs)
+  sends_so s outs h all = quiet (steps writes_one s outs) (logs.sends_so its_walk s outs h all)
 
   pub seals_again_so : (s : Serving) (settling : Bool) → At s → Goes (seals_again s settling)
-  seals_again_so s settling h =
-      by_test (λ (d : Done). Goes d) (settling && is_giving s.tokens) (seals s) (still s) (λ t. tokens.seals_so part n l since some limit f s h)
-      (λ t. tokens.still_so part n l since some limit f s h)
+  seals_again_so s settling h = quiet (seals_again s settling) (logs.seals_again_so its_walk s settling h)
 
   -- what the log said is done
   abbrev pub said : Serving → List Out → Done
@@ -90,17 +78,6 @@ module _ (part : ℕ) (n : Net) (l since : ℕ) (some : 0 < l) (limit : l ≤ bl
       frames.quiet_on part n l since f At d (seals_again d.state (list_any is_settling r.outs))
       (sends_so t r.outs (rested part n l since f s.lasting.number s.log r.state s.feed h k.next k.rests.same) k.rests.sends)
       (λ k. seals_again_so d.state (list_any is_settling r.outs) k)
-
-  -- a version is put, and time passes
-  pub puts_so : (s : Serving) (block : BlockId) (entry : Entry) (value : Option (List ℕ)) → At s → Goes (writes s (log_in.Put block entry value))
-  unfolding writes
-  puts_so s block entry value h =
-      let i = log_in.Put block entry value in rests_so s (log.transition s.log i) h
-      (put_stays l s.log h.seen.log block (record { entry = entry; value = value }))
-
-  pub ticks_so : (s : Serving) → At s → Goes (writes s log_in.Tick)
-  unfolding writes
-  ticks_so s h = rests_so s (log.transition s.log log_in.Tick) h (tick_stays l s.log h.seen.log)
 
 -- ---- what files
 

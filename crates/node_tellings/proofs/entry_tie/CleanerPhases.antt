@@ -71,7 +71,7 @@ use Rattle.node_tellings.proofs.entry_tie.Openings as events
 use Rattle.node_tellings.proofs.entry_tie.Rising.{told_more, rows_rise}
 use Rattle.node_tellings.proofs.entry_tie.CleanerChecks.{InputTold, cleaning_so}
 use Rattle.node_tellings.proofs.entry_tie.CleanerMoves.{OutMoved, cleaning_gives}
-use Rattle.node_tellings.proofs.entry_tie.LogTurns.{IsSend, Lands, Rests, Turns, log_turns, tick_rests}
+use Rattle.node_moves.proofs.client_walk.LogTurns.{IsSend, Lands, Rests, Turns, log_turns, tick_rests}
 
 module _ (told : Told) (done : List Act) where
   -- one with its job, its feed and its log
@@ -217,11 +217,11 @@ module _ (told : Told) (done : List Act) where
         frames.goes_on told done PhaseSo (serves_on s) (serves_on (steps writes_one s.state rest))
         (settles_so e (end_from f.segment) (rows_of f.segment) h (files acts.0)) (λ k. sends_so s.state rest k all) acts
 
-    writes_from : (e : Emptying) (d : log.Done) → At (record e { log = d.state }) → FlightOwed told done cleaner_log e.log → Turns e.log.flight d
+    writes_from : (e : Emptying) (d : log.Done) → At (record e { log = d.state }) → FlightOwed told done cleaner_log e.log → Turns e.log d
         → Serves (steps writes_one (record e { log = d.state }) d.outs)
     writes_from e d h flies turns =
         let t : Emptying = record e { log = d.state } in
-        ⊎_elim (λ (rests : Rests d). sends_so t d.outs h rests)
+        ⊎_elim (λ (rests : Rests e.log.end d). sends_so t d.outs h rests.sends)
         (λ (lands : Lands e.log.flight d). subst (λ outs. Serves (steps writes_one t outs)) (sym lands.outs)
         (lands_so t lands.flight lands.rest h (flies lands.flight lands.flew) lands.sends)) turns
 
@@ -239,7 +239,7 @@ module _ (told : Told) (done : List Act) where
         (flies_so e before same as_was) (log_turns e.log i)
     writes_so e i LogTicks h =
         sends_so (record e { log = (log.on_tick e.log).state }) (log.on_tick e.log).outs
-        (record { job = h.job; feed = h.feed; log = tick_moves told e.log h.log }) (tick_rests e.log)
+        (record { job = h.job; feed = h.feed; log = tick_moves told e.log h.log }) (tick_rests e.log).sends
 
     -- ---- any event
 

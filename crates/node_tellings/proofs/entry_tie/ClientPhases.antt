@@ -50,22 +50,22 @@ use Rattle.xfs_base.proofs.Alls.{all_append, all_weaker}
 use Rattle.node_tellings.proofs.filed_tie.Frames.{all_before, all_behind}
 use Rattle.node_tellings.specs.entry_tie.ClientTells.{FetchTold, BlockTold, ReadingTold, DeltasTold, FeedTold, PhaseHolds, ClientHolds, PhaseOwed, ClientOwed, ClientStartsTold, ClientHoldsRise, ClientsTellTold}
 use Rattle.node_tellings.specs.entry_tie.Told.{Told, BodyTold, DoTold, told_by_rows, TellsTold}
-use Rattle.node_tellings.proofs.entry_tie.ClientReads.{CallTold, begun_told}
 use Rattle.node_tellings.proofs.entry_tie.Feeds.{pushes_all_say}
 use Rattle.node_tellings.proofs.entry_tie.Frames as frames
 use Rattle.node_tellings.proofs.entry_tie.Frames.{contains_all}
 use Rattle.node_tellings.proofs.entry_tie.Openings as events
 use Rattle.node_tellings.proofs.entry_tie.Rising.{told_more, rows_rise}
-use Rattle.node_tellings.proofs.entry_tie.ServingCalls as calls
-use Rattle.node_tellings.proofs.entry_tie.ServingPackets as serving
-use Rattle.node_tellings.proofs.entry_tie.ServingTokens as tokens
+use Rattle.node_tellings.proofs.entry_tie.ServingWalk as serving
+use Rattle.node_moves.proofs.client_walk.Calls as calls
+use Rattle.node_moves.proofs.client_walk.Packets as packets_go
+use Rattle.node_moves.proofs.client_walk.Readings as readings
 
 module _ (told : Told) (done : List Act) where
   -- a client that holds what is told
   abbrev PhaseSo : Phase → Type 0
   PhaseSo (Down l) = Unit {0}
   PhaseSo (Opening l o) = Unit {0}
-  PhaseSo (Serves s) = tokens.At told done s
+  PhaseSo (Serves s) = serving.At told done s
 
   abbrev Goes : Went_to → Type 0
   Goes w = frames.Goes told done PhaseSo w
@@ -130,26 +130,26 @@ module _ (told : Told) (done : List Act) where
 
   -- ---- the next item begins
 
-  serves_so : (d : Done) → tokens.Goes told done d → Goes (serves_on d)
+  serves_so : (d : Done) → serving.Goes told done d → Goes (serves_on d)
   serves_so d p acts = p acts
 
-  begins_so : (s : Serving) (number : ℕ) (going : Option Going) → CallTold told going → tokens.At told done s
-      → tokens.Goes told done (begins_call s number going)
-  begins_so s number None fact h = tokens.plain_so told done s (Answers number answer.Done ∷ []) h (tt, tt)
+  begins_so : (s : Serving) (number : ℕ) (going : Option Going) → readings.CallSo (serving.ReadingSo told done) going → serving.At told done s
+      → serving.Goes told done (begins_call s number going)
+  begins_so s number None fact h = frames.goes_plain told done (serving.At told done) s (Answers number answer.Done ∷ []) h (tt, tt)
   begins_so s number (Some x) fact h =
       let t : Serving = record s { lasting = record s.lasting { items = waiting s.lasting.items number } } in
-      serving.runs_after told done (goes_on t x) (calls.goes_on_so told done t x fact h)
+      packets_go.runs_after (serving.walk told done) (goes_on t x) (calls.goes_on_so (serving.walk told done) t x fact h)
 
-  call_begun : (s : Serving) (number : ℕ) (wanted : Option Work) → CallTold told (call_at s number wanted)
+  call_begun : (s : Serving) (number : ℕ) (wanted : Option Work) → readings.CallSo (serving.ReadingSo told done) (call_at s number wanted)
   call_begun s number None = tt
-  call_begun s number (Some w) = begun_told told w number s.lasting.number
+  call_begun s number (Some w) = readings.begun_so (serving.ReadingSo told done) w number s.lasting.number
 
-  opens_so : (s : Serving) (number : ℕ) → tokens.At told done s → tokens.Goes told done (opens s number)
+  opens_so : (s : Serving) (number : ℕ) → serving.At told done s → serving.Goes told done (opens s number)
   unfolding opens
   opens_so s number h =
-      by_test (λ (d : Done). tokens.Goes told done d) (is_some s.lasting.items.unanswered) (gives s (Answers number answer.Busy ∷ []))
+      by_test (λ (d : Done). serving.Goes told done d) (is_some s.lasting.items.unanswered) (gives s (Answers number answer.Busy ∷ []))
       (begins_call s number (call_at s number (work_at s.lasting.items number)))
-      (λ t. tokens.plain_so told done s (Answers number answer.Busy ∷ []) h (tt, tt))
+      (λ t. frames.goes_plain told done (serving.At told done) s (Answers number answer.Busy ∷ []) h (tt, tt))
       (λ t. begins_so s number (call_at s number (work_at s.lasting.items number)) (call_begun s number (work_at s.lasting.items number)) h)
 
   down_so : (servers number : ℕ) (l : Lasting) (wanted : Option Work) → Goes (down_begins servers l number (wish_of wanted))
@@ -164,7 +164,7 @@ module _ (told : Told) (done : List Act) where
   opening_so l o number (Some _) = answers_so (Opening l o) number answer.Down tt
   opening_so l o number None = answers_so (Opening l o) number answer.Down tt
 
-  serving_so : (s : Serving) (number : ℕ) (wanted : Option Work) → tokens.At told done s → Goes (serving_begins s number (wish_of wanted))
+  serving_so : (s : Serving) (number : ℕ) (wanted : Option Work) → serving.At told done s → Goes (serving_begins s number (wish_of wanted))
   serving_so s number (Some (work.Crash node)) h =
       frames.goes_after told done PhaseSo (falls s ∷ []) (crashed s.lasting number) (tt, tt) (crashes_so s.lasting number)
   serving_so s number (Some (work.Restart node)) h = answers_so (Serves s) number answer.Up h
@@ -192,7 +192,7 @@ module _ (told : Told) (done : List Act) where
       opened_on_so l capacity (opening.on_packet o l.questions packet)
       (events.packet_goes told done AnyLog any_log o l.questions packet owed (any_stage o.stage))
   on_deliver_so capacity (Serves s) packet fact h owed =
-      serves_so (serving.and_runs told done (packets.on_packet s packet)) (serving.packet_so told done s packet fact h owed)
+      serves_so (packets_go.and_runs (serving.walk told done) (packets.on_packet s packet)) (packets_go.packet_so (serving.walk told done) s packet (serving.hears told done packet.from packet.body fact) h owed)
 
   delivers_so : (peers : Peers) (capacity : ℕ) (p : Phase) (packet : Packet) → BodyTold told packet.body → PhaseSo p → PhaseOwed told done p
       → Goes (delivers peers capacity p packet)
@@ -205,7 +205,7 @@ module _ (told : Told) (done : List Act) where
   on_time_so capacity (Down l) h owed = still_so (Down l) h
   on_time_so capacity (Opening l o) h owed =
       opened_on_so l capacity (opening.on_tick o l.questions) (events.tick_goes told done AnyLog any_log o l.questions owed (any_stage o.stage))
-  on_time_so capacity (Serves s) h owed = serves_so (serving.and_runs told done (packets.on_tick s)) (serving.time_so told done s h)
+  on_time_so capacity (Serves s) h owed = serves_so (packets_go.and_runs (serving.walk told done) (packets.on_tick s)) (packets_go.time_so (serving.walk told done) s h)
 
   happens_so : (client : Client) (what : Do) → DoTold told what → PhaseSo client.phase → PhaseOwed told done client.phase → Goes (happens client what)
   happens_so client Begin fact h owed = on_begin_so client.peers.servers client.phase h
@@ -220,12 +220,12 @@ module _ (told : Told) (done : List Act) where
   stands : (p : Phase) → PhaseHolds told p → PhaseSo p
   stands (Down l) h = tt
   stands (Opening l o) h = tt
-  stands (Serves s) h = record { fetches = h.fetches; feed = h.feed; reading = h.reading }
+  stands (Serves s) h = serving.stands told done s h
 
   holds : (p : Phase) → PhaseSo p → PhaseHolds told p
   holds (Down l) h = tt
   holds (Opening l o) h = tt
-  holds (Serves s) h = record { fetches = h.fetches; feed = h.feed; reading = h.reading }
+  holds (Serves s) h = serving.holds told done s h
 
 -- ---- the law
 

@@ -3,28 +3,6 @@
 use Rattle.std.proofs.Common.{ℕ, Bool, List, [], ◌∷◌, Option, Some, None, is_some}
 use Rattle.std.specs.List.{AllByRecursion, list_any}
 use Rattle.std.specs.Map.{values_of}
-use Rattle.client_call.specs.Calls.{going_by, after_answer, may_make, file_call, call_of}
-use Rattle.client_call.specs.declared.call.Call.{Call}
-use Rattle.client_call.specs.declared.call.Going.TheVariants.{On, Ends}
-use Rattle.client_call.specs.declared.call.Going.{Going}
-use Rattle.client_call.specs.declared.call.Plan.TheVariants.{One, File}
-use Rattle.client_call.specs.declared.call.Plan.{Plan}
-use Rattle.client_call.specs.Reads.{heard, reading_in, call_with, is_fetched, kept_while}
-use Rattle.file_plan.specs.declared.block_call.BlockAnswer.{BlockAnswer}
-use Rattle.file_plan.specs.declared.block_call.Next.{Next as Planned}
-use Rattle.file_plan.specs.declared.block_call.Next.TheVariants.{Step as Steps, Reply}
-use Rattle.file_plan.specs.declared.state.PlanState.{PlanState}
-use Rattle.file_plan.specs.Plan as plans
-use Rattle.group_map.specs.GroupMapState.{GroupMapState}
-use Rattle.segment_format.specs.declared.segment.Segment.{Segment}
-use Rattle.segment_reading.specs.declared.reading.Next.TheVariants as next
-use Rattle.segment_reading.specs.declared.reading.Stage.{Stage}
-use Rattle.segment_reading.specs.declared.reading.Stage.TheVariants.{Asking, Between, Doubted, Over}
-use Rattle.segment_reading.specs.Reading.{ReadingState, Step, counts, read_as, judged, on_answer, goes_on, on_confirmed}
-use Rattle.stripe_code.specs.declared.round.RoundState.{RoundState}
-use Rattle.stripe_code.specs.declared.round.RoundState.TheVariants as rounds
-use Rattle.stripe_code.specs.declared.round.Told.{Told as Answered}
-use Rattle.stripe_code.specs.Round.{taken, state_of}
 use Rattle.token_client.specs.declared.held.Wanted.{Wanted}
 use Rattle.token_client.specs.declared.input.In.{In}
 use Rattle.token_client.specs.declared.input.In.TheVariants as input
@@ -33,9 +11,6 @@ use Rattle.token_client.specs.declared.output.Out.TheVariants as output
 use Rattle.token_client.specs.Held.{is_dirty, is_asking, must_ask, may_write, is_settled_by, may_end_fetch, may_evict}
 use Rattle.token_client.specs.State.{TokensState, held_of}
 use Rattle.token_client.specs.Transition.{Done, new_want, on_need, accepts, copy_next, on_granted, on_supplied, serves, supplies, on_forwarded, refetch, give, can_refetch, recalled_above, was_answered, recalled_again, recalled, is_promised, on_recalled, on_wrote, on_settled, on_fetched, on_evict, on_reask, on_quit, wanted_in, is_spent, repeated, ask_again, on_tick, transition}
-use Rattle.version_model.specs.declared.file_call.FileCall.{FileCall}
-use Rattle.version_model.specs.declared.work.Work.{Work}
-use Rattle.version_model.specs.declared.work.Work.TheVariants as work
 use Rattle.xfs_base.proofs.Booleans.{by_test}
 use Rattle.xfs_base.specs.declared.block.BlockId.{BlockId}
 use Rattle.xfs_base.specs.declared.entry.Entry.{Entry}
@@ -47,17 +22,18 @@ use Rattle.xfs_base.specs.Modes.{is_own}
 use Rattle.xfs_base.specs.Stamps.{is_later}
 use Rattle.xfs_base.specs.Steps.{still, saying, steps}
 use Rattle.xfs_base.proofs.Alls.{all_append, all_weaker}
-use Rattle.node_tellings.specs.entry_tie.ClientTells.{LiesTold, BlockTold, ReadingTold}
+use Rattle.node_tellings.specs.entry_tie.ClientTells.{BlockTold}
 use Rattle.node_tellings.specs.entry_tie.Told.{Told}
-use Rattle.node_tellings.proofs.entry_tie.ClientTokens.{InputTold, IsWant, asked_for, promise_wants}
+use Rattle.node_tellings.proofs.entry_tie.ClientTokens.{InputTold}
+use Rattle.node_moves.proofs.client_walk.Laws.{Tells}
+use Rattle.node_moves.proofs.client_walk.Promises.{IsWant, asked_for, promise_wants}
 
 module _ (told : Told) where
   -- ---- what the tokens say
 
   -- a block is to be read where it is told to lie
   abbrev pub OutTold : Out → Type 0
-  OutTold (output.Read block place) = LiesTold told block place
-  OutTold _ = Unit {0}
+  OutTold o = Tells (λ target. BlockTold told target.seg target.block) o
 
   abbrev AllOut : Done → Type 0
   AllOut d = AllByRecursion OutTold d.outs
@@ -181,80 +157,3 @@ module _ (told : Told) where
   tokens_say s input.Tick fact =
       by_test AllOut (list_any (λ h. is_spent h.want) (values_of s.blocks)) (still s) (steps ask_again s (wanted_in s.blocks)) (λ _. tt)
       (λ _. all_asked_again s (wanted_in s.blocks))
-
-  -- ---- a reading is of one place
-
-  -- a reading of a block that is read where it is told to lie
-  abbrev pub ReadTold : ReadingState → Type 0
-  ReadTold r = BlockTold told r.target.seg r.target.block
-
-  read_as_told : (r : ReadingState) (found : Option Segment) → ReadTold r → ReadTold (read_as r found).state
-  read_as_told r None fact = fact
-  read_as_told r (Some s) fact = fact
-
-  judged_told : (r : ReadingState) (groups : GroupMapState) (now : RoundState) → ReadTold r → ReadTold (judged r groups now).state
-  judged_told r groups (rounds.Read bytes) fact = read_as_told r _ fact
-  judged_told r groups (rounds.Short pairs) fact = fact
-  judged_told r groups rounds.Waiting fact = fact
-
-  answered_told : (r : ReadingState) (groups : GroupMapState) (ask server : ℕ) (t : Answered) → ReadTold r → ReadTold (on_answer r groups ask server t).state
-  unfolding on_answer
-  answered_told r groups ask server t fact =
-      by_test (λ (x : Step). ReadTold x.state) (counts r ask server t)
-      (judged (record r { round = taken r.round server t }) groups (state_of (taken r.round server t))) (record { state = r; next = next.Wait })
-      (λ _. judged_told (record r { round = taken r.round server t }) groups (state_of (taken r.round server t)) fact) (λ _. fact)
-
-  goes_on_told : (r : ReadingState) (ask : ℕ) (stage : Stage) → ReadTold r → ReadTold (goes_on r ask stage).state
-  goes_on_told r ask Asking fact = fact
-  goes_on_told r ask Between fact = fact
-  goes_on_told r ask Doubted fact = fact
-  goes_on_told r ask Over fact = fact
-
-  pub confirmed_told : (r : ReadingState) (ask : ℕ) → ReadTold r → ReadTold (on_confirmed r ask).state
-  unfolding on_confirmed
-  confirmed_told r ask fact = goes_on_told r ask r.stage fact
-
-  -- ---- the reading of the open call
-
-  pub call_told : (call : Option Call) (r : Option ReadingState) → ReadingTold told r → ReadingTold told (reading_in (call_with call r))
-  call_told None r fact = tt
-  call_told (Some call) r fact = fact
-
-  pub kept_told : (tokens : TokensState) (r : Option ReadingState) → ReadingTold told r → ReadingTold told (kept_while tokens r)
-  kept_told tokens None fact = tt
-  kept_told tokens (Some r) fact = by_test (ReadingTold told) (is_fetched tokens r.target.block) (Some r) None (λ _. fact) (λ _. tt)
-
-  pub heard_told : (r : Option ReadingState) (groups : Option GroupMapState) (ask server : ℕ) (t : Answered) → ReadingTold told r
-      → ReadingTold told (heard r groups ask server t).reading
-  heard_told None groups ask server t fact = tt
-  heard_told (Some r) None ask server t fact = fact
-  heard_told (Some r) (Some groups) ask server t fact = answered_told r groups ask server t fact
-
-  -- a call that goes on reads where it is told
-  abbrev pub GoingTold : Going → Type 0
-  GoingTold (On call) = ReadingTold told call.reading
-  GoingTold (Ends answer) = Unit {0}
-
-  abbrev pub CallTold : Option Going → Type 0
-  CallTold None = Unit {0}
-  CallTold (Some g) = GoingTold g
-
-  going_told : (p : PlanState) (n : Planned) → GoingTold (going_by p n)
-  going_told p (Steps step) = tt
-  going_told p (Reply answer) = tt
-
-  pub next_told : (plan : Plan) (a : BlockAnswer) → GoingTold (after_answer plan a)
-  next_told One a = tt
-  next_told (File p) a = going_told (plans.after_answer p a) (plans.next_call (plans.after_answer p a))
-
-  file_told : (call : FileCall) (number self : ℕ) → CallTold (file_call call number self)
-  file_told call number self =
-      by_test CallTold (may_make number self) _ None (λ _. going_told _ (plans.next_call (plans.start call (plans.made_by number self)))) (λ _. tt)
-
-  -- one that begins reads nothing yet
-  pub begun_told : (w : Work) (number self : ℕ) → CallTold (call_of w number self)
-  begun_told (work.Bput client block value) number self = tt
-  begun_told (work.Bget client block) number self = tt
-  begun_told (work.Sync client) number self = tt
-  begun_told (work.File client call) number self = file_told call number self
-  begun_told _ number self = tt

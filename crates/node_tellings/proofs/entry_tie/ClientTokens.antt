@@ -1,6 +1,6 @@
 -- What the tokens of a client hold of where blocks lie, at each input: a fetch begins by a grant, and is of the place that the grant tells.
 use Rattle.std.proofs.Common.{◌≡◌, ℕ, ◌&&◌, Bool, List, [], ◌∷◌, Option, Some, None, is_some, refl, sym, subst, nat_lt}
-use Rattle.std.specs.List.{AllByRecursion, list_any}
+use Rattle.std.specs.List.{list_any}
 use Rattle.std.specs.Map.{values_of}
 use Rattle.token_client.proofs.Tables.{put_each, held_of-changed}
 use Rattle.token_client.specs.declared.held.Fetch.{Fetch}
@@ -8,8 +8,6 @@ use Rattle.token_client.specs.declared.held.Held.{Held}
 use Rattle.token_client.specs.declared.held.Wanted.{Wanted}
 use Rattle.token_client.specs.declared.input.In.{In}
 use Rattle.token_client.specs.declared.input.In.TheVariants as input
-use Rattle.token_client.specs.declared.output.Out.{Out}
-use Rattle.token_client.specs.declared.output.Out.TheVariants as output
 use Rattle.token_client.specs.Held.{is_dirty, is_asking, must_ask, may_write, is_settled_by, may_end_fetch, may_evict, asked, asked_again, owned, copied, copy_granted, grant_taken, fetch_ended, written, version_settled, let_go, unasked, unfetched, promise_dropped, gives_after, put_off, given_up}
 use Rattle.token_client.specs.State.{TokensState, held_of, with_held, is_in_slot}
 use Rattle.token_client.specs.Transition.{Done, new_want, on_need, accepts, grant_next, on_granted, on_supplied, serves, supplies, on_forwarded, refetch, give, can_refetch, recalled_above, was_answered, recalled_again, recalled, is_promised, on_recalled, on_wrote, on_settled, on_fetched, on_evict, on_reask, on_quit, fetched_in, dropped_in, raised, ask_copy, may_promise, on_promise, wanted_in, is_spent, repeated, ask_again, on_tick, transition}
@@ -24,8 +22,8 @@ use Rattle.xfs_base.specs.Limits.{u32_end}
 use Rattle.xfs_base.specs.Modes.{is_own, is_held}
 use Rattle.xfs_base.specs.Stamps.{is_later}
 use Rattle.xfs_base.specs.Steps.{still, saying, steps}
-use Rattle.xfs_base.proofs.Alls.{all_append}
 use Rattle.node_tellings.specs.entry_tie.ClientTells.{FetchTold}
+use Rattle.node_moves.proofs.client_walk.Laws.{Takes}
 use Rattle.node_tellings.specs.entry_tie.Told.{Told}
 
 module _ (told : Told) where
@@ -38,8 +36,7 @@ module _ (told : Told) where
 
   -- a grant tells what is told
   abbrev pub InputTold : In → Type 0
-  InputTold (input.Granted block stamp inc req mode entry) = told block entry
-  InputTold _ = Unit {0}
+  InputTold i = Takes told i
 
   -- ---- one block
 
@@ -236,24 +233,3 @@ module _ (told : Told) where
   tokens_so s (input.Quit block) fact all = quit_so s block all
   tokens_so s (input.Promise slot epoch) fact all = promise_so s slot epoch all
   tokens_so s input.Tick fact all = tick_so s all
-
--- ---- a promise only has blocks wanted again
-
-abbrev pub IsWant : Out → Type 0
-IsWant (output.Want block req again mode) = Unit {0}
-IsWant _ = ⊥
-
-pub asked_for : (s : TokensState) (block : BlockId) (mode : Mode) → AllByRecursion IsWant (new_want s block mode).outs
-unfolding new_want
-asked_for s block mode = by_test (λ (d : Done). AllByRecursion IsWant d.outs) (nat_lt s.req u32_end) _ (still s) (λ t. (tt, tt)) (λ t. tt)
-
-all_asked : (s : TokensState) (blocks : List BlockId) → AllByRecursion IsWant (steps ask_copy s blocks).outs
-all_asked s [] = tt
-all_asked s (b ∷ bs) =
-    all_append IsWant (ask_copy s b).outs (steps ask_copy (ask_copy s b).state bs).outs (asked_for s b Copy) (all_asked (ask_copy s b).state bs)
-
-pub promise_wants : (s : TokensState) (slot epoch : ℕ) → AllByRecursion IsWant (on_promise s slot epoch).outs
-unfolding on_promise
-promise_wants s slot epoch =
-    by_test (λ (d : Done). AllByRecursion IsWant d.outs) (may_promise s slot epoch) (steps ask_copy (raised s slot epoch) (fetched_in slot s.blocks)) (still s)
-    (λ t. all_asked (raised s slot epoch) (fetched_in slot s.blocks)) (λ t. tt)

@@ -61,7 +61,7 @@ use Rattle.node_tellings.specs.entry_tie.ClientTells.{FeedTold, SegmentOwed, Sta
 use Rattle.node_tellings.specs.entry_tie.Told.{Told, RowsTold}
 use Rattle.node_tellings.proofs.entry_tie.Feeds.{opened_told}
 use Rattle.node_tellings.proofs.entry_tie.Frames as frames
-use Rattle.node_tellings.proofs.entry_tie.LogTurns.{IsSend, Rests, parts_rest}
+use Rattle.node_moves.proofs.client_walk.LogTurns.{IsSend, Rests, parts_rest}
 
 -- what an opening leaves of the log that it opens, whatever that is
 pub record KeepsLog (Keeps : LogState → Type 0) : Type 0 where
@@ -141,11 +141,11 @@ module _ (told : Told) (done : List Act) (Keeps : LogState → Type 0) (laws : K
         frames.goes_after told done ProgressHolds (written r.outs).outs (opens k t (written r.outs).state) (written_says None r.outs)
         (opens_so t (written r.outs).state owed c)
 
-    rests_so : (s : Settling) (r : log_steps.Done) → Rests r → Keeps r.state → Goes (logged k s r)
+    rests_so : (s : Settling) (r : log_steps.Done) → Rests s.log.end r → Keeps r.state → Goes (logged k s r)
     rests_so s r rests c =
         let t : Settling = record s { log = r.state } in
         frames.goes_after told done ProgressHolds (written r.outs).outs (opens k t (written r.outs).state) (written_says None r.outs)
-        (subst (λ o. Goes (opens k t o)) (sym (written_sends None r.outs rests)) (logs_still t c))
+        (subst (λ o. Goes (opens k t o)) (sym (written_sends None r.outs rests.sends)) (logs_still t c))
 
     writes_so : (s : Settling) (i : LogIn) → AllByRecursion (SegmentOwed told done) s.chain → Keeps (log_steps.transition s.log i).state → Goes (writes k s i)
     unfolding writes

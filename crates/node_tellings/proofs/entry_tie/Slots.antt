@@ -11,7 +11,7 @@ use Rattle.slot_beliefs.specs.Recalls.{applied_of, answers, noted, is_ready, rea
 use Rattle.token_manager.specs.declared.input.In.{In as Input}
 use Rattle.token_manager.specs.declared.input.In.TheVariants as input
 use Rattle.token_manager.specs.declared.output.Out.{Out}
-use Rattle.token_manager.specs.declared.output.Out.TheVariants.{Grant, Applied, Live, Dead}
+use Rattle.token_manager.specs.declared.output.Out.TheVariants.{Applied, Live, Dead}
 use Rattle.token_manager.specs.Recalls.{recall_of, sent, all_sent}
 use Rattle.token_manager.specs.SlotState.{SlotState}
 use Rattle.token_manager.specs.Transition.{Done, started, has_turns, entry_at, passers, answer, finished, finish, recalled, recall, recall_or_finish, is_dropped, on_want, given, gave_last, gave_one, gave_noted, gave_job, on_gave, finished_job, finished_at, with_deltas, apply, can_apply, apply_or_not, joins_on, told_applied, deltas_of, on_deltas, is_place, found, want_of, transition}
@@ -26,6 +26,7 @@ use Rattle.xfs_base.specs.Modes.{is_own}
 use Rattle.xfs_base.specs.Steps.{still, steps}
 use Rattle.xfs_base.proofs.Alls.{all_append}
 use Rattle.xfs_base.proofs.Leaving.{Leaves, goes_after}
+use Rattle.node_moves.proofs.manager_walk.Laws.{Given, Said}
 use Rattle.node_tellings.specs.entry_tie.Told.{Told, AllowsNothing, RowsTold}
 use Rattle.node_tellings.proofs.entry_tie.Rows.{entry_told, indexed_told}
 
@@ -35,8 +36,7 @@ module _ (told : Told) (nothing : AllowsNothing told) where
 
   -- a grant tells what is told
   abbrev pub OutTold : Out → Type 0
-  OutTold (Grant client block stamp inc req mode entry) = told block entry
-  OutTold _ = Unit {0}
+  OutTold o = Said told o
 
   abbrev Goes : Done → Type 0
   Goes d = Leaves StateHolds OutTold d
@@ -137,8 +137,7 @@ module _ (told : Told) (nothing : AllowsNothing told) where
 
   -- the rows of deltas
   abbrev pub InputTold : Input → Type 0
-  InputTold (input.Deltas log first upto rows) = RowsTold told rows
-  InputTold _ = Unit {0}
+  InputTold i = Given (λ log upto rows. RowsTold told rows) i
 
   found_on : (s : SlotState) (block : BlockId) (place : Place) → OutTold (found (entry_at s block) place)
   found_on s block place = by_test OutTold (is_place (entry_at s block).place place) (Live (entry_at s block)) Dead (λ _. tt) (λ _. tt)

@@ -1,8 +1,7 @@
 -- What bounds of the numbers of logs have to keep to, so that a manager keeps to them; and what of an event is bounded.
-use Rattle.std.proofs.Common.{◌≡◌, ℕ, zero, suc, ◌+◌, true, List, [], ◌∷◌, subst, arith}
-use Rattle.std.specs.Prelude.{Option, Some, None, IfSome, slice_get, slice_set}
+use Rattle.std.proofs.Common.{◌≡◌, ℕ, true, List, [], ◌∷◌}
+use Rattle.std.specs.Prelude.{Option, Some, None}
 use Rattle.std.specs.List.{AllByRecursion}
-use Rattle.manager_slots.specs.declared.slot_phase.SlotPhase.{SlotPhase}
 use Rattle.manager_slots.specs.SlotTable.{horizon_of}
 use Rattle.node_base.specs.Beginning.{answers_unanswered}
 use Rattle.node_base.specs.declared.effects.Effect.{Effect}
@@ -16,7 +15,7 @@ use Rattle.token_manager.specs.Transition.{joins_on}
 use Rattle.version_model.specs.declared.answer.Answer.{Answer as Answered}
 use Rattle.xfs_base.specs.declared.node.NodeId.{NodeId}
 use Rattle.xfs_base.specs.declared.segment.LogId.{LogId}
-use Rattle.node_tellings.specs.filed_tie.Bounds.{Bounds, KnownBounded, SlotBounded, SlotsBounded, BodyBounded, PacketBounded}
+use Rattle.node_tellings.specs.filed_tie.Bounds.{Bounds, KnownBounded, BodyBounded, PacketBounded}
 
 -- What is applied gives a horizon that is bounded, what a takeover knows gives what is applied, and deltas that join on to what is applied keep it bounded.
 pub record Bounding (b : Bounds) : Type 0 where
@@ -26,22 +25,6 @@ pub record Bounding (b : Bounds) : Type 0 where
   pub merges : (slot epoch : ℕ) (applied : List ℕ) (log : LogId) (first upto : ℕ) → is_followed log ≡ true
       → joins_on (applied_of applied log.0) first upto ≡ true → b.told (Some log) upto → b.applied slot epoch applied
       → b.applied slot epoch (applied_upto applied log upto)
-
--- ---- the slots of a table
-
-module _ (b : Bounds) where
-  -- the slot at a place
-  pub slot_read : (from : ℕ) (t : List SlotPhase) (place at : ℕ) → from + place ≡ at → SlotsBounded b from t → IfSome (slice_get t place) (SlotBounded b at)
-  slot_read from [] place at fact all = tt
-  slot_read from (p ∷ t) zero at fact all = subst (λ k. SlotBounded b k p) (let e : from ≡ at = omega arith in e) all.0
-  slot_read from (p ∷ t) (suc place) at fact all = slot_read (suc from) t place at (omega arith) all.1
-
-  -- it is another
-  pub slot_put : (from : ℕ) (t : List SlotPhase) (place at : ℕ) (q : SlotPhase) → from + place ≡ at → SlotBounded b at q → SlotsBounded b from t
-      → SlotsBounded b from (slice_set t place q)
-  slot_put from [] place at q fact new all = tt
-  slot_put from (p ∷ t) zero at q fact new all = (subst (λ k. SlotBounded b k q) (let e : at ≡ from = omega arith in e) new, all.1)
-  slot_put from (p ∷ t) (suc place) at q fact new all = (all.0, slot_put (suc from) t place at q (omega arith) new all.1)
 
 -- ---- what a node does
 

@@ -45,12 +45,13 @@ use Rattle.node_moves.proofs.cleaner_moves.Keeping.Put.{AllPut, BlockPut}
 use Rattle.node_moves.specs.cleaner_moves.Moves.{IsTaken, OpenedBy, came_to, noted}
 use Rattle.node_moves.specs.cleaner_moves.Moves.Given.{MovesSettled}
 use Rattle.node_moves.specs.cleaner_moves.Moves.OpenedBy.{PacketCame, TimeWent}
+use Rattle.segment_format.specs.Rows.{rows_of}
 use Rattle.node_tellings.specs.filed_tie.CleanerReach.{CleanerReachRises, CleanerStartsReaching, CleanerTellsFiled, PhaseReaches}
 use Rattle.node_tellings.specs.filed_tie.OpeningReach.{OpeningReaches}
 use Rattle.node_tellings.specs.filed_tie.Reach.{DoTells, Reach, Rises}
 use Rattle.node_tellings.proofs.filed_tie.Feeds.{acknowledged_end, pushes_all_say, renewed_end, settled_end}
 use Rattle.node_tellings.proofs.filed_tie.Frames as frames
-use Rattle.node_tellings.proofs.filed_tie.LogTurns.{IsSend, Lands, Rests, log_turns, put_rests, seal_rests}
+use Rattle.node_moves.proofs.client_walk.LogTurns.{IsSend, Lands, Rests, as_end, log_turns, put_rests, seal_rests}
 use Rattle.node_tellings.proofs.filed_tie.OpeningRises.{opening_rises}
 use Rattle.node_tellings.proofs.filed_tie.Openings as events
 use Rattle.node_tellings.proofs.filed_tie.Rising.{do_rises}
@@ -176,7 +177,8 @@ module _ (reach : Reach) where
         let d : log.Done = log.transition e.log i in
         let t : Emptying = record e { log = d.state } in
         ⊎_elim (λ (rests : Rests e.log.end d). sends_so t d.outs (rests_so e d rests h) rests.sends)
-        (λ (lands : Lands d). subst (λ outs. Serves (steps writes_one t outs)) (sym lands.outs) (lands_so e d.state lands.rows lands.rest h lands.sends))
+        (λ (lands : Lands e.log.flight d). subst (λ outs. Serves (steps writes_one t outs)) (sym (as_end e.log.flight d lands))
+        (lands_so e d.state (rows_of lands.flight.segment) lands.rest h lands.sends))
         (log_turns e.log i)
 
     -- ---- any event

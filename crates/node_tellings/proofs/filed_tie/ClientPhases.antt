@@ -44,16 +44,18 @@ use Rattle.node_tellings.proofs.filed_tie.Frames as frames
 use Rattle.node_tellings.proofs.filed_tie.OpeningRises.{opening_rises}
 use Rattle.node_tellings.proofs.filed_tie.Openings as events
 use Rattle.node_tellings.proofs.filed_tie.Rising.{do_rises}
-use Rattle.node_tellings.proofs.filed_tie.ServingCalls as calls
-use Rattle.node_tellings.proofs.filed_tie.ServingPackets as serving
-use Rattle.node_tellings.proofs.filed_tie.ServingTokens as tokens
+use Rattle.node_tellings.proofs.filed_tie.ServingWalk as serving
+use Rattle.node_moves.proofs.client_walk.Calls as calls
+use Rattle.node_moves.proofs.client_walk.Laws.{hears_so}
+use Rattle.node_moves.proofs.client_walk.Packets as packets_go
+use Rattle.node_moves.proofs.client_walk.Readings as readings
 
 module _ (reach : Reach) (c : ℕ) where
   -- a client of this number, with nothing beyond what was filed
   abbrev PhaseSo : Phase → Type 0
   PhaseSo (Down l) = l.number ≡ c
   PhaseSo (Opening l o) = (l.number ≡ c) × OpeningReaches reach c o
-  PhaseSo (Serves s) = tokens.At reach c s
+  PhaseSo (Serves s) = serving.At reach c s
 
   abbrev Goes : Went_to → Type 0
   Goes w = frames.Goes reach (AClient c) PhaseSo w
@@ -106,21 +108,22 @@ module _ (reach : Reach) (c : ℕ) where
 
   -- ---- the next item begins
 
-  serves_so : (d : Done) → tokens.Goes reach c d → Goes (serves_on d)
+  serves_so : (d : Done) → serving.Goes reach c d → Goes (serves_on d)
   serves_so d p acts = p acts
 
-  begins_so : (s : Serving) (number : ℕ) (going : Option Going) → tokens.At reach c s → tokens.Goes reach c (begins_call s number going)
-  begins_so s number None h = tokens.plain_so reach c s (Answers number answer.Done ∷ []) h (tt, tt)
+  begins_so : (s : Serving) (number : ℕ) (going : Option Going) → serving.At reach c s → serving.Goes reach c (begins_call s number going)
+  begins_so s number None h = frames.goes_plain reach (AClient c) (serving.At reach c) s (Answers number answer.Done ∷ []) h (tt, tt)
   begins_so s number (Some x) h =
       let t : Serving = record s { lasting = record s.lasting { items = waiting s.lasting.items number } } in
-      serving.runs_after reach c (goes_on t x) (calls.goes_on_so reach c t x h)
+      packets_go.runs_after (serving.walk reach c) (goes_on t x)
+      (calls.goes_on_so (serving.walk reach c) t x (readings.going_any (λ r. Unit {0}) (λ r. tt) x) h)
 
-  opens_so : (s : Serving) (number : ℕ) → tokens.At reach c s → tokens.Goes reach c (opens s number)
+  opens_so : (s : Serving) (number : ℕ) → serving.At reach c s → serving.Goes reach c (opens s number)
   unfolding opens
   opens_so s number h =
-      by_test (λ (d : Done). tokens.Goes reach c d) (is_some s.lasting.items.unanswered) (gives s (Answers number answer.Busy ∷ []))
+      by_test (λ (d : Done). serving.Goes reach c d) (is_some s.lasting.items.unanswered) (gives s (Answers number answer.Busy ∷ []))
       (begins_call s number (call_at s number (work_at s.lasting.items number)))
-      (λ t. tokens.plain_so reach c s (Answers number answer.Busy ∷ []) h (tt, tt))
+      (λ t. frames.goes_plain reach (AClient c) (serving.At reach c) s (Answers number answer.Busy ∷ []) h (tt, tt))
       (λ t. begins_so s number (call_at s number (work_at s.lasting.items number)) h)
 
   down_so : (servers number : ℕ) (l : Lasting) (wanted : Option Work) → l.number ≡ c → Goes (down_begins servers l number (wish_of wanted))
@@ -135,7 +138,7 @@ module _ (reach : Reach) (c : ℕ) where
   opening_so l o number (Some _) h = answers_so (Opening l o) number answer.Down h
   opening_so l o number None h = answers_so (Opening l o) number answer.Down h
 
-  serving_so : (s : Serving) (number : ℕ) (wanted : Option Work) → tokens.At reach c s → Goes (serving_begins s number (wish_of wanted))
+  serving_so : (s : Serving) (number : ℕ) (wanted : Option Work) → serving.At reach c s → Goes (serving_begins s number (wish_of wanted))
   serving_so s number (Some (work.Crash node)) h =
       frames.goes_after reach (AClient c) PhaseSo (falls s ∷ []) (crashed s.lasting number) (tt, tt) (crashes_so s.lasting number h.own)
   serving_so s number (Some (work.Restart node)) h = answers_so (Serves s) number answer.Up h
@@ -162,7 +165,7 @@ module _ (reach : Reach) (c : ℕ) where
   on_deliver_so capacity (Opening l o) packet shape tells h =
       opened_on_so l capacity (opening.on_packet o l.questions packet) h.0 (events.packet_goes reach (AClient c) c o l.questions packet h.1 shape tells)
   on_deliver_so capacity (Serves s) packet shape tells h =
-      serves_so (serving.and_runs reach c (packets.on_packet s packet)) (serving.packet_so reach c s packet h)
+      serves_so (packets_go.and_runs (serving.walk reach c) (packets.on_packet s packet)) (packets_go.packet_so (serving.walk reach c) s packet (hears_so (serving.walk reach c) (λ ask server t. tt) (λ groups. tt) packet.from packet.body (λ m is. tt)) h tt)
 
   delivers_so : (peers : Peers) (capacity : ℕ) (p : Phase) (packet : Packet) → BodyTells reach packet.from packet.body → PhaseSo p
       → Goes (delivers peers capacity p packet)
@@ -175,7 +178,7 @@ module _ (reach : Reach) (c : ℕ) where
   unfolding on_time
   on_time_so capacity (Down l) h = still_so (Down l) h
   on_time_so capacity (Opening l o) h = opened_on_so l capacity (opening.on_tick o l.questions) h.0 (events.tick_goes reach (AClient c) c o l.questions h.1)
-  on_time_so capacity (Serves s) h = serves_so (serving.and_runs reach c (packets.on_tick s)) (serving.time_so reach c s h)
+  on_time_so capacity (Serves s) h = serves_so (packets_go.and_runs (serving.walk reach c) (packets.on_tick s)) (packets_go.time_so (serving.walk reach c) s h)
 
   happens_so : (client : Client) (what : Do) → DoTells reach what → PhaseSo client.phase → Goes (happens client what)
   happens_so client Begin tells h = on_begin_so client.peers.servers client.phase h

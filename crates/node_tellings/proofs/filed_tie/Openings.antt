@@ -54,11 +54,13 @@ use Rattle.wire_msg.specs.declared.storage.Fenced.{Fenced}
 use Rattle.wire_msg.specs.declared.storage.Found.{Found}
 use Rattle.wire_msg.specs.declared.storage.Missing.{Missing}
 use Rattle.wire_msg.specs.declared.storage.Stored.{Stored}
+use Rattle.client_log.specs.LogState.{LogState}
+use Rattle.log_flight.specs.Flights.{FlightState}
 use Rattle.node_tellings.specs.filed_tie.OpeningReach.{AreOfLog, ScanReaches, SettlingReaches, StageReaches, OpeningReaches}
 use Rattle.node_tellings.specs.filed_tie.Reach.{Reach, BodyTells}
 use Rattle.node_tellings.proofs.filed_tie.Feeds.{opened_end}
 use Rattle.node_tellings.proofs.filed_tie.Frames as frames
-use Rattle.node_tellings.proofs.filed_tie.LogTurns.{IsSend, Rests, Lands, Turns, log_turns}
+use Rattle.node_moves.proofs.client_walk.LogTurns.{IsSend, Rests, Lands, Turns, as_end, log_turns}
 use Rattle.node_tellings.proofs.filed_tie.Scans.{ChainTells, NewsReach, InputTells, ScanKeeps, scan_keeps}
 
 -- maps in a packet of the right shape are of some slots
@@ -131,23 +133,24 @@ module _ (reach : Reach) (node : NodeId) (log : ℕ) where
     written_says before (log_out.Send fragment member ∷ outs) = (tt, written_says before outs)
     written_says before (log_out.Settled end rows ∷ outs) = written_says (Some end) outs
 
-    landed_at : (r : log_steps.Done) → Lands r → (written r.outs).state ≡ Some r.state.end
+    landed_at : (was : Option FlightState) (r : log_steps.Done) → Lands was r → (written r.outs).state ≡ Some r.state.end
     unfolding wrote_one
-    landed_at r l = subst (λ outs. (written outs).state ≡ Some r.state.end) (sym l.outs) (written_sends (Some r.state.end) l.rest l.sends)
+    landed_at was r l =
+        subst (λ outs. (written outs).state ≡ Some r.state.end) (sym (as_end was r l)) (written_sends (Some r.state.end) l.rest l.sends)
 
-    logged_so : (s : Settling) (end : End) (r : log_steps.Done) → SettlingReaches reach log s → Turns end r → Goes (logged k s r)
-    logged_so s end r h turns =
+    logged_so : (s : Settling) (was : LogState) (r : log_steps.Done) → SettlingReaches reach log s → Turns was r → Goes (logged k s r)
+    logged_so s was r h turns =
         let then_is : Settling = record s { log = r.state } in
         let g : SettlingReaches reach log then_is = record { low = h.low; chain = h.chain } in
         frames.goes_after reach node ProgressReaches (written r.outs).outs (opens k then_is (written r.outs).state) (written_says None r.outs)
         (⊎_elim
-        (λ (rests : Rests end r). subst (λ o. Goes (opens k then_is o)) (sym (written_sends None r.outs rests.sends))
+        (λ (rests : Rests was.end r). subst (λ o. Goes (opens k then_is o)) (sym (written_sends None r.outs rests.sends))
         (frames.goes_still reach node ProgressReaches (at_log k then_is) (at_log_so then_is g)))
-        (λ (lands : Lands r). subst (λ o. Goes (opens k then_is o)) (sym (landed_at r lands)) (opened_so then_is g)) turns)
+        (λ (lands : Lands was.flight r). subst (λ o. Goes (opens k then_is o)) (sym (landed_at was.flight r lands)) (opened_so then_is g)) turns)
 
     writes_so : (s : Settling) (i : LogIn) → SettlingReaches reach log s → Goes (writes k s i)
     unfolding writes
-    writes_so s i h = logged_so s s.log.end (log_steps.transition s.log i) h (log_turns s.log i)
+    writes_so s i h = logged_so s s.log (log_steps.transition s.log i) h (log_turns s.log i)
 
     -- ---- the end of the scan
 

@@ -18,6 +18,7 @@ use Rattle.xfs_base.specs.declared.segment.LogId.{LogId}
 use Rattle.xfs_base.specs.declared.token.Stamp.{Stamp}
 use Rattle.xfs_base.specs.Modes.{is_own}
 use Rattle.xfs_base.specs.Steps.{still, steps}
+use Rattle.node_moves.proofs.manager_walk.Laws.{Given}
 use Rattle.node_tellings.specs.filed_tie.Bounds.{Bounds}
 use Rattle.node_tellings.proofs.filed_tie.Bounding.{Bounding}
 
@@ -89,11 +90,7 @@ module _ (b : Bounds) (laws : Bounding b) (k : ℕ) where
 
   -- how far the deltas of an input go
   abbrev pub InputBounded : Input → Type 0
-  InputBounded (input.Want client block inc req again mode end) = Unit {0}
-  InputBounded (input.Gave client block stamp end) = Unit {0}
-  InputBounded (input.Deltas log first upto rows) = b.told (Some log) upto
-  InputBounded (input.Check block place) = Unit {0}
-  InputBounded input.Tick = Unit {0}
+  InputBounded i = Given (λ log upto rows. b.told log upto) i
 
   pub slot_goes : (s : SlotState) (given_ : Input) → InputBounded given_ → StateBounded s → StateBounded (transition s given_).state
   slot_goes s (input.Want client block inc req again mode end) told h = want_on s (want_of client block inc req again mode) end h

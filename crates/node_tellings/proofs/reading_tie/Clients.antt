@@ -32,8 +32,14 @@ use Rattle.node_tellings.specs.reading_tie.Arrivals.{BodyBrought, DoBrought, ans
 use Rattle.node_tellings.specs.reading_tie.Came.{Came, Striped, CameMore, StripedMore}
 use Rattle.node_tellings.specs.reading_tie.ClientReads.{ServesSo, PhaseHolds, ClientHolds, ClientStarts, ClientHoldsRise, ClientEventsKeep, ClientsReadWhatCame}
 use Rattle.node_tellings.proofs.reading_tie.Arriving.{do_brought, answered_more}
-use Rattle.node_tellings.proofs.reading_tie.ClientReadings.{AnyGoingSo, begun_so, heard_reads}
-use Rattle.node_tellings.proofs.reading_tie.ClientServing as serving
+use Rattle.node_tellings.proofs.reading_tie.ServingWalk as serving
+use Rattle.node_tellings.proofs.reading_tie.ServingWalk.{heard_reads}
+use Rattle.client_serving.specs.Packets as packets
+use Rattle.node_moves.proofs.client_walk.Calls as calls
+use Rattle.node_moves.proofs.client_walk.Frames as steps
+use Rattle.node_moves.proofs.client_walk.Laws.{Walk}
+use Rattle.node_moves.proofs.client_walk.Packets as packets_go
+use Rattle.node_moves.proofs.client_walk.Readings as readings
 use Rattle.node_tellings.proofs.reading_tie.Openings as maps
 use Rattle.node_tellings.proofs.reading_tie.Readings.{any_rises, maps_rise}
 
@@ -56,16 +62,24 @@ module _ (came : Came) (striped : Striped) where
 
   -- ---- the next item begins
 
-  begins_so : (s : Serving) (number : ℕ) (going : Option Going) → AnyGoingSo came striped going → ServesSo came striped s
+  abbrev its_walk : Walk
+  its_walk = serving.walk came striped
+
+  -- what goes so by the walk stands
+  gone : (d : Done) → steps.Goes steps.Any steps.Any (serving.At came striped) d → ServesSo came striped d.state
+  gone d p = serving.holds came striped d.state (steps.gone steps.Any (serving.At came striped) d p).0
+
+  begins_so : (s : Serving) (number : ℕ) (going : Option Going) → readings.CallSo (serving.Known came striped) going → ServesSo came striped s
       → ServesSo came striped (begins_call s number going).state
   begins_so s number None fact h = h
   begins_so s number (Some x) fact h =
       let t : Serving = record s { lasting = record s.lasting { items = waiting s.lasting.items number } } in
-      serving.runs_so came striped (goes_on t x).state (serving.goes_on_so came striped t x fact h)
+      gone (packets_go.and_runs its_walk (goes_on t x)) (packets_go.runs_after its_walk (goes_on t x)
+      (calls.goes_on_so its_walk t x fact (serving.stands came striped s h)))
 
-  call_begun : (s : Serving) (number : ℕ) (wanted : Option Work) → AnyGoingSo came striped (call_at s number wanted)
+  call_begun : (s : Serving) (number : ℕ) (wanted : Option Work) → readings.CallSo (serving.Known came striped) (call_at s number wanted)
   call_begun s number None = tt
-  call_begun s number (Some w) = begun_so came striped w number s.lasting.number
+  call_begun s number (Some w) = readings.begun_so (serving.Known came striped) w number s.lasting.number
 
   opens_so : (s : Serving) (number : ℕ) → ServesSo came striped s → ServesSo came striped (opens s number).state
   unfolding opens
@@ -111,7 +125,9 @@ module _ (came : Came) (striped : Striped) where
   on_deliver_so capacity (Down l) packet fact h = tt
   on_deliver_so capacity (Opening l o) packet fact h =
       opened_on_so l capacity (opening.on_packet o l.questions packet) (maps.packet_so came striped o l.questions packet fact h)
-  on_deliver_so capacity (Serves s) packet fact h = serving.packet_so came striped s packet fact h
+  on_deliver_so capacity (Serves s) packet fact h =
+      gone (packets_go.and_runs its_walk (packets.on_packet s packet))
+      (packets_go.packet_so its_walk s packet (serving.hears came striped packet.from packet.body fact) (serving.stands came striped s h) tt)
 
   delivers_so : (peers : Peers) (capacity : ℕ) (p : Phase) (packet : Packet) → BodyBrought came striped packet.from packet.body → PhaseSo p
       → Goes (delivers peers capacity p packet)
@@ -122,7 +138,8 @@ module _ (came : Came) (striped : Striped) where
   unfolding on_time
   on_time_so capacity (Down l) h = tt
   on_time_so capacity (Opening l o) h = opened_on_so l capacity (opening.on_tick o l.questions) (maps.time_so came striped o l.questions h)
-  on_time_so capacity (Serves s) h = serving.time_so came striped s h
+  on_time_so capacity (Serves s) h =
+      gone (packets_go.and_runs its_walk (packets.on_tick s)) (packets_go.time_so its_walk s (serving.stands came striped s h))
 
   happens_so : (client : Client) (what : Do) → DoBrought came striped what → PhaseSo client.phase → Goes (happens client what)
   happens_so client Begin fact h = on_begin_so client.peers.servers client.phase h

@@ -46,9 +46,11 @@ use Rattle.xfs_base.specs.declared.node.NodeId.TheVariants.{Client as AClient}
 use Rattle.xfs_base.specs.Steps.{still}
 use Rattle.xfs_base.proofs.Alls.{all_append}
 use Rattle.node_tellings.proofs.reference_tie.Reporting as frames
-use Rattle.node_tellings.proofs.reference_tie.ClientCalls as calls
-use Rattle.node_tellings.proofs.reference_tie.ClientPackets as serving
-use Rattle.node_tellings.proofs.reference_tie.ClientTokens as tokens
+use Rattle.node_tellings.proofs.reference_tie.ServingWalk as serving
+use Rattle.node_moves.proofs.client_walk.Calls as calls
+use Rattle.node_moves.proofs.client_walk.Laws.{hears_so}
+use Rattle.node_moves.proofs.client_walk.Packets as packets_go
+use Rattle.node_moves.proofs.client_walk.Readings as readings
 
 module _ (told : End) where
   abbrev PhaseSo : Phase → Type 0
@@ -72,24 +74,25 @@ module _ (told : End) where
 
   -- ---- the next item begins
 
-  serves_so : (d : Done) → tokens.Goes told d → Goes (serves_on d)
+  serves_so : (d : Done) → serving.Goes told d → Goes (serves_on d)
   serves_so d p = (tt, p.1)
 
-  begins_so : (s : Serving) (number : ℕ) (going : Option Going) → tokens.At told s → tokens.Goes told (begins_call s number going)
-  begins_so s number None h = tokens.plain_so told s (Answers number answer.Done ∷ []) h (tt, tt)
+  begins_so : (s : Serving) (number : ℕ) (going : Option Going) → serving.At told s → serving.Goes told (begins_call s number going)
+  begins_so s number None h = frames.goes_plain told (serving.At told) s (Answers number answer.Done ∷ []) h (tt, tt)
   begins_so s number (Some x) h =
       let t : Serving = record s { lasting = record s.lasting { items = waiting s.lasting.items number } } in
-      serving.runs_after told (goes_on t x) (calls.goes_on_so told t x h)
+      serving.gone told (packets_go.and_runs (serving.walk told) (goes_on t x)) (packets_go.runs_after (serving.walk told) (goes_on t x)
+      (calls.goes_on_so (serving.walk told) t x (readings.going_any (λ r. Unit {0}) (λ r. tt) x) h))
 
-  opens_so : (s : Serving) (number : ℕ) → tokens.At told s → tokens.Goes told (opens s number)
+  opens_so : (s : Serving) (number : ℕ) → serving.At told s → serving.Goes told (opens s number)
   unfolding opens
   opens_so s number h =
-      by_test (λ (d : Done). tokens.Goes told d) (is_some s.lasting.items.unanswered) (gives s (Answers number answer.Busy ∷ []))
+      by_test (λ (d : Done). serving.Goes told d) (is_some s.lasting.items.unanswered) (gives s (Answers number answer.Busy ∷ []))
       (begins_call s number (call_at s number (work_at s.lasting.items number)))
-      (λ t. tokens.plain_so told s (Answers number answer.Busy ∷ []) h (tt, tt))
+      (λ t. frames.goes_plain told (serving.At told) s (Answers number answer.Busy ∷ []) h (tt, tt))
       (λ t. begins_so s number (call_at s number (work_at s.lasting.items number)) h)
 
-  serving_so : (s : Serving) (number : ℕ) (wanted : Option Work) → tokens.At told s → Goes (serving_begins s number (wish_of wanted))
+  serving_so : (s : Serving) (number : ℕ) (wanted : Option Work) → serving.At told s → Goes (serving_begins s number (wish_of wanted))
   serving_so s number (Some (work.Crash node)) h =
       frames.goes_after told PhaseSo (falls s ∷ []) (crashed s.lasting number) (tt, tt) (crashes_so s.lasting number)
   serving_so s number (Some (work.Restart node)) h = answers_so (Serves s) number answer.Up
@@ -170,7 +173,9 @@ module _ (told : End) where
   on_deliver_so capacity (Opening l o) packet fact =
       opened_on_so l capacity o.known.owner (opening.on_packet o l.questions packet) (behaving.packet_so o l.questions packet)
   on_deliver_so capacity (Serves s) packet fact =
-      serves_so (serving.and_runs told (packets.on_packet s packet)) (serving.packet_so told s packet (fact s refl) tt)
+      serves_so (packets_go.and_runs (serving.walk told) (packets.on_packet s packet))
+      (serving.gone told (packets_go.and_runs (serving.walk told) (packets.on_packet s packet))
+      (packets_go.packet_so (serving.walk told) s packet (hears_so (serving.walk told) (λ ask server t. tt) (λ groups. tt) packet.from packet.body (λ m is. tt)) tt (fact s refl)))
 
   delivers_so : (peers : Peers) (capacity : ℕ) (p : Phase) (packet : Packet) → Ends p → Goes (delivers peers capacity p packet)
   delivers_so peers capacity p packet fact =
@@ -182,7 +187,9 @@ module _ (told : End) where
   on_time_so capacity (Down l) = still_so (Down l)
   on_time_so capacity (Opening l o) =
       opened_on_so l capacity o.known.owner (opening.on_tick o l.questions) (behaving.tick_so o l.questions)
-  on_time_so capacity (Serves s) = serves_so (serving.and_runs told (packets.on_tick s)) (serving.time_so told s tt)
+  on_time_so capacity (Serves s) =
+      serves_so (packets_go.and_runs (serving.walk told) (packets.on_tick s))
+      (serving.gone told (packets_go.and_runs (serving.walk told) (packets.on_tick s)) (packets_go.time_so (serving.walk told) s tt))
 
   happens_so : (client : Client) (what : Do) → Ends client.phase → Goes (happens client what)
   happens_so client Begin fact = on_begin_so client.peers.servers client.phase

@@ -1,10 +1,15 @@
--- What a client that serves does for the open call, its puts and seals, files nothing, and leaves it standing.
-use Rattle.std.proofs.Common.{ℕ, zero, suc, ◌+◌, ◌==◌, ◌<◌, ◌≤◌, List, [], ◌∷◌, Option, Some, None, is_none}
+-- What a client that serves does for the open call.
+use Rattle.std.proofs.Common.{refl, ℕ, zero, suc, ◌+◌, ◌==◌, List, [], ◌∷◌, Option, Some, None, is_none}
+use Rattle.std.specs.List.{AllByRecursion}
+use Rattle.client_call.specs.Blocks.{value_of}
+use Rattle.coop_cache.specs.Transition.{left, touched}
+use Rattle.client_log.specs.declared.input.In.TheVariants as log_in
 use Rattle.client_call.specs.Calls.{after_answer}
 use Rattle.client_call.specs.declared.call.Call.{Call}
 use Rattle.client_call.specs.declared.call.Going.TheVariants.{On, Ends}
 use Rattle.client_call.specs.declared.call.Going.{Going}
 use Rattle.client_call.specs.Fitting.{put_fits}
+use Rattle.client_call.specs.Reads.{reading_in}
 use Rattle.client_running.specs.Blocks.{Made, needs, got, gets, wrote, put_of, changes, held_back, changes_if_fits, puts, lets_go, changed, puts_again, puts_at, is_settled, synced_acts, syncs, makes}
 use Rattle.client_serving.specs.declared.serving.Serving.{Serving}
 use Rattle.client_serving.specs.Flights.{held_at}
@@ -14,8 +19,6 @@ use Rattle.client_serving.specs.Sends.{Done}
 use Rattle.file_plan.specs.declared.block_call.BlockAnswer.{BlockAnswer}
 use Rattle.file_plan.specs.declared.block_call.BlockCall.{BlockCall}
 use Rattle.file_plan.specs.declared.block_call.BlockCall.TheVariants.{Get, Put, PutAt, Sync}
-use Rattle.index_tie.specs.Filed.{Filed}
-use Rattle.index_tie.specs.Net.{Net}
 use Rattle.node_base.specs.Beginning.{answered, answers_unanswered}
 use Rattle.node_base.specs.declared.effects.Effect.{Effect}
 use Rattle.node_base.specs.declared.effects.Effect.TheVariants.{Does}
@@ -29,48 +32,51 @@ use Rattle.xfs_base.specs.declared.token.Mode.{Mode}
 use Rattle.xfs_base.specs.declared.token.Mode.TheVariants.{Copy, Own}
 use Rattle.xfs_base.specs.Modes.{is_nothing}
 use Rattle.xfs_base.specs.Steps.{saying}
-use Rattle.xfs_base.specs.Limits.{block_logs}
-use Rattle.node_slots.proofs.owner_index_tie.Caching as cache
-use Rattle.node_slots.proofs.owner_index_tie.Frames as frames
-use Rattle.node_slots.proofs.owner_index_tie.ServingLog as flights
-use Rattle.node_slots.proofs.owner_index_tie.ServingTokens as tokens
-use Rattle.node_slots.proofs.owner_index_tie.Standing.{Stands}
+use Rattle.node_moves.proofs.client_walk.Frames as frames
+use Rattle.node_moves.proofs.client_walk.LogTurns.{put_rests}
+use Rattle.node_moves.proofs.client_walk.Laws.{Walk, Reads}
+use Rattle.node_moves.proofs.client_walk.Readings as readings
+use Rattle.node_moves.proofs.client_walk.Flights as flights
+use Rattle.node_moves.proofs.client_walk.Tokens as serving
 
-module _ (part : ℕ) (n : Net) (l since : ℕ) (some : 0 < l) (limit : l ≤ block_logs) (f : Filed) where
+module _ (w : Walk) where
   abbrev At : Serving → Type 0
-  At s = tokens.At part n l since some limit f s
+  At s = w.Stands s
 
   abbrev Goes : Done → Type 0
-  Goes d = tokens.Goes part n l since some limit f d
+  Goes d = serving.Goes w d
 
   -- ---- calls on blocks
 
   needs_so : (s : Serving) (block : BlockId) (mode : Mode) → At s → Goes (needs s block mode).done
-  needs_so s block mode h = tokens.hands_so part n l since some limit f s (input.Need block mode) h
+  needs_so s block mode h = serving.hands_so w s (input.Need block mode) tt h
 
   gets_so : (s : Serving) (block : BlockId) → At s → Goes (gets s block).done
   unfolding gets
   gets_so s block h =
       by_test (λ (m : Made). Goes m.done) (is_nothing (held_at s block).mode) (needs s block Copy) (got s block (held_at s block))
       (λ t. needs_so s block Copy h)
-      (λ t. tokens.plain_so part n l since some limit f (got s block (held_at s block)).done.state (got s block (held_at s block)).done.outs h (tt, tt))
+      (λ t. serving.plain_so w (got s block (held_at s block)).done.state (got s block (held_at s block)).done.outs
+      (w.caches s (touched s.cache block) h) (w.has_read s.lasting.number block (held_at s block).ver (value_of (held_at s block)), tt))
 
   -- once the tokens have the write, the log takes it
   changes_so : (s : Serving) (block : BlockId) (value : Option (List ℕ)) → At s → Goes (changes s block value).done
   unfolding changes
   changes_so s block value h =
       let t : Serving = wrote s block value in
-      frames.quiet_after part n l since f At (Does (Wrote s.lasting.number block value) ∷ []) (put_of t block value) (tt, tt)
-      (flights.puts_so part n l since some limit f t block (record { ver = (held_at t block).ver; hop = 0; place = None }) value h)
+      frames.goes_after w.Says w.Acted w.Stands (Does (Wrote s.lasting.number block value) ∷ []) (put_of t block value) (w.wrote s.lasting.number block value, tt)
+      (flights.rests_so w t (log_in.Put block (record { ver = (held_at t block).ver; hop = 0; place = None }) value)
+      (w.caches (record s { tokens = (client.on_wrote s.tokens block value).state }) (left s.cache block) (w.tokens s (input.Wrote block value) tt h))
+      (put_rests t.log block (record { entry = record { ver = (held_at t block).ver; hop = 0; place = None }; value = value })))
 
   lets_go_so : (s : Serving) (block : BlockId) → At s → At (lets_go s block)
   lets_go_so s block h =
       let t : Serving = record s { tokens = (client.on_evict s.tokens block).state } in
-      by_test (λ (u : Serving). At u) (is_none (held_at s block).value) (notes_gone t block) s (λ e. cache.notes_gone_so (Stands part n l since f) t block h)
-      (λ e. h)
+      by_test (λ (u : Serving). At u) (is_none (held_at s block).value) (notes_gone t block) s
+      (λ e. serving.notes_gone_so w t block (w.tokens s (input.Evict block) tt h)) (λ e. h)
 
   held_back_so : (s : Serving) (block : BlockId) → At s → Goes (held_back s block).done
-  held_back_so s block h = tokens.still_so part n l since some limit f (lets_go s block) (lets_go_so s block h)
+  held_back_so s block h = serving.still_so w (lets_go s block) (lets_go_so s block h)
 
   changes_if_fits_so : (s : Serving) (block : BlockId) (value : Option (List ℕ)) → At s → Goes (changes_if_fits s block value).done
   unfolding changes_if_fits
@@ -90,7 +96,7 @@ module _ (part : ℕ) (n : Net) (l since : ℕ) (some : 0 < l) (limit : l ≤ bl
   puts_again_so s block ver value h =
       by_test (λ (m : Made). Goes m.done) ((held_at s block).ver == ver) (changes_if_fits s block value) (changed s block)
       (λ t. changes_if_fits_so s block value h)
-      (λ t. tokens.still_so part n l since some limit f (lets_go s block) (lets_go_so s block h))
+      (λ t. serving.still_so w (lets_go s block) (lets_go_so s block h))
 
   puts_at_so : (s : Serving) (block : BlockId) (ver : ℕ) (value : Option (List ℕ)) → At s
       → Goes (puts_at s block ver value).done
@@ -103,9 +109,9 @@ module _ (part : ℕ) (n : Net) (l since : ℕ) (some : 0 < l) (limit : l ≤ bl
   unfolding syncs
   syncs_so s h =
       let d : Done = seals s in
-      frames.quiet_gives part n l since f At d d.state (synced_acts d.state) (tokens.seals_so part n l since some limit f s h) (λ k. k)
-      (λ k. by_test (λ (es : List Effect). tokens.AllPlain part n l since some limit f es) (is_settled d.state) (Does (Synced d.state.lasting.number) ∷ []) []
-      (λ t. (tt, tt)) (λ t. tt))
+      frames.goes_and_gives w.Says w.Acted w.Stands d d.state (synced_acts d.state) (serving.seals_so w s h) (λ k. k)
+      (λ k. by_test (λ (es : List Effect). AllByRecursion w.Says es) (is_settled d.state) (Does (Synced d.state.lasting.number) ∷ []) []
+      (λ t. (w.synced d.state.lasting.number, tt)) (λ t. tt))
 
   makes_so : (s : Serving) (call : BlockCall) → At s → Goes (makes s call).done
   unfolding makes
@@ -116,31 +122,34 @@ module _ (part : ℕ) (n : Net) (l since : ℕ) (some : 0 < l) (limit : l ≤ bl
 
   -- ---- the open call
 
-  pub goes_on_so : (s : Serving) (going : Going) → At s → Goes (goes_on s going)
+  pub goes_on_so : (s : Serving) (going : Going) → readings.GoingSo w.Reading going → At s → Goes (goes_on s going)
   unfolding goes_on
-  goes_on_so s (On call) h = tokens.still_so part n l since some limit f (record s { call = Some call }) h
-  goes_on_so s (Ends answer) h =
-      tokens.plain_so part n l since some limit f (record s { lasting = record s.lasting { items = answered s.lasting.items } })
-      (answers_unanswered s.lasting.items.unanswered answer) h
-      (frames.answers_plain part n l since f s.lasting.items.unanswered answer)
+  goes_on_so s (On call) fact h = serving.still_so w (record s { call = Some call }) (w.calls s (Some call) fact h)
+  goes_on_so s (Ends answer) fact h =
+      serving.plain_so w (record s { lasting = record s.lasting { items = answered s.lasting.items } })
+      (answers_unanswered s.lasting.items.unanswered answer) (w.lasts s (record s.lasting { items = answered s.lasting.items }) refl h)
+      (serving.answers_say w s.lasting.items.unanswered answer)
 
-  answers_call_so : (s : Serving) (call : Call) (answer : Option BlockAnswer) → At s → Goes (answers_call s call answer).done
-  answers_call_so s call None h = tokens.still_so part n l since some limit f (record s { call = Some call }) h
-  answers_call_so s call (Some a) h = goes_on_so s (after_answer call.plan a) h
+  answers_call_so : (s : Serving) (call : Call) (answer : Option BlockAnswer) → Reads w.Reading call.reading → At s → Goes (answers_call s call answer).done
+  answers_call_so s call None fact h =
+      serving.still_so w (record s { call = Some call }) (w.calls s (Some call) fact h)
+  answers_call_so s call (Some a) fact h = goes_on_so s (after_answer call.plan a) (readings.next_so w.Reading call.plan a) h
 
   -- what was made is told to the call
-  ran_so : (call : Call) (made : Made) → Goes made.done → Goes (ran call made).done
-  ran_so call made p =
-      frames.quiet_on part n l since f At made.done (answers_call made.done.state call made.answer).done p
-      (λ k. answers_call_so made.done.state call made.answer k)
+  ran_so : (call : Call) (made : Made) → Reads w.Reading call.reading → Goes made.done → Goes (ran call made).done
+  ran_so call made fact p =
+      frames.goes_on w.Says w.Acted w.Stands made.done (answers_call made.done.state call made.answer).done p
+      (λ k. answers_call_so made.done.state call made.answer fact k)
 
-  runs_call_so : (s : Serving) (call : Option Call) → At s → Goes (runs_call s call).done
-  runs_call_so s None h = tokens.still_so part n l since some limit f s h
-  runs_call_so s (Some call) h = ran_so call (makes (record s { call = None }) call.step) (makes_so (record s { call = None }) call.step h)
+  runs_call_so : (s : Serving) (call : Option Call) → Reads w.Reading (reading_in call) → At s → Goes (runs_call s call).done
+  runs_call_so s None fact h = serving.still_so w s h
+  runs_call_so s (Some call) fact h =
+      ran_so call (makes (record s { call = None }) call.step) fact
+      (makes_so (record s { call = None }) call.step (w.calls s None tt h))
 
   runs_once_so : (s : Serving) → At s → Goes (runs_once s).done
   unfolding runs_once
-  runs_once_so s h = runs_call_so s s.call h
+  runs_once_so s h = runs_call_so s s.call (w.reads s h) h
 
   -- after the first turn come the others
   turns_from : (k : ℕ) (s : Serving) → ((t : Serving) → At t → Goes (runs_upto k t)) → Goes (runs_once s).done → Goes (runs_upto (suc k) s)
@@ -148,11 +157,11 @@ module _ (part : ℕ) (n : Net) (l since : ℕ) (some : 0 < l) (limit : l ≤ bl
   turns_from k s rest p =
       let r : Ran = runs_once s in
       by_test (λ (d : Done). Goes d) r.goes (saying r.done.outs (runs_upto k r.done.state)) r.done
-      (λ t. frames.quiet_on part n l since f At r.done (runs_upto k r.done.state) p (rest r.done.state)) (λ t. p)
+      (λ t. frames.goes_on w.Says w.Acted w.Stands r.done (runs_upto k r.done.state) p (rest r.done.state)) (λ t. p)
 
   runs_upto_so : (k : ℕ) (s : Serving) → At s → Goes (runs_upto k s)
   unfolding runs_upto
-  runs_upto_so zero s h = tokens.still_so part n l since some limit f s h
+  runs_upto_so zero s h = serving.still_so w s h
   runs_upto_so (suc k) s h = turns_from k s (runs_upto_so k) (runs_once_so s h)
 
   pub runs_so : (s : Serving) → At s → Goes (runs s)

@@ -1,9 +1,8 @@
--- What an input makes of a log: its end stays and it tells none, or it tells first that a segment is settled, which is its end then.
-use Rattle.std.proofs.Common.{◌≡◌, ◌⊎◌, ℕ, ◌+◌, true, false, cond, ◌&&◌, List, [], ◌∷◌, ◌++◌, Some, None, refl, sym, ap, inl, inr, nat_lt}
+-- What an input makes of a log: its end stays and it tells of none, or it tells first that the segment that was in flight is settled, which is its end then.
+use Rattle.std.proofs.Common.{◌≡◌, ◌⊎◌, ℕ, ◌+◌, true, false, cond, ◌&&◌, List, [], ◌∷◌, ◌++◌, Option, Some, None, refl, sym, ap, inl, inr, nat_lt, ◌∙◌}
 use Rattle.std.specs.Prelude.{length, drop, take}
 use Rattle.std.specs.List.{AllByRecursion}
 use Rattle.xfs_base.specs.declared.block.BlockId.{BlockId}
-use Rattle.xfs_base.specs.declared.entry.Entry.{Entry}
 use Rattle.xfs_base.specs.declared.segment.End.{End}
 use Rattle.xfs_base.specs.declared.segment.Prior.{Prior}
 use Rattle.xfs_base.specs.declared.segment.SegName.{SegName}
@@ -11,6 +10,7 @@ use Rattle.xfs_base.specs.Limits.{segment_blocks}
 use Rattle.xfs_base.specs.Steps.{still}
 use Rattle.xfs_base.proofs.Booleans.{by_test}
 use Rattle.segment_format.specs.declared.segment.Item.{Item}
+use Rattle.segment_format.specs.declared.segment.Segment.{Segment}
 use Rattle.segment_format.specs.Rows.{rows_of}
 use Rattle.group_map.specs.declared.group.Member.{Member}
 use Rattle.group_map.specs.GroupMapState.{GroupMapState}
@@ -33,20 +33,26 @@ abbrev pub IsSend : Out → Type 0
 IsSend (Send fragment member) = Unit {0}
 IsSend (Settled end rows) = ⊥
 
--- the end is this one still, and none is told
+-- the end is this one still, and only fragments are sent
 pub record Rests (end : End) (d : Done) : Type 0 where
   pub same : d.state.end ≡ end
   pub sends : AllByRecursion IsSend d.outs
 
--- the end is told first
-pub record Lands (d : Done) : Type 0 where
-  pub rows : List (BlockId × Entry)
+-- the segment that was in flight is told to be settled, first of all, and is the end
+pub record Lands (was : Option FlightState) (d : Done) : Type 0 where
+  pub flight : FlightState
+  pub flew : was ≡ Some flight
+  pub ends : d.state.end ≡ end_from flight.segment
   pub rest : List Out
-  pub outs : d.outs ≡ Settled d.state.end rows ∷ rest
+  pub outs : d.outs ≡ Settled (end_from flight.segment) (rows_of flight.segment) ∷ rest
   pub sends : AllByRecursion IsSend rest
 
-abbrev pub Turns : End → Done → Type 0
-Turns end d = Rests end d ⊎ Lands d
+-- told as the end that it is then
+pub as_end : (was : Option FlightState) (d : Done) (h : Lands was d) → d.outs ≡ Settled d.state.end (rows_of h.flight.segment) ∷ h.rest
+as_end was d h = h.outs ∙ ap (λ (e : End). Settled e (rows_of h.flight.segment) ∷ h.rest) (sym h.ends)
+
+abbrev pub Turns : LogState → Done → Type 0
+Turns was d = Rests was.end d ⊎ Lands was.flight d
 
 -- ---- sending
 
@@ -92,7 +98,7 @@ unfolding on_seal
 seal_rests s =
     by_test (Rests s.end) (is_idle s && nat_lt 0 (length s.dirty) && has_next s.end.seq) (sealed s) (still s) (λ t. sealed_rests s) (λ t. still_rests s)
 
-parts_rest : (s : LogState) (items : List Item) → Rests s.end (on_parts s items)
+pub parts_rest : (s : LogState) (items : List Item) → Rests s.end (on_parts s items)
 unfolding on_parts
 parts_rest s items =
     by_test (Rests s.end) (is_idle s && has_next s.end.seq && has_text items) (writes s items) (still s)
@@ -100,44 +106,69 @@ parts_rest s items =
 
 -- ---- a segment is settled
 
-settled_lands : (s : LogState) (f : FlightState) → Lands (settled s f)
+abbrev segment_in : FlightState → Option FlightState → Segment
+segment_in other None = other.segment
+segment_in other (Some f) = f.segment
+
+settled_lands : (s : LogState) (f : FlightState) → Lands (Some f) (settled s f)
 unfolding settled
 settled_lands s f =
     let d : Done = if_full (landed s f) in
     let r : Rests (end_from f.segment) d = if_full_rests (landed s f) in
-    record { rows = rows_of f.segment; rest = d.outs; outs = ap (λ (e : End). Settled e (rows_of f.segment) ∷ d.outs) (sym r.same); sends = r.sends }
+    record { flight = f; flew = refl; ends = r.same; rest = d.outs; outs = refl; sends = r.sends }
 
-follows_on : (s : LogState) (f : FlightState) (fate : Fate) → Turns s.end (followed s f fate)
+-- what is told of a flight does not depend on what is noted of it
+noted_lands : (f g : FlightState) (d : Done) → g.segment ≡ f.segment → Lands (Some g) d → Lands (Some f) d
+noted_lands f g d same h =
+    let is : h.flight.segment ≡ f.segment = sym (ap (λ (o : Option FlightState). segment_in g o) h.flew) ∙ same in record {
+      flight = f;
+      flew = refl;
+      ends = h.ends ∙ ap end_from is;
+      rest = h.rest;
+      outs = h.outs ∙ ap (λ (x : Segment). Settled (end_from x) (rows_of x) ∷ h.rest) is;
+      sends = h.sends;
+    }
+
+-- in flight there is this, and the end is that
+abbrev Flew : End → FlightState → Done → Type 0
+Flew end f d = Rests end d ⊎ Lands (Some f) d
+
+as_noted : (end : End) (f g : FlightState) (d : Done) → g.segment ≡ f.segment → Flew end g d → Flew end f d
+as_noted end f g d same (inl rests) = inl rests
+as_noted end f g d same (inr lands) = inr (noted_lands f g d same lands)
+
+follows_on : (s : LogState) (f : FlightState) (fate : Fate) → Flew s.end f (followed s f fate)
 unfolding restriped
 follows_on s f Restripe = inl (launched_rests s (next_attempt f.segment.name) f.segment.prior f.segment.items)
 follows_on s f Settle = inr (settled_lands s f)
 follows_on s f Wait = inl (record { same = refl; sends = tt })
 
-looks_on : (before s : LogState) (f : FlightState) → before.end ≡ s.end → Turns s.end (looked_at before s f)
+looks_on : (before s : LogState) (f : FlightState) → before.end ≡ s.end → Flew s.end f (looked_at before s f)
 unfolding looked_at
 looks_on before s f same =
-    by_test (Turns s.end) (can_follow s f (fate_of s.groups f)) (followed s f (fate_of s.groups f)) (still before) (λ t. follows_on s f (fate_of s.groups f))
+    by_test (Flew s.end f) (can_follow s f (fate_of s.groups f)) (followed s f (fate_of s.groups f)) (still before) (λ t. follows_on s f (fate_of s.groups f))
     (λ t. inl (record { same = same; sends = tt }))
 
-acked_turns : (s : LogState) (name : SegName) (index generation : ℕ) → Turns s.end (on_acked s name index generation)
+acked_turns : (s : LogState) (name : SegName) (index generation : ℕ) → Turns s (on_acked s name index generation)
 unfolding on_acked
 acked_turns s name index generation =
-    elim s.flight as (λ o. Turns s.end (elim o [ None ↦ still s | Some f ↦ cond (is_of f name index generation) (looked_at s s (noting f index)) (still s) ])) [
+    elim s.flight as (λ o. Rests s.end (elim o [ None ↦ still s | Some f ↦ cond (is_of f name index generation) (looked_at s s (noting f index)) (still s) ])
+    ⊎ Lands o (elim o [ None ↦ still s | Some f ↦ cond (is_of f name index generation) (looked_at s s (noting f index)) (still s) ])) [
       | None ↦ inl (still_rests s)
-      | Some f ↦ by_test (Turns s.end) (is_of f name index generation) (looked_at s s (noting f index)) (still s) (λ t. looks_on s s (noting f index) refl)
-          (λ t. inl (still_rests s))
+      | Some f ↦ by_test (Flew s.end f) (is_of f name index generation) (looked_at s s (noting f index)) (still s)
+          (λ t. as_noted s.end f (noting f index) (looked_at s s (noting f index)) refl (looks_on s s (noting f index) refl)) (λ t. inl (still_rests s))
     ]
 
-maps_turn : (s : LogState) (groups : GroupMapState) → Turns s.end (on_maps s groups)
+maps_turn : (s : LogState) (groups : GroupMapState) → Turns s (on_maps s groups)
 unfolding on_maps
 maps_turn s groups =
     let t : LogState = record s { groups = groups } in
-    elim s.flight as (λ o. Turns s.end (elim o [ None ↦ still t | Some f ↦ looked_at s t f ])) [
+    elim s.flight as (λ o. Rests s.end (elim o [ None ↦ still t | Some f ↦ looked_at s t f ]) ⊎ Lands o (elim o [ None ↦ still t | Some f ↦ looked_at s t f ])) [
       | None ↦ inl (record { same = refl; sends = tt })
       | Some f ↦ looks_on s t f refl
     ]
 
-tick_rests : (s : LogState) → Rests s.end (on_tick s)
+pub tick_rests : (s : LogState) → Rests s.end (on_tick s)
 unfolding on_tick
 tick_rests s =
     elim s.flight as (λ o. Rests s.end (elim o [ None ↦ still s | Some f ↦ record { state = s; outs = all_sends f } ])) [
@@ -145,7 +176,7 @@ tick_rests s =
       | Some f ↦ record { same = refl; sends = all_sent f }
     ]
 
-pub log_turns : (s : LogState) (i : Input) → Turns s.end (transition s i)
+pub log_turns : (s : LogState) (i : Input) → Turns s (transition s i)
 log_turns s (Put block entry value) = inl (put_rests s block (record { entry = entry; value = value }))
 log_turns s (Parts items) = inl (parts_rest s items)
 log_turns s Seal = inl (seal_rests s)

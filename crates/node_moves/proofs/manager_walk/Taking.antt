@@ -1,4 +1,4 @@
--- What a takeover has read is told, where each segment that an answer completes says what is told, and so is the index that it hands out.
+-- What each input makes of a takeover, and what it says: what it has read, and what it was reported, is as it should be.
 use Rattle.std.proofs.Common.{◌≡◌, ℕ, ◌+◌, ◌==◌, ◌&&◌, List, [], ◌∷◌, ◌++◌, length, refl}
 use Rattle.std.specs.Prelude.{Option, Some, None}
 use Rattle.std.specs.List.{AllByRecursion}
@@ -30,45 +30,46 @@ use Rattle.xfs_base.specs.declared.segment.SegName.{SegName}
 use Rattle.xfs_base.specs.Steps.{still}
 use Rattle.xfs_base.proofs.Alls.{all_append, all_map}
 use Rattle.xfs_base.proofs.Leaving.{Leaves}
-use Rattle.node_tellings.specs.entry_tie.ManagerTells.{TakeHolds, TakeOwed}
-use Rattle.node_tellings.specs.entry_tie.Told.{Told, RowsTold}
-use Rattle.node_tellings.proofs.entry_tie.Rows.{joined_told}
+use Rattle.node_moves.proofs.manager_walk.Laws.{Walk}
 
-module _ (told : Told) where
+module _ (w : Walk) (k : ℕ) where
   -- ---- what is said
 
-  -- the index that is handed out
-  abbrev pub OutTold : Out → Type 0
-  OutTold (Poll to) = Unit {0}
-  OutTold (Fetch server name ask) = Unit {0}
-  OutTold (Active epoch index beliefs applied) = RowsTold told index
-  OutTold (Lost name) = Unit {0}
+  abbrev pub TakeSo : TakeState → Type 0
+  TakeSo s = w.Taken k s.news s.index s.chain s.reports
+
+  -- what is handed out
+  abbrev pub OutSo : Out → Type 0
+  OutSo (Poll to) = Unit {0}
+  OutSo (Fetch server name ask) = Unit {0}
+  OutSo (Active epoch index beliefs applied) = w.Handed k epoch index applied
+  OutSo (Lost name) = Unit {0}
 
   abbrev pub Goes : Done → Type 0
-  Goes d = Leaves (TakeHolds told) OutTold d
+  Goes d = Leaves TakeSo OutSo d
 
   abbrev AllOut : List Out → Type 0
-  AllOut outs = AllByRecursion OutTold outs
+  AllOut outs = AllByRecursion OutSo outs
 
-  fetches_told : (name : SegName) (ask : ℕ) (servers : List ℕ) → AllOut (fetches name ask servers)
-  fetches_told name ask servers = all_map OutTold (λ server. Fetch server name ask) (λ server. tt) servers
+  fetches_so : (name : SegName) (ask : ℕ) (servers : List ℕ) → AllOut (fetches name ask servers)
+  fetches_so name ask servers = all_map OutSo (λ server. Fetch server name ask) (λ server. tt) servers
 
-  polls_told : (nodes : List NodeId) → AllOut (polls nodes)
-  polls_told nodes = all_map OutTold (λ node. Poll node) (λ node. tt) nodes
+  polls_so : (nodes : List NodeId) → AllOut (polls nodes)
+  polls_so nodes = all_map OutSo (λ node. Poll node) (λ node. tt) nodes
 
-  handed_told : (s : TakeState) → TakeHolds told s → AllOut (handed s)
-  handed_told s known =
-      by_test AllOut (is_index s.index) (active s s.index ∷ []) [] (λ _. (known.index, tt)) (λ _. tt)
+  handed_so : (s : TakeState) → TakeSo s → AllOut (handed s)
+  handed_so s known =
+      by_test AllOut (is_index s.index) (active s s.index ∷ []) [] (λ _. (w.hands k s known, tt)) (λ _. tt)
 
   -- ---- what is read
 
-  quiet : (s : TakeState) → TakeHolds told s → Goes (still s)
+  quiet : (s : TakeState) → TakeSo s → Goes (still s)
   quiet s known = record { state = known; outs = tt }
 
-  asks_on : (s : TakeState) (source : Source) (r : ReadingState) → TakeHolds told s → Goes (asks s source r)
-  asks_on s source r known = record { state = known; outs = fetches_told source.seg.name (s.ask + 1) (to_ask r) }
+  asks_on : (s : TakeState) (source : Source) (r : ReadingState) → TakeSo s → Goes (asks s source r)
+  asks_on s source r known = record { state = known; outs = fetches_so source.seg.name (s.ask + 1) (to_ask r) }
 
-  sought_on : (s : TakeState) (source : Source) → TakeHolds told s → Goes (sought s source)
+  sought_on : (s : TakeState) (source : Source) → TakeSo s → Goes (sought s source)
   unfolding sought
   sought_on s source known = by (group_of s.groups source.seg.group)
     where
@@ -76,15 +77,15 @@ module _ (told : Told) where
       by None = record { state = known; outs = tt }
       by (Some group) = asks_on s source (begun (target_of source) group (s.ask + 1)) known
 
-  go_on-on : (s : TakeState) → TakeHolds told s → Goes (go_on s)
+  go_on-on : (s : TakeState) → TakeSo s → Goes (go_on s)
   unfolding go_on
   go_on-on s known = by s.sources
     where
       by : (sources : List Source) → Goes (next_of sources s)
-      by [] = record { state = known; outs = handed_told s known }
+      by [] = record { state = known; outs = handed_so s known }
       by (source ∷ rest) = sought_on (record s { sources = rest }) source known
 
-  has_read-on : (s : TakeState) (source : Source) (segment : Segment) → RowsTold told (told_of s.news.slot segment) → TakeHolds told s
+  has_read-on : (s : TakeState) (source : Source) (segment : Segment) → w.Read (told_of s.news.slot segment) → TakeSo s
       → Goes (has_read s source segment)
   unfolding has_read
   has_read-on s source segment new known = by (back_from source segment)
@@ -92,11 +93,13 @@ module _ (told : Told) where
       by : (before : Option Source) → Goes (goes_on_from (record s { chain = told_of s.news.slot segment ∷ s.chain }) before)
       by None =
           go_on-on (with_chain (record s { chain = told_of s.news.slot segment ∷ s.chain }))
-          (record { index = joined_told told s.index (told_of s.news.slot segment ∷ s.chain) known.index (new, known.chain); chain = tt })
+          (w.joins k s.news s.index (told_of s.news.slot segment ∷ s.chain) s.reports
+          (w.chained k s.news s.index s.chain s.reports (told_of s.news.slot segment) new known))
       by (Some before) =
-          sought_on (record s { chain = told_of s.news.slot segment ∷ s.chain }) before (record { index = known.index; chain = (new, known.chain) })
+          sought_on (record s { chain = told_of s.news.slot segment ∷ s.chain }) before
+          (w.chained k s.news s.index s.chain s.reports (told_of s.news.slot segment) new known)
 
-  again_on : (s : TakeState) (source : Source) (r : ReadingState) → TakeHolds told s → Goes (again s source r)
+  again_on : (s : TakeState) (source : Source) (r : ReadingState) → TakeSo s → Goes (again s source r)
   unfolding again
   again_on s source r known = by (on_confirmed r (s.ask + 1)).state (on_confirmed r (s.ask + 1)).next
     where
@@ -108,7 +111,7 @@ module _ (told : Told) where
       by q (next.Read segment) = quiet (reads s source (Some q)) known
 
   judged_on : (s : TakeState) (source : Source) (r : ReadingState) (n : Next)
-      → ((segment : Segment) → segment_of n ≡ Some segment → RowsTold told (told_of s.news.slot segment)) → TakeHolds told s → Goes (judged_as s source r n)
+      → ((segment : Segment) → segment_of n ≡ Some segment → w.Read (told_of s.news.slot segment)) → TakeSo s → Goes (judged_as s source r n)
   judged_on s source r next.Again new known = again_on s source r known
   judged_on s source r (next.Read segment) new known = has_read-on s source segment (new segment refl) known
   judged_on s source r next.Wait new known = quiet (reads s source (Some r)) known
@@ -117,7 +120,7 @@ module _ (told : Told) where
 
   -- ---- the inputs
 
-  told_on : (s : TakeState) (ask server : ℕ) (t : Answered) → TakeOwed told s ask server t → TakeHolds told s → Goes (on_told s ask server t)
+  told_on : (s : TakeState) (ask server : ℕ) (t : Answered) → w.Completes s ask server t → TakeSo s → Goes (on_told s ask server t)
   unfolding on_told
   told_on s ask server t owed known =
       by_test Goes (can_ask s) (told_at (record s { present = None }) s.present ask server t) (still s) (λ _. by s.present refl) (λ _. quiet s known)
@@ -127,13 +130,13 @@ module _ (told : Told) where
       by_reading p None here fact = quiet (reads (record s { present = None }) p.source None) known
       by_reading p (Some r) here fact =
           judged_on (record s { present = None }) p.source (on_answer r s.groups ask server t).state (on_answer r s.groups ask server t).next
-          (λ segment completes. owed p r segment here fact completes) known
+          (λ segment completes. w.reads s ask server t p r segment owed here fact completes) known
 
       by : (present : Option Present) → s.present ≡ present → Goes (told_at (record s { present = None }) present ask server t)
       by None here = quiet (record s { present = None }) known
       by (Some p) here = by_reading p p.reading here refl
 
-  maps_on : (s : TakeState) (groups : GroupMapState) → TakeHolds told s → Goes (on_maps s groups)
+  maps_on : (s : TakeState) (groups : GroupMapState) → TakeSo s → Goes (on_maps s groups)
   unfolding on_maps
   maps_on s groups known = by (waiting s.present)
     where
@@ -143,41 +146,44 @@ module _ (told : Told) where
           by_test Goes (can_ask s) (sought (record s { groups = groups }) source) (still (record s { groups = groups }))
           (λ _. sought_on (record s { groups = groups }) source known) (λ _. quiet (record s { groups = groups }) known)
 
-  tick_told : (s : TakeState) → AllOut (on_tick s)
-  tick_told s = all_append OutTold (polls (awaited s)) (repeated s.present) (polls_told (awaited s)) (by s.present)
+  tick_so : (s : TakeState) → AllOut (on_tick s)
+  tick_so s = all_append OutSo (polls (awaited s)) (repeated s.present) (polls_so (awaited s)) (by s.present)
     where
       by_reading : (source : Source) (r : Option ReadingState) → AllOut (unanswered source r)
       by_reading source None = tt
-      by_reading source (Some r) = fetches_told source.seg.name r.ask (to_ask r)
+      by_reading source (Some r) = fetches_so source.seg.name r.ask (to_ask r)
 
       by : (present : Option Present) → AllOut (repeated present)
       by None = tt
       by (Some p) = by_reading p.source p.reading
 
-  reported_on : (s : TakeState) (report : Report) → TakeHolds told s → Goes (on_report s report)
+  reported_on : (s : TakeState) (report : Report) → w.Reported report.from report.end → TakeSo s → Goes (on_report s report)
   unfolding on_report
-  reported_on s report known =
+  reported_on s report told known =
       by_test Goes (can_ask s && awaits s report.from) (begun_if_all heard) (still s)
       (λ _. by_test Goes (length (awaited heard) == 0) (go_on (record heard { sources = sources_of heard.news heard.reports })) (still heard)
-      (λ _. go_on-on (record heard { sources = sources_of heard.news heard.reports }) known) (λ _. quiet heard known))
+      (λ _. go_on-on (record heard { sources = sources_of heard.news heard.reports }) more) (λ _. quiet heard more))
       (λ _. quiet s known)
     where
       heard : TakeState
       heard = record s { reports = s.reports ++ report ∷ [] }
 
+      more : TakeSo heard
+      more = w.heard k s.news s.index s.chain s.reports report told known
+
   -- ---- all inputs
 
-  -- what an answer completes says what is told
-  abbrev pub InputOwed : TakeState → Input → Type 0
-  InputOwed s (input.Report from held end) = Unit {0}
-  InputOwed s (input.Got ask server generation fragment) = TakeOwed told s ask server (Held fragment)
-  InputOwed s (input.Missing ask server generation) = TakeOwed told s ask server (answered.Missing generation)
-  InputOwed s (input.Maps groups) = Unit {0}
-  InputOwed s input.Tick = Unit {0}
+  -- what is known of an input: of a report, and of what an answer completes
+  abbrev pub InputSo : TakeState → Input → Type 0
+  InputSo s (input.Report from held end) = w.Reported from end
+  InputSo s (input.Got ask server generation fragment) = w.Completes s ask server (Held fragment)
+  InputSo s (input.Missing ask server generation) = w.Completes s ask server (answered.Missing generation)
+  InputSo s (input.Maps groups) = Unit {0}
+  InputSo s input.Tick = Unit {0}
 
-  pub take_goes : (s : TakeState) (given : Input) → InputOwed s given → TakeHolds told s → Leaves (TakeHolds told) OutTold (transition s given)
-  take_goes s (input.Report from held end) owed known = reported_on s (record { from = from; held = held; end = end }) known
+  pub take_goes : (s : TakeState) (given : Input) → InputSo s given → TakeSo s → Leaves TakeSo OutSo (transition s given)
+  take_goes s (input.Report from held end) owed known = reported_on s (record { from = from; held = held; end = end }) owed known
   take_goes s (input.Got ask server generation fragment) owed known = told_on s ask server (Held fragment) owed known
   take_goes s (input.Missing ask server generation) owed known = told_on s ask server (answered.Missing generation) owed known
   take_goes s (input.Maps groups) owed known = maps_on s groups known
-  take_goes s input.Tick owed known = record { state = known; outs = tick_told s }
+  take_goes s input.Tick owed known = record { state = known; outs = tick_so s }

@@ -1,0 +1,9 @@
+pub mod Frames
+pub mod LogTurns
+pub mod Laws
+pub mod Readings
+pub mod Promises
+pub mod Tokens
+pub mod Flights
+pub mod Calls
+pub mod Packets
