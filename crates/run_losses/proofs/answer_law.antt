@@ -1,15 +1,9 @@
 pub mod Telling
 mod Items
+mod Events
 mod Plans
-mod Following
-mod Calling
-mod Openings
-pub mod Settling
 pub mod Clients
-mod Emptying
 pub mod Cleaners
-mod Slots
-pub mod Managers
-pub mod Stores
+pub mod Others
 mod Begins
 pub mod Runs

@@ -12,6 +12,7 @@ mod Truths
 pub mod Counts
 mod Owners
 pub mod Senders
+pub mod Course
 pub mod Events
 pub mod Turns
 mod Always
@@ -20,7 +21,7 @@ mod ClientFetches
 mod ClientNumbers
 mod OpeningNumbers
 mod ClientDraws
+mod Drawing
 pub mod ClientCounts
-mod CleanerNumbers
 mod CleanerDraws
 mod CleanerCounts

@@ -1,1 +1,2 @@
 pub mod client_moves
+pub mod item_moves

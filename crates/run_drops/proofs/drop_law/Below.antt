@@ -1,19 +1,15 @@
 -- What servers were told to delete is below the least horizon of its log that the registry keeps: as the small world of the log knows, by its registry.
-use Rattle.std.proofs.Common.{◌≡◌, ℕ, Option, Some, None, ap, refl, subst, sym, ◌∙◌, arith}
-use Rattle.core_world.specs.AnyNode.{any_start, any_step}
+use Rattle.std.proofs.Common.{◌≡◌, Option, Some, None, refl, subst, arith}
 use Rattle.core_world.specs.declared.any_node.AnyNode.{AnyNode}
 use Rattle.core_world.specs.declared.any_node.AnyNode.TheVariants as any
-use Rattle.log_law.specs.Net.{Net}
 use Rattle.log_tie.specs.Exist.{SomeSetting}
 use Rattle.log_tie.specs.Setting.{Setting}
-use Rattle.node_base.specs.Setups.{IsSetup}
 use Rattle.node_logs.specs.client_log_tie.Owner.{Scene}
 use Rattle.node_logs.specs.node_log_tie.RegistryEvents.{RegistrySeen}
 use Rattle.registry.specs.BoardState.{BoardState}
 use Rattle.world_base.specs.Cluster.{cluster_of, place_of}
-use Rattle.world_base.specs.declared.estate.Estate.{Estate}
 use Rattle.run_laws.proofs.world_law.Laws.{NodeLaws, front}
-use Rattle.run_laws.specs.world_law.Owners.{moment, node_in, node_named}
+use Rattle.run_laws.specs.world_law.Owners.{moment, node_in}
 use Rattle.run_laws.specs.world_logs.Horizons.{board_of}
 use Rattle.run_laws.specs.world_logs.Lines.{RunsHaveLines, setting}
 use Rattle.run_laws.specs.world_logs.Roles.{Role}

@@ -1,9 +1,9 @@
 -- What a cleaner that serves does for its job and with its log: what it tells servers to delete is the segment in hand, which it drops with the first word.
-use Rattle.std.proofs.Common.{◌≡◌, ◌⊎◌, ◌++◌, ◌&&◌, ◌==◌, not, ℕ, Bool, true, false, List, [], ◌∷◌, Option, None, Some, inl, inr, ap, refl, sym, subst, ◌∙◌}
-use Rattle.std.specs.List.{AllByRecursion, flat_map}
+use Rattle.std.proofs.Common.{◌≡◌, ◌++◌, ◌==◌, not, ℕ, Bool, true, false, List, [], ◌∷◌, Option, None, Some, inl, inr, ap, refl, sym, subst, ◌∙◌}
+use Rattle.std.specs.List.{AllByRecursion}
 use Rattle.cleaner_job.specs.declared.hand.Hand.{Hand}
 use Rattle.cleaner_job.specs.declared.job.Job.{Job}
-use Rattle.cleaner_job.specs.Hands.{checks, checks_under, fetches, fetches_for, is_in_hand, kept_ask, taken_over, takes_in_hand, begun_hand}
+use Rattle.cleaner_job.specs.Hands.{checks, checks_under, fetches, fetches_for, is_in_hand, kept_ask, taken_over, takes_in_hand}
 use Rattle.cleaner_job.specs.Jobs.{dropped, drops, hand_checks_in, hand_moved, hand_of, is_whole, job_checks, job_moved}
 use Rattle.cleaner_job.specs.Starting.{cleaner_log}
 use Rattle.cleaner_node.specs.CleanerEvents.{serves_on}
@@ -50,10 +50,10 @@ use Rattle.xfs_base.specs.declared.node.NodeId.TheVariants.{Server}
 use Rattle.xfs_base.specs.declared.segment.End.{End}
 use Rattle.xfs_base.specs.declared.segment.SegName.{SegName}
 use Rattle.xfs_base.specs.declared.segment.SegRef.{SegRef}
-use Rattle.xfs_base.specs.Segments.{same_name, same_segment}
+use Rattle.xfs_base.specs.Segments.{same_name}
 use Rattle.xfs_base.specs.Steps.{saying, steps, still}
-use Rattle.run_drops.proofs.drop_law.Saying.{Acted, Also, EffectSaid, EffectSo, FlagSo, Goes, JobIn, JobSo, Quiet, flag_more, goes_on, quiet_goes, so_more}
-use Rattle.run_drops.proofs.drop_law.Turns.{BeginsReading, Deletes, HasOne, InputSo, IsInHand, NoOtherInHand, OutSo, PhaseSo, Reads, taken_so}
+use Rattle.run_drops.proofs.drop_law.Saying.{Acted, Also, FlagSo, Goes, JobIn, JobSo, Quiet, goes_on, quiet_goes}
+use Rattle.run_drops.proofs.drop_law.Turns.{Deletes, InputSo, IsInHand, NoOtherInHand, OutSo, PhaseSo, Reads, taken_so}
 
 -- ---- another hand, with the same segment
 

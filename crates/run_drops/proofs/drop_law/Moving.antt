@@ -1,19 +1,19 @@
 -- Whatever happens to the cleaner, what it tells servers to delete was dropped: so it is of each of its moves.
-use Rattle.std.proofs.Common.{◌≡◌, ℕ, List, [], ◌∷◌, Option, None, Some, nat_lt, refl, subst, sym}
+use Rattle.std.proofs.Common.{◌≡◌, ℕ, Option, None, Some, nat_lt, refl, subst, sym}
 use Rattle.std.specs.List.{AllByRecursion}
 use Rattle.cleaner_job.specs.declared.hand.Hand.{Hand}
 use Rattle.cleaner_job.specs.declared.job.Job.{Job}
 use Rattle.cleaner_job.specs.declared.lasting.Lasting.{Lasting}
 use Rattle.cleaner_job.specs.Hands.{confirmed_by, hand_confirmed, hand_hears, hears_by}
 use Rattle.cleaner_job.specs.Jobs.{greeted, hand_confirmed_in, hand_hears_in, hand_of, job_confirmed, job_hears, job_read, read_over}
-use Rattle.cleaner_node.specs.CleanerEvents.{Went_to, lasting_of, restarts, serves_on, takes}
+use Rattle.cleaner_node.specs.CleanerEvents.{Went_to, restarts, takes}
 use Rattle.cleaner_node.specs.declared.cleaner.Cleaner.{Cleaner}
 use Rattle.cleaner_node.specs.declared.cleaner.Phase.{Phase}
 use Rattle.cleaner_node.specs.declared.cleaner.Phase.TheVariants.{Down, Opening, Serving}
 use Rattle.cleaner_serving.specs.declared.emptying.Emptying.{Emptying}
-use Rattle.cleaner_serving.specs.EmptyingEvents.{asks_for_maps, promises, renews, writes}
-use Rattle.cleaner_serving.specs.Jobs.{cleans, confirmed, confirmed_in, told_by, told_in, with_questions}
-use Rattle.delta_feed.specs.Transition.{acknowledged, new_epoch}
+use Rattle.cleaner_serving.specs.EmptyingEvents.{promises}
+use Rattle.cleaner_serving.specs.Jobs.{confirmed, confirmed_in, told_by, told_in, with_questions}
+use Rattle.delta_feed.specs.Transition.{new_epoch}
 use Rattle.group_map.specs.GroupMapState.{GroupMapState}
 use Rattle.log_owner.proofs.Behaving as behaving
 use Rattle.log_owner.specs.Behaves.{MayAct, MayDo, MaySay}
@@ -41,14 +41,14 @@ use Rattle.wire_msg.specs.declared.packet.Do.{Do}
 use Rattle.xfs_base.proofs.Alls.{all_weaker}
 use Rattle.xfs_base.proofs.Booleans.{by_test}
 use Rattle.xfs_base.specs.declared.node.NodeId.{NodeId}
-use Rattle.node_moves.specs.cleaner_moves.Moves.{CleanerEventsAreMoves, Given, Move, Moves, OpenedBy, begun_job, came_to, left_reading, noted}
+use Rattle.node_moves.specs.cleaner_moves.Moves.{CleanerEventsAreMoves, Given, Move, Moves, OpenedBy, came_to, noted}
 use Rattle.node_moves.specs.cleaner_moves.Moves.Given.{SegmentLost, SegmentRead}
 use Rattle.node_moves.specs.cleaner_moves.Moves.Move.{NotesItems, AnswersItem, Falls, Restarts, Opens, BeginsJob, Cleans, LogTakes, TakesMaps, Promises, Reports, Acknowledges, IsGreeted, AsksForMaps, TellsDeltas, HearsServer, LeavesReading, ReadsOn, Fetches}
 use Rattle.node_moves.specs.cleaner_moves.Moves.Moves.{Last, Rests, Then}
 use Rattle.node_moves.specs.cleaner_moves.Moves.OpenedBy.{PacketCame, TimeWent}
-use Rattle.run_drops.proofs.drop_law.Jobs.{InputIn, SameHand, cleaned, hand_fetches, job_same, pushes_quiet, same_itself, written}
+use Rattle.run_drops.proofs.drop_law.Jobs.{InputIn, SameHand, cleaned, hand_fetches, job_same, pushes_quiet, written}
 use Rattle.run_drops.proofs.drop_law.Saying.{Acted, Also, Goes, JobIn, JobSo, Quiet, So, goes_on, quiet_goes}
-use Rattle.run_drops.proofs.drop_law.Turns.{HasOne, InputSo}
+use Rattle.run_drops.proofs.drop_law.Turns.{HasOne}
 
 -- ---- the hand stays that of its segment
 

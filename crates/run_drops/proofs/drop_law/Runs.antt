@@ -1,5 +1,5 @@
 -- So it is of each run: at each moment what a server has been told to delete was dropped, since the cleaner alone tells them, and what it drops it tells.
-use Rattle.std.proofs.Common.{◌≡◌, ◌⊎◌, ◌+◌, ℕ, zero, suc, List, [], ◌∷◌, ◌++◌, Option, Some, None, inl, inr, length, drop, map, slice_get, slice_set, take, ap, refl, sym, subst, ◌∙◌, arith}
+use Rattle.std.proofs.Common.{◌≡◌, ℕ, zero, suc, List, [], ◌∷◌, ◌++◌, Option, Some, None, inl, inr, length, drop, map, slice_get, slice_set, take, ap, refl, sym, subst, ◌∙◌, arith}
 use Rattle.std.proofs.Math.Seq.{drop-append_seam, drop-length}
 use Rattle.std.specs.List.{AllByRecursion, fold}
 use Rattle.cleaner_node.specs.CleanerEvents.{Went_to, takes}
@@ -39,15 +39,14 @@ use Rattle.run_laws.proofs.world_law.Turning.{next_keeps}
 use Rattle.run_laws.proofs.world_reads.Taking.{moment_next}
 use Rattle.run_laws.specs.world_law.Owners.{moment, node_in}
 use Rattle.run_laws.specs.world_law.Standing.{Scene, SentBy}
-use Rattle.run_laws.specs.world_logs.Doings.{acts_in}
 use Rattle.run_laws.specs.world_logs.Standing.{Deletes}
 use Rattle.xfs_base.proofs.Alls.{all_append, all_put, all_weaker}
 use Rattle.xfs_base.specs.declared.node.NodeId.{NodeId}
 use Rattle.xfs_base.specs.declared.node.NodeId.TheVariants.{Client, Manager, Server, Cleaner, Registry}
 use Rattle.xfs_base.specs.declared.segment.SegName.{SegName}
 use Rattle.run_drops.proofs.drop_law.Moving.{event_goes}
-use Rattle.run_drops.proofs.drop_law.Saying.{ActSaid as ActSaidIn, Acted, Also, BodySo, EffectSaid, EffectSo, Goes, IsSaid, So, body_more, in_back, in_front, so_more}
-use Rattle.run_drops.specs.drop_law.Drops.{DeletedWasDropped, DropsWhatItDeletes, DroppedIsTold, EveryRunDropsWhatItDeletes}
+use Rattle.run_drops.proofs.drop_law.Saying.{ActSaid as ActSaidIn, Acted, Also, BodySo, EffectSaid, EffectSo, IsSaid, So, body_more, in_back, in_front, so_more}
+use Rattle.run_drops.specs.drop_law.Drops.{DeletedWasDropped, DroppedIsTold, EveryRunDropsWhatItDeletes}
 
 -- ---- the moments of a run, one by one
 

@@ -1,6 +1,6 @@
 -- What each input of a job of the cleaner leaves of it, beside the segment that the cleaner has in hand: what is checked, or deleted, is in hand, nothing but it
 -- is deleted, and a further segment is fetched before it is read.
-use Rattle.std.proofs.Common.{◌≡◌, ◌⊎◌, ◌==◌, ◌&&◌, not, ℕ, Bool, List, [], ◌∷◌, Option, None, Some, inl, inr, length, map, refl, subst}
+use Rattle.std.proofs.Common.{◌≡◌, ◌⊎◌, ◌==◌, ◌&&◌, not, ℕ, Bool, List, [], ◌∷◌, Option, None, Some, inl, inr, length, map, refl}
 use Rattle.std.specs.List.{AllByRecursion, cons_option}
 use Rattle.cleaner_job.specs.declared.hand.Hand.{Hand}
 use Rattle.group_map.specs.GroupMapState.{GroupMapState}

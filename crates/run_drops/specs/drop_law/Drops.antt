@@ -1,6 +1,6 @@
 -- What servers are told to delete was dropped, and what is dropped servers are told to delete, in the words of a run of the nodes (the 1996 paper, "The Log
 -- Cleaner").
-use Rattle.std.specs.Prelude.{◌≡◌, ◌<◌, ℕ, suc, List, Some, slice_get}
+use Rattle.std.specs.Prelude.{◌≡◌, ◌<◌, ℕ, suc, Some, slice_get}
 use Rattle.core_world.specs.AnyNode.{any_start, any_step}
 use Rattle.core_world.specs.declared.any_node.AnyNode.{AnyNode}
 use Rattle.log_scan.specs.Transition.{least_horizon}

@@ -32,13 +32,13 @@ use Rattle.xfs_base.specs.declared.node.NodeId.{NodeId}
 use Rattle.xfs_base.specs.declared.node.NodeId.TheVariants as nodes
 use Rattle.xfs_base.specs.declared.segment.SegName.{SegName}
 use Rattle.xfs_base.specs.declared.setup.Setup.{Setup}
-use Rattle.run_losses.proofs.answer_law.Begins.{Within, begun_within, goes_within, later_within, nothing_within, now, taken_next}
+use Rattle.serving_moves.proofs.item_moves.Begins.{now, taken_next}
+use Rattle.run_losses.proofs.answer_law.Begins.{Within, begun_within, goes_within, later_within, nothing_within}
 use Rattle.run_losses.proofs.answer_law.Cleaners.{cleaner_turned, the_cleaner_says}
 use Rattle.run_losses.proofs.answer_law.Cleaners as cleaners
 use Rattle.run_losses.proofs.answer_law.Clients.{client_turned, clients_say}
 use Rattle.run_losses.proofs.answer_law.Clients as clients
-use Rattle.run_losses.proofs.answer_law.Managers.{managers_say_none}
-use Rattle.run_losses.proofs.answer_law.Stores.{registry_says_none, servers_say_none}
+use Rattle.run_losses.proofs.answer_law.Others.{others_say_none}
 use Rattle.run_losses.proofs.answer_law.Telling.{node_so, none_said}
 use Rattle.run_losses.specs.answer_law.Answers.{IsBegunBy, LossesAreSaid, answers_lost}
 use Rattle.run_losses.specs.answer_law.Calls.{GoesWell}
@@ -113,10 +113,10 @@ module _ (past : List Event) (event : Event) where
   -- what it says is said
   step_says : (x : AnyNode) → Stands (node_of event) (begins_of (node_of event) past) x → LossesAreSaid (any_step x (what_of event)).acts
   step_says (any.Client c) s = (clients_say c (what_of event) s.1.0).says.said
-  step_says (any.Manager m) s = none_said (any_step (any.Manager m) (what_of event)).acts (managers_say_none m (what_of event))
-  step_says (any.Server v) s = none_said (any_step (any.Server v) (what_of event)).acts (servers_say_none v (what_of event))
+  step_says (any.Manager m) s = none_said (any_step (any.Manager m) (what_of event)).acts (others_say_none.managers m (what_of event))
+  step_says (any.Server v) s = none_said (any_step (any.Server v) (what_of event)).acts (others_say_none.servers v (what_of event))
   step_says (any.Cleaner c) s = (the_cleaner_says c (what_of event)).said
-  step_says (any.Registry r) s = none_said (any_step (any.Registry r) (what_of event)).acts (registry_says_none r (what_of event))
+  step_says (any.Registry r) s = none_said (any_step (any.Registry r) (what_of event)).acts (others_say_none.registry r (what_of event))
 
   abbrev Begun : List Act → Type 0
   Begun acts = (node : NodeId) (item : ℕ) (name : SegName) → In (answers_lost node item name) acts → item ≤ begins_of node (now past event)
@@ -137,9 +137,9 @@ module _ (past : List Event) (event : Event) where
       node_so (IsBegunBy (cleaners.items_in c.phase) what) nodes.Cleaner (cleaning.takes c.peers c.phase what).outs t.told node item name fact ∙ s.0 in
       subst (λ n. item ≤ begins_of n (now past event)) (sym me)
       (begun_within past event (cleaning.lasting_of c.phase).items s.1 item ((the_cleaner_says c what).begun node item name fact))
-  step_begun (any.Manager m) s node item name fact = absurd (managers_say_none m (what_of event) node item name fact)
-  step_begun (any.Server v) s node item name fact = absurd (servers_say_none v (what_of event) node item name fact)
-  step_begun (any.Registry r) s node item name fact = absurd (registry_says_none r (what_of event) node item name fact)
+  step_begun (any.Manager m) s node item name fact = absurd (others_say_none.managers m (what_of event) node item name fact)
+  step_begun (any.Server v) s node item name fact = absurd (others_say_none.servers v (what_of event) node item name fact)
+  step_begun (any.Registry r) s node item name fact = absurd (others_say_none.registry r (what_of event) node item name fact)
 
   -- all stand so then
   module _ (w : World AnyNode) (all : AllStand w.cluster past w.nodes) where

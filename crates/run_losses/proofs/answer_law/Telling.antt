@@ -1,12 +1,6 @@
 -- What a list of effects answers: that a segment is lost only of an item that had begun, and behind the word that it is lost.
 use Rattle.std.proofs.Common.{◌≡◌, ◌⊎◌, ℕ, List, [], ◌∷◌, ◌++◌, Option, Some, None, inl, inr, refl, sym, ap, subst, ◌∙◌}
 use Rattle.std.specs.List.{AllByRecursion}
-use Rattle.delta_feed.specs.declared.output.Out.{Out as RangeOut}
-use Rattle.delta_feed.specs.declared.output.Out.TheVariants.{Range}
-use Rattle.delta_feed.specs.FeedState.{FeedState}
-use Rattle.delta_feed.specs.Transition.{pushed, ticked}
-use Rattle.log_owner.specs.declared.promised.Managers.{Managers}
-use Rattle.log_owner.specs.Sending.{pushes, pushes_all, range}
 use Rattle.node_base.specs.Beginning.{answers_unanswered}
 use Rattle.node_base.specs.declared.effects.Effect.{Effect}
 use Rattle.node_base.specs.declared.effects.Effect.TheVariants.{Send, Answer as Answers, Lose, Does}
@@ -18,35 +12,18 @@ use Rattle.version_model.specs.declared.answer.Answer.{Answer}
 use Rattle.version_model.specs.declared.answer.Answer.TheVariants as answer
 use Rattle.xfs_base.specs.declared.node.NodeId.{NodeId}
 use Rattle.xfs_base.specs.declared.segment.SegName.{SegName}
-use Rattle.xfs_base.specs.Steps.{Stepped, steps}
-use Rattle.xfs_base.proofs.Alls.{all_append, all_map}
+use Rattle.serving_moves.proofs.item_moves.Keeping.{in_behind}
+use Rattle.serving_moves.specs.item_moves.Moves.{IsSilent}
 use Rattle.run_losses.specs.answer_law.Answers.{LossesAreSaid, NoneIsLost, answers_lost}
 use Rattle.run_losses.specs.answer_law.Calls.{NotLost}
 
--- ---- lists
-
-pub all_steps : {S O A : Type 0} (step : S → A → Stepped S O) (P : O → Type 0) → ((s : S) (x : A) → AllByRecursion P (step s x).outs)
-    → (s : S) (xs : List A) → AllByRecursion P (steps step s xs).outs
-all_steps step P each s [] = tt
-all_steps step P each s (x ∷ xs) = all_append P (step s x).outs (steps step (step s x).state xs).outs (each s x) (all_steps step P each (step s x).state xs)
-
-pub in_behind : {X : Type 0} (x : X) (xs ys : List X) → In x ys → In x (xs ++ ys)
-in_behind x [] ys fact = fact
-in_behind x (y ∷ xs) ys fact = inr (in_behind x xs ys fact)
-
 -- ---- effects that answer no item so
-
--- an act that answers no item, nor says that a segment is lost
-abbrev pub NoAnswer : Act → Type 0
-NoAnswer (act.Answered node item a) = ⊥
-NoAnswer (act.Lost node name) = ⊥
-NoAnswer _ = Unit {0}
 
 abbrev pub IsPlain : Effect → Type 0
 IsPlain (Send to said) = Unit {0}
 IsPlain (Answers item a) = NotLost a
 IsPlain (Lose name) = Unit {0}
-IsPlain (Does a) = NoAnswer a
+IsPlain (Does a) = IsSilent a
 
 abbrev pub AllPlain : List Effect → Type 0
 AllPlain outs = AllByRecursion IsPlain outs
@@ -54,79 +31,6 @@ AllPlain outs = AllByRecursion IsPlain outs
 pub answers_plain : (item : Option ℕ) (a : Answer) → NotLost a → AllPlain (answers_unanswered item a)
 answers_plain None a plain = tt
 answers_plain (Some number) a plain = (plain, tt)
-
-range_plain : (managers : Managers) (x : RangeOut) → IsPlain (range managers x)
-range_plain managers (Range slot first upto rows) = tt
-
-pub pushed_plain : (managers : Managers) (feed : FeedState) (slot : ℕ) → AllPlain (pushes managers feed slot)
-pushed_plain managers feed slot = all_map IsPlain (range managers) (range_plain managers) (pushed feed slot)
-
-pub all_pushed_plain : (managers : Managers) (feed : FeedState) → AllPlain (pushes_all managers feed)
-all_pushed_plain managers feed = all_map IsPlain (range managers) (range_plain managers) (ticked feed)
-
--- ---- effects that say of no segment that it is lost
-
-abbrev pub IsNoLoss : Effect → Type 0
-IsNoLoss (Lose name) = ⊥
-IsNoLoss _ = Unit {0}
-
-abbrev pub NoLosses : List Effect → Type 0
-NoLosses outs = AllByRecursion IsNoLoss outs
-
-pub answers_no_loss : (item : Option ℕ) (a : Answer) → NoLosses (answers_unanswered item a)
-answers_no_loss None a = tt
-answers_no_loss (Some number) a = (tt, tt)
-
-range_no_loss : (managers : Managers) (x : RangeOut) → IsNoLoss (range managers x)
-range_no_loss managers (Range slot first upto rows) = tt
-
-pub pushed_no_loss : (managers : Managers) (feed : FeedState) → NoLosses (pushes_all managers feed)
-pushed_no_loss managers feed = all_map IsNoLoss (range managers) (range_no_loss managers) (ticked feed)
-
-pub none_among : (outs : List Effect) (name : SegName) → NoLosses outs → In (Lose name) outs → ⊥
-none_among [] name none fact = fact
-none_among (Send to b ∷ outs) name none (inl e) = absurd cc
-none_among (Send to b ∷ outs) name none (inr fact) = none_among outs name none.1 fact
-none_among (Answers item a ∷ outs) name none (inl e) = absurd cc
-none_among (Answers item a ∷ outs) name none (inr fact) = none_among outs name none.1 fact
-none_among (Lose seg ∷ outs) name none fact = absurd none.0
-none_among (Does a ∷ outs) name none (inl e) = absurd cc
-none_among (Does a ∷ outs) name none (inr fact) = none_among outs name none.1 fact
-
--- ---- effects that answer no item so, and say of no segment that it is lost
-
-abbrev pub IsQuiet : Effect → Type 0
-IsQuiet (Send to said) = Unit {0}
-IsQuiet (Answers item a) = NotLost a
-IsQuiet (Lose name) = ⊥
-IsQuiet (Does a) = NoAnswer a
-
-abbrev pub AllQuiet : List Effect → Type 0
-AllQuiet outs = AllByRecursion IsQuiet outs
-
-pub answers_quiet : (item : Option ℕ) (a : Answer) → NotLost a → AllQuiet (answers_unanswered item a)
-answers_quiet None a quiet = tt
-answers_quiet (Some number) a quiet = (quiet, tt)
-
-range_quiet : (managers : Managers) (x : RangeOut) → IsQuiet (range managers x)
-range_quiet managers (Range slot first upto rows) = tt
-
-pub all_pushed_quiet : (managers : Managers) (feed : FeedState) → AllQuiet (pushes_all managers feed)
-all_pushed_quiet managers feed = all_map IsQuiet (range managers) (range_quiet managers) (ticked feed)
-
-pub quiet_plain : (outs : List Effect) → AllQuiet outs → AllPlain outs
-quiet_plain [] all = tt
-quiet_plain (Send to b ∷ outs) all = (tt, quiet_plain outs all.1)
-quiet_plain (Answers item a ∷ outs) all = (all.0, quiet_plain outs all.1)
-quiet_plain (Lose name ∷ outs) all = absurd all.0
-quiet_plain (Does a ∷ outs) all = (all.0, quiet_plain outs all.1)
-
-pub quiet_no_loss : (outs : List Effect) → AllQuiet outs → NoLosses outs
-quiet_no_loss [] all = tt
-quiet_no_loss (Send to b ∷ outs) all = (tt, quiet_no_loss outs all.1)
-quiet_no_loss (Answers item a ∷ outs) all = (tt, quiet_no_loss outs all.1)
-quiet_no_loss (Lose name ∷ outs) all = absurd all.0
-quiet_no_loss (Does a ∷ outs) all = (tt, quiet_no_loss outs all.1)
 
 -- ---- effects that answer so of these items alone
 
@@ -141,7 +45,7 @@ module _ (I : ℕ → Type 0) where
   Told said (Send to b ∷ outs) = Told said outs
   Told said (Answers item a ∷ outs) = Fits said item a × Told said outs
   Told said (Lose name ∷ outs) = Told (name ∷ said) outs
-  Told said (Does a ∷ outs) = NoAnswer a × Told said outs
+  Told said (Does a ∷ outs) = IsSilent a × Told said outs
 
   abbrev Within : List SegName → List SegName → Type 0
   Within said more = (name : SegName) → In name said → In name more
@@ -246,7 +150,7 @@ module _ (I : ℕ → Type 0) (me node : NodeId) (item : ℕ) (name : SegName) w
       record { is_me = cc; its = subst I number_is f.0; lost = inl (subst (λ n. In n said) (sym same) f.1) }
   fitting said number _ f e = absurd cc
 
-  no_answer : (a : Act) → NoAnswer a → a ≡ answers_lost node item name → ⊥
+  no_answer : (a : Act) → IsSilent a → a ≡ answers_lost node item name → ⊥
   no_answer (act.Answered owner number x) none e = none
   no_answer _ none e = cc
 
@@ -338,13 +242,8 @@ module _ (I : ℕ → Type 0) (me node : NodeId) (name : SegName) where
   says_lost said (Answers item a ∷ outs) t (inr fact) = behind_it (Answers item a) outs (says_lost said outs t.1 fact)
   says_lost said (Lose seg ∷ outs) t (inl e) = here seg outs e
   says_lost said (Lose seg ∷ outs) t (inr fact) = behind_it (Lose seg) outs (says_lost (seg ∷ said) outs t fact)
-  says_lost said (Does a ∷ outs) t (inl e) = absurd (subst NoAnswer (sym e) t.0)
+  says_lost said (Does a ∷ outs) t (inl e) = absurd (subst IsSilent (sym e) t.0)
   says_lost said (Does a ∷ outs) t (inr fact) = behind_it (Does a) outs (says_lost said outs t.1 fact)
-
--- so it does where it answers no item so
-pub plain_says : (me node : NodeId) (name : SegName) (outs : List Effect) → AllPlain outs → In (act.Lost node name) (acts_of me outs)
-    → SaysLost (λ number. ⊥) me node name outs
-plain_says me node name outs plain fact = says_lost (λ number. ⊥) me node name [] outs (told_plain (λ number. ⊥) [] outs plain) fact
 
 -- what answers no item so answers none
 pub none_lost : (me : NodeId) (outs : List Effect) → AllPlain outs → NoneIsLost (acts_of me outs)

@@ -1,5 +1,5 @@
 -- What is known of a client at each count of every run: of the maps of groups that it has, and of what its open call reads.
-use Rattle.std.proofs.Common.{◌≡◌, ◌⊎◌, ⊎_elim, ℕ, zero, suc, ◌+◌, ◌≤◌, false, true, List, [], ◌++◌, Option, Some, None, is_none, is_some, map, slice_get, slice_set, refl, sym, ap, subst, ◌∙◌, inl, inr, append-nil}
+use Rattle.std.proofs.Common.{◌≡◌, ◌⊎◌, ℕ, suc, ◌+◌, ◌≤◌, false, true, List, ◌++◌, Option, Some, None, is_none, is_some, map, slice_get, refl, sym, ap, subst, ◌∙◌, inl, inr}
 use Rattle.xfs_base.proofs.Booleans.{contrary}
 use Rattle.xfs_base.specs.Blocks.{slot_of}
 use Rattle.xfs_base.specs.declared.block.BlockId.{BlockId}
@@ -19,22 +19,13 @@ use Rattle.group_map.specs.Groups.{started}
 use Rattle.log_law.specs.Net.Packet.{MapSent}
 use Rattle.log_protocol.specs.Tables as tables
 use Rattle.log_tie.specs.Setting.{Setting, stripe_of_group}
-use Rattle.run_losses.specs.missing_law.Missed.{Answers, FetchesDrawn, last_at, last_in}
-use Rattle.run_losses.proofs.missing_law.Readings.{AsksOf}
 use Rattle.node_base.specs.declared.effects.Effect.{Effect}
 use Rattle.node_base.specs.Effects.{packets_of}
-use Rattle.node_logs.proofs.node_log_tie.Others.{same_or_other}
 use Rattle.node_logs.specs.node_log_tie.Sight.{BodySeen}
 use Rattle.node_slots.proofs.node_tie.StoreFrames.{packets_do}
 use Rattle.segment_reading.specs.Reading.{ReadingState}
 use Rattle.token_client.specs.State.{TokensState, epoch_of}
 use Rattle.token_protocol.specs.Basics.{In}
-use Rattle.run_losses.proofs.torn_law.ClientCounts.{fetches_drawn, last_rises}
-use Rattle.run_losses.proofs.torn_law.Counts.{Still, TurnAt, cluster_at, happened_so, may_happen, moment_ended, moment_next}
-use Rattle.run_losses.proofs.torn_law.Drawn.{last_of}
-use Rattle.run_losses.proofs.torn_law.Events.{base_at}
-use Rattle.run_losses.proofs.torn_law.Senders.{IsFrom, sends_as}
-use Rattle.run_losses.proofs.torn_law.Turns.{brought}
 use Rattle.wire_msg.specs.declared.body.Body.{Body}
 use Rattle.wire_msg.specs.declared.body.Body.TheVariants as body
 use Rattle.wire_msg.specs.declared.packet.Do.{Do}
@@ -46,12 +37,10 @@ use Rattle.world_base.specs.Cluster.{cluster_of, place_of}
 use Rattle.world_base.specs.declared.cluster.Cluster.{Cluster}
 use Rattle.world_base.specs.declared.estate.Estate.{Estate}
 use Rattle.world_base.specs.declared.event.Event.{Event}
-use Rattle.world_base.specs.declared.world.World.{World}
 use Rattle.world_base.specs.Events.{node_of, what_of}
 use Rattle.world_base.specs.Items.{items_of}
-use Rattle.world_base.specs.NextWorld.{first_nodes, sent_at, start_world}
+use Rattle.world_base.specs.NextWorld.{sent_at, start_world}
 use Rattle.world_base.specs.Runs.{IsRun}
-use Rattle.run_laws.proofs.world_law.Nodes.{here, there}
 use Rattle.run_laws.proofs.world_law.Sent.{at_clock}
 use Rattle.run_laws.proofs.world_law.Start.{first_stands}
 use Rattle.run_laws.specs.world_law.Owners.{moment, node_in, node_named, tokens_at, tokens_in, tokens_of}
@@ -64,11 +53,20 @@ use Rattle.run_laws.specs.world_logs.Shelves.{group_at, group_in, groups_of}
 use Rattle.run_laws.specs.world_logs.Standing.{ClientThere}
 use Rattle.xfs_base.specs.declared.node.NodeId.{NodeId}
 use Rattle.xfs_base.specs.declared.node.NodeId.TheVariants as nodes
+use Rattle.run_losses.specs.missing_law.Missed.{Answers, FetchesDrawn, last_at, last_in}
+use Rattle.run_losses.proofs.missing_law.Readings.{AsksOf}
+use Rattle.run_losses.proofs.torn_law.ClientCounts.{fetches_drawn, last_rises}
+use Rattle.run_losses.proofs.torn_law.Counts.{TurnAt, may_happen}
+use Rattle.run_losses.proofs.torn_law.Drawn.{last_of}
+use Rattle.run_losses.proofs.torn_law.Events.{base_at}
+use Rattle.run_losses.proofs.torn_law.Turns.{brought}
 use Rattle.run_losses.specs.fetching_law.Fetchings.{serving_at, serving_in, serving_of, what_is_read}
 use Rattle.run_losses.proofs.fetching_law.Maps.{ComesWell, ServesWell, StandsWell, comes_well, stands_first, stands_on}
 use Rattle.run_losses.proofs.fetching_law.Phases.{After, Served, event_serves}
 use Rattle.run_losses.proofs.fetching_law.Truths.{AllReads, IsNamed, Reads, aside, comes_so}
 use Rattle.run_losses.proofs.fetching_law.Turning.{AllSay, Says, Sends}
+use Rattle.run_losses.proofs.torn_law.Course as course
+use Rattle.run_losses.proofs.torn_law.Course.{each_good, first_here}
 
 -- what is sent bears what is said
 sends_of : (s : Serving) (what : Do) (o : Option ReadingState) (own : NodeId) (clock : ℕ) (outs : List Effect) → AllSay s what o outs → (p : Packet)
@@ -106,7 +104,7 @@ module _ (base : Setting) (e : Estate AnyNode) (run : IsRun any_step any_start e
   Here count = node_in (moment e count).nodes (place_of k_of reader)
 
   named : (count : ℕ) → node_named (moment e count) reader ≡ Here count
-  named count = ap (λ k. node_in (moment e count).nodes (place_of k reader)) (cluster_at e count)
+  named = course.named e reader
 
   -- ---- the client's node
 
@@ -176,44 +174,17 @@ module _ (base : Setting) (e : Estate AnyNode) (run : IsRun any_step any_start e
     reads = aside e c count new sent (rises count) (serving_is (suc count) (Here count) same ∙ sym (serving_is count (Here count) refl)) others good.reads;
   }
 
-  rests : (count : ℕ) → Good count → (moment e (suc count)).nodes ≡ (moment e count).nodes → (moment e (suc count)).sent ≡ (moment e count).sent
-      → Good (suc count)
-  rests count good same sent =
-      stands_by count [] (sent ∙ sym (append-nil (moment e count).sent)) (ap (λ ns. node_in ns (place_of k_of reader)) same) (λ p late from. absurd late) good
-
   module _ (count : ℕ) (good : Good count) (event : Event) (fact : slice_get e.events count ≡ Some event)
       (t : TurnAt (moment e count) event (moment e (suc count)).nodes (moment e (suc count)).sent (moment e (suc count)).acts) where
-    placed : place_of k_of (node_of event) ≡ Some t.place
-    placed = subst (λ k. place_of k (node_of event) ≡ Some t.place) (cluster_at e count) t.placed
-
-    stood : node_in (moment e count).nodes (place_of k_of (node_of event)) ≡ Some t.node
-    stood = ap (node_in (moment e count).nodes) placed ∙ t.stands
-
-    its_own : (p : Packet) → In p (map (sent_at t.clock) (any_step t.node (what_of event)).packets) → p.from ≡ node_of event
-    its_own p late =
-        at_clock t.clock (IsFrom (node_of event)) (IsFrom (node_of event)) (λ q h. h) (any_step t.node (what_of event)).packets
-        (sends_as base e lines count (node_of event) t.place t.node (what_of event) placed stood) p late
-
-    other_turn : (reader ≡ node_of event → ⊥) → Good (suc count)
-    other_turn differs =
-        stands_by count (map (sent_at t.clock) (any_step t.node (what_of event)).packets) t.sent_are
-        (ap (λ ns. node_in ns (place_of k_of reader)) t.nodes_are
-        ∙ there k_of (moment e count).nodes (node_of event) t.place placed (any_step t.node (what_of event)).node reader differs)
-        (λ p late from. differs (sym from ∙ its_own p late)) good
-
     module _ (own : reader ≡ node_of event) where
       gets : (p : Packet) → what_of event ≡ Deliver p → In p (moment e count).sent × (p.to ≡ reader)
       gets p delivers = (let b = brought (moment e count) event (may_happen e run count event fact) p delivers in (b.0, b.1 ∙ sym own))
 
       pub was : Here count ≡ Some t.node
-      was = subst (λ n. node_in (moment e count).nodes (place_of k_of n) ≡ Some t.node) (sym own) stood
+      was = course.was e reader count event t own
 
       now : Here (suc count) ≡ Some (any_step t.node (what_of event)).node
-      now =
-          ap (λ ns. node_in ns (place_of k_of reader)) t.nodes_are
-          ∙ subst (λ n. node_in (slice_set (moment e count).nodes t.place (any_step t.node (what_of event)).node) (place_of k_of n)
-          ≡ Some (any_step t.node (what_of event)).node) (sym own)
-          (here k_of (moment e count).nodes (node_of event) t.place placed (any_step t.node (what_of event)).node t.node t.stands)
+      now = course.now e reader count event t own
 
       module _ (node : Client) (stands : t.node ≡ any.Client node) where
         what : Do
@@ -318,24 +289,6 @@ module _ (base : Setting) (e : Estate AnyNode) (run : IsRun any_step any_start e
       own_turn : Good (suc count)
       own_turn = (let n = client_there count t.node was in good_now n.0 n.1)
 
-  pub became : (count : ℕ) (event : Event) → slice_get e.events count ≡ Some event
-      → Still (moment e count) (moment e (suc count)).nodes (moment e (suc count)).sent (moment e (suc count)).acts
-      ⊎ TurnAt (moment e count) event (moment e (suc count)).nodes (moment e (suc count)).sent (moment e (suc count)).acts
-  became count event fact =
-      subst (λ (v : World AnyNode). Still (moment e count) v.nodes v.sent v.acts ⊎ TurnAt (moment e count) event v.nodes v.sent v.acts)
-      (sym (moment_next e count event fact)) (happened_so (moment e count) event)
-
-  -- the counts of the run
-  next_good : (count : ℕ) → Good count → Good (suc count)
-  next_good count good = by (slice_get e.events count) refl
-    where
-      by : (o : Option Event) → slice_get e.events count ≡ o → Good (suc count)
-      by None fact =
-          rests count good (ap (λ (v : World AnyNode). v.nodes) (moment_ended e count fact)) (ap (λ (v : World AnyNode). v.sent) (moment_ended e count fact))
-      by (Some event) fact =
-          ⊎_elim (λ still. rests count good still.nodes_are still.sent_are)
-          (λ t. ⊎_elim (own_turn count good event fact t) (other_turn count good event fact t) (same_or_other reader (node_of event))) (became count event fact)
-
   -- ---- at the start
 
   module _ (stay : GroupsStay) where
@@ -349,20 +302,12 @@ module _ (base : Setting) (e : Estate AnyNode) (run : IsRun any_step any_start e
         (e.script.setup.clients + e.script.setup.managers + e.script.setup.servers + 1) refl) ∙ fact) in
         ap stripe_by n.named ∙ n.stripe_is
 
-    first_are : (moment e 0).nodes ≡ first_nodes any_start e.script k_of
-    unfolding start_world
-    first_are = refl
-
     abbrev first : AnyNode
     first = any.Client (first_client c e.script.setup (items_of e.script.lines reader))
 
     -- no node stands at its place, or the client before its first event
     first_is : (Here 0 ≡ None) ⊎ (Here 0 ≡ Some first)
-    first_is = by (place_of k_of reader) refl
-      where
-        by : (o : Option ℕ) → place_of k_of reader ≡ o → (Here 0 ≡ None) ⊎ (Here 0 ≡ Some first)
-        by None at = inl (ap (node_in (moment e 0).nodes) at)
-        by (Some place) at = inr (ap (λ ns. node_in ns (place_of k_of reader)) first_are ∙ first_stands e.script reader place at)
+    first_is = first_here e reader (λ o. (o ≡ None) ⊎ (o ≡ Some first)) (inl refl) (inr refl)
 
     first_good : Good 0
     first_good = by first_is
@@ -380,5 +325,6 @@ module _ (base : Setting) (e : Estate AnyNode) (run : IsRun any_step any_start e
         }
 
     pub all_good : (count : ℕ) → Good count
-    all_good zero = first_good
-    all_good (suc count) = next_good count (all_good count)
+    all_good =
+        each_good e reader base lines Good (λ count good new sent same others. stands_by count new sent same others good)
+        (λ count good event fact t own. own_turn count good event fact t own) first_good

@@ -29,7 +29,7 @@ use Rattle.token_client.specs.Held.{is_answer, is_wanted}
 use Rattle.token_client.specs.State.{TokensState, epoch_of, held_of}
 use Rattle.token_client.specs.Transition.{accepts, is_promised}
 use Rattle.token_protocol.specs.Basics.{In}
-use Rattle.run_losses.proofs.torn_law.Counts.{Still, TurnAt, may_happen, moment_next}
+use Rattle.run_losses.proofs.torn_law.Counts.{Still, TurnAt, became, may_happen, moment_next}
 use Rattle.run_losses.proofs.torn_law.Turns.{brought}
 use Rattle.version_model.specs.declared.act.Act.TheVariants as act
 use Rattle.wire_msg.specs.declared.packet.Do.{Do}
@@ -54,7 +54,7 @@ use Rattle.xfs_base.specs.declared.node.NodeId.{NodeId}
 use Rattle.xfs_base.specs.declared.node.NodeId.TheVariants as nodes
 use Rattle.xfs_base.specs.declared.segment.SegName.{SegName}
 use Rattle.run_losses.specs.fetching_law.Fetchings.{BringsGone, CallsReadBlocks, FetchesLossesEarned, WasTornInFetch, serving_at, serving_in, what_is_read}
-use Rattle.run_losses.proofs.fetching_law.Counts.{AnswersTell, Good, GrantsAsked, Here, all_good, became, client_there, serving_is, was}
+use Rattle.run_losses.proofs.fetching_law.Counts.{AnswersTell, Good, GrantsAsked, Here, all_good, client_there, serving_is, was}
 use Rattle.run_losses.proofs.fetching_law.Maps.{ServesWell, StandsWell}
 use Rattle.run_losses.proofs.fetching_law.Phases.{After, event_serves}
 use Rattle.run_losses.proofs.fetching_law.Quiet.{NotLost}
@@ -213,7 +213,7 @@ module _ (base : Setting) (e : Estate AnyNode) (run : IsRun any_step any_start e
 
     pub lost_earned : In (act.Lost reader name) (acts_in (moment e count) event)
         → BringsGone s (what_of event) name ⊎ WasTornInFetch e c s count (what_of event) name
-    lost_earned among = ⊎_elim (λ still. still_lost still among) (λ t. turn_lost t among) (became base e run lines c is_there answers asked count event fact)
+    lost_earned among = ⊎_elim (λ still. still_lost still among) (λ t. turn_lost t among) (became e count event fact)
 
 -- ---- of every run
 

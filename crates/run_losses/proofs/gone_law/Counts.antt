@@ -1,5 +1,5 @@
 -- At each count of every run: a slot that is broken was lost before, while it was taken over in its epoch, and so was what each Gone names.
-use Rattle.std.proofs.Common.{◌≡◌, ⊎_elim, ℕ, zero, suc, List, [], ◌∷◌, ◌++◌, Option, Some, None, map, drop, length, slice_get, ◌==◌, inl, inr, refl, sym, ap, subst, ◌∙◌, append-nil, arith}
+use Rattle.std.proofs.Common.{◌≡◌, ⊎_elim, ℕ, zero, suc, List, [], ◌∷◌, ◌++◌, Option, Some, map, drop, length, slice_get, ◌==◌, inl, inr, sym, ap, subst, ◌∙◌, arith}
 use Rattle.std.specs.List.{AllByRecursion}
 use Rattle.std.specs.Prelude.{All}
 use Rattle.core_world.specs.AnyNode.{any_start, any_step}
@@ -18,12 +18,9 @@ use Rattle.manager_slots.specs.SlotTable.{Table, first_phase, first_table}
 use Rattle.node_base.specs.declared.effects.Effect.{Effect}
 use Rattle.node_base.specs.declared.effects.Effect.TheVariants.{Send, Answer, Lose, Does}
 use Rattle.node_base.specs.Effects.{acts_of}
-use Rattle.node_logs.proofs.node_log_tie.Others.{same_or_other}
 use Rattle.node_slots.specs.node_tie.ManagerEvents.{phase_at, slot_in}
 use Rattle.run_laws.specs.reading_law.Readings.{ReadingsCame}
 use Rattle.token_protocol.specs.Basics.{In}
-use Rattle.run_losses.proofs.torn_law.Counts.{TurnAt, cluster_at, moment_ended, moment_next}
-use Rattle.run_losses.proofs.torn_law.Senders.{IsFrom, sends_as}
 use Rattle.version_model.specs.declared.act.Act.TheVariants as act
 use Rattle.version_model.specs.declared.work.Work.{Work}
 use Rattle.wire_msg.specs.declared.body.Body.TheVariants as body
@@ -36,11 +33,9 @@ use Rattle.world_base.specs.declared.event.Event.{Event}
 use Rattle.world_base.specs.declared.world.World.{World}
 use Rattle.world_base.specs.Events.{node_of, what_of}
 use Rattle.world_base.specs.Items.{items_of}
-use Rattle.world_base.specs.NextWorld.{first_nodes, sent_at, start_world}
+use Rattle.world_base.specs.NextWorld.{sent_at}
 use Rattle.world_base.specs.Runs.{IsRun}
-use Rattle.run_laws.proofs.world_law.Nodes.{there}
 use Rattle.run_laws.proofs.world_law.Sent.{at_clock, in_append}
-use Rattle.run_laws.proofs.world_law.Start.{first_stands}
 use Rattle.run_laws.specs.world_law.Owners.{moment, node_in}
 use Rattle.run_laws.specs.world_logs.Doings.{acts_in}
 use Rattle.run_laws.specs.world_logs.Lines.{HasLines}
@@ -52,7 +47,7 @@ use Rattle.xfs_base.specs.declared.node.NodeId.{NodeId}
 use Rattle.xfs_base.specs.declared.node.NodeId.TheVariants as names
 use Rattle.xfs_base.specs.declared.segment.SegName.{SegName}
 use Rattle.xfs_base.specs.declared.setup.Setup.{Setup}
-use Rattle.run_losses.proofs.missing_law.Moments.{became}
+use Rattle.run_losses.proofs.torn_law.Counts.{TurnAt, moment_next}
 use Rattle.run_losses.proofs.taking_law.Always.{slot_is}
 use Rattle.run_losses.proofs.taking_law.Losing.{done_after, earned}
 use Rattle.run_losses.proofs.taking_law.ManagerCounts.{CameBy, IsManager, IsNamed, NodeFine, Turned as NodeTurned, all_good, do_brought, is_manager, turned}
@@ -60,6 +55,7 @@ use Rattle.run_losses.specs.taking_law.Takings.{slot_at, slot_of}
 use Rattle.run_losses.proofs.gone_law.Breaking.{Breaks}
 use Rattle.run_losses.proofs.gone_law.Events.{Turned, gones_are_of_broken, manager_turned}
 use Rattle.run_losses.specs.gone_law.Gones.{BrokenSlotsWereLost, GonesWereLost, IfGone, IsOfBroken, SaidLost}
+use Rattle.run_losses.proofs.torn_law.Course.{each_good, first_here, none_sent, was}
 
 same_taking : (x y : Taking) → phase.Taking x ≡ phase.Taking y → x ≡ y
 same_taking x y e = cc
@@ -151,23 +147,10 @@ module _ (base : Setting) (e : Estate AnyNode) (run : IsRun any_step any_start e
         (⊎_elim (λ old. good.gones p g old from tells) (λ late. absurd (others p late from)) (in_append (Sent count) new p (subst (In p) sent among)));
   }
 
-  rests : (count : ℕ) → Good count → (moment e (suc count)).nodes ≡ (moment e count).nodes → Sent (suc count) ≡ Sent count → Good (suc count)
-  rests count good nodes sent =
-      aside count good [] (sent ∙ sym (append-nil (Sent count))) (ap (λ ns. node_in ns (place_of k_of (names.Manager j))) nodes) (λ p late from. absurd late)
-
   -- ---- it has its turn
 
   module _ (count : ℕ) (good : Good count) (event : Event) (fact : slice_get e.events count ≡ Some event)
       (t : TurnAt (moment e count) event (moment e (suc count)).nodes (moment e (suc count)).sent (moment e (suc count)).acts) where
-    abbrev new : List Packet
-    new = map (sent_at t.clock) (any_step t.node (what_of event)).packets
-
-    placed : place_of k_of (node_of event) ≡ Some t.place
-    placed = subst (λ k. place_of k (node_of event) ≡ Some t.place) (cluster_at e count) t.placed
-
-    stood : node_in (moment e count).nodes (place_of k_of (node_of event)) ≡ Some t.node
-    stood = ap (node_in (moment e count).nodes) placed ∙ t.stands
-
     module _ (own : names.Manager j ≡ node_of event) where
       u : NodeTurned base e run lines j is_there count event (map (sent_at t.clock) (any_step t.node (what_of event)).packets)
           (any_step t.node (what_of event)).acts
@@ -223,7 +206,7 @@ module _ (base : Setting) (e : Estate AnyNode) (run : IsRun any_step any_start e
 
       its_node : t.node ≡ any.Manager u.node
       its_node =
-          same_node t.node (any.Manager u.node) (sym (subst (λ n. node_in (moment e count).nodes (place_of k_of n) ≡ Some t.node) (sym own) stood) ∙ u.was)
+          same_node t.node (any.Manager u.node) (sym (was e (names.Manager j) count event t own) ∙ u.was)
 
       -- what it sends now is of slots that were broken before
       sends_of : (p : Packet) → In p (map (sent_at t.clock) (any_step t.node (what_of event)).packets) → IfGone (IsOfBroken u.node.phase) p.body
@@ -246,55 +229,20 @@ module _ (base : Setting) (e : Estate AnyNode) (run : IsRun any_step any_start e
             (in_append (Sent count) (map (sent_at t.clock) (any_step t.node (what_of event)).packets) p (subst (In p) t.sent_are among)));
       }
 
-    its_own : (p : Packet) → In p (map (sent_at t.clock) (any_step t.node (what_of event)).packets) → p.from ≡ node_of event
-    its_own p late =
-        at_clock t.clock (IsFrom (node_of event)) (IsFrom (node_of event)) (λ q h. h) (any_step t.node (what_of event)).packets
-        (sends_as base e lines count (node_of event) t.place t.node (what_of event) placed stood) p late
-
-    turn_good : Good (suc count)
-    turn_good =
-        ⊎_elim own_turn
-        (λ differs. aside count good (map (sent_at t.clock) (any_step t.node (what_of event)).packets) t.sent_are
-        (ap (λ ns. node_in ns (place_of k_of (names.Manager j))) t.nodes_are
-        ∙ there k_of (moment e count).nodes (node_of event) t.place placed (any_step t.node (what_of event)).node (names.Manager j) differs)
-        (λ p late from. differs (sym from ∙ its_own p late)))
-        (same_or_other (names.Manager j) (node_of event))
-
   -- ---- each count
-
-  next_good : (count : ℕ) → Good count → Good (suc count)
-  next_good count good = by (slice_get e.events count) refl
-    where
-      by : (o : Option Event) → slice_get e.events count ≡ o → Good (suc count)
-      by None fact = rests count good (ap (λ v. v.nodes) (moment_ended e count fact)) (ap (λ v. v.sent) (moment_ended e count fact))
-      by (Some event) fact = ⊎_elim (λ still. rests count good still.nodes_are still.sent_are) (turn_good count good event fact) (became e count event fact)
-
-  none_sent : Sent 0 ≡ []
-  unfolding start_world
-  none_sent = refl
-
-  first_are : (moment e 0).nodes ≡ first_nodes any_start e.script k_of
-  unfolding start_world
-  first_are = refl
 
   whole_first : (slot : ℕ) → IsWhole (slot_at e j slot 0)
   whole_first slot =
-      subst IsWhole (sym (its_slot slot 0)) (subst (λ ns. IsWhole (slot_of slot (node_in ns (place_of k_of (names.Manager j))))) (sym first_are)
-      (by (place_of k_of (names.Manager j)) refl))
-    where
-      by : (o : Option ℕ) → place_of k_of (names.Manager j) ≡ o
-          → IsWhole (slot_of slot (node_in (first_nodes any_start e.script k_of) (place_of k_of (names.Manager j))))
-      by None at = subst (λ o. IsWhole (slot_of slot (node_in (first_nodes any_start e.script k_of) o))) (sym at) tt
-      by (Some place) at =
-          subst (λ o. IsWhole (slot_of slot o)) (sym (first_stands e.script (names.Manager j) place at))
-          (first_whole j e.script.setup (items_of e.script.lines (names.Manager j)) slot)
+      subst IsWhole (sym (its_slot slot 0))
+      (first_here e (names.Manager j) (λ o. IsWhole (slot_of slot o)) tt
+      (first_whole j e.script.setup (items_of e.script.lines (names.Manager j)) slot))
 
   pub always_good : (count : ℕ) → Good count
-  always_good zero = record {
-    slots = λ slot epoch name fact. absurd (subst IsWhole fact (whole_first slot));
-    gones = λ p g among. absurd (subst (In p) none_sent among);
-  }
-  always_good (suc count) = next_good count (always_good count)
+  always_good =
+      each_good e (names.Manager j) base lines Good aside (λ count good event fact t own. own_turn count good event fact t own) (record {
+        slots = λ slot epoch name fact. absurd (subst IsWhole fact (whole_first slot));
+        gones = λ p g among. absurd (subst (In p) (none_sent e (names.Manager j)) among);
+      })
 
   pub broken_were_lost : BrokenSlotsWereLost e j
   broken_were_lost count = (always_good count).slots

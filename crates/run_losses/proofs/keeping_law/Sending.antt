@@ -1,10 +1,9 @@
 -- A packet that was sent by a moment of a run, and not by an earlier one, is sent in an event between the two.
-use Rattle.std.proofs.Common.{◌≡◌, ◌⊎◌, ⊎_elim, ℕ, zero, suc, ◌+◌, ◌-◌, ◌<◌, ◌≤◌, Bool, true, false, nat_le, Option, None, Some, map, slice_get, refl, sym, subst, arith}
+use Rattle.std.proofs.Common.{◌≡◌, ⊎_elim, ℕ, zero, suc, ◌+◌, ◌-◌, ◌<◌, ◌≤◌, Bool, true, false, nat_le, Option, None, Some, map, slice_get, refl, sym, subst, arith}
 use Rattle.std.proofs.lemmas.Bool.Decides.{nat_tests}
 use Rattle.core_world.specs.AnyNode.{any_step}
 use Rattle.core_world.specs.declared.any_node.AnyNode.{AnyNode}
 use Rattle.token_protocol.specs.Basics.{In}
-use Rattle.run_losses.proofs.torn_law.Counts.{Still, TurnAt, happened_so, moment_ended, moment_next}
 use Rattle.wire_msg.specs.declared.packet.Packet.{Packet}
 use Rattle.world_base.specs.declared.estate.Estate.{Estate}
 use Rattle.world_base.specs.declared.event.Event.{Event}
@@ -14,6 +13,7 @@ use Rattle.world_base.specs.NextWorld.{sent_at}
 use Rattle.run_laws.proofs.world_law.Sent.{in_append}
 use Rattle.run_laws.specs.world_law.Owners.{moment}
 use Rattle.run_laws.proofs.world_logs.Lists.{in_after, in_before}
+use Rattle.run_losses.proofs.torn_law.Counts.{TurnAt, became, moment_ended}
 
 -- a number up to the next one is up to this, or is the next
 by_last : {A : Type 0} (before count : ℕ) → before ≤ suc count → (before ≤ count → A) → (suc count ≡ before → A) → A
@@ -45,13 +45,6 @@ module _ (e : Estate AnyNode) (p : Packet) where
     fresh = s.fresh;
   }
 
-  became : (count : ℕ) (event : Event) → slice_get e.events count ≡ Some event
-      → Still (moment e count) (moment e (suc count)).nodes (moment e (suc count)).sent (moment e (suc count)).acts
-      ⊎ TurnAt (moment e count) event (moment e (suc count)).nodes (moment e (suc count)).sent (moment e (suc count)).acts
-  became count event fact =
-      subst (λ (v : World AnyNode). Still (moment e count) v.nodes v.sent v.acts ⊎ TurnAt (moment e count) event v.nodes v.sent v.acts)
-      (sym (moment_next e count event fact)) (happened_so (moment e count) event)
-
   -- where it was sent by the next count, and it is known in which event if it was sent by this one
   module _ (before count : ℕ) (known : before ≤ count → In p (moment e count).sent → SentIn before count) where
     earlier : before ≤ count → In p (moment e count).sent → SentIn before (suc count)
@@ -76,7 +69,7 @@ module _ (e : Estate AnyNode) (p : Packet) where
         by : (o : Option Event) → slice_get e.events count ≡ o → SentIn before (suc count)
         by None fact = earlier since (subst (λ (w : World AnyNode). In p w.sent) (moment_ended e count fact) sent)
         by (Some event) fact =
-            ⊎_elim (λ still. earlier since (subst (In p) still.sent_are sent)) (turned since sent event fact) (became count event fact)
+            ⊎_elim (λ still. earlier since (subst (In p) still.sent_are sent)) (turned since sent event fact) (became e count event fact)
 
   pub sent_in : (before count : ℕ) → before ≤ count → (In p (moment e before).sent → ⊥) → In p (moment e count).sent → SentIn before count
   sent_in before zero low not_yet sent =
@@ -95,7 +88,7 @@ module _ (e : Estate AnyNode) (p : Packet) where
       by None fact = subst (λ (w : World AnyNode). In p w.sent) (sym (moment_ended e count fact)) sent
       by (Some event) fact =
           ⊎_elim (λ still. subst (In p) (sym still.sent_are) sent)
-          (λ t. subst (In p) (sym t.sent_are) (in_before (moment e count).sent _ p sent)) (became count event fact)
+          (λ t. subst (In p) (sym t.sent_are) (in_before (moment e count).sent _ p sent)) (became e count event fact)
 
   sent_more : (more count : ℕ) → In p (moment e count).sent → In p (moment e (more + count)).sent
   sent_more zero count sent =

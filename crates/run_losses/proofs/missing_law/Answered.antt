@@ -7,7 +7,7 @@ use Rattle.core_world.specs.declared.any_node.AnyNode.TheVariants as any
 use Rattle.fragment_store.specs.ShelfState.{ShelfState, held_at}
 use Rattle.log_tie.specs.Setting.{Setting}
 use Rattle.token_protocol.specs.Basics.{In}
-use Rattle.run_losses.proofs.torn_law.Counts.{TurnAt, cluster_at, may_happen, moment_ended}
+use Rattle.run_losses.proofs.torn_law.Counts.{TurnAt, became, cluster_at, may_happen, moment_ended}
 use Rattle.run_losses.proofs.torn_law.Senders.{IsFrom, sends_as}
 use Rattle.run_losses.proofs.torn_law.ServerMisses.{Answers as Answering, MissingSo, misses_what_it_lacks}
 use Rattle.run_losses.proofs.torn_law.Turns.{brought}
@@ -32,7 +32,7 @@ use Rattle.run_laws.specs.world_logs.Shelves.{shelf_at, shelf_of}
 use Rattle.run_laws.specs.world_logs.Standing.{ServerThere}
 use Rattle.xfs_base.specs.declared.node.NodeId.{NodeId}
 use Rattle.xfs_base.specs.declared.node.NodeId.TheVariants as names
-use Rattle.run_losses.proofs.missing_law.Moments.{became, here_is, sent_on}
+use Rattle.run_losses.proofs.missing_law.Moments.{here_is, sent_on}
 use Rattle.run_losses.specs.missing_law.Missed.{Answers, FetchesDrawn, last_at}
 
 up_to_or_after : (k a : ℕ) → (k ≤ a) ⊎ (suc a ≤ k)

@@ -7,9 +7,6 @@ use Rattle.fragment_store.specs.ShelfState.{ShelfState, held_at, is_held}
 use Rattle.node_logs.proofs.node_log_tie.Others.{same_or_other}
 use Rattle.store_nodes.specs.ServerEvents.{server_step}
 use Rattle.token_protocol.specs.Basics.{In}
-use Rattle.run_losses.proofs.torn_law.Counts.{Still, TurnAt, cluster_at, happened_so, may_happen, moment_ended, moment_next}
-use Rattle.run_losses.proofs.torn_law.Turns.{brought}
-use Rattle.run_losses.specs.torn_law.Torn.{lacks}
 use Rattle.wire_msg.specs.declared.body.Body.TheVariants as body
 use Rattle.wire_msg.specs.declared.packet.Do.{Do}
 use Rattle.wire_msg.specs.declared.packet.Do.TheVariants as done
@@ -34,6 +31,9 @@ use Rattle.xfs_base.proofs.Booleans.{contrary}
 use Rattle.xfs_base.specs.declared.fragment.Fragment.{Fragment}
 use Rattle.xfs_base.specs.declared.node.NodeId.TheVariants as names
 use Rattle.xfs_base.specs.declared.segment.SegName.{SegName}
+use Rattle.run_losses.proofs.torn_law.Counts.{TurnAt, became, cluster_at, may_happen, moment_ended}
+use Rattle.run_losses.proofs.torn_law.Turns.{brought}
+use Rattle.run_losses.specs.torn_law.Torn.{lacks}
 use Rattle.run_losses.proofs.missing_law.ShelfSteps.{ShelfOn, server_on, shelf_same, shelf_then}
 use Rattle.run_losses.specs.missing_law.Missed.{MissedIn}
 
@@ -84,14 +84,6 @@ module _ (e : Estate AnyNode) where
 
   -- ---- from one count to the next
 
-  -- what became of the world
-  pub became : (count : ℕ) (event : Event) → slice_get e.events count ≡ Some event
-      → Still (moment e count) (moment e (suc count)).nodes (moment e (suc count)).sent (moment e (suc count)).acts
-      ⊎ TurnAt (moment e count) event (moment e (suc count)).nodes (moment e (suc count)).sent (moment e (suc count)).acts
-  became count event fact =
-      subst (λ (v : World AnyNode). Still (moment e count) v.nodes v.sent v.acts ⊎ TurnAt (moment e count) event v.nodes v.sent v.acts)
-      (sym (moment_next e count event fact)) (happened_so (moment e count) event)
-
   -- what is sent between two counts is added to what was sent
   pub record Grown (count : ℕ) : Type 0 where
     pub new : List Packet
@@ -107,7 +99,7 @@ module _ (e : Estate AnyNode) where
       by None fact = same (ap (λ (v : World AnyNode). v.sent) (moment_ended e count fact))
       by (Some event) fact =
           ⊎_elim (λ still. same still.sent_are)
-          (λ t. record { new = map (sent_at t.clock) (any_step t.node (what_of event)).packets; sent_are = t.sent_are }) (became count event fact)
+          (λ t. record { new = map (sent_at t.clock) (any_step t.node (what_of event)).packets; sent_are = t.sent_are }) (became e count event fact)
 
   pub sent_next : (count : ℕ) (p : Packet) → In p (moment e count).sent → In p (moment e (suc count)).sent
   sent_next count p fact = (let g = grown count in subst (In p) (sym g.sent_are) (in_before (moment e count).sent g.new p fact))
@@ -220,7 +212,7 @@ module _ (e : Estate AnyNode) where
         by (Some event) at =
             ⊎_elim (λ rest. still rest.nodes_are)
             (λ t. ⊎_elim (own_turn count v s fact event at t) (other_turn count v s fact event at t) (same_or_other (names.Server v) (node_of event)))
-            (became count event at)
+            (became e count event at)
 
     shelf_same_at : (from to v : ℕ) (s : ShelfState) → shelf_at (moment e from) v ≡ Some s → from ≡ to → ShelfAt to v s
     shelf_same_at from to v s fact now = record {

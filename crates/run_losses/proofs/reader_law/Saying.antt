@@ -23,7 +23,6 @@ use Rattle.manager_node.specs.declared.phase.Phase.TheVariants as managing
 use Rattle.manager_node.specs.Events.{happens}
 use Rattle.manager_node.specs.Phases as managers
 use Rattle.node_base.specs.declared.effects.Effect.{Effect}
-use Rattle.node_base.specs.declared.effects.Effect.TheVariants.{Lose}
 use Rattle.node_base.specs.Effects.{acts_of}
 use Rattle.node_base.specs.Setups.{IsSetup}
 use Rattle.node_slots.specs.node_tie.Asks.{AsksForCall, needed}
@@ -62,21 +61,21 @@ use Rattle.xfs_base.specs.declared.node.NodeId.{NodeId}
 use Rattle.xfs_base.specs.declared.node.NodeId.TheVariants as nodes
 use Rattle.xfs_base.specs.declared.segment.SegName.{SegName}
 use Rattle.xfs_base.specs.Limits.{slot_count}
+use Rattle.serving_moves.specs.item_moves.Events.{cleaner_losses, client_losses, log_losses}
+use Rattle.serving_moves.specs.item_moves.Moves.{MayTell}
 use Rattle.run_losses.proofs.answer_law.Cleaners as cleaners
 use Rattle.run_losses.proofs.answer_law.Cleaners.{cleaner_turned}
 use Rattle.run_losses.proofs.answer_law.Clients as clients
 use Rattle.run_losses.proofs.answer_law.Clients.{client_turned}
-use Rattle.run_losses.proofs.answer_law.Managers.{manager_plain}
 use Rattle.run_losses.proofs.answer_law.Runs.{client_stands}
-use Rattle.run_losses.proofs.answer_law.Settling.{UnlessScans}
-use Rattle.run_losses.proofs.answer_law.Stores.{registry_quiet, server_quiet}
-use Rattle.run_losses.proofs.answer_law.Telling.{AllQuiet, SaysLost, none_among, plain_says, quiet_no_loss, quiet_plain, says_lost}
 use Rattle.run_losses.proofs.torn_law.Counts.{Still, TurnAt, happened_so}
 use Rattle.run_losses.specs.answer_law.Answers.{IsBegunBy}
 use Rattle.run_losses.specs.fetching_law.Fetchings.{BringsGone, FetchesLossesEarned, WasTornInFetch, open_item, serving_at, serving_in, serving_of}
 use Rattle.run_losses.specs.reader_law.Readers.{IsReader, OnlyReadersSayLost}
 use Rattle.run_losses.specs.reader_law.Readers.IsReader.{Scans, Serves as ServesThen, Manages}
 use Rattle.run_losses.specs.torn_law.Torn.{cleaners_scan, clients_scan, scan_at, scan_in, scan_of}
+use Rattle.run_losses.proofs.answer_law.Others.{manager_plain, registry_plain, registry_silent, server_plain, server_silent}
+use Rattle.run_losses.proofs.answer_law.Telling.{AllPlain, SaysLost, says_lost, told_plain}
 
 -- ---- which node says so
 
@@ -88,27 +87,25 @@ none_after : (xs : List Act) → drop (length xs) xs ≡ []
 none_after [] = refl
 none_after (x ∷ xs) = none_after xs
 
--- an opening that says so scans its log still
-still_scans : (at : Stage) (outs : List Effect) (name : SegName) → UnlessScans at outs → In (Lose name) outs → is_some (scan_in at) ≡ true
-still_scans (stage.Scanning s) outs name h fact = refl
-still_scans (stage.Settling s) outs name none fact = absurd (none_among outs name none fact)
+-- an opening that may say so scans its log still
+still_scans : (at : Stage) → MayTell (log_losses at) → is_some (scan_in at) ≡ true
+still_scans (stage.Scanning s) may = refl
+still_scans (stage.Settling s) may = absurd may
 
-scans_or_serves : (p : Phase) (outs : List Effect) (name : SegName) → clients.UnlessReads p outs → In (Lose name) outs
-    → (is_some (clients_scan p) ≡ true) ⊎ ((s : Serving) × (p ≡ Serves s))
-scans_or_serves (Down l) outs name none fact = absurd (none_among outs name none fact)
-scans_or_serves (Opening l o) outs name h fact = inl (still_scans o.stage outs name h fact)
-scans_or_serves (Serves s) outs name h fact = inr (s, refl)
+scans_or_serves : (p : Phase) → MayTell (client_losses p) → (is_some (clients_scan p) ≡ true) ⊎ ((s : Serving) × (p ≡ Serves s))
+scans_or_serves (Down l) may = absurd may
+scans_or_serves (Opening l o) may = inl (still_scans o.stage may)
+scans_or_serves (Serves s) may = inr (s, refl)
 
-cleaner_scans : (p : cleaner_phases.Phase) (outs : List Effect) (name : SegName) → cleaners.UnlessReads p outs → In (Lose name) outs
-    → is_some (cleaners_scan p) ≡ true
-cleaner_scans (cleaner_phase.Down l) outs name none fact = absurd (none_among outs name none fact)
-cleaner_scans (cleaner_phase.Opening l o) outs name h fact = still_scans o.stage outs name h fact
-cleaner_scans (cleaner_phase.Serving e) outs name none fact = absurd (none_among outs name none fact)
+cleaner_scans : (p : cleaner_phases.Phase) → MayTell (cleaner_losses p) → is_some (cleaners_scan p) ≡ true
+cleaner_scans (cleaner_phase.Down l) may = absurd may
+cleaner_scans (cleaner_phase.Opening l o) may = still_scans o.stage may
+cleaner_scans (cleaner_phase.Serving e) may = absurd may
 
--- what is quiet acts no loss
-quiet_acts : (me node : NodeId) (name : SegName) (outs : List Effect) → AllQuiet outs → In (act.Lost node name) (acts_of me outs) → ⊥
-quiet_acts me node name outs quiet fact =
-    none_among outs name (quiet_no_loss outs quiet) (plain_says me node name outs (quiet_plain outs quiet) fact).among
+-- what a node acts to be lost, where it answers no item so
+plain_says : (me node : NodeId) (name : SegName) (outs : List Effect) → AllPlain outs → In (act.Lost node name) (acts_of me outs)
+    → SaysLost (λ number. ⊥) me node name outs
+plain_says me node name outs plain fact = says_lost (λ number. ⊥) me node name [] outs (told_plain (λ number. ⊥) [] outs plain) fact
 
 -- ---- the item of a client that says so
 
@@ -185,7 +182,7 @@ module _ (laws : NodeLaws) (e : Estate AnyNode) (setup : IsSetup e.script.setup)
             there,
             ⊎_elim (λ scans. inl (ap (λ o. is_some (scan_of o)) at ∙ scans))
                 (λ (v : (s : Serving) × (node.phase ≡ Serves s)). inr (v.0, ap serving_of at ∙ ap serving_in v.1, subst PhaseAsks v.1 asks))
-                (scans_or_serves node.phase (takes node what).outs name turned.loses says.among),
+                (scans_or_serves node.phase (turned.tells name says.among)),
           ),
         )
 
@@ -199,7 +196,7 @@ module _ (laws : NodeLaws) (e : Estate AnyNode) (setup : IsSetup e.script.setup)
         let says : SaysLost (IsBegunBy (cleaners.items_in node.phase) what) nodes.Cleaner acting name outs =
         says_lost (IsBegunBy (cleaners.items_in node.phase) what) nodes.Cleaner acting name [] outs turned.told fact in (
           says.own,
-          ap (λ o. is_some (scan_of o)) (named nodes.Cleaner (any.Cleaner node) stood) ∙ cleaner_scans node.phase outs name turned.loses says.among,
+          ap (λ o. is_some (scan_of o)) (named nodes.Cleaner (any.Cleaner node) stood) ∙ cleaner_scans node.phase (turned.tells name says.among),
         )
 
     -- ---- a manager
@@ -236,13 +233,17 @@ module _ (laws : NodeLaws) (e : Estate AnyNode) (setup : IsSetup e.script.setup)
     by_name (nodes.Server v) p x placed at fact =
         let b = behind (k.clients + k.managers) k.servers v p placed in
         let s = st.placed.servers v b.some b.within in
-        absurd (quiet_acts (nodes.Server s.0.number) acting name (server_events.takes s.0 what).outs (server_quiet s.0 what)
-        (one_of (nodes.Server v) x (any.Server s.0) at s.1 fact))
+        let outs = (server_events.takes s.0 what).outs in
+        let says = plain_says (nodes.Server s.0.number) acting name outs (server_plain s.0 what) (one_of (nodes.Server v) x (any.Server s.0) at s.1 fact) in
+        absurd (server_silent s.0 what name says.among)
     by_name nodes.Cleaner p x placed at fact =
         cleaner_says now.cleaner st.placed.cleaner (one_of nodes.Cleaner x (any.Cleaner now.cleaner) at st.placed.cleaner fact)
     by_name nodes.Registry p x placed at fact =
-        absurd (quiet_acts nodes.Registry acting name (registry_events.takes now.registry what).outs (registry_quiet now.registry what)
-        (one_of nodes.Registry x (any.Registry now.registry) at st.placed.registry fact))
+        let outs = (registry_events.takes now.registry what).outs in
+        let says =
+        plain_says nodes.Registry acting name outs (registry_plain now.registry what)
+        (one_of nodes.Registry x (any.Registry now.registry) at st.placed.registry fact) in
+        absurd (registry_silent now.registry what name says.among)
 
   -- ---- an event
 

@@ -14,7 +14,6 @@ use Rattle.manager_node.specs.Events.{happens, manager_step}
 use Rattle.manager_node.specs.Phases.{Went_to, lasting_of}
 use Rattle.manager_slots.specs.declared.slot_phase.SlotPhase.{SlotPhase}
 use Rattle.manager_slots.specs.declared.slot_phase.SlotPhase.TheVariants as phase
-use Rattle.run_losses.proofs.missing_law.Moments.{became}
 use Rattle.node_slots.specs.node_index_tie.ManagerEvents.{ManagedAt}
 use Rattle.node_logs.proofs.node_log_tie.Others.{same_or_other}
 use Rattle.node_slots.specs.node_tie.ManagerEvents.{EventGets, HeldAt, ManagerEventGoes, ManagerGoes, epoch_in, is_serving, is_waiting, slot_in}
@@ -22,7 +21,7 @@ use Rattle.segment_format.specs.declared.segment.Segment.{Segment}
 use Rattle.run_losses.specs.taking_law.Takings.{slot_at, slot_of}
 use Rattle.token_law.specs.Net.{Net}
 use Rattle.token_manager.specs.SlotState.{SlotState}
-use Rattle.run_losses.proofs.torn_law.Counts.{Still, TurnAt, cluster_at, may_happen, moment_ended}
+use Rattle.run_losses.proofs.torn_law.Counts.{Still, TurnAt, became, cluster_at, may_happen, moment_ended}
 use Rattle.run_losses.proofs.torn_law.Turns.{brought}
 use Rattle.wire_msg.specs.declared.packet.Do.{Do}
 use Rattle.wire_msg.specs.declared.packet.Do.TheVariants.{Begin, Deliver, Tick}

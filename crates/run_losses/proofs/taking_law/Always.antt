@@ -1,5 +1,5 @@
 -- At each count of every run, what a manager reads while it takes a slot over is true.
-use Rattle.std.proofs.Common.{◌≡◌, ⊎_elim, ℕ, zero, suc, ◌≤◌, List, [], ◌++◌, Option, Some, None, map, slice_get, inl, inr, refl, sym, ap, subst, ◌∙◌, append-nil, arith}
+use Rattle.std.proofs.Common.{◌≡◌, ⊎_elim, ℕ, suc, ◌≤◌, List, ◌++◌, Option, Some, None, map, inl, inr, refl, sym, ap, subst, ◌∙◌, arith}
 use Rattle.core_world.specs.AnyNode.{any_start, any_step}
 use Rattle.core_world.specs.declared.any_node.AnyNode.{AnyNode}
 use Rattle.group_map.specs.declared.group.Group.{Group}
@@ -11,15 +11,12 @@ use Rattle.manager_node.specs.Phases.{lasting_of}
 use Rattle.manager_slots.specs.declared.slot_phase.SlotPhase.{SlotPhase}
 use Rattle.manager_slots.specs.declared.slot_phase.SlotPhase.TheVariants as phase
 use Rattle.manager_slots.specs.declared.slot_phase.Taking.{Taking}
-use Rattle.node_logs.proofs.node_log_tie.Others.{same_or_other}
 use Rattle.node_slots.specs.node_tie.ManagerEvents.{slot_in}
 use Rattle.segment_reading.specs.declared.target.Target.{Target}
 use Rattle.segment_reading.specs.Reading.{ReadingState}
 use Rattle.takeover.specs.declared.source.Present.{Present}
 use Rattle.takeover.specs.declared.source.Source.{Source}
 use Rattle.token_protocol.specs.Basics.{In}
-use Rattle.run_losses.proofs.torn_law.Counts.{TurnAt, cluster_at, moment_ended}
-use Rattle.run_losses.proofs.torn_law.Senders.{IsFrom, sends_as}
 use Rattle.version_model.specs.declared.act.Act.{Act}
 use Rattle.wire_msg.specs.declared.packet.Packet.{Packet}
 use Rattle.wire_msg.specs.declared.storage.Fetch.{Fetch}
@@ -27,19 +24,15 @@ use Rattle.world_base.specs.Cluster.{cluster_of, place_of}
 use Rattle.world_base.specs.declared.cluster.Cluster.{Cluster}
 use Rattle.world_base.specs.declared.estate.Estate.{Estate}
 use Rattle.world_base.specs.declared.event.Event.{Event}
-use Rattle.world_base.specs.Events.{node_of, what_of}
+use Rattle.world_base.specs.Events.{what_of}
 use Rattle.world_base.specs.Items.{items_of}
-use Rattle.world_base.specs.NextWorld.{first_nodes, sent_at, start_world}
+use Rattle.world_base.specs.NextWorld.{sent_at}
 use Rattle.world_base.specs.Runs.{IsRun}
-use Rattle.run_laws.proofs.world_law.Nodes.{there}
-use Rattle.run_laws.proofs.world_law.Sent.{at_clock}
-use Rattle.run_laws.proofs.world_law.Start.{first_stands}
 use Rattle.run_laws.specs.world_law.Owners.{moment, node_in}
 use Rattle.run_laws.specs.world_logs.Lines.{HasLines}
 use Rattle.run_laws.specs.world_logs.Roles.{IsThere}
 use Rattle.run_laws.specs.world_logs.Roles.Role.{OfManager}
 use Rattle.xfs_base.specs.declared.node.NodeId.TheVariants as names
-use Rattle.run_losses.proofs.missing_law.Moments.{became}
 use Rattle.run_losses.proofs.missing_law.Readings.{AsksOf, out_next, reading_later}
 use Rattle.run_losses.specs.missing_law.Missed.{last_at, last_in}
 use Rattle.run_losses.proofs.taking_law.ManagerCounts.{CameBy, IsNamed, Turned, all_good, named_is, numbers_rise, turned}
@@ -48,6 +41,7 @@ use Rattle.run_losses.proofs.taking_law.SlotReads.{PresentFrom, ReadFrom, Readin
 use Rattle.run_losses.proofs.taking_law.SlotTurns.{FetchAs, FetchFor, FetchOf, PresentFine, PresentOut, ReadFine, ReadingFine, ReadingOut, TakingFine}
 use Rattle.run_losses.proofs.taking_law.Truths.{IsPresent, PresentSo, ReadTrue, ReadingSo, ReadsIn, TakingTrue, read_on, span_next}
 use Rattle.run_losses.specs.taking_law.Takings.{slot_at, slot_of}
+use Rattle.run_losses.proofs.torn_law.Course.{each_good, first_here}
 
 -- what is known of a slot that a manager takes over
 pub phase_fine : (Named : ℕ → Group → Type 0) (p : Phase) → PhaseFine Named p → (k : ℕ) (x : Taking) → slot_in k p ≡ phase.Taking x
@@ -100,12 +94,6 @@ module _ (base : Setting) (e : Estate AnyNode) (run : IsRun any_step any_start e
         by : (o : Option Present) → y.take.present ≡ o → PresentSo e j count slot y o → PresentSo e j (suc count) slot y o
         by None at so = tt
         by (Some p) at so = by_reading p.source p.reading at so
-
-  rests : (count : ℕ) → Good count → (moment e (suc count)).nodes ≡ (moment e count).nodes → (moment e (suc count)).sent ≡ (moment e count).sent
-      → Good (suc count)
-  rests count good nodes sent =
-      aside count good [] (sent ∙ sym (append-nil (moment e count).sent)) (ap (λ ns. node_in ns (place_of k_of (names.Manager j))) nodes)
-      (λ p late from. absurd late)
 
   -- ---- it has its turn
 
@@ -174,59 +162,19 @@ module _ (base : Setting) (e : Estate AnyNode) (run : IsRun any_step any_start e
     own_turn : Good (suc count)
     own_turn slot y fact = now_true slot y fact
 
-  -- ---- each event
-
-  module _ (count : ℕ) (good : Good count) (event : Event) (fact : slice_get e.events count ≡ Some event)
-      (t : TurnAt (moment e count) event (moment e (suc count)).nodes (moment e (suc count)).sent (moment e (suc count)).acts) where
-    placed : place_of k_of (node_of event) ≡ Some t.place
-    placed = subst (λ k. place_of k (node_of event) ≡ Some t.place) (cluster_at e count) t.placed
-
-    stood : node_in (moment e count).nodes (place_of k_of (node_of event)) ≡ Some t.node
-    stood = ap (node_in (moment e count).nodes) placed ∙ t.stands
-
-    its_own : (p : Packet) → In p (map (sent_at t.clock) (any_step t.node (what_of event)).packets) → p.from ≡ node_of event
-    its_own p late =
-        at_clock t.clock (IsFrom (node_of event)) (IsFrom (node_of event)) (λ q h. h) (any_step t.node (what_of event)).packets
-        (sends_as base e lines count (node_of event) t.place t.node (what_of event) placed stood) p late
-
-    turn_good : Good (suc count)
-    turn_good =
-        ⊎_elim
-        (λ same. own_turn count good event (map (sent_at t.clock) (any_step t.node (what_of event)).packets) (any_step t.node (what_of event)).acts
-        (turned base e run lines j is_there count (all_good base e run lines j is_there count) event fact t same))
-        (λ differs. aside count good (map (sent_at t.clock) (any_step t.node (what_of event)).packets) t.sent_are
-        (ap (λ ns. node_in ns (place_of k_of (names.Manager j))) t.nodes_are
-        ∙ there k_of (moment e count).nodes (node_of event) t.place placed (any_step t.node (what_of event)).node (names.Manager j) differs)
-        (λ p late from. differs (sym from ∙ its_own p late)))
-        (same_or_other (names.Manager j) (node_of event))
-
-  next_good : (count : ℕ) → Good count → Good (suc count)
-  next_good count good = by (slice_get e.events count) refl
-    where
-      by : (o : Option Event) → slice_get e.events count ≡ o → Good (suc count)
-      by None fact = rests count good (ap (λ v. v.nodes) (moment_ended e count fact)) (ap (λ v. v.sent) (moment_ended e count fact))
-      by (Some event) fact = ⊎_elim (λ still. rests count good still.nodes_are still.sent_are) (turn_good count good event fact) (became e count event fact)
-
-  first_are : (moment e 0).nodes ≡ first_nodes any_start e.script k_of
-  unfolding start_world
-  first_are = refl
-
   -- at first it takes nothing over
   none_first : (slot : ℕ) (x : Taking) → slot_at e j slot 0 ≡ phase.Taking x → ⊥
-  none_first slot x fact = by (place_of k_of (names.Manager j)) refl
+  none_first slot x fact =
+      first_here e (names.Manager j) (λ o. slot_of slot o ≡ phase.Taking x → ⊥) away
+      (none_at_first j e.script.setup (items_of e.script.lines (names.Manager j)) slot x) (sym (slot_is slot 0) ∙ fact)
     where
-      there_first : slot_of slot (node_in (first_nodes any_start e.script k_of) (place_of k_of (names.Manager j))) ≡ phase.Taking x
-      there_first = ap (λ ns. slot_of slot (node_in ns (place_of k_of (names.Manager j)))) (sym first_are) ∙ (sym (slot_is slot 0) ∙ fact)
-
       away : phase.Away 0 ≡ phase.Taking x → ⊥
       away same = cc
 
-      by : (o : Option ℕ) → place_of k_of (names.Manager j) ≡ o → ⊥
-      by None at = away (sym (ap (λ o. slot_of slot (node_in (first_nodes any_start e.script k_of) o)) at) ∙ there_first)
-      by (Some place) at =
-          none_at_first j e.script.setup (items_of e.script.lines (names.Manager j)) slot x
-          (sym (ap (slot_of slot) (first_stands e.script (names.Manager j) place at)) ∙ there_first)
-
   pub all_true : (count : ℕ) (slot : ℕ) (x : Taking) → slot_at e j slot count ≡ phase.Taking x → TakingTrue e j count slot x
-  all_true zero slot x fact = absurd (none_first slot x fact)
-  all_true (suc count) slot x fact = next_good count (all_true count) slot x fact
+  all_true =
+      each_good e (names.Manager j) base lines Good (λ count good new sent same others. aside count good new sent same others)
+      (λ count good event fact t own. own_turn count good event (map (sent_at t.clock) (any_step t.node (what_of event)).packets)
+      (any_step t.node (what_of event)).acts
+      (turned base e run lines j is_there count (all_good base e run lines j is_there count) event fact t own))
+      (λ slot x fact. absurd (none_first slot x fact))

@@ -17,7 +17,7 @@ use Rattle.run_laws.specs.reading_law.Readings.{ReadingsCame, RunsReadWhatCame}
 use Rattle.segment_reading.specs.declared.target.Target.{Target}
 use Rattle.takeover.specs.Transition.{target_of}
 use Rattle.token_protocol.specs.Basics.{In}
-use Rattle.run_losses.proofs.torn_law.Counts.{Still, TurnAt, moment_next}
+use Rattle.run_losses.proofs.torn_law.Counts.{Still, TurnAt, became, moment_next}
 use Rattle.version_model.specs.declared.act.Act.{Act}
 use Rattle.version_model.specs.declared.act.Act.TheVariants as act
 use Rattle.wire_msg.specs.declared.body.Body.TheVariants as body
@@ -38,7 +38,7 @@ use Rattle.xfs_base.specs.declared.node.NodeId.{NodeId}
 use Rattle.xfs_base.specs.declared.node.NodeId.TheVariants as names
 use Rattle.xfs_base.specs.declared.segment.SegName.{SegName}
 use Rattle.run_losses.proofs.missing_law.Deleting.{deleted_or_not}
-use Rattle.run_losses.proofs.missing_law.Moments.{Deleted, became, sent_on}
+use Rattle.run_losses.proofs.missing_law.Moments.{Deleted, sent_on}
 use Rattle.run_losses.proofs.missing_law.Readings.{TornUnlessDeleted}
 use Rattle.run_losses.proofs.taking_law.Always.{all_true, phase_fine, slot_is}
 use Rattle.run_losses.proofs.taking_law.ManagerCounts.{CameBy, IsNamed, NodeFine, Turned, all_good, turned}

@@ -1,6 +1,6 @@
 -- At each count of every run: what is known of the slots that a manager takes over, that it has asked servers for fragments by numbers that it drew, and that
 -- its numbers don't fall.
-use Rattle.std.proofs.Common.{◌≡◌, ⊎_elim, ℕ, zero, suc, ◌≤◌, List, [], ◌++◌, Option, Some, None, map, slice_get, slice_set, refl, sym, ap, subst, ◌∙◌, append-nil, ◌+◌, arith}
+use Rattle.std.proofs.Common.{◌≡◌, ⊎_elim, ℕ, suc, ◌≤◌, List, ◌++◌, Option, Some, None, map, slice_get, refl, sym, ap, subst, ◌∙◌, arith}
 use Rattle.core_world.specs.AnyNode.{any_start, any_step}
 use Rattle.core_world.specs.declared.any_node.AnyNode.{AnyNode}
 use Rattle.core_world.specs.declared.any_node.AnyNode.TheVariants as any
@@ -27,9 +27,6 @@ use Rattle.registry_node.specs.Events.{registry_start}
 use Rattle.stripe_code.specs.declared.round.Told.{Told}
 use Rattle.stripe_code.specs.declared.round.Told.TheVariants as told
 use Rattle.token_protocol.specs.Basics.{In}
-use Rattle.run_losses.proofs.torn_law.Counts.{TurnAt, cluster_at, may_happen, moment_ended}
-use Rattle.run_losses.proofs.torn_law.Senders.{IsFrom, sends_as}
-use Rattle.run_losses.proofs.torn_law.Turns.{brought}
 use Rattle.version_model.specs.declared.act.Act.{Act}
 use Rattle.wire_msg.specs.declared.body.Body.{Body}
 use Rattle.wire_msg.specs.declared.body.Body.TheVariants as body
@@ -45,11 +42,9 @@ use Rattle.world_base.specs.declared.estate.Estate.{Estate}
 use Rattle.world_base.specs.declared.event.Event.{Event}
 use Rattle.world_base.specs.Events.{node_of, what_of}
 use Rattle.world_base.specs.Items.{items_of}
-use Rattle.world_base.specs.NextWorld.{first_nodes, sent_at, start_world}
+use Rattle.world_base.specs.NextWorld.{sent_at}
 use Rattle.world_base.specs.Runs.{IsRun}
-use Rattle.run_laws.proofs.world_law.Nodes.{here, there}
 use Rattle.run_laws.proofs.world_law.Sent.{at_clock, in_append}
-use Rattle.run_laws.proofs.world_law.Start.{first_stands}
 use Rattle.run_laws.specs.world_law.Owners.{moment, node_in, node_named}
 use Rattle.run_laws.specs.world_logs.Lines.{HasLines, setting}
 use Rattle.run_laws.specs.world_logs.Roles.{IsThere, asker_by}
@@ -59,11 +54,14 @@ use Rattle.run_laws.specs.world_logs.Shelves.{group_at}
 use Rattle.run_laws.specs.world_logs.Standing.{ManagerThere}
 use Rattle.xfs_base.specs.declared.node.NodeId.{NodeId}
 use Rattle.xfs_base.specs.declared.node.NodeId.TheVariants as names
-use Rattle.run_losses.proofs.missing_law.Moments.{became}
+use Rattle.run_losses.proofs.torn_law.Turns.{brought}
 use Rattle.run_losses.specs.missing_law.Missed.{FetchesDrawn, last_at, last_in}
 use Rattle.run_losses.proofs.taking_law.ManagerTurns.{DoBrought, EffectDone, NodeTurn, PhaseFine, SaidSo, manager_begins, manager_turns}
 use Rattle.run_losses.proofs.taking_law.ServingTurns.{AnswerBrought, BodyBrought}
 use Rattle.run_losses.proofs.taking_law.TakeTurns.{MapNamed}
+use Rattle.run_losses.proofs.torn_law.Course as course
+use Rattle.run_losses.proofs.torn_law.Course.{each_good, first_here, none_sent, registry_first, stands_by}
+use Rattle.run_losses.proofs.torn_law.Counts.{TurnAt, became, cluster_at, may_happen, moment_ended}
 
 -- ---- what came
 
@@ -230,46 +228,20 @@ module _ (base : Setting) (e : Estate AnyNode) (run : IsRun any_step any_start e
     pub says : (p : Packet) → In p new
         → SaidSo (IsNamed e) (CameBy e j count) (lasting_of (happens node (what_of event)).state).questions.last (happens node (what_of event)).state p.body
 
-  rests : (count : ℕ) → Good count → (moment e (suc count)).nodes ≡ (moment e count).nodes → Sent (suc count) ≡ Sent count → Good (suc count)
-  rests count good nodes sent =
-      aside count [] (sent ∙ sym (append-nil (Sent count))) (ap (λ ns. node_in ns (place_of k_of (names.Manager j))) nodes) (λ p late from. absurd late) good
-
   module _ (count : ℕ) (good : Good count) (event : Event) (fact : slice_get e.events count ≡ Some event)
       (t : TurnAt (moment e count) event (moment e (suc count)).nodes (moment e (suc count)).sent (moment e (suc count)).acts) where
     abbrev new : List Packet
     new = map (sent_at t.clock) (any_step t.node (what_of event)).packets
-
-    placed : place_of k_of (node_of event) ≡ Some t.place
-    placed = subst (λ k. place_of k (node_of event) ≡ Some t.place) (cluster_at e count) t.placed
-
-    stood : node_in (moment e count).nodes (place_of k_of (node_of event)) ≡ Some t.node
-    stood = ap (node_in (moment e count).nodes) placed ∙ t.stands
-
-    its_own : (p : Packet) → In p (map (sent_at t.clock) (any_step t.node (what_of event)).packets) → p.from ≡ node_of event
-    its_own p late =
-        at_clock t.clock (IsFrom (node_of event)) (IsFrom (node_of event)) (λ q h. h) (any_step t.node (what_of event)).packets
-        (sends_as base e lines count (node_of event) t.place t.node (what_of event) placed stood) p late
-
-    other_turn : (names.Manager j ≡ node_of event → ⊥) → Good (suc count)
-    other_turn differs =
-        aside count (map (sent_at t.clock) (any_step t.node (what_of event)).packets) t.sent_are
-        (ap (λ ns. node_in ns (place_of k_of (names.Manager j))) t.nodes_are
-        ∙ there k_of (moment e count).nodes (node_of event) t.place placed (any_step t.node (what_of event)).node (names.Manager j) differs)
-        (λ p late from. differs (sym from ∙ its_own p late)) good
 
     pub turned : names.Manager j ≡ node_of event → Turned count event (map (sent_at t.clock) (any_step t.node (what_of event)).packets)
         (any_step t.node (what_of event)).acts
     turned same = by t.node was (is_manager count t.node was) now t.sent_are
       where
         was : Here count ≡ Some t.node
-        was = subst (λ n. node_in (moment e count).nodes (place_of k_of n) ≡ Some t.node) (sym same) stood
+        was = course.was e (names.Manager j) count event t same
 
         now : Here (suc count) ≡ Some (any_step t.node (what_of event)).node
-        now =
-            ap (λ ns. node_in ns (place_of k_of (names.Manager j))) t.nodes_are
-            ∙ subst (λ n. node_in (slice_set (moment e count).nodes t.place (any_step t.node (what_of event)).node) (place_of k_of n)
-            ≡ Some (any_step t.node (what_of event)).node) (sym same)
-            (here k_of (moment e count).nodes (node_of event) t.place placed (any_step t.node (what_of event)).node t.node t.stands)
+        now = course.now e (names.Manager j) count event t same
 
         of_manager : (node : Manager) → Here count ≡ Some (any.Manager node) → Here (suc count) ≡ Some (any_step (any.Manager node) (what_of event)).node
             → Sent (suc count) ≡ Sent count ++ map (sent_at t.clock) (any_step (any.Manager node) (what_of event)).packets
@@ -315,48 +287,25 @@ module _ (base : Setting) (e : Estate AnyNode) (run : IsRun any_step any_start e
               (in_append (Sent count) (map (sent_at t.clock) (any_step t.node (what_of event)).packets) p (subst (In p) u.sent among)));
         }
 
-  next_good : (count : ℕ) → Good count → Good (suc count)
-  next_good count good = by (slice_get e.events count) refl
-    where
-      by : (o : Option Event) → slice_get e.events count ≡ o → Good (suc count)
-      by None fact = rests count good (ap (λ v. v.nodes) (moment_ended e count fact)) (ap (λ v. v.sent) (moment_ended e count fact))
-      by (Some event) fact =
-          ⊎_elim (λ still. rests count good still.nodes_are still.sent_are)
-          (λ t. ⊎_elim (own_turn count good event fact t) (other_turn count good event fact t) (same_or_other (names.Manager j) (node_of event)))
-          (became e count event fact)
-
   -- ---- the start
-
-  none_sent : Sent 0 ≡ []
-  unfolding start_world
-  none_sent = refl
-
-  first_are : (moment e 0).nodes ≡ first_nodes any_start e.script k_of
-  unfolding start_world
-  first_are = refl
 
   -- the registry's groups, which each manager knows then
   first_named : MapNamed (IsNamed e) (groups.started e.script.setup.servers e.script.setup.groups)
   first_named =
       (((lines OfCleaner tt).stands 0).seen names.Registry
       (any.Registry (registry_start e.script.setup (items_of e.script.lines names.Registry)))
-      (subst (λ ns. node_in ns (place_of k_of names.Registry) ≡ Some (any.Registry (registry_start e.script.setup (items_of e.script.lines names.Registry))))
-      (sym first_are)
-      (first_stands e.script names.Registry (e.script.setup.clients + e.script.setup.managers + e.script.setup.servers + 1) refl))).named
+      (registry_first e)).named
 
   first_fine : NodeFine e (Here 0)
   first_fine =
-      subst (λ ns. NodeFine e (node_in ns (place_of k_of (names.Manager j)))) (sym first_are) (by (place_of k_of (names.Manager j)) refl)
-    where
-      by : (o : Option ℕ) → place_of k_of (names.Manager j) ≡ o → NodeFine e (node_in (first_nodes any_start e.script k_of) (place_of k_of (names.Manager j)))
-      by None at = subst (λ o. NodeFine e (node_in (first_nodes any_start e.script k_of) o)) (sym at) tt
-      by (Some place) at =
-          subst (NodeFine e) (sym (first_stands e.script (names.Manager j) place at))
-          (manager_begins (IsNamed e) j e.script.setup (items_of e.script.lines (names.Manager j)) first_named)
+      first_here e (names.Manager j) (NodeFine e) tt
+      (manager_begins (IsNamed e) j e.script.setup (items_of e.script.lines (names.Manager j)) first_named)
 
   pub all_good : (count : ℕ) → Good count
-  all_good zero = record { fine = first_fine; fetches = λ p m among. absurd (subst (In p) none_sent among) }
-  all_good (suc count) = next_good count (all_good count)
+  all_good =
+      each_good e (names.Manager j) base lines Good (λ count good new sent same others. aside count new sent same others good)
+      (λ count good event fact t own. own_turn count good event fact t own)
+      (record { fine = first_fine; fetches = λ p m among. absurd (subst (In p) (none_sent e (names.Manager j)) among) })
 
   -- ---- its numbers
 
@@ -379,10 +328,7 @@ module _ (base : Setting) (e : Estate AnyNode) (run : IsRun any_step any_start e
           ⊎_elim
           (λ own. let u = turned count (all_good count) event fact t own in
           let a = ap last_in u.was in let b = ap last_in u.now in let c = u.turns.up in omega arith)
-          (λ differs. same (ap (λ ns. node_in ns (place_of k_of (names.Manager j))) t.nodes_are
-          ∙ there k_of (moment e count).nodes (node_of event) t.place
-          (subst (λ k. place_of k (node_of event) ≡ Some t.place) (cluster_at e count) t.placed)
-          (any_step t.node (what_of event)).node (names.Manager j) differs))
+          (λ differs. same (stands_by e (names.Manager j) count event t differs))
           (same_or_other (names.Manager j) (node_of event))
 
       by : (o : Option Event) → slice_get e.events count ≡ o → last_in (Here count) ≤ last_in (Here (suc count))

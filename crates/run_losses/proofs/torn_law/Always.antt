@@ -1,5 +1,5 @@
 -- At each count of every run of the nodes, where fetches are asked by questions that were drawn, what comes to an opening is true.
-use Rattle.std.proofs.Common.{◌≡◌, ◌⊎◌, ⊎_elim, ℕ, zero, suc, false, List, [], Option, Some, None, map, slice_get, slice_set, refl, sym, ap, subst, ◌∙◌, append-nil}
+use Rattle.std.proofs.Common.{◌≡◌, ⊎_elim, ℕ, zero, suc, false, List, [], Option, Some, None, map, slice_get, slice_set, refl, sym, ap, subst, ◌∙◌, append-nil}
 use Rattle.xfs_base.specs.declared.node.NodeId.TheVariants as names
 use Rattle.core_world.specs.AnyNode.{any_start, any_step}
 use Rattle.core_world.specs.declared.any_node.AnyNode.{AnyNode}
@@ -31,7 +31,7 @@ use Rattle.run_laws.specs.world_law.Owners.{moment, node_in}
 use Rattle.run_laws.specs.world_logs.Lines.{HasLines, IsBegun, setting}
 use Rattle.run_laws.specs.world_logs.Roles.{IsThere, Role, owner_by, renews}
 use Rattle.run_laws.specs.world_logs.Standing.{ServerThere}
-use Rattle.run_losses.proofs.torn_law.Counts.{Still, TurnAt, cluster_at, happened_so, may_happen, moment_ended, moment_next}
+use Rattle.run_losses.proofs.torn_law.Counts.{TurnAt, cluster_at, became, may_happen, moment_ended}
 use Rattle.run_losses.proofs.torn_law.Events.{Good, net, node_at}
 use Rattle.run_losses.proofs.torn_law.Senders.{IsFrom, sends_as}
 use Rattle.run_losses.proofs.torn_law.ServerMisses.{Answers, MissingSo, misses_what_it_lacks}
@@ -148,20 +148,12 @@ module _ (base : Setting) (e : Estate AnyNode) (run : IsRun any_step any_start e
       turn_good : Known (suc count)
       turn_good = ⊎_elim own_turn other_turn (same_or_other (owner_by r) (node_of event))
 
-    -- what became of the world
-    pub became : (event : Event) → slice_get e.events count ≡ Some event
-        → Still (moment e count) (moment e (suc count)).nodes (moment e (suc count)).sent (moment e (suc count)).acts
-        ⊎ TurnAt (moment e count) event (moment e (suc count)).nodes (moment e (suc count)).sent (moment e (suc count)).acts
-    became event fact =
-        subst (λ (v : World AnyNode). Still (moment e count) v.nodes v.sent v.acts ⊎ TurnAt (moment e count) event v.nodes v.sent v.acts)
-        (sym (moment_next e count event fact)) (happened_so (moment e count) event)
-
     next_good : Known (suc count)
     next_good = by (slice_get e.events count) refl
       where
         by : (o : Option Event) → slice_get e.events count ≡ o → Known (suc count)
         by None fact = rests (ap (λ (v : World AnyNode). v.nodes) (moment_ended e count fact)) (ap (λ (v : World AnyNode). v.sent) (moment_ended e count fact))
-        by (Some event) fact = ⊎_elim (λ still. rests still.nodes_are still.sent_are) (turn_good event fact) (became event fact)
+        by (Some event) fact = ⊎_elim (λ still. rests still.nodes_are still.sent_are) (turn_good event fact) (became e count event fact)
 
   pub all_good : (count : ℕ) → Known count
   all_good zero = first_good

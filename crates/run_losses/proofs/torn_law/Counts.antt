@@ -1,5 +1,5 @@
 -- The counts of a run: what the event at a count makes of the moment there.
-use Rattle.std.proofs.Common.{◌≡◌, ◌⊎◌, ℕ, zero, suc, List, [], ◌∷◌, ◌++◌, Some, None, map, take, slice_get, slice_set, refl, ap, subst, ◌∙◌, inl, inr}
+use Rattle.std.proofs.Common.{◌≡◌, ◌⊎◌, ℕ, zero, suc, List, [], ◌∷◌, ◌++◌, Some, None, map, take, slice_get, slice_set, refl, ap, subst, ◌∙◌, inl, inr, sym}
 use Rattle.std.specs.List.{fold}
 use Rattle.core_world.specs.AnyNode.{any_start, any_step}
 use Rattle.core_world.specs.declared.any_node.AnyNode.{AnyNode}
@@ -98,3 +98,11 @@ happened_so w event =
       sent_are = refl;
       acts_are = refl;
     }))
+
+-- so it is from one count of a run to the next
+pub became : (e : Estate AnyNode) (count : ℕ) (event : Event) → slice_get e.events count ≡ Some event
+    → Still (moment e count) (moment e (suc count)).nodes (moment e (suc count)).sent (moment e (suc count)).acts
+    ⊎ TurnAt (moment e count) event (moment e (suc count)).nodes (moment e (suc count)).sent (moment e (suc count)).acts
+became e count event fact =
+    subst (λ (v : World AnyNode). Still (moment e count) v.nodes v.sent v.acts ⊎ TurnAt (moment e count) event v.nodes v.sent v.acts)
+    (sym (moment_next e count event fact)) (happened_so (moment e count) event)

@@ -53,11 +53,11 @@ use Rattle.run_laws.specs.world_logs.Roles.Role.{OfClient, OfCleaner, OfManager}
 use Rattle.run_laws.specs.world_logs.Settings.{stripe_by}
 use Rattle.run_laws.specs.world_logs.Shelves.{group_at, shelf_at, shelf_of}
 use Rattle.run_laws.specs.world_logs.Standing.{ServerThere}
-use Rattle.run_losses.proofs.torn_law.Always.{all_good, became}
+use Rattle.run_losses.proofs.torn_law.Always.{all_good}
 use Rattle.run_losses.proofs.torn_law.CleanerCounts.{cleaner_drawn}
 use Rattle.run_losses.proofs.torn_law.ClientCounts.{fetches_drawn}
 use Rattle.run_losses.proofs.torn_law.Coming.{comes_so}
-use Rattle.run_losses.proofs.torn_law.Counts.{Still, TurnAt, cluster_at, may_happen, moment_next}
+use Rattle.run_losses.proofs.torn_law.Counts.{Still, TurnAt, became, cluster_at, may_happen, moment_next}
 use Rattle.run_losses.proofs.torn_law.Events.{Good, TornBy, at_count, base_at, named_is, net, node_at, owns_at, torn_now}
 use Rattle.run_losses.proofs.torn_law.OneOpening.{lost_so}
 use Rattle.run_losses.proofs.torn_law.OpeningSays.{Comes, DoesSo, Losing, NotLost}
@@ -253,7 +253,7 @@ module _ (base : Setting) (e : Estate AnyNode) (run : IsRun any_step any_start e
       pub loses_torn : (name : SegName) → In (act.Lost (owner_by r) name) (acts_in (moment e count) event) → WasTornInOpening e r count name
       loses_torn name among =
           ⊎_elim (λ still. still_lost name still among) (λ t. turn_lost name t among)
-          (became base e run lines r is_there keeps fetches count good event fact)
+          (became e count event fact)
 
   pub loses_what_is_torn : OpeningLosesWhatIsTorn e r
   loses_what_is_torn count event fact own opens name among = by (scan_at e r count) refl

@@ -46,8 +46,11 @@ use Rattle.xfs_base.specs.declared.node.NodeId.TheVariants as node
 use Rattle.xfs_base.specs.Steps.{saying, steps, still}
 use Rattle.xfs_base.proofs.Alls.{all_flat_map, all_map}
 use Rattle.serving_moves.proofs.client_moves.Following.{ends_kept, follows_go, hands_go, reading_kept, takes_back_goes, writes_go}
-use Rattle.serving_moves.proofs.client_moves.Keeping.{all_pushed_plain, first_goes, from_goes, itself, lost, plainly, same, same_call, stays, steps_go, then_goes, then_kept}
-use Rattle.serving_moves.specs.client_moves.Moves.{AllPlain, IsPlain, Kept, Moves}
+use Rattle.serving_moves.proofs.client_moves.Keeping.{first_goes, from_goes, itself, lost, plainly, same_call, stays, steps_go, then_goes, then_kept}
+use Rattle.serving_moves.proofs.item_moves.Keeping.{all_pushed_plain, same}
+use Rattle.serving_moves.specs.client_moves.Moves.{Kept, Moves}
+use Rattle.serving_moves.specs.item_moves.Moves.{AllPlain, IsPlain}
+use Rattle.serving_moves.specs.item_moves.Moves.Losses.{Answering}
 
 -- ---- promises
 
@@ -105,7 +108,7 @@ supply_goes : (s : Serving) (m : Supply) → Moves s (on_supply s m)
 unfolding on_supply
 supply_goes s m = hands_go s (input.Supplied m.block m.stamp m.inc m.req m.ver m.value)
 
-supplies_plain : (f : Forward) (o : outputs.Out) → AllPlain (supplies f o)
+supplies_plain : (f : Forward) (o : outputs.Out) → AllPlain Answering (supplies f o)
 supplies_plain f (output.Supply block ver value) = (tt, tt)
 supplies_plain f (output.Want block req again mode) = tt
 supplies_plain f (output.Gave block stamp) = tt
@@ -117,9 +120,9 @@ forward_goes : (s : Serving) (f : Forward) → Moves s (on_forward s f)
 unfolding on_forward
 forward_goes s f =
     plainly s (on_forward s f) (record { calls = same_call _; number = refl; items = same _ })
-    (all_flat_map IsPlain (supplies f) (supplies_plain f) (client.on_forwarded s.tokens f.block f.stamp f.ver).outs)
+    (all_flat_map (IsPlain Answering) (supplies f) (supplies_plain f) (client.on_forwarded s.tokens f.block f.stamp f.ver).outs)
 
-again_plain : (s : Serving) (r : Recall) (outs : List outputs.Out) → AllPlain (again s r outs)
+again_plain : (s : Serving) (r : Recall) (outs : List outputs.Out) → AllPlain Answering (again s r outs)
 again_plain s r [] = tt
 again_plain s r (o ∷ outs) = (tt, tt)
 
@@ -220,9 +223,9 @@ packet_goes s packet =
 
 -- ---- time
 
-again_fetched : (o : Option ReadingState) → AllPlain (fetches_again o)
+again_fetched : (o : Option ReadingState) → AllPlain Answering (fetches_again o)
 again_fetched None = tt
-again_fetched (Some r) = all_map IsPlain (fetch r.target.seg.name r.ask) (λ member. tt) (to_ask r)
+again_fetched (Some r) = all_map (IsPlain Answering) (fetch r.target.seg.name r.ask) (λ member. tt) (to_ask r)
 
 pub tick_goes : (s : Serving) → Moves s (on_tick s)
 unfolding on_tick
@@ -234,4 +237,4 @@ tick_goes s =
     then_goes s w (gives l.state (again ++ (l.outs ++ pushed))) (hands_go s input.Tick)
     (first_goes w.state again (gives l.state (l.outs ++ pushed)) (again_fetched (reading_in w.state.call))
     (then_goes w.state l (gives l.state pushed) (writes_go w.state log_in.Tick)
-    (plainly l.state (gives l.state pushed) (itself l.state) (all_pushed_plain l.state.managers l.state.feed))))
+    (plainly l.state (gives l.state pushed) (itself l.state) (all_pushed_plain Answering l.state.managers l.state.feed))))

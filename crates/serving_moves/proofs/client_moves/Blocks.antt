@@ -20,8 +20,11 @@ use Rattle.xfs_base.specs.declared.block.BlockId.{BlockId}
 use Rattle.xfs_base.specs.declared.token.Mode.TheVariants.{Copy, Own}
 use Rattle.xfs_base.specs.Modes.{is_nothing}
 use Rattle.serving_moves.proofs.client_moves.Following.{hands_go, notes_gone_kept, seals_go, writes_go}
-use Rattle.serving_moves.proofs.client_moves.Keeping.{first_goes, from_goes, itself, plainly, same, same_call, stays, then_goes}
-use Rattle.serving_moves.specs.client_moves.Moves.{AllPlain, Kept, Moves}
+use Rattle.serving_moves.proofs.client_moves.Keeping.{first_goes, from_goes, itself, plainly, same_call, stays, then_goes}
+use Rattle.serving_moves.proofs.item_moves.Keeping.{same}
+use Rattle.serving_moves.specs.client_moves.Moves.{Kept, Moves}
+use Rattle.serving_moves.specs.item_moves.Moves.{AllPlain}
+use Rattle.serving_moves.specs.item_moves.Moves.Losses.{Answering}
 
 abbrev MadeSo : Serving → Made → Type 0
 MadeSo s m = Moves s m.done
@@ -79,7 +82,7 @@ unfolding syncs
 syncs_go s =
     let d : Done = seals s in
     then_goes s d (gives d.state (synced_acts d.state)) (seals_go s)
-    (plainly d.state (gives d.state (synced_acts d.state)) (itself d.state) (by_test AllPlain (is_settled d.state) _ [] (λ _. (tt, tt)) (λ _. tt)))
+    (plainly d.state (gives d.state (synced_acts d.state)) (itself d.state) (by_test (AllPlain Answering) (is_settled d.state) _ [] (λ _. (tt, tt)) (λ _. tt)))
 
 pub makes_go : (s : Serving) (call : BlockCall) → MadeSo s (makes s call)
 unfolding makes

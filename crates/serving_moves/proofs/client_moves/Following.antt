@@ -54,8 +54,11 @@ use Rattle.xfs_base.specs.declared.token.Stamp.{Stamp}
 use Rattle.xfs_base.specs.Modes.{is_held, is_nothing, same_mode}
 use Rattle.xfs_base.specs.Steps.{steps, still}
 use Rattle.xfs_base.proofs.Alls.{all_append, all_flat_map, all_map}
-use Rattle.serving_moves.proofs.client_moves.Keeping.{all_pushed_plain, first_goes, fold_kept, from_goes, itself, left_at, lost, plainly, pushed_plain, same, same_call, stays, steps_go, then_goes, then_kept}
-use Rattle.serving_moves.specs.client_moves.Moves.{AllPlain, CallStays, IsPlain, Kept, Moves}
+use Rattle.serving_moves.proofs.client_moves.Keeping.{first_goes, fold_kept, from_goes, itself, left_at, lost, plainly, same_call, stays, steps_go, then_goes, then_kept}
+use Rattle.serving_moves.proofs.item_moves.Keeping.{all_pushed_plain, pushed_plain, same}
+use Rattle.serving_moves.specs.client_moves.Moves.{CallStays, Kept, Moves}
+use Rattle.serving_moves.specs.item_moves.Moves.{AllPlain, IsPlain}
+use Rattle.serving_moves.specs.item_moves.Moves.Losses.{Answering}
 
 -- ---- the reading of the open call
 
@@ -77,8 +80,8 @@ reading_kept s r = record { calls = call_reads s.call r; number = refl; items = 
 pub ends_kept : (s : Serving) → Kept s (ends_reading s)
 ends_kept s = reading_kept s (kept_while s.tokens (reading_in s.call))
 
-fetches_plain : (r : ReadingState) → AllPlain (fetches r)
-fetches_plain r = all_map IsPlain (fetch r.target.seg.name r.ask) (λ member. tt) (to_ask r)
+fetches_plain : (r : ReadingState) → AllPlain Answering (fetches r)
+fetches_plain r = all_map (IsPlain Answering) (fetch r.target.seg.name r.ask) (λ member. tt) (to_ask r)
 
 loses_at_go : (s : Serving) (at : Option BlockAt) (name : SegName) → Moves s (loses_at s at name)
 loses_at_go s None name = stays s s (itself s)
@@ -153,25 +156,25 @@ notes_copy_kept s block =
 
 -- ---- what the tokens say
 
-stored_plain : (o : LogOut) → AllPlain (stored o)
+stored_plain : (o : LogOut) → AllPlain Answering (stored o)
 stored_plain (log_out.Send fragment member) = (tt, tt)
 stored_plain (log_out.Settled end rows) = tt
 
 pub seals_go : (s : Serving) → Moves s (seals s)
 unfolding seals
 seals_go s =
-    plainly s (seals s) (record { calls = same_call _; number = refl; items = same _ }) (all_flat_map IsPlain stored stored_plain (log.on_seal s.log).outs)
+    plainly s (seals s) (record { calls = same_call _; number = refl; items = same _ }) (all_flat_map (IsPlain Answering) stored stored_plain (log.on_seal s.log).outs)
 
-wants_plain : (s : Serving) (block : BlockId) (req again : ℕ) (mode : Mode) → AllPlain (wants s block req again mode)
+wants_plain : (s : Serving) (block : BlockId) (req again : ℕ) (mode : Mode) → AllPlain Answering (wants s block req again mode)
 wants_plain s block req again mode =
-    all_append IsPlain (cond (again == 0) (deltas s block) []) _
-    (by_test AllPlain (again == 0) (deltas s block) [] (λ _. pushed_plain s.managers s.feed _) (λ _. tt)) (tt, tt)
+    all_append (IsPlain Answering) (cond (again == 0) (deltas s block) []) _
+    (by_test (AllPlain Answering) (again == 0) (deltas s block) [] (λ _. pushed_plain Answering s.managers s.feed _) (λ _. tt)) (tt, tt)
 
 one_goes : (s : Serving) (o : outputs.Out) → Moves s (follows_one s o)
 unfolding follows_one
 one_goes s (output.Want block req again mode) = plainly s (gives s (wants s block req again mode)) (itself s) (wants_plain s block req again mode)
 one_goes s (output.Gave block stamp) =
-    plainly s (gives s (gaves s block stamp)) (itself s) (all_append IsPlain (deltas s block) _ (pushed_plain s.managers s.feed _) (tt, tt))
+    plainly s (gives s (gaves s block stamp)) (itself s) (all_append (IsPlain Answering) (deltas s block) _ (pushed_plain Answering s.managers s.feed _) (tt, tt))
 one_goes s (output.Flush block) = seals_go s
 one_goes s (output.Read block place) = reads_go s block place
 one_goes s (output.Ready block) = stays s (notes_copy s block) (notes_copy_kept s block)
@@ -228,7 +231,7 @@ unfolding settles
 settles_go s end rows =
     let fed : Serving = feeds (settled_rows s rows) end rows in
     first_goes s (Does (Filed (name_of (log_of s.lasting) end)) ∷ pushes_all fed.managers fed.feed)
-    (steps gives_if_clean fed (dirty_in s.tokens.blocks)) (tt, all_pushed_plain fed.managers fed.feed)
+    (steps gives_if_clean fed (dirty_in s.tokens.blocks)) (tt, all_pushed_plain Answering fed.managers fed.feed)
     (from_goes s fed (steps gives_if_clean fed (dirty_in s.tokens.blocks)) (fed_kept s end rows)
     (steps_go gives_if_clean if_clean_goes fed (dirty_in s.tokens.blocks)))
 

@@ -1,25 +1,20 @@
 -- Moves of a client that serves, one behind another.
-use Rattle.std.proofs.Common.{ℕ, List, [], ◌∷◌, append-nil, append_assoc, Option, None, refl, sym, subst, ◌∙◌}
+use Rattle.std.proofs.Common.{List, [], ◌∷◌, append-nil, append_assoc, Option, None, refl, sym, subst, ◌∙◌}
 use Rattle.std.specs.Prelude.{fold}
 use Rattle.client_call.specs.declared.call.Call.{Call}
 use Rattle.client_serving.specs.declared.serving.Serving.{Serving}
 use Rattle.client_serving.specs.Reads.{loses}
 use Rattle.client_serving.specs.Sends.{Done, gives}
-use Rattle.delta_feed.specs.declared.output.Out.{Out as RangeOut}
-use Rattle.delta_feed.specs.declared.output.Out.TheVariants.{Range}
-use Rattle.delta_feed.specs.FeedState.{FeedState}
-use Rattle.delta_feed.specs.Transition.{pushed, ticked}
-use Rattle.log_owner.specs.declared.promised.Managers.{Managers}
-use Rattle.log_owner.specs.Sending.{pushes, pushes_all, range}
 use Rattle.node_base.specs.declared.effects.Effect.{Effect}
-use Rattle.node_base.specs.declared.items.Items.{Items}
-use Rattle.xfs_base.proofs.Alls.{all_map}
 use Rattle.xfs_base.specs.declared.block.BlockId.{BlockId}
 use Rattle.xfs_base.specs.declared.segment.SegName.{SegName}
 use Rattle.xfs_base.specs.Steps.{saying, steps, still}
-use Rattle.serving_moves.specs.client_moves.Moves.{AllPlain, CallStays, IsPlain, ItemsStay, Kept, Moves}
+use Rattle.serving_moves.proofs.item_moves.Keeping.{same, stay_then}
+use Rattle.serving_moves.specs.client_moves.Moves.{CallStays, Kept, Moves}
 use Rattle.serving_moves.specs.client_moves.Moves.Move.{Steps, Loses}
 use Rattle.serving_moves.specs.client_moves.Moves.Moves.{Last, Then}
+use Rattle.serving_moves.specs.item_moves.Moves.{AllPlain}
+use Rattle.serving_moves.specs.item_moves.Moves.Losses.{Answering}
 
 -- ---- what stays
 
@@ -35,9 +30,6 @@ call_then a b c x y call fact =
     let u = x v.0 v.1.0 in
     (u.0, (u.1.0, (v.1.1.0 ∙ u.1.1.0, v.1.1.1 ∙ u.1.1.1)))
 
-pub same : (items : Items) → ItemsStay items items
-same items = record { works = refl; begun = refl; waits = λ item fact. fact }
-
 pub itself : (s : Serving) → Kept s s
 itself s = record { calls = same_call s.call; number = refl; items = same _ }
 
@@ -45,16 +37,12 @@ pub then_kept : (s t u : Serving) → Kept s t → Kept t u → Kept s u
 then_kept s t u a b = record {
   calls = call_then s.call t.call u.call a.calls b.calls;
   number = b.number ∙ a.number;
-  items = record {
-    works = b.items.works ∙ a.items.works;
-    begun = b.items.begun ∙ a.items.begun;
-    waits = λ item fact. a.items.waits item (b.items.waits item fact);
-  };
+  items = stay_then s.lasting.items t.lasting.items u.lasting.items a.items b.items;
 }
 
 -- ---- moves
 
-pub plainly : (s : Serving) (d : Done) → Kept s d.state → AllPlain d.outs → Moves s d
+pub plainly : (s : Serving) (d : Done) → Kept s d.state → AllPlain Answering d.outs → Moves s d
 plainly s d kept plain = Last (Steps kept plain)
 
 pub lost : (s : Serving) (block : BlockId) (name : SegName) → Moves s (loses s block name)
@@ -70,7 +58,7 @@ then_goes s d x (Then now e move rest) more =
     (Then now (saying e.outs x) move (then_goes now.state e x rest more))
 
 -- what is said first is plain
-pub first_goes : (s : Serving) (outs : List Effect) (x : Done) → AllPlain outs → Moves s x → Moves s (saying outs x)
+pub first_goes : (s : Serving) (outs : List Effect) (x : Done) → AllPlain Answering outs → Moves s x → Moves s (saying outs x)
 first_goes s outs x plain a = then_goes s (gives s outs) x (plainly s (gives s outs) (itself s) plain) a
 
 -- from one that is as it was
@@ -89,14 +77,3 @@ fold_kept f each s (x ∷ xs) = then_kept s (f s x) (fold f (f s x) xs) (each s 
 -- it then is another that is as it was
 pub left_at : (s : Serving) (d : Done) (t : Serving) → Moves s d → Kept d.state t → Moves s (gives t d.outs)
 left_at s d t a k = subst (λ (outs : List Effect). Moves s (gives t outs)) (append-nil d.outs) (then_goes s d (still t) a (stays d.state t k))
-
--- ---- what is pushed answers nothing
-
-range_plain : (managers : Managers) (x : RangeOut) → IsPlain (range managers x)
-range_plain managers (Range slot first upto rows) = tt
-
-pub pushed_plain : (managers : Managers) (feed : FeedState) (slot : ℕ) → AllPlain (pushes managers feed slot)
-pushed_plain managers feed slot = all_map IsPlain (range managers) (range_plain managers) (pushed feed slot)
-
-pub all_pushed_plain : (managers : Managers) (feed : FeedState) → AllPlain (pushes_all managers feed)
-all_pushed_plain managers feed = all_map IsPlain (range managers) (range_plain managers) (ticked feed)

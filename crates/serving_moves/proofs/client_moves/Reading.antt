@@ -6,11 +6,13 @@ use Rattle.xfs_base.specs.declared.block.BlockId.{BlockId}
 use Rattle.xfs_base.specs.declared.segment.SegName.{SegName}
 use Rattle.xfs_base.specs.Steps.{saying}
 use Rattle.serving_moves.proofs.client_moves.Keeping.{call_then, no_call}
-use Rattle.serving_moves.specs.client_moves.Moves.{AllPlain, CallStays, CallsStay, Kept, Move, Moves}
+use Rattle.serving_moves.specs.client_moves.Moves.{CallStays, CallsStay, Kept, Move, Moves}
+use Rattle.serving_moves.specs.item_moves.Moves.{AllPlain}
 use Rattle.serving_moves.specs.client_moves.Moves.Move.{Steps, Loses}
 use Rattle.serving_moves.specs.client_moves.Moves.Moves.{Last, Then}
+use Rattle.serving_moves.specs.item_moves.Moves.Losses.{Answering}
 
-module _ (G : Serving → Done → Type 0) (steps : (s : Serving) (d : Done) → Kept s d.state → AllPlain d.outs → G s d)
+module _ (G : Serving → Done → Type 0) (steps : (s : Serving) (d : Done) → Kept s d.state → AllPlain Answering d.outs → G s d)
     (losses : (s : Serving) (block : BlockId) (name : SegName) → G s (loses s block name))
     (thens : (s : Serving) (d x : Done) → G s d → G d.state x → G s (saying d.outs x)) where
   of_move : (s : Serving) (d : Done) → Move s d → G s d

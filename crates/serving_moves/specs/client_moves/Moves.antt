@@ -1,6 +1,5 @@
 -- The moves of a client that serves: what it does for what comes, for time and for a call on blocks, one thing at a time.
-use Rattle.std.specs.List.{AllByRecursion}
-use Rattle.std.specs.Prelude.{◌≡◌, ℕ, List, Option, Some}
+use Rattle.std.specs.Prelude.{◌≡◌, Option, Some}
 use Rattle.client_call.specs.declared.call.Call.{Call}
 use Rattle.client_running.specs.Blocks.{makes}
 use Rattle.client_serving.specs.declared.serving.Serving.{Serving}
@@ -8,32 +7,12 @@ use Rattle.client_serving.specs.Packets.{on_packet, on_tick}
 use Rattle.client_serving.specs.Reads.{loses}
 use Rattle.client_serving.specs.Sends.{Done}
 use Rattle.file_plan.specs.declared.block_call.BlockCall.{BlockCall}
-use Rattle.node_base.specs.declared.effects.Effect.{Effect}
-use Rattle.node_base.specs.declared.effects.Effect.TheVariants.{Send, Answer as Answers, Lose, Does}
-use Rattle.node_base.specs.declared.items.Items.{Items}
-use Rattle.version_model.specs.declared.act.Act.{Act}
-use Rattle.version_model.specs.declared.act.Act.TheVariants as act
 use Rattle.wire_msg.specs.declared.packet.Packet.{Packet}
 use Rattle.xfs_base.specs.declared.block.BlockId.{BlockId}
 use Rattle.xfs_base.specs.declared.segment.SegName.{SegName}
 use Rattle.xfs_base.specs.Steps.{saying}
-
--- ---- what answers nothing
-
--- an act that answers no item, nor says that a segment is lost
-abbrev pub IsSilent : Act → Type 0
-IsSilent (act.Answered node item a) = ⊥
-IsSilent (act.Lost node name) = ⊥
-IsSilent _ = Unit {0}
-
-abbrev pub IsPlain : Effect → Type 0
-IsPlain (Send to said) = Unit {0}
-IsPlain (Answers item a) = ⊥
-IsPlain (Lose name) = Unit {0}
-IsPlain (Does a) = IsSilent a
-
-abbrev pub AllPlain : List Effect → Type 0
-AllPlain outs = AllByRecursion IsPlain outs
+use Rattle.serving_moves.specs.item_moves.Moves.{AllPlain, ItemsStay}
+use Rattle.serving_moves.specs.item_moves.Moves.Losses.{Answering}
 
 -- ---- what stays
 
@@ -41,12 +20,6 @@ AllPlain outs = AllByRecursion IsPlain outs
 abbrev pub CallStays : Option Call → Option Call → Type 0
 CallStays before after =
     (call : Call) → after ≡ Some call → (old : Call) × ((before ≡ Some old) × ((call.plan ≡ old.plan) × (call.step ≡ old.step)))
-
--- the items ask for the same, none has begun, and no other is open
-pub record ItemsStay (before after : Items) : Type 0 where
-  pub works : after.works ≡ before.works
-  pub begun : after.begun ≡ before.begun
-  pub waits : (item : ℕ) → after.unanswered ≡ Some item → before.unanswered ≡ Some item
 
 pub record Kept (s t : Serving) : Type 0 where
   pub calls : CallStays s.call t.call
@@ -57,7 +30,7 @@ pub record Kept (s t : Serving) : Type 0 where
 
 pub data Move (s : Serving) : Done → Type 0 where
   -- Its call, its number and its items stay, and no item is answered.
-  Steps : {d : Done} → Kept s d.state → AllPlain d.outs → Move s d
+  Steps : {d : Done} → Kept s d.state → AllPlain Answering d.outs → Move s d
   -- A segment that it needs is lost: that is said, and the open item is answered so.
   Loses : (block : BlockId) (name : SegName) → Move s (loses s block name)
 

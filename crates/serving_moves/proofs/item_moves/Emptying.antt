@@ -1,5 +1,5 @@
--- A cleaner that serves answers no item that a segment is lost, and of its items none begins.
-use Rattle.std.proofs.Common.{◌≡◌, ◌⊎◌, ℕ, ◌==◌, ◌&&◌, Bool, cond, List, [], ◌∷◌, Option, Some, None, is_some, nat_lt, inl, inr, refl}
+-- What a cleaner that serves makes of its items: it answers the open item alone, with a count, and none begins but by a Begin.
+use Rattle.std.proofs.Common.{ℕ, ◌==◌, ◌&&◌, Bool, List, [], ◌∷◌, Option, Some, None, is_some, nat_lt, refl}
 use Rattle.std.specs.List.{range_with_len}
 use Rattle.cleaner_serving.specs.declared.emptying.Emptying.{Emptying}
 use Rattle.cleaner_serving.specs.EmptyingEvents as emptying
@@ -62,68 +62,47 @@ use Rattle.xfs_base.specs.declared.segment.SegName.{SegName}
 use Rattle.xfs_base.specs.declared.segment.SegRef.{SegRef}
 use Rattle.xfs_base.specs.Steps.{saying, steps, still}
 use Rattle.xfs_base.proofs.Alls.{all_append, all_flat_map, all_map}
-use Rattle.run_losses.proofs.answer_law.Items.{Same, same, same_answered, same_then}
-use Rattle.run_losses.proofs.answer_law.Telling.{AllQuiet, IsQuiet, all_pushed_quiet, answers_quiet}
+use Rattle.serving_moves.proofs.item_moves.Keeping as moving
+use Rattle.serving_moves.proofs.item_moves.Keeping.{all_pushed_plain, first_goes, from_goes, if_goes, plainly, rests, same, steps_go, then_goes}
+use Rattle.serving_moves.specs.item_moves.Moves.{AllPlain, IsBusy, IsCount, IsPlain, ItemsStay}
+use Rattle.serving_moves.specs.item_moves.Moves.Begun.{AtOnce, Waits}
+use Rattle.serving_moves.specs.item_moves.Moves.Move.{Ends}
+use Rattle.serving_moves.specs.item_moves.Moves.Moves.{Last}
+use Rattle.serving_moves.specs.item_moves.Moves.Losses.{Silent}
 
-abbrev items_of : Emptying → Items
+abbrev pub items_of : Emptying → Items
 items_of e = e.lasting.items
 
--- the same items, and no item is answered so
-pub record Goes (e : Emptying) (d : Done) : Type 0 where
-  pub items : Same (items_of e) (items_of d.state)
-  pub quiet : AllQuiet d.outs
+-- there is one cleaner: it has no number
+abbrev pub no_number : Emptying → ℕ
+no_number e = 0
 
-stays : (e f : Emptying) → Same (items_of e) (items_of f) → Goes e (still f)
-stays e f fact = record { items = fact; quiet = tt }
-
-rests : (e : Emptying) → Goes e (still e)
-rests e = stays e e (same (items_of e))
-
-from_goes : (e f : Emptying) (d : Done) → Same (items_of e) (items_of f) → Goes f d → Goes e d
-from_goes e f d fact g = record { items = same_then (items_of e) (items_of f) (items_of d.state) fact g.items; quiet = g.quiet }
-
-then_goes : (e : Emptying) (d x : Done) → Goes e d → Goes d.state x → Goes e (saying d.outs x)
-then_goes e d x a b = record {
-  items = same_then (items_of e) (items_of d.state) (items_of x.state) a.items b.items;
-  quiet = all_append IsQuiet d.outs x.outs a.quiet b.quiet;
-}
-
-first_goes : (e : Emptying) (outs : List Effect) (x : Done) → AllQuiet outs → Goes e x → Goes e (saying outs x)
-first_goes e outs x quiet g = record { items = g.items; quiet = all_append IsQuiet outs x.outs quiet g.quiet }
-
-steps_go : {A : Type 0} (step : Emptying → A → Done) → ((e : Emptying) (x : A) → Goes e (step e x)) → (e : Emptying) (xs : List A)
-    → Goes e (steps step e xs)
-steps_go step each e [] = rests e
-steps_go step each e (x ∷ xs) =
-    then_goes e (step e x) (steps step (step e x).state xs) (each e x) (steps_go step each (step e x).state xs)
-
--- what is taken where a test holds
-if_goes : (t : Bool) (e : Emptying) (d : Done) → Goes e d → Goes e (cond t d (still e))
-if_goes t e d g = by_test (Goes e) t d (still e) (λ _. g) (λ _. rests e)
+abbrev pub Goes : Emptying → Done → Type 0
+Goes e d = moving.Goes Silent IsCount Emptying items_of no_number e d
 
 -- ---- what the job has it do
 
-stored_quiet : (o : LogOut) → AllQuiet (stored o)
-stored_quiet (log_out.Send fragment member) = (tt, tt)
-stored_quiet (log_out.Settled end rows) = tt
+stored_plain : (o : LogOut) → AllPlain Silent (stored o)
+stored_plain (log_out.Send fragment member) = (tt, tt)
+stored_plain (log_out.Settled end rows) = tt
 
 maps_go : (e : Emptying) (job : Option Job) → Goes e (jobs.asks_maps e job)
 maps_go e None = rests e
-maps_go e (Some job) = record { items = same (items_of e); quiet = (tt, tt) }
+maps_go e (Some job) = plainly e _ refl (same (items_of e)) ((tt, tt))
 
 list_goes : (e : Emptying) (job : Option Job) (server : ℕ) → Goes e (jobs.asks_list e job server)
 list_goes e None server = rests e
-list_goes e (Some job) server = record { items = same (items_of e); quiet = (tt, tt) }
+list_goes e (Some job) server = plainly e _ refl (same (items_of e)) ((tt, tt))
 
 usage_goes : (e : Emptying) (job : Option Job) (slot : ℕ) → Goes e (jobs.asks_usage e job slot)
 usage_goes e None slot = rests e
-usage_goes e (Some job) slot = record { items = same (items_of e); quiet = (tt, tt) }
+usage_goes e (Some job) slot = plainly e _ refl (same (items_of e)) ((tt, tt))
 
 sent_goes : (e : Emptying) (block : BlockId) (place : Place) (ask : Option ℕ) → Goes e (jobs.check_sent e block place ask)
 sent_goes e block place None = rests e
-sent_goes e block place (Some ask) = record { items = same (items_of e); quiet = (tt, tt) }
+sent_goes e block place (Some ask) = plainly e _ refl (same (items_of e)) ((tt, tt))
 
-checked_same : (e : Emptying) (job : Option Job) (block : BlockId) → Same (items_of e) (items_of (jobs.checked_in e job block).state)
+checked_same : (e : Emptying) (job : Option Job) (block : BlockId) → ItemsStay (items_of e) (items_of (jobs.checked_in e job block).state)
 checked_same e None block = same (items_of e)
 checked_same e (Some job) block = same (items_of e)
 
@@ -131,27 +110,27 @@ check_goes : (e : Emptying) (block : BlockId) (place : Place) → Goes e (jobs.a
 unfolding jobs.asks_check jobs.checks_block
 check_goes e block place =
     let c = jobs.checked_in e e.job block in
-    from_goes e c.state (jobs.check_sent c.state block place c.ask) (checked_same e e.job block) (sent_goes c.state block place c.ask)
+    from_goes e c.state (jobs.check_sent c.state block place c.ask) refl (checked_same e e.job block) (sent_goes c.state block place c.ask)
 
-for_quiet : (name : SegName) (r : Option ReadingState) → AllQuiet (fetches_for name r)
-for_quiet name None = tt
-for_quiet name (Some r) = all_map IsQuiet (fetch name r.ask) (λ member. tt) (to_ask r)
+for_plain : (name : SegName) (r : Option ReadingState) → AllPlain Silent (fetches_for name r)
+for_plain name None = tt
+for_plain name (Some r) = all_map (IsPlain Silent) (fetch name r.ask) (λ member. tt) (to_ask r)
 
-fetches_quiet : (hand : Option Hand) → AllQuiet (fetches hand)
-fetches_quiet None = tt
-fetches_quiet (Some hand) = for_quiet hand.seg.name hand.reading
+fetches_plain : (hand : Option Hand) → AllPlain Silent (fetches hand)
+fetches_plain None = tt
+fetches_plain (Some hand) = for_plain hand.seg.name hand.reading
 
-holds_same : (e : Emptying) (job : Option Job) (seg : SegRef) → Same (items_of e) (items_of (jobs.holds_in e job seg))
+holds_same : (e : Emptying) (job : Option Job) (seg : SegRef) → ItemsStay (items_of e) (items_of (jobs.holds_in e job seg))
 holds_same e None seg = same (items_of e)
 holds_same e (Some job) seg = same (items_of e)
 
 reads_go : (e : Emptying) (seg : SegRef) → Goes e (jobs.reads e seg)
 unfolding jobs.reads jobs.holds
-reads_go e seg = record { items = holds_same e e.job seg; quiet = fetches_quiet (hand_of (jobs.holds_in e e.job seg).job) }
+reads_go e seg = plainly e _ refl (holds_same e e.job seg) (fetches_plain (hand_of (jobs.holds_in e e.job seg).job))
 
 puts_go : (e : Emptying) (i : LogIn) → Goes e (jobs.puts e i)
 unfolding jobs.puts
-puts_go e i = record { items = same (items_of e); quiet = all_flat_map IsQuiet stored stored_quiet (log.transition e.log i).outs }
+puts_go e i = plainly e _ refl (same (items_of e)) (all_flat_map (IsPlain Silent) stored stored_plain (log.transition e.log i).outs)
 
 block_goes : (e : Emptying) (one : BlockId × Entry × Option (List ℕ)) → Goes e (jobs.puts_block e one)
 unfolding jobs.puts_block
@@ -163,13 +142,13 @@ moves_go e blocks =
     let d : Done = steps jobs.puts_block e blocks in
     then_goes e d (jobs.puts d.state log_in.Seal) (steps_go jobs.puts_block block_goes e blocks) (puts_go d.state log_in.Seal)
 
-drops_quiet : (first : Bool) (name : SegName) → AllQuiet (drops first name)
-drops_quiet first name = by_test AllQuiet first (Does (Dropped name) ∷ []) [] (λ _. (tt, tt)) (λ _. tt)
+drops_plain : (first : Bool) (name : SegName) → AllPlain Silent (drops first name)
+drops_plain first name = by_test (AllPlain Silent) first (Does (Dropped name) ∷ []) [] (λ _. (tt, tt)) (λ _. tt)
 
 deletes_go : (e : Emptying) (job : Option Job) (server : ℕ) (name : SegName) → Goes e (jobs.deletes e job server name)
 deletes_go e None server name = rests e
 deletes_go e (Some job) server name =
-    record { items = same (items_of e); quiet = all_append IsQuiet (drops (is_whole job.hand) name) _ (drops_quiet (is_whole job.hand) name) (tt, tt) }
+    plainly e _ refl (same (items_of e)) (all_append (IsPlain Silent) (drops (is_whole job.hand) name) _ (drops_plain (is_whole job.hand) name) (tt, tt))
 
 says_go : (e : Emptying) (o : Out) → Goes e (jobs.says e o)
 unfolding jobs.says
@@ -181,9 +160,9 @@ says_go e (out.Check block place) = check_goes e block place
 says_go e (out.Move blocks) = moves_go e blocks
 says_go e (out.Delete server name) = deletes_go e e.job server name
 says_go e (out.Finished count) =
-    record { items = same_answered (items_of e); quiet = answers_quiet e.lasting.items.unanswered (answer.Count count) tt }
+    record { its_number = refl; moves = Last (Ends (answer.Count count) tt) }
 
-taken_same : (e : Emptying) (job : Option Job) (given : In) → Same (items_of e) (items_of (jobs.takes_in e job given).state)
+taken_same : (e : Emptying) (job : Option Job) (given : In) → ItemsStay (items_of e) (items_of (jobs.takes_in e job given).state)
 taken_same e None given = same (items_of e)
 taken_same e (Some job) given = same (items_of e)
 
@@ -191,7 +170,7 @@ cleans_go : (e : Emptying) (given : In) → Goes e (jobs.cleans e given)
 unfolding jobs.cleans jobs.job_takes
 cleans_go e given =
     let t = jobs.takes_in e e.job given in
-    from_goes e t.state (steps jobs.says t.state t.outs) (taken_same e e.job given) (steps_go jobs.says says_go t.state t.outs)
+    from_goes e t.state (steps jobs.says t.state t.outs) refl (taken_same e e.job given) (steps_go jobs.says says_go t.state t.outs)
 
 -- ---- what comes for it
 
@@ -199,16 +178,16 @@ ends_go : (e : Emptying) (read : Option Segment) → Goes e (jobs.ends_reading e
 unfolding jobs.ends_reading
 ends_go e read =
     let f : Emptying = record e { job = job_read e.job } in
-    from_goes e f (jobs.cleans f (input.Read read)) (same (items_of e)) (cleans_go f (input.Read read))
+    from_goes e f (jobs.cleans f (input.Read read)) refl (same (items_of e)) (cleans_go f (input.Read read))
 
 confirmed_go : (e : Emptying) (x : Next) → Goes e (jobs.after_confirmed e x)
-confirmed_go e next.Ask = record { items = same (items_of e); quiet = fetches_quiet (hand_of e.job) }
+confirmed_go e next.Ask = plainly e _ refl (same (items_of e)) (fetches_plain (hand_of e.job))
 confirmed_go e next.Lost = ends_go e None
 confirmed_go e next.Wait = rests e
 confirmed_go e next.Again = rests e
 confirmed_go e (next.Read segment) = rests e
 
-confirmed_same : (e : Emptying) (job : Option Job) (ask : ℕ) → Same (items_of e) (items_of (jobs.confirmed_in e job ask).state)
+confirmed_same : (e : Emptying) (job : Option Job) (ask : ℕ) → ItemsStay (items_of e) (items_of (jobs.confirmed_in e job ask).state)
 confirmed_same e None ask = same (items_of e)
 confirmed_same e (Some job) ask = same (items_of e)
 
@@ -217,7 +196,7 @@ unfolding jobs.reads_again jobs.confirmed
 again_goes e =
     let f : Emptying = jobs.with_questions e (drawn e.lasting.questions) in
     let h = jobs.confirmed_in f f.job (next_ask e.lasting.questions) in
-    from_goes e h.state (jobs.after_confirmed h.state h.next) (confirmed_same f f.job (next_ask e.lasting.questions)) (confirmed_go h.state h.next)
+    from_goes e h.state (jobs.after_confirmed h.state h.next) refl (confirmed_same f f.job (next_ask e.lasting.questions)) (confirmed_go h.state h.next)
 
 after_told_goes : (e : Emptying) (x : Next) → Goes e (jobs.after_told e x)
 after_told_goes e next.Wait = rests e
@@ -227,7 +206,7 @@ after_told_goes e (next.Read segment) = ends_go e (Some segment)
 after_told_goes e next.Lost = ends_go e None
 
 told_same : (e : Emptying) (job : Option Job) (groups : Option GroupMapState) (ask server : ℕ) (t : Answered)
-    → Same (items_of e) (items_of (jobs.told_in e job groups ask server t).state)
+    → ItemsStay (items_of e) (items_of (jobs.told_in e job groups ask server t).state)
 told_same e None groups ask server t = same (items_of e)
 told_same e (Some job) None ask server t = same (items_of e)
 told_same e (Some job) (Some groups) ask server t = same (items_of e)
@@ -237,7 +216,7 @@ unfolding jobs.on_told jobs.told_by
 told_goes e None ask t = rests e
 told_goes e (Some server) ask t =
     let h = jobs.told_in e e.job e.maps.groups ask server t in
-    from_goes e h.state (jobs.after_told h.state h.next) (told_same e e.job e.maps.groups ask server t) (after_told_goes h.state h.next)
+    from_goes e h.state (jobs.after_told h.state h.next) refl (told_same e e.job e.maps.groups ask server t) (after_told_goes h.state h.next)
 
 listed_goes : (e : Emptying) (server : Option ℕ) (listed : Listed) → Goes e (jobs.on_listed e server listed)
 unfolding jobs.on_listed
@@ -267,29 +246,24 @@ promise_goes : (e : Emptying) (slot : ℕ) → Goes e (emptying.promises_slot e 
 unfolding emptying.promises_slot
 promise_goes e slot = cleans_go e (input.Promise slot (epoch_of e.promised slot))
 
--- none has begun, none is answered so, and the item of this number waits then, or one that waited before
-pub record Cleans (e : Emptying) (number : ℕ) (d : Done) : Type 0 where
-  pub begun : d.state.lasting.items.begun ≡ e.lasting.items.begun
-  pub waits : (n : ℕ) → d.state.lasting.items.unanswered ≡ Some n → (e.lasting.items.unanswered ≡ Some n) ⊎ (number ≡ n)
-  pub quiet : AllQuiet d.outs
-
-one_number : (a b : ℕ) → Some a ≡ Some b → a ≡ b
-one_number a b fact = cc
-
-begins_go : (e : Emptying) (number count : ℕ) → Cleans e number (emptying.begins_job e number count)
+-- the item waits, and then there are moves
+pub begins_go : (e : Emptying) (number count : ℕ) → Goes (emptying.with_new_job e number count) (emptying.begins_job e number count)
 unfolding emptying.begins_job emptying.promises_all
 begins_go e number count =
     let f : Emptying = emptying.with_new_job e number count in
     let d : Done = steps emptying.promises_slot f (range_with_len 0 8) in
-    let g : Goes f (saying d.outs (jobs.cleans d.state input.Tick)) =
-    then_goes f d (jobs.cleans d.state input.Tick) (steps_go emptying.promises_slot promise_goes f (range_with_len 0 8)) (cleans_go d.state input.Tick) in
-    record { begun = g.items.begun; waits = λ n fact. inr (one_number number n (g.items.waits n fact)); quiet = g.quiet }
+    then_goes f d (jobs.cleans d.state input.Tick) (steps_go emptying.promises_slot promise_goes f (range_with_len 0 8)) (cleans_go d.state input.Tick)
 
-pub clean_goes : (e : Emptying) (number count : ℕ) → Cleans e number (emptying.on_clean e number count)
+-- or it is busy
+abbrev pub Cleans : ℕ → Emptying → Done → Type 0
+Cleans number e d = moving.Opens Silent IsCount IsBusy Emptying items_of no_number number e d
+
+pub clean_goes : (e : Emptying) (number count : ℕ) → Cleans number e (emptying.on_clean e number count)
 unfolding emptying.on_clean
 clean_goes e number count =
-    by_test (Cleans e number) (is_some e.lasting.items.unanswered) (record { state = e; outs = Answers number answer.Busy ∷ [] })
-    (emptying.begins_job e number count) (λ _. record { begun = refl; waits = λ n fact. inl fact; quiet = (tt, tt) }) (λ _. begins_go e number count)
+    by_test (Cleans number e) (is_some e.lasting.items.unanswered) (record { state = e; outs = Answers number answer.Busy ∷ [] })
+    (emptying.begins_job e number count) (λ _. record { its_number = refl; begun = AtOnce answer.Busy [] [] tt tt tt })
+    (λ _. record { its_number = refl; begun = Waits (begins_go e number count).moves })
 
 -- ---- the log
 
@@ -298,41 +272,41 @@ unfolding emptying.settles
 settles_go e end rows =
     let f : Emptying = emptying.fed e end rows in
     first_goes e (Does (Filed (name_of cleaner_log end)) ∷ pushes_all f.promised.managers f.feed) (jobs.cleans f input.Moved)
-    (tt, all_pushed_quiet f.promised.managers f.feed) (from_goes e f (jobs.cleans f input.Moved) (same (items_of e)) (cleans_go f input.Moved))
+    (tt, all_pushed_plain Silent f.promised.managers f.feed) (from_goes e f (jobs.cleans f input.Moved) refl (same (items_of e)) (cleans_go f input.Moved))
 
 one_goes : (e : Emptying) (o : LogOut) → Goes e (emptying.writes_one e o)
 unfolding emptying.writes_one
-one_goes e (log_out.Send fragment member) = record { items = same (items_of e); quiet = (tt, tt) }
+one_goes e (log_out.Send fragment member) = plainly e _ refl (same (items_of e)) ((tt, tt))
 one_goes e (log_out.Settled end rows) = settles_go e end rows
 
 writes_go : (e : Emptying) (i : LogIn) → Goes e (emptying.writes e i)
 unfolding emptying.writes
 writes_go e i =
     let f : Emptying = record e { log = (log.transition e.log i).state } in
-    from_goes e f (steps emptying.writes_one f (log.transition e.log i).outs) (same (items_of e))
+    from_goes e f (steps emptying.writes_one f (log.transition e.log i).outs) refl (same (items_of e))
     (steps_go emptying.writes_one one_goes f (log.transition e.log i).outs)
 
 ack_goes : (e : Emptying) (a : DeltaAck) → Goes e (emptying.on_ack e a)
 unfolding emptying.on_ack
 ack_goes e a =
     let f : Emptying = record e { feed = feed.acknowledged e.feed a.slot a.applied } in
-    if_goes (epoch_of e.promised a.slot == a.epoch) e (still f) (stays e f (same (items_of e)))
+    if_goes (epoch_of e.promised a.slot == a.epoch) e (still f) (plainly e (still f) refl (same (items_of e)) tt)
 
 -- ---- promises
 
-renews_same : (e : Emptying) (slot epoch : ℕ) → Same (items_of e) (items_of (emptying.renews e slot epoch))
+renews_same : (e : Emptying) (slot epoch : ℕ) → ItemsStay (items_of e) (items_of (emptying.renews e slot epoch))
 renews_same e slot epoch =
-    by_test (λ (f : Emptying). Same (items_of e) (items_of f)) (nat_lt (epoch_of e.promised slot) epoch) (record e { feed = feed.new_epoch e.feed slot }) e
+    by_test (λ (f : Emptying). ItemsStay (items_of e) (items_of f)) (nat_lt (epoch_of e.promised slot) epoch) (record e { feed = feed.new_epoch e.feed slot }) e
     (λ _. same (items_of e)) (λ _. same (items_of e))
 
-promises_same : (e : Emptying) (slot epoch manager : ℕ) → Same (items_of e) (items_of (emptying.promises e slot epoch manager))
+promises_same : (e : Emptying) (slot epoch manager : ℕ) → ItemsStay (items_of e) (items_of (emptying.promises e slot epoch manager))
 unfolding emptying.promises
 promises_same e slot epoch manager = renews_same e slot epoch
 
 promised_goes : (e : Emptying) (slot epoch manager : ℕ) (given : In) → Goes e (jobs.cleans (emptying.promises e slot epoch manager) given)
 promised_goes e slot epoch manager given =
     let f : Emptying = emptying.promises e slot epoch manager in
-    from_goes e f (jobs.cleans f given) (promises_same e slot epoch manager) (cleans_go f given)
+    from_goes e f (jobs.cleans f given) refl (promises_same e slot epoch manager) (cleans_go f given)
 
 polled_goes : (e : Emptying) (manager : ℕ) (p : Poll) → Goes e (emptying.polled e manager p)
 polled_goes e manager p =
@@ -370,7 +344,7 @@ takes_news_goes e news =
     let a : Done = emptying.job_regrouped f newer news.groups in
     let b : Done = emptying.hears_slots a.state news.slots in
     let c : Done = emptying.log_regrouped b.state newer news.groups in
-    from_goes e f (saying a.outs (saying b.outs c)) (same (items_of e))
+    from_goes e f (saying a.outs (saying b.outs c)) refl (same (items_of e))
     (then_goes f a (saying b.outs c) (if_goes newer f _ (cleans_go f (input.Maps news.groups)))
     (then_goes a.state b c (slots_go a.state news.slots) (if_goes newer b.state _ (writes_go b.state (log_in.Maps news.groups)))))
 
@@ -386,7 +360,7 @@ unfolding emptying.welcomes
 welcomes_go e w =
     let f : Emptying = record e { job = greeted e.job } in
     if_goes (is_out (hello_of e.job) w.ask) e _
-    (from_goes e f (emptying.welcomes_over f w.news.slots e.maps.groups) (same (items_of e)) (over_goes f w.news.slots e.maps.groups))
+    (from_goes e f (emptying.welcomes_over f w.news.slots e.maps.groups) refl (same (items_of e)) (over_goes f w.news.slots e.maps.groups))
 
 welcome_goes : (e : Emptying) (w : Welcome) → Goes e (emptying.on_welcome e w)
 unfolding emptying.on_welcome
@@ -416,7 +390,7 @@ pub packet_goes : (e : Emptying) (packet : Packet) → Goes e (emptying.on_packe
 unfolding emptying.on_packet
 packet_goes e packet =
     by_test (Goes e) (names_known e.maps packet.body) (emptying.on_body e packet.from packet.body) (emptying.asks_for_maps e)
-    (λ _. body_goes e packet.from packet.body) (λ _. record { items = same (items_of e); quiet = (tt, tt) })
+    (λ _. body_goes e packet.from packet.body) (λ _. plainly e _ refl (same (items_of e)) ((tt, tt)))
 
 pub tick_goes : (e : Emptying) → Goes e (emptying.on_tick e)
 unfolding emptying.on_tick
@@ -426,4 +400,4 @@ tick_goes e =
     let pushed : List Effect = pushes_all l.state.promised.managers l.state.feed in
     then_goes e j (saying l.outs (record { state = l.state; outs = pushed })) (cleans_go e input.Tick)
     (then_goes j.state l (record { state = l.state; outs = pushed }) (writes_go j.state log_in.Tick)
-    (record { items = same (items_of l.state); quiet = all_pushed_quiet l.state.promised.managers l.state.feed }))
+    (plainly l.state _ refl (same (items_of l.state)) (all_pushed_plain Silent l.state.promised.managers l.state.feed)))

@@ -1,6 +1,5 @@
--- The opening of a log answers no item, and where it ends because a segment is lost, it says so.
+-- The opening of a log answers no item, and where it ends because a segment is lost, it says so; so what it makes of the items of its node.
 use Rattle.std.proofs.Common.{ℕ, ◌&&◌, List, [], ◌∷◌, ◌++◌, Option, Some, None, inl, refl}
-use Rattle.std.specs.List.{AllByRecursion}
 use Rattle.client_log.specs.declared.input.In.{In as LogIn}
 use Rattle.client_log.specs.declared.input.In.TheVariants as log_in
 use Rattle.client_log.specs.Transition as log
@@ -44,27 +43,36 @@ use Rattle.xfs_base.proofs.Booleans.{by_test}
 use Rattle.xfs_base.specs.declared.node.NodeId.{NodeId}
 use Rattle.xfs_base.specs.declared.segment.End.{End}
 use Rattle.xfs_base.specs.Steps.{saying, steps, still}
-use Rattle.run_losses.proofs.answer_law.Telling.{AllPlain, IsPlain, NoAnswer, in_behind}
+use Rattle.log_owner.proofs.Behaving as behaving
+use Rattle.node_base.specs.Beginning.{answered, answers_unanswered}
+use Rattle.node_base.specs.declared.items.Items.{Items}
+use Rattle.version_model.specs.declared.answer.Answer.{Answer}
+use Rattle.version_model.specs.declared.answer.Answer.TheVariants as answer
+use Rattle.xfs_base.proofs.Alls.{all_weaker}
+use Rattle.xfs_base.specs.declared.segment.SegName.{SegName}
+use Rattle.serving_moves.proofs.item_moves.Keeping.{in_behind, no_loss_told, same}
+use Rattle.serving_moves.proofs.item_moves.Settling.{packet_settles, stage_plain, tick_settles}
+use Rattle.serving_moves.specs.item_moves.Events.{log_losses}
+use Rattle.serving_moves.specs.item_moves.Moves.{AllPlain, IsPlain, IsSilent, MayAnswer, Moves, Losses}
+use Rattle.serving_moves.specs.item_moves.Moves.Move.{Stays, Ends, Loses}
+use Rattle.serving_moves.specs.item_moves.Moves.Moves.{Last, Then}
+use Rattle.serving_moves.specs.item_moves.Moves.Losses.{Answering}
 
 -- ---- it answers nothing
 
-act_plain : (a : Act) → MayAct a → NoAnswer a
+act_plain : (a : Act) → MayAct a → IsSilent a
 act_plain (act.Answered node item x) may = may
 act_plain (act.Lost node name) may = may
 act_plain _ may = tt
 
-one_plain : (owner : Owner) (e : Effect) → MayDo owner e → IsPlain e
+one_plain : (owner : Owner) (e : Effect) → MayDo owner e → IsPlain Answering e
 one_plain owner (Send to said) may = tt
 one_plain owner (Answers item a) may = absurd may
 one_plain owner (Lose name) may = tt
 one_plain owner (Does a) may = act_plain a may
 
-all_plain : (owner : Owner) (outs : List Effect) → AllByRecursion (MayDo owner) outs → AllPlain outs
-all_plain owner [] all = tt
-all_plain owner (e ∷ outs) all = (one_plain owner e all.0, all_plain owner outs all.1)
-
-pub behaves_plain : (owner : Owner) (w : Went) → Behaves owner w → AllPlain w.effects
-behaves_plain owner w b = all_plain owner w.effects b.does
+pub behaves_plain : (owner : Owner) (w : Went) → Behaves owner w → AllPlain Answering w.effects
+behaves_plain owner w b = all_weaker (MayDo owner) (IsPlain Answering) (one_plain owner) w.effects b.does
 
 -- ---- it says what is lost
 
@@ -74,7 +82,7 @@ SaysLoss (progress.Opening o) outs = Unit {0}
 SaysLoss (progress.Opened o) outs = Unit {0}
 SaysLoss (progress.Lost name) outs = In (Lose name) outs
 
-abbrev pub WentSo : Went → Type 0
+abbrev WentSo : Went → Type 0
 WentSo w = SaysLoss w.progress w.effects
 
 abbrev MovedSo : Moved → Type 0
@@ -187,7 +195,7 @@ stored_so o q s = by_stage o.stage
     by_stage (stage.Scanning scanning) = tt
     by_stage (stage.Settling settling) = writes_so o.known settling (log_in.Acked s.name s.index s.generation)
 
-pub tick_so : (o : Opening) (q : Questions) → WentSo (on_tick o q)
+tick_so : (o : Opening) (q : Questions) → WentSo (on_tick o q)
 unfolding on_tick
 tick_so o q = by_stage o.stage
   where
@@ -207,7 +215,44 @@ body_so o q from (body.Missing m) =
 body_so o q from (body.Stored s) = stored_so o q s
 body_so o q from _ = tt
 
-pub packet_so : (o : Opening) (q : Questions) (p : Packet) → WentSo (on_packet o q p)
+packet_so : (o : Opening) (q : Questions) (p : Packet) → WentSo (on_packet o q p)
 unfolding on_packet
 packet_so o q p =
     by_test WentSo (names_known o.known.maps p.body) (on_body o q p.from p.body) _ (λ _. body_so o q p.from p.body) (λ _. tt)
+
+-- ---- what it makes of the items of its node
+
+-- it answers nothing, says that a segment is lost only while it scans its log, and, where it ends so, among what is said
+pub record Goes (o : Opening) (w : Went) : Type 0 where
+  pub plain : AllPlain (log_losses o.stage) w.effects
+  pub says : SaysLoss w.progress w.effects
+
+pub packet_goes : (o : Opening) (q : Questions) (p : Packet) → Goes o (on_packet o q p)
+packet_goes o q p = record {
+  plain = stage_plain o.stage (on_packet o q p).effects (behaves_plain o.known.owner (on_packet o q p) (behaving.packet_so o q p)) (packet_settles o q p);
+  says = packet_so o q p;
+}
+
+pub tick_goes : (o : Opening) (q : Questions) → Goes o (on_tick o q)
+tick_goes o q = record {
+  plain = stage_plain o.stage (on_tick o q).effects (behaves_plain o.known.owner (on_tick o q) (behaving.tick_so o q)) (tick_settles o q);
+  says = tick_so o q;
+}
+
+-- only one that scans its log says so
+pub may_answer : (at : Stage) (outs : List Effect) (name : SegName) → AllPlain (log_losses at) outs → In (Lose name) outs → MayAnswer (log_losses at)
+may_answer (stage.Scanning s) outs name plain among = tt
+may_answer (stage.Settling s) outs name plain among = absurd (no_loss_told outs name plain among)
+
+module _ (losses : Losses) (J : Answer → Type 0) (items : Items) (outs : List Effect) (plain : AllPlain losses outs) where
+  -- it goes on, or is over, and says so; or a segment is lost
+  pub goes_on : Moves losses J items (outs ++ []) items
+  goes_on = Then items outs [] (Stays (same items) plain) (Last (Stays (same items) tt))
+
+  pub is_back : J answer.Done → (more : List Effect) → AllPlain losses more
+      → Moves losses J items (outs ++ (more ++ answers_unanswered items.unanswered answer.Done)) (answered items)
+  is_back so more rest =
+      Then items outs _ (Stays (same items) plain) (Then items more _ (Stays (same items) rest) (Last (Ends answer.Done so)))
+
+  pub is_lost : (name : SegName) → MayAnswer losses → In (Lose name) outs → Moves losses J items (outs ++ answers_unanswered items.unanswered (answer.Lost name)) (answered items)
+  is_lost name may among = Last (Loses name outs may plain among)

@@ -1,5 +1,6 @@
 -- Once an opening has read its log, and its first segment is in flight, it says of no segment that it is lost.
-use Rattle.std.proofs.Common.{ℕ, ◌&&◌, List, ◌++◌, Option, Some, None, map}
+use Rattle.std.proofs.Common.{ℕ, ◌&&◌, List, [], ◌∷◌, Option, Some, None, map}
+use Rattle.std.specs.List.{AllByRecursion}
 use Rattle.client_log.specs.declared.input.In.{In as LogIn}
 use Rattle.client_log.specs.declared.input.In.TheVariants as log_in
 use Rattle.client_log.specs.declared.output.Out.{Out as LogOut}
@@ -17,6 +18,7 @@ use Rattle.log_owner.specs.Sending.{server_in}
 use Rattle.log_scan.specs.declared.input.In.{In as ScanIn}
 use Rattle.log_scan.specs.declared.input.In.TheVariants as input
 use Rattle.node_base.specs.declared.effects.Effect.{Effect}
+use Rattle.node_base.specs.declared.effects.Effect.TheVariants.{Send, Answer as Answers, Lose, Does}
 use Rattle.node_base.specs.declared.questions.Questions.{Questions}
 use Rattle.node_base.specs.Known.{names_known}
 use Rattle.node_base.specs.Maps.{fits, is_older, taken}
@@ -32,9 +34,28 @@ use Rattle.xfs_base.proofs.Booleans.{by_test}
 use Rattle.xfs_base.specs.declared.node.NodeId.{NodeId}
 use Rattle.xfs_base.specs.declared.segment.End.{End}
 use Rattle.xfs_base.proofs.Alls.{all_append, all_map}
-use Rattle.run_losses.proofs.answer_law.Telling.{IsNoLoss, NoLosses, all_steps}
+use Rattle.serving_moves.proofs.item_moves.Keeping.{all_steps}
+use Rattle.serving_moves.specs.item_moves.Events.{log_losses}
+use Rattle.serving_moves.specs.item_moves.Moves.{AllPlain}
+use Rattle.serving_moves.specs.item_moves.Moves.Losses.{Silent, Answering}
 
--- it reads its log still, or none of these says that a segment is lost
+-- ---- effects that say of no segment that it is lost
+
+abbrev pub IsNoLoss : Effect → Type 0
+IsNoLoss (Lose name) = ⊥
+IsNoLoss _ = Unit {0}
+
+abbrev pub NoLosses : List Effect → Type 0
+NoLosses outs = AllByRecursion IsNoLoss outs
+
+plain_without : (outs : List Effect) → AllPlain Answering outs → NoLosses outs → AllPlain Silent outs
+plain_without [] plain none = tt
+plain_without (Send to b ∷ outs) plain none = (tt, plain_without outs plain.1 none.1)
+plain_without (Answers item a ∷ outs) plain none = absurd plain.0
+plain_without (Lose name ∷ outs) plain none = absurd none.0
+plain_without (Does a ∷ outs) plain none = (plain.0, plain_without outs plain.1 none.1)
+
+-- it losses its log still, or none of these says that a segment is lost
 abbrev pub UnlessScans : Stage → List Effect → Type 0
 UnlessScans (stage.Scanning s) outs = Unit {0}
 UnlessScans (stage.Settling s) outs = NoLosses outs
@@ -43,9 +64,9 @@ pub unless_scans : (at : Stage) (outs : List Effect) → NoLosses outs → Unles
 unless_scans (stage.Scanning s) outs none = tt
 unless_scans (stage.Settling s) outs none = none
 
-pub unless_then : (at : Stage) (xs ys : List Effect) → UnlessScans at xs → NoLosses ys → UnlessScans at (xs ++ ys)
-unless_then (stage.Scanning s) xs ys h none = tt
-unless_then (stage.Settling s) xs ys h none = all_append IsNoLoss xs ys h none
+pub stage_plain : (at : Stage) (outs : List Effect) → AllPlain Answering outs → UnlessScans at outs → AllPlain (log_losses at) outs
+stage_plain (stage.Scanning s) outs plain unless = plain
+stage_plain (stage.Settling s) outs plain none = plain_without outs plain none
 
 -- ---- the first segment
 

@@ -34,11 +34,13 @@ use Rattle.xfs_base.specs.declared.segment.LogId.{LogId}
 use Rattle.xfs_base.specs.declared.segment.SegName.{SegName}
 use Rattle.xfs_base.specs.Steps.{Stepped, still}
 use Rattle.xfs_base.proofs.Alls.{all_flat_map}
-use Rattle.run_losses.proofs.answer_law.Telling.{AllPlain, IsPlain, all_steps}
+use Rattle.serving_moves.proofs.item_moves.Keeping.{all_steps}
+use Rattle.serving_moves.specs.item_moves.Moves.{AllPlain, IsPlain}
+use Rattle.serving_moves.specs.item_moves.Moves.Losses.{Telling}
 
 -- ---- one slot
 
-said_plain : (slot epoch : ℕ) (o : SlotOut) → AllPlain (tokens.said slot epoch o)
+said_plain : (slot epoch : ℕ) (o : SlotOut) → AllPlain Telling (tokens.said slot epoch o)
 unfolding tokens.said
 said_plain slot epoch (slot_out.Grant client block stamp inc req mode entry) = (tt, tt)
 said_plain slot epoch (slot_out.Forward client block stamp to inc req ver) = (tt, tt)
@@ -47,34 +49,34 @@ said_plain slot epoch (slot_out.Applied log applied) = (tt, tt)
 said_plain slot epoch (slot_out.Live entry) = tt
 said_plain slot epoch slot_out.Dead = tt
 
-takes_plain : (p : SlotPhase) (slot : ℕ) (given : SlotIn) → AllPlain (tokens.takes p slot given).outs
+takes_plain : (p : SlotPhase) (slot : ℕ) (given : SlotIn) → AllPlain Telling (tokens.takes p slot given).outs
 unfolding tokens.takes
 takes_plain (phase.Active a) slot given =
-    all_flat_map IsPlain (tokens.said slot a.slot.epoch) (said_plain slot a.slot.epoch) (transition a.slot given).outs
+    all_flat_map (IsPlain Telling) (tokens.said slot a.slot.epoch) (said_plain slot a.slot.epoch) (transition a.slot given).outs
 takes_plain (phase.Away epoch) slot given = tt
 takes_plain (phase.Taking t) slot given = tt
 takes_plain (phase.Broken epoch seg) slot given = tt
 
-want_plain : (p : SlotPhase) (client : ℕ) (want : Want) → AllPlain (tokens.on_want p client want).outs
+want_plain : (p : SlotPhase) (client : ℕ) (want : Want) → AllPlain Telling (tokens.on_want p client want).outs
 unfolding tokens.on_want
 want_plain (phase.Broken epoch seg) client want = (tt, tt)
 want_plain (phase.Active a) client want = takes_plain (phase.Active a) (slot_of want.block.ino.0) (tokens.want_input client want)
 want_plain (phase.Away epoch) client want = takes_plain (phase.Away epoch) (slot_of want.block.ino.0) (tokens.want_input client want)
 want_plain (phase.Taking t) client want = takes_plain (phase.Taking t) (slot_of want.block.ino.0) (tokens.want_input client want)
 
-checked_plain : (check : Check) (epoch : ℕ) (o : SlotOut) → AllPlain (tokens.check_said check epoch o)
+checked_plain : (check : Check) (epoch : ℕ) (o : SlotOut) → AllPlain Telling (tokens.check_said check epoch o)
 unfolding tokens.check_said
 checked_plain check epoch o = (tt, tt)
 
-check_plain : (p : SlotPhase) (check : Check) → AllPlain (tokens.on_check p check).outs
+check_plain : (p : SlotPhase) (check : Check) → AllPlain Telling (tokens.on_check p check).outs
 unfolding tokens.on_check
 check_plain (phase.Active a) check =
-    all_flat_map IsPlain (tokens.check_said check a.slot.epoch) (checked_plain check a.slot.epoch) (transition a.slot (tokens.check_input check)).outs
+    all_flat_map (IsPlain Telling) (tokens.check_said check a.slot.epoch) (checked_plain check a.slot.epoch) (transition a.slot (tokens.check_input check)).outs
 check_plain (phase.Away epoch) check = tt
 check_plain (phase.Taking t) check = tt
 check_plain (phase.Broken epoch seg) check = tt
 
-usage_plain : (p : SlotPhase) (asked : UsageAsk) → AllPlain (tokens.on_usage_ask p asked)
+usage_plain : (p : SlotPhase) (asked : UsageAsk) → AllPlain Telling (tokens.on_usage_ask p asked)
 unfolding tokens.on_usage_ask
 usage_plain (phase.Active a) asked = (tt, tt)
 usage_plain (phase.Away epoch) asked = tt
@@ -83,120 +85,120 @@ usage_plain (phase.Broken epoch seg) asked = tt
 
 -- ---- the table
 
-at_slot_plain : (t : Table) (k : ℕ) (event : SlotPhase → Stepped SlotPhase Effect) → ((p : SlotPhase) → AllPlain (event p).outs)
-    → AllPlain (table.at_slot t k event).outs
+at_slot_plain : (t : Table) (k : ℕ) (event : SlotPhase → Stepped SlotPhase Effect) → ((p : SlotPhase) → AllPlain Telling (event p).outs)
+    → AllPlain Telling (table.at_slot t k event).outs
 at_slot_plain t k event each = by (slice_get t k)
   where
-    by : (o : Option SlotPhase) → AllPlain (table.in_slot t k event o).outs
+    by : (o : Option SlotPhase) → AllPlain Telling (table.in_slot t k event o).outs
     by None = tt
     by (Some p) = each p
 
-pub table_want : (t : Table) (client : ℕ) (want : Want) → AllPlain (table.on_want t client want).outs
+pub table_want : (t : Table) (client : ℕ) (want : Want) → AllPlain Telling (table.on_want t client want).outs
 unfolding table.on_want
 table_want t client want = at_slot_plain t (slot_of want.block.ino.0) (λ p. tokens.on_want p client want) (λ p. want_plain p client want)
 
-pub table_gave : (t : Table) (client : ℕ) (gave : Gave) → AllPlain (table.on_gave t client gave).outs
+pub table_gave : (t : Table) (client : ℕ) (gave : Gave) → AllPlain Telling (table.on_gave t client gave).outs
 unfolding table.on_gave
 table_gave t client gave =
     at_slot_plain t (slot_of gave.block.ino.0) (λ p. tokens.on_gave p client gave)
     (λ p. takes_plain p (slot_of gave.block.ino.0) (tokens.gave_input client gave))
 
-pub table_deltas : (t : Table) (log : LogId) (deltas : Deltas) → AllPlain (table.on_deltas t log deltas).outs
+pub table_deltas : (t : Table) (log : LogId) (deltas : Deltas) → AllPlain Telling (table.on_deltas t log deltas).outs
 unfolding table.on_deltas
 table_deltas t log deltas =
     at_slot_plain t deltas.slot (λ p. tokens.on_deltas p log deltas) (λ p. takes_plain p deltas.slot (tokens.deltas_input log deltas))
 
-pub table_check : (t : Table) (check : Check) → AllPlain (table.on_check t check).outs
+pub table_check : (t : Table) (check : Check) → AllPlain Telling (table.on_check t check).outs
 unfolding table.on_check
 table_check t check = at_slot_plain t (slot_of check.block.ino.0) (λ p. tokens.on_check p check) (λ p. check_plain p check)
 
-pub table_usage : (t : Table) (asked : UsageAsk) → AllPlain (table.on_usage_ask t asked)
+pub table_usage : (t : Table) (asked : UsageAsk) → AllPlain Telling (table.on_usage_ask t asked)
 unfolding table.on_usage_ask
 table_usage t asked = by (slice_get t asked.slot)
   where
-    by : (o : Option SlotPhase) → AllPlain (table.usage_in asked o)
+    by : (o : Option SlotPhase) → AllPlain Telling (table.usage_in asked o)
     by None = tt
     by (Some p) = usage_plain p asked
 
-recalls_plain : (t : Table) (k : ℕ) → AllPlain (table.recalls t k).outs
+recalls_plain : (t : Table) (k : ℕ) → AllPlain Telling (table.recalls t k).outs
 unfolding table.recalls
 recalls_plain t k = at_slot_plain t k (λ p. tokens.on_tick p k) (λ p. takes_plain p k slot_in.Tick)
 
-pub table_recalls : (t : Table) → AllPlain (table.recalls_all t).outs
-table_recalls t = all_steps table.recalls IsPlain recalls_plain t all_slots
+pub table_recalls : (t : Table) → AllPlain Telling (table.recalls_all t).outs
+table_recalls t = all_steps table.recalls (IsPlain Telling) recalls_plain t all_slots
 
 -- ---- takeovers
 
-fetches_plain : (p : SlotPhase) (q : Questions) (server : ℕ) (name : SegName) (own : ℕ) → AllPlain (takeovers.fetches p q server name own).outs
+fetches_plain : (p : SlotPhase) (q : Questions) (server : ℕ) (name : SegName) (own : ℕ) → AllPlain Telling (takeovers.fetches p q server name own).outs
 fetches_plain (phase.Taking t) q server name own = (tt, tt)
 fetches_plain (phase.Away epoch) q server name own = tt
 fetches_plain (phase.Active a) q server name own = tt
 fetches_plain (phase.Broken epoch seg) q server name own = tt
 
-says_plain : (slot : ℕ) (a : Asker) (o : TakeOut) → AllPlain (takeovers.says slot a o).outs
+says_plain : (slot : ℕ) (a : Asker) (o : TakeOut) → AllPlain Telling (takeovers.says slot a o).outs
 unfolding takeovers.says
 says_plain slot a (take_out.Poll to) = (tt, tt)
 says_plain slot a (take_out.Fetch server name own) = fetches_plain a.phase a.questions server name own
 says_plain slot a (take_out.Active epoch index beliefs applied) = tt
 says_plain slot a (take_out.Lost seg) = (tt, tt)
 
-each_plain : (slot : ℕ) (a : Asker) (outs : List TakeOut) → AllPlain (takeovers.says_each slot a outs).outs
+each_plain : (slot : ℕ) (a : Asker) (outs : List TakeOut) → AllPlain Telling (takeovers.says_each slot a outs).outs
 unfolding takeovers.says_each
-each_plain slot a outs = all_steps (takeovers.says slot) IsPlain (says_plain slot) a outs
+each_plain slot a outs = all_steps (takeovers.says slot) (IsPlain Telling) (says_plain slot) a outs
 
-taken_plain : (a : Asker) (slot : ℕ) (given : TakeIn) → AllPlain (takeovers.takes a slot given).outs
+taken_plain : (a : Asker) (slot : ℕ) (given : TakeIn) → AllPlain Telling (takeovers.takes a slot given).outs
 unfolding takeovers.takes
 taken_plain a slot given =
     each_plain slot (record a { phase = (takeovers.heard a.phase given).state }) (takeovers.heard a.phase given).outs
 
-asked_plain : (a : Asker) (slot : ℕ) (polls : Bool) → AllPlain (takeovers.asks_again a slot polls).outs
+asked_plain : (a : Asker) (slot : ℕ) (polls : Bool) → AllPlain Telling (takeovers.asks_again a slot polls).outs
 unfolding takeovers.asks_again
 asked_plain a slot polls = each_plain slot _ _
 
-report_plain : (a : Asker) (from : NodeId) (report : Report) → AllPlain (takeovers.on_report a from report).outs
+report_plain : (a : Asker) (from : NodeId) (report : Report) → AllPlain Telling (takeovers.on_report a from report).outs
 report_plain a from report =
-    by_test (λ (d : Stepped Asker Effect). AllPlain d.outs) (report.epoch == epoch_of a.phase)
+    by_test (λ (d : Stepped Asker Effect). AllPlain Telling d.outs) (report.epoch == epoch_of a.phase)
     (takeovers.takes a report.slot (takeovers.report_input from report)) (still a)
     (λ _. taken_plain a report.slot (takeovers.report_input from report)) (λ _. tt)
 
-at_taken_plain : (a : TableAsker) (slot : ℕ) (event : Asker → Stepped Asker Effect) → ((one : Asker) → AllPlain (event one).outs)
-    → AllPlain (table.at_taken a slot event).outs
+at_taken_plain : (a : TableAsker) (slot : ℕ) (event : Asker → Stepped Asker Effect) → ((one : Asker) → AllPlain Telling (event one).outs)
+    → AllPlain Telling (table.at_taken a slot event).outs
 at_taken_plain a slot event each = by (slice_get a.table slot)
   where
-    by : (o : Option SlotPhase) → AllPlain (table.in_taken a slot event o).outs
+    by : (o : Option SlotPhase) → AllPlain Telling (table.in_taken a slot event o).outs
     by None = tt
     by (Some p) = each (asker p a.questions)
 
-pub table_takes : (a : TableAsker) (slot : ℕ) (given : TakeIn) → AllPlain (table.takes a slot given).outs
+pub table_takes : (a : TableAsker) (slot : ℕ) (given : TakeIn) → AllPlain Telling (table.takes a slot given).outs
 unfolding table.takes
 table_takes a slot given = at_taken_plain a slot (λ one. takeovers.takes one slot given) (λ one. taken_plain one slot given)
 
-pub table_report : (a : TableAsker) (from : NodeId) (report : Report) → AllPlain (table.on_report a from report).outs
+pub table_report : (a : TableAsker) (from : NodeId) (report : Report) → AllPlain Telling (table.on_report a from report).outs
 unfolding table.on_report
 table_report a from report = at_taken_plain a report.slot (λ one. takeovers.on_report one from report) (λ one. report_plain one from report)
 
-asks_plain : (polls : Bool) (a : TableAsker) (slot : ℕ) → AllPlain (table.asks polls a slot).outs
+asks_plain : (polls : Bool) (a : TableAsker) (slot : ℕ) → AllPlain Telling (table.asks polls a slot).outs
 unfolding table.asks
 asks_plain polls a slot = at_taken_plain a slot (λ one. takeovers.asks_again one slot polls) (λ one. asked_plain one slot polls)
 
-pub table_asks : (polls : Bool) (a : TableAsker) → AllPlain (table.asks_all polls a).outs
-table_asks polls a = all_steps (table.asks polls) IsPlain (asks_plain polls) a all_slots
+pub table_asks : (polls : Bool) (a : TableAsker) → AllPlain Telling (table.asks_all polls a).outs
+table_asks polls a = all_steps (table.asks polls) (IsPlain Telling) (asks_plain polls) a all_slots
 
-regroups_plain : (groups : GroupMapState) (a : TableAsker) (slot : ℕ) → AllPlain (table.regroups groups a slot).outs
+regroups_plain : (groups : GroupMapState) (a : TableAsker) (slot : ℕ) → AllPlain Telling (table.regroups groups a slot).outs
 regroups_plain groups a slot = table_takes a slot (take_in.Maps groups)
 
-pub table_regroups : (groups : GroupMapState) (a : TableAsker) → AllPlain (table.regroups_all groups a).outs
-table_regroups groups a = all_steps (table.regroups groups) IsPlain (regroups_plain groups) a all_slots
+pub table_regroups : (groups : GroupMapState) (a : TableAsker) → AllPlain Telling (table.regroups_all groups a).outs
+table_regroups groups a = all_steps (table.regroups groups) (IsPlain Telling) (regroups_plain groups) a all_slots
 
-hears_of_plain : (h : Hearer) (news : SlotNews) (one : Asker) → AllPlain (table.hears_of h news one).outs
+hears_of_plain : (h : Hearer) (news : SlotNews) (one : Asker) → AllPlain Telling (table.hears_of h news one).outs
 unfolding table.hears_of
 hears_of_plain h news one =
-    by_test (λ (d : Stepped Asker Effect). AllPlain d.outs) (nat_lt (epoch_of one.phase) news.epoch) _ (still one) (λ _. taken_plain _ news.slot take_in.Tick)
+    by_test (λ (d : Stepped Asker Effect). AllPlain Telling d.outs) (nat_lt (epoch_of one.phase) news.epoch) _ (still one) (λ _. taken_plain _ news.slot take_in.Tick)
     (λ _. tt)
 
-hears_plain : (h : Hearer) (a : TableAsker) (news : SlotNews) → AllPlain (table.hears h a news).outs
+hears_plain : (h : Hearer) (a : TableAsker) (news : SlotNews) → AllPlain Telling (table.hears h a news).outs
 unfolding table.hears
 hears_plain h a news = at_taken_plain a news.slot (table.hears_of h news) (hears_of_plain h news)
 
-pub table_hears : (h : Hearer) (a : TableAsker) (slots : List SlotNews) → AllPlain (table.hears_all h a slots).outs
-table_hears h a slots = all_steps (table.hears h) IsPlain (hears_plain h) a slots
+pub table_hears : (h : Hearer) (a : TableAsker) (slots : List SlotNews) → AllPlain Telling (table.hears_all h a slots).outs
+table_hears h a slots = all_steps (table.hears h) (IsPlain Telling) (hears_plain h) a slots

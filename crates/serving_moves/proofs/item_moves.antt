@@ -1,0 +1,16 @@
+pub mod Begins
+pub mod Keeping
+pub mod Reading
+pub mod Slots
+pub mod ManagerServing
+pub mod Managers
+pub mod Servers
+pub mod Registries
+pub mod Settling
+pub mod Openings
+pub mod Plans
+pub mod ClientServing
+pub mod Calling
+pub mod Clients
+pub mod Emptying
+pub mod Cleaners

@@ -1,0 +1,74 @@
+-- What a client that serves makes of its items for what comes, for time and for a call on blocks, read off its moves: it answers the open item only where a
+-- segment is lost.
+use Rattle.std.proofs.Common.{◌≡◌, Some, [], ◌∷◌, inl, ℕ, refl}
+use Rattle.client_running.specs.Blocks.{makes}
+use Rattle.client_serving.specs.declared.serving.Serving.{Serving}
+use Rattle.client_serving.specs.Follow.{seals}
+use Rattle.client_serving.specs.Packets.{on_packet, on_tick}
+use Rattle.client_serving.specs.Reads.{loses}
+use Rattle.client_serving.specs.Sends.{Done}
+use Rattle.file_plan.specs.declared.block_call.BlockCall.{BlockCall}
+use Rattle.node_base.specs.declared.effects.Effect.TheVariants.{Lose}
+use Rattle.wire_msg.specs.declared.packet.Packet.{Packet}
+use Rattle.xfs_base.specs.declared.block.BlockId.{BlockId}
+use Rattle.xfs_base.specs.declared.segment.SegName.{SegName}
+use Rattle.xfs_base.specs.Steps.{saying}
+use Rattle.node_base.specs.declared.items.Items.{Items}
+use Rattle.serving_moves.proofs.client_moves.Arriving as arriving
+use Rattle.serving_moves.proofs.client_moves.Blocks as blocks
+use Rattle.serving_moves.proofs.client_moves.Following as following
+use Rattle.serving_moves.proofs.client_moves.Keeping.{call_then, no_call}
+use Rattle.serving_moves.proofs.client_moves.Reading.{of_moves}
+use Rattle.serving_moves.proofs.item_moves.Keeping as moving
+use Rattle.serving_moves.proofs.item_moves.Keeping.{moves_stay, plainly, then_goes}
+use Rattle.serving_moves.specs.client_moves.Moves.{CallStays, Kept, Moves}
+use Rattle.serving_moves.specs.item_moves.Moves.{AllPlain, IsNone, ItemsStay}
+use Rattle.serving_moves.specs.item_moves.Moves.Losses.{Answering}
+use Rattle.serving_moves.specs.item_moves.Moves.Move.{Loses}
+use Rattle.serving_moves.specs.item_moves.Moves.Moves.{Last}
+
+abbrev pub items_of : Serving → Items
+items_of s = s.lasting.items
+
+abbrev pub number_of : Serving → ℕ
+number_of s = s.lasting.number
+
+-- the item that is open
+abbrev pub IsOpen : Serving → ℕ → Type 0
+IsOpen s number = s.lasting.items.unanswered ≡ Some number
+
+-- its open call stays, or is over
+pub record Goes (s : Serving) (d : Done) : Type 0 where
+  pub calls : CallStays s.call d.state.call
+  pub does : moving.Goes Answering IsNone Serving items_of number_of s d
+
+plain_goes : (s : Serving) (d : Done) → Kept s d.state → AllPlain Answering d.outs → Goes s d
+plain_goes s d k plain = record { calls = k.calls; does = plainly s d k.number k.items plain }
+
+loses_goes : (s : Serving) (block : BlockId) (name : SegName) → Goes s (loses s block name)
+unfolding loses
+loses_goes s block name = record {
+  calls = no_call s.call;
+  does = record { its_number = refl; moves = Last (Loses name (Lose name ∷ []) tt (tt, tt) (inl refl)) };
+}
+
+both_go : (s : Serving) (d x : Done) → Goes s d → Goes d.state x → Goes s (saying d.outs x)
+both_go s d x a b = record { calls = call_then s.call d.state.call x.state.call a.calls b.calls; does = then_goes s d x a.does b.does }
+
+moves_go : (s : Serving) (d : Done) → Moves s d → Goes s d
+moves_go = of_moves Goes plain_goes loses_goes both_go
+
+pub packet_goes : (s : Serving) (packet : Packet) → Goes s (on_packet s packet)
+packet_goes s packet = moves_go s (on_packet s packet) (arriving.packet_goes s packet)
+
+pub tick_goes : (s : Serving) → Goes s (on_tick s)
+tick_goes s = moves_go s (on_tick s) (arriving.tick_goes s)
+
+pub seals_go : (s : Serving) → Goes s (seals s)
+seals_go s = moves_go s (seals s) (following.seals_go s)
+
+pub makes_go : (s : Serving) (call : BlockCall) → Goes s (makes s call).done
+makes_go s call = moves_go s (makes s call).done (blocks.makes_go s call)
+
+pub items_stay : (s : Serving) (d : Done) → Goes s d → ItemsStay (items_of s) (items_of d.state)
+items_stay s d g = moves_stay Answering IsNone (items_of s) (items_of d.state) d.outs g.does.moves
