@@ -1,6 +1,5 @@
 mod Telling
 mod Foundations
-mod Plans
 mod Trails
 mod Calling
 mod Clients
@@ -11,5 +10,5 @@ mod Incarnations
 mod Filing
 mod Cleaners
 mod Others
-mod Runs
+pub mod Runs
 mod Answered

@@ -1,2 +1,3 @@
 pub mod act_law
 pub mod once_law
+pub mod standing_law

@@ -1,5 +1,5 @@
-//! What a run's answers say, in every run of the nodes: each item is answered at most once, by its own node, after its Begin (`once_law`), and what a client
-//! answers it has acted (`act_law`). It has no code of
+//! What a run's answers say, in every run of the nodes: each item is answered at most once, by its own node, after its Begin (`once_law`), what a client
+//! answers it has acted (`act_law`), and what any node answers fits where it stands (`standing_law`). It has no code of
 //! the product: its functions have empty bodies, and their contracts are laws.
 //!
 //! Each module is a law of its own: its definitions stand in `specs/`, its lemmas in `proofs/`, below the module's name.
@@ -7,3 +7,4 @@
 
 pub mod act_law;
 pub mod once_law;
+pub mod standing_law;

@@ -42,12 +42,15 @@ use Rattle.xfs_base.specs.declared.node.NodeId.{NodeId}
 use Rattle.xfs_base.specs.declared.node.NodeId.TheVariants as nodes
 use Rattle.xfs_base.specs.Modes.{is_nothing}
 use Rattle.xfs_base.specs.Steps.{saying, still}
+use Rattle.serving_moves.proofs.item_moves.Plans.{EndsWell, IsFileReply, all_well, replies_well, start_well}
+use Rattle.serving_moves.proofs.item_moves.ClientServing.{Goes, IsOpen, items_of, items_stay, makes_go, seals_go}
+use Rattle.serving_moves.proofs.item_moves.Keeping.{no_item, one_number}
+use Rattle.serving_moves.specs.item_moves.Moves.{IsNone}
+use Rattle.serving_moves.specs.item_moves.Moves.Losses.{Answering}
 use Rattle.run_answers.proofs.act_law.Foundations.{Its, ItsOf, its_grow}
-use Rattle.run_answers.proofs.act_law.Plans.{EndsWell, IsFileReply, all_well, replies_well, start_well}
-use Rattle.run_answers.proofs.act_law.Telling.{DoneIn, Foundation, Founded, Grows, acted, acted_by, acted_then, closes_founded, effect_behind, founded_then, is_acted, open_founded}
+use Rattle.run_answers.proofs.act_law.Telling.{DoneIn, Foundation, Founded, Grows, acted, acted_by, acted_then, effect_behind, founded_then, is_acted, moves_founded, open_founded}
 use Rattle.run_answers.proofs.act_law.Trails.{Trailed, begins_trailed, more_trailed, next_trailed, replies_so}
-use Rattle.run_answers.proofs.once_law.Following.{Goes, IsOpen, makes_go, seals_go}
-use Rattle.run_answers.proofs.once_law.Ledger.{IsLoss, effects_left, no_item, one_number}
+use Rattle.run_answers.proofs.once_law.Ledger.{IsLoss}
 use Rattle.run_answers.specs.act_law.Founded.{IsDone, IsFileCall, IsFounded, IsRead, IsWritten}
 use Rattle.run_answers.specs.act_law.Planned.{IsActed, IsByPlan, IsCallsAnswer, IsGiven}
 use Rattle.run_answers.specs.act_law.Works.{asked_at}
@@ -129,7 +132,7 @@ syncs_acted : (s : Serving) → MadeFor s.lasting.number Sync (syncs s)
 unfolding syncs
 syncs_acted s =
     let d : Done = seals s in
-    subst (λ n. ActedFor n Sync (d.outs ++ synced_acts d.state) (synced_answer d.state)) (seals_go s).number (by (is_settled d.state))
+    subst (λ n. ActedFor n Sync (d.outs ++ synced_acts d.state) (synced_answer d.state)) (seals_go s).does.its_number (by (is_settled d.state))
   where
     by : (t : Bool)
         → ActedFor (seals s).state.lasting.number Sync ((seals s).outs ++ cond t (Does (act.Synced (seals s).state.lasting.number) ∷ []) []) (cond t (Some Synced) None)
@@ -322,13 +325,13 @@ module _ (Began : ℕ → List Act → Type 0) (client : ℕ) (works : List Work
   }
 
   goes_holds : (said : List Act) (s : Serving) (d : Done) → Goes s d → Holds said s → Holds said d.state
-  goes_holds said s d g h = record { number = g.number ∙ h.number; its = g.items.works ∙ h.its; fits = fits_then }
+  goes_holds said s d g h = record { number = g.does.its_number ∙ h.number; its = (items_stay s d g).works ∙ h.its; fits = fits_then }
     where
       fits_then : CallFits said d.state
       fits_then item waits call fact =
           let old = g.calls call fact in
           let f : PlanFits said item old.0.plan old.0.step (asked_at works item) =
-          h.fits item (effects_left IsLoss (IsOpen s) (IsOpen d.state) d.outs g.closes item waits) old.0 old.1.0 in
+          h.fits item ((items_stay s d g).waits item waits) old.0 old.1.0 in
           subst (λ p. PlanFits said item p call.step (asked_at works item)) (sym old.1.1.0)
           (subst (λ t. PlanFits said item old.0.plan t (asked_at works item)) (sym old.1.1.1) f)
 
@@ -339,7 +342,8 @@ module _ (Began : ℕ → List Act → Type 0) (client : ℕ) (works : List Work
   pub goes_run : (said : List Act) (s : Serving) (d : Done) → Goes s d → Holds said s → Runs said d
   goes_run said s d g h = record {
     holds = more_holds said (acts_of me d.outs) d.state (goes_holds said s d g h);
-    founded = closes_founded me F grow IsLoss loss_founded (IsOpen s) (IsOpen d.state) said d.outs g.closes;
+    founded = moves_founded me F grow IsLoss loss_founded Answering IsNone (λ a none. absurd none) (λ name may. tt) said (items_of s) (items_of d.state) d.outs
+        g.does.moves;
   }
 
   -- ---- the open call runs
@@ -389,7 +393,7 @@ module _ (Began : ℕ → List Act → Type 0) (client : ℕ) (works : List Work
       then_runs said m.done (answers_call m.done.state call m.answer).done r
       (answers_run said m.done.outs m.done.state call m.answer r.holds.number r.holds.its
       (subst (λ n. ActedFor n call.step m.done.outs m.answer) h.number (makes_acted u call.step))
-      (λ item waits. h.fits item (effects_left IsLoss (IsOpen u) (IsOpen m.done.state) m.done.outs g.closes item waits) call at))
+      (λ item waits. h.fits item ((items_stay u m.done g).waits item waits) call at))
 
   pub once_runs : (said : List Act) (s : Serving) → Holds said s → Runs said (runs_once s).done
   unfolding runs_once

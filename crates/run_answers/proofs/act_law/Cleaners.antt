@@ -17,7 +17,7 @@ use Rattle.log_owner.specs.declared.opening.Opening as openings
 use Rattle.log_owner.specs.Opening as opening
 use Rattle.log_owner.specs.Opening.{Went}
 use Rattle.log_owner.specs.Sending.{name_of, pushes_all}
-use Rattle.node_base.specs.Beginning.{answers_unanswered, next_item, work_at}
+use Rattle.node_base.specs.Beginning.{answers_unanswered, next_item, work_at, waiting}
 use Rattle.node_base.specs.declared.effects.Effect.{Effect}
 use Rattle.node_base.specs.declared.effects.Effect.TheVariants.{Answer as Answers, Does}
 use Rattle.node_base.specs.declared.peers.Peers.{Peers}
@@ -39,16 +39,21 @@ use Rattle.xfs_base.specs.declared.segment.End.{End}
 use Rattle.xfs_base.specs.declared.segment.LogId.{LogId}
 use Rattle.xfs_base.specs.Logs.{cleaner_log}
 use Rattle.xfs_base.specs.Steps.{saying, still}
+use Rattle.serving_moves.proofs.item_moves.Openings.{behaves_plain}
+use Rattle.node_base.specs.declared.items.Items.{Items}
+use Rattle.serving_moves.proofs.item_moves.Emptying as emptied
+use Rattle.serving_moves.proofs.item_moves.Keeping.{all_plain_more, all_pushed_plain, moves_stay, one_number}
+use Rattle.serving_moves.specs.item_moves.Moves.{Begun, IsBusy, IsCount, Moves}
+use Rattle.serving_moves.specs.item_moves.Moves.Begun.{AtOnce, Waits}
+use Rattle.serving_moves.specs.item_moves.Moves.Losses.{Silent, Answering}
 use Rattle.run_answers.proofs.act_law.Filing as filing
 use Rattle.run_answers.proofs.act_law.Filing.{Owns, SaysFiled, StageOwn, WentSo}
-use Rattle.run_answers.proofs.act_law.Telling.{Foundation, Founded, Grows, acted, acted_before, acted_by, closes_founded, founded_then, open_founded, plain_founded}
-use Rattle.run_answers.proofs.once_law.Emptying as emptied
-use Rattle.run_answers.proofs.once_law.Items.{begun_open, begun_works, next_is_new}
-use Rattle.run_answers.proofs.once_law.Ledger.{AllPlain, IsMidway, OpenOr, all_pushed_plain, one_number}
-use Rattle.run_answers.proofs.once_law.Openings.{behaves_plain}
+use Rattle.run_answers.proofs.act_law.Telling.{DoneIn, Foundation, Founded, Grows, acted, acted_before, acted_by, founded_then, moves_founded, open_founded, plain_founded}
+use Rattle.run_answers.proofs.once_law.Items.{begun_open, begun_works}
+use Rattle.run_answers.proofs.once_law.Ledger.{AllPlain}
 use Rattle.run_answers.specs.act_law.Founded.{IsCleaners, IsCrash, IsReopened}
 use Rattle.run_answers.specs.act_law.Works.{asked_at}
-use Rattle.run_answers.specs.once_law.Ledgers.{IsOpen, OpenHasBegun}
+use Rattle.run_answers.specs.once_law.Ledgers.{IsOpen}
 
 abbrev IsRestart : Option Work → Type 0
 IsRestart (Some (work.Restart node)) = Unit {0}
@@ -78,10 +83,12 @@ module _ (Is : ℕ → Type 0) (works : List Work) where
   its_grow item said done all answer.Cut up f = (f.0, (f.1.0, up f.0 f.1.1))
   its_grow item said done all _ up f = tt
 
-  midway_founded : (item : ℕ) (said : List Act) (done : ℕ → Type 0) (a : Answer) → IsMidway a → Its item said done a
-  midway_founded item said done answer.Done so = absurd so
-  midway_founded item said done answer.Cut so = absurd so
-  midway_founded item said done _ so = tt
+  count_founded : (item : ℕ) (said : List Act) (done : ℕ → Type 0) (a : Answer) → IsCount a → Its item said done a
+  count_founded item said done (answer.Count count) so = tt
+  count_founded item said done _ so = absurd so
+
+  moves_so : (before after : Items) (outs : List Effect) → Moves Silent IsCount before outs after → Founded ACleaner Its [] outs
+  moves_so = moves_founded ACleaner Its its_grow IsCount count_founded Silent IsCount (λ a so. so) (λ name may. absurd may) []
 
   pub record Turned (w : Went_to) : Type 0 where
     pub holds : PhaseHolds works w.state
@@ -92,8 +99,8 @@ module _ (Is : ℕ → Type 0) (works : List Work) where
 
   served : (e : Emptying) (d : Done) → e.lasting.items.works ≡ works → emptied.Goes e d → Turned (serves_on d)
   served e d its g = record {
-    holds = record { its = g.items.works ∙ its; fits = tt };
-    founded = closes_founded ACleaner Its its_grow IsMidway midway_founded (IsOpen e.lasting.items) (IsOpen d.state.lasting.items) [] d.outs g.closes;
+    holds = record { its = (moves_stay Silent IsCount e.lasting.items d.state.lasting.items d.outs g.moves).works ∙ its; fits = tt };
+    founded = moves_so e.lasting.items d.state.lasting.items d.outs g.moves;
   }
 
   -- ---- an opening
@@ -138,7 +145,7 @@ module _ (Is : ℕ → Type 0) (works : List Work) where
         by (progress.Opened r) owner filed = record {
           holds = record { its = h.its; fits = tt };
           founded = founded_then ACleaner Its its_grow [] w.effects _ first
-              (back_founded filed.0 (pushes_all r.promised.managers r.feed) (subst Is (sym (filed.1.0 ∙ h.fits.1.0)) is) (all_pushed_plain r.promised.managers r.feed) (acted ACleaner [] w.effects)
+              (back_founded filed.0 (pushes_all r.promised.managers r.feed) (subst Is (sym (filed.1.0 ∙ h.fits.1.0)) is) (all_pushed_plain Answering r.promised.managers r.feed) (acted ACleaner [] w.effects)
               (acted_by ACleaner (act.Filed (name_of cleaner_log filed.0)) [] w.effects
               (subst (λ (log : LogId). In (Does (act.Filed (name_of log filed.0))) w.effects) h.fits.0 filed.1.1)));
         }
@@ -186,16 +193,27 @@ module _ (Is : ℕ → Type 0) (works : List Work) where
     opening_so o fits (Some (work.Crash node)) asked = crash_so node asked
     opening_so o fits (Some _) asked = record { holds = record { its = its; fits = fits }; founded = (tt, tt) }
 
-  module _ (number : ℕ) (e : Emptying) (its : e.lasting.items.works ≡ works) (fresh : e.lasting.items.unanswered ≡ Some number → ⊥) where
+  busy_founded : (item : ℕ) (said : List Act) (done : ℕ → Type 0) (a : Answer) → IsBusy a → Its item said done a
+  busy_founded item said done answer.Busy so = tt
+  busy_founded item said done _ so = absurd so
+
+  -- an item begins: it is busy, or the item waits
+  begun_so : (before after : Items) (number : ℕ) (outs : List Effect) → before.works ≡ works → Begun Silent IsCount IsBusy before number outs after
+      → (after.works ≡ works) × Founded ACleaner Its [] outs
+  begun_so before after number outs its (AtOnce a first more busy plain rest) = (
+    its,
+    founded_then ACleaner Its its_grow [] first (Answers number a ∷ more) (plain_founded ACleaner Its its_grow [] first (all_plain_more Silent first plain))
+        (busy_founded number (acted ACleaner [] first) (DoneIn more) a busy, plain_founded ACleaner Its its_grow _ more (all_plain_more Silent more rest)),
+  )
+  begun_so before after number outs its (Waits made) =
+      ((moves_stay Silent IsCount (waiting before number) after outs made).works ∙ its, moves_so (waiting before number) after outs made)
+
+  module _ (number : ℕ) (e : Emptying) (its : e.lasting.items.works ≡ works) where
     clean_so : (count : ℕ) → Turned (serves_on (on_clean e number count))
     clean_so count =
         let d : Done = on_clean e number count in
-        let c = emptied.clean_goes e number count fresh in
-        record {
-          holds = record { its = c.items.works ∙ its; fits = tt };
-          founded = closes_founded ACleaner Its its_grow IsMidway midway_founded (OpenOr e.lasting.items.unanswered number) (IsOpen d.state.lasting.items) [] d.outs
-              c.closes;
-        }
+        let b = begun_so e.lasting.items d.state.lasting.items number d.outs its (emptied.clean_goes e number count).begun in
+        record { holds = record { its = b.0; fits = tt }; founded = b.1 }
 
     serving_so : (wanted : Option Work) → asked_at works number ≡ wanted → Turned (serving_wishes e number (wish_of wanted))
     serving_so None asked = clean_so 0
@@ -204,9 +222,9 @@ module _ (Is : ℕ → Type 0) (works : List Work) where
     serving_so (Some (work.Clean count)) asked = clean_so count
     serving_so (Some _) asked = clean_so 0
 
-  begin_turned : (servers : ℕ) (p : Phase) → PhaseHolds works p → OpenHasBegun (lasting_of p).items → Turned (on_begin servers p)
+  begin_turned : (servers : ℕ) (p : Phase) → PhaseHolds works p → Turned (on_begin servers p)
   unfolding on_begin
-  begin_turned servers (Down l) h sound = by (next_item l.items)
+  begin_turned servers (Down l) h = by (next_item l.items)
     where
       its : (begun_life l).items.works ≡ works
       its = begun_works l.items ∙ h.its
@@ -214,7 +232,7 @@ module _ (Is : ℕ → Type 0) (works : List Work) where
       by : (item : Option ℕ) → Turned (down_at servers (begun_life l) item)
       by None = record { holds = record { its = its; fits = tt }; founded = tt }
       by (Some number) = down_so number (begun_life l) its servers (work_at (begun_life l).items number) (sym (ap (λ (ws : List Work). asked_at ws number) its))
-  begin_turned servers (Opening l o) h sound = by (next_item l.items)
+  begin_turned servers (Opening l o) h = by (next_item l.items)
     where
       its : (begun_life l).items.works ≡ works
       its = begun_works l.items ∙ h.its
@@ -226,16 +244,15 @@ module _ (Is : ℕ → Type 0) (works : List Work) where
       by None = record { holds = record { its = its; fits = fits }; founded = tt }
       by (Some number) =
           opening_so number (begun_life l) its o fits (work_at (begun_life l).items number) (sym (ap (λ (ws : List Work). asked_at ws number) its))
-  begin_turned servers (Serving e) h sound = by (next_item e.lasting.items) refl
+  begin_turned servers (Serving e) h = by (next_item e.lasting.items)
     where
       its : (begun_life e.lasting).items.works ≡ works
       its = begun_works e.lasting.items ∙ h.its
 
-      by : (item : Option ℕ) → next_item e.lasting.items ≡ item → Turned (serving_at (record e { lasting = begun_life e.lasting }) item)
-      by None next = record { holds = record { its = its; fits = tt }; founded = tt }
-      by (Some number) next =
-          serving_so number (record e { lasting = begun_life e.lasting }) its (next_is_new e.lasting.items number sound next)
-          (work_at (begun_life e.lasting).items number) (sym (ap (λ (ws : List Work). asked_at ws number) its))
+      by : (item : Option ℕ) → Turned (serving_at (record e { lasting = begun_life e.lasting }) item)
+      by None = record { holds = record { its = its; fits = tt }; founded = tt }
+      by (Some number) =
+          serving_so number (record e { lasting = begun_life e.lasting }) its (work_at (begun_life e.lasting).items number) (sym (ap (λ (ws : List Work). asked_at ws number) its))
 
   -- ---- packets and time
 
@@ -254,14 +271,14 @@ module _ (Is : ℕ → Type 0) (works : List Work) where
       opened_so l o is h (opening.on_tick o l.questions) (behaving.tick_so o l.questions) (filing.tick_so o l.questions h.fits.1.1.0)
   time_turned (Serving e) is h = served e (on_tick e) h.its (emptied.tick_goes e)
 
-  happens_turned : (peers : Peers) (p : Phase) (what : Do) → Is (lasting_of p).inc → PhaseHolds works p → OpenHasBegun (lasting_of p).items → Turned (happens peers p what)
+  happens_turned : (peers : Peers) (p : Phase) (what : Do) → Is (lasting_of p).inc → PhaseHolds works p → Turned (happens peers p what)
   unfolding on_deliver
-  happens_turned peers p Begin is h sound = begin_turned peers.servers p h sound
-  happens_turned peers p (Deliver packet) is h sound =
+  happens_turned peers p Begin is h = begin_turned peers.servers p h
+  happens_turned peers p (Deliver packet) is h =
       by_test Turned (is_well_formed peers packet) (hears p packet) (still p) (λ _. hears_turned p packet is h) (λ _. unmoved p h)
-  happens_turned peers p Tick is h sound = time_turned p is h
+  happens_turned peers p Tick is h = time_turned p is h
 
-  pub cleaner_answers : (c : Cleaner) (what : Do) → Is (lasting_of c.phase).inc → PhaseHolds works c.phase → OpenHasBegun (lasting_of c.phase).items → Turned (takes c.peers c.phase what)
-  cleaner_answers c what is h sound =
-      by_test Turned (phase_room c.phase) (happens c.peers c.phase what) (still c.phase) (λ _. happens_turned c.peers c.phase what is h sound)
+  pub cleaner_answers : (c : Cleaner) (what : Do) → Is (lasting_of c.phase).inc → PhaseHolds works c.phase → Turned (takes c.peers c.phase what)
+  cleaner_answers c what is h =
+      by_test Turned (phase_room c.phase) (happens c.peers c.phase what) (still c.phase) (λ _. happens_turned c.peers c.phase what is h)
       (λ _. unmoved c.phase h)

@@ -38,13 +38,15 @@ use Rattle.xfs_base.specs.declared.node.NodeId.{NodeId}
 use Rattle.xfs_base.specs.declared.node.NodeId.TheVariants as nodes
 use Rattle.xfs_base.specs.declared.segment.SegName.{SegName}
 use Rattle.xfs_base.specs.Steps.{saying, still}
+use Rattle.serving_moves.proofs.item_moves.Openings.{behaves_plain}
+use Rattle.serving_moves.proofs.item_moves.ClientServing.{Goes, packet_goes, tick_goes}
+use Rattle.serving_moves.proofs.item_moves.Keeping.{all_pushed_plain, no_item, one_number}
+use Rattle.serving_moves.specs.item_moves.Moves.Losses.{Answering}
 use Rattle.run_answers.proofs.act_law.Calling.{CallFits, Holds, IsNoRestart, Runs, all_run, fits_on, goes_run, more_holds, opens_run, then_runs as runs_behind}
 use Rattle.run_answers.proofs.act_law.Foundations.{Its, ItsOf, its_grow}
 use Rattle.run_answers.proofs.act_law.Telling.{DoneIn, Foundation, Founded, Grows, acted, acted_before, founded_then, in_behind, open_founded, plain_founded}
-use Rattle.run_answers.proofs.once_law.Following.{Goes, packet_goes, tick_goes}
 use Rattle.run_answers.proofs.once_law.Items.{begun_open, begun_works}
-use Rattle.run_answers.proofs.once_law.Ledger.{AllPlain, all_pushed_plain, no_item, one_number}
-use Rattle.run_answers.proofs.once_law.Openings.{behaves_plain}
+use Rattle.run_answers.proofs.once_law.Ledger.{AllPlain}
 use Rattle.run_answers.specs.act_law.Founded.{IsCrash}
 use Rattle.run_answers.specs.act_law.Works.{asked_at}
 use Rattle.run_answers.specs.once_law.Ledgers.{IsOpen}
@@ -126,7 +128,7 @@ module _ (Began : ℕ → List Act → Type 0) (client : ℕ) (works : List Work
           holds = record { number = h.number; its = h.its; fits = λ item waits call fact. absurd (no_item item waits) };
           founded = founded_then me F grow [] w.effects _ before (
             tt,
-            back_founded r.chain (pushes_all r.promised.managers r.feed) (all_pushed_plain r.promised.managers r.feed) (acted me [] w.effects),
+            back_founded r.chain (pushes_all r.promised.managers r.feed) (all_pushed_plain Answering r.promised.managers r.feed) (acted me [] w.effects),
           );
         }
         by (progress.Lost name) = record {

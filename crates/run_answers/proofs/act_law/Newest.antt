@@ -35,13 +35,15 @@ use Rattle.wire_msg.specs.declared.packet.Do.TheVariants.{Begin, Deliver, Tick}
 use Rattle.wire_msg.specs.declared.packet.Packet.{Packet}
 use Rattle.xfs_base.proofs.Booleans.{by_test}
 use Rattle.xfs_base.specs.Steps.{saying, still}
+use Rattle.serving_moves.proofs.item_moves.Openings.{behaves_plain}
+use Rattle.serving_moves.proofs.item_moves.ClientServing.{Goes, packet_goes, tick_goes}
+use Rattle.serving_moves.proofs.item_moves.Keeping.{all_pushed_plain}
+use Rattle.serving_moves.specs.item_moves.Moves.Losses.{Answering}
 use Rattle.run_answers.proofs.act_law.Calling.{Holds, IsNoRestart, goes_run}
 use Rattle.run_answers.proofs.act_law.Clients.{BeginsNext, PhaseHolds, begun_holds, serves}
 use Rattle.run_answers.proofs.act_law.Versions.{HasWritten, all_versed, behind_versed, effect_either, open_answers, opens_versed, plain_answers}
-use Rattle.run_answers.proofs.once_law.Following.{Goes, packet_goes, tick_goes}
 use Rattle.run_answers.proofs.once_law.Items.{begun_works}
-use Rattle.run_answers.proofs.once_law.Ledger.{AllPlain, all_pushed_plain}
-use Rattle.run_answers.proofs.once_law.Openings.{behaves_plain}
+use Rattle.run_answers.proofs.once_law.Ledger.{AllPlain}
 use Rattle.run_answers.specs.act_law.Works.{asked_at}
 
 -- ---- effects that answer no version
@@ -96,7 +98,7 @@ module _ (Began : ℕ → List Act → Type 0) (client : ℕ) (works : List Work
           (no_both (Does (act.Back l.number r.chain) ∷ []) (pushes_all r.promised.managers r.feed ++ answers_unanswered l.items.unanswered answer.Done)
           (no_plain (Does (act.Back l.number r.chain) ∷ []) (tt, tt))
           (no_both (pushes_all r.promised.managers r.feed) (answers_unanswered l.items.unanswered answer.Done)
-          (no_plain (pushes_all r.promised.managers r.feed) (all_pushed_plain r.promised.managers r.feed)) (no_open l.items.unanswered answer.Done tt)))
+          (no_plain (pushes_all r.promised.managers r.feed) (all_pushed_plain Answering r.promised.managers r.feed)) (no_open l.items.unanswered answer.Done tt)))
           item ver among)
       by (progress.Lost name) item ver among =
           absurd

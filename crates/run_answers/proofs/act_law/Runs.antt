@@ -60,14 +60,14 @@ use Rattle.run_answers.specs.once_law.Ledgers.{OpenHasBegun, items_in, name_in}
 
 -- ---- the moments of a run
 
-moment_first : (e : Estate AnyNode) → moment e 0 ≡ start_world any_start e.script
+pub moment_first : (e : Estate AnyNode) → moment e 0 ≡ start_world any_start e.script
 moment_first e = by e.events
   where
     by : (events : List Event) → fold (next_world any_step) (start_world any_start e.script) (take 0 events) ≡ start_world any_start e.script
     by [] = refl
     by (x ∷ more) = refl
 
-moment_past : (e : Estate AnyNode) (count : ℕ) → slice_get e.events count ≡ None → moment e (suc count) ≡ moment e count
+pub moment_past : (e : Estate AnyNode) (count : ℕ) → slice_get e.events count ≡ None → moment e (suc count) ≡ moment e count
 moment_past e count fact = by e.events count (start_world any_start e.script) fact
   where
     by : (events : List Event) (count : ℕ) (w : World AnyNode) → slice_get events count ≡ None
@@ -178,7 +178,7 @@ module _ (e : Estate AnyNode) where
     step_stands (any.Manager m) there s sound = tt
     step_stands (any.Server v) there s sound = tt
     step_stands (any.Cleaner c) there s sound =
-        (cleaners.cleaner_answers (λ inc. Unit {0}) (items_of script.lines nodes.Cleaner) c (what_of event) tt s sound).holds
+        (cleaners.cleaner_answers (λ inc. Unit {0}) (items_of script.lines nodes.Cleaner) c (what_of event) tt s).holds
     step_stands (any.Registry r) there s sound = tt
 
     -- what is wanted of an answer of a node
@@ -257,18 +257,19 @@ module _ (e : Estate AnyNode) where
         let its : IsCleanersIncarnation w (cleaning.lasting_of c.phase).inc = (c, (ap (node_named w) known.named ∙ there, refl)) in
         behind_acts nodes.Cleaner (cleaners.Its (IsCleanersIncarnation w) works) (cleaners.its_grow (IsCleanersIncarnation w) works) nodes.Cleaner item a []
         (cleaning.takes c.peers c.phase (what_of event)).outs
-        (cleaners.cleaner_answers (IsCleanersIncarnation w) works c (what_of event) its s known.waits).founded before behind at
+        (cleaners.cleaner_answers (IsCleanersIncarnation w) works c (what_of event) its s).founded before behind at
     own_tells (any.Manager m) there s known item a before behind at =
         other_tells (any.Manager m) known item a before behind (managing.happens m (what_of event)).outs
         (others.manager_cuts (name_in (any.Manager m)) (its_works (any.Manager m) known item a before behind) m (what_of event)
-        (has_works (any.Manager m) known item a before behind) known.waits) at
+        (has_works (any.Manager m) known item a before behind)) at
     own_tells (any.Server v) there s known item a before behind at =
         other_tells (any.Server v) known item a before behind (storing.takes v (what_of event)).outs
         (others.server_cuts (name_in (any.Server v)) (its_works (any.Server v) known item a before behind) v (what_of event)
         (has_works (any.Server v) known item a before behind)) at
     own_tells (any.Registry r) there s known item a before behind at =
         other_tells (any.Registry r) known item a before behind (registering.takes r (what_of event)).outs
-        (others.registry_cuts (name_in (any.Registry r)) (its_works (any.Registry r) known item a before behind) r (what_of event)) at
+        (others.registry_cuts (name_in (any.Registry r)) (its_works (any.Registry r) known item a before behind) r (what_of event)
+        (has_works (any.Registry r) known item a before behind)) at
 
     step_tells : (x : AnyNode) → node_named w (node_of event) ≡ Some x → Stands w.acts (node_of event) x → Known e (node_of event) x
         → Tells (any_step x (what_of event)).acts

@@ -4,6 +4,7 @@ use Rattle.std.proofs.lemmas.Grind.{flat_map-append}
 use Rattle.node_base.specs.Beginning.{answers_unanswered}
 use Rattle.node_base.specs.declared.effects.Effect.{Effect}
 use Rattle.node_base.specs.declared.effects.Effect.TheVariants.{Send, Answer as Answers, Lose, Does}
+use Rattle.node_base.specs.declared.items.Items.{Items}
 use Rattle.node_base.specs.Effects.{act_of, acts_of}
 use Rattle.token_protocol.specs.Basics.{In}
 use Rattle.version_model.specs.declared.act.Act.{Act}
@@ -11,8 +12,11 @@ use Rattle.version_model.specs.declared.act.Act.TheVariants as act
 use Rattle.version_model.specs.declared.answer.Answer.{Answer}
 use Rattle.version_model.specs.declared.answer.Answer.TheVariants as answer
 use Rattle.xfs_base.specs.declared.node.NodeId.{NodeId}
-use Rattle.run_answers.proofs.once_law.Ledger.{AllPlain, Closes, NoAnswer}
-use Rattle.run_answers.specs.once_law.Ledgers.{Without}
+use Rattle.xfs_base.specs.declared.segment.SegName.{SegName}
+use Rattle.serving_moves.specs.item_moves.Moves.{IsSilent, Losses, MayAnswer, Moves}
+use Rattle.run_answers.proofs.once_law.Items.{moves_close}
+use Rattle.run_answers.proofs.once_law.Ledger.{AllPlain, Closes}
+use Rattle.run_answers.specs.once_law.Ledgers.{IsOpen, Without}
 
 -- ---- more acts
 
@@ -80,7 +84,7 @@ module _ (me : NodeId) where
     Founded said (Send to b ∷ outs) = Founded said outs
     Founded said (Answers item a ∷ outs) = F item said (DoneIn outs) a × Founded (said ++ act.Answered me item a ∷ []) outs
     Founded said (Lose name ∷ outs) = Founded (said ++ act.Lost me name ∷ []) outs
-    Founded said (Does a ∷ outs) = NoAnswer a × Founded (said ++ a ∷ []) outs
+    Founded said (Does a ∷ outs) = IsSilent a × Founded (said ++ a ∷ []) outs
 
     -- what is acted to be answered is answered by these effects
     pub answered_by : (said : List Act) (outs : List Effect) → Founded said outs → (node : NodeId) (item : ℕ) (a : Answer)
@@ -95,7 +99,7 @@ module _ (me : NodeId) where
         inr (answered_by (said ++ act.Answered me n x ∷ []) outs f.1 node item a among)
     answered_by said (Lose name ∷ outs) f node item a (inl e) = absurd cc
     answered_by said (Lose name ∷ outs) f node item a (inr among) = inr (answered_by (said ++ act.Lost me name ∷ []) outs f node item a among)
-    answered_by said (Does x ∷ outs) f node item a (inl e) = absurd (subst NoAnswer (sym e) f.0)
+    answered_by said (Does x ∷ outs) f node item a (inl e) = absurd (subst IsSilent (sym e) f.0)
     answered_by said (Does x ∷ outs) f node item a (inr among) = inr (answered_by (said ++ x ∷ []) outs f.1 node item a among)
 
   module _ (F : Foundation) (grow : Grows F) where
@@ -133,6 +137,13 @@ module _ (me : NodeId) where
       closes_founded these left said (Lose name ∷ outs) c = closes_founded these left (said ++ act.Lost me name ∷ []) outs c
       closes_founded these left said (Does a ∷ outs) c = (c.0, closes_founded these left (said ++ a ∷ []) outs c.1)
 
+      -- so are moves whose answers are such
+      module _ (losses : Losses) (I : Answer → Type 0) (ends : (a : Answer) → I a → J a)
+          (lost : (name : SegName) → MayAnswer losses → J (answer.Lost name)) where
+        pub moves_founded : (said : List Act) (before after : Items) (outs : List Effect) → Moves losses I before outs after → Founded F said outs
+        moves_founded said before after outs made =
+            closes_founded (IsOpen before) (IsOpen after) said outs (moves_close losses I J ends lost before after outs made)
+
     -- the open item is answered
     pub open_founded : (said : List Act) (o : Option ℕ) (a : Answer) → ((item : ℕ) → o ≡ Some item → F item said (DoneIn []) a)
         → Founded F said (answers_unanswered o a)
@@ -163,7 +174,7 @@ module _ (me : NodeId) where
           subst (λ y. F item said done y) answer_is
           (subst (λ n. F n said done x) number_is f)
 
-      no_answer : (x : Act) → NoAnswer x → x ≡ its → ⊥
+      no_answer : (x : Act) → IsSilent x → x ≡ its → ⊥
       no_answer (act.Answered owner number y) none e = none
       no_answer _ none e = cc
 

@@ -33,15 +33,18 @@ use Rattle.xfs_base.proofs.Booleans.{by_test}
 use Rattle.xfs_base.specs.declared.node.NodeId.TheVariants as nodes
 use Rattle.xfs_base.specs.Steps.{saying, still}
 use Rattle.serving_moves.specs.client_moves.Moves.{CallStays}
+use Rattle.serving_moves.proofs.item_moves.Plans.{IsFileReply, answered_well, replies_well}
+use Rattle.serving_moves.proofs.item_moves.ClientServing.{Goes, IsOpen, items_of, items_stay, makes_go}
+use Rattle.serving_moves.specs.item_moves.Moves.{IsNone}
+use Rattle.serving_moves.specs.item_moves.Moves.Losses.{Answering}
 use Rattle.run_answers.proofs.act_law.Calling.{ActedFor, BeginsFor, Holds, IsNoRestart, PlanFits, StepFits, begins_for, begun_runs, makes_acted, once_runs, trailed_well}
-use Rattle.run_answers.proofs.act_law.Plans.{IsFileReply, answered_well, replies_well}
 use Rattle.run_answers.proofs.act_law.Telling.{DoneIn, acted}
 use Rattle.run_answers.proofs.act_law.Writing.{IsWritten, puts_put}
-use Rattle.run_answers.proofs.once_law.Following.{Goes, IsOpen, makes_go}
-use Rattle.run_answers.proofs.once_law.Ledger.{AllPlain, Closes, IsLoss, effects_left}
+use Rattle.run_answers.proofs.once_law.Ledger.{AllPlain, Closes, IsLoss}
 use Rattle.run_answers.specs.act_law.Founded as founded
 use Rattle.run_answers.specs.act_law.Works.{asked_at}
 use Rattle.run_answers.specs.once_law.Ledgers.{Without}
+use Rattle.run_answers.proofs.once_law.Items.{moves_close}
 
 -- ---- what effects answer
 
@@ -156,7 +159,9 @@ module _ (Began : ℕ → List Act → Type 0) (client : ℕ) (works : List Work
   IsOver d = (item ver : ℕ) → In (Answers item (answer.Version ver)) d.outs → Over d.state item ver
 
   goes_none : (s : Serving) (d : Done) → Goes s d → (item ver : ℕ) → In (Answers item (answer.Version ver)) d.outs → ⊥
-  goes_none s d g item ver among = closes_answers IsLoss (IsOpen s) (IsOpen d.state) d.outs g.closes item (answer.Version ver) among
+  goes_none s d g item ver among = closes_answers IsLoss (IsOpen s) (IsOpen d.state) d.outs
+      (moves_close Answering IsNone IsLoss (λ a none. absurd none) (λ name may. tt) (items_of s) (items_of d.state) d.outs g.does.moves) item (answer.Version ver)
+      among
 
   then_versed : (d x : Done) → IsOver d → (d.state.call ≡ None → x.state ≡ d.state) → IsVersed x → IsVersed (saying d.outs x)
   then_versed d x over idle more item ver among = by (effect_either (Answers item (answer.Version ver)) d.outs x.outs among)
@@ -201,7 +206,7 @@ module _ (Began : ℕ → List Act → Type 0) (client : ℕ) (works : List Work
       g = makes_go u call.step
 
       its : (n : ℕ) → IsOpen m.done.state n → PlanFits Began client works first said n call.plan call.step (asked_at works n)
-      its n waits = h.fits n (effects_left IsLoss (IsOpen u) (IsOpen m.done.state) m.done.outs g.closes n waits) call at
+      its n waits = h.fits n ((items_stay u m.done g).waits n waits) call at
 
       rest : (a : Option BlockAnswer) → m.answer ≡ a → In (Answers item (answer.Version ver)) (answers_call m.done.state call a).done.outs
           → Over (answers_call m.done.state call a).done.state item ver

@@ -1,7 +1,7 @@
 -- The items of a node over what it does: what they ask for, how many have begun, and which of them is open.
-use Rattle.std.proofs.Common.{◌≡◌, ◌⊎◌, ℕ, ◌+◌, ◌≤◌, ◌<◌, ◌&&◌, nat_lt, false, true, cond, List, [], ◌∷◌, ◌++◌, length, Some, None, inl, inr, refl, sym, ap, subst, ◌∙◌, arith}
+use Rattle.std.proofs.Common.{Option, ◌≡◌, ◌⊎◌, ℕ, ◌+◌, ◌≤◌, ◌<◌, ◌&&◌, nat_lt, false, true, cond, List, [], ◌∷◌, ◌++◌, length, Some, None, inl, inr, refl, sym, ap, subst, ◌∙◌, arith}
 use Rattle.std.proofs.lemmas.Bool.{ltb-true}
-use Rattle.node_base.specs.Beginning.{answers_unanswered, begun, is_left, next_item, waiting}
+use Rattle.node_base.specs.Beginning.{answered, answers_unanswered, begun, is_left, next_item, waiting}
 use Rattle.node_base.specs.declared.effects.Effect.{Effect}
 use Rattle.node_base.specs.declared.effects.Effect.TheVariants.{Answer as Answers}
 use Rattle.node_base.specs.declared.items.Items.{Items}
@@ -12,38 +12,25 @@ use Rattle.wire_msg.specs.declared.packet.Do.TheVariants.{Begin}
 use Rattle.xfs_base.proofs.Booleans.{by_test}
 use Rattle.xfs_base.specs.declared.node.NodeId.{NodeId}
 use Rattle.xfs_base.specs.Limits.{u32_end}
-use Rattle.run_answers.proofs.once_law.Ledger.{AllPlain, Any, Closes, OpenOr, acts_close, answers_both, answers_now, closes_more, closes_plain, no_item, one_number, waits_then}
+use Rattle.version_model.specs.declared.answer.Answer.TheVariants as answer
+use Rattle.xfs_base.specs.declared.segment.SegName.{SegName}
+use Rattle.serving_moves.proofs.item_moves.Keeping.{all_plain_more, moves_stay, next_is, no_item, one_number}
+use Rattle.serving_moves.specs.item_moves.Moves as moves
+use Rattle.serving_moves.specs.item_moves.Moves.{Begun, Event, Losses, MayAnswer, Move, Moves}
+use Rattle.serving_moves.specs.item_moves.Moves.Begun.{AtOnce, Waits}
+use Rattle.serving_moves.specs.item_moves.Moves.Event.{Begins, GoesOn, Idles, Cuts}
+use Rattle.serving_moves.specs.item_moves.Moves.Move.{Stays, Ends, Loses}
+use Rattle.serving_moves.specs.item_moves.Moves.Moves.{Last, Then}
+use Rattle.run_answers.proofs.once_law.Ledger.{Any, Closes, OpenOr, acts_close, answers_both, answers_now, closes_append, closes_more, closes_open, closes_plain}
 use Rattle.run_answers.specs.once_law.Ledgers.{IsOpen, KeepsLedger, MayBeAnswered, OpenHasBegun}
 
--- they ask for the same, none has begun, and no other is open
-pub record Same (before after : Items) : Type 0 where
-  pub works : after.works ≡ before.works
-  pub begun : after.begun ≡ before.begun
-  pub waits : (item : ℕ) → IsOpen after item → IsOpen before item
-
-pub same : (items : Items) → Same items items
-same items = record { works = refl; begun = refl; waits = λ item fact. fact }
-
-pub same_then : (a b c : Items) → Same a b → Same b c → Same a c
-same_then a b c x y = record { works = y.works ∙ x.works; begun = y.begun ∙ x.begun; waits = λ item fact. x.waits item (y.waits item fact) }
-
--- the open one is answered
-pub same_answered : (items : Items) → Same items (record items { unanswered = None })
-same_answered items = record { works = refl; begun = refl; waits = λ item fact. absurd (no_item item fact) }
-
 -- they ask for the same, and as many have begun
-pub record Steady (before after : Items) : Type 0 where
+record Steady (before after : Items) : Type 0 where
   pub works : after.works ≡ before.works
   pub begun : after.begun ≡ before.begun
 
-pub steady : (items : Items) → Steady items items
+steady : (items : Items) → Steady items items
 steady items = record { works = refl; begun = refl }
-
-pub steady_then : (a b c : Items) → Steady a b → Steady b c → Steady a c
-steady_then a b c x y = record { works = y.works ∙ x.works; begun = y.begun ∙ x.begun }
-
-pub steady_same : (a b : Items) → Same a b → Steady a b
-steady_same a b x = record { works = x.works; begun = x.begun }
 
 -- ---- a Begin
 
@@ -73,14 +60,7 @@ begun_none items =
       | false ↦ λ fact. refl
     ]
 
-pub next_is : (items : Items) (number : ℕ) → next_item items ≡ Some number → number ≡ items.begun + 1
-next_is items number =
-    elim (is_left items) as (λ t. cond t (Some (items.begun + 1)) None ≡ Some number → number ≡ items.begun + 1) [
-      | true ↦ λ fact. sym (one_number (items.begun + 1) number fact)
-      | false ↦ λ fact. absurd (no_item number fact)
-    ]
-
--- and there is such an item
+-- there is such an item
 pub next_left : (items : Items) (number : ℕ) → next_item items ≡ Some number → number ≤ length items.works
 next_left items number =
     elim (nat_lt items.begun (length items.works)) as
@@ -105,36 +85,14 @@ next_is_new items number sound next waits =
 -- ---- what an event makes of them
 
 -- what is answered was open, or begins, and is open no more
-pub record Turned (before : Items) (what : Do) (after : Items) (outs : List Effect) : Type 0 where
+record Turned (before : Items) (what : Do) (after : Items) (outs : List Effect) : Type 0 where
   pub works : after.works ≡ before.works
   pub begun : (after.begun ≡ before.begun) ⊎ ((what ≡ Begin) × (next_item before ≡ Some after.begun))
   pub closes : Closes Any (MayBeAnswered before what after) outs (IsOpen after)
 
--- where none begins
-pub steadily : (before : Items) (what : Do) (after : Items) (outs : List Effect) → Steady before after → Closes Any (IsOpen before) outs (IsOpen after)
-    → Turned before what after outs
-steadily before what after outs s c = record {
-  works = s.works;
-  begun = inl s.begun;
-  closes = closes_more Any Any (λ a so. so) (IsOpen before) (MayBeAnswered before what after) (IsOpen after) (IsOpen after) (λ n fact. inl fact)
-      (λ n fact. fact) outs c;
-}
-
--- where nothing is answered besides
-pub plainly : (before : Items) (what : Do) (after : Items) (outs : List Effect) → Same before after → AllPlain outs → Turned before what after outs
-plainly before what after outs s plain =
-    steadily before what after outs (steady_same before after s) (closes_plain Any (IsOpen before) (IsOpen after) s.waits outs plain)
-
-pub unmoved : (items : Items) (what : Do) → Turned items what items []
-unmoved items what = plainly items what items [] (same items) tt
-
--- none is left to begin
-pub none_begins : (items : Items) → next_item items ≡ None → Turned items Begin (begun items) []
-none_begins items none = subst (λ (after : Items). Turned items Begin after []) (sym (begun_none items none)) (unmoved items Begin)
-
 module _ (before : Items) (number : ℕ) (next : next_item before ≡ Some number) where
   -- the item of this number begins
-  pub begins : (after : Items) (outs : List Effect) → Steady (begun before) after → Closes Any (OpenOr (begun before).unanswered number) outs (IsOpen after)
+  begins : (after : Items) (outs : List Effect) → Steady (begun before) after → Closes Any (OpenOr (begun before).unanswered number) outs (IsOpen after)
       → Turned before Begin after outs
   begins after outs s c =
       let began : after.begun ≡ number = s.begun ∙ begun_is before number next in
@@ -149,35 +107,93 @@ module _ (before : Items) (number : ℕ) (next : next_item before ≡ Some numbe
       it_may after began n (inl waits) = inl (sym (begun_open before) ∙ waits)
       it_may after began n (inr same_) = inr (refl, (next ∙ ap Some same_, began ∙ same_))
 
-  -- and waits for its answer
-  pub begins_waiting : (outs : List Effect) → AllPlain outs → Turned before Begin (waiting (begun before) number) outs
-  begins_waiting outs plain =
-      begins (waiting (begun before) number) outs (record { works = refl; begun = refl }) (waits_then (begun before).unanswered number outs plain)
+-- ---- moves
 
-  module _ (sound : OpenHasBegun before) where
+module _ (losses : Losses) (J K : Answer → Type 0) (ends : (a : Answer) → J a → K a) (lost : (name : SegName) → MayAnswer losses → K (answer.Lost name)) where
+  plainly : (items : Items) (outs : List Effect) → moves.AllPlain losses outs → Closes K (IsOpen items) outs (IsOpen items)
+  plainly items outs plain = closes_plain K (IsOpen items) (IsOpen items) (λ n fact. fact) outs (all_plain_more losses outs plain)
+
+  move_closes : (before after : Items) (outs : List Effect) → Move losses J before outs after → Closes K (IsOpen before) outs (IsOpen after)
+  move_closes before after outs (Stays stay plain) =
+      closes_plain K (IsOpen before) (IsOpen after) stay.waits outs (all_plain_more losses outs plain)
+  move_closes before after outs (Ends a so) = closes_open K before.unanswered a (ends a so)
+  move_closes before after outs (Loses name said may plain among) =
+      closes_append K (IsOpen before) (IsOpen before) (IsOpen (answered before)) said (answers_unanswered before.unanswered (answer.Lost name))
+      (plainly before said plain) (closes_open K before.unanswered (answer.Lost name) (lost name may))
+
+  -- only the open item is answered, and it is open no more
+  pub moves_close : (before after : Items) (outs : List Effect) → Moves losses J before outs after → Closes K (IsOpen before) outs (IsOpen after)
+  moves_close before after outs (Last move) = move_closes before after outs move
+  moves_close before after outs (Then between now more move rest) =
+      closes_append K (IsOpen before) (IsOpen between) (IsOpen after) now more (move_closes before between now move)
+      (moves_close between after more rest)
+
+-- ---- an event
+
+module _ (losses : Losses) (J K : Answer → Type 0) (before : Items) (sound : OpenHasBegun before) where
+  closed : (items after : Items) (outs : List Effect) → Moves losses J items outs after → Closes Any (IsOpen items) outs (IsOpen after)
+  closed = moves_close losses J Any (λ a so. tt) (λ name may. tt)
+
+  idles : Turned before Begin (begun before) []
+  idles = by (next_item before) refl
+    where
+      by : (item : Option ℕ) → next_item before ≡ item → Turned before Begin (begun before) []
+      by None none = subst (λ (after : Items). Turned before Begin after []) (sym (begun_none before none)) (record {
+        works = refl;
+        begun = inl refl;
+        closes = λ n fact. inl fact;
+      })
+      by (Some number) next = begins before number next (begun before) [] (steady (begun before)) (λ n fact. inl fact)
+
+  module _ (number : ℕ) (next : next_item before ≡ Some number) where
+    abbrev These : ℕ → Type 0
+    These = OpenOr (begun before).unanswered number
+
     fresh : (begun before).unanswered ≡ Some number → ⊥
     fresh waits = next_is_new before number sound next waits
 
-    -- or is answered at once
-    pub begins_answered : (a : Answer) (more : List Effect) → AllPlain more → Turned before Begin (begun before) (Answers number a ∷ more)
-    begins_answered a more plain =
-        begins (begun before) (Answers number a ∷ more) (steady (begun before)) (answers_now (begun before).unanswered number fresh a more plain)
+    -- behind what answers nothing
+    behind : (first more : List Effect) (left : ℕ → Type 0) → moves.AllPlain losses first → Closes Any These more left → Closes Any These (first ++ more) left
+    behind first more left plain c =
+        closes_append Any These These left first more (closes_plain Any These These (λ n fact. fact) first (all_plain_more losses first plain)) c
 
-    -- behind the open one
-    pub begins_cutting : (a b : Answer) (more : List Effect) → AllPlain more
-        → Turned before Begin (record (begun before) { unanswered = None })
-        (answers_unanswered (begun before).unanswered a ++ Answers number b ∷ more)
-    begins_cutting a b more plain =
-        begins (record (begun before) { unanswered = None }) (answers_unanswered (begun before).unanswered a ++ Answers number b ∷ more)
-        (record { works = refl; begun = refl }) (answers_both (begun before).unanswered number fresh a b more plain)
+    begun_turned : (after : Items) (outs : List Effect) → Begun losses J K (begun before) number outs after → Turned before Begin after outs
+    begun_turned after outs (AtOnce a first more so plain rest) =
+        begins before number next (begun before) (first ++ Answers number a ∷ more) (steady (begun before))
+        (behind first (Answers number a ∷ more) (IsOpen (begun before)) plain
+        (answers_now (begun before).unanswered number fresh a more (all_plain_more losses more rest)))
+    begun_turned after outs (Waits made) =
+        let stay = moves_stay losses J (waiting (begun before) number) after outs made in
+        begins before number next after outs (record { works = stay.works; begun = stay.begun })
+        (closes_more Any Any (λ a so. so) (IsOpen (waiting (begun before) number)) These (IsOpen after) (IsOpen after) (λ n fact. inr (one_number number n fact))
+        (λ n fact. fact) outs (closed (waiting (begun before) number) after outs made))
 
--- ---- the law
+    cut_turned : (first more : List Effect) → moves.AllPlain losses first → moves.AllPlain losses more
+        → Turned before Begin (answered (begun before))
+        (first ++ (answers_unanswered (begun before).unanswered answer.Cut ++ Answers number answer.Done ∷ more))
+    cut_turned first more plain rest =
+        begins before number next (answered (begun before)) _ (record { works = refl; begun = refl })
+        (behind first (answers_unanswered (begun before).unanswered answer.Cut ++ Answers number answer.Done ∷ more) (IsOpen (answered (begun before))) plain
+        (answers_both (begun before).unanswered number fresh answer.Cut answer.Done more (all_plain_more losses more rest)))
 
--- so it is in words of acts
-pub ledger : (me : NodeId) (before : Items) (what : Do) (after : Items) (outs : List Effect) → Turned before what after outs
-    → KeepsLedger me before what (acts_of me outs) after
-ledger me before what after outs t = record {
-  works = t.works;
-  begun = t.begun;
-  closes = acts_close me Any (MayBeAnswered before what after) (IsOpen after) outs t.closes;
-}
+  event_turned : (what : Do) (after : Items) (outs : List Effect) → Event losses J K before what outs after → Turned before what after outs
+  event_turned what after outs (GoesOn made) =
+      let stay = moves_stay losses J before after outs made in
+      record {
+        works = stay.works;
+        begun = inl stay.begun;
+        closes = closes_more Any Any (λ a so. so) (IsOpen before) (MayBeAnswered before what after) (IsOpen after) (IsOpen after) (λ n fact. inl fact)
+            (λ n fact. fact) outs (closed before after outs made);
+      }
+  event_turned what after outs (Idles is) = subst (λ (w : Do). Turned before w (begun before) []) (sym is) idles
+  event_turned what after outs (Begins number is next b) =
+      subst (λ (w : Do). Turned before w after outs) (sym is) (begun_turned number next after outs b)
+  event_turned what after outs (Cuts number first more is next falls plain rest) =
+      subst (λ (w : Do). Turned before w after outs) (sym is) (cut_turned number next first more plain rest)
+
+  -- so it is in words of acts
+  pub keeps_ledger : (me : NodeId) (what : Do) (after : Items) (outs : List Effect) → Event losses J K before what outs after
+      → KeepsLedger me before what (acts_of me outs) after
+  keeps_ledger me what after outs e =
+      let t = event_turned what after outs e in
+      record { works = t.works; begun = t.begun; closes = acts_close me Any (MayBeAnswered before what after) (IsOpen after) outs t.closes }

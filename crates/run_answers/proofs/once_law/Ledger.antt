@@ -1,12 +1,5 @@
 -- The ledger of a list of effects: what is answered was open, and is open no more.
 use Rattle.std.proofs.Common.{◌≡◌, ◌⊎◌, ℕ, List, [], ◌∷◌, ◌++◌, Option, Some, None, inl, inr, refl, sym, ap, ◌∙◌}
-use Rattle.std.specs.List.{AllByRecursion}
-use Rattle.delta_feed.specs.declared.output.Out.{Out as RangeOut}
-use Rattle.delta_feed.specs.declared.output.Out.TheVariants.{Range}
-use Rattle.delta_feed.specs.FeedState.{FeedState}
-use Rattle.delta_feed.specs.Transition.{pushed, ticked}
-use Rattle.log_owner.specs.declared.promised.Managers.{Managers}
-use Rattle.log_owner.specs.Sending.{pushes, pushes_all, range}
 use Rattle.node_base.specs.Beginning.{answers_unanswered}
 use Rattle.node_base.specs.declared.effects.Effect.{Effect}
 use Rattle.node_base.specs.declared.effects.Effect.TheVariants.{Send, Answer as Answers, Lose, Does}
@@ -16,47 +9,19 @@ use Rattle.version_model.specs.declared.act.Act.TheVariants as act
 use Rattle.version_model.specs.declared.answer.Answer.{Answer}
 use Rattle.version_model.specs.declared.answer.Answer.TheVariants as answer
 use Rattle.xfs_base.specs.declared.node.NodeId.{NodeId}
-use Rattle.xfs_base.specs.Steps.{Stepped, steps}
-use Rattle.xfs_base.proofs.Alls.{all_append, all_map}
+use Rattle.serving_moves.proofs.item_moves.Keeping.{no_item}
+use Rattle.serving_moves.specs.item_moves.Moves as moves
+use Rattle.serving_moves.specs.item_moves.Moves.{IsSilent}
+use Rattle.serving_moves.specs.item_moves.Moves.Losses.{Answering}
 use Rattle.run_answers.specs.once_law.Ledgers.{Without}
 use Rattle.run_answers.specs.once_law.Ledgers as acts
 
--- ---- lists
-
-pub all_steps : {S O A : Type 0} (step : S → A → Stepped S O) (P : O → Type 0) → ((s : S) (x : A) → AllByRecursion P (step s x).outs)
-    → (s : S) (xs : List A) → AllByRecursion P (steps step s xs).outs
-all_steps step P each s [] = tt
-all_steps step P each s (x ∷ xs) = all_append P (step s x).outs (steps step (step s x).state xs).outs (each s x) (all_steps step P each (step s x).state xs)
-
-pub no_item : (item : ℕ) → None ≡ Some item → ⊥
-no_item item fact = cc
-
-pub one_number : (a b : ℕ) → Some a ≡ Some b → a ≡ b
-one_number a b fact = cc
-
--- ---- effects that answer nothing
-
-abbrev pub NoAnswer : Act → Type 0
-NoAnswer (act.Answered node item a) = ⊥
-NoAnswer _ = Unit {0}
-
+-- an effect, and many, that answer nothing
 abbrev pub IsPlain : Effect → Type 0
-IsPlain (Send to said) = Unit {0}
-IsPlain (Answers item a) = ⊥
-IsPlain (Lose name) = Unit {0}
-IsPlain (Does a) = NoAnswer a
+IsPlain = moves.IsPlain Answering
 
 abbrev pub AllPlain : List Effect → Type 0
-AllPlain outs = AllByRecursion IsPlain outs
-
-range_plain : (managers : Managers) (x : RangeOut) → IsPlain (range managers x)
-range_plain managers (Range slot first upto rows) = tt
-
-pub pushed_plain : (managers : Managers) (feed : FeedState) (slot : ℕ) → AllPlain (pushes managers feed slot)
-pushed_plain managers feed slot = all_map IsPlain (range managers) (range_plain managers) (pushed feed slot)
-
-pub all_pushed_plain : (managers : Managers) (feed : FeedState) → AllPlain (pushes_all managers feed)
-all_pushed_plain managers feed = all_map IsPlain (range managers) (range_plain managers) (ticked feed)
+AllPlain = moves.AllPlain Answering
 
 -- ---- answers
 
@@ -68,15 +33,6 @@ abbrev pub IsLoss : Answer → Type 0
 IsLoss (answer.Lost name) = Unit {0}
 IsLoss _ = ⊥
 
--- that it is neither done nor cut
-abbrev pub IsMidway : Answer → Type 0
-IsMidway answer.Done = ⊥
-IsMidway answer.Cut = ⊥
-IsMidway _ = Unit {0}
-
-pub any_answer : (a : Answer) → IsLoss a → Any a
-any_answer a loss = tt
-
 -- by these effects, of the items that were open those are left, and each answer is such
 module _ (J : Answer → Type 0) where
   abbrev pub Closes : (ℕ → Type 0) → List Effect → (ℕ → Type 0) → Type 0
@@ -84,7 +40,7 @@ module _ (J : Answer → Type 0) where
   Closes these (Send to b ∷ outs) left = Closes these outs left
   Closes these (Answers item a ∷ outs) left = J a × (these item × Closes (Without these item) outs left)
   Closes these (Lose name ∷ outs) left = Closes these outs left
-  Closes these (Does a ∷ outs) left = NoAnswer a × Closes these outs left
+  Closes these (Does a ∷ outs) left = IsSilent a × Closes these outs left
 
 -- of more items, or other answers, or fewer that are left
 pub closes_more : (J K : Answer → Type 0) → ((a : Answer) → J a → K a) → (these more left fewer : ℕ → Type 0) → ((n : ℕ) → these n → more n)
@@ -126,14 +82,6 @@ pub closes_open : (J : Answer → Type 0) (o : Option ℕ) (a : Answer) → J a
 closes_open J None a so = λ n fact. fact
 closes_open J (Some item) a so = (so, (refl, λ n fact. absurd (no_item n fact)))
 
--- what is left was one of those
-pub effects_left : (J : Answer → Type 0) (these left : ℕ → Type 0) (outs : List Effect) → Closes J these outs left → (n : ℕ) → left n → these n
-effects_left J these left [] c n last = c n last
-effects_left J these left (Send to b ∷ outs) c n last = effects_left J these left outs c n last
-effects_left J these left (Answers item a ∷ outs) c n last = (effects_left J (Without these item) left outs c.1.1 n last).0
-effects_left J these left (Lose name ∷ outs) c n last = effects_left J these left outs c n last
-effects_left J these left (Does a ∷ outs) c n last = effects_left J these left outs c.1 n last
-
 -- ---- an item begins
 
 -- it was open before, or it is the item of this number, which begins
@@ -141,24 +89,16 @@ abbrev pub OpenOr : Option ℕ → ℕ → ℕ → Type 0
 OpenOr o number n = (o ≡ Some n) ⊎ (number ≡ n)
 
 module _ (o : Option ℕ) (number : ℕ) where
-  -- it waits for its answer
-  pub waits_then : (outs : List Effect) → AllPlain outs → Closes Any (OpenOr o number) outs (λ n. Some number ≡ Some n)
-  waits_then outs plain = closes_plain Any (OpenOr o number) (λ n. Some number ≡ Some n) (λ n fact. inr (one_number number n fact)) outs plain
-
   module _ (fresh : o ≡ Some number → ⊥) where
     -- it is answered at once, and what was open is open still
-    pub answers_so : (J : Answer → Type 0) (a : Answer) → J a → (more : List Effect) → AllPlain more
-        → Closes J (OpenOr o number) (Answers number a ∷ more) (λ n. o ≡ Some n)
-    answers_so J a so more plain = (
-      so,
+    pub answers_now : (a : Answer) (more : List Effect) → AllPlain more → Closes Any (OpenOr o number) (Answers number a ∷ more) (λ n. o ≡ Some n)
+    answers_now a more plain = (
+      tt,
       (
         inr refl,
-        closes_plain J (Without (OpenOr o number) number) (λ n. o ≡ Some n) (λ n fact. (inl fact, λ same. fresh (fact ∙ ap Some same))) more plain,
+        closes_plain Any (Without (OpenOr o number) number) (λ n. o ≡ Some n) (λ n fact. (inl fact, λ same. fresh (fact ∙ ap Some same))) more plain,
       ),
     )
-
-    pub answers_now : (a : Answer) (more : List Effect) → AllPlain more → Closes Any (OpenOr o number) (Answers number a ∷ more) (λ n. o ≡ Some n)
-    answers_now a more plain = answers_so Any a tt more plain
 
     -- and so is what was open
     pub answers_both : (a b : Answer) (more : List Effect) → AllPlain more
@@ -181,7 +121,7 @@ module _ (o : Option ℕ) (number : ℕ) where
 -- ---- acts
 
 module _ (me : NodeId) where
-  past_act : (a : Act) (more : List Act) (these left : ℕ → Type 0) → NoAnswer a → acts.Closes me these more left → acts.Closes me these (a ∷ more) left
+  past_act : (a : Act) (more : List Act) (these left : ℕ → Type 0) → IsSilent a → acts.Closes me these more left → acts.Closes me these (a ∷ more) left
   past_act (act.Answered node item x) more these left none c = absurd none
   past_act _ more these left none c = c
 

@@ -40,53 +40,63 @@ use Rattle.run_laws.specs.world_logs.Doings.{acts_in}
 use Rattle.xfs_base.specs.declared.node.NodeId.{NodeId}
 use Rattle.xfs_base.specs.declared.node.NodeId.TheVariants as nodes
 use Rattle.xfs_base.specs.declared.setup.Setup.{Setup}
-use Rattle.run_answers.proofs.once_law.Begins.{begins_now, more_now, now, taken_next}
-use Rattle.run_answers.proofs.once_law.Cleaners.{cleaner_turned}
-use Rattle.run_answers.proofs.once_law.Clients.{client_turned}
+use Rattle.serving_moves.proofs.item_moves.Begins.{begins_now, more_now, now, taken_next}
+use Rattle.serving_moves.proofs.item_moves.Cleaners.{cleaner_turned}
+use Rattle.serving_moves.proofs.item_moves.Clients.{any_turned}
+use Rattle.serving_moves.proofs.item_moves.Keeping.{next_is, no_item}
+use Rattle.serving_moves.proofs.item_moves.Managers.{manager_turned}
+use Rattle.serving_moves.proofs.item_moves.Registries.{registry_turned}
+use Rattle.serving_moves.proofs.item_moves.Servers.{server_turned}
+use Rattle.serving_moves.specs.item_moves.Events.{cleaner_losses, client_losses}
+use Rattle.serving_moves.specs.item_moves.Moves.{IsAny, IsCleaners, IsCount, IsNone, IsPrompt, IsRebuilt}
+use Rattle.serving_moves.specs.item_moves.Moves.Losses.{Silent, Telling}
 use Rattle.run_answers.proofs.once_law.Counting.{left_is_unanswered}
-use Rattle.run_answers.proofs.once_law.Items.{ledger, next_is, next_left}
-use Rattle.run_answers.proofs.once_law.Ledger.{no_item}
-use Rattle.run_answers.proofs.once_law.Managers.{manager_turned}
-use Rattle.run_answers.proofs.once_law.Registries.{registry_turned}
 use Rattle.run_answers.proofs.once_law.Replies.{is_not_shown, is_shown}
-use Rattle.run_answers.proofs.once_law.Servers.{server_turned}
 use Rattle.run_answers.specs.once_law.Items.{AnswersOnce, IsUnanswered}
 use Rattle.run_answers.specs.once_law.Ledgers.{Closes, EachEventKeepsLedger, EventKeepsLedger, IsOpen, KeepsLedger, MayBeAnswered, OpenHasBegun, Without, items_in, name_in}
 use Rattle.run_answers.specs.once_law.Runs.{EachItemIsAnsweredOnce, IsOwnItem}
+use Rattle.run_answers.proofs.once_law.Items.{keeps_ledger, next_left}
 
 -- ---- one event
 
 pub each_keeps : EachEventKeepsLedger
 each_keeps (any.Client c) what sound =
-    let t = client_turned c what sound in
     let l = client.lasting_of c.phase in
+    let w = client.takes c what in
+    let t = any_turned c what in
     record {
-      name = ap nodes.Client t.number;
-      ledger = ledger (nodes.Client l.number) l.items what (client.lasting_of (client.takes c what).state).items (client.takes c what).outs t.items;
+      name = ap nodes.Client t.its_number;
+      ledger = keeps_ledger (client_losses c.phase) IsAny IsPrompt l.items sound (nodes.Client l.number) what (client.lasting_of w.state).items w.outs t.event;
     }
 each_keeps (any.Manager m) what sound =
-    let t = manager_turned m what sound in
     let l = managers.lasting_of m.phase in
+    let w = manager.happens m what in
+    let t = manager_turned m what in
     record {
-      name = ap nodes.Manager t.number;
-      ledger = ledger (nodes.Manager l.number) l.items what (managers.lasting_of (manager.happens m what).state).items (manager.happens m what).outs t.items;
+      name = ap nodes.Manager t.its_number;
+      ledger = keeps_ledger Telling IsCount IsPrompt l.items sound (nodes.Manager l.number) what (managers.lasting_of w.state).items w.outs t.event;
     }
 each_keeps (any.Server v) what sound =
-    let t = server_turned v what sound in
+    let d = server.takes v what in
+    let t = server_turned v what in
     record {
-      name = ap nodes.Server t.number;
-      ledger = ledger (nodes.Server v.number) v.items what (server.takes v what).state.items (server.takes v what).outs t.items;
+      name = ap nodes.Server t.its_number;
+      ledger = keeps_ledger Silent IsRebuilt IsPrompt v.items sound (nodes.Server v.number) what d.state.items d.outs t.event;
     }
 each_keeps (any.Cleaner c) what sound =
+    let l = cleaner.lasting_of c.phase in
     let w = cleaner.takes c.peers c.phase what in
     record {
       name = refl;
-      ledger = ledger nodes.Cleaner (cleaner.lasting_of c.phase).items what (cleaner.lasting_of w.state).items w.outs (cleaner_turned c what sound);
+      ledger = keeps_ledger (cleaner_losses c.phase) IsCleaners IsPrompt l.items sound nodes.Cleaner what (cleaner.lasting_of w.state).items w.outs
+          (cleaner_turned c what).event;
     }
-each_keeps (any.Registry r) what sound = record {
-  name = refl;
-  ledger = ledger nodes.Registry r.items what (registry.takes r what).state.items (registry.takes r what).outs (registry_turned r what sound);
-}
+each_keeps (any.Registry r) what sound =
+    let d = registry.takes r what in
+    record {
+      name = refl;
+      ledger = keeps_ledger Silent IsNone IsPrompt r.items sound nodes.Registry what d.state.items d.outs (registry_turned r what).event;
+    }
 
 -- ---- what a ledger says
 

@@ -1,0 +1,10 @@
+mod Meeting
+mod Calls
+mod Allowed
+mod Clients
+mod Managers
+mod Servers
+mod Registries
+mod Cleaners
+mod Moments
+mod Runs

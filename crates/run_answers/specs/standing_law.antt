@@ -1,0 +1,3 @@
+pub mod Standings
+pub mod Fits
+pub mod Runs
