@@ -1,1 +1,2 @@
 pub mod stripe_law
+pub mod boot_law

@@ -6,7 +6,7 @@ use Rattle.std.proofs.lemmas.List.Elements.{All-append, All-cons, All-head, All-
 use Rattle.fragment_sums.proofs.Gone.{length-sum_onto, plain_keeps, weighted_keeps}
 use Rattle.fragment_sums.specs.Sums.{parities, plain, sum_onto, weighted, zeros}
 use Rattle.stripe_code.proofs.Pieces.{length-pieces, pieces_long}
-use Rattle.stripe_code.specs.Joined.{AreOf, HasLengths, excess, missing_from}
+use Rattle.stripe_code.specs.Joined.{AreOf, HasLengths, excess}
 use Rattle.stripe_code.specs.Stripe.{IsCut, part_of, pieces, stripe_of}
 use Rattle.xfs_base.proofs.Booleans.{by_test}
 

@@ -1,11 +1,12 @@
 -- What was filed is read back, in the words of a run of the nodes: while no more members of its group lack their fragment than the parity makes good, what the
 -- others hold joins to the segment's text, which decodes to the segment (the 1996 paper, on RAID).
-use Rattle.std.specs.Prelude.{◌≡◌, ◌+◌, ◌-◌, ◌==◌, ◌≤◌, ℕ, List, [], ◌∷◌, Option, Some, None, Ok, if◌then◌else◌, length}
+use Rattle.std.specs.Prelude.{◌≡◌, ◌-◌, ◌<◌, ◌≤◌, ℕ, List, Option, Some, None, Ok, length, map}
 use Rattle.core_world.specs.AnyNode.{any_start, any_step}
 use Rattle.core_world.specs.declared.any_node.AnyNode.{AnyNode}
 use Rattle.fragment_store.specs.ShelfState.{ShelfState, held_at}
 use Rattle.group_map.specs.declared.group.Group.{Group}
 use Rattle.group_map.specs.declared.group.Member.{Member}
+use Rattle.log_tie.specs.Setting.{server_of}
 use Rattle.node_base.specs.Setups.{IsSetup}
 use Rattle.run_laws.specs.world_law.Owners.{moment}
 use Rattle.run_laws.specs.world_logs.Logs.{IsText}
@@ -30,23 +31,27 @@ abbrev pub held_on : Option ShelfState → SegName → Option Fragment
 held_on None name = None
 held_on (Some shelf) name = held_at shelf.held name
 
--- its bytes, where it is the fragment of this place
-abbrev pub at_place : ℕ → Option Fragment → Option (List ℕ)
-at_place place None = None
-at_place place (Some f) = if f.meta.index == place then Some f.bytes else None
+-- its bytes
+abbrev pub bytes_in : Option Fragment → Option (List ℕ)
+bytes_in None = None
+bytes_in (Some f) = Some f.bytes
 
 module _ (w : World AnyNode) (name : SegName) where
-  -- what the servers of members hold of a segment, each of its own fragment, where the first member is at this place
-  abbrev pub parts_from : ℕ → List Member → List (Option (List ℕ))
-  parts_from place [] = []
-  parts_from place (m ∷ ms) = at_place place (held_on (shelf_at w m.server) name) ∷ parts_from (place + 1) ms
+  -- what the server of a member holds of a segment
+  abbrev pub part_held : Member → Option (List ℕ)
+  part_held m = bytes_in (held_on (shelf_at w m.server) name)
 
   abbrev pub parts_held : Group → List (Option (List ℕ))
-  parts_held group = parts_from 0 group.members
+  parts_held group = map part_held group.members
 
-  -- how many members lack their fragment
+  -- how many members hold nothing under its name
   abbrev pub lacking : Group → ℕ
   lacking group = length (missing_from 0 (parts_held group))
+
+  -- What a server holds under the name has the index of the place of that server in the group.
+  abbrev pub AreAtTheirPlaces : Group → Type 0
+  AreAtTheirPlaces group =
+      (place : ℕ) (f : Fragment) → place < length group.members → held_on (shelf_at w (server_of group.members place)) name ≡ Some f → f.meta.index ≡ place
 
 -- ---- what is read back
 
@@ -60,13 +65,14 @@ pub record IsReadBack (w : World AnyNode) (s : Segment) (group : Group) : Type 0
   pub joins : joined (parts_held w s.name group) group.parity (length (text_of s)) ≡ text_of s
   pub decodes : answer_of (text_of s) ≡ Ok s
 
--- A segment of this name, over a group of the registry's, by its map at the end of the run: whatever is held or was sent under its name is a fragment of it,
--- and while no more members lack theirs than the parity makes good, it is read back.
+-- A segment of this name, over a group of the registry's, by its map at the end of the run: whatever is held or was sent under its name is a fragment of it, at
+-- each server that of its place, and while no more members lack theirs than the parity makes good, it is read back.
 pub record IsKeptReadable (end w : World AnyNode) (s : Segment) (name : SegName) : Type 0 where
   pub named : s.name ≡ name
   pub group : Group
   pub striped : group_at end s.group ≡ Some group
   pub text : IsText w name s group
+  pub placed : AreAtTheirPlaces w name group
   pub back : lacking w name group ≤ group.parity → IsReadBack w s group
 
 -- ---- in a run
