@@ -1,1 +1,3 @@
+pub mod Forwards
 pub mod Laws
+pub mod Passing

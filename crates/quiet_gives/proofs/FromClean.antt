@@ -1,6 +1,5 @@
 -- A put of a block that others hold clean: each of them is sent a recall and gives the block up, and then the put goes on as if nobody else had held it.
 use Rattle.std.proofs.Common.{◌≡◌, ℕ, suc, ◌+◌, ◌*◌, ◌-◌, ◌<◌, ◌≤◌, true, false, List, [], ◌∷◌, length, slice_get, Option, refl, ap, subst, ◌∙◌, arith}
-use Rattle.client_node.specs.Phases.{client_step}
 use Rattle.core_world.specs.declared.any_node.AnyNode.{AnyNode}
 use Rattle.node_base.specs.Setups.{IsSetup}
 use Rattle.quiet_flow.specs.Flow.{Stage}
@@ -9,7 +8,6 @@ use Rattle.token_client.specs.State.{held_of}
 use Rattle.token_manager.specs.SlotState.{SlotState}
 use Rattle.version_model.specs.declared.work.Work.{Work}
 use Rattle.version_model.specs.declared.work.Work.TheVariants as work
-use Rattle.wire_msg.specs.declared.packet.Do.TheVariants.{Begin}
 use Rattle.wire_msg.specs.declared.packet.Packet.{Packet}
 use Rattle.xfs_base.specs.declared.block.BlockId.{BlockId}
 use Rattle.xfs_base.specs.declared.node.NodeId.{NodeId}
@@ -18,16 +16,15 @@ use Rattle.xfs_base.specs.declared.setup.Setup.{Setup}
 use Rattle.xfs_base.specs.declared.token.Mode.TheVariants.{Own}
 use Rattle.xfs_base.specs.Modes.{is_own}
 use Rattle.quiet_gives.specs.Laws.{AreClean}
+use Rattle.quiet_law.proofs.PutAsking as asking
 use Rattle.quiet_gives.proofs.Taking as taking
 use Rattle.quiet_law.specs.Drained.{Drained, most_steps}
 use Rattle.quiet_law.specs.Lines.{Ends, IsNext, Stands, holders, tail}
-use Rattle.quiet_law.proofs.AloneFull.{puts_alone}
+use Rattle.quiet_law.proofs.Alone.{puts_alone}
 use Rattle.quiet_law.proofs.AsIf.{ends_as_if, ends_up}
-use Rattle.quiet_law.proofs.Owning as own
 use Rattle.quiet_law.proofs.Writes.{ends_more}
 use Rattle.quiet_script.specs.Quiet.{is_in_range}
-use Rattle.quiet_nodes.specs.Scene.{ClientPart, Scene, client_at, node_at}
-use Rattle.quiet_nodes.proofs.Wanting.{put_begins}
+use Rattle.quiet_nodes.specs.Scene.{ClientPart, Scene}
 
 module _ (setup : Setup) (works : NodeId → List Work) (ok : IsSetup setup) (k : ℕ) (s : Scene) (t : Stage AnyNode) (c : ℕ) (b : BlockId) (value : Option (List ℕ))
     (few : suc k < most_steps) (d : Drained setup works k s) (stands : Stands setup works s t) (next : IsNext setup works s c (work.Bput c b value))
@@ -71,31 +68,17 @@ module _ (setup : Setup) (works : NodeId → List Work) (ok : IsSetup setup) (k 
 
   -- ---- the client asks
 
-  abbrev as_t : Stage AnyNode
-  as_t = record { node = node_at setup works m; acts = []; unanswered = 0 }
+  abbrev p : ClientPart
+  p = s.client c
 
-  as_stands : Stands setup works m as_t
-  as_stands = record { placed = λ name has. refl; settled = refl }
-
-  abbrev pm : ClientPart
-  pm = m.client c
+  sooner : k < most_steps
+  sooner = omega (arith, few)
 
   abbrev asked : ClientPart
-  asked = own.asked setup works (suc k) m as_t c drained_m as_stands ok.managers.0 least most b value few next_m range asks_m nobody
-
-  end_is : pm.end.seq ≡ (s.client c).end.seq
-  end_is = ap (λ (p : ClientPart). p.end.seq) same
+  asked = asking.asked setup works k s c d sooner b value next asks
 
   abbrev want_packet : Packet
-  want_packet = taking.want_packet setup works ok k s t c b Own few d stands least most refl clean asked (pm.req + 1) pm.end.seq end_is
-
-  abbrev begins_as : ClientPart → Type 0
-  begins_as p = client_step (client_at setup works c p) Begin ≡ record { node = client_at setup works c asked; packets = want_packet ∷ []; acts = [] }
-
-  asks_so : begins_as (s.client c)
-  asks_so =
-      (let a = own.asks_fits setup works (suc k) m as_t c drained_m as_stands ok.managers.0 least most b value few next_m range asks_m nobody in
-      subst begins_as same (put_begins setup works c pm b value a.room a.left a.few a.next a.idle a.may_not a.must a.req a.within a.told))
+  want_packet = taking.want_packet setup works ok k s t c b Own few d stands least most refl clean asked (p.req + 1) p.end.seq refl
 
   -- ---- both
 
@@ -110,19 +93,20 @@ module _ (setup : Setup) (works : NodeId → List Work) (ok : IsSetup setup) (k 
       subst (λ l. Ends setup works (suc k) (2 + 2 * length hs + l) s t c item) tail_as
       (ends_more setup works (suc k) (steps + ((2 + tail setup works m c) - 1)) (2 + 2 * length hs + tail setup works m c) s t c item
       (counted steps (length hs) (tail setup works m c)
-      (taking.steps_are setup works ok k s t c b Own few d stands least most refl clean asked (pm.req + 1) pm.end.seq end_is))
+      (taking.steps_are setup works ok k s t c b Own few d stands least most refl clean asked (p.req + 1) p.end.seq refl))
       (ends_as_if setup works (suc k) s m
-      (taking.scene_of setup works ok k s t c b Own few d stands least most refl clean asked (pm.req + 1) pm.end.seq end_is hs)
-      (taking.h setup works ok k s t c b Own few d stands least most refl clean asked (pm.req + 1) pm.end.seq end_is) t c item steps asked want_packet
-      (taking.said_then setup works ok k s t c b Own few d stands least most refl clean asked (pm.req + 1) pm.end.seq end_is hs) [] stands least most same asks_so
-      (taking.really setup works ok k s t c b Own few d stands least most refl clean asked (pm.req + 1) pm.end.seq end_is first ds are)
-      (taking.as_if setup works ok k s t c b Own few d stands least most refl clean asked (pm.req + 1) pm.end.seq end_is)
-      (taking.alike setup works ok k s t c b Own few d stands least most refl clean asked (pm.req + 1) pm.end.seq end_is) refl
-      (taking.begun_as setup works ok k s t c b Own few d stands least most refl clean asked (pm.req + 1) pm.end.seq end_is)
-      (taking.fewer_then setup works ok k s t c b Own few d stands least most refl clean asked (pm.req + 1) pm.end.seq end_is) (2 + tail setup works m c) law))
+      (taking.scene_of setup works ok k s t c b Own few d stands least most refl clean asked (p.req + 1) p.end.seq refl hs)
+      (taking.h setup works ok k s t c b Own few d stands least most refl clean asked (p.req + 1) p.end.seq refl) t c item steps asked want_packet
+      (taking.said_then setup works ok k s t c b Own few d stands least most refl clean asked (p.req + 1) p.end.seq refl hs) [] stands least most same
+      (asking.asks_so setup works k s c d sooner b value next asks)
+      (taking.really setup works ok k s t c b Own few d stands least most refl clean asked (p.req + 1) p.end.seq refl first ds are)
+      (taking.as_if setup works ok k s t c b Own few d stands least most refl clean asked (p.req + 1) p.end.seq refl)
+      (taking.alike setup works ok k s t c b Own few d stands least most refl clean asked (p.req + 1) p.end.seq refl) refl
+      (taking.begun_as setup works ok k s t c b Own few d stands least most refl clean asked (p.req + 1) p.end.seq refl)
+      (taking.fewer_then setup works ok k s t c b Own few d stands least most refl clean asked (p.req + 1) p.end.seq refl) (2 + tail setup works m c) law))
     where
       steps : ℕ
-      steps = taking.steps_of setup works ok k s t c b Own few d stands least most refl clean asked (pm.req + 1) pm.end.seq end_is hs
+      steps = taking.steps_of setup works ok k s t c b Own few d stands least most refl clean asked (p.req + 1) p.end.seq refl hs
 
   more : (n l : ℕ) → 2 + l ≤ 2 + 2 * n + l
   more n l = omega arith
@@ -131,7 +115,7 @@ module _ (setup : Setup) (works : NodeId → List Work) (ok : IsSetup setup) (k 
   from_none none =
       ends_more setup works (suc k) (2 + tail setup works s c) (2 + 2 * length hs + tail setup works s c) s t c item (more (length hs) (tail setup works s c))
       (ends_up setup works k (2 + tail setup works s c) s t c item
-      (puts_alone setup works k s t c d stands ok (omega (arith, few)) b value next range asks none))
+      (puts_alone setup works k s t c d stands ok sooner b value next range asks none))
 
   pub puts_from_clean : Ends setup works (suc k) (2 + 2 * length hs + tail setup works s c) s t c item
   puts_from_clean = by_holders hs refl

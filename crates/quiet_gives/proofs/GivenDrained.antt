@@ -1,5 +1,5 @@
 -- What is drained once each of the others that are believed to hold a block gave it up, where they held it clean; or each of the owners did, but for a copy.
-use Rattle.std.proofs.Common.{◌≡◌, ℕ, suc, ◌+◌, ◌*◌, ◌<◌, ◌≤◌, ◌==◌, ◌&&◌, ◌||◌, Bool, true, false, cond, All, List, [], ◌∷◌, length, Option, Some, None, refl, sym, ap, subst, ◌∙◌, arith}
+use Rattle.std.proofs.Common.{◌≡◌, ℕ, suc, ◌+◌, ◌*◌, ◌<◌, ◌≤◌, ◌==◌, ◌&&◌, ◌||◌, Bool, true, false, cond, All, List, [], ◌∷◌, length, Option, None, refl, sym, ap, subst, ◌∙◌, arith}
 use Rattle.std.specs.List.{AllByRecursion}
 use Rattle.std.proofs.lemmas.Bool.{false≢true}
 use Rattle.std.proofs.lemmas.Bool.Decides.{nat_tests}
@@ -31,7 +31,7 @@ use Rattle.quiet_gives.proofs.Given.{alone_given, believed_given, each_other, fe
 use Rattle.quiet_gives.proofs.Givers.{HasGiven, each_block, given_field, gives, is_among, of_member, stays}
 use Rattle.quiet_law.specs.Drained.{AreSquare, Drained, IsCalm, IsIdle, IsNewest, IsPlaceReadable, IsQuietBlock, WaitsForDirty, mode_number}
 use Rattle.quiet_law.proofs.Changing.{each_of}
-use Rattle.quiet_law.proofs.Keeping.{all_shelved, calm_more, idle_again, lower}
+use Rattle.quiet_law.proofs.Keeping.{all_shelved, calm_more, idle_again, lower, readable_as}
 use Rattle.quiet_law.proofs.Waiting.{not_the_block}
 use Rattle.quiet_nodes.specs.Scene.{ClientPart, Scene, its_groups, put_number}
 use Rattle.quiet_nodes.proofs.Rooms.{slot_within}
@@ -288,20 +288,7 @@ module _ (setup : Setup) (works : NodeId → List Work) (k : ℕ) (s : Scene) (c
   ends = each_client (λ e (p : ClientPart). p.end ≡ (s.client e).end) (λ e out. refl) (λ e q has g. ap (λ (p : ClientPart). p.end) g.rest)
 
   readable : (x : BlockId) (o : Option Place) → IsPlaceReadable setup works s x o → IsPlaceReadable setup works m x o
-  readable x None h = tt
-  readable x (Some place) h = record {
-    segment = h.segment;
-    name = h.name;
-    of_log = h.of_log;
-    group_id = h.group_id;
-    group = h.group;
-    known = h.known;
-    prior = h.prior;
-    item = h.item;
-    text = h.text;
-    bytes = h.bytes;
-    held = h.held;
-  }
+  readable = readable_as setup works s m (λ v n f is. is)
 
   abbrev fed_so : ClientPart → Type 0
   fed_so p = p.fed ≡ p.end.seq

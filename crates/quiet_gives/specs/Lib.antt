@@ -1,2 +1,2 @@
-pub mod Recalls
 pub mod Laws
+pub mod Recalls

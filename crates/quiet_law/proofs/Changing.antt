@@ -1,5 +1,5 @@
 -- What stays drained where one client and one slot have changed, and the rows of the index haven't.
-use Rattle.std.proofs.Common.{◌≡◌, ℕ, suc, ◌<◌, ◌≤◌, ◌==◌, true, false, All, List, Option, Some, None, refl, sym, ap, subst, ◌∙◌, arith}
+use Rattle.std.proofs.Common.{◌≡◌, ℕ, suc, ◌<◌, ◌≤◌, ◌==◌, true, false, All, List, Option, refl, sym, ap, subst, ◌∙◌, arith}
 use Rattle.std.proofs.lemmas.Bool.{false≢true}
 use Rattle.std.proofs.lemmas.Bool.Decides.{nat_tests}
 use Rattle.client_log.specs.Transition.{prior_from}
@@ -17,7 +17,7 @@ use Rattle.xfs_base.specs.declared.segment.End.{End}
 use Rattle.xfs_base.specs.declared.setup.Setup.{Setup}
 use Rattle.quiet_law.specs.Drained.{AreSquare, Drained, IsCalm, IsIdle, IsPlaceReadable, IsShelved}
 use Rattle.quiet_nodes.specs.Scene.{ClientPart, Scene, its_groups}
-use Rattle.quiet_law.proofs.Keeping.{all_shelved, calm_more, idle_again}
+use Rattle.quiet_law.proofs.Keeping.{all_shelved, calm_more, idle_again, readable_as}
 
 -- what holds of the one that is changed, and of each other as it was, holds of all
 pub each_of : {X : Type 0} (f g : ℕ → X) (n : ℕ) (x : X) → ((m : ℕ) → (m ≡ n → ⊥) → g m ≡ f m) → g n ≡ x → (P : ℕ → X → Type 0) → P n x
@@ -65,20 +65,7 @@ module _ (setup : Setup) (works : NodeId → List Work) (k : ℕ) (s u : Scene) 
     each_slot = each_of s.slot u.slot i z but.slots but.slot
 
     readable : (b : BlockId) (o : Option Place) → IsPlaceReadable setup works s b o → IsPlaceReadable setup works u b o
-    readable b None h = tt
-    readable b (Some place) h = record {
-      segment = h.segment;
-      name = h.name;
-      of_log = h.of_log;
-      group_id = h.group_id;
-      group = h.group;
-      known = h.known;
-      prior = h.prior;
-      item = h.item;
-      text = h.text;
-      bytes = h.bytes;
-      held = λ at within. ap (λ shelf. held_at shelf place.seg.name) (but.held _) ∙ h.held at within;
-    }
+    readable = readable_as setup works s u (λ v n x is. ap (λ shelf. held_at shelf n) (but.held v) ∙ is)
 
     ends : (e : ℕ) → (u.client e).end ≡ (s.client e).end
     ends = each_client (λ e (p : ClientPart). p.end ≡ (s.client e).end) fit.end (λ e differs. refl)

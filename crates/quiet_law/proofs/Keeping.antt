@@ -3,6 +3,7 @@ use Rattle.std.proofs.Common.{◌≡◌, ℕ, suc, ◌<◌, ◌≤◌, ◌==◌,
 use Rattle.std.proofs.lemmas.Bool.Decides.{nat_tests}
 use Rattle.client_log.specs.Transition.{prior_from}
 use Rattle.delta_index.specs.Index.{entry_of}
+use Rattle.fragment_store.specs.ShelfState.{held_at}
 use Rattle.node_base.specs.Room.{has_room}
 use Rattle.segment_format.specs.Ranges.{FitsPrior}
 use Rattle.segment_reading.specs.Reading.{is_known}
@@ -15,6 +16,7 @@ use Rattle.xfs_base.specs.declared.entry.Place.{Place}
 use Rattle.xfs_base.specs.declared.fragment.Fragment.{Fragment}
 use Rattle.xfs_base.specs.declared.node.NodeId.{NodeId}
 use Rattle.xfs_base.specs.declared.segment.End.{End}
+use Rattle.xfs_base.specs.declared.segment.SegName.{SegName}
 use Rattle.xfs_base.specs.declared.setup.Setup.{Setup}
 use Rattle.quiet_law.specs.Drained.{AreSquare, Drained, IsCalm, IsIdle, IsLow, IsPlaceReadable, IsQuietBlock, IsShelved}
 use Rattle.quiet_nodes.specs.Scene.{ClientPart, Scene, its_groups, put_number, with_client}
@@ -91,6 +93,25 @@ all_shelved setup works s u same fs all = λ i d less. one (all i d less)
     one : {f : Fragment} → IsShelved setup works s f → IsShelved setup works u f
     one {f} h = record { of_log = h.of_log; known = h.known; filed = subst (λ n. f.meta.name.seq ≤ n) (sym (same f.meta.name.log.0)) h.filed }
 
+-- what can be read at a place can be so where each server has still what it had
+pub readable_as : (setup : Setup) (works : NodeId → List Work) (s u : Scene)
+    → ((v : ℕ) (n : SegName) (x : Fragment) → held_at (s.held v) n ≡ Some x → held_at (u.held v) n ≡ Some x) → (b : BlockId) (o : Option Place)
+    → IsPlaceReadable setup works s b o → IsPlaceReadable setup works u b o
+readable_as setup works s u keeps b None h = tt
+readable_as setup works s u keeps b (Some place) h = record {
+  segment = h.segment;
+  name = h.name;
+  of_log = h.of_log;
+  group_id = h.group_id;
+  group = h.group;
+  known = h.known;
+  prior = h.prior;
+  item = h.item;
+  text = h.text;
+  bytes = h.bytes;
+  held = λ at within. keeps _ place.seg.name _ (h.held at within);
+}
+
 module _ (setup : Setup) (works : NodeId → List Work) (k : ℕ) (s : Scene) (c : ℕ) (q : ClientPart) (d : Drained setup works k s) (idle : IsIdle (suc k) q)
     (fed : q.fed ≡ q.end.seq) (end : q.end ≡ (s.client c).end) (least : 1 ≤ c) (most : c ≤ setup.clients)
     (square : (i : ℕ) → i < 8 → AreSquare setup works c i q (s.slot i)) where
@@ -99,22 +120,6 @@ module _ (setup : Setup) (works : NodeId → List Work) (k : ℕ) (s : Scene) (c
 
   ends : (e : ℕ) → (then_.client e).end ≡ (s.client e).end
   ends = put_each (λ e (p : ClientPart). p.end ≡ (s.client e).end) s.client c q end (λ e. refl)
-
-  readable : (b : BlockId) (o : Option Place) → IsPlaceReadable setup works s b o → IsPlaceReadable setup works then_ b o
-  readable b None h = tt
-  readable b (Some place) h = record {
-    segment = h.segment;
-    name = h.name;
-    of_log = h.of_log;
-    group_id = h.group_id;
-    group = h.group;
-    known = h.known;
-    prior = h.prior;
-    item = h.item;
-    text = h.text;
-    bytes = h.bytes;
-    held = h.held;
-  }
 
   -- all stays drained where one client has done something by itself
   pub drained_client : Drained setup works (suc k) then_
@@ -128,7 +133,7 @@ module _ (setup : Setup) (works : NodeId → List Work) (k : ℕ) (s : Scene) (c
     square = λ e i least most within.
         put_each (λ e p. 1 ≤ e → e ≤ setup.clients → AreSquare setup works e i p (s.slot i)) s.client c q (λ l m. square i within)
         (λ e l m. d.square e i l m within) e least most;
-    legible = λ i within b of_slot. readable b (entry_of (s.slot i).index.rows b).place (d.legible i within b of_slot);
+    legible = λ i within b of_slot. readable_as setup works s then_ (λ v n x is. is) b (entry_of (s.slot i).index.rows b).place (d.legible i within b of_slot);
     shelved = λ v l m. all_shelved setup works s then_ (λ e. ap (λ (x : End). x.seq) (ends e)) (s.held v) (d.shelved v l m);
   }
 

@@ -6,9 +6,8 @@ pub mod Changing
 pub mod Believing
 pub mod Waiting
 pub mod Ending
-pub mod Lonely
+pub mod PutAsking
 pub mod Owning
-pub mod Alone
 pub mod Spelling
 pub mod Settled
 pub mod Rows
@@ -22,7 +21,7 @@ pub mod Syncing
 pub mod Tailing
 pub mod Filled
 pub mod Writes
-pub mod AloneFull
+pub mod Alone
 pub mod Alike
 pub mod AsIf
 pub mod Listed

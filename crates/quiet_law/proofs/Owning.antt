@@ -1,10 +1,7 @@
 -- A client asks for a block that nobody else is believed to hold, is granted it, and writes it: what it needs for that, and what is so of all once it is written.
 use Rattle.std.proofs.lemmas.Bool.Decides.{nat_tests}
 use Rattle.std.proofs.Common.{◌≡◌, ◌⊎◌, inl, inr, slice_get, ℕ, suc, ◌+◌, ◌<◌, ◌≤◌, ◌^◌, ◌==◌, ◌&&◌, true, false, cond, nat_lt, nat_le, List, [], length, replicate, slice_index, Option, Some, None, is_none, is_some, refl, sym, ap, subst, ◌∙◌, arith}
-use Rattle.std.proofs.lemmas.Option.{slice_get_within}
 use Rattle.client_call.specs.Fitting.{block_fits, put_fits, value_fits}
-use Rattle.core_world.specs.declared.any_node.AnyNode.{AnyNode}
-use Rattle.delta_feed.specs.Transition.{pushed}
 use Rattle.delta_index.specs.Index.{entry_of}
 use Rattle.group_map.specs.Groups.{group_of}
 use Rattle.log_flight.specs.declared.dirty.Change.{Change}
@@ -13,17 +10,16 @@ use Rattle.node_base.specs.Maps.{at_start}
 use Rattle.node_base.specs.Nodes.{has_node, peers_of}
 use Rattle.node_base.specs.Room.{has_long_room, has_room}
 use Rattle.node_base.specs.Shape.{is_place}
-use Rattle.quiet_flow.specs.Flow.{Stage}
-use Rattle.slot_beliefs.specs.Beliefs.{holder, share_of}
+use Rattle.slot_beliefs.specs.Beliefs.{holder, owned_by, share_of}
 use Rattle.slot_beliefs.specs.Recalls.{applied_of, stamp}
 use Rattle.token_client.proofs.Tables.{held_of-put_itself}
 use Rattle.token_client.specs.declared.held.Held.{Held}
-use Rattle.token_client.specs.Held.{asked as asked_for, is_answer, is_dirty, may_write, must_ask, owned, written}
+use Rattle.token_client.specs.Held.{asked as asked_for, is_answer, is_dirty, may_write, owned, written}
 use Rattle.token_client.specs.Repetitions.{repetition}
 use Rattle.token_client.specs.State.{held_of, put_held}
 use Rattle.token_client.specs.Transition.{accepts}
 use Rattle.token_manager.specs.SlotState.{SlotState}
-use Rattle.token_manager.specs.Transition.{entry_at, is_dropped, want_of}
+use Rattle.token_manager.specs.Transition.{entry_at, has_turns, is_dropped, want_of}
 use Rattle.version_model.specs.declared.work.Work.{Work}
 use Rattle.version_model.specs.declared.work.Work.TheVariants as work
 use Rattle.world_base.specs.Cluster.{HasNode}
@@ -38,25 +34,23 @@ use Rattle.xfs_base.specs.declared.node.NodeId.TheVariants.{Client, Manager}
 use Rattle.xfs_base.specs.declared.setup.Setup.{Setup}
 use Rattle.xfs_base.specs.declared.token.Mode.TheVariants.{Own}
 use Rattle.xfs_base.specs.declared.token.Stamp.{Stamp}
-use Rattle.xfs_base.specs.Limits.{u32_end, u64_end}
+use Rattle.xfs_base.specs.Limits.{u64_end}
 use Rattle.xfs_base.specs.Modes.{is_own}
 use Rattle.xfs_base.specs.Stamps.{is_later}
 use Rattle.quiet_law.specs.Drained.{AreSquare, Drained, IsCalm, IsIdle, IsLow, IsPlaceReadable, IsQuietBlock, mode_number, most_steps}
-use Rattle.quiet_law.specs.Lines.{IsNext, Names, Stands, holders}
+use Rattle.quiet_law.specs.Lines.{IsNext, Names, holders}
 use Rattle.quiet_script.specs.Quiet.{is_client, is_in_range}
 use Rattle.quiet_nodes.specs.Scene.{ClientPart, Scene, its_groups, manager_of_slot, tokens_at}
 use Rattle.quiet_nodes.proofs.Begins.{HasRoom}
 use Rattle.quiet_law.proofs.Believing.{none_else, none_then, other_share, owned_alone, owned_believed, owner_share}
 use Rattle.quiet_law.proofs.Changing.{ButForTwo}
 use Rattle.quiet_nodes.proofs.Granting.{owning}
-use Rattle.quiet_law.proofs.Keeping.{idle_room, low_room, lower, quiet_more, room_of}
-use Rattle.quiet_law.proofs.Lonely as lonely
+use Rattle.quiet_law.proofs.Keeping.{low_room, lower, quiet_more, room_of}
+use Rattle.quiet_law.proofs.PutAsking as asking
 use Rattle.quiet_law.proofs.Ordered.{ordered_owned}
-use Rattle.quiet_law.proofs.Lonely.{AsksFits, GrantFits}
 use Rattle.quiet_law.proofs.Waiting.{not_the_block, other_held, waits_put}
-use Rattle.quiet_nodes.proofs.Wanting.{feed_at}
-use Rattle.quiet_law.proofs.Counters.{below_long, below_short, calm_turns, long_room, low_next, low_room_next}
-use Rattle.quiet_nodes.proofs.Rooms.{later, manager_room, number_within, promised, slot_within}
+use Rattle.quiet_law.proofs.Counters.{below_long, long_room, low_next, low_room_next}
+use Rattle.quiet_nodes.proofs.Rooms.{later, number_within, promised, slot_within}
 use Rattle.quiet_nodes.proofs.Tests.{both, le_test, lt_test, not_lt_test, other_test, same_test}
 use Rattle.quiet_nodes.proofs.Puts.{put_part}
 use Rattle.quiet_nodes.specs.Scene.{with_client, with_slot}
@@ -64,10 +58,15 @@ use Rattle.quiet_law.specs.Drained.{IsWritable, WaitsForDirty}
 use Rattle.quiet_law.proofs.Spelling.{inserted_fit, put_writable}
 use Rattle.std.specs.List.{AllByRecursion}
 
-module _ (setup : Setup) (works : NodeId → List Work) (k : ℕ) (s : Scene) (t : Stage AnyNode) (c : ℕ) (d : Drained setup works k s)
-    (stands : Stands setup works s t) (managers : 1 ≤ setup.managers) (least : 1 ≤ c) (most : c ≤ setup.clients) (b : BlockId) (value : Option (List ℕ))
-    (few : k < most_steps) (next : IsNext setup works s c (work.Bput c b value)) (range : is_in_range setup (work.Bput c b value) ≡ true)
+module _ (setup : Setup) (works : NodeId → List Work) (k : ℕ) (s : Scene) (c : ℕ) (d : Drained setup works k s) (managers : 1 ≤ setup.managers) (b : BlockId)
+    (value : Option (List ℕ)) (few : k < most_steps) (next : IsNext setup works s c (work.Bput c b value)) (range : is_in_range setup (work.Bput c b value) ≡ true)
     (asks : is_own (held_of (s.client c).blocks b).mode ≡ false) (nobody : holders setup works s c b ≡ []) where
+  least : 1 ≤ c
+  least = next.client.0
+
+  most : c ≤ setup.clients
+  most = next.client.1
+
   abbrev pub i : ℕ
   i = slot_of b.ino.0
 
@@ -98,78 +97,30 @@ module _ (setup : Setup) (works : NodeId → List Work) (k : ℕ) (s : Scene) (t
   pub square : AreSquare setup works c i p z
   square = d.square c i least most within
 
-  pub has : HasNode setup (Client c)
-  has = (least, most)
-
   pub has_test : has_node (peers_of setup) (Client c) ≡ true
   has_test = ap (λ t. t && nat_le c setup.clients) (le_test 1 c least) ∙ le_test c setup.clients most
 
-  pub there : HasNode setup (Manager j)
+  there : HasNode setup (Manager j)
   there = number_within setup.managers i managers
 
   pub there_test : has_node (peers_of setup) (Manager j) ≡ true
   there_test = ap (λ t. t && nat_le j setup.managers) (le_test 1 j there.0) ∙ le_test j setup.managers there.1
 
-  pub left : p.begun < length (works (Client c))
-  left = slice_get_within (works (Client c)) p.begun (work.Bput c b value) next.next
+  -- ---- it asks, and is granted it
 
-  pub small : p.begun < u32_end
-  small = let many = next.few in let less = left in omega arith
+  abbrev pub asked : ClientPart
+  asked = asking.asked setup works k s c d few b value next asks
 
-  -- ---- it asks
-
-  pub within_test : nat_lt i 8 ≡ true
-  within_test = lt_test i 8 within
-
-  pub acked_is : slice_index p.acked i ≡ p.end.seq
-  acked_is = sym (ap (λ t. cond t (slice_index p.acked i) 0) within_test) ∙ square.acked
-
-  pub nothing_new : nat_lt (slice_index p.acked i) p.fed ≡ false
-  nothing_new = let acked = acked_is in let fed = d.fed c least most in not_lt_test (slice_index p.acked i) p.fed (omega arith)
-
-  pub told : pushed (feed_at p) i ≡ []
-  unfolding pushed
-  told = rw (within_test, nothing_new) refl
-
-  pub must : must_ask h Own ≡ true
-  must = rw (quiet.want, quiet.fetch, quiet.giving, asks) refl
-
-  pub asks_fits : AsksFits setup works s t c b value stands.placed has has_test
-  asks_fits = record {
-    room = idle_room setup works c k p few idle;
-    left = left;
-    few = small;
-    next = next.next;
-    idle = idle.item;
-    may_not = ap (λ t. (t && is_none h.giving) && nat_lt h.ver u64_end) asks;
-    must = must;
-    req = lt_test p.req u32_end (let low = below_short k p.req few idle.req_low in omega arith);
-    within = within;
-    told = told;
-  }
-
-  -- ---- it is granted
-
-  pub all_applied : nat_lt (applied_of z.applied c) p.end.seq ≡ false
+  all_applied : nat_lt (applied_of z.applied c) p.end.seq ≡ false
   all_applied = let same = square.applied in not_lt_test (applied_of z.applied c) p.end.seq (omega arith)
 
   pub taken : is_dropped z (want_of c b 1 (p.req + 1) 0 Own) p.end.seq ≡ false
   taken = rw (calm.jobs, all_applied) refl
 
-  pub grant_fits : GrantFits setup works s t c b value stands.placed has has_test
-  grant_fits = record {
-    there = there;
-    there_test = there_test;
-    room = manager_room setup works j s.slot (calm_turns setup k s.slot few d.slots);
-    taken = taken;
-    alone = nobody;
-    turns = lt_test (z.turn + 1) (2 ^ 64) (let low = below_long k z.turn few calm.turn_low in omega arith);
-  }
+  pub turns : has_turns z.turn 1 ≡ true
+  turns = lt_test (z.turn + 1) (2 ^ 64) (let low = below_long k z.turn few calm.turn_low in omega arith)
 
   -- ---- it writes
-
-  abbrev pub asked : ClientPart
-  asked = lonely.asked setup works s t c b value stands.placed has has_test asks_fits grant_fits
 
   abbrev pub its_stamp : Stamp
   its_stamp = stamp z.epoch (z.turn + 1)
@@ -177,14 +128,14 @@ module _ (setup : Setup) (works : NodeId → List Work) (k : ℕ) (s : Scene) (t
   abbrev pub entry : Entry
   entry = entry_at z b
 
-  abbrev pub asking : Held
-  asking = asked_for h (p.req + 1) Own
+  abbrev pub first_held : Held
+  first_held = asked_for h (p.req + 1) Own
 
   abbrev pub first_blocks : List (BlockId × Held)
-  first_blocks = put_held p.blocks b asking
+  first_blocks = put_held p.blocks b first_held
 
-  pub first_is : held_of first_blocks b ≡ asking
-  first_is = held_of-put_itself b asking p.blocks
+  pub first_is : held_of first_blocks b ≡ first_held
+  first_is = held_of-put_itself b first_held p.blocks
 
   pub low_entry : IsLow k entry.ver
   low_entry = calm.versions_low b
@@ -203,7 +154,7 @@ module _ (setup : Setup) (works : NodeId → List Work) (k : ℕ) (s : Scene) (t
       ap (λ e. is_later (record { epoch = e; turn = z.turn + 1 }) h.stamp) calm.epoch
       ∙ later h.stamp.epoch z.turn h.stamp.turn (square.below b refl).0 (square.below b refl).1
 
-  pub answers_it : is_answer asking its_stamp (p.req + 1) Own ≡ true
+  pub answers_it : is_answer first_held its_stamp (p.req + 1) Own ≡ true
   answers_it = ap (λ t. (t && true) && is_later its_stamp h.stamp) (same_test (p.req + 1)) ∙ later_now
 
   pub accepted : accepts (tokens_at setup works asked) b its_stamp 1 (p.req + 1) Own ≡ true
@@ -264,10 +215,10 @@ module _ (setup : Setup) (works : NodeId → List Work) (k : ℕ) (s : Scene) (t
   q = record (put_part second b value) { item = None }
 
   abbrev pub z_then : SlotState
-  z_then = lonely.granted_slot setup works s t c b value stands.placed has has_test asks_fits grant_fits
+  z_then = record z { beliefs = owned_by z.beliefs (holder b c); turn = z.turn + 1 }
 
   abbrev pub u : Scene
-  u = with_client (with_slot (with_client s c asked) i z_then) c q
+  u = with_client (with_slot s i z_then) c q
 
   abbrev pub owns_now : Held
   owns_now = owned (held_of first_blocks b) its_stamp entry.ver
@@ -282,7 +233,7 @@ module _ (setup : Setup) (works : NodeId → List Work) (k : ℕ) (s : Scene) (t
   last_blocks = put_held second_blocks b writes_now
 
   abbrev pub held_then : Held
-  held_then = written (owned asking its_stamp entry.ver) value
+  held_then = written (owned first_held its_stamp entry.ver) value
 
   pub last_is : held_of last_blocks b ≡ held_then
   last_is =
@@ -290,7 +241,7 @@ module _ (setup : Setup) (works : NodeId → List Work) (k : ℕ) (s : Scene) (t
       ∙ ap (λ x. written x value) (held_of-put_itself b owns_now first_blocks ∙ ap (λ x. owned x its_stamp entry.ver) first_is)
 
   pub others_as : (x : BlockId) → (x ≡ b → ⊥) → held_of last_blocks x ≡ held_of p.blocks x
-  others_as x differs = other_held b writes_now second_blocks x differs ∙ other_held b owns_now first_blocks x differs ∙ other_held b asking p.blocks x differs
+  others_as x differs = other_held b writes_now second_blocks x differs ∙ other_held b owns_now first_blocks x differs ∙ other_held b first_held p.blocks x differs
 
   pub each_held : (P : BlockId → Held → Type 0) → P b held_then → ((x : BlockId) → (x ≡ b → ⊥) → P x (held_of p.blocks x)) → (x : BlockId)
       → P x (held_of last_blocks x)
@@ -375,8 +326,8 @@ module _ (setup : Setup) (works : NodeId → List Work) (k : ℕ) (s : Scene) (t
 
   pub but : ButForTwo setup works k s u c i q z_then d
   but = record {
-    clients = λ e differs. ap (λ t. cond t q (cond t asked (s.client e))) (other_test e c differs);
-    client = ap (λ t. cond t q (cond t asked (s.client c))) (same_test c);
+    clients = λ e differs. ap (λ t. cond t q (s.client e)) (other_test e c differs);
+    client = ap (λ t. cond t q (s.client c)) (same_test c);
     slots = λ m differs. ap (λ t. cond t z_then (s.slot m)) (other_test m i differs);
     slot = ap (λ t. cond t z_then (s.slot i)) (same_test i);
     held = λ v. refl;

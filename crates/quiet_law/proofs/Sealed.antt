@@ -44,7 +44,7 @@ use Rattle.quiet_nodes.specs.Scene.{ClientPart, Scene, its_groups}
 use Rattle.quiet_nodes.proofs.Shelves.{IsNew, pieces_all, pieces_have, pieces_keep}
 use Rattle.quiet_nodes.proofs.StoreLayer.{IsTaken, meta_is}
 use Rattle.quiet_law.proofs.Changing.{each_of}
-use Rattle.quiet_law.proofs.Keeping.{idle_again}
+use Rattle.quiet_law.proofs.Keeping.{idle_again, readable_as}
 use Rattle.quiet_law.proofs.Spelling.{IsSpelled}
 use Rattle.quiet_law.proofs.Rows.{AreLying, IsLying}
 use Rattle.quiet_law.proofs.Told.{indexed_each}
@@ -148,22 +148,6 @@ module _ (setup : Setup) (works : NodeId → List Work) (k : ℕ) (s u : Scene) 
     still_held : (v : ℕ) (n : SegName) (x : Fragment) → held_at (s.held v) n ≡ Some x → held_at (u.held v) n ≡ Some x
     still_held v n x is = ap (λ fs. held_at fs n) (told.held v) ∙ pieces_keep setup works f f.group.members 0 s.held v n x is
 
-    old_readable : (b : BlockId) (o : Option Place) → IsPlaceReadable setup works s b o → IsPlaceReadable setup works u b o
-    old_readable b None h = tt
-    old_readable b (Some place) h = record {
-      segment = h.segment;
-      name = h.name;
-      of_log = h.of_log;
-      group_id = h.group_id;
-      group = h.group;
-      known = h.known;
-      prior = h.prior;
-      item = h.item;
-      text = h.text;
-      bytes = h.bytes;
-      held = λ at within. still_held _ place.seg.name _ (h.held at within);
-    }
-
     from_none : (n : ℕ) → 0 + n ≡ n
     from_none n = omega arith
 
@@ -196,7 +180,7 @@ module _ (setup : Setup) (works : NodeId → List Work) (k : ℕ) (s u : Scene) 
         (λ (row : BlockId × Entry). slot_of row.0.ino.0 ≡ i → IsPlaceReadable setup works u row.0 row.1.place)
         (λ row lies _. new_readable row.0 row.1.place lies) (slot_rows i rows)
         (all_filter (λ (row : BlockId × Entry). IsLying f.segment row.0 row.1.place) _ rows next.lying))
-        (λ x of_it. old_readable x (entry_of (s.slot i).index.rows x).place (d.legible i within x of_it)) b of_slot))
+        (λ x of_it. readable_as setup works s u still_held x (entry_of (s.slot i).index.rows x).place (d.legible i within x of_it)) b of_slot))
 
     or_some : (t : Bool) (o : Option Group) (g : Group) → o ≡ Some g → (t || is_some o) ≡ true
     or_some true o g is = refl

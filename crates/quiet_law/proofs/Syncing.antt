@@ -1,14 +1,13 @@
 -- A sync where something waits: from one drained state to the next by 2n + 16 deliveries, where n members have the group of the next segment.
-use Rattle.std.proofs.Common.{◌≡◌, inl, ℕ, suc, ◌+◌, ◌-◌, ◌*◌, ◌<◌, ◌≤◌, Bool, true, cond, List, [], ◌∷◌, ◌++◌, map, length, replicate, slice_index, Some, refl, sym, ap, subst, ◌∙◌, append-nil, arith}
-use Rattle.std.proofs.lemmas.List.{get_or-replicate, get_or-set_other, get_or-set_same}
+use Rattle.std.proofs.Common.{◌≡◌, inl, ℕ, suc, ◌+◌, ◌-◌, ◌*◌, ◌<◌, ◌≤◌, Bool, true, cond, List, [], ◌∷◌, ◌++◌, map, length, slice_index, Option, Some, None, refl, sym, ap, subst, ◌∙◌, append-nil, arith}
 use Rattle.std.proofs.lemmas.Option.{slice_get_within}
 use Rattle.client_call.specs.Calls.{call_for}
+use Rattle.client_call.specs.declared.call.Call.{Call}
 use Rattle.client_call.specs.declared.call.Plan.TheVariants.{One}
 use Rattle.client_log.specs.Transition as log
 use Rattle.client_log.specs.Transition.{end_from, prior_from}
 use Rattle.client_node.specs.Phases.{client_step}
 use Rattle.core_world.specs.declared.any_node.AnyNode.{AnyNode}
-use Rattle.delta_feed.specs.Transition.{slot_rows}
 use Rattle.file_plan.specs.declared.block_call.BlockCall.TheVariants.{Sync}
 use Rattle.log_flight.specs.Flights.{FlightState, is_of, none_noted}
 use Rattle.log_owner.specs.Sending.{name_of}
@@ -21,21 +20,19 @@ use Rattle.quiet_flow.specs.Flow.{Stage, unclocked}
 use Rattle.segment_reading.specs.Reading.{is_known}
 use Rattle.slot_beliefs.specs.Beliefs.{share_of}
 use Rattle.token_manager.specs.SlotState.{SlotState}
-use Rattle.token_manager.specs.Transition.{with_deltas}
 use Rattle.version_model.specs.declared.act.Act.{Act}
 use Rattle.version_model.specs.declared.act.Act.TheVariants as acts
 use Rattle.version_model.specs.declared.answer.Answer.TheVariants.{Done as Finished}
 use Rattle.version_model.specs.declared.work.Work.{Work}
 use Rattle.version_model.specs.declared.work.Work.TheVariants as work
 use Rattle.wire_msg.specs.declared.packet.Do.TheVariants.{Begin}
-use Rattle.xfs_base.proofs.Alls.{all_filter}
 use Rattle.xfs_base.specs.declared.block.BlockId.{BlockId}
 use Rattle.xfs_base.specs.declared.entry.Entry.{Entry}
 use Rattle.xfs_base.specs.declared.node.NodeId.{NodeId}
 use Rattle.xfs_base.specs.declared.node.NodeId.TheVariants.{Client}
 use Rattle.xfs_base.specs.declared.setup.Setup.{Setup}
 use Rattle.xfs_base.specs.Limits.{u32_end}
-use Rattle.quiet_law.specs.Drained.{AreSquare, Drained, IsCalm, IsIdle, most_steps}
+use Rattle.quiet_law.specs.Drained.{Drained, IsIdle, most_steps}
 use Rattle.quiet_law.specs.Lines.{Ends, IsNext, Stands, sealing}
 use Rattle.quiet_nodes.specs.Layers.{stores_to}
 use Rattle.quiet_nodes.specs.Moves.{Empties}
@@ -49,13 +46,11 @@ use Rattle.quiet_nodes.proofs.Settling.{last_stored_comes}
 use Rattle.quiet_nodes.proofs.Tests.{lt_test, other_test, same_test}
 use Rattle.quiet_law.proofs.Beginning.{AnswersIt, ends_by}
 use Rattle.quiet_law.proofs.Counters.{calm_turns}
-use Rattle.quiet_law.proofs.Keeping.{idle_room}
-use Rattle.quiet_law.proofs.Rows.{fewer}
-use Rattle.quiet_law.proofs.Sealed.{drained_sealed}
-use Rattle.quiet_law.proofs.Synced.{CanSeal, HasSynced, idle_can, none_waits, rows_few, rows_low, rows_lying, synced_below, synced_covered, synced_idle}
-use Rattle.quiet_law.proofs.Told.{calm_told}
+use Rattle.quiet_law.proofs.Keeping.{calm_more, idle_room}
+use Rattle.quiet_law.proofs.Synced.{CanSeal, idle_can, none_waits, rows_low}
+use Rattle.quiet_law.proofs.Tailing.{tail_drained}
 use Rattle.quiet_law.proofs.Writing as writing
-use Rattle.quiet_law.proofs.Writing.{IsReady, LastSo, NotedSo, acts_are, count_is, segment_spelled, its, lands, of_log, striped_so, taken, told_at, waits, writes_on}
+use Rattle.quiet_law.proofs.Writing.{IsReady, LastSo, NotedSo, acts_are, count_is, its, lands, of_log, told_at, waits, writes_on}
 
 module _ (setup : Setup) (works : NodeId → List Work) (k : ℕ) (s : Scene) (t : Stage AnyNode) (c : ℕ) (d : Drained setup works k s) (stands : Stands setup works s t)
     (ok : IsSetup setup) (few : k < most_steps) (next : IsNext setup works s c (work.Sync c)) (some : 1 ≤ length (s.client c).dirty) where
@@ -78,8 +73,9 @@ module _ (setup : Setup) (works : NodeId → List Work) (k : ℕ) (s : Scene) (t
   abbrev syncs : ClientPart
   syncs = record p { begun = item; item = Some item; call = Some (call_for One Sync) }
 
-  can : CanSeal (suc k) syncs
-  can = (let h = idle_can k p idle in record {
+  -- whichever call is open
+  can_with : (number : ℕ) (one : Option ℕ) (call : Option Call) → CanSeal (suc k) (record p { begun = number; item = one; call = call })
+  can_with number one call = (let h = idle_can k p idle in record {
     blocks = h.blocks;
     few = h.few;
     waits = h.waits;
@@ -90,6 +86,9 @@ module _ (setup : Setup) (works : NodeId → List Work) (k : ℕ) (s : Scene) (t
     req_low = h.req_low;
     end_low = h.end_low;
   })
+
+  can : CanSeal (suc k) syncs
+  can = can_with item (Some item) (Some (call_for One Sync))
 
   fed : p.fed ≡ p.end.seq
   fed = d.fed c least most
@@ -158,80 +157,17 @@ module _ (setup : Setup) (works : NodeId → List Work) (k : ℕ) (s : Scene) (t
   abbrev u : Scene
   u = writing.last_scene setup works (suc k) c s syncs can ok few_more least most fed linked acked ready
 
-  abbrev z : ℕ → SlotState
-  z i = with_deltas (s.slot i) (record { 0 = c }) seq (slot_rows i rows)
-
-  synced : HasSynced setup works (suc k) c syncs can q
-  synced = record {
-    call = refl;
-    item = refl;
-    flight = refl;
-    dirty = none_waits setup works (suc k) c syncs can;
-    blocks = refl;
-    asked = refl;
-    req = refl;
-    end = refl;
-    filed = refl;
-    acked = refl;
-  }
-
-  few_clients : c ≤ 8
-  few_clients = (let limit = ok.clients.1 in omega arith)
-
-  calm_then : (i : ℕ) → i < 8 → IsCalm setup (suc k) (z i)
-  calm_then i within =
-      calm_told setup k (s.slot i) (record { 0 = c }) seq (slot_rows i rows) (d.slots i within)
-      (let less = fewer i rows in let small = rows_few setup works (suc k) c syncs can in omega arith)
-      (all_filter _ _ rows (rows_low setup works (suc k) c syncs can))
-
-  square_then : (i : ℕ) → i < 8 → AreSquare setup works c i q (z i)
-  square_then i within = (let sq = d.square c i least most within in record {
-    acked = ap (λ t. cond t (slice_index (replicate 8 seq) i) 0) (lt_test i 8 within) ∙ get_or-replicate 8 i seq 0 within;
-    applied = get_or-set_same (s.slot i).applied (c - 1) seq 0 (let long = (d.slots i within).applied in let limit = few_clients in omega arith);
-    below = synced_below setup works (suc k) c syncs can q synced i (s.slot i).turn sq.below;
-    covered = λ b of_slot. synced_covered setup works (suc k) c syncs can q synced b (share_of (s.slot i).beliefs b c) (sq.covered b of_slot);
-  })
-
-  theirs : (e : ℕ) → (e ≡ c → ⊥) → 1 ≤ e → e ≤ setup.clients → (i : ℕ) → i < 8 → AreSquare setup works e i (s.client e) (z i)
-  theirs e differs l m i within = (let sq = d.square e i l m within in record {
-    acked = sq.acked;
-    applied = get_or-set_other (s.slot i).applied (c - 1) (e - 1) seq 0 (λ same. differs (apart e c l least same)) ∙ sq.applied;
-    below = sq.below;
-    covered = sq.covered;
-  })
-    where
-      apart : (a b : ℕ) → 1 ≤ a → 1 ≤ b → a - 1 ≡ b - 1 → a ≡ b
-      apart a b h g same = omega arith
-
+  -- it is that of a client which has sealed with no call open
   drained : Drained setup works (suc k) u
   drained =
-      drained_sealed setup works k s u c q z f rows d least most
-      (record {
-        log = refl;
-        seq = refl;
-        end = refl;
-        taken = taken setup works (suc k) c s syncs can ok few_more least most fed linked acked ready;
-        group = (striped_so setup works (suc k) c s syncs can ok few_more least most fed linked acked ready).found;
-        prior = linked;
-        lying = rows_lying setup works (suc k) c syncs can;
-        each = (striped_so setup works (suc k) c s syncs can ok few_more least most fed linked acked ready).each;
-        end_fits = ((omega arith, omega arith), (striped_so setup works (suc k) c s syncs can ok few_more least most fed linked acked ready).low);
-        spelled = segment_spelled setup works (suc k) c s syncs can ok few_more least most fed linked acked ready (d.passes c least most);
-        differ = (striped_so setup works (suc k) c s syncs can ok few_more least most fed linked acked ready).differ;
-      })
-      (record {
-        clients = λ e differs. ap (λ t. cond t q (s.client e)) (other_test e c differs);
-        client = ap (λ t. cond t q (s.client c)) (same_test c);
-        slots = told_at setup works (suc k) c s syncs can ok few_more least most fed linked acked ready;
+      tail_drained setup works k c s syncs (can_with item None None) ok few_more least most fed linked acked ready s d (record {
+        clients = λ e differs. refl;
         held = λ v. refl;
-        entries = λ i within. refl;
-      })
-      (record {
-        idle = synced_idle setup works (suc k) c syncs can q synced;
-        fed = refl;
-        calm = calm_then;
-        square = square_then;
-        theirs = theirs;
+        end = refl;
+        index = λ i within. refl;
+        calm = λ i within. calm_more setup k (s.slot i) (d.slots i within);
+        square = λ i within. (let sq = d.square c i least most within in record { acked = sq.acked; applied = sq.applied; below = sq.below; covered = sq.covered });
+        theirs = λ e differs l m i within. d.square e i l m within;
       })
 
   -- ---- the line

@@ -22,7 +22,7 @@ use Rattle.quiet_flow.specs.Flow.{unclocked}
 use Rattle.segment_format.specs.Ranges.{FitsPrior}
 use Rattle.segment_reading.specs.Reading.{is_known}
 use Rattle.slot_beliefs.specs.Index.{IsCounted}
-use Rattle.slot_beliefs.specs.Recalls.{applied_of}
+use Rattle.slot_beliefs.specs.Recalls.{applied_of, ready_blocks}
 use Rattle.token_manager.specs.SlotState.{SlotState}
 use Rattle.token_manager.specs.Transition.{with_deltas}
 use Rattle.version_model.specs.declared.act.Act.{Act}
@@ -203,7 +203,7 @@ module _ (setup : Setup) (works : NodeId → List Work) (k c : ℕ) (m : Scene) 
   pub takes : (i : ℕ) → i < 8 → TakesNext c seq (m.slot i) (slot_told i)
   takes i within = (let z = ready i within in record {
     turns = z.turns;
-    jobs = z.jobs;
+    waits = λ applied. ap (λ js. ready_blocks js applied) z.jobs;
     applied = ap (λ n. n + 1) z.applied;
     rises = counts_rise (m.slot i).index (length (slot_told i)) z.counted z.rows_low
         (let less = fewer i rows in let small = rows_few setup works k c p can in omega arith) (slot_told i);

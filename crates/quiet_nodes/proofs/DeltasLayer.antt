@@ -1,5 +1,5 @@
--- What a settled segment tells comes to the manager of each slot, which merges it and acknowledges it; no want waits there.
-use Rattle.std.proofs.Common.{◌≡◌, ℕ, zero, suc, ◌+◌, ◌^◌, ◌≤◌, ◌<◌, ◌&&◌, true, cond, nat_lt, nat_le, List, [], ◌∷◌, length, map, fold, refl, sym, ap, subst, ◌∙◌, arith}
+-- What a settled segment tells comes to the manager of each slot, which merges it and acknowledges it, while a want may wait there for an answer that hasn't come.
+use Rattle.std.proofs.Common.{◌≡◌, ℕ, zero, suc, ◌+◌, ◌^◌, ◌≤◌, ◌<◌, ◌&&◌, true, false, cond, nat_lt, nat_le, List, [], ◌∷◌, length, map, refl, ap, subst, ◌∙◌, arith}
 use Rattle.std.specs.List.{list_all}
 use Rattle.std.proofs.lemmas.Bool.Decides.{nat_tests}
 use Rattle.manager_node.specs.declared.manager.Manager.{Manager as ManagerNode}
@@ -10,6 +10,7 @@ use Rattle.node_base.specs.Maps.{at_start}
 use Rattle.node_base.specs.Nodes.{has_node, peers_of}
 use Rattle.node_base.specs.Room.{has_long_room}
 use Rattle.node_base.specs.Shape.{is_place, is_well_formed}
+use Rattle.slot_beliefs.specs.declared.job.Job.{Job}
 use Rattle.slot_beliefs.specs.Index.{has_room}
 use Rattle.slot_beliefs.specs.Recalls.{applied_of, applied_upto, is_followed, ready_blocks}
 use Rattle.token_manager.specs.declared.input.In.TheVariants as input
@@ -36,7 +37,7 @@ use Rattle.quiet_nodes.specs.Scene.{Scene, its_groups, manager_at, manager_of_sl
 use Rattle.quiet_nodes.proofs.Moving.{moves_none}
 use Rattle.quiet_nodes.proofs.Rooms.{HaveTurns, HasTurns, manager_room, turns_put}
 use Rattle.quiet_nodes.proofs.Telling.{deltas_come, deltas_merge}
-use Rattle.quiet_nodes.proofs.Tests.{le_test, lt_test, other_test, same_test}
+use Rattle.quiet_nodes.proofs.Tests.{and_none, le_test, lt_test, not_lt_test, other_test, same_test}
 use Rattle.quiet_nodes.proofs.Turns.{slot_takes}
 
 -- rows that managers take: each place is of a log and a group that there are, and no version is near its end
@@ -45,10 +46,14 @@ pub record AreTaken (setup : Setup) (works : NodeId → List Work) (rows : List 
   pub known : list_all (λ (row : BlockId × Entry). knows_place (at_start (its_groups setup works)) row.1.place) rows ≡ true
   pub low : list_all (λ (row : BlockId × Entry). has_long_room row.1.ver) rows ≡ true
 
--- a slot that takes the deltas of the next segment of a log: no want waits, all before is applied, and counts can rise
+-- whatever is applied, no want that waits is answered
+abbrev pub NoneReady : List (BlockId × Job) → Type 0
+NoneReady jobs = (applied : List ℕ) → ready_blocks jobs applied ≡ []
+
+-- a slot that takes the deltas of the next segment of a log: no want is answered by that, all before is applied, and counts can rise
 pub record TakesNext (c seq : ℕ) (z : SlotState) (rows : List (BlockId × Entry)) : Type 0 where
   pub turns : HasTurns z
-  pub jobs : z.jobs ≡ []
+  pub waits : NoneReady z.jobs
   pub applied : applied_of z.applied c + 1 ≡ seq
   pub rises : has_room (length rows) z.index.usage rows ≡ true
 
@@ -57,7 +62,7 @@ module _ (setup : Setup) (works : NodeId → List Work) (c seq : ℕ) (least : 1
   abbrev pub told : SlotState → List (BlockId × Entry) → SlotState
   told z rows = with_deltas z (record { 0 = c }) seq rows
 
-  followed : is_followed (record { 0 = c }) ≡ true
+  pub followed : is_followed (record { 0 = c }) ≡ true
   followed = ap (λ t. t && nat_le c block_logs) (le_test 1 c least) ∙ le_test c block_logs (omega (arith, most))
 
   writer_is : block_writer c ≡ Client c
@@ -70,17 +75,45 @@ module _ (setup : Setup) (works : NodeId → List Work) (c seq : ℕ) (least : 1
     abbrev its_deltas : Deltas
     its_deltas = record { slot = i; first = seq; upto = seq; rows = rows }
 
-    module _ (z : SlotState) (takes : TakesNext c seq z rows) (taken : AreTaken setup works rows) where
-      fits : is_well_formed (peers_of setup) (deltas_to setup works c seq i rows) ≡ true
-      fits = rw (there, taken.of_logs, lt_test i 8 within, taken.low) refl
+    abbrev answers_as : (ℕ → SlotState) → ℕ → NodeId → NodeStep ManagerNode
+    answers_as slots epoch to = record {
+      node = manager_at setup works j slots;
+      packets = record { from = Manager j; to = to; clock = 0; body = body.DeltaAck (record { slot = i; epoch = epoch; applied = seq }) } ∷ [];
+      acts = [];
+    }
 
+    fits : AreTaken setup works rows → is_well_formed (peers_of setup) (deltas_to setup works c seq i rows) ≡ true
+    fits taken = rw (there, taken.of_logs, lt_test i 8 within, taken.low) refl
+
+    -- deltas that a slot takes so, and of which it acknowledges all
+    module _ (slots : ℕ → SlotState) (z : SlotState) (turns : HaveTurns slots) (epoch : (slots i).epoch ≡ 1) (taken : AreTaken setup works rows)
+        (is : transition (slots i) (input.Deltas (record { 0 = c }) seq seq rows) ≡ record { state = z; outs = out.Applied (record { 0 = c }) seq ∷ [] }) where
+      comes_so : manager_step (manager_at setup works j slots) (Deliver (deltas_to setup works c seq i rows))
+          ≡ record { node = manager_at setup works j (put_number slots i z); packets = ack_by setup works c seq i ∷ []; acts = [] }
+      unfolding said
+      comes_so =
+          deltas_come setup works j c 0 slots its_deltas within (same_test j) (manager_room setup works j slots turns) (fits taken) taken.known
+          z (out.Applied (record { 0 = c }) seq ∷ []) is
+          ∙ ap (λ e. answers_as (put_number slots i z) e (block_writer c)) epoch
+          ∙ ap (answers_as (put_number slots i z) 1) writer_is
+
+    pub one_slot : (s u : Scene) (z : SlotState) (layer outs : List Packet) (done : List Act) → HaveTurns s.slot → (s.slot i).epoch ≡ 1 → AreTaken setup works rows
+        → transition (s.slot i) (input.Deltas (record { 0 = c }) seq seq rows) ≡ record { state = z; outs = out.Applied (record { 0 = c }) seq ∷ [] }
+        → Moves setup works (with_slot s i z) layer outs done u
+        → Moves setup works s (deltas_to setup works c seq i rows ∷ layer) (ack_by setup works c seq i ∷ outs) done u
+    one_slot s u z layer outs done turns epoch taken is rest =
+        slot_takes setup works s i z u (Client c) (body.Deltas its_deltas) (ack_by setup works c seq i ∷ []) layer outs [] done (managers i within)
+        (comes_so s.slot z turns epoch taken is) rest
+
+    -- the next segment's
+    module _ (z : SlotState) (takes : TakesNext c seq z rows) where
       joins : joins_on (applied_of z.applied c) seq seq ≡ true
       joins =
           ap (λ t. t && nat_lt (applied_of z.applied c) seq) (le_test seq (applied_of z.applied c + 1) (let is = takes.applied in omega arith))
           ∙ lt_test (applied_of z.applied c) seq (let is = takes.applied in omega arith)
 
       none_ready : ready_blocks z.jobs (applied_upto z.applied (record { 0 = c }) seq) ≡ []
-      none_ready = ap (λ js. ready_blocks js (applied_upto z.applied (record { 0 = c }) seq)) takes.jobs
+      none_ready = takes.waits (applied_upto z.applied (record { 0 = c }) seq)
 
       no_turn : (n : ℕ) → has_long_room n ≡ true → has_turns n 0 ≡ true
       no_turn n h = lt_test (n + 0) (2 ^ 64) (below n h)
@@ -97,29 +130,15 @@ module _ (setup : Setup) (works : NodeId → List Work) (c seq : ℕ) (least : 1
       merges : transition z (input.Deltas (record { 0 = c }) seq seq rows) ≡ record { state = told z rows; outs = out.Applied (record { 0 = c }) seq ∷ [] }
       merges = deltas_merge z (record { 0 = c }) seq seq rows followed joins can none_ready
 
-    abbrev answers_as : (ℕ → SlotState) → ℕ → NodeId → NodeStep ManagerNode
-    answers_as slots epoch to = record {
-      node = manager_at setup works j slots;
-      packets = record { from = Manager j; to = to; clock = 0; body = body.DeltaAck (record { slot = i; epoch = epoch; applied = seq }) } ∷ [];
-      acts = [];
-    }
-
-    one_comes : (slots : ℕ → SlotState) → HaveTurns slots → TakesNext c seq (slots i) rows → AreTaken setup works rows
-        → manager_step (manager_at setup works j slots) (Deliver (deltas_to setup works c seq i rows))
-        ≡ record { node = manager_at setup works j (put_number slots i (told (slots i) rows)); packets = ack_by setup works c seq i ∷ []; acts = [] }
-    unfolding said
-    one_comes slots turns takes taken =
-        deltas_come setup works j c 0 slots its_deltas within (same_test j) (manager_room setup works j slots turns) (fits (slots i) takes taken) taken.known
-        (told (slots i) rows) (out.Applied (record { 0 = c }) seq ∷ []) (merges (slots i) takes taken)
-        ∙ ap (λ e. answers_as (put_number slots i (told (slots i) rows)) e (block_writer c)) takes.turns.epoch
-        ∙ ap (answers_as (put_number slots i (told (slots i) rows)) 1) writer_is
-
-    one_slot : (s u : Scene) (layer outs : List Packet) (done : List Act) → HaveTurns s.slot → TakesNext c seq (s.slot i) rows → AreTaken setup works rows
-        → Moves setup works (with_slot s i (told (s.slot i) rows)) layer outs done u
-        → Moves setup works s (deltas_to setup works c seq i rows ∷ layer) (ack_by setup works c seq i ∷ outs) done u
-    one_slot s u layer outs done turns takes taken rest =
-        slot_takes setup works s i (told (s.slot i) rows) u (Client c) (body.Deltas its_deltas) (ack_by setup works c seq i ∷ []) layer outs [] done (managers i within)
-        (one_comes s.slot turns takes taken) rest
+    -- the same once more: nothing is merged, and it is acknowledged again
+    pub told_again : (z : SlotState) → applied_of z.applied c ≡ seq
+        → transition z (input.Deltas (record { 0 = c }) seq seq rows) ≡ record { state = z; outs = out.Applied (record { 0 = c }) seq ∷ [] }
+    told_again z is = rw (followed, beyond) (ap (λ n. record { state = z; outs = out.Applied (record { 0 = c }) n ∷ [] }) is)
+      where
+        beyond : joins_on (applied_of z.applied c) seq seq ≡ false
+        beyond =
+            ap (λ t. nat_le seq (applied_of z.applied c + 1) && t) (not_lt_test (applied_of z.applied c) seq (omega (arith, is)))
+            ∙ and_none (nat_le seq (applied_of z.applied c + 1))
 
   -- ---- all eight
 
@@ -128,18 +147,28 @@ module _ (setup : Setup) (works : NodeId → List Work) (c seq : ℕ) (least : 1
     abbrev z : ℕ → SlotState
     z i = told (s.slot i) (rows i)
 
-    -- the scenes on the way
-    abbrev told_to : Scene → ℕ → Scene
-    told_to m i = with_slot m i (z i)
+    -- the scene once so many have taken theirs
+    abbrev told_upto : ℕ → Scene
+    told_upto zero = s
+    told_upto (suc n) = with_slot (told_upto n) n (z n)
 
     abbrev pub all_told : Scene
-    all_told = fold told_to s all_slots
+    all_told = told_upto 8
+
+    later_same : (n i : ℕ) → n ≤ i → (told_upto n).slot i ≡ s.slot i
+    later_same zero i h = refl
+    later_same (suc n) i h =
+        ap (λ t. cond t (z n) ((told_upto n).slot i)) (other_test i n (λ same. omega (arith, same, h))) ∙ later_same n i (omega (arith, h))
 
     has_turns_then : (i : ℕ) → i < 8 → HasTurns (z i)
     has_turns_then i within = (let h = turns i within in record { epoch = h.epoch; turn = h.turn })
 
-    have_turns : (m : Scene) (i : ℕ) → i < 8 → HaveTurns m.slot → HaveTurns (told_to m i).slot
-    have_turns m i within have = turns_put m.slot i (z i) have (has_turns_then i within)
+    turns_upto : (n : ℕ) → n ≤ 8 → HaveTurns (told_upto n).slot
+    turns_upto zero h = turns
+    turns_upto (suc n) h = turns_put (told_upto n).slot n (z n) (turns_upto n (omega (arith, h))) (has_turns_then n (omega (arith, h)))
+
+    pub turns_8 : HaveTurns all_told.slot
+    turns_8 = turns_upto 8 (omega arith)
 
     abbrev deltas : List ℕ → List Packet
     deltas is = map (λ i. deltas_to setup works c seq i (rows i)) is
@@ -147,70 +176,28 @@ module _ (setup : Setup) (works : NodeId → List Work) (c seq : ℕ) (least : 1
     abbrev acks : List ℕ → List Packet
     acks is = map (ack_by setup works c seq) is
 
-    -- the next slot, and those after it
-    next : (m : Scene) (i : ℕ) (is : List ℕ) → (within : i < 8) → m.slot i ≡ s.slot i → HaveTurns m.slot
-        → Moves setup works (told_to m i) (deltas is) (acks is) [] all_told → Moves setup works m (deltas (i ∷ is)) (acks (i ∷ is)) [] all_told
-    next m i is within same have rest =
-        one_slot i (rows i) within m all_told (deltas is) (acks is) [] have (subst (λ y. TakesNext c seq y (rows i)) (sym same) (takes i within)) (taken i within)
-        (subst (λ y. Moves setup works (with_slot m i (told y (rows i))) (deltas is) (acks is) [] all_told) (sym same) rest)
+    -- this slot and so many after it
+    abbrev slots_from : ℕ → ℕ → List ℕ
+    slots_from n zero = []
+    slots_from n (suc left) = n ∷ slots_from (suc n) left
 
-    abbrev m1 : Scene
-    m1 = told_to s 0
+    move_from : (left n : ℕ) → n + left ≡ 8 → Moves setup works (told_upto n) (deltas (slots_from n left)) (acks (slots_from n left)) [] all_told
+    move_from zero n is =
+        let all : 8 ≡ n = omega (arith, is) in
+        subst (λ m. Moves setup works (told_upto m) [] [] [] all_told) all (moves_none setup works all_told)
+    move_from (suc left) n is =
+        one_slot n (rows n) within (told_upto n) all_told (z n) (deltas (slots_from (suc n) left)) (acks (slots_from (suc n) left)) [] have (have n within).epoch (taken n within)
+        (ap (λ y. transition y (input.Deltas (record { 0 = c }) seq seq (rows n))) (later_same n n (omega arith)) ∙ merges n (rows n) within (s.slot n) (takes n within))
+        (move_from left (suc n) (omega (arith, is)))
+      where
+        within : n < 8
+        within = omega (arith, is)
 
-    abbrev m2 : Scene
-    m2 = told_to m1 1
-
-    abbrev m3 : Scene
-    m3 = told_to m2 2
-
-    abbrev m4 : Scene
-    m4 = told_to m3 3
-
-    abbrev m5 : Scene
-    m5 = told_to m4 4
-
-    abbrev m6 : Scene
-    m6 = told_to m5 5
-
-    abbrev m7 : Scene
-    m7 = told_to m6 6
-
-    turns_1 : HaveTurns m1.slot
-    turns_1 = have_turns s 0 (omega arith) turns
-
-    turns_2 : HaveTurns m2.slot
-    turns_2 = have_turns m1 1 (omega arith) turns_1
-
-    turns_3 : HaveTurns m3.slot
-    turns_3 = have_turns m2 2 (omega arith) turns_2
-
-    turns_4 : HaveTurns m4.slot
-    turns_4 = have_turns m3 3 (omega arith) turns_3
-
-    turns_5 : HaveTurns m5.slot
-    turns_5 = have_turns m4 4 (omega arith) turns_4
-
-    turns_6 : HaveTurns m6.slot
-    turns_6 = have_turns m5 5 (omega arith) turns_5
-
-    turns_7 : HaveTurns m7.slot
-    turns_7 = have_turns m6 6 (omega arith) turns_6
-
-    -- from the last slot to the first
-    from_7 : Moves setup works m7 (deltas (7 ∷ [])) (acks (7 ∷ [])) [] all_told
-    from_7 = next m7 7 [] (omega arith) refl turns_7 (moves_none setup works all_told)
-
-    from_5 : Moves setup works m5 (deltas (5 ∷ 6 ∷ 7 ∷ [])) (acks (5 ∷ 6 ∷ 7 ∷ [])) [] all_told
-    from_5 = next m5 5 (6 ∷ 7 ∷ []) (omega arith) refl turns_5 (next m6 6 (7 ∷ []) (omega arith) refl turns_6 from_7)
-
-    from_3 : Moves setup works m3 (deltas (3 ∷ 4 ∷ 5 ∷ 6 ∷ 7 ∷ [])) (acks (3 ∷ 4 ∷ 5 ∷ 6 ∷ 7 ∷ [])) [] all_told
-    from_3 = next m3 3 (4 ∷ 5 ∷ 6 ∷ 7 ∷ []) (omega arith) refl turns_3 (next m4 4 (5 ∷ 6 ∷ 7 ∷ []) (omega arith) refl turns_4 from_5)
-
-    from_1 : Moves setup works m1 (deltas (1 ∷ 2 ∷ 3 ∷ 4 ∷ 5 ∷ 6 ∷ 7 ∷ [])) (acks (1 ∷ 2 ∷ 3 ∷ 4 ∷ 5 ∷ 6 ∷ 7 ∷ [])) [] all_told
-    from_1 = next m1 1 (2 ∷ 3 ∷ 4 ∷ 5 ∷ 6 ∷ 7 ∷ []) (omega arith) refl turns_1 (next m2 2 (3 ∷ 4 ∷ 5 ∷ 6 ∷ 7 ∷ []) (omega arith) refl turns_2 from_3)
+        have : HaveTurns (told_upto n).slot
+        have = turns_upto n (omega (arith, is))
 
     pub deltas_move : Moves setup works s (deltas all_slots) (acks all_slots) [] all_told
-    deltas_move = next s 0 (1 ∷ 2 ∷ 3 ∷ 4 ∷ 5 ∷ 6 ∷ 7 ∷ []) (omega arith) refl turns from_1
+    deltas_move = move_from 8 0 refl
 
     -- each slot then
     pub all_told_at : (i : ℕ) → i < 8 → all_told.slot i ≡ z i

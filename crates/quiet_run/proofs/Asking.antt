@@ -10,7 +10,7 @@ use Rattle.node_slots.proofs.node_tie.AsksEvents.{first_asks, phase_asks}
 use Rattle.node_slots.specs.node_tie.AskingEvents.{PhaseAsks}
 use Rattle.quiet_flow.proofs.Places.{has_fact}
 use Rattle.quiet_flow.specs.Flow.{Done, Drains, Stage, begins, delivers, flows, happens, one_more, rounds, ticks}
-use Rattle.quiet_forwards.specs.Passing.{AreInOrder}
+use Rattle.quiet_gets.specs.Passing.{AreInOrder}
 use Rattle.quiet_law.specs.Lines.{Ends, EndsAfterRound, Stands}
 use Rattle.quiet_nodes.proofs.Starts.{starts_as}
 use Rattle.quiet_nodes.specs.Scene.{Scene, client_at, node_at}

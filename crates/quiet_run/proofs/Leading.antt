@@ -1,5 +1,6 @@
--- Line by line from one drained state to the next: what a line leads to by the law of lines is what the induction over the script asks of it.
-use Rattle.std.proofs.Common.{true≢false, ◌≡◌, ◌≤◌, ◌<◌, ◌⊎◌, inl, inr, ℕ, suc, ◌+◌, Bool, true, false, cond, List, [], ◌∷◌, ◌++◌, length, length-append, Some, slice_get, refl, sym, ap, subst, ◌∙◌, arith}
+-- Line by line from one drained state to the next, in each of which every client asks for its call alone: what a line leads to by the law of lines is what the induction
+-- over the script asks of it.
+use Rattle.std.proofs.Common.{true≢false, ◌≡◌, ◌≤◌, ◌⊎◌, inl, inr, ℕ, suc, ◌+◌, Bool, true, false, cond, List, [], ◌∷◌, ◌++◌, length, length-append, Option, Some, slice_get, refl, sym, ap, subst, ◌∙◌, arith}
 use Rattle.std.specs.List.{list_all}
 use Rattle.std.proofs.lemmas.Bool.{and_parts}
 use Rattle.std.proofs.lemmas.Bool.Decides.{nat_tests}
@@ -7,15 +8,14 @@ use Rattle.std.proofs.lemmas.List.Folds.{list_all-append}
 use Rattle.std.proofs.lemmas.List.Sums.{count_by-le-length}
 use Rattle.std.proofs.lemmas.List.{length-map}
 use Rattle.core_world.specs.AnyNode.{any_start, any_step}
-use Rattle.play.specs.Plays.{estate_of}
 use Rattle.core_world.specs.declared.any_node.AnyNode.{AnyNode}
 use Rattle.script_text.specs.declared.script.Line.{Line}
 use Rattle.script_text.specs.declared.script.Script.{Script}
 use Rattle.version_model.specs.declared.work.Work.{Work}
 use Rattle.version_model.specs.declared.work.Work.TheVariants as works
 use Rattle.world_base.specs.Items.{actor_of, is_for, is_for_actor, items_of, works_of}
-use Rattle.world_base.specs.Cluster.{HasNode}
 use Rattle.xfs_base.proofs.NodeOrder.{same_node_itself}
+use Rattle.xfs_base.specs.declared.block.BlockId.{BlockId}
 use Rattle.xfs_base.specs.declared.node.NodeId.{NodeId}
 use Rattle.xfs_base.specs.declared.node.NodeId.TheVariants.{Client}
 use Rattle.xfs_base.specs.Limits.{max_lines}
@@ -24,14 +24,14 @@ use Rattle.quiet_flow.specs.Flow.{Stage}
 use Rattle.quiet_law.proofs.Starting.{start_is_drained}
 use Rattle.quiet_nodes.proofs.Starts.{starts_as}
 use Rattle.quiet_nodes.specs.Start.{start_scene}
-use Rattle.quiet_law.specs.Drained.{Drained, most_steps}
+use Rattle.quiet_law.specs.Drained.{Drained}
 use Rattle.quiet_law.specs.Lines.{Ends, EndsAfterRound, IsNext, Stands}
 use Rattle.quiet_nodes.proofs.Blind.{any_blind}
 use Rattle.quiet_nodes.specs.Scene.{Scene}
 use Rattle.quiet_script.proofs.Answered.{items_counted, items_more}
 use Rattle.quiet_script.proofs.Induction.{script_answers}
 use Rattle.quiet_script.specs.Lines.{EndsLater, EndsSoon, LeadsOn}
-use Rattle.quiet_script.specs.Quiet.{AnswersWithinBounds, IsOrderly, IsQuiet, is_client, is_in_range, is_quiet, most_deliveries}
+use Rattle.quiet_script.specs.Quiet.{IsOrderly, IsQuiet, is_client, is_in_range, is_quiet, most_deliveries}
 use Rattle.quiet_run.proofs.Asking.{AllAsk, asks_later, asks_then, in_order, start_asks}
 use Rattle.quiet_run.specs.Runs.{EachLineLeadsOn, QuietScriptsAreAnswered}
 
@@ -46,7 +46,32 @@ of_line p played rest line all =
     let both = and_parts (list_all p played) (list_all p (line ∷ rest)) (sym (list_all-append p played (line ∷ rest)) ∙ all) in
     (and_parts (p line) (list_all p rest) both.1).0
 
-module _ (script : Script) (orderly : IsOrderly script) (quiet : IsQuiet script) (Extra : List Line → Scene → Type 0) where
+-- what holds of each put, get and sync holds of each quiet work
+pub each_quiet : (P : Work → Type 0) → ((c : ℕ) (b : BlockId) (value : Option (List ℕ)) → P (works.Bput c b value)) → ((c : ℕ) (b : BlockId) → P (works.Bget c b))
+    → ((c : ℕ) → P (works.Sync c)) → (w : Work) → is_quiet w ≡ true → P w
+each_quiet P puts gets syncs (works.Bput c b value) q = puts c b value
+each_quiet P puts gets syncs (works.Bget c b) q = gets c b
+each_quiet P puts gets syncs (works.Sync c) q = syncs c
+each_quiet P puts gets syncs (works.File c call) q = absurd (true≢false (sym q))
+each_quiet P puts gets syncs (works.Crash node) q = absurd (true≢false (sym q))
+each_quiet P puts gets syncs (works.Restart node) q = absurd (true≢false (sym q))
+each_quiet P puts gets syncs (works.Checkpoint j) q = absurd (true≢false (sym q))
+each_quiet P puts gets syncs (works.Lose v) q = absurd (true≢false (sym q))
+each_quiet P puts gets syncs (works.Rebuild v) q = absurd (true≢false (sym q))
+each_quiet P puts gets syncs (works.Move slot j) q = absurd (true≢false (sym q))
+each_quiet P puts gets syncs (works.Clean count) q = absurd (true≢false (sym q))
+each_quiet P puts gets syncs (works.NetLose n) q = absurd (true≢false (sym q))
+each_quiet P puts gets syncs (works.NetAgain n) q = absurd (true≢false (sym q))
+each_quiet P puts gets syncs (works.NetMix n) q = absurd (true≢false (sym q))
+each_quiet P puts gets syncs works.NetHold q = absurd (true≢false (sym q))
+each_quiet P puts gets syncs works.NetGo q = absurd (true≢false (sym q))
+each_quiet P puts gets syncs (works.NetStep n) q = absurd (true≢false (sym q))
+each_quiet P puts gets syncs (works.BoardStop n) q = absurd (true≢false (sym q))
+each_quiet P puts gets syncs (works.BoardStart n) q = absurd (true≢false (sym q))
+each_quiet P puts gets syncs (works.ServerStop v passes) q = absurd (true≢false (sym q))
+each_quiet P puts gets syncs (works.ServerStart v) q = absurd (true≢false (sym q))
+
+module _ (script : Script) (orderly : IsOrderly script) (quiet : IsQuiet script) where
   abbrev its_works : NodeId → List Work
   its_works node = items_of script.lines node
 
@@ -56,24 +81,7 @@ module _ (script : Script) (orderly : IsOrderly script) (quiet : IsQuiet script)
     pub stands : Stands script.setup its_works scene t
     pub drained : Drained script.setup its_works (steps_of played) scene
     pub begun : (c : ℕ) → (scene.client c).begun ≡ length (items_of played (Client c))
-    pub extra : Extra played scene
-
-  -- a line ends from this scene, and what is so beside is so again
-  pub record EndsSo (played : List Line) (line : Line) (s : Scene) (t : Stage AnyNode) (c : ℕ) : Type 0 where
-    pub ends : Ends script.setup its_works (suc (steps_of played)) most_deliveries s t c ((s.client c).begun + 1)
-    pub extra : Extra (played ++ line ∷ []) ends.scene
-
-  pub record EndsSoLater (played : List Line) (line : Line) (s : Scene) (t : Stage AnyNode) (c : ℕ) : Type 0 where
-    pub ends : EndsAfterRound script.setup its_works (suc (steps_of played)) 63 65 s t c ((s.client c).begun + 1)
-    pub extra : Extra (played ++ line ∷ []) ends.scene
-
-  -- each line does
-  abbrev pub EachEnds : Type 0
-  EachEnds =
-      (played rest : List Line) (line : Line) → script.lines ≡ played ++ line ∷ rest → (s : Scene) (t : Stage AnyNode) (c : ℕ) → suc (steps_of played) < most_steps
-      → Drained script.setup its_works (steps_of played) s → Stands script.setup its_works s t → IsNext script.setup its_works s c line.work
-      → is_quiet line.work ≡ true → is_in_range script.setup line.work ≡ true → actor_of line.work ≡ Some (Client c) → Extra played s
-      → EndsSo played line s t c ⊎ EndsSoLater played line s t c
+    pub asks : AllAsk script.setup its_works scene
 
   few_items : (c : ℕ) → length (its_works (Client c)) ≤ max_lines
   few_items c =
@@ -140,13 +148,13 @@ module _ (script : Script) (orderly : IsOrderly script) (quiet : IsQuiet script)
 
       between_then : (scene : Scene) (end : Stage AnyNode) → Stands script.setup its_works scene end
           → Drained script.setup its_works (suc (suc (steps_of played))) scene → (scene.client c).begun ≡ (b.scene.client c).begun + 1
-          → ((d : ℕ) → (d ≡ c → ⊥) → (scene.client d).begun ≡ (b.scene.client d).begun) → Extra (played ++ line ∷ []) scene → Between (played ++ line ∷ []) end
-      between_then scene end stands drained one others extra = record {
+          → ((d : ℕ) → (d ≡ c → ⊥) → (scene.client d).begun ≡ (b.scene.client d).begun) → AllAsk script.setup its_works scene → Between (played ++ line ∷ []) end
+      between_then scene end stands drained one others asks = record {
         scene = scene;
         stands = stands;
         drained = subst (λ k. Drained script.setup its_works k scene) (longer played) drained;
         begun = λ d. begun_then d;
-        extra = extra;
+        asks = asks;
       }
         where
           longer : (lines : List Line) → suc (suc (steps_of lines)) ≡ steps_of (lines ++ line ∷ [])
@@ -178,21 +186,25 @@ module _ (script : Script) (orderly : IsOrderly script) (quiet : IsQuiet script)
                   no_more : (n : ℕ) → n ≡ n + 0
                   no_more n = omega arith
 
-      soon : EndsSo played line b.scene t c
+      abbrev item : ℕ
+      item = (b.scene.client c).begun + 1
+
+      soon : Ends script.setup its_works (suc (steps_of played)) most_deliveries b.scene t c item
           → EndsSoon any_step script.setup most_deliveries t (Client c) (suc (length (items_of played (Client c)))) (Between (played ++ line ∷ []))
-      soon so = let e = so.ends in subst (λ item. EndsSoon any_step script.setup most_deliveries t (Client c) item (Between (played ++ line ∷ []))) item_is (record {
+      soon e = subst (λ item. EndsSoon any_step script.setup most_deliveries t (Client c) item (Between (played ++ line ∷ []))) item_is (record {
         end = e.end;
         deliveries = e.deliveries;
         few = e.few;
         drains = e.drains;
         settled = e.stands.settled;
         answers_it = record { answer = e.answer; before = e.before; after = e.after; acted = e.acted; none_before = e.none_before; none_after = e.none_after };
-        so_then = between_then e.scene e.end e.stands e.drained e.begun e.others so.extra;
+        so_then = between_then e.scene e.end e.stands e.drained e.begun e.others
+            (asks_then script.setup its_works (suc (steps_of played)) b.scene t c item b.stands its_number b.asks most_deliveries e);
       })
 
-      later : EndsSoLater played line b.scene t c
+      later : EndsAfterRound script.setup its_works (suc (steps_of played)) 63 65 b.scene t c item
           → EndsLater any_step script.setup 63 65 t (Client c) (suc (length (items_of played (Client c)))) (Between (played ++ line ∷ []))
-      later so = let e = so.ends in subst (λ item. EndsLater any_step script.setup 63 65 t (Client c) item (Between (played ++ line ∷ []))) item_is (record {
+      later e = subst (λ item. EndsLater any_step script.setup 63 65 t (Client c) item (Between (played ++ line ∷ []))) item_is (record {
         mid = e.mid;
         first = e.first;
         first_few = e.first_few;
@@ -204,16 +216,24 @@ module _ (script : Script) (orderly : IsOrderly script) (quiet : IsQuiet script)
         second_drains = e.second_drains;
         settled = e.stands.settled;
         answers_it = record { answer = e.answer; before = e.before; after = e.after; acted = e.acted; none_before = e.none_before; none_after = e.none_after };
-        so_then = between_then e.scene e.end e.stands e.drained e.begun e.others so.extra;
+        so_then = between_then e.scene e.end e.stands e.drained e.begun e.others
+            (asks_later script.setup its_works (suc (steps_of played)) b.scene t c item b.stands its_number b.asks 63 65 e);
       })
 
-      leads : EachEnds → LeadsOn any_step script Between played line t
-      leads law = record { node = Client c; actor = actor; has = its_number; ends = by_case (law played rest line is b.scene t c low b.drained b.stands is_next quiet_line in_range actor b.extra) }
+      leads : EachLineLeadsOn → LeadsOn any_step script Between played line t
+      leads law = record {
+        node = Client c;
+        actor = actor;
+        has = its_number;
+        ends = by_case (law script.setup its_works orderly.setup (steps_of played) b.scene t c line.work low b.drained b.stands is_next
+            (in_order script.setup its_works b.scene b.asks) quiet_line in_range actor);
+      }
         where
           low : suc (suc (steps_of played)) ≤ 40000
           low = let s = short in let twice = two_each played in omega arith
 
-          by_case : EndsSo played line b.scene t c ⊎ EndsSoLater played line b.scene t c
+          by_case : Ends script.setup its_works (suc (steps_of played)) most_deliveries b.scene t c item
+              ⊎ EndsAfterRound script.setup its_works (suc (steps_of played)) 63 65 b.scene t c item
               → EndsSoon any_step script.setup most_deliveries t (Client c) (suc (length (items_of played (Client c)))) (Between (played ++ line ∷ []))
               ⊎ EndsLater any_step script.setup 63 65 t (Client c) (suc (length (items_of played (Client c)))) (Between (played ++ line ∷ []))
           by_case (inl e) = inl (soon e)
@@ -226,65 +246,26 @@ module _ (script : Script) (orderly : IsOrderly script) (quiet : IsQuiet script)
       pub actor : actor_of w ≡ Some (Client number)
 
     whose : (w : Work) → is_quiet w ≡ true → is_in_range script.setup w ≡ true → IsClients w
-    whose (works.Bput c block value) q range = record { number = c; there = (and_parts (is_client script.setup c) _ range).0; actor = refl }
-    whose (works.Bget c block) q range = record { number = c; there = (and_parts (is_client script.setup c) _ range).0; actor = refl }
-    whose (works.Sync c) q range = record { number = c; there = range; actor = refl }
-    whose (works.File c call) q range = absurd (true≢false (sym q))
-    whose (works.Crash node) q range = absurd (true≢false (sym q))
-    whose (works.Restart node) q range = absurd (true≢false (sym q))
-    whose (works.Checkpoint j) q range = absurd (true≢false (sym q))
-    whose (works.Lose v) q range = absurd (true≢false (sym q))
-    whose (works.Rebuild v) q range = absurd (true≢false (sym q))
-    whose (works.Move slot j) q range = absurd (true≢false (sym q))
-    whose (works.Clean count) q range = absurd (true≢false (sym q))
-    whose (works.NetLose n) q range = absurd (true≢false (sym q))
-    whose (works.NetAgain n) q range = absurd (true≢false (sym q))
-    whose (works.NetMix n) q range = absurd (true≢false (sym q))
-    whose works.NetHold q range = absurd (true≢false (sym q))
-    whose works.NetGo q range = absurd (true≢false (sym q))
-    whose (works.NetStep n) q range = absurd (true≢false (sym q))
-    whose (works.BoardStop n) q range = absurd (true≢false (sym q))
-    whose (works.BoardStart n) q range = absurd (true≢false (sym q))
-    whose (works.ServerStop v passes) q range = absurd (true≢false (sym q))
-    whose (works.ServerStart v) q range = absurd (true≢false (sym q))
+    whose =
+        each_quiet (λ w. is_in_range script.setup w ≡ true → IsClients w)
+        (λ c b value range. record { number = c; there = (and_parts (is_client script.setup c) _ range).0; actor = refl })
+        (λ c b range. record { number = c; there = (and_parts (is_client script.setup c) _ range).0; actor = refl })
+        (λ c range. record { number = c; there = range; actor = refl })
 
-    line_leads : EachEnds → LeadsOn any_step script Between played line t
+    line_leads : EachLineLeadsOn → LeadsOn any_step script Between played line t
     line_leads law = let w = whose line.work quiet_line in_range in leads w.number w.there w.actor law
 
-  -- so the whole script is answered
-  pub script_is_answered : EachEnds → Extra [] start_scene → AnswersWithinBounds (estate_of any_step any_start script)
-  script_is_answered law extra =
-      script_answers any_step any_start any_blind script orderly.setup orderly.few Between
-      (λ played rest line t is b settled. line_leads played rest line t is b law) (record {
-        scene = start_scene;
-        stands = record { placed = λ name has. starts_as script.setup its_works orderly.setup.managers.0 name; settled = refl };
-        drained = start_is_drained script.setup its_works;
-        begun = λ c. refl;
-        extra = extra;
-      })
-
--- ---- where each quiet line leads on
-
+-- so the run of each script is answered
 pub scripts_are_answered : EachLineLeadsOn → QuietScriptsAreAnswered
-scripts_are_answered law script orderly quiet = script_is_answered script orderly quiet Asking ends (start_asks script.setup abbrev_works orderly.setup.managers.0)
+scripts_are_answered law script orderly quiet =
+    script_answers any_step any_start any_blind script orderly.setup orderly.few (Between script orderly quiet)
+    (λ played rest line t is b settled. line_leads script orderly quiet played rest line t is b law) (record {
+      scene = start_scene;
+      stands = record { placed = λ name has. starts_as script.setup works_of_it orderly.setup.managers.0 name; settled = refl };
+      drained = start_is_drained script.setup works_of_it;
+      begun = λ c. refl;
+      asks = start_asks script.setup works_of_it orderly.setup.managers.0;
+    })
   where
-    abbrev_works : NodeId → List Work
-    abbrev_works node = items_of script.lines node
-
-    Asking : List Line → Scene → Type 0
-    Asking played s = AllAsk script.setup abbrev_works s
-
-    by_case : (played : List Line) (line : Line) (s : Scene) (t : Stage AnyNode) (c : ℕ) → Stands script.setup abbrev_works s t → HasNode script.setup (Client c)
-        → AllAsk script.setup abbrev_works s
-        → Ends script.setup abbrev_works (suc (steps_of played)) most_deliveries s t c ((s.client c).begun + 1)
-        ⊎ EndsAfterRound script.setup abbrev_works (suc (steps_of played)) 63 65 s t c ((s.client c).begun + 1)
-        → EndsSo script orderly quiet Asking played line s t c ⊎ EndsSoLater script orderly quiet Asking played line s t c
-    by_case played line s t c stands has all (inl e) =
-        inl (record { ends = e; extra = asks_then script.setup abbrev_works (suc (steps_of played)) s t c ((s.client c).begun + 1) stands has all most_deliveries e })
-    by_case played line s t c stands has all (inr e) =
-        inr (record { ends = e; extra = asks_later script.setup abbrev_works (suc (steps_of played)) s t c ((s.client c).begun + 1) stands has all 63 65 e })
-
-    ends : EachEnds script orderly quiet Asking
-    ends played rest line is s t c few drained stands next q range actor extra =
-        by_case played line s t c stands next.client extra
-        (law script.setup abbrev_works orderly.setup (steps_of played) s t c line.work few drained stands next (in_order script.setup abbrev_works s extra) q range actor)
+    works_of_it : NodeId → List Work
+    works_of_it node = items_of script.lines node

@@ -1,6 +1,7 @@
 pub mod Asking
+pub mod Few
+pub mod FromOwner
+pub mod GetsFromDirty
 pub mod Leading
-pub mod Privately
-pub mod Reading
-pub mod Writing
+pub mod OrderKept
 pub mod Sharing

@@ -1,27 +1,23 @@
 -- Each quiet line leads from one drained state to the next, whoever holds the block that it names: so the run of each quiet script is answered.
-use Rattle.std.proofs.Common.{true≢false, ◌≡◌, ◌≤◌, ◌<◌, ◌+◌, ◌*◌, ◌==◌, ◌||◌, ◌⊎◌, inl, inr, ℕ, suc, Bool, true, false, All, List, [], ◌∷◌, length, Option, Some, refl, sym, ap, subst, ◌∙◌, arith}
+use Rattle.std.proofs.Common.{◌≡◌, ◌≤◌, ◌<◌, ◌+◌, ◌*◌, ◌==◌, ◌||◌, ◌⊎◌, inl, inr, ℕ, suc, Bool, true, false, All, List, [], ◌∷◌, length, Option, Some, refl, ap, subst, ◌∙◌, arith}
 use Rattle.std.specs.List.{AllByRecursion}
 use Rattle.core_world.specs.declared.any_node.AnyNode.{AnyNode}
 use Rattle.log_flight.specs.declared.dirty.Change.{Change}
 use Rattle.node_base.specs.Setups.{IsSetup}
 use Rattle.quiet_flow.specs.Flow.{Stage}
-use Rattle.quiet_copies.proofs.GetsFromDirty.{gets_from_dirty}
-use Rattle.quiet_forwards.proofs.FromCopies.{from_copies}
-use Rattle.quiet_copies.specs.Laws.{GetsFromDirtyAreAnswered}
-use Rattle.quiet_forwards.specs.Laws.{CopiesArePassedOn, owners, told_nodes}
-use Rattle.quiet_forwards.specs.Passing.{AreInOrder}
+use Rattle.quiet_run.proofs.GetsFromDirty.{gets_from_dirty}
+use Rattle.quiet_gets.proofs.FromCopies.{from_copies}
+use Rattle.quiet_run.specs.Laws.{GetsFromDirtyAreAnswered, OwnedCopiesArePassedOn}
+use Rattle.quiet_gets.specs.Laws.{CopiesArePassedOn, owners, told_nodes, LonelyGetsAreAnswered}
+use Rattle.quiet_gets.specs.Passing.{AreInOrder}
 use Rattle.quiet_gets.proofs.Lonely.{lonely_gets}
-use Rattle.quiet_gets.specs.Laws.{LonelyGetsAreAnswered}
-use Rattle.quiet_gives.specs.Laws.{CleanBlocksArePut}
-use Rattle.quiet_lends.specs.Laws.{OwnedCopiesArePassedOn}
-use Rattle.quiet_owners.specs.Laws.{PutsFromDirtyAreAnswered}
+use Rattle.quiet_gives.specs.Laws.{CleanBlocksArePut, PutsFromDirtyAreAnswered}
 use Rattle.quiet_gives.proofs.FromClean.{puts_from_clean}
 use Rattle.quiet_gives.proofs.Given.{each_other, few_others}
 use Rattle.quiet_gives.proofs.Givers.{is_among, of_member}
-use Rattle.quiet_lends.proofs.FromOwner.{gets_from_owner}
+use Rattle.quiet_run.proofs.FromOwner.{gets_from_owner}
 use Rattle.quiet_law.proofs.AsIf.{ends_later_up, ends_up}
 use Rattle.quiet_law.proofs.Ending.{gets_here, syncs_nothing}
-use Rattle.quiet_law.proofs.Stripes.{striped}
 use Rattle.quiet_law.proofs.Syncing.{syncs_what_waits}
 use Rattle.quiet_law.proofs.Writes.{ends_more, puts_owned}
 use Rattle.quiet_law.specs.Drained.{Drained, IsCalm, most_steps}
@@ -29,10 +25,9 @@ use Rattle.quiet_law.specs.Lines.{Ends, EndsAfterRound, IsNext, Stands, fetching
 use Rattle.quiet_nodes.proofs.Rooms.{slot_within}
 use Rattle.quiet_nodes.proofs.Tests.{same_test}
 use Rattle.quiet_nodes.specs.Scene.{Scene}
-use Rattle.quiet_owners.proofs.PutsFromDirty.{puts_from_dirty}
-use Rattle.quiet_run.proofs.Leading.{scripts_are_answered}
-use Rattle.quiet_run.proofs.Reading.{fetching_few}
-use Rattle.quiet_run.proofs.Writing.{tail_few}
+use Rattle.quiet_gives.proofs.PutsFromDirty.{puts_from_dirty}
+use Rattle.quiet_run.proofs.Few.{ends_later_more, fetching_few, sealing_few, tail_few}
+use Rattle.quiet_run.proofs.Leading.{each_quiet, scripts_are_answered}
 use Rattle.quiet_run.specs.Runs.{EachLineLeadsOn, QuietScriptsAreAnswered}
 use Rattle.quiet_script.specs.Quiet.{is_in_range, is_quiet, most_deliveries}
 use Rattle.slot_beliefs.specs.Beliefs.{others}
@@ -73,33 +68,6 @@ search f (d ∷ ds) = by_first (f d) refl (search f ds)
       is = found.is;
     })
 
--- fewer deliveries are no more than so many
-ends_later_more : (setup : Setup) (its : NodeId → List Work) (k a b most more : ℕ) (s : Scene) (t : Stage AnyNode) (c item : ℕ) → a ≤ most → b ≤ more
-    → EndsAfterRound setup its k a b s t c item → EndsAfterRound setup its k most more s t c item
-ends_later_more setup its k a b most more s t c item less fewer e = record {
-  mid = e.mid;
-  first = e.first;
-  first_few = (let few = e.first_few in omega arith);
-  first_drains = e.first_drains;
-  waits = e.waits;
-  scene = e.scene;
-  end = e.end;
-  second = e.second;
-  second_few = (let few = e.second_few in omega arith);
-  second_drains = e.second_drains;
-  stands = e.stands;
-  drained = e.drained;
-  begun = e.begun;
-  others = e.others;
-  answer = e.answer;
-  before = e.before;
-  after = e.after;
-  acted = e.acted;
-  none_before = e.none_before;
-  none_after = e.none_after;
-  believed = e.believed;
-}
-
 -- where each kind of line does, of which others hold the block
 pub record Kinds : Type 0 where
   pub puts_clean : CleanBlocksArePut
@@ -130,12 +98,6 @@ module _ (kinds : Kinds) (setup : Setup) (its : NodeId → List Work) (ok : IsSe
       → Ends setup its (suc k) n s t c item ⊎ EndsAfterRound setup its (suc k) first second s t c item → Leads
   either n first second less l h (inl e) = two_steps n less e
   either n first second less l h (inr e) = inr (ends_later_more setup its (suc k) first second 63 65 s t c item l h e)
-
-  sealing_few : (o : ℕ) → sealing setup its s o ≤ 8
-  sealing_few o = (striped setup its ok o ((s.client o).end.seq + 1)).few
-
-  tail_low : tail setup its s c ≤ 32
-  tail_low = tail_few setup its ok k s t c sooner d stands
 
   told_few : told_nodes setup ≤ 40
   told_few = (let clients = ok.clients.1 in let managers = ok.managers.1 in let servers = ok.servers.1 in omega arith)
@@ -170,19 +132,19 @@ module _ (kinds : Kinds) (setup : Setup) (its : NodeId → List Work) (ok : IsSe
   put_leads : (b : BlockId) (value : Option (List ℕ)) → IsNext setup its s c (works.Bput c b value) → is_in_range setup (works.Bput c b value) ≡ true → Leads
   put_leads b value next range =
       elim (is_own (held_of (s.client c).blocks b).mode) as (λ o. is_own (held_of (s.client c).blocks b).mode ≡ o → Leads) [
-        | true ↦ λ own. one_step (tail setup its s c) (let low = tail_low in omega arith) (puts_owned setup its k s t c d stands ok sooner b value next range own)
+        | true ↦ λ own. one_step (tail setup its s c) (let low = tail_few setup its ok s c in omega arith) (puts_owned setup its k s t c d stands ok sooner b value next range own)
         | false ↦ λ asks. by_holders asks (search (dirty b false) (theirs b false))
       ] refl
     where
       by_holders : is_own (held_of (s.client c).blocks b).mode ≡ false
           → AllByRecursion (λ e. dirty b false e ≡ false) (theirs b false) ⊎ Found (dirty b false) (theirs b false) → Leads
       by_holders asks (inl clean) =
-          two_steps (2 + 2 * length (holders setup its s c b) + tail setup its s c) (let low = tail_low in let most = theirs_few b false in omega arith)
+          two_steps (2 + 2 * length (holders setup its s c b) + tail setup its s c) (let low = tail_few setup its ok s c in let most = theirs_few b false in omega arith)
           (kinds.puts_clean setup its ok k s t c b value few d stands next range asks clean)
       by_holders asks (inr found) =
           (let it = who b false found.number found.among in
           two_steps (2 * sealing setup its s found.number + 22 + tail setup its s c)
-          (let low = tail_low in let most = sealing_few found.number in omega arith)
+          (let low = tail_few setup its ok s c in let most = sealing_few setup its ok s found.number in omega arith)
           (kinds.puts_dirty setup its ok k s t c found.number b value few d stands next range it.1.0 it.1.1 it.0 found.is))
 
   get_leads : (b : BlockId) → IsNext setup its s c (works.Bget c b) → Leads
@@ -192,11 +154,8 @@ module _ (kinds : Kinds) (setup : Setup) (its : NodeId → List Work) (ok : IsSe
         | false ↦ λ held. one_step 0 (omega arith) (gets_here setup its k s t c d stands next.client.0 next.client.1 b sooner next held)
       ] refl
     where
-      fetching_low : fetching setup its s b ≤ 16
-      fetching_low = fetching_few setup its ok k s t c sooner d stands b
-
       later_low : (2 + told_nodes setup + fetching setup its s b) ≤ 65
-      later_low = (let told = told_few in let fetched = fetching_low in omega arith)
+      later_low = (let told = told_few in let fetched = fetching_few setup its ok s b in omega arith)
 
       up_both : Ends setup its k 3 s t c item ⊎ EndsAfterRound setup its k 2 (2 + told_nodes setup + fetching setup its s b) s t c item
           → Ends setup its (suc k) 3 s t c item ⊎ EndsAfterRound setup its (suc k) 2 (2 + told_nodes setup + fetching setup its s b) s t c item
@@ -212,7 +171,7 @@ module _ (kinds : Kinds) (setup : Setup) (its : NodeId → List Work) (ok : IsSe
       by_owner nothing o os are (inr found) =
           (let it = who b true found.number found.among in
           either (2 * sealing setup its s found.number + 23) (2 * sealing setup its s found.number + 22) (2 + told_nodes setup + 16)
-          (let most = sealing_few found.number in omega arith) (let most = sealing_few found.number in omega arith) (let told = told_few in omega arith)
+          (let most = sealing_few setup its ok s found.number in omega arith) (let most = sealing_few setup its ok s found.number in omega arith) (let told = told_few in omega arith)
           (kinds.gets_dirty setup its ok k s t c found.number b few d stands sorted next it.1.0 it.1.1 it.0 found.is))
 
       by_owners : is_nothing (held_of (s.client c).blocks b).mode ≡ true → (e : ℕ) (es : List ℕ) → holders setup its s c b ≡ e ∷ es → (os : List ℕ)
@@ -224,7 +183,7 @@ module _ (kinds : Kinds) (setup : Setup) (its : NodeId → List Work) (ok : IsSe
 
       by_holders : is_nothing (held_of (s.client c).blocks b).mode ≡ true → (es : List ℕ) → holders setup its s c b ≡ es → Leads
       by_holders nothing [] nobody =
-          one_step (2 + fetching setup its s b) (let low = fetching_low in omega arith) (kinds.gets_alone setup its ok k s t c b sooner d stands next nothing nobody)
+          one_step (2 + fetching setup its s b) (let low = fetching_few setup its ok s b in omega arith) (kinds.gets_alone setup its ok k s t c b sooner d stands next nothing nobody)
       by_holders nothing (e ∷ es) held = by_owners nothing e es held (owners setup its s c b) refl
 
   sync_leads : IsNext setup its s c (works.Sync c) → Leads
@@ -233,39 +192,30 @@ module _ (kinds : Kinds) (setup : Setup) (its : NodeId → List Work) (ok : IsSe
       by_dirty : (xs : List (BlockId × Change)) → (s.client c).dirty ≡ xs → Leads
       by_dirty [] is = one_step 0 (omega arith) (syncs_nothing setup its k s t c d stands next.client.0 next.client.1 sooner next is)
       by_dirty (x ∷ xs) is =
-          one_step (2 * sealing setup its s c + 16) (let most = sealing_few c in omega arith)
+          one_step (2 * sealing setup its s c + 16) (let most = sealing_few setup its ok s c in omega arith)
           (syncs_what_waits setup its k s t c d stands ok sooner next (some xs (ap length is)))
         where
           some : (ys : List (BlockId × Change)) → length (s.client c).dirty ≡ suc (length ys) → 1 ≤ length (s.client c).dirty
           some ys long = omega (arith, long)
 
-  line_leads : (w : Work) → IsNext setup its s c w → is_quiet w ≡ true → is_in_range setup w ≡ true → actor_of w ≡ Some (Client c) → Leads
-  line_leads (works.Bput n b value) next one range actor =
-      let same : n ≡ c = cc in
-      put_leads b value (subst (λ m. IsNext setup its s c (works.Bput m b value)) same next) (subst (λ m. is_in_range setup (works.Bput m b value) ≡ true) same range)
-  line_leads (works.Bget n b) next one range actor = let same : n ≡ c = cc in get_leads b (subst (λ m. IsNext setup its s c (works.Bget m b)) same next)
-  line_leads (works.Sync n) next one range actor = let same : n ≡ c = cc in sync_leads (subst (λ m. IsNext setup its s c (works.Sync m)) same next)
-  line_leads (works.File n call) next one range actor = absurd (true≢false (sym one))
-  line_leads (works.Crash node) next one range actor = absurd (true≢false (sym one))
-  line_leads (works.Restart node) next one range actor = absurd (true≢false (sym one))
-  line_leads (works.Checkpoint j) next one range actor = absurd (true≢false (sym one))
-  line_leads (works.Lose v) next one range actor = absurd (true≢false (sym one))
-  line_leads (works.Rebuild v) next one range actor = absurd (true≢false (sym one))
-  line_leads (works.Move slot j) next one range actor = absurd (true≢false (sym one))
-  line_leads (works.Clean count) next one range actor = absurd (true≢false (sym one))
-  line_leads (works.NetLose n) next one range actor = absurd (true≢false (sym one))
-  line_leads (works.NetAgain n) next one range actor = absurd (true≢false (sym one))
-  line_leads (works.NetMix n) next one range actor = absurd (true≢false (sym one))
-  line_leads works.NetHold next one range actor = absurd (true≢false (sym one))
-  line_leads works.NetGo next one range actor = absurd (true≢false (sym one))
-  line_leads (works.NetStep n) next one range actor = absurd (true≢false (sym one))
-  line_leads (works.BoardStop n) next one range actor = absurd (true≢false (sym one))
-  line_leads (works.BoardStart n) next one range actor = absurd (true≢false (sym one))
-  line_leads (works.ServerStop v passes) next one range actor = absurd (true≢false (sym one))
-  line_leads (works.ServerStart v) next one range actor = absurd (true≢false (sym one))
+  line_leads : (w : Work) → is_quiet w ≡ true → IsNext setup its s c w → is_in_range setup w ≡ true → actor_of w ≡ Some (Client c) → Leads
+  line_leads = each_quiet (λ w. IsNext setup its s c w → is_in_range setup w ≡ true → actor_of w ≡ Some (Client c) → Leads) puts gets syncs
+    where
+      puts : (n : ℕ) (b : BlockId) (value : Option (List ℕ)) → IsNext setup its s c (works.Bput n b value) → is_in_range setup (works.Bput n b value) ≡ true
+          → actor_of (works.Bput n b value) ≡ Some (Client c) → Leads
+      puts n b value next range actor =
+          let same : n ≡ c = cc in
+          put_leads b value (subst (λ m. IsNext setup its s c (works.Bput m b value)) same next) (subst (λ m. is_in_range setup (works.Bput m b value) ≡ true) same range)
+
+      gets : (n : ℕ) (b : BlockId) → IsNext setup its s c (works.Bget n b) → is_in_range setup (works.Bget n b) ≡ true
+          → actor_of (works.Bget n b) ≡ Some (Client c) → Leads
+      gets n b next range actor = let same : n ≡ c = cc in get_leads b (subst (λ m. IsNext setup its s c (works.Bget m b)) same next)
+
+      syncs : (n : ℕ) → IsNext setup its s c (works.Sync n) → is_in_range setup (works.Sync n) ≡ true → actor_of (works.Sync n) ≡ Some (Client c) → Leads
+      syncs n next range actor = let same : n ≡ c = cc in sync_leads (subst (λ m. IsNext setup its s c (works.Sync m)) same next)
 
 pub each_line_leads : Kinds → EachLineLeadsOn
-each_line_leads kinds setup its ok k s t c w few d stands next sorted one range actor = line_leads kinds setup its ok k s t c few d stands sorted w next one range actor
+each_line_leads kinds setup its ok k s t c w few d stands next sorted one range actor = line_leads kinds setup its ok k s t c few d stands sorted w one next range actor
 
 -- ---- all kinds do
 

@@ -1,2 +1,2 @@
-pub mod Private
+pub mod Laws
 pub mod Runs

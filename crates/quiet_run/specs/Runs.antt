@@ -1,5 +1,5 @@
 -- The runs of quiet scripts.
-use Rattle.std.specs.Prelude.{◌≡◌, ◌<◌, ◌+◌, ◌⊎◌, ℕ, suc, Bool, true, List, [], Some}
+use Rattle.std.specs.Prelude.{◌≡◌, ◌<◌, ◌+◌, ◌⊎◌, ℕ, suc, true, List, Some}
 use Rattle.core_world.specs.AnyNode.{any_start, any_step}
 use Rattle.core_world.specs.declared.any_node.AnyNode.{AnyNode}
 use Rattle.node_base.specs.Setups.{IsSetup}
@@ -7,14 +7,13 @@ use Rattle.play.specs.Plays.{estate_of}
 use Rattle.script_text.specs.declared.script.Script.{Script}
 use Rattle.version_model.specs.declared.work.Work.{Work}
 use Rattle.world_base.specs.Items.{actor_of}
-use Rattle.xfs_base.specs.declared.block.BlockId.{BlockId}
 use Rattle.xfs_base.specs.declared.node.NodeId.{NodeId}
 use Rattle.xfs_base.specs.declared.node.NodeId.TheVariants.{Client}
 use Rattle.xfs_base.specs.declared.setup.Setup.{Setup}
 use Rattle.quiet_flow.specs.Flow.{Stage}
-use Rattle.quiet_forwards.specs.Passing.{AreInOrder}
+use Rattle.quiet_gets.specs.Passing.{AreInOrder}
 use Rattle.quiet_law.specs.Drained.{Drained, most_steps}
-use Rattle.quiet_law.specs.Lines.{Ends, EndsAfterRound, IsNext, Names, Stands, holders}
+use Rattle.quiet_law.specs.Lines.{Ends, EndsAfterRound, IsNext, Stands}
 use Rattle.quiet_nodes.specs.Scene.{Scene}
 use Rattle.quiet_script.specs.Quiet.{AnswersWithinBounds, IsOrderly, IsQuiet, is_in_range, is_quiet, most_deliveries}
 
@@ -25,16 +24,6 @@ EachLineLeadsOn =
     → (k : ℕ) (s : Scene) (t : Stage AnyNode) (c : ℕ) (w : Work) → suc k < most_steps → Drained setup works k s → Stands setup works s t → IsNext setup works s c w
     → AreInOrder setup works s → is_quiet w ≡ true → is_in_range setup w ≡ true → actor_of w ≡ Some (Client c)
     → Ends setup works (suc k) most_deliveries s t c ((s.client c).begun + 1) ⊎ EndsAfterRound setup works (suc k) 63 65 s t c ((s.client c).begun + 1)
-
--- each line of a client that is such does so, by deliveries alone, if nobody else is believed to hold what it names
-abbrev pub LonelyLineLeadsOn : (Work → Bool) → Setup → (NodeId → List Work) → Type 0
-LonelyLineLeadsOn is_one setup works =
-    (k : ℕ) (s : Scene) (t : Stage AnyNode) (c : ℕ) (w : Work) → k < most_steps → Drained setup works k s → Stands setup works s t → IsNext setup works s c w
-    → is_one w ≡ true → is_in_range setup w ≡ true → actor_of w ≡ Some (Client c) → ((b : BlockId) → Names (Some w) b → holders setup works s c b ≡ [])
-    → Ends setup works k most_deliveries s t c ((s.client c).begun + 1)
-
-abbrev pub EachLonelyLineLeadsOn : (Work → Bool) → Type 0
-EachLonelyLineLeadsOn is_one = (setup : Setup) (works : NodeId → List Work) → IsSetup setup → LonelyLineLeadsOn is_one setup works
 
 -- the run of each quiet script is answered within the bounds
 abbrev pub QuietScriptsAreAnswered : Type 0

@@ -1,4 +1,4 @@
-use Rattle.quiet_law.proofs.AloneFull.{puts_alone}
+use Rattle.quiet_law.proofs.Alone.{puts_alone}
 use Rattle.quiet_law.proofs.lines_that_ask_are_answered.Goals as goal
 
 pub returns : goal.returns

@@ -1,3 +1,0 @@
-pub mod OrderKept
-pub mod GetAsking
-pub mod GetsFromDirty

@@ -1,3 +1,0 @@
-pub mod Forwards
-pub mod Passing
-pub mod Laws
