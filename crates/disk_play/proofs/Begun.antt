@@ -34,7 +34,7 @@ use Rattle.disk_play.specs.declared.course.Seat.{Seat}
 use Rattle.disk_play.specs.declared.stop.Fate.{Fate}
 use Rattle.disk_play.specs.declared.stop.Fate.TheVariants.{Answered, Unanswered, Lost}
 use Rattle.disk_play.specs.declared.stop.Stop.{Stop}
-use Rattle.disk_play.specs.Courses.{asked_of, begins_on, comes_on, delivered_on, delivers_on, fate_for, goes_on_by, goes_on_for, goes_out_on, happens_at, happens_on, happens_to, one_more, opens_on, opens_on_for, played_on, player_by, plays_line_on, rounded_on, running, seat_of, shelf_at, started_at, starts_on, stops_at, tells, ticks_on, unanswered_of, with_player, with_stop, woken, woken_at}
+use Rattle.disk_play.specs.Courses.{Deck, asked_of, begins_on, comes_on, delivered_on, delivers_on, fate_for, goes_on_by, goes_on_for, goes_out_on, happens_at, happens_on, happens_to, on_course, one_more, opens_on, opens_on_for, played_on, player_by, plays_line_on, rounded_on, running, seat_of, shelf_at, started_at, starts_on, stops_at, tells, ticks_on, unanswered_of, with_player, with_stop, woken, woken_at}
 use Rattle.disk_play.proofs.Places.{get_set_same}
 use Rattle.disk_play.proofs.Seating.{seat_is, seated}
 use Rattle.shelved_nodes.specs.Asking.{only_where}
@@ -97,57 +97,63 @@ module _ {N : Type 0} (step : N → Do → NodeStep N) (shelf_of : N → Option 
   settled_begins Lost p event world none = refl
 
   -- what is no Begin begins nothing
-  to_begins : (c : Course N) (seat : Option Seat) (event : Event) → begun_in (event ∷ []) ≡ [] → begun_of (happens_to step shelf_of c seat event) ≡ begun_of c
+  to_begins : (d : Deck N) (seat : Option Seat) (event : Event) → begun_in (event ∷ []) ≡ []
+      → begun_of (happens_to step shelf_of d seat event).course ≡ begun_of d.course
   unfolding happens
-  to_begins c None event none = settled_begins Answered c.player event (next_world step c.player.world event) none
-  to_begins c (Some seat) event none =
-      by_test (λ (d : Course N). begun_of d ≡ begun_of c) seat.stop.stopped c (happens_at step shelf_of c seat event) (λ t. refl)
-      (λ t. settled_begins (fate_for seat.stop _) c.player event (next_world step c.player.world event) none)
+  to_begins d None event none = settled_begins Answered d.course.player event (next_world step d.course.player.world event) none
+  to_begins d (Some seat) event none =
+      by_test (λ (x : Deck N). begun_of x.course ≡ begun_of d.course) seat.stop.stopped d (happens_at step shelf_of d seat event) (λ t. refl)
+      (λ t. settled_begins (fate_for seat.stop _) d.course.player event (next_world step d.course.player.world event) none)
 
-  happens_begins : (c : Course N) (event : Event) → begun_in (event ∷ []) ≡ [] → begun_of (happens_on step shelf_of c event) ≡ begun_of c
+  happens_begins : (d : Deck N) (event : Event) → begun_in (event ∷ []) ≡ [] → begun_of (happens_on step shelf_of d event).course ≡ begun_of d.course
   unfolding happens_on
-  happens_begins c event none = to_begins c (seat_of c.stops (node_of event)) event none
+  happens_begins d event none = to_begins d (seat_of d.course.stops (node_of event)) event none
 
   -- and a Begin counts at a node that isn't stopped
-  begin_begins : (c : Course N) (node : NodeId) → ((seat : Seat) → seat_of c.stops node ≡ Some seat → seat.stop.stopped ≡ false)
-      → begun_of (happens_on step shelf_of c (Begin node)) ≡ begun_of c ++ node ∷ []
+  begin_begins : (d : Deck N) (node : NodeId) → ((seat : Seat) → seat_of d.course.stops node ≡ Some seat → seat.stop.stopped ≡ false)
+      → begun_of (happens_on step shelf_of d (Begin node)).course ≡ begun_of d.course ++ node ∷ []
   unfolding happens_on happens
-  begin_begins c node runs = by (seat_of c.stops node) refl
+  begin_begins d node runs = by (seat_of d.course.stops node) refl
     where
-      by : (o : Option Seat) → seat_of c.stops node ≡ o → begun_of (happens_to step shelf_of c o (Begin node)) ≡ begun_of c ++ node ∷ []
+      c : Course N
+      c = d.course
+
+      by : (o : Option Seat) → seat_of c.stops node ≡ o → begun_of (happens_to step shelf_of d o (Begin node)).course ≡ begun_of c ++ node ∷ []
       by None fact = more_begun c.player.events (Begin node ∷ [])
       by (Some seat) fact =
-          ap (λ (b : Bool). begun_of (cond b c (happens_at step shelf_of c seat (Begin node)))) (runs seat fact)
+          ap (λ (b : Bool). begun_of (cond b d (happens_at step shelf_of d seat (Begin node))).course) (runs seat fact)
           ∙ ap (λ f. begun_in (player_by f c.player (Begin node) (next_world step c.player.world (Begin node))).events)
           (begin_counts seat.stop (shelf_at shelf_of c.player.world node) (shelf_at shelf_of (next_world step c.player.world (Begin node)) node))
           ∙ more_begun c.player.events (Begin node ∷ [])
 
-  begins_begins : (c : Course N) (node : NodeId) → begun_of (begins_on step shelf_of c node) ≡ begun_of c ++ node ∷ []
+  begins_begins : (d : Deck N) (node : NodeId) → begun_of (begins_on step shelf_of d node).course ≡ begun_of d.course ++ node ∷ []
   unfolding begins_on
-  begins_begins c node =
-      begin_begins (one_more (woken c node)) node (woken_runs c node) ∙ ap (λ p. begun_in p.events ++ node ∷ []) (woken_events c node)
+  begins_begins d node =
+      begin_begins (on_course (λ c. one_more (woken c node)) d) node (woken_runs d.course node)
+      ∙ ap (λ p. begun_in p.events ++ node ∷ []) (woken_events d.course node)
 
-  ticks_begin : (c : Course N) (nodes : List NodeId) → begun_of (fold (ticks_on step shelf_of) c nodes) ≡ begun_of c
+  ticks_begin : (d : Deck N) (nodes : List NodeId) → begun_of (fold (ticks_on step shelf_of) d nodes).course ≡ begun_of d.course
   unfolding ticks_on
-  ticks_begin c [] = refl
-  ticks_begin c (n ∷ nodes) = ticks_begin (ticks_on step shelf_of c n) nodes ∙ happens_begins c (Tick n) refl
+  ticks_begin d [] = refl
+  ticks_begin d (n ∷ nodes) = ticks_begin (ticks_on step shelf_of d n) nodes ∙ happens_begins d (Tick n) refl
 
-  delivers_begins : (c : Course N) (number : ℕ) (packet : Option Packet) → begun_of (delivers_on step shelf_of c number packet) ≡ begun_of c
-  delivers_begins c number None = refl
-  delivers_begins c number (Some packet) = happens_begins c (Deliver packet) refl
+  delivers_begins : (d : Deck N) (number : ℕ) (packet : Option Packet) → begun_of (delivers_on step shelf_of d number packet).course ≡ begun_of d.course
+  delivers_begins d number None = refl
+  delivers_begins d number (Some packet) = happens_begins d (Deliver packet) refl
 
-  comes_begins : (c : Course N) (coming : Next) → begun_of (comes_on step shelf_of c coming) ≡ begun_of c
+  comes_begins : (d : Deck N) (coming : Next) → begun_of (comes_on step shelf_of d coming).course ≡ begun_of d.course
   unfolding delivered_on rounded_on
-  comes_begins c (next.Deliver number) = delivers_begins c number (slice_get c.player.world.sent number)
-  comes_begins c next.Round = ticks_begin c (nodes_of c.player.world.cluster)
-  comes_begins c next.Done = refl
+  comes_begins d (next.Deliver number) = delivers_begins d number (slice_get d.course.player.world.sent number)
+  comes_begins d next.Round = ticks_begin d (nodes_of d.course.player.world.cluster)
+  comes_begins d next.Done = refl
 
-  goes_on_begins : (count : ℕ) (c : Course N) → begun_of (goes_on_for step shelf_of count c) ≡ begun_of c
+  goes_on_begins : (count : ℕ) (d : Deck N) → begun_of (goes_on_for step shelf_of count d).course ≡ begun_of d.course
   unfolding goes_on_for
-  goes_on_begins zero c = refl
-  goes_on_begins (suc count) c =
-      let going = goes c.player.unanswered c.player.schedule in
-      goes_on_begins count (goes_on_by step shelf_of c going) ∙ comes_begins (with_player c (with_schedule c.player going.state)) going.next
+  goes_on_begins zero d = refl
+  goes_on_begins (suc count) d =
+      let going = goes d.course.player.unanswered d.course.player.schedule in
+      goes_on_begins count (goes_on_by step shelf_of d going)
+      ∙ comes_begins (on_course (λ c. with_player c (with_schedule c.player going.state)) d) going.next
 
   -- a line that is no item begins none
   stops_begin : (c : Course N) (node : NodeId) (passes : ℕ) (o : Option Seat) → begun_of (stops_at c node passes o) ≡ begun_of c
@@ -167,26 +173,26 @@ module _ {N : Type 0} (step : N → Do → NodeStep N) (shelf_of : N → Option 
   tells_begins c _ = refl
 
   -- any other begins the item that it is
-  opens_begins : (c : Course N) (work : Work) (actor : Option NodeId) (rest : List NodeId)
-      → begun_of (opens_on_for step shelf_of c work actor) ++ rest ≡ begun_of c ++ cons_option actor rest
-  opens_begins c work None rest = ap (λ nodes. nodes ++ rest) (tells_begins c work)
-  opens_begins c work (Some node) rest = ap (λ nodes. nodes ++ rest) (begins_begins c node) ∙ append_assoc (begun_of c) (node ∷ []) rest
+  opens_begins : (d : Deck N) (work : Work) (actor : Option NodeId) (rest : List NodeId)
+      → begun_of (opens_on_for step shelf_of d work actor).course ++ rest ≡ begun_of d.course ++ cons_option actor rest
+  opens_begins d work None rest = ap (λ nodes. nodes ++ rest) (tells_begins d.course work)
+  opens_begins d work (Some node) rest = ap (λ nodes. nodes ++ rest) (begins_begins d node) ∙ append_assoc (begun_of d.course) (node ∷ []) rest
 
-  line_begins : (c : Course N) (line : Line) (rest : List NodeId)
-      → begun_of (plays_line_on step shelf_of c line) ++ rest ≡ begun_of c ++ cons_option (actor_of line.work) rest
+  line_begins : (d : Deck N) (line : Line) (rest : List NodeId)
+      → begun_of (plays_line_on step shelf_of d line).course ++ rest ≡ begun_of d.course ++ cons_option (actor_of line.work) rest
   unfolding plays_line_on opens_on goes_out_on
-  line_begins c line rest =
-      let d = opens_on_for step shelf_of c line.work (actor_of line.work) in
-      ap (λ nodes. nodes ++ rest) (goes_on_begins (left d.player.schedule) d) ∙ opens_begins c line.work (actor_of line.work) rest
+  line_begins d line rest =
+      let e = opens_on_for step shelf_of d line.work (actor_of line.work) in
+      ap (λ nodes. nodes ++ rest) (goes_on_begins (left e.course.player.schedule) e) ∙ opens_begins d line.work (actor_of line.work) rest
 
-  lines_begin : (c : Course N) (lines : List Line) → begun_of (fold (plays_line_on step shelf_of) c lines) ≡ begun_of c ++ actors_of lines
-  lines_begin c [] = sym (append-nil (begun_of c))
-  lines_begin c (l ∷ lines) = lines_begin (plays_line_on step shelf_of c l) lines ∙ line_begins c l (actors_of lines)
+  lines_begin : (d : Deck N) (lines : List Line) → begun_of (fold (plays_line_on step shelf_of) d lines).course ≡ begun_of d.course ++ actors_of lines
+  lines_begin d [] = sym (append-nil (begun_of d.course))
+  lines_begin d (l ∷ lines) = lines_begin (plays_line_on step shelf_of d l) lines ∙ line_begins d l (actors_of lines)
 
   module _ (first : NodeId → Setup → List Work → N) (script : Script) where
-    pub play_begins : begun_in (played_on step shelf_of first script).player.events ≡ actors_of script.lines
+    pub play_begins : begun_in (played_on step shelf_of first script).course.player.events ≡ actors_of script.lines
     unfolding played_on
     play_begins = lines_begin (starts_on first script) script.lines
 
-    pub play_begins_all : BeginsAll script.lines (played_on step shelf_of first script).player.events
+    pub play_begins_all : BeginsAll script.lines (played_on step shelf_of first script).course.player.events
     play_begins_all node = ap (λ begun. length (filter (λ one. same_node one node) begun)) play_begins ∙ for_each node script.lines

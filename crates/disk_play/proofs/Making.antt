@@ -1,11 +1,14 @@
 -- How a change ends under a stop.
-use Rattle.std.proofs.Common.{◌≡◌, ◌≢◌, ◌⊎◌, inl, inr, ⊎_elim, ℕ, nat_le, Bool, true, false, cond, List, Option, Some, None, refl, sym, ap, subst, ◌∙◌, arith}
-use Rattle.disk_shelf.specs.Asks.{after_ask}
+use Rattle.std.proofs.Common.{◌≡◌, ◌≢◌, ◌⊎◌, inl, inr, ⊎_elim, ℕ, nat_le, nat_lt, not, ◌==◌, ◌&&◌, Bool, true, false, cond, List, Option, Some, None, Result, Ok, Err, refl, sym, ap, subst, ◌∙◌, arith}
+use Rattle.std.specs.Prelude.{OnOk}
+use Rattle.disk_shelf.specs.Asks.{after_ask, record_of}
+use Rattle.disk_shelf.specs.declared.record.Record.{Record}
+use Rattle.disk_shelf.specs.Drives.{reopened, with_record}
 use Rattle.disk_shelf.specs.declared.ask.Ask.{Ask}
 use Rattle.disk_shelf.specs.declared.ask.Ask.TheVariants as asks
 use Rattle.disk_shelf.specs.Deeds.{images}
 use Rattle.disk_shelf.specs.Kept.{Kept}
-use Rattle.disk_shelf.specs.MemDisk.{Drive, MemState, disk_bytes, new_drive}
+use Rattle.disk_shelf.specs.MemDisk.{Drive, MemState, disk_bytes, new_drive, started}
 use Rattle.disk_shelf.specs.Records.{DiskState, StandsFor, new_state}
 use Rattle.disk_shelf.specs.Records.StandsFor.{Blank}
 use Rattle.disk_shelf.specs.Stops.{ChangesEndByPasses, MemTook, is_answered, is_there}
@@ -15,7 +18,11 @@ use Rattle.disk_play.specs.declared.stop.Fate.{Fate}
 use Rattle.disk_play.specs.declared.stop.Fate.TheVariants.{Answered, Unanswered, Lost}
 use Rattle.disk_play.specs.declared.stop.Stop.{Stop}
 use Rattle.disk_play.specs.Courses.{fate_by, passes_for}
+use Rattle.disk_play.specs.Disks.{OnDisk, changed, on_disk, runs_again, to_stop, welcome_of, welcomed, welcomed_by}
 use Rattle.disk_play.specs.Standing.{Runs, Took, armed}
+use Rattle.wire_msg.specs.declared.packet.Do.{Do}
+use Rattle.xfs_base.proofs.Booleans.{by_test, contrary, not_true}
+use Rattle.std.proofs.lemmas.Bool.{eqb-false, eqb-true}
 
 -- an image stands for one state
 abbrev pub OneState : Type 0
@@ -50,22 +57,22 @@ stopped_armed : (shelf : Kept MemState) (passes : Option ℕ) → (armed shelf p
 stopped_armed shelf None = refl
 stopped_armed shelf (Some n) = refl
 
-module _ (law : ChangesEndByPasses) (shelf : Kept MemState) (passes : Option ℕ) (runs : Runs shelf) (t : DiskState) where
+module _ (law : ChangesEndByPasses) (shelf : Kept MemState) (passes : Option ℕ) (runs : Runs shelf) (t : DiskState) (r : Record) where
   -- a change that is made and answered is there
   pub made_there : (mid : Kept MemState) → t ≢ shelf.state → mid.state ≡ t
-      → (mid ≡ armed shelf passes) ⊎ MemTook (armed shelf passes).disk (armed shelf passes).state t true mid.disk
+      → (mid ≡ armed shelf passes) ⊎ MemTook (armed shelf passes).disk (armed shelf passes).state t r true mid.disk
       → mid.state ≡ cond (is_there passes) t shelf.state
   made_there mid other made (inl same) = absurd (other (sym made ∙ ap (λ (k : Kept MemState). k.state) same ∙ state_armed shelf passes))
   made_there mid other made (inr took) =
-      let ends = law (armed shelf passes).disk (armed shelf passes).state t true mid.disk (stopped_armed shelf passes ∙ runs.runs) took in
+      let ends = law (armed shelf passes).disk (armed shelf passes).state t r true mid.disk (stopped_armed shelf passes ∙ runs.runs) took in
       let met : is_answered passes ≡ true = sym (ends.answered ∙ ap is_answered (passes_armed shelf passes runs.waits)) in
       made ∙ ap (λ (b : Bool). cond b t shelf.state) (sym (there_too passes met))
 
   -- one that a stop cut stands or not, as so many passed
-  pub cut_stands : OneState → (mid : MemState) → MemTook (armed shelf passes).disk (armed shelf passes).state t false mid
+  pub cut_stands : OneState → (mid : MemState) → MemTook (armed shelf passes).disk (armed shelf passes).state t r false mid
       → (u : DiskState) → StandsFor u (disk_bytes mid) → u ≡ cond (is_there passes) t shelf.state
   cut_stands one mid took u stands =
-      let ends = law (armed shelf passes).disk (armed shelf passes).state t false mid (stopped_armed shelf passes ∙ runs.runs) took in
+      let ends = law (armed shelf passes).disk (armed shelf passes).state t r false mid (stopped_armed shelf passes ∙ runs.runs) took in
       let cut : StandsFor (cond (is_there passes) t shelf.state) (disk_bytes mid) =
       subst (λ (s : DiskState). StandsFor (cond (is_there passes) t s) (disk_bytes mid)) (state_armed shelf passes)
       (subst (λ (p : Option ℕ). StandsFor (cond (is_there p) t (armed shelf passes).state) (disk_bytes mid)) (passes_armed shelf passes runs.waits)
@@ -74,28 +81,92 @@ module _ (law : ChangesEndByPasses) (shelf : Kept MemState) (passes : Option ℕ
 
 -- ---- the same, of a shelf that is equal to the armed one
 
+drive_armed : (shelf : Kept MemState) (passes : Option ℕ) → (armed shelf passes).disk.drive ≡ to_stop passes shelf.disk.drive
+drive_armed shelf None = refl
+drive_armed shelf (Some n) = refl
+
+-- a disk that stopped runs again as it is opened, and another as it is started
+run_again : (d e : Drive) (ok : Bool) → e ≡ d → ok ≡ not e.stopped → cond ok (started e) (reopened e) ≡ runs_again d
+run_again d e true same answered = sym (ap (λ (b : Bool). cond b (reopened e) (started e)) (not_true e.stopped (sym answered))) ∙ ap runs_again same
+run_again d e false same answered = sym (ap (λ (b : Bool). cond b (reopened e) (started e)) (not_false e.stopped (sym answered))) ∙ ap runs_again same
+  where
+    not_false : (b : Bool) → not b ≡ false → b ≡ true
+    not_false true met = refl
+    not_false false met = contrary (sym met)
+
 module _ (law : ChangesEndByPasses) (shelf : Kept MemState) (passes : Option ℕ) (runs : Runs shelf) (ask : Ask) (set : Kept MemState)
     (is : set ≡ armed shelf passes) where
   asked_armed : after_ask (armed shelf passes).state ask ≡ after_ask shelf.state ask
   asked_armed = ap (λ (s : DiskState). after_ask s ask) (state_armed shelf passes)
 
-  took_armed : (ok : Bool) (mid : MemState) → MemTook set.disk set.state (after_ask set.state ask) ok mid
-      → MemTook (armed shelf passes).disk (armed shelf passes).state (after_ask shelf.state ask) ok mid
+  abbrev said : Record
+  said = record_of set.state.shelf ask
+
+  took_armed : (ok : Bool) (mid : MemState) → MemTook set.disk set.state (after_ask set.state ask) said ok mid
+      → MemTook (armed shelf passes).disk (armed shelf passes).state (after_ask shelf.state ask) said ok mid
   took_armed ok mid took =
-      subst (λ (t : DiskState). MemTook (armed shelf passes).disk (armed shelf passes).state t ok mid) asked_armed
-      (subst (λ (k : Kept MemState). MemTook k.disk k.state (after_ask k.state ask) ok mid) is took)
+      subst (λ (t : DiskState). MemTook (armed shelf passes).disk (armed shelf passes).state t said ok mid) asked_armed
+      (subst (λ (k : Kept MemState). MemTook k.disk k.state (after_ask k.state ask) said ok mid) is took)
 
-  pub made_set : (mid : Kept MemState) → after_ask shelf.state ask ≢ shelf.state → mid.state ≡ after_ask set.state ask
-      → (mid ≡ set) ⊎ MemTook set.disk set.state (after_ask set.state ask) true mid.disk
-      → mid.state ≡ cond (is_there passes) (after_ask shelf.state ask) shelf.state
-  made_set mid other made either =
-      made_there law shelf passes runs (after_ask shelf.state ask) mid other
-      (made ∙ ap (λ (k : Kept MemState). after_ask k.state ask) is ∙ asked_armed)
-      (⊎_elim (λ same. inl (same ∙ is)) (λ took. inr (took_armed true mid.disk took)) either)
+  -- the disk then, which is let run again
+  ran_set : (ok : Bool) (mid : MemState) → MemTook set.disk set.state (after_ask set.state ask) said ok mid
+      → cond ok (started mid.drive) (reopened mid.drive) ≡ (changed passes ask (on_disk shelf)).drive
+  ran_set ok mid took =
+      let ends = law (armed shelf passes).disk (armed shelf passes).state (after_ask shelf.state ask) said ok mid (stopped_armed shelf passes ∙ runs.runs)
+      (took_armed ok mid took) in
+      run_again (with_record (record_of shelf.state.shelf ask) (to_stop passes shelf.disk.drive)) mid.drive ok
+      (ends.drive ∙ ap (with_record said) (drive_armed shelf passes)
+      ∙ ap (λ (s : DiskState). with_record (record_of s.shelf ask) (to_stop passes shelf.disk.drive))
+      (ap (λ (k : Kept MemState). k.state) is ∙ state_armed shelf passes))
+      ends.runs
 
-  pub cut_set : OneState → (mid : MemState) → MemTook set.disk set.state (after_ask set.state ask) false mid → (u : DiskState)
-      → StandsFor u (disk_bytes mid) → u ≡ cond (is_there passes) (after_ask shelf.state ask) shelf.state
-  cut_set one mid took u stands = cut_stands law shelf passes runs (after_ask shelf.state ask) one mid (took_armed false mid took) u stands
+  pub made_set : (mid after : Kept MemState) → after_ask shelf.state ask ≢ shelf.state → mid.state ≡ after_ask set.state ask
+      → (mid ≡ set) ⊎ MemTook set.disk set.state (after_ask set.state ask) said true mid.disk → after.disk.drive ≡ started mid.disk.drive
+      → after.state ≡ mid.state → on_disk after ≡ changed passes ask (on_disk shelf)
+  made_set mid after other made either drive state =
+      let met : mid.state ≡ after_ask shelf.state ask = made ∙ ap (λ (k : Kept MemState). after_ask k.state ask) is ∙ asked_armed in
+      let same =
+      state
+      ∙ made_there law shelf passes runs (after_ask shelf.state ask) said mid other met (⊎_elim (λ same. inl (same ∙ is)) (λ took. inr (took_armed true mid.disk took)) either)
+      in
+      let ran : started mid.disk.drive ≡ (changed passes ask (on_disk shelf)).drive =
+      ⊎_elim
+      (λ same. absurd (other (sym met ∙ ap (λ (k : Kept MemState). k.state) (same ∙ is) ∙ state_armed shelf passes)))
+      (ran_set true mid.disk) either
+      in
+      λ i. record { drive = (drive ∙ ran) i; state = same i }
+
+  pub cut_set : OneState → (mid : MemState) → MemTook set.disk set.state (after_ask set.state ask) said false mid → (after : Kept MemState)
+      → StandsFor after.state (disk_bytes mid) → after.disk.drive ≡ reopened mid.drive → on_disk after ≡ changed passes ask (on_disk shelf)
+  cut_set one mid took after stands drive =
+      let same = cut_stands law shelf passes runs (after_ask shelf.state ask) said one mid (took_armed false mid took) after.state stands in
+      λ i. record { drive = (drive ∙ ran_set false mid took) i; state = same i }
+
+-- ---- a Welcome
+
+module _ (law : ChangesEndByPasses) (shelf : Kept MemState) (runs : Runs shelf) (generation : ℕ) where
+  abbrev call : Ask
+  call = asks.Welcome generation
+
+  -- a disk that runs is the same as it is started
+  started_runs : (d : Drive) → d.stopped ≡ false → d.passes ≡ None → started d ≡ d
+  started_runs d r w = λ i. record { deeds = d.deeds; passes = sym w i; stopped = sym r i; faults = d.faults }
+
+  pub welcome_set : (mid after : Kept MemState) → mid.state ≡ after_ask shelf.state call → (shelf.state.welcomed ≡ generation → mid ≡ shelf)
+      → (mid ≡ shelf) ⊎ MemTook shelf.disk shelf.state (after_ask shelf.state call) (record_of shelf.state.shelf call) true mid.disk
+      → after.disk.drive ≡ started mid.disk.drive → after.state ≡ mid.state → on_disk after ≡ welcomed generation (on_disk shelf)
+  welcome_set mid after made idle either drive state = by (shelf.state.welcomed == generation) refl
+    where
+      by : (t : Bool) → (shelf.state.welcomed == generation) ≡ t → on_disk after ≡ cond t (on_disk shelf) (changed None call (on_disk shelf))
+      by true had =
+          let same : mid ≡ shelf = idle (eqb-true shelf.state.welcomed generation had) in
+          λ i. record {
+            drive = (drive ∙ ap (λ (k : Kept MemState). started k.disk.drive) same ∙ started_runs shelf.disk.drive runs.runs runs.waits) i;
+            state = (state ∙ ap (λ (k : Kept MemState). k.state) same) i;
+          }
+      by false had =
+          made_set law shelf None runs call shelf refl mid after
+          (λ same. eqb-false shelf.state.welcomed generation had (sym (ap (λ (s : DiskState). s.welcomed) same))) made either drive state
 
 -- ---- by the fate of the event
 
@@ -126,12 +197,19 @@ gone_by true there e = absurd (subst is_counted e tt)
 gone_by false true e = absurd (subst is_counted e tt)
 gone_by false false e = refl
 
-pub took_call : (stop : Stop) (call : Ask) (before after : Kept MemState) → Runs after
-    → after.state ≡ cond (is_there (passes_for stop call)) (after_ask before.state call) before.state → Took stop (Some call) before after
-took_call stop call before after runs state =
+-- two facts of what succeeded
+pub both_ok : {T E : Type 0} (P Q : Type 0) (r : Result T E) → OnOk r P → OnOk r Q → OnOk r (P × Q)
+both_ok P Q (Ok x) p q = (p, q)
+both_ok P Q (Err e) p q = tt
+
+pub took_call : (stop : Stop) (what : Do) (call : Ask) (before after : Kept MemState) → Runs after
+    → on_disk after ≡ changed (passes_for stop call) call (on_disk before) → Took stop what (Some call) before after
+took_call stop what call before after runs disk =
     let p : Option ℕ = passes_for stop call in
+    let state : after.state ≡ cond (is_there p) (after_ask before.state call) before.state = ap (λ (k : OnDisk). k.state) disk in
     record {
       runs = runs;
+      disk = disk;
       there = λ counts.
           ap (λ (s : DiskState). s.shelf) (state ∙ ap (λ (b : Bool). cond b (after_ask before.state call) before.state)
           (there_by (is_answered p) (is_there p) (there_too p) counts)) ∙ shelf_is before.state call;
@@ -139,5 +217,19 @@ took_call stop call before after runs state =
           ap (λ (s : DiskState). s.shelf) (state ∙ ap (λ (b : Bool). cond b (after_ask before.state call) before.state) (gone_by (is_answered p) (is_there p) e));
     }
 
-pub took_none : (stop : Stop) (before after : Kept MemState) → Runs after → after.state.shelf ≡ before.state.shelf → Took stop None before after
-took_none stop before after runs same = record { runs = runs; there = λ counts. same; lost = λ e. same }
+-- a Welcome changes no shelf
+welcomed_shelf : (generation : ℕ) (k : OnDisk) → (welcomed generation k).state.shelf ≡ k.state.shelf
+welcomed_shelf generation k =
+    by_test (λ (x : OnDisk). x.state.shelf ≡ k.state.shelf) (k.state.welcomed == generation) k (changed None (asks.Welcome generation) k) (λ t. refl) (λ t. refl)
+
+welcomed_same : (o : Option ℕ) (k : OnDisk) → (welcomed_by o k).state.shelf ≡ k.state.shelf
+welcomed_same None k = refl
+welcomed_same (Some generation) k =
+    by_test (λ (x : OnDisk). x.state.shelf ≡ k.state.shelf) (nat_lt 1 generation && (generation == k.state.shelf.generation)) (welcomed generation k) k
+    (λ t. welcomed_shelf generation k) (λ t. refl)
+
+pub took_none : (stop : Stop) (what : Do) (before after : Kept MemState) → Runs after
+    → on_disk after ≡ welcomed_by (welcome_of what) (on_disk before) → Took stop what None before after
+took_none stop what before after runs disk =
+    let same : after.state.shelf ≡ before.state.shelf = ap (λ (k : OnDisk). k.state.shelf) disk ∙ welcomed_same (welcome_of what) (on_disk before) in
+    record { runs = runs; disk = disk; there = λ counts. same; lost = λ e. same }

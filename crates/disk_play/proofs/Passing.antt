@@ -26,7 +26,7 @@ use Rattle.disk_play.specs.declared.course.Seat.{Seat}
 use Rattle.disk_play.specs.declared.stop.Fate.{Fate}
 use Rattle.disk_play.specs.declared.stop.Fate.TheVariants.{Answered, Unanswered, Lost}
 use Rattle.disk_play.specs.declared.stop.Stop.{Stop}
-use Rattle.disk_play.specs.Courses.{fate_for, happens_at, happens_on, happens_to, player_by, running, seat_of, started_at, stops_at, tells, unanswered_of, with_player, with_stop, woken, woken_at}
+use Rattle.disk_play.specs.Courses.{Deck, fate_for, happens_at, happens_on, happens_to, player_by, running, seat_of, started_at, stops_at, tells, unanswered_of, with_player, with_stop, woken, woken_at}
 use Rattle.disk_play.specs.Standing.{Follow, Follows, Stands}
 use Rattle.disk_play.proofs.Places.{length_set, none_within}
 use Rattle.disk_play.proofs.Running.{leads_on}
@@ -145,13 +145,5 @@ module _ {N : Type 0} (step : N → Do → NodeStep N) (first : NodeId → Setup
   fewer Unanswered p event world = no_more p.unanswered _
   fewer Lost p event world = as_many p.unanswered
 
-  to_fewer : (c : Course N) (o : Option Seat) (event : Event) → (happens_to step shelf_of c o event).player.unanswered ≤ c.player.unanswered
-  unfolding happens
-  to_fewer c None event = fewer Answered c.player event (next_world step c.player.world event)
-  to_fewer c (Some seat) event =
-      by_test (λ (d : Course N). d.player.unanswered ≤ c.player.unanswered) seat.stop.stopped c (happens_at step shelf_of c seat event)
-      (λ t. as_many c.player.unanswered) (λ t. fewer (fate_for seat.stop _) c.player event (next_world step c.player.world event))
-
-  pub happens_fewer : (c : Course N) (event : Event) → (happens_on step shelf_of c event).player.unanswered ≤ c.player.unanswered
-  unfolding happens_on
-  happens_fewer c event = to_fewer c (seat_of c.stops (node_of event)) event
+  pub at_fewer : (d : Deck N) (seat : Seat) (event : Event) → (happens_at step shelf_of d seat event).course.player.unanswered ≤ d.course.player.unanswered
+  at_fewer d seat event = fewer (fate_for seat.stop _) d.course.player event (next_world step d.course.player.world event)

@@ -3,7 +3,10 @@ use Rattle.std.proofs.Common.{◌≡◌, ◌≢◌, ℕ, zero, suc, ◌≤◌, �
 use Rattle.std.specs.Prelude.{is_some}
 use Rattle.xfs_base.proofs.Booleans.{contrary}
 use Rattle.std.proofs.lemmas.List.{get_or-set_same, get_or-set_other}
-use Rattle.std.proofs.lemmas.Option.{slice_get_past, slice_get_within, slice_get-get_or}
+use Rattle.std.proofs.lemmas.Option.{same_Some, slice_get_past, slice_get_within, slice_get-get_or}
+use Rattle.disk_shelf.specs.Kept.{Kept}
+use Rattle.disk_shelf.specs.MemDisk.{MemState}
+use Rattle.disk_play.specs.Disks.{OnDisk, change_at, on_disk, on_disks}
 use Rattle.std.proofs.Math.ListN.{length-set}
 use Rattle.std.proofs.lemmas.Bool.{ltb-false, ltb-true}
 
@@ -31,3 +34,12 @@ pub none_within : {X : Type 0} (xs : List X) (p : ℕ) → p < length xs → sli
 none_within [] p less none = omega (arith, less)
 none_within (x ∷ xs) zero less none = contrary (sym (ap is_some none))
 none_within (x ∷ xs) (suc p) less none = none_within xs p (omega (arith, less)) none
+
+-- what is kept on the disks, where that of one place is made another
+pub set_changes : (change : OnDisk → OnDisk) (shelves : List (Kept MemState)) (p : ℕ) (before after : Kept MemState)
+    → slice_get shelves p ≡ Some before → on_disk after ≡ change (on_disk before)
+    → on_disks (slice_set shelves p after) ≡ change_at change p (on_disks shelves)
+set_changes change [] p before after was is = contrary (ap is_some was)
+set_changes change (s ∷ shelves) zero before after was is =
+    ap (λ (k : OnDisk). k ∷ on_disks shelves) (is ∙ ap (λ (x : Kept MemState). change (on_disk x)) (sym (same_Some s before was)))
+set_changes change (s ∷ shelves) (suc p) before after was is = ap (λ (l : List OnDisk). on_disk s ∷ l) (set_changes change shelves p before after was is)

@@ -30,9 +30,10 @@ use Rattle.disk_play.specs.declared.course.Seat.{Seat}
 use Rattle.disk_play.specs.declared.stop.Fate.{Fate}
 use Rattle.disk_play.specs.declared.stop.Fate.TheVariants.{Answered, Unanswered, Lost}
 use Rattle.disk_play.specs.declared.stop.Stop.{Stop}
-use Rattle.disk_play.specs.Courses.{asked_of, fate_for, happens_at, player_by, seat_of, seat_with, settled, shelf_at, stop_for, took, with_world}
+use Rattle.disk_play.specs.Courses.{asked_of, course_at, deck_of, disk_after, disks_at, fate_for, player_by, seat_of, seat_with, settled, shelf_at, stop_for, took, with_world}
 use Rattle.disk_play.specs.Standing.{Follow, Follows, GivesOf, Stands, Took}
-use Rattle.disk_play.proofs.Places.{get_set_other, get_set_same, length_set}
+use Rattle.disk_play.specs.Disks.{change_at, on_disks}
+use Rattle.disk_play.proofs.Places.{get_set_other, get_set_same, length_set, set_changes}
 use Rattle.disk_play.proofs.Running.{leads_on, leads_to}
 use Rattle.disk_play.proofs.Turning.{next_cluster, others_stay, own_changes}
 
@@ -107,6 +108,11 @@ module _ {N : Type 0} (step : N → Do → NodeStep N) (first : NodeId → Setup
     seat_so : IsSeat c.stops (node_of event) seat
     seat_so = seat_is c.stops (node_of event) seat seat_here
 
+    -- the call is the one that is seen by this shelf and the one after the event, and makes the latter of the former
+    pub record IsAsked (call : Option Ask) (shelf : Kept MemState) : Type 0 where
+      pub exact : call ≡ asked_of (what_of event) (Some shelf.state.shelf) (shelf_at shelf_of next (node_of event))
+      pub gives : GivesOf (what_of event) shelf.state.shelf (shelf_at shelf_of next (node_of event)) call
+
     -- the event as its parts, and the world that it made
     module _ (w : World N) (node : NodeId) (what : Do) (is_node : node ≡ node_of event) (is_what : what ≡ what_of event)
         (is_world : w ≡ happened step c.player.world node what) where
@@ -114,19 +120,19 @@ module _ {N : Type 0} (step : N → Do → NodeStep N) (first : NodeId → Setup
       next_is =
           is_world ∙ ap (λ n. happened step c.player.world n what) is_node ∙ ap (λ x. happened step c.player.world (node_of event) x) is_what
 
-      pub exact_so : (call : Option Ask) (s : ShelfState) → call ≡ asked_of what (Some s) (shelf_at shelf_of w node)
-          → call ≡ asked_of (what_of event) (Some s) (shelf_at shelf_of next (node_of event))
-      exact_so call s exact =
-          exact ∙ ap (λ x. asked_of x (Some s) (shelf_at shelf_of w node)) is_what
-          ∙ ap (λ v. asked_of (what_of event) (Some s) (shelf_at shelf_of v node)) next_is
-          ∙ ap (λ n. asked_of (what_of event) (Some s) (shelf_at shelf_of next n)) is_node
-
-      pub gives_so : (call : Option Ask) (s : ShelfState) → GivesOf what s (shelf_at shelf_of w node) call
-          → GivesOf (what_of event) s (shelf_at shelf_of next (node_of event)) call
-      gives_so call s gives =
-          subst (λ n. GivesOf (what_of event) s (shelf_at shelf_of next n) call) is_node
-          (subst (λ v. GivesOf (what_of event) s (shelf_at shelf_of v node) call) next_is
-          (subst (λ x. GivesOf x s (shelf_at shelf_of w node) call) is_what gives))
+      -- the call that was found by the shelf at the seat
+      pub asked_so : (call : Option Ask) (x shelf : Kept MemState) → slice_get shelves seat.place ≡ Some x → slice_get shelves seat.place ≡ Some shelf
+          → call ≡ asked_of what (Some x.state.shelf) (shelf_at shelf_of w node) → GivesOf what x.state.shelf (shelf_at shelf_of w node) call → IsAsked call shelf
+      asked_so call x shelf is_x is exact gives =
+          let so : IsAsked call x = record {
+            exact = exact ∙ ap (λ o. asked_of o (Some x.state.shelf) (shelf_at shelf_of w node)) is_what
+                ∙ ap (λ v. asked_of (what_of event) (Some x.state.shelf) (shelf_at shelf_of v node)) next_is
+                ∙ ap (λ n. asked_of (what_of event) (Some x.state.shelf) (shelf_at shelf_of next n)) is_node;
+            gives = subst (λ n. GivesOf (what_of event) x.state.shelf (shelf_at shelf_of next n) call) is_node
+                (subst (λ v. GivesOf (what_of event) x.state.shelf (shelf_at shelf_of v node) call) next_is
+                (subst (λ o. GivesOf o x.state.shelf (shelf_at shelf_of w node) call) is_what gives));
+          } in
+          subst (IsAsked call) (same_Some x shelf (sym is_x ∙ is)) so
 
     -- there is a shelf at the seat
     pub within : seat.place < length shelves
@@ -154,13 +160,12 @@ module _ {N : Type 0} (step : N → Do → NodeStep N) (first : NodeId → Setup
             (own_changes step c.player.world event shelf_of changes)),
       )
 
-      module _ (call : Option Ask) (exact : call ≡ asked_of (what_of event) (Some shelf.state.shelf) (shelf_at shelf_of next (node_of event)))
-          (gives : GivesOf (what_of event) shelf.state.shelf (shelf_at shelf_of next (node_of event)) call) where
+      module _ (call : Option Ask) (asked : IsAsked call shelf) where
         -- the call makes the shelf that the server has then
         pub given : shelf_at shelf_of next (node_of event) ≡ Some (shelf_after_one shelf.state.shelf call)
         given =
             let after = changed (shelf_at shelf_of next (node_of event)) refl in
-            after.1 ∙ ap Some (subst (λ o. GivesOf (what_of event) shelf.state.shelf o call) after.1 gives after.2)
+            after.1 ∙ ap Some (subst (λ o. GivesOf (what_of event) shelf.state.shelf o call) after.1 asked.gives after.2)
 
         -- and it is another one, where there is a call
         pub differs : IfSome call (λ ask. shelf_after shelf.state.shelf ask ≢ shelf.state.shelf)
@@ -172,16 +177,16 @@ module _ {N : Type 0} (step : N → Do → NodeStep N) (first : NodeId → Setup
                 let now : shelf_at shelf_of next (node_of event) ≡ Some shelf.state.shelf =
                 given ∙ ap (λ o. Some (shelf_after_one shelf.state.shelf o)) fact ∙ ap Some same in
                 let none : call ≡ None =
-                exact ∙ ap (asked_of (what_of event) (Some shelf.state.shelf)) now ∙ none_asked shelf.state.shelf (what_of event) in
+                asked.exact ∙ ap (asked_of (what_of event) (Some shelf.state.shelf)) now ∙ none_asked shelf.state.shelf (what_of event) in
                 contrary (sym (ap is_some (sym fact ∙ none)))
 
         -- ---- what then stands
 
         pub seen : asked_of (what_of event) (shelf_at shelf_of c.player.world (node_of event)) (shelf_at shelf_of next (node_of event)) ≡ call
-        seen = ap (λ o. asked_of (what_of event) o (shelf_at shelf_of next (node_of event))) follows.same ∙ sym exact
+        seen = ap (λ o. asked_of (what_of event) o (shelf_at shelf_of next (node_of event))) follows.same ∙ sym asked.exact
 
         module _ (may : MayHappen c.player.world event) (shelves' : List (Kept MemState)) (after : Kept MemState) (is : shelves' ≡ slice_set shelves seat.place after)
-            (took_so : Took seat.stop call shelf after) where
+            (took_so : Took seat.stop (what_of event) call shelf after) where
           -- all other shelves follow as before, whether the event counts or not
           others : (w : World N) → ((place : ℕ) → place ≢ seat.place
               → shelf_at shelf_of w (nodes.Server (place + 1)) ≡ shelf_at shelf_of c.player.world (nodes.Server (place + 1)))
@@ -247,9 +252,15 @@ module _ {N : Type 0} (step : N → Do → NodeStep N) (first : NodeId → Setup
               no_fate e = subst counted e tt
           stand_by Lost fact = record { run = stands.run; stops = lengths; follow = follow_still fact }
 
-          pub event_stands : Standing (happens_at step shelf_of c seat event) shelves'
+          pub event_stands : Standing (course_at step shelf_of c seat event) shelves'
           event_stands =
               subst (λ o. Standing (took c seat event next o) shelves') (sym seen) (stand_by (fate_for seat.stop call) refl)
+
+          -- its disk is what the event makes of it, and all others are as they were
+          pub disks_so : on_disks shelves' ≡ disks_at step shelf_of (deck_of c shelves) seat event
+          disks_so =
+              ap on_disks is ∙ set_changes (disk_after seat.stop (what_of event) call) shelves seat.place shelf after was took_so.disk
+              ∙ ap (λ o. change_at (disk_after seat.stop (what_of event) o) seat.place (on_disks shelves)) (sym seen)
 
           abbrev at : World N → List Stop → Course N
           at w stops = record {
@@ -261,7 +272,7 @@ module _ {N : Type 0} (step : N → Do → NodeStep N) (first : NodeId → Setup
           turned = at next stops'
 
           -- what is settled is what happens
-          pub settled_so : settled step first script (fate_for seat.stop call) turned event (length c.player.world.sent) (length c.player.world.acts) ≡ happens_at step shelf_of c seat event
+          pub settled_so : settled step first script (fate_for seat.stop call) turned event (length c.player.world.sent) (length c.player.world.acts) ≡ course_at step shelf_of c seat event
           settled_so = by (fate_for seat.stop call) ∙ ap (took c seat event next) (sym seen)
             where
               by : (f : Fate) → settled step first script f turned event (length c.player.world.sent) (length c.player.world.acts) ≡ record {
@@ -280,7 +291,7 @@ module _ {N : Type 0} (step : N → Do → NodeStep N) (first : NodeId → Setup
                 player = record { world = w; events = c.player.events; schedule = c.player.schedule; unanswered = c.player.unanswered };
                 stops = stops;
               })
-              same sent done ≡ happens_at step shelf_of c seat event
+              same sent done ≡ course_at step shelf_of c seat event
           settled_as fate w stops same sent done f x s e a b =
               ap (λ f. settled step first script f (at w stops) same sent done) f
               ∙ ap (λ v. settled step first script (fate_for seat.stop call) (at v stops) same sent done) x

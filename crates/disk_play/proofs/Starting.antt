@@ -1,6 +1,6 @@
 -- Before the first event each server has an empty shelf.
-use Rattle.std.proofs.Common.{◌≡◌, ℕ, ◌+◌, ◌≤◌, ◌<◌, List, Option, Some, All, length, slice_get, refl, sym, ap, subst, ◌∙◌, arith}
-use Rattle.std.specs.List.{range_with_len}
+use Rattle.std.proofs.Common.{◌≡◌, ℕ, ◌+◌, ◌≤◌, ◌<◌, List, [], ◌∷◌, Option, Some, All, replicate, length, slice_get, refl, sym, ap, subst, ◌∙◌, arith}
+use Rattle.std.specs.List.{AllByRecursion, range_with_len}
 use Rattle.std.specs.Prelude.{IfSome, option_map}
 use Rattle.std.proofs.lemmas.List.Elements.{recursion_from_All}
 use Rattle.std.proofs.lemmas.List.{length-replicate}
@@ -8,7 +8,6 @@ use Rattle.std.proofs.lemmas.List.FromFn.{get_or-range_with_len, length-range_wi
 use Rattle.std.proofs.lemmas.Option.{slice_get-get_or, slice_get-map, slice_get_within}
 use Rattle.disk_shelf.specs.Kept.{Kept}
 use Rattle.disk_shelf.specs.MemDisk.{MemState}
-use Rattle.disk_shelf.specs.Records.{DiskState}
 use Rattle.fragment_store.specs.ShelfState.{ShelfState, new_shelf}
 use Rattle.script_text.specs.declared.script.Script.{Script}
 use Rattle.shelved_nodes.specs.Shelves.{first_shelf}
@@ -24,7 +23,8 @@ use Rattle.xfs_base.specs.declared.node.NodeId.{NodeId}
 use Rattle.xfs_base.specs.declared.node.NodeId.TheVariants.{Server}
 use Rattle.xfs_base.specs.declared.setup.Setup.{Setup}
 use Rattle.disk_play.specs.declared.stop.Stop.{Stop}
-use Rattle.disk_play.specs.Courses.{kept_at, kept_by, running, shelf_at, starts_on}
+use Rattle.disk_play.specs.Courses.{course_on, kept_at, kept_by, running, shelf_at}
+use Rattle.disk_play.specs.Disks.{OnDisk, new_disk, on_disks}
 use Rattle.disk_play.specs.Standing.{Follow, IsNew, Stands}
 
 nothing_more : (n : ℕ) → 0 + n ≡ n
@@ -63,7 +63,7 @@ module _ {N : Type 0} (first : NodeId → Setup → List Work → N) (shelf_of :
         let within = slice_get_within shelves place shelf fact in
         record {
           runs = new.runs;
-          same = server_empty (place + 1) (omega arith) (omega (arith, within, count)) ∙ ap (λ (s : DiskState). Some s.shelf) (sym new.new);
+          same = server_empty (place + 1) (omega arith) (omega (arith, within, count)) ∙ ap (λ (k : OnDisk). Some k.state.shelf) (sym new.new);
         };
   }
 
@@ -72,11 +72,16 @@ pub start_cluster : {N : Type 0} (first : NodeId → Setup → List Work → N) 
 unfolding start_world
 start_cluster first script = refl
 
+-- each of the disks is new
+pub all_new : (shelves : List (Kept MemState)) → AllByRecursion IsNew shelves → on_disks shelves ≡ replicate (length shelves) new_disk
+all_new [] new = refl
+all_new (s ∷ shelves) new = λ i. new.0.new i ∷ all_new shelves new.1 i
+
 -- and all stands before the first line
 pub starts_stand : {N : Type 0} (step : N → Do → NodeStep N) (first : NodeId → Setup → List Work → N) (shelf_of : N → Option ShelfState)
     → ((node : NodeId) (setup : Setup) (items : List Work) → shelf_of (first node setup items) ≡ first_shelf node) → (script : Script)
     → (shelves : List (Kept MemState)) → length shelves ≡ script.setup.servers → All IsNew shelves
-    → Stands step first shelf_of script (starts_on first script) shelves
+    → Stands step first shelf_of script (course_on first script) shelves
 starts_stand step first shelf_of empty script shelves count all = record {
   run = refl;
   stops = length-replicate {A = Stop} script.setup.servers running ∙ sym count;

@@ -1,9 +1,11 @@
--- The play of a script with servers that stop: a function of the script. It is played as by one thread, but that a server may stop within a change of its
--- shelf, and takes no event then until it is started.
+-- The play of a script with servers that stop and keep their disk: a function of the script. It is played as by one thread, but that a server may stop
+-- within a change of its shelf, and takes no event then until it is started; and each change of a shelf is made on the disk of its server too.
 use Rattle.std.specs.Prelude.{ℕ, zero, suc, ◌-◌, nat_lt, Bool, true, false, not, ◌||◌, ◌==◌, if◌then◌else◌, List, [], ◌∷◌, ◌++◌, drop, length, fold, replicate, slice_get, slice_set, Option, Some, None}
 use Rattle.std.specs.List.{count_by}
 use Rattle.disk_shelf.specs.declared.ask.Ask.{Ask}
 use Rattle.disk_shelf.specs.declared.ask.Ask.TheVariants as asks
+use Rattle.disk_shelf.specs.Kept.{Kept}
+use Rattle.disk_shelf.specs.MemDisk.{MemState}
 use Rattle.disk_shelf.specs.Stops.{is_answered, is_there, passes_after}
 use Rattle.fragment_store.specs.ShelfState.{ShelfState}
 use Rattle.play.specs.declared.player.Player.{Player}
@@ -38,6 +40,7 @@ use Rattle.disk_play.specs.declared.course.Seat.{Seat}
 use Rattle.disk_play.specs.declared.stop.Fate.{Fate}
 use Rattle.disk_play.specs.declared.stop.Fate.TheVariants.{Answered, Unanswered, Lost}
 use Rattle.disk_play.specs.declared.stop.Stop.{Stop}
+use Rattle.disk_play.specs.Disks.{OnDisk, change_at, changed, new_disk, on_disks, welcome_of, welcomed_by}
 
 -- ---- stops
 
@@ -89,6 +92,11 @@ abbrev pub stop_for : Stop → Option Ask → Stop
 stop_for stop None = stop
 stop_for stop (Some call) = stop_after stop call
 
+-- what an event makes of the disk of a server under its stop, by the change of the shelf
+abbrev pub disk_after : Stop → Do → Option Ask → OnDisk → OnDisk
+disk_after stop what None k = welcomed_by (welcome_of what) k
+disk_after stop what (Some call) k = changed (passes_for stop call) call k
+
 -- ---- items
 
 abbrev pub is_begin_of : NodeId → Event → Bool
@@ -101,7 +109,19 @@ is_answer_of node act = false
 
 -- ---- the course of a play
 
+-- a course, and the disks of the servers, in their order
+pub record Deck (N : Type 0) : Type 0 where
+  pub course : Course N
+  pub disks : List OnDisk
+
 module _ {N : Type 0} where
+  abbrev pub on_course : (Course N → Course N) → Deck N → Deck N
+  on_course change d = record { course = change d.course; disks = d.disks }
+
+  -- as a play keeps them, the disks in the shelves of which they are
+  abbrev pub deck_of : Course N → List (Kept MemState) → Deck N
+  deck_of c shelves = record { course = c; disks = on_disks shelves }
+
   abbrev pub with_player : Course N → Player N → Course N
   with_player c p = record { player = p; stops = c.stops }
 
@@ -208,78 +228,93 @@ settled step first script Answered c event sent done = noted (with_sent c sent) 
 settled step first script Unanswered c event sent done = noted c event done
 settled step first script Lost c event sent done = with_world c (fold (next_world step) (start_world first script) c.player.events)
 
--- before the first line all servers run
-abbrev pub starts_on : {N : Type 0} → (NodeId → Setup → List Work → N) → Script → Course N
-starts_on first script = record { player = starts first script; stops = replicate script.setup.servers running }
+-- before the first line all servers run, each with an empty disk
+abbrev pub course_on : {N : Type 0} → (NodeId → Setup → List Work → N) → Script → Course N
+course_on first script = record { player = starts first script; stops = replicate script.setup.servers running }
+
+abbrev pub starts_on : {N : Type 0} → (NodeId → Setup → List Work → N) → Script → Deck N
+starts_on first script = record { course = course_on first script; disks = replicate script.setup.servers new_disk }
 
 module _ {N : Type 0} (step : N → Do → NodeStep N) (shelf_of : N → Option ShelfState) where
-  -- an event of a server that runs
-  abbrev pub happens_at : Course N → Seat → Event → Course N
-  happens_at c seat event =
-      took c seat event (next_world step c.player.world event)
-      (asked_of (what_of event) (shelf_at shelf_of c.player.world (node_of event)) (shelf_at shelf_of (next_world step c.player.world event) (node_of event)))
+  -- the change of a server's shelf that an event makes
+  abbrev pub asked_at : Course N → Event → Option Ask
+  asked_at c event = asked_of (what_of event) (shelf_at shelf_of c.player.world (node_of event)) (shelf_at shelf_of (next_world step c.player.world event) (node_of event))
+
+  -- an event of a server that runs: of the course, and of the disks
+  abbrev pub course_at : Course N → Seat → Event → Course N
+  course_at c seat event = took c seat event (next_world step c.player.world event) (asked_at c event)
+
+  abbrev pub disks_at : Deck N → Seat → Event → List OnDisk
+  disks_at d seat event = change_at (disk_after seat.stop (what_of event) (asked_at d.course event)) seat.place d.disks
+
+  abbrev pub happens_at : Deck N → Seat → Event → Deck N
+  happens_at d seat event = record { course = course_at d.course seat event; disks = disks_at d seat event }
 
   -- a stopped server takes no event
-  abbrev pub happens_to : Course N → Option Seat → Event → Course N
-  happens_to c None event = with_player c (happens step c.player event)
-  happens_to c (Some seat) event = if seat.stop.stopped then c else happens_at c seat event
+  abbrev pub happens_to : Deck N → Option Seat → Event → Deck N
+  happens_to d None event = on_course (λ c. with_player c (happens step c.player event)) d
+  happens_to d (Some seat) event = if seat.stop.stopped then d else happens_at d seat event
 
   -- an event happens
-  unfoldable pub happens_on : Course N → Event → Course N
-  happens_on c event = happens_to c (seat_of c.stops (node_of event)) event
+  unfoldable pub happens_on : Deck N → Event → Deck N
+  happens_on d event = happens_to d (seat_of d.course.stops (node_of event)) event
 
   -- a node begins its next item; one that is stopped is started first
-  unfoldable pub begins_on : Course N → NodeId → Course N
-  begins_on c node = queue_drained (happens_on (one_more (woken c node)) (Begin node))
+  unfoldable pub begins_on : Deck N → NodeId → Deck N
+  begins_on d node = on_course queue_drained (happens_on (on_course (λ c. one_more (woken c node)) d) (Begin node))
 
   -- a packet that was sent is delivered, also to a server that is stopped, which doesn't take it
-  abbrev pub delivers_on : Course N → ℕ → Option Packet → Course N
-  delivers_on c number None = c
-  delivers_on c number (Some packet) = delivery_noted number (happens_on c (Deliver packet))
+  abbrev pub delivers_on : Deck N → ℕ → Option Packet → Deck N
+  delivers_on d number None = d
+  delivers_on d number (Some packet) = on_course (delivery_noted number) (happens_on d (Deliver packet))
 
-  unfoldable pub delivered_on : Course N → ℕ → Course N
-  delivered_on c number = delivers_on c number (slice_get c.player.world.sent number)
+  unfoldable pub delivered_on : Deck N → ℕ → Deck N
+  delivered_on d number = delivers_on d number (slice_get d.course.player.world.sent number)
 
   -- time passes at every node that isn't stopped, in their order
-  unfoldable pub ticks_on : Course N → NodeId → Course N
-  ticks_on c node = happens_on c (Tick node)
+  unfoldable pub ticks_on : Deck N → NodeId → Deck N
+  ticks_on d node = happens_on d (Tick node)
 
-  unfoldable pub rounded_on : Course N → Course N
-  rounded_on c = fold ticks_on c (nodes_of c.player.world.cluster)
+  unfoldable pub rounded_on : Deck N → Deck N
+  rounded_on d = fold ticks_on d (nodes_of d.course.player.world.cluster)
 
   -- what comes next happens
-  abbrev pub comes_on : Course N → Next → Course N
-  comes_on c (next.Deliver number) = delivered_on c number
-  comes_on c next.Round = rounded_on c
-  comes_on c next.Done = c
+  abbrev pub comes_on : Deck N → Next → Deck N
+  comes_on d (next.Deliver number) = delivered_on d number
+  comes_on d next.Round = rounded_on d
+  comes_on d next.Done = d
 
-  abbrev pub goes_on_by : Course N → Going → Course N
-  goes_on_by c going = comes_on (with_player c (with_schedule c.player going.state)) going.next
+  abbrev pub goes_on_by : Deck N → Going → Deck N
+  goes_on_by d going = comes_on (on_course (λ c. with_player c (with_schedule c.player going.state)) d) going.next
 
   -- so many times; once the line is done nothing more does
-  unfoldable pub goes_on_for : ℕ → Course N → Course N
-  goes_on_for zero c = c
-  goes_on_for (suc count) c = goes_on_for count (goes_on_by c (goes c.player.unanswered c.player.schedule))
+  unfoldable pub goes_on_for : ℕ → Deck N → Deck N
+  goes_on_for zero d = d
+  goes_on_for (suc count) d = goes_on_for count (goes_on_by d (goes d.course.player.unanswered d.course.player.schedule))
 
-  unfoldable pub goes_out_on : Course N → Course N
-  goes_out_on c = goes_on_for (left c.player.schedule) c
+  unfoldable pub goes_out_on : Deck N → Deck N
+  goes_out_on d = goes_on_for (left d.course.player.schedule) d
 
-  abbrev pub opens_on_for : Course N → Work → Option NodeId → Course N
-  opens_on_for c work None = tells c work
-  opens_on_for c work (Some node) = begins_on c node
+  abbrev pub opens_on_for : Deck N → Work → Option NodeId → Deck N
+  opens_on_for d work None = on_course (λ c. tells c work) d
+  opens_on_for d work (Some node) = begins_on d node
 
   -- an item is begun at its line; any other line stops or starts a server, or is told to the schedule
-  unfoldable pub opens_on : Course N → Work → Course N
-  opens_on c work = opens_on_for c work (actor_of work)
+  unfoldable pub opens_on : Deck N → Work → Deck N
+  opens_on d work = opens_on_for d work (actor_of work)
 
-  unfoldable pub plays_line_on : Course N → Line → Course N
-  plays_line_on c line = goes_out_on (opens_on c line.work)
+  unfoldable pub plays_line_on : Deck N → Line → Deck N
+  plays_line_on d line = goes_out_on (opens_on d line.work)
 
   -- the play of a script, line by line
-  unfoldable pub played_on : (NodeId → Setup → List Work → N) → Script → Course N
+  unfoldable pub played_on : (NodeId → Setup → List Work → N) → Script → Deck N
   played_on first script = fold plays_line_on (starts_on first script) script.lines
 
   -- the run that a script determines, with servers that stop, and the world in which it ends
   abbrev pub disk_estate_of : (NodeId → Setup → List Work → N) → Script → Estate N
   disk_estate_of first script =
-      record { script = script; events = (played_on first script).player.events; world = (played_on first script).player.world }
+      record { script = script; events = (played_on first script).course.player.events; world = (played_on first script).course.player.world }
+
+  -- and the disks
+  abbrev pub disks_of : (NodeId → Setup → List Work → N) → Script → List OnDisk
+  disks_of first script = (played_on first script).disks

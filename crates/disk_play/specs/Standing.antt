@@ -3,7 +3,7 @@ use Rattle.std.specs.Prelude.{◌≡◌, ◌≢◌, ℕ, ◌+◌, false, IsFalse
 use Rattle.disk_shelf.specs.Kept.{Kept}
 use Rattle.disk_shelf.specs.MemDisk.{MemState, disk_bytes, set_to_stop}
 use Rattle.disk_shelf.specs.declared.ask.Ask.{Ask}
-use Rattle.disk_shelf.specs.Records.{StandsFor, new_state}
+use Rattle.disk_shelf.specs.Records.{StandsFor}
 use Rattle.shelf_changes.specs.Changes.{ChangesByOne, shelf_after_one}
 use Rattle.fragment_store.specs.ShelfState.{ShelfState}
 use Rattle.script_text.specs.declared.script.Script.{Script}
@@ -19,7 +19,8 @@ use Rattle.xfs_base.specs.declared.setup.Setup.{Setup}
 use Rattle.disk_play.specs.declared.course.Course.{Course}
 use Rattle.disk_play.specs.declared.stop.Fate.TheVariants.{Lost}
 use Rattle.disk_play.specs.declared.stop.Stop.{Stop}
-use Rattle.disk_play.specs.Courses.{fate_for, shelf_at}
+use Rattle.disk_play.specs.Courses.{disk_after, fate_for, shelf_at}
+use Rattle.disk_play.specs.Disks.{OnDisk, drives, drives_told, new_disk, on_disk}
 
 -- a shelf is open, and its disk runs, with no stop that waits
 pub record Runs (shelf : Kept MemState) : Type 0 where
@@ -30,7 +31,7 @@ pub record Runs (shelf : Kept MemState) : Type 0 where
 -- and nothing was kept on it yet
 pub record IsNew (shelf : Kept MemState) : Type 0 where
   pub runs : Runs shelf
-  pub new : shelf.state ≡ new_state
+  pub new : on_disk shelf ≡ new_disk
 
 -- a stop is set, where one is to wait
 abbrev pub armed : Kept MemState → Option ℕ → Kept MemState
@@ -45,9 +46,10 @@ pub record ChangesAt (old new : List (Kept MemState)) (place : ℕ) (Makes : Kep
   pub is : new ≡ slice_set old place after
   pub makes : Makes before after
 
--- a shelf after an event that would make it this one, with this change, under a stop: it is, or it stays
-pub record Took (stop : Stop) (call : Option Ask) (before after : Kept MemState) : Type 0 where
+-- a shelf after an event that would make it this one, with this change, under a stop: it is, or it stays; and its disk is what the event makes of it
+pub record Took (stop : Stop) (what : Do) (call : Option Ask) (before after : Kept MemState) : Type 0 where
   pub runs : Runs after
+  pub disk : on_disk after ≡ disk_after stop what call (on_disk before)
   pub there : fate_for stop call ≢ Lost → after.state.shelf ≡ shelf_after_one before.state.shelf call
   pub lost : fate_for stop call ≡ Lost → after.state.shelf ≡ before.state.shelf
 
@@ -78,11 +80,17 @@ abbrev pub AreTheirs : List (Kept MemState) → List MemState → Type 0
 AreTheirs [] [] = Unit {0}
 AreTheirs [] (d ∷ ds) = ⊥
 AreTheirs (s ∷ ss) [] = ⊥
-AreTheirs (s ∷ ss) (d ∷ ds) = (IsFalse s.closed → StandsFor s.state (disk_bytes d)) × AreTheirs ss ds
+AreTheirs (s ∷ ss) (d ∷ ds) = ((d ≡ s.disk) × (IsFalse s.closed → StandsFor s.state (disk_bytes d))) × AreTheirs ss ds
 
--- there is a disk for each server, and it stands for the server's shelf in the world
-pub record DisksStand {N : Type 0} (shelf_of : N → Option ShelfState) (e : Estate N) (disks : List MemState) : Type 0 where
+-- a disk stands for what is said to be kept on it, and that has the shelf of the server at its place in a world
+pub record StandsAt {N : Type 0} (shelf_of : N → Option ShelfState) (w : World N) (told : List OnDisk) (place : ℕ) (disk : MemState) : Type 0 where
+  pub kept : OnDisk
+  pub told_of : slice_get told place ≡ Some kept
+  pub stands : StandsFor kept.state (disk_bytes disk)
+  pub shelf : shelf_at shelf_of w (Server (place + 1)) ≡ Some kept.state.shelf
+
+-- there is a disk for each server, it did all that is said, and each stands so
+pub record DisksStand {N : Type 0} (shelf_of : N → Option ShelfState) (e : Estate N) (told : List OnDisk) (disks : List MemState) : Type 0 where
   pub count : length disks ≡ e.script.setup.servers
-  pub each : (place : ℕ) (disk : MemState) → slice_get disks place ≡ Some disk
-      → (shelf : ShelfState) × (welcomed : ℕ) × (shelf_at shelf_of e.world (Server (place + 1)) ≡ Some shelf)
-      × StandsFor (record { shelf = shelf; welcomed = welcomed }) (disk_bytes disk)
+  pub did : drives disks ≡ drives_told told
+  pub each : (place : ℕ) (disk : MemState) → slice_get disks place ≡ Some disk → StandsAt shelf_of e.world told place disk

@@ -1,10 +1,11 @@
 //! One change of a shelf on a disk in memory, under a stop.
-ghost use Rattle.std.specs.Prelude.{◌≡◌, ◌≢◌, ◌<◌, All, IfOk, IfSome, IsTrue, OnOk, Some, length, slice_get, if◌then◌else◌};
+ghost use Rattle.std.specs.Prelude.{◌≡◌, ◌≢◌, ◌<◌, ◌&&◌, ◌==◌, nat_lt, All, IfOk, IfSome, IsTrue, OnOk, Some, length, slice_get};
+ghost use Rattle.disk_play.specs.Disks.{changed, on_disk, welcome_of, welcomed, welcomed_by};
 ghost use Rattle.disk_shelf.specs.Asks.{IsSmall, after_ask};
+ghost use Rattle.disk_shelf.specs.Drives.{reopened};
 ghost use Rattle.disk_shelf.specs.Kept.{Kept};
 ghost use Rattle.disk_shelf.specs.MemDisk.{MemState, disk_bytes};
 ghost use Rattle.disk_shelf.specs.Records.{StandsFor};
-ghost use Rattle.disk_shelf.specs.Stops.{is_there};
 ghost use Rattle.shelf_changes.specs.Changes.{shelf_after};
 ghost use Rattle.disk_play.specs.Standing.{ChangesAt, IsNew, Runs, Took, armed};
 
@@ -12,7 +13,7 @@ use crate::Stop;
 use crate::course::Seat;
 use disk_shelf::{
     Ask, DiskError, DiskShelf, MemDisk, a_change_ends_by_the_passes_of_a_stop,
-    an_image_stands_for_one_state, open,
+    an_image_stands_for_one_state, an_opened_disk_has_a_gate, open,
 };
 use std::alloc::{AllocError, Global};
 use wire_msg::{Body, Do};
@@ -29,6 +30,7 @@ fn empty_shelf(alloc: Global) -> Mem<DiskShelf<MemDisk>>
     ensures { IfOk result IsNew }
 {
     an_image_stands_for_one_state();
+    an_opened_disk_has_a_gate();
     match open(alloc, MemDisk::new(alloc)) {
         Ok(shelf) => {
             let mut shelf = shelf;
@@ -76,6 +78,7 @@ fn arm(shelf: &mut DiskShelf<MemDisk>, passes: Option<u32>)
 /// Opens a disk again that stopped, and lets it run.
 fn open_again(alloc: Global, shelf: &mut DiskShelf<MemDisk>) -> Mem<()>
     ensures stands { OnOk result (StandsFor shelf.new.state (disk_bytes shelf.old.disk)) }
+    ensures drive { OnOk result (shelf.new.disk.drive ≡ reopened shelf.old.disk.drive) }
     ensures runs { OnOk result (Runs shelf.new) }
 {
     match shelf.reopen(alloc) {
@@ -90,7 +93,7 @@ fn open_again(alloc: Global, shelf: &mut DiskShelf<MemDisk>) -> Mem<()>
 fn make(alloc: Global, shelf: &mut DiskShelf<MemDisk>, ask: Ask, passes: Option<u32>) -> Mem<()>
     requires runs { Runs shelf.old }
     requires changes { after_ask shelf.old.state ask ≢ shelf.old.state }
-    ensures state { OnOk result (shelf.new.state ≡ (if is_there passes then after_ask shelf.old.state ask else shelf.old.state)) }
+    ensures disk { OnOk result (on_disk shelf.new ≡ changed passes ask (on_disk shelf.old)) }
     ensures runs { OnOk result (Runs shelf.new) }
 {
     a_change_ends_by_the_passes_of_a_stop();
@@ -112,7 +115,7 @@ fn make(alloc: Global, shelf: &mut DiskShelf<MemDisk>, ask: Ask, passes: Option<
 /// Keeps on a disk that the server had the Welcome of a generation, which no stop cuts.
 fn welcome(alloc: Global, shelf: &mut DiskShelf<MemDisk>, generation: u32) -> Mem<()>
     requires { Runs shelf.old }
-    ensures state { OnOk result (shelf.new.state.shelf ≡ shelf.old.state.shelf) }
+    ensures disk { OnOk result (on_disk shelf.new ≡ welcomed generation (on_disk shelf.old)) }
     ensures runs { OnOk result (Runs shelf.new) }
 {
     a_change_ends_by_the_passes_of_a_stop();
@@ -129,7 +132,9 @@ fn welcome(alloc: Global, shelf: &mut DiskShelf<MemDisk>, generation: u32) -> Me
 }
 
 /// The generation of the Welcome that came; none where none did.
-fn welcomed_by(what: &Do) -> Option<u32> {
+fn welcome_of(what: &Do) -> Option<u32>
+    ensures { result ≡ welcome_of what.now }
+{
     match what {
         Do::Deliver(packet) => match &packet.as_packet().body {
             Body::Welcome(welcome) => Some(welcome.inc),
@@ -139,16 +144,23 @@ fn welcomed_by(what: &Do) -> Option<u32> {
     }
 }
 
+/// Whether the Welcome of a generation is kept: that of the shelf, where it began with the loss of the disk.
+fn is_kept(shelf: &DiskShelf<MemDisk>, generation: u32) -> bool
+    ensures { result ≡ nat_lt 1 generation && (generation == shelf.now.state.shelf.generation) }
+{
+    generation > 1 && generation == shelf.generation()
+}
+
 /// Where the Welcome came of a generation that began with the loss of the disk, the disk keeps that.
 fn keep_welcome(alloc: Global, shelf: &mut DiskShelf<MemDisk>, what: &Do) -> Mem<()>
     requires { Runs shelf.old }
-    ensures state { OnOk result (shelf.new.state.shelf ≡ shelf.old.state.shelf) }
+    ensures disk { OnOk result (on_disk shelf.new ≡ welcomed_by (welcome_of what.now) (on_disk shelf.old)) }
     ensures runs { OnOk result (Runs shelf.new) }
 {
-    match welcomed_by(what) {
+    match welcome_of(what) {
         None => Ok(()),
         Some(generation) => {
-            if generation > 1 && generation == shelf.generation() {
+            if is_kept(shelf, generation) {
                 return welcome(alloc, shelf, generation);
             }
             Ok(())
@@ -166,7 +178,7 @@ fn take(
 ) -> Mem<()>
     requires runs { Runs shelf.old }
     requires changes { IfSome call (λ call. shelf_after shelf.old.state.shelf call ≢ shelf.old.state.shelf) }
-    ensures { OnOk result (Took stop call shelf.old shelf.new) }
+    ensures { OnOk result (Took stop what.now call shelf.old shelf.new) }
 {
     match call {
         None => keep_welcome(alloc, shelf, what),
@@ -188,7 +200,7 @@ pub fn take_at(
     requires within { seat.place < length shelves.old.items }
     requires runs { (shelf : Kept MemState) → slice_get shelves.old.items seat.place ≡ Some shelf → Runs shelf }
     requires changes { (shelf : Kept MemState) → slice_get shelves.old.items seat.place ≡ Some shelf → IfSome call (λ call. shelf_after shelf.state.shelf call ≢ shelf.state.shelf) }
-    ensures { OnOk result (ChangesAt shelves.old.items shelves.new.items seat.place (Took seat.stop call)) }
+    ensures { OnOk result (ChangesAt shelves.old.items shelves.new.items seat.place (Took seat.stop what.now call)) }
 {
     take(alloc, &mut shelves[seat.place], seat.stop, what, call)
 }

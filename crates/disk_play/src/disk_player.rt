@@ -4,7 +4,7 @@ ghost use Rattle.node_base.specs.Setups.{IsSetup};
 ghost use Rattle.play.specs.Plays.{actors_of};
 ghost use Rattle.world_base.specs.Events.{node_of};
 ghost use Rattle.world_base.specs.Runs.{BeginsAll, MayHappen, begun_in};
-ghost use Rattle.disk_play.specs.Courses.{asked_of, begins_on, comes_on, delivered_on, goes_out_on, happens_at, happens_on, opens_on, plays_line_on, played_on, rounded_on, seat_of, shelf_at, starts_on};
+ghost use Rattle.disk_play.specs.Courses.{asked_of, begins_on, comes_on, deck_of, delivered_on, goes_out_on, happens_at, happens_on, opens_on, plays_line_on, played_on, rounded_on, seat_of, shelf_at, starts_on};
 ghost use Rattle.disk_play.specs.Standing.{GivesOf, Stands};
 
 use crate::Course;
@@ -82,7 +82,7 @@ impl<N: Shelved> DiskPlayer<N> {
         requires stands { Stands N.transition N.first N.shelf_of script.now self.old.course self.old.shelves.items }
         requires seat { seat_of self.old.course.stops (node_of event) ≡ Some seat }
         requires may { MayHappen self.old.course.player.world event }
-        ensures exact { OnOk result (self.new.course ≡ happens_at N.transition N.shelf_of self.old.course seat event) }
+        ensures exact { OnOk result (deck_of self.new.course self.new.shelves.items ≡ happens_at N.transition N.shelf_of (deck_of self.old.course self.old.shelves.items) seat event) }
         ensures stands { OnOk result (Stands N.transition N.first N.shelf_of script.now self.new.course self.new.shelves.items) }
     {
         let sent = self.course.player.world.sent.len();
@@ -104,7 +104,7 @@ impl<N: Shelved> DiskPlayer<N> {
         requires setup { IsSetup script.now.setup }
         requires stands { Stands N.transition N.first N.shelf_of script.now self.old.course self.old.shelves.items }
         requires may { MayHappen self.old.course.player.world event }
-        ensures exact { OnOk result (self.new.course ≡ happens_on N.transition N.shelf_of self.old.course event) }
+        ensures exact { OnOk result (deck_of self.new.course self.new.shelves.items ≡ happens_on N.transition N.shelf_of (deck_of self.old.course self.old.shelves.items) event) }
         ensures stands { OnOk result (Stands N.transition N.first N.shelf_of script.now self.new.course self.new.shelves.items) }
         ensures no_more { OnOk result (self.new.course.player.unanswered ≤ self.old.course.player.unanswered) }
     {
@@ -126,7 +126,7 @@ impl<N: Shelved> DiskPlayer<N> {
         requires setup { IsSetup script.now.setup }
         requires stands { Stands N.transition N.first N.shelf_of script.now self.old.course self.old.shelves.items }
         requires room { self.old.course.player.unanswered + 1 < 2 ^ 64 }
-        ensures exact { OnOk result (self.new.course ≡ begins_on N.transition N.shelf_of self.old.course node) }
+        ensures exact { OnOk result (deck_of self.new.course self.new.shelves.items ≡ begins_on N.transition N.shelf_of (deck_of self.old.course self.old.shelves.items) node) }
         ensures stands { OnOk result (Stands N.transition N.first N.shelf_of script.now self.new.course self.new.shelves.items) }
         ensures one_more { OnOk result (self.new.course.player.unanswered ≤ self.old.course.player.unanswered + 1) }
     {
@@ -142,7 +142,7 @@ impl<N: Shelved> DiskPlayer<N> {
     fn deliver(&mut self, alloc: Global, script: &Script, number: usize) -> Mem<()>
         requires setup { IsSetup script.now.setup }
         requires stands { Stands N.transition N.first N.shelf_of script.now self.old.course self.old.shelves.items }
-        ensures exact { OnOk result (self.new.course ≡ delivered_on N.transition N.shelf_of self.old.course number) }
+        ensures exact { OnOk result (deck_of self.new.course self.new.shelves.items ≡ delivered_on N.transition N.shelf_of (deck_of self.old.course self.old.shelves.items) number) }
         ensures stands { OnOk result (Stands N.transition N.first N.shelf_of script.now self.new.course self.new.shelves.items) }
         ensures no_more { OnOk result (self.new.course.player.unanswered ≤ self.old.course.player.unanswered) }
     {
@@ -159,7 +159,7 @@ impl<N: Shelved> DiskPlayer<N> {
     fn round(&mut self, alloc: Global, script: &Script) -> Mem<()>
         requires setup { IsSetup script.now.setup }
         requires stands { Stands N.transition N.first N.shelf_of script.now self.old.course self.old.shelves.items }
-        ensures exact { OnOk result (self.new.course ≡ rounded_on N.transition N.shelf_of self.old.course) }
+        ensures exact { OnOk result (deck_of self.new.course self.new.shelves.items ≡ rounded_on N.transition N.shelf_of (deck_of self.old.course self.old.shelves.items)) }
         ensures stands { OnOk result (Stands N.transition N.first N.shelf_of script.now self.new.course self.new.shelves.items) }
         ensures no_more { OnOk result (self.new.course.player.unanswered ≤ self.old.course.player.unanswered) }
     {
@@ -174,7 +174,7 @@ impl<N: Shelved> DiskPlayer<N> {
     fn come(&mut self, alloc: Global, script: &Script, next: Next) -> Mem<()>
         requires setup { IsSetup script.now.setup }
         requires stands { Stands N.transition N.first N.shelf_of script.now self.old.course self.old.shelves.items }
-        ensures exact { OnOk result (self.new.course ≡ comes_on N.transition N.shelf_of self.old.course next) }
+        ensures exact { OnOk result (deck_of self.new.course self.new.shelves.items ≡ comes_on N.transition N.shelf_of (deck_of self.old.course self.old.shelves.items) next) }
         ensures stands { OnOk result (Stands N.transition N.first N.shelf_of script.now self.new.course self.new.shelves.items) }
         ensures no_more { OnOk result (self.new.course.player.unanswered ≤ self.old.course.player.unanswered) }
     {
@@ -190,7 +190,7 @@ impl<N: Shelved> DiskPlayer<N> {
     fn go(&mut self, alloc: Global, script: &Script) -> Mem<()>
         requires setup { IsSetup script.now.setup }
         requires stands { Stands N.transition N.first N.shelf_of script.now self.old.course self.old.shelves.items }
-        ensures exact { OnOk result (self.new.course ≡ goes_out_on N.transition N.shelf_of self.old.course) }
+        ensures exact { OnOk result (deck_of self.new.course self.new.shelves.items ≡ goes_out_on N.transition N.shelf_of (deck_of self.old.course self.old.shelves.items)) }
         ensures stands { OnOk result (Stands N.transition N.first N.shelf_of script.now self.new.course self.new.shelves.items) }
         ensures no_more { OnOk result (self.new.course.player.unanswered ≤ self.old.course.player.unanswered) }
     {
@@ -213,7 +213,7 @@ impl<N: Shelved> DiskPlayer<N> {
         requires setup { IsSetup script.now.setup }
         requires stands { Stands N.transition N.first N.shelf_of script.now self.old.course self.old.shelves.items }
         requires room { self.old.course.player.unanswered + 1 < 2 ^ 64 }
-        ensures exact { OnOk result (self.new.course ≡ opens_on N.transition N.shelf_of self.old.course work.now) }
+        ensures exact { OnOk result (deck_of self.new.course self.new.shelves.items ≡ opens_on N.transition N.shelf_of (deck_of self.old.course self.old.shelves.items) work.now) }
         ensures stands { OnOk result (Stands N.transition N.first N.shelf_of script.now self.new.course self.new.shelves.items) }
         ensures one_more { OnOk result (self.new.course.player.unanswered ≤ self.old.course.player.unanswered + 1) }
     {
@@ -232,7 +232,7 @@ impl<N: Shelved> DiskPlayer<N> {
         requires setup { IsSetup script.now.setup }
         requires stands { Stands N.transition N.first N.shelf_of script.now self.old.course self.old.shelves.items }
         requires room { self.old.course.player.unanswered + 1 < 2 ^ 64 }
-        ensures exact { OnOk result (self.new.course ≡ plays_line_on N.transition N.shelf_of self.old.course line.now) }
+        ensures exact { OnOk result (deck_of self.new.course self.new.shelves.items ≡ plays_line_on N.transition N.shelf_of (deck_of self.old.course self.old.shelves.items) line.now) }
         ensures stands { OnOk result (Stands N.transition N.first N.shelf_of script.now self.new.course self.new.shelves.items) }
         ensures one_more { OnOk result (self.new.course.player.unanswered ≤ self.old.course.player.unanswered + 1) }
     {
@@ -243,7 +243,7 @@ impl<N: Shelved> DiskPlayer<N> {
     /// The play before the first line: each server has an empty shelf on an empty disk.
     fn start(alloc: Global, script: &Script) -> Mem<DiskPlayer<N>>
         requires { IsSetup script.now.setup }
-        ensures exact { IfOk result (λ player. player.course ≡ starts_on N.first script.now) }
+        ensures exact { IfOk result (λ player. deck_of player.course player.shelves.items ≡ starts_on N.first script.now) }
         ensures stands { IfOk result (λ player. Stands N.transition N.first N.shelf_of script.now player.course player.shelves.items) }
     {
         let course = Course {
@@ -258,7 +258,7 @@ impl<N: Shelved> DiskPlayer<N> {
     #[tactic(auto, unfolding(crate::specs::Courses::played_on))]
     fn lines(alloc: Global, script: &Script) -> Mem<DiskPlayer<N>>
         requires { IsSetup script.now.setup }
-        ensures exact { IfOk result (λ player. player.course ≡ played_on N.transition N.shelf_of N.first script.now) }
+        ensures exact { IfOk result (λ player. deck_of player.course player.shelves.items ≡ played_on N.transition N.shelf_of N.first script.now) }
         ensures stands { IfOk result (λ player. Stands N.transition N.first N.shelf_of script.now player.course player.shelves.items) }
     {
         let mut player = DiskPlayer::start(alloc, script)?;
@@ -272,7 +272,7 @@ impl<N: Shelved> DiskPlayer<N> {
     /// and the shelf of each server is on its disk.
     pub fn play(alloc: Global, script: &Script) -> Mem<DiskPlayer<N>>
         requires { IsSetup script.now.setup }
-        ensures exact { IfOk result (λ player. player.course ≡ played_on N.transition N.shelf_of N.first script.now) }
+        ensures exact { IfOk result (λ player. deck_of player.course player.shelves.items ≡ played_on N.transition N.shelf_of N.first script.now) }
         ensures stands { IfOk result (λ player. Stands N.transition N.first N.shelf_of script.now player.course player.shelves.items) }
         ensures in_order { IfOk result (λ player. begun_in player.course.player.events ≡ actors_of script.now.lines) }
         ensures complete { IfOk result (λ player. BeginsAll script.now.lines player.course.player.events) }

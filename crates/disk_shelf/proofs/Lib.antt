@@ -1,6 +1,7 @@
 mod Changes
 mod Crash
 mod Deeds
+mod Doing
 mod Drives
 mod Exits
 mod Lists

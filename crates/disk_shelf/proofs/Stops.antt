@@ -11,7 +11,9 @@ use Rattle.disk_shelf.specs.Records.{DiskState, Fits, IsAtRest, StandsFor, after
 use Rattle.disk_shelf.specs.Steps.{AppendedBy, PutBy}
 use Rattle.disk_shelf.specs.Stops.{ChangesEndByPasses, EndsByPasses, MemTook, is_answered, is_there, passes_after}
 use Rattle.disk_shelf.proofs.Crash.{torn_behind, written_behind, written_gate}
+use Rattle.disk_shelf.specs.Drives.{gate_of, put_on, then_on, with_record}
 use Rattle.disk_shelf.proofs.Deeds.{deeds_more}
+use Rattle.disk_shelf.proofs.Doing.{appended_so, gate_is}
 use Rattle.disk_shelf.proofs.Overwriting.{half_torn, over_writes}
 use Rattle.disk_shelf.proofs.Rest.{closed_stands, open_stands, rest_closed, rest_goes_on}
 use Rattle.xfs_base.proofs.Booleans.{contrary}
@@ -217,7 +219,8 @@ module _ (m : MemState) (s : DiskState) (r : Record) (gate : ℕ) (rests : MemRe
       open_stands (λ (x : MemState). disk_bytes x) (λ (x : MemState) (d : List ℕ). IsImage (images x.drive.deeds) d) m gate s rests r fits c
       (written_gate front gate shut.gate rest shut.place shut.shut behind c (subst (λ (d : List ℕ). Writes d gate (1 ∷ []) c) is writes))
 
-module _ (old : MemState) (s t : DiskState) (ok : Bool) (new : MemState) (runs : old.drive.stopped ≡ false) (took : MemTook old s t ok new) where
+module _ (old : MemState) (s t : DiskState) (change : Record) (ok : Bool) (new : MemState) (runs : old.drive.stopped ≡ false)
+    (took : MemTook old s t change ok new) where
   abbrev m : MemState
   m = took.roomy
 
@@ -232,34 +235,48 @@ module _ (old : MemState) (s t : DiskState) (ok : Bool) (new : MemState) (runs :
   passes_are : m.drive.passes ≡ old.drive.passes
   passes_are = ap (λ (d : Drive). d.passes) took.room
 
+  -- all that was done to it
+  did : (new.drive ≡ with_record change old.drive) × (ok ≡ not new.drive.stopped)
+  did =
+      let all = appended_so gate (text change ++ 0 ∷ []) m ok new took.appended in
+      let at : gate ≡ gate_of old.drive = sym (gate_is took.rests.records gate (disk_bytes old) took.rests.fit took.rests.closed) in (
+        all.0 ∙ ap (λ (d : Drive). then_on (put_on gate (1 ∷ [])) (put_on (gate + 1) (text change ++ 0 ∷ []) d)) took.room
+            ∙ ap (λ g. then_on (put_on g (1 ∷ [])) (put_on (g + 1) (text change ++ 0 ∷ []) old.drive)) at,
+        all.1,
+      )
+
   runs_still : m.drive.stopped ≡ false
   runs_still = ap (λ (d : Drive). d.stopped) took.room ∙ runs
 
-  ends_so : EndsByPasses old s t ok new
+  ends_so : EndsByPasses old s t change ok new
   ends_so = by took.appended
     where
-      by : MemAppended m gate (text took.change ++ 0 ∷ []) ok new → EndsByPasses old s t ok new
+      by : MemAppended m gate (text change ++ 0 ∷ []) ok new → EndsByPasses old s t change ok new
       by (inl (put, is_cut)) =
-          let ends = put_ends (gate + 1) (text took.change ++ 0 ∷ []) m false new runs_still put in
+          let ends = put_ends (gate + 1) (text change ++ 0 ∷ []) m false new runs_still put in
           let few : has_two old.drive.passes ≡ false = sym (ends.answered ∙ ap has_two passes_are) in
           let so = not_four old.drive.passes few in
           record {
+            drive = did.0;
+            runs = did.1;
             answered = is_cut ∙ sym so.0;
             passed = λ yes. no_true (sym yes ∙ is_cut);
-            cut = λ no. subst (λ (b : Bool). StandsFor (cond b t s) (disk_bytes new)) (sym so.1) (cut_before m s took.change gate roomy new ends);
+            cut = λ no. subst (λ (b : Bool). StandsFor (cond b t s) (disk_bytes new)) (sym so.1) (cut_before m s change gate roomy new ends);
           }
       by (inr (mid, put, over)) =
-          let first = put_ends (gate + 1) (text took.change ++ 0 ∷ []) m true mid runs_still put in
+          let first = put_ends (gate + 1) (text change ++ 0 ∷ []) m true mid runs_still put in
           let went = first.passed refl in
           let second = put_ends gate (1 ∷ []) mid ok new went.2 over in
           let so = four_of old.drive.passes (sym (first.answered ∙ ap has_two passes_are)) in
           let left : mid.drive.passes ≡ two_less old.drive.passes = went.1 ∙ ap two_less passes_are in
           record {
+            drive = did.0;
+            runs = did.1;
             answered = second.answered ∙ ap has_two left ∙ so.0;
             passed = λ yes. ((second.passed yes).1 ∙ ap two_less left ∙ so.1, (second.passed yes).2);
             cut = λ no. subst (λ (b : Bool). StandsFor (cond b t s) (disk_bytes new)) (sym so.2)
-                (subst (λ (u : DiskState). StandsFor u (disk_bytes new)) took.makes (cut_after m s took.change gate roomy mid new took.fits first (subst (λ (b : Bool). PutEnds mid gate (1 ∷ []) b new) no second)));
+                (subst (λ (u : DiskState). StandsFor u (disk_bytes new)) took.makes (cut_after m s change gate roomy mid new took.fits first (subst (λ (b : Bool). PutEnds mid gate (1 ∷ []) b new) no second)));
           }
 
 pub changes_end_by_passes : ChangesEndByPasses
-changes_end_by_passes old s t ok new runs took = ends_so old s t ok new runs took
+changes_end_by_passes old s t change ok new runs took = ends_so old s t change ok new runs took

@@ -1,6 +1,7 @@
 pub mod Asks
 pub mod Deeds
 pub mod Disk
+pub mod Drives
 pub mod Gates
 pub mod Kept
 pub mod MemDisk

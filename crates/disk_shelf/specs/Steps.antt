@@ -1,5 +1,5 @@
--- What a change makes of a disk, call by call, where a disk tells what each of its calls makes of it.
-use Rattle.std.specs.Prelude.{◌≡◌, ◌⊎◌, ℕ, ◌+◌, Bool, true, false, List, [], ◌∷◌, ◌++◌}
+-- What opening makes of a disk, and a change, call by call, where a disk tells what each of its calls makes of it.
+use Rattle.std.specs.Prelude.{◌≡◌, ◌⊎◌, ℕ, ◌+◌, ◌<◌, ◌≤◌, Bool, true, false, List, [], ◌∷◌, ◌++◌, length}
 use Rattle.disk_shelf.specs.declared.record.Record.{Record}
 use Rattle.disk_shelf.specs.Records.{DiskState, Fits, IsAtRest, after_record, text}
 
@@ -13,11 +13,10 @@ module _ {D : Type 0} (by_write : D → ℕ → List ℕ → Bool → D → Type
   AppendedBy old gate behind ok new =
       (PutBy old (gate + 1) behind false new × (ok ≡ false)) ⊎ ((mid : D) × PutBy old (gate + 1) behind true mid × PutBy mid gate (1 ∷ []) ok new)
 
--- A disk at rest took a record that makes the one state of the other, for which room was made, or it failed within that.
+-- A disk at rest took this record, which makes the one state of the other and for which room was made, or it failed within that.
 pub record TookRecord {D : Type 0} (seen : D → List ℕ) (may_leave : D → List ℕ → Type 0) (by_room : D → D → Type 0)
-    (by_write : D → ℕ → List ℕ → Bool → D → Type 0) (by_sync : D → Bool → D → Type 0) (old : D) (s t : DiskState) (ok : Bool) (new : D)
+    (by_write : D → ℕ → List ℕ → Bool → D → Type 0) (by_sync : D → Bool → D → Type 0) (old : D) (s t : DiskState) (change : Record) (ok : Bool) (new : D)
     : Type 0 where
-  pub change : Record
   pub fits : Fits change
   pub makes : after_record s change ≡ t
   pub gate : ℕ
@@ -25,3 +24,19 @@ pub record TookRecord {D : Type 0} (seen : D → List ℕ) (may_leave : D → Li
   pub roomy : D
   pub room : by_room old roomy
   pub appended : AppendedBy by_write by_sync roomy gate (text change ++ 0 ∷ []) ok new
+
+-- a sync, for which room was made; and then the first gate, where the disk has one byte at most
+pub record SettledBy {D : Type 0} (seen : D → List ℕ) (by_room : D → D → Type 0) (by_write : D → ℕ → List ℕ → Bool → D → Type 0)
+    (by_sync : D → Bool → D → Type 0) (old new : D) : Type 0 where
+  pub roomy : D
+  pub room : by_room old roomy
+  pub synced : D
+  pub sync : by_sync roomy true synced
+  pub gate : (1 < length (seen synced)) × (new ≡ synced) ⊎ (length (seen synced) ≤ 1) × PutBy by_write by_sync synced 0 (0 ∷ []) true new
+
+-- and then a read of all
+pub record OpenedBy {D : Type 0} (seen : D → List ℕ) (by_room : D → D → Type 0) (by_read : D → Bool → D → Type 0)
+    (by_write : D → ℕ → List ℕ → Bool → D → Type 0) (by_sync : D → Bool → D → Type 0) (old new : D) : Type 0 where
+  pub settled : D
+  pub settles : SettledBy seen by_room by_write by_sync old settled
+  pub read : by_read settled true new

@@ -1,7 +1,7 @@
 //! Changes of a shelf on a disk, one after the other.
 ghost use Rattle.std.specs.Prelude.{◌≡◌, ◌≢◌, ◌⊎◌, ◌↔◌, ◌<◌, ◌≤◌, ◌+◌, ◌^◌, List, ℕ, length, take, true, false, IfOk, OnOk, IsErrOf, IsTrue, IsFalse, All};
 ghost use Rattle.disk_shelf.specs.declared.disk_error.DiskError.TheVariants.{Fault};
-ghost use Rattle.disk_shelf.specs.Asks.{after_ask, after_asks, IsSmall, StandsForSome};
+ghost use Rattle.disk_shelf.specs.Asks.{after_ask, after_asks, record_of, IsSmall, StandsForSome};
 ghost use Rattle.disk_shelf.specs.Disk.{LeavesOnly};
 ghost use Rattle.disk_shelf.specs.Kept.{LeavesEither};
 ghost use Rattle.disk_shelf.specs.Records.{StandsFor, Leaves};
@@ -41,8 +41,8 @@ impl<D: Disk> DiskShelf<D> {
         ensures any_moment { LeavesEither D.moment D.left_since self.old self.new (after_ask self.old.state ask) }
         ensures same { (e : _) → e ≢ Fault → IsErrOf result e → self.new.state ≡ self.old.state }
         ensures closes { IsTrue self.new.closed ↔ (IsTrue self.old.closed ⊎ IsErrOf result Fault) }
-        ensures exact { OnOk result ((self.new ≡ self.old) ⊎ TookRecord D.seen D.may_leave D.by_room D.by_write D.by_sync self.old.disk self.old.state (after_ask self.old.state ask) true self.new.disk) }
-        ensures cut { IsErrOf result Fault → TookRecord D.seen D.may_leave D.by_room D.by_write D.by_sync self.old.disk self.old.state (after_ask self.old.state ask) false self.new.disk }
+        ensures exact { OnOk result ((self.new ≡ self.old) ⊎ TookRecord D.seen D.may_leave D.by_room D.by_write D.by_sync self.old.disk self.old.state (after_ask self.old.state ask) (record_of self.old.state.shelf ask) true self.new.disk) }
+        ensures cut { IsErrOf result Fault → TookRecord D.seen D.may_leave D.by_room D.by_write D.by_sync self.old.disk self.old.state (after_ask self.old.state ask) (record_of self.old.state.shelf ask) false self.new.disk }
     {
         match ask {
             Ask::Store(fragment, generation) => self.store(alloc, fragment, generation),

@@ -9,7 +9,7 @@ use xfs_base::{Failed, Mem};
 /// Bytes that outlast a crash. A disk means what it reads now, the images that a crash now may leave, those of
 /// all moments since an earlier one, how often it failed, and for how many more writes and syncs, and bytes in
 /// them, room was made. What it reads is one of its images. A disk that a contract may follow call by call says what
-/// each call that changes it makes of it; of any other these three say nothing.
+/// each call makes of it; of any other these four say nothing.
 pub trait Disk {
     /// What it reads now.
     ghost seen: { Self → List ℕ };
@@ -35,6 +35,9 @@ pub trait Disk {
     /// What making room makes of it.
     ghost by_room: { Self → Self → Type 0 };
 
+    /// What a read makes of it, answered `Ok` or not.
+    ghost by_read: { Self → Bool → Self → Type 0 };
+
     /// What a write of these bytes at this offset makes of it, answered `Ok` or not.
     ghost by_write: { Self → ℕ → List ℕ → Bool → Self → Type 0 };
 
@@ -54,7 +57,8 @@ pub trait Disk {
         ensures crash { NoOther (may_leave self.old) (may_leave self.new) }
         ensures time { Elapses (moment self.old) (moment self.new) (left_since self.old) (left_since self.new) (may_leave self.new) }
         ensures spare { Uses 0 0 (calls_left self.old) (bytes_left self.old) (calls_left self.new) (bytes_left self.new) }
-        ensures cause { CountsFaults (faults self.old) (faults self.new) result };
+        ensures cause { CountsFaults (faults self.old) (faults self.new) result }
+        ensures exact { by_read self.old (is_ok result) self.new };
 
     /// Makes room for at least so many writes and syncs, and so many bytes in them, so that these take no memory.
     /// It changes nothing else, also where memory is wanting, and is itself neither of them.

@@ -12,7 +12,8 @@ ghost use Rattle.disk_shelf.specs.Kept.{Kept, LeavesEither, in_disk};
 ghost use Rattle.disk_shelf.specs.MemDisk.{disk_bytes, set_to_stop, started};
 ghost use Rattle.disk_shelf.specs.Opening.{disk_of, HasCause};
 ghost use Rattle.disk_shelf.specs.Reading.{StandsAs};
-ghost use Rattle.disk_shelf.specs.Steps.{TookRecord};
+ghost use Rattle.disk_shelf.specs.Drives.{reopened};
+ghost use Rattle.disk_shelf.specs.Steps.{OpenedBy, TookRecord};
 
 use crate::applied::apply;
 use crate::durable::append;
@@ -78,8 +79,8 @@ impl<D: Disk> DiskShelf<D> {
         ensures fault { IsErrOf result Fault → Rose (D.faults self.old.disk) (D.faults self.new.disk) }
         ensures no_other { (e : _) → IsErrOf result e → (e ≡ Memory) ⊎ (e ≡ Fault) }
         ensures closed { IsTrue self.new.closed ↔ IsErrOf result Fault }
-        ensures exact { OnOk result (TookRecord D.seen D.may_leave D.by_room D.by_write D.by_sync self.old.disk self.old.state (after_record self.old.state change) true self.new.disk) }
-        ensures cut { IsErrOf result Fault → TookRecord D.seen D.may_leave D.by_room D.by_write D.by_sync self.old.disk self.old.state (after_record self.old.state change) false self.new.disk }
+        ensures exact { OnOk result (TookRecord D.seen D.may_leave D.by_room D.by_write D.by_sync self.old.disk self.old.state (after_record self.old.state change) change true self.new.disk) }
+        ensures cut { IsErrOf result Fault → TookRecord D.seen D.may_leave D.by_room D.by_write D.by_sync self.old.disk self.old.state (after_record self.old.state change) change false self.new.disk }
     {
         let gate = self.gate;
         let behind = encode(alloc, &change)?;
@@ -124,8 +125,8 @@ impl<D: Disk> DiskShelf<D> {
         ensures same { (e : _) → e ≢ Fault → IsErrOf result e → (self.new.state ≡ self.old.state) × (D.seen self.new.disk ≡ D.seen self.old.disk) }
         ensures fault { IsErrOf result Fault → Rose (D.faults self.old.disk) (D.faults self.new.disk) }
         ensures closes { IsTrue self.new.closed ↔ (IsTrue self.old.closed ⊎ IsErrOf result Fault) }
-        ensures exact { OnOk result ((self.new ≡ self.old) ⊎ TookRecord D.seen D.may_leave D.by_room D.by_write D.by_sync self.old.disk self.old.state (after_record self.old.state (Record.Fence log pass)) true self.new.disk) }
-        ensures cut { IsErrOf result Fault → TookRecord D.seen D.may_leave D.by_room D.by_write D.by_sync self.old.disk self.old.state (after_record self.old.state (Record.Fence log pass)) false self.new.disk }
+        ensures exact { OnOk result ((self.new ≡ self.old) ⊎ TookRecord D.seen D.may_leave D.by_room D.by_write D.by_sync self.old.disk self.old.state (after_record self.old.state (Record.Fence log pass)) (Record.Fence log pass) true self.new.disk) }
+        ensures cut { IsErrOf result Fault → TookRecord D.seen D.may_leave D.by_room D.by_write D.by_sync self.old.disk self.old.state (after_record self.old.state (Record.Fence log pass)) (Record.Fence log pass) false self.new.disk }
     {
         if self.closed {
             return Err(DiskError::Closed);
@@ -152,8 +153,8 @@ impl<D: Disk> DiskShelf<D> {
         ensures same { (e : _) → e ≢ Fault → IsErrOf result e → (self.new.state ≡ self.old.state) × (D.seen self.new.disk ≡ D.seen self.old.disk) }
         ensures fault { IsErrOf result Fault → Rose (D.faults self.old.disk) (D.faults self.new.disk) }
         ensures closes { IsTrue self.new.closed ↔ (IsTrue self.old.closed ⊎ IsErrOf result Fault) }
-        ensures exact { OnOk result ((self.new ≡ self.old) ⊎ TookRecord D.seen D.may_leave D.by_room D.by_write D.by_sync self.old.disk self.old.state (after_record self.old.state (Record.Welcome generation)) true self.new.disk) }
-        ensures cut { IsErrOf result Fault → TookRecord D.seen D.may_leave D.by_room D.by_write D.by_sync self.old.disk self.old.state (after_record self.old.state (Record.Welcome generation)) false self.new.disk }
+        ensures exact { OnOk result ((self.new ≡ self.old) ⊎ TookRecord D.seen D.may_leave D.by_room D.by_write D.by_sync self.old.disk self.old.state (after_record self.old.state (Record.Welcome generation)) (Record.Welcome generation) true self.new.disk) }
+        ensures cut { IsErrOf result Fault → TookRecord D.seen D.may_leave D.by_room D.by_write D.by_sync self.old.disk self.old.state (after_record self.old.state (Record.Welcome generation)) (Record.Welcome generation) false self.new.disk }
     {
         if self.closed {
             return Err(DiskError::Closed);
@@ -177,8 +178,8 @@ impl<D: Disk> DiskShelf<D> {
         ensures same { (e : _) → e ≢ Fault → IsErrOf result e → (self.new.state ≡ self.old.state) × (D.seen self.new.disk ≡ D.seen self.old.disk) }
         ensures fault { IsErrOf result Fault → Rose (D.faults self.old.disk) (D.faults self.new.disk) }
         ensures closes { IsTrue self.new.closed ↔ (IsTrue self.old.closed ⊎ IsErrOf result Fault) }
-        ensures exact { OnOk result (TookRecord D.seen D.may_leave D.by_room D.by_write D.by_sync self.old.disk self.old.state (record self.old.state { shelf = on_lose self.old.state.shelf }) true self.new.disk) }
-        ensures cut { IsErrOf result Fault → TookRecord D.seen D.may_leave D.by_room D.by_write D.by_sync self.old.disk self.old.state (record self.old.state { shelf = on_lose self.old.state.shelf }) false self.new.disk }
+        ensures exact { OnOk result (TookRecord D.seen D.may_leave D.by_room D.by_write D.by_sync self.old.disk self.old.state (record self.old.state { shelf = on_lose self.old.state.shelf }) (Record.Began (on_lose self.old.state.shelf).generation) true self.new.disk) }
+        ensures cut { IsErrOf result Fault → TookRecord D.seen D.may_leave D.by_room D.by_write D.by_sync self.old.disk self.old.state (record self.old.state { shelf = on_lose self.old.state.shelf }) (Record.Began (on_lose self.old.state.shelf).generation) false self.new.disk }
     {
         if self.closed {
             return Err(DiskError::Closed);
@@ -200,8 +201,8 @@ impl<D: Disk> DiskShelf<D> {
         ensures same { (e : _) → e ≢ Fault → IsErrOf result e → (self.new.state ≡ self.old.state) × (D.seen self.new.disk ≡ D.seen self.old.disk) }
         ensures fault { IsErrOf result Fault → Rose (D.faults self.old.disk) (D.faults self.new.disk) }
         ensures closes { IsTrue self.new.closed ↔ (IsTrue self.old.closed ⊎ IsErrOf result Fault) }
-        ensures exact { OnOk result ((self.new ≡ self.old) ⊎ TookRecord D.seen D.may_leave D.by_room D.by_write D.by_sync self.old.disk self.old.state (record self.old.state { shelf = on_delete self.old.state.shelf name }) true self.new.disk) }
-        ensures cut { IsErrOf result Fault → TookRecord D.seen D.may_leave D.by_room D.by_write D.by_sync self.old.disk self.old.state (record self.old.state { shelf = on_delete self.old.state.shelf name }) false self.new.disk }
+        ensures exact { OnOk result ((self.new ≡ self.old) ⊎ TookRecord D.seen D.may_leave D.by_room D.by_write D.by_sync self.old.disk self.old.state (record self.old.state { shelf = on_delete self.old.state.shelf name }) (Record.Deleted name) true self.new.disk) }
+        ensures cut { IsErrOf result Fault → TookRecord D.seen D.may_leave D.by_room D.by_write D.by_sync self.old.disk self.old.state (record self.old.state { shelf = on_delete self.old.state.shelf name }) (Record.Deleted name) false self.new.disk }
     {
         if self.closed {
             return Err(DiskError::Closed);
@@ -228,8 +229,8 @@ impl<D: Disk> DiskShelf<D> {
         ensures same { (e : _) → e ≢ Fault → IsErrOf result e → (self.new.state ≡ self.old.state) × (D.seen self.new.disk ≡ D.seen self.old.disk) }
         ensures fault { IsErrOf result Fault → Rose (D.faults self.old.disk) (D.faults self.new.disk) }
         ensures closes { IsTrue self.new.closed ↔ (IsTrue self.old.closed ⊎ IsErrOf result Fault) }
-        ensures exact { OnOk result ((self.new ≡ self.old) ⊎ TookRecord D.seen D.may_leave D.by_room D.by_write D.by_sync self.old.disk self.old.state (record self.old.state { shelf = on_fill self.old.state.shelf fragment }) true self.new.disk) }
-        ensures cut { IsErrOf result Fault → TookRecord D.seen D.may_leave D.by_room D.by_write D.by_sync self.old.disk self.old.state (record self.old.state { shelf = on_fill self.old.state.shelf fragment }) false self.new.disk }
+        ensures exact { OnOk result ((self.new ≡ self.old) ⊎ TookRecord D.seen D.may_leave D.by_room D.by_write D.by_sync self.old.disk self.old.state (record self.old.state { shelf = on_fill self.old.state.shelf fragment }) (Record.Held fragment) true self.new.disk) }
+        ensures cut { IsErrOf result Fault → TookRecord D.seen D.may_leave D.by_room D.by_write D.by_sync self.old.disk self.old.state (record self.old.state { shelf = on_fill self.old.state.shelf fragment }) (Record.Held fragment) false self.new.disk }
     {
         if self.closed {
             return Err(DiskError::Closed);
@@ -265,8 +266,8 @@ impl<D: Disk> DiskShelf<D> {
         ensures same { (e : _) → e ≢ Fault → IsErrOf result e → (self.new.state ≡ self.old.state) × (D.seen self.new.disk ≡ D.seen self.old.disk) }
         ensures fault { IsErrOf result Fault → Rose (D.faults self.old.disk) (D.faults self.new.disk) }
         ensures closes { IsTrue self.new.closed ↔ (IsTrue self.old.closed ⊎ IsErrOf result Fault) }
-        ensures exact { OnOk result ((self.new ≡ self.old) ⊎ TookRecord D.seen D.may_leave D.by_room D.by_write D.by_sync self.old.disk self.old.state (record self.old.state { shelf = kept self.old.state.shelf fragment }) true self.new.disk) }
-        ensures cut { IsErrOf result Fault → TookRecord D.seen D.may_leave D.by_room D.by_write D.by_sync self.old.disk self.old.state (record self.old.state { shelf = kept self.old.state.shelf fragment }) false self.new.disk }
+        ensures exact { OnOk result ((self.new ≡ self.old) ⊎ TookRecord D.seen D.may_leave D.by_room D.by_write D.by_sync self.old.disk self.old.state (record self.old.state { shelf = kept self.old.state.shelf fragment }) (Record.Held fragment) true self.new.disk) }
+        ensures cut { IsErrOf result Fault → TookRecord D.seen D.may_leave D.by_room D.by_write D.by_sync self.old.disk self.old.state (record self.old.state { shelf = kept self.old.state.shelf fragment }) (Record.Held fragment) false self.new.disk }
     {
         if self.closed {
             return Err(DiskError::Closed);
@@ -371,6 +372,7 @@ impl DiskShelf<MemDisk> {
         ensures stands { OnOk result (StandsFor self.new.state (disk_bytes self.old.disk)) }
         ensures open { OnOk result (IsFalse self.new.closed) }
         ensures runs { OnOk result (IsFalse self.new.disk.drive.stopped × (self.new.disk.drive.passes ≡ None)) }
+        ensures exact { OnOk result (self.new.disk.drive ≡ reopened self.old.disk.drive) }
     {
         self.closed = true;
         let mut disk = mem::replace(&mut self.disk, MemDisk::new(alloc));
@@ -404,6 +406,7 @@ pub fn open<D: Disk>(alloc: Global, disk: D) -> Result<DiskShelf<D>, OpenError<D
     ensures any_moment { IfOk result (λ s. LeavesOnly D.moment D.left_since disk s.disk (λ c. D.may_leave disk c ⊎ StandsAs (D.seen disk) c)) }
     ensures any_moment_err { IfErr result (λ e. LeavesOnly D.moment D.left_since disk (disk_of e) (λ c. D.may_leave disk c ⊎ StandsAs (D.seen disk) c)) }
     ensures cause { IfErr result (HasCause D.seen D.faults disk) }
+    ensures exact { IfOk result (λ s. OpenedBy D.seen D.by_room D.by_read D.by_write D.by_sync disk s.disk) }
 {
     let mut disk = disk;
     let bytes = match settled(alloc, &mut disk) {

@@ -21,7 +21,9 @@ pub use ask::Ask;
 pub use disk::Disk;
 pub use disk_error::{DiskError, OpenError};
 pub use disk_shelf::{DiskShelf, open};
-pub use laws::{a_change_ends_by_the_passes_of_a_stop, an_image_stands_for_one_state};
+pub use laws::{
+    a_change_ends_by_the_passes_of_a_stop, an_image_stands_for_one_state, an_opened_disk_has_a_gate,
+};
 pub use mem_disk::MemDisk;
 pub use record::Record;
 

@@ -165,6 +165,8 @@ impl Disk for MemDisk {
 
     ghost by_room = { λ m n. n.drive ≡ m.drive };
 
+    ghost by_read = { λ m ok n. (n.drive ≡ (if m.drive.stopped then failed m.drive else m.drive)) × (ok ≡ not m.drive.stopped) };
+
     ghost by_write = { λ m at piece ok n. (n.drive ≡ acted m.drive (Write at piece)) × (ok ≡ not n.drive.stopped) };
 
     ghost by_sync = { λ m ok n. (n.drive ≡ acted m.drive Sync) × (ok ≡ not n.drive.stopped) };
@@ -193,9 +195,7 @@ impl Disk for MemDisk {
         ensures spare { Uses 0 0 self.old.calls_left self.old.bytes_left self.new.calls_left self.new.bytes_left }
         ensures cause { CountsFaults self.old.drive.faults self.new.drive.faults result }
         // It fails exactly where the disk is stopped, and does nothing else.
-        ensures drive { self.new.drive ≡ (if self.old.drive.stopped then failed self.old.drive else self.old.drive) }
-        ensures ok { OnOk result (IsFalse self.old.drive.stopped) }
-        ensures err { OnErr result (IsTrue self.old.drive.stopped) }
+        ensures exact { (self.new.drive ≡ (if self.old.drive.stopped then failed self.old.drive else self.old.drive)) × (is_ok result ≡ not self.old.drive.stopped) }
     {
         if self.stopped {
             return Err(self.refuse());

@@ -7,7 +7,8 @@ use Rattle.board_play.specs.declared.estate.BoardEstate.{BoardEstate}
 use Rattle.board_play.specs.Played.{IsBoardPlayed}
 use Rattle.board_play.specs.Plays.{estate_of as board_estate_of}
 use Rattle.board_world.specs.declared.board_event.BoardEvent.{BoardEvent}
-use Rattle.disk_play.specs.Courses.{disk_estate_of, shelf_at}
+use Rattle.disk_play.specs.Courses.{disk_estate_of, disks_of}
+use Rattle.disk_play.specs.Disks.{OnDisk}
 use Rattle.disk_play.specs.Standing.{DisksStand}
 use Rattle.disk_shelf.specs.MemDisk.{MemState, disk_bytes}
 use Rattle.disk_shelf.specs.Records.{DiskState, StandsFor}
@@ -28,7 +29,6 @@ use Rattle.wire_msg.specs.NodeStep.{NodeStep}
 use Rattle.world_base.specs.declared.estate.Estate.{Estate}
 use Rattle.world_base.specs.Runs.{BeginsAll, IsRun, begun_in}
 use Rattle.xfs_base.specs.declared.node.NodeId.{NodeId}
-use Rattle.xfs_base.specs.declared.node.NodeId.TheVariants.{Server}
 use Rattle.xfs_base.specs.declared.setup.Setup.{Setup}
 use Rattle.xfs_base.specs.Causes.{Rose}
 use Rattle.top_call.specs.declared.command.Command.{Command}
@@ -36,7 +36,7 @@ use Rattle.top_call.specs.declared.command.Command.TheVariants.{Run, Live, Mount
 use Rattle.top_call.specs.declared.outcome.Outcome.{Outcome}
 use Rattle.top_call.specs.Commands.{plays_plainly, reads}
 use Rattle.top_call.specs.Claim.{Wanted, Writing, Reading, reading, writing, line, run_answer, IsRead, IsInput, Tells, GivesUp, TellsOrGivesUp, CannotRead, Wants, AnswersOrGivesUp, Ends, IsPlayed, IsPlayedWithBoards, IsPlayedWithDisks, IsRunBy, TellsDisks, TellsLive, boards_in, boards_of, Claim}
-use Rattle.top_call.specs.Disks.{DisksGive, DisksIn, Gives, LeavesDisks}
+use Rattle.top_call.specs.Disks.{DisksGive, DisksIn, LeavesDisks}
 use Rattle.top_call.specs.Mounts.{LeavesMounts, MountsIn}
 use Rattle.top_call.specs.Spoken.{usage_text}
 use Rattle.top_call.specs.Told.{boards_where, disks_where, lists_where}
@@ -71,23 +71,21 @@ pub run_told : {N : Type 0} (s : Writing) (o : Outcome N) (text wanted : List �
 run_told s o text wanted e k h = subst (λ x. Tells s o (run_answer x e)) k h
 
 -- an image stands for one state at most, so the disks give what they stand for
-module _ (one : (s t : DiskState) (image : List ℕ) → StandsFor s image → StandsFor t image → s ≡ t) where
-  gives_that : (kept : Option ShelfState) (disk : MemState)
-      → (shelf : ShelfState) × (welcomed : ℕ) × (kept ≡ Some shelf) × StandsFor (record { shelf = shelf; welcomed = welcomed }) (disk_bytes disk)
-      → (shelf : ShelfState) × (kept ≡ Some shelf) × Gives disk shelf
-  gives_that kept disk (shelf, welcomed, is, stands) =
-      let that : DiskState = record { shelf = shelf; welcomed = welcomed } in (
-        shelf,
-        is,
-        record { welcomed = welcomed; stands = stands; only = λ s other. ap (λ (x : DiskState). x.shelf) (one s that (disk_bytes disk) other stands) },
-      )
-
-  pub disks_give : {N : Type 0} (shelf_of : N → Option ShelfState) (e : Estate N) (disks : List MemState) → DisksStand shelf_of e disks
-      → DisksGive shelf_of e disks
-  disks_give shelf_of e disks h = record {
-    count = h.count;
-    each = λ place disk is. gives_that (shelf_at shelf_of e.world (Server (place + 1))) disk (h.each place disk is);
-  }
+pub disks_give : ((s t : DiskState) (image : List ℕ) → StandsFor s image → StandsFor t image → s ≡ t) → {N : Type 0} (shelf_of : N → Option ShelfState)
+    (e : Estate N) (told : List OnDisk) (disks : List MemState) → DisksStand shelf_of e told disks → DisksGive shelf_of e told disks
+disks_give one shelf_of e told disks h = record {
+  count = h.count;
+  did = h.did;
+  each = λ place disk is.
+      let at = h.each place disk is in
+      record {
+        kept = at.kept;
+        told_of = at.told_of;
+        stands = at.stands;
+        only = λ s other. one s at.kept.state (disk_bytes disk) other at.stands;
+        shelf = at.shelf;
+      };
+}
 
 module _ {N : Type 0} (step : N → Do → NodeStep N) (first : NodeId → Setup → List Work → N) where
   -- the run that a script determines was played
@@ -184,7 +182,8 @@ module _ {N : Type 0} (step : N → Do → NodeStep N) (first : NodeId → Setup
   -- and its disks are handed out
   module _ (shelf_of : N → Option ShelfState) where
     pub some_disks : (o : Option (Estate N)) (e : Estate N) (disks : List MemState) (told : Option (List MemState)) → IfSome o (λ x. x ≡ e)
-        → told ≡ disks_where o disks → e ≡ disk_estate_of step shelf_of first e.script → DisksGive shelf_of e disks → DisksIn step first shelf_of o told
+        → told ≡ disks_where o disks → e ≡ disk_estate_of step shelf_of first e.script
+        → DisksGive shelf_of e (disks_of step shelf_of first e.script) disks → DisksIn step first shelf_of o told
     some_disks None e disks told k are is give = are
     some_disks (Some x) e disks told k are is give =
         subst (λ y. LeavesDisks step first shelf_of y told) (sym k) (record { determined = is; disks = disks; are = are; give = give })

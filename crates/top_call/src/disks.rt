@@ -1,6 +1,6 @@
 //! What the program does for the word `disks`: it plays a script with servers that stop and keep their disk.
 ghost use Rattle.std.specs.Prelude.{◌≡◌, ◌≤◌, None, Some, IfOk, IfSome};
-ghost use Rattle.disk_play.specs.Courses.{disk_estate_of};
+ghost use Rattle.disk_play.specs.Courses.{disk_estate_of, disks_of};
 ghost use Rattle.script_print.specs.Printing.{IsScript};
 ghost use Rattle.top_call.specs.declared.command.Command.TheVariants as commands;
 ghost use Rattle.top_call.specs.Claim.{writing, reading, run_answer, IsPlayedWithDisks, TellsDisks, TellsOrGivesUp, AnswersOrGivesUp, Ends, ReadsAtMost};
@@ -27,7 +27,7 @@ fn played<N: Shelved>(alloc: Global, script: &Script) -> Mem<DiskEstate<N>>
     ensures script { IfOk result (λ played. played.estate.script ≡ script.now) }
     ensures run { IfOk result (λ played. IsPlayedWithDisks N.transition N.first played.estate) }
     ensures determined { IfOk result (λ played. played.estate ≡ disk_estate_of N.transition N.shelf_of N.first played.estate.script) }
-    ensures gives { IfOk result (λ played. DisksGive N.shelf_of played.estate played.disks) }
+    ensures gives { IfOk result (λ played. DisksGive N.shelf_of played.estate (disks_of N.transition N.shelf_of N.first played.estate.script) played.disks) }
 {
     an_image_stands_for_one_state();
     let played = disk_play::<N>(alloc, script)?;

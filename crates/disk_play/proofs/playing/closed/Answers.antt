@@ -15,7 +15,7 @@ loop-shelf-preserved c ds theirs =
     let shelf = c.in-Some.shelf in
     let disks = c.loop-shelf.disks in
     subst (λ (l : List MemState). AreTheirs all (l ++ ds)) (sym c.in_ok-push.ensures.ok)
-    (theirs_more all rest shelf disks c.close.result c.close.ensures.stands
+    (theirs_more all rest shelf disks c.close.result c.close.ensures.disk c.close.ensures.stands
     (subst (λ (l : List (Kept MemState)). (es : List MemState) → AreTheirs l es → AreTheirs all (disks ++ es)) c.in-Some.ensures.steps.0
     c.loop-shelf.invariant)
     ds theirs)

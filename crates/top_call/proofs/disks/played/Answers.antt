@@ -1,5 +1,6 @@
 use Rattle.std.proofs.Common.{◌≡◌, ap, subst, sym}
-use Rattle.disk_play.specs.Courses.{disk_estate_of}
+use Rattle.disk_play.specs.Courses.{disk_estate_of, disks_of}
+use Rattle.disk_play.specs.Standing.{DisksStand}
 use Rattle.world_base.specs.declared.estate.Estate.{Estate}
 use Rattle.top_call.proofs.Claims.{disks_give, is_played_with_disks}
 use Rattle.top_call.proofs.Setups.{script_setup}
@@ -27,5 +28,10 @@ returns-clause-determined g c =
 
 pub returns-clause-gives : goal.returns-clause-gives
 returns-clause-gives g c =
-    disks_give c.an_image_stands_for_one_state.ensures.one g.N.Shelved.shelf_of c.in_ok-played.played.estate c.in_ok-played.played.disks
-    c.in_ok-played.ensures.disks
+    let e = c.in_ok-played.ensures in
+    let estate = c.in_ok-played.played.estate in
+    let disks = c.in_ok-played.played.disks in
+    disks_give c.an_image_stands_for_one_state.ensures.one g.N.Shelved.shelf_of estate
+    (disks_of g.N.Actor.transition g.N.Shelved.shelf_of g.N.Member.first estate.script) disks
+    (subst (λ script. DisksStand g.N.Shelved.shelf_of estate (disks_of g.N.Actor.transition g.N.Shelved.shelf_of g.N.Member.first script) disks)
+    (sym (ap (λ (x : Estate g.row.N.Denot). x.script) e.exact)) e.disks)

@@ -1,7 +1,7 @@
 use Rattle.std.proofs.Common.{◌∙◌, sym, ap, subst, arith}
 use Rattle.world_base.specs.declared.event.Event.TheVariants.{Begin}
 use Rattle.disk_play.specs.declared.course.Course.{Course}
-use Rattle.disk_play.specs.Courses.{begins_on, happens_on, one_more, queue_drained, woken}
+use Rattle.disk_play.specs.Courses.{Deck, begins_on, deck_of, happens_on, on_course, one_more, queue_drained, woken}
 use Rattle.disk_play.specs.Standing.{Stands}
 use Rattle.disk_play.proofs.Begun.{woken_events}
 use Rattle.disk_play.proofs.Passing.{stands_beside, woken_beside}
@@ -27,8 +27,10 @@ returns-clause-exact g c =
     let step = g.N.Actor.transition in
     let shelf_of = g.N.Shelved.shelf_of in
     let node = c.args.node in
-    c.drain.ensures ∙ ap (λ (d : Course g.row.N.Denot). queue_drained d) c.in_ok-happen.ensures.exact
-    ∙ ap (λ (d : Course g.row.N.Denot). queue_drained (happens_on step shelf_of (one_more d) (Begin node))) c.wake.ensures
+    let shelves = c.args.self.now.shelves.items in
+    ap (λ (x : Course g.row.N.Denot). deck_of x c.happen.new.self.shelves.items) c.drain.ensures
+    ∙ ap (λ (d : Deck g.row.N.Denot). on_course queue_drained d) c.in_ok-happen.ensures.exact
+    ∙ ap (λ (x : Course g.row.N.Denot). on_course queue_drained (happens_on step shelf_of (deck_of (one_more x) shelves) (Begin node))) c.wake.ensures
 
 pub returns-clause-one_more : goal.returns-clause-one_more
 returns-clause-one_more g c =

@@ -1,7 +1,7 @@
 use Rattle.std.proofs.Common.{◌∙◌, sym, ap, subst, arith}
 use Rattle.std.proofs.lemmas.Result.{on_ok_weaker}
 use Rattle.disk_play.specs.declared.course.Course.{Course}
-use Rattle.disk_play.specs.Courses.{opens_on, opens_on_for, tells}
+use Rattle.disk_play.specs.Courses.{deck_of, opens_on, opens_on_for, tells}
 use Rattle.disk_play.specs.Standing.{Stands}
 use Rattle.disk_play.proofs.Passing.{stands_beside, tells_beside, tells_unanswered}
 use Rattle.disk_play.proofs.disk_player.DiskPlayer.open.Goals as goal
@@ -12,7 +12,7 @@ returns-in-Some-clause-exact g c =
     let course = c.args.self.now.course in
     let work = c.args.work.now in
     on_ok_weaker c.begin.result
-    (λ e. e ∙ ap (opens_on_for g.N.Actor.transition g.N.Shelved.shelf_of course work) (sym (sym c.actor_of.ensures ∙ c.in-Some.is)))
+    (λ e. e ∙ ap (opens_on_for g.N.Actor.transition g.N.Shelved.shelf_of (deck_of course c.args.self.now.shelves.items) work) (sym (sym c.actor_of.ensures ∙ c.in-Some.is)))
     c.begin.ensures.exact
 
 pub returns-in-None-clause-exact : goal.returns-in-None-clause-exact
@@ -20,7 +20,9 @@ unfolding opens_on
 returns-in-None-clause-exact g c =
     let course = c.args.self.now.course in
     let work = c.args.work.now in
-    c.tell.ensures ∙ ap (opens_on_for g.N.Actor.transition g.N.Shelved.shelf_of course work) (sym (sym c.actor_of.ensures ∙ c.in-None.is))
+    let shelves = c.args.self.now.shelves.items in
+    ap (λ (x : Course g.row.N.Denot). deck_of x shelves) c.tell.ensures
+    ∙ ap (opens_on_for g.N.Actor.transition g.N.Shelved.shelf_of (deck_of course shelves) work) (sym (sym c.actor_of.ensures ∙ c.in-None.is))
 
 pub returns-in-None-clause-stands : goal.returns-in-None-clause-stands
 returns-in-None-clause-stands g c =

@@ -3,7 +3,7 @@ use Rattle.std.specs.List.{range_with_len}
 use Rattle.world_base.specs.declared.event.Event.TheVariants.{Tick}
 use Rattle.world_base.specs.Cluster.{node_at}
 use Rattle.world_base.proofs.Ranges.{range_step}
-use Rattle.disk_play.specs.Courses.{happens_on, ticks_on}
+use Rattle.disk_play.specs.Courses.{deck_of, happens_on, ticks_on}
 use Rattle.disk_play.proofs.Happening.{ticks_is}
 use Rattle.disk_play.proofs.disk_player.DiskPlayer.round.Goals as goal
 
@@ -11,7 +11,7 @@ pub loop-place-preserved : goal.loop-place-preserved
 loop-place-preserved g c =
     let step = g.N.Actor.transition in
     let shelf_of = g.N.Shelved.shelf_of in
-    let d = c.loop-place.self.course in
+    let d = deck_of c.loop-place.self.course c.loop-place.self.shelves.items in
     let cluster = c.args.self.now.course.player.world.cluster in
     let i = c.loop-place.place in
     let end = c.count-place-end.result in

@@ -1,6 +1,7 @@
 use Rattle.std.proofs.Common.{rules, ◌≡◌, ◌⊎◌, true, false, inr, ap, subst}
 use Rattle.std.proofs.lemmas.Result.{on_ok_weaker}
 use Rattle.fragment_store.specs.ShelfState.{ShelfState}
+use Rattle.disk_shelf.specs.declared.record.Record.TheVariants.{Held}
 use Rattle.disk_shelf.specs.Steps.{TookRecord}
 use Rattle.fragment_store.specs.Calls.{kept, on_fill}
 use Rattle.disk_shelf.specs.Disk.{LeavesOnly}
@@ -27,7 +28,7 @@ returns-clause-exact g c =
     on_ok_weaker c.change.result
     (λ took. inr (subst
     (λ (t : ShelfState). TookRecord g.D.Disk.seen g.D.Disk.may_leave g.D.Disk.by_room g.D.Disk.by_write g.D.Disk.by_sync old.disk old.state
-    (record old.state { shelf = t }) true c.change.new.self.disk)
+    (record old.state { shelf = t }) (Held c.args.fragment) true c.change.new.self.disk)
     same took))
     c.change.ensures.exact
 
@@ -37,5 +38,5 @@ returns-clause-cut g c failed =
     let same : on_fill old.state.shelf c.args.fragment ≡ kept old.state.shelf c.args.fragment = search rules in
     subst
     (λ (t : ShelfState). TookRecord g.D.Disk.seen g.D.Disk.may_leave g.D.Disk.by_room g.D.Disk.by_write g.D.Disk.by_sync old.disk old.state
-    (record old.state { shelf = t }) false c.change.new.self.disk)
+    (record old.state { shelf = t }) (Held c.args.fragment) false c.change.new.self.disk)
     same (c.change.ensures.cut failed)
