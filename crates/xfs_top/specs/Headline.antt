@@ -12,6 +12,7 @@ use Rattle.run_answers.specs.act_law.Files.{FileAnswersArePlanned}
 use Rattle.run_answers.specs.act_law.Newest.{VersionsAreNewest}
 use Rattle.run_answers.specs.act_law.Runs.{AnswersAreActs}
 use Rattle.run_answers.specs.once_law.Runs.{ItemsAnsweredOnce}
+use Rattle.run_answers.specs.standing_law.Runs.{AnswersFit}
 use Rattle.run_beliefs.specs.belief_law.Beliefs.{BelievedThroughout}
 use Rattle.run_drops.specs.drop_law.Drops.{DeletesBelowHorizons, DropsWhatItDeletes}
 use Rattle.run_losses.specs.answer_law.Runs.{LostAnswersEarned}
@@ -27,6 +28,7 @@ use Rattle.run_laws.specs.world_reads.Holders.{HoldersAreNewestThroughout}
 use Rattle.run_laws.specs.world_reads.Indexes.{IndexesAreItsOwn}
 use Rattle.run_laws.specs.world_reads.Legal.{LegalActs, LegalWithoutLosses}
 use Rattle.run_settled.specs.settled_law.Settled.{BlocksAreSettled}
+use Rattle.run_stripes.specs.boot_law.Boots.{TheCleanerFilesOne}
 use Rattle.run_stripes.specs.stripe_law.ReadBack.{FiledIsReadBack}
 use Rattle.std.specs.Prelude.{◌≡◌, ℕ, Option, Some}
 use Rattle.top_call.specs.declared.command.Command.{Command}
@@ -63,8 +65,10 @@ pub record IsSafe (e : Estate AnyNode) : Type 0 where
   pub logs_stand : LogsStand e
   pub cleaners_log_stands : CleanersLogStands e
   pub managers_logs_stand : ManagersLogsStand e
-  -- and each filed segment is read back while no more members lack their fragment than the parity makes good
+  -- and each filed segment is read back while no more members hold nothing of it than the parity makes good
   pub read_back : FiledIsReadBack e
+  -- and where the cleaner comes back, one segment of its new incarnation was filed
+  pub restarts_file_one : TheCleanerFilesOne e
   -- and the least horizon that the registry keeps of a client's log, or of the cleaner's, is 1 at most, or at most one beyond a segment that its owner filed
   pub horizons_filed : HorizonsReached e
   -- what servers were told to delete was dropped in an act by then, and is below the least horizon of its log that the registry keeps; what the cleaner drops in
@@ -86,9 +90,11 @@ pub record IsSafe (e : Estate AnyNode) : Type 0 where
   -- each item is answered at most once, by its own node, after its Begin: so the text shows for an item its one answer, and as open are counted those that no
   -- act answers
   pub answered_once : ItemsAnsweredOnce e
-  -- what a client answers to a call on a block, a sync or a restart it has acted before, in the same event; the cleaner, whose restart is done, that a segment
-  -- of its log and of its new incarnation is filed; and an item is cut only where a crash, or the loss of a disk, is answered behind it
+  -- what a client answers to a call on a block, a sync or a restart it has acted before, in the same event; the cleaner, back, that a segment of its new
+  -- incarnation is filed; and an item is cut only where a crash, or the loss of a disk, is answered behind it
   pub answers_acted : AnswersAreActs e
+  -- and each answer fits where its node stands, before the event and behind it
+  pub answers_fit : AnswersFit e
   -- a call on files answers what its plan says of the answers of its calls on blocks, each acted since it began
   pub files_planned : FileAnswersArePlanned e
   -- and a write its block's newest version, with its value: up to the first doubtful restart

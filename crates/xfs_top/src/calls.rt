@@ -21,6 +21,7 @@ use run_answers::act_law::{
     answered_versions_are_newest, answers_are_acts, file_answers_are_planned,
 };
 use run_answers::once_law::items_are_answered_once;
+use run_answers::standing_law::answers_fit_where_a_node_stands;
 use run_beliefs::belief_law::managers_believe_their_clients;
 use run_drops::drop_law::what_is_deleted_was_dropped;
 use run_laws::restart_law::without_losses_no_restart_is_doubtful;
@@ -32,6 +33,7 @@ use run_laws::world_reads::every_runs_acts_are_legal;
 use run_losses::answer_law::lost_answers_are_said;
 use run_losses::earned_law::each_lost_act_is_earned;
 use run_settled::settled_law::what_is_settled_is_the_join;
+use run_stripes::boot_law::the_cleaner_files_one_segment_of_its_boot;
 use run_stripes::stripe_law::what_is_filed_is_read_back;
 use std::alloc::Global;
 use std::mem;
@@ -50,6 +52,7 @@ fn every_run_is_safe()
     what_fell_is_held_by_nobody();
     runs_keep_logs();
     what_is_filed_is_read_back();
+    the_cleaner_files_one_segment_of_its_boot();
     what_is_deleted_was_dropped();
     every_runs_acts_are_legal();
     what_is_settled_is_the_join();
@@ -57,6 +60,7 @@ fn every_run_is_safe()
     lost_answers_are_said();
     items_are_answered_once();
     answers_are_acts();
+    answers_fit_where_a_node_stands();
     file_answers_are_planned();
     answered_versions_are_newest();
     without_losses_no_restart_is_doubtful();
@@ -75,9 +79,9 @@ fn every_run_is_safe()
 ///   said of the run with one registry that the run with three boards stands for, whichever of them stopped.
 /// - `bounds`: where the script has only the lines `bput`, `bget` and `sync`, each item was answered, once, within 128
 ///   deliveries and one tick of each node (`specs/Bounds.antt`). Of `boards` and `disks` nothing is said.
-/// - `disks`: by `disks` the run is the one that its script determines with servers that stop, and there is a disk for each
-///   server: `open` of it, without fault, gives the shelf of that server in the world in which the run ends. By other words
-///   there are none.
+/// - `disks`: by `disks` the run is the one that its script determines with servers that stop, and so is all that the disk of
+///   each server did, and its bytes: `open` of it, without fault, gives what the script says is kept on it, with the shelf of
+///   that server in the world in which the run ends. By other words there are none.
 pub fn solo<S: Source, K: Sink>(
     alloc: Global,
     words: &[String],

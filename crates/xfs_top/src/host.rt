@@ -1,6 +1,6 @@
 //! The source and the sink of a real process: the trusted edge. What they hold is not told; they are proved
 //! against their traits, which then say only when they fail.
-ghost use Rattle.std.specs.Prelude.{None};
+ghost use Rattle.std.specs.Prelude.{◌≡◌, None};
 
 use std::io::{Read, Write};
 use top_call::{Sink, Source};
@@ -20,8 +20,10 @@ impl<R: Drop> Drop for StdSource<R> {
 }
 
 impl<R: Read> StdSource<R> {
-    /// A source over this reader. It takes no memory.
-    pub fn new(reader: R) -> StdSource<R> {
+    /// A source over this reader, no read of which failed yet. It takes no memory.
+    pub fn new(reader: R) -> StdSource<R>
+        ensures { (result.reader ≡ reader) × (result.faults ≡ 0) }
+    {
         StdSource { reader, faults: 0 }
     }
 }
@@ -56,8 +58,10 @@ impl<W: Drop> Drop for StdSink<W> {
 }
 
 impl<W: Write> StdSink<W> {
-    /// A sink over this writer. It takes no memory.
-    pub fn new(writer: W) -> StdSink<W> {
+    /// A sink over this writer, no write to which failed yet. It takes no memory.
+    pub fn new(writer: W) -> StdSink<W>
+        ensures { (result.writer ≡ writer) × (result.faults ≡ 0) }
+    {
         StdSink { writer, faults: 0 }
     }
 }
