@@ -1,12 +1,11 @@
 -- A beat: a leader sends what the others lack, and another board may prepare a ballot.
-use Rattle.std.proofs.Common.{◌≡◌, ◌==◌, ℕ, suc, ◌+◌, ◌-◌, ◌<◌, Bool, true, false, not, ◌&&◌, ◌||◌, nat_lt, List, [], ◌∷◌, ◌++◌, length, take, Option, Some, None, is_some, refl, sym, ap, ◌∙◌, subst, inl, arith}
+use Rattle.std.proofs.Common.{◌≡◌, ◌==◌, ℕ, suc, ◌+◌, ◌-◌, ◌<◌, true, false, not, ◌&&◌, ◌||◌, nat_lt, List, [], ◌∷◌, ◌++◌, length, take, Option, Some, None, is_some, refl, sym, ap, ◌∙◌, subst, inl, arith}
 use Rattle.std.specs.Prelude.{slice_get}
 use Rattle.std.specs.List.{flat_map}
 use Rattle.std.proofs.lemmas.Bool.Decides.{nat_tests}
 use Rattle.xfs_base.proofs.Booleans.{by_test, and_first}
 use Rattle.xfs_base.specs.Steps.{still}
 use Rattle.board_protocol.specs.Basics.{In}
-use Rattle.board_protocol.specs.Board as protocol
 use Rattle.board_protocol.specs.Leading.{Wants, sends_install, sends_append, prepares}
 use Rattle.board_protocol.specs.Leading.Wants.{Waits, Lags}
 use Rattle.board_protocol.specs.Packets as packets
@@ -29,29 +28,13 @@ use Rattle.board_tie.specs.Shown.{Shows, flag, shown, owner}
 use Rattle.board_tie.proofs.Lists.{outside, next_of, behind}
 use Rattle.board_tie.proofs.Moves.{stays, changes, says, goes_on, steps_then, one_sent, others_sent, others_quiet, quiet}
 use Rattle.board_tie.proofs.Growing.{append_of, is_up, is_leader, keeps_going}
+use Rattle.board_tie.proofs.Showing.{heard_or_not}
 
 abbrev pub install_of : ℕ → List Command → packets.Install Command
 install_of ballot list = record { ballot = ballot; list = list }
 
 pub install_is : (b c : ℕ) (these those : List Command) → b ≡ c → these ≡ those → install_of b these ≡ install_of c those
 install_is b c these those ballot list = ap (λ n. install_of n these) ballot ∙ ap (λ all. install_of c all) list
-
--- The machine also keeps whether it heard of a leader since its last beat, which the protocol doesn't.
-pub heard_or_not : (place : ℕ) (x : protocol.Board Command) (s : BoardState) (heard : Bool) → Shows place x s → Shows place x (record s { heard = heard })
-heard_or_not place x s heard shows = record {
-  number = shows.number;
-  up = shows.up;
-  promised = shows.promised;
-  ballot = shows.ballot;
-  list = shows.list;
-  waiting = shows.waiting;
-  leads = shows.leads;
-  first = shows.first;
-  second = shows.second;
-  third = shows.third;
-  done = shows.done;
-  applied = shows.applied;
-}
 
 -- What goes out, while the board stays as it is.
 abbrev pub told : BoardState → List Out → Done
@@ -172,7 +155,7 @@ module _ (w : World Command) (place : ℕ) (s : BoardState) (shows : Shows place
   pub beat_follows : Steps (start owner) w → place < 3 → s.up ≡ true → Follows w place (on_beat s)
   unfolding on_beat
   beat_follows reached below up =
-      let shows_on = heard_or_not place (w.board place) s false shows in
+      let shows_on = heard_or_not place (w.board place) s shows false in
       by_test (Follows w place) s.leads (on_leader_beat (unheard s)) _
       (λ leads. leader_beat_follows w place (unheard s) reached up leads shows_on)
       (λ leads.

@@ -19,6 +19,7 @@ use Rattle.board_tie.specs.Follows.{Follows}
 use Rattle.board_tie.specs.Shown.{Shows, flag, owner}
 use Rattle.board_tie.proofs.Growing.{is_up}
 use Rattle.board_tie.proofs.Moves.{stays, changes, says, one_sent, quiet}
+use Rattle.board_tie.proofs.Showing.{grown_shows}
 
 -- A promise that doesn't rise leaves the leader what it is.
 leads_on : (t : Bool) (same : Bool) (leads : ℕ) → leads ≡ flag t → (if same then leads else 0) ≡ flag (t && same)
@@ -143,20 +144,7 @@ module _ (w : World Command) (place : ℕ) (s : BoardState) (shows : Shows place
         next = ap length shows.list ∙ next;
       }))
       refl
-      (record {
-        number = shows.number;
-        up = shows.up;
-        promised = shows.promised;
-        ballot = shows.ballot;
-        list = ap (λ list. list ++ (c ∷ [])) shows.list;
-        waiting = shows.waiting;
-        leads = shows.leads;
-        first = shows.first;
-        second = shows.second;
-        third = shows.third;
-        done = shows.done;
-        applied = shows.applied;
-      })
+      (grown_shows place x s shows c)
       (quiet x.applied [] refl)
       (one_sent v place now (Accepted s.ballot (length (s.list ++ (c ∷ [])))) from shows.number
       (inl (accepted_is place s.ballot x.ballot _ _ (sym shows.ballot) (sym (ap (λ list. length (list ++ (c ∷ []))) shows.list)))))

@@ -18,6 +18,7 @@ use Rattle.board_tie.specs.Follows.{Follows}
 use Rattle.board_tie.specs.Shown.{Shows, flag, owner}
 use Rattle.board_tie.proofs.Lists.{outside}
 use Rattle.board_tie.proofs.Moves.{stays, changes, goes_on, others_sent, others_quiet, quiet}
+use Rattle.board_tie.proofs.Showing.{grown_shows}
 
 abbrev pub append_of : ℕ → ℕ → Command → packets.Append Command
 append_of ballot place command = record { ballot = ballot; place = place; command = command }
@@ -36,20 +37,7 @@ module _ (w : World Command) (place : ℕ) (s : BoardState) (shows : Shows place
   extends_by_step c step =
       let x = w.board place in
       changes w place (extends w place c) (record x { list = x.list ++ (c ∷ []) }) (extend s c) step refl
-      (record {
-        number = shows.number;
-        up = shows.up;
-        promised = shows.promised;
-        ballot = shows.ballot;
-        list = ap (λ list. list ++ (c ∷ [])) shows.list;
-        waiting = shows.waiting;
-        leads = shows.leads;
-        first = shows.first;
-        second = shows.second;
-        third = shows.third;
-        done = shows.done;
-        applied = shows.applied;
-      })
+      (grown_shows place x s shows c)
       (quiet x.applied (send_others s (Append s.ballot (length s.list + 1) c)) (others_quiet s (Append s.ballot (length s.list + 1) c)))
       (others_sent (extends w place c) place s (Append s.ballot (length s.list + 1) c) shows.number
       (length x.list, grind (arith, ap length shows.list), inl (ap (λ b. append_of b (length x.list) c) (sym shows.ballot))))

@@ -18,12 +18,13 @@ use Rattle.board.specs.Transition.{transition, is_ready, is_for, has_short, hear
 use Rattle.board_tie.specs.Follows.{Follows}
 use Rattle.board_tie.specs.Sent.{Said, Sent, Came}
 use Rattle.board_tie.specs.Shown.{Shows, owner}
-use Rattle.board_tie.proofs.Beats.{beat_follows, heard_or_not}
+use Rattle.board_tie.proofs.Beats.{beat_follows}
 use Rattle.board_tie.proofs.Electing.{promise_comes}
 use Rattle.board_tie.proofs.Following.{prepare_comes, install_comes, append_comes}
 use Rattle.board_tie.proofs.Growing.{offer_follows}
 use Rattle.board_tie.proofs.Hearing.{accepted_comes}
 use Rattle.board_tie.proofs.Moves.{stays, changes, quiet}
+use Rattle.board_tie.proofs.Showing.{heard_or_not, up_shows}
 
 pub starts_so : (place : ℕ) → place < 3 → Shows place ((start owner).board place) (started (suc place))
 starts_so zero below = record { number = refl; up = refl; promised = refl; ballot = refl; list = refl; waiting = refl; leads = refl; first = refl; second = refl; third = refl; done = refl; applied = refl }
@@ -56,20 +57,7 @@ module _ (w : World Command) (reached : Steps (start owner) w) (place : ℕ) (be
   start_follows =
       let x = w.board place in
       changes w place (starts w place) (record x { up = 1 }) (still (restarted s)) (Starts place) refl
-      (record {
-        number = shows.number;
-        up = refl;
-        promised = shows.promised;
-        ballot = shows.ballot;
-        list = shows.list;
-        waiting = shows.waiting;
-        leads = shows.leads;
-        first = shows.first;
-        second = shows.second;
-        third = shows.third;
-        done = shows.done;
-        applied = shows.applied;
-      })
+      (up_shows place x s shows true s.heard)
       (quiet x.applied [] refl) tt
 
   -- A packet of another board comes.
@@ -77,9 +65,9 @@ module _ (w : World Command) (reached : Steps (start owner) w) (place : ℕ) (be
   body_follows up from other from_is among apart (Prepare ballot) said = prepare_comes w place s shows up from ballot said
   body_follows up from other from_is among apart (Promised ballot last list) said = promise_comes w place s shows reached below up other ballot last list among apart said
   body_follows up from other from_is among apart (Install ballot list) said =
-      install_comes w place (hears s) (heard_or_not place (w.board place) s true shows) reached up from ballot list said
+      install_comes w place (hears s) (heard_or_not place (w.board place) s shows true) reached up from ballot list said
   body_follows up from other from_is among apart (Append ballot count command) said =
-      append_comes w place (hears s) (heard_or_not place (w.board place) s true shows) up from ballot count said.0 command said.1 said.2
+      append_comes w place (hears s) (heard_or_not place (w.board place) s shows true) up from ballot count said.0 command said.1 said.2
   body_follows up from other from_is among apart (Accepted ballot count) said = accepted_comes w place s shows reached up from other ballot count from_is among apart said
 
   mail_follows : s.up ≡ true → (packet : BoardPacket) → Sent w packet → Follows w place (on_mail s packet)

@@ -1,4 +1,5 @@
 pub mod Moves
+pub mod Showing
 pub mod Lists
 pub mod Growing
 pub mod Beats
