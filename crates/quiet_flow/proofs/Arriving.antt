@@ -7,7 +7,7 @@ use Rattle.std.proofs.lemmas.Option.{get_or_from_slice_get, slice_get_within}
 use Rattle.std.proofs.Math.Seq.{drop-append_seam}
 use Rattle.node_base.specs.Nodes.{has_node, peers_of}
 use Rattle.play.specs.declared.player.Player.{Player}
-use Rattle.play.specs.Plays.{answers, comes, delivered, goes_by, goes_on, sent_since, with_event, with_schedule}
+use Rattle.play.specs.Plays.{answers, delivered, goes_by, goes_on, sent_since, with_event, with_schedule}
 use Rattle.play.specs.Plays as plays
 use Rattle.version_model.specs.declared.act.Act.{Act}
 use Rattle.wire_msg.specs.declared.packet.Do.{Do}
@@ -25,6 +25,7 @@ use Rattle.quiet_flow.specs.Flow.{Done, Stage, delivers, happens, unclocked}
 use Rattle.quiet_flow.specs.Follow.{AreAt, IsAt, IsBlind, Shows}
 use Rattle.quiet_flow.proofs.Happening.{event_follows, more_events}
 use Rattle.quiet_flow.proofs.Places.{has_fact, no_place}
+use Rattle.quiet_flow.proofs.Scheduling.{scheduled_shows}
 
 module _ {N : Type 0} (step : N → Do → NodeStep N) (is_blind : IsBlind step) where
   -- ---- the next delivery
@@ -41,17 +42,9 @@ module _ {N : Type 0} (step : N → Do → NodeStep N) (is_blind : IsBlind step)
     the_packet = queue_at.0.clocked
 
     pub popped_shows : Shows setup popped t waiting
-    popped_shows = record {
-      cluster = shows.cluster;
-      placed = shows.placed;
-      acts = shows.acts;
-      unanswered = shows.unanswered;
-      clocks = shows.clocks;
-      low = shows.low;
-      sent_low = shows.sent_low;
-      plain = record { lose = shows.plain.lose; again = shows.plain.again; mixer = shows.plain.mixer; holding = shows.plain.holding };
-      waits = queue_at.1;
-    }
+    popped_shows =
+        scheduled_shows setup p t (packet ∷ waiting) waiting shows popped.schedule
+        (record { lose = shows.plain.lose; again = shows.plain.again; mixer = shows.plain.mixer; holding = shows.plain.holding }) queue_at.1
 
     not_none : (p.schedule.deliveries == 0) ≡ false
     not_none = grind (arith, nat_tests)

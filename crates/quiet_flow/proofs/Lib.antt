@@ -8,3 +8,4 @@ pub mod Lines
 pub mod Numbers
 pub mod Places
 pub mod Rounds
+pub mod Scheduling

@@ -19,6 +19,7 @@ use Rattle.xfs_base.specs.Steps.{steps}
 use Rattle.quiet_flow.specs.Flow.{Done, Stage, rounds, ticks}
 use Rattle.quiet_flow.specs.Follow.{AreAt, IsBlind, Shows}
 use Rattle.quiet_flow.proofs.Happening.{event_follows}
+use Rattle.quiet_flow.proofs.Scheduling.{scheduled_shows}
 
 module _ {N : Type 0} (step : N → Do → NodeStep N) (is_blind : IsBlind step) (setup : Setup) where
   -- time passes at these nodes
@@ -100,17 +101,9 @@ module _ {N : Type 0} (step : N → Do → NodeStep N) (is_blind : IsBlind step)
     rounded_is = ap (goes_by step p) round_is_next ∙ ap (λ c. fold (plays.ticks step) before (nodes_of c)) shows.cluster
 
     before_shows : Shows setup before t []
-    before_shows = record {
-      cluster = shows.cluster;
-      placed = shows.placed;
-      acts = shows.acts;
-      unanswered = shows.unanswered;
-      clocks = shows.clocks;
-      low = shows.low;
-      sent_low = shows.sent_low;
-      plain = record { lose = shows.plain.lose; again = shows.plain.again; mixer = shows.plain.mixer; holding = shows.plain.holding };
-      waits = shows.waits;
-    }
+    before_shows =
+        scheduled_shows setup p t [] [] shows before.schedule
+        (record { lose = shows.plain.lose; again = shows.plain.again; mixer = shows.plain.mixer; holding = shows.plain.holding }) shows.waits
 
     -- the play once time has passed at each node
     pub record Rounded : Type 0 where
