@@ -6,7 +6,7 @@ use Rattle.client_call.specs.Fitting.{put_fits}
 use Rattle.client_log.specs.declared.input.In.TheVariants as log_in
 use Rattle.client_log.specs.LogState.{LogState}
 use Rattle.client_log.specs.Transition as log
-use Rattle.client_running.specs.Blocks.{Made, changes, changes_if_fits, makes, put_of, puts, wrote}
+use Rattle.client_running.specs.Blocks.{Made, makes, put_of}
 use Rattle.client_serving.specs.declared.serving.Serving.{Serving}
 use Rattle.client_serving.specs.Flights as flights
 use Rattle.client_serving.specs.Flights.{held_at}
@@ -19,12 +19,8 @@ use Rattle.log_owner.specs.Opening.{stored}
 use Rattle.log_owner.specs.Sealing.{is_settling}
 use Rattle.node_base.specs.declared.effects.Effect.{Effect}
 use Rattle.node_base.specs.declared.effects.Effect.TheVariants.{Does}
-use Rattle.token_client.proofs.Tables.{held_of-put_itself}
 use Rattle.token_client.specs.declared.held.Held.{Held}
-use Rattle.token_client.specs.Held.{may_write, written}
-use Rattle.token_client.specs.State.{held_of, put_held}
-use Rattle.token_client.specs.Transition.{on_wrote}
-use Rattle.coop_cache.specs.Transition.{without}
+use Rattle.token_client.specs.Held.{may_write}
 use Rattle.version_model.specs.declared.act.Act.TheVariants as acts
 use Rattle.version_model.specs.declared.work.Work.{Work}
 use Rattle.xfs_base.specs.declared.block.BlockId.{BlockId}
@@ -32,16 +28,17 @@ use Rattle.xfs_base.specs.declared.node.NodeId.{NodeId}
 use Rattle.xfs_base.specs.declared.setup.Setup.{Setup}
 use Rattle.xfs_base.specs.Steps.{saying, steps}
 use Rattle.quiet_nodes.specs.Scene.{ClientPart, log_at, serving_at}
+use Rattle.quiet_nodes.proofs.Puts as putting
 use Rattle.quiet_nodes.proofs.Puts.{put_part, waiting_then}
 use Rattle.quiet_nodes.proofs.Sealing.{its_flight, sealed_part, stores}
 use Rattle.quiet_nodes.proofs.Sends.{none_settles, sends_written}
 
 module _ (setup : Setup) (works : NodeId → List Work) (c : ℕ) (q : ClientPart) (b : BlockId) (value : Option (List ℕ)) where
   abbrev its_held : Held
-  its_held = held_of q.blocks b
+  its_held = putting.its_held setup works c q b value
 
   abbrev before : Serving
-  before = serving_at setup works c (record q { call = None })
+  before = putting.before setup works c q b value
 
   -- the client once it is written and waits, and once that is sealed
   abbrev waiting : ClientPart
@@ -61,9 +58,8 @@ module _ (setup : Setup) (works : NodeId → List Work) (c : ℕ) (q : ClientPar
     abbrev change : Change
     change = record { entry = record { ver = its_held.ver + 1; hop = 0; place = None }; value = value }
 
-    -- the client that knows of the block what it wrote
     abbrev now : Serving
-    now = serving_at setup works c (record q { call = None; blocks = put_held q.blocks b (written its_held value); cached = without b q.cached })
+    now = putting.now setup works c q b value
 
     abbrev now_log : LogState
     now_log = log_at setup works c q
@@ -88,39 +84,21 @@ module _ (setup : Setup) (works : NodeId → List Work) (c : ℕ) (q : ClientPar
         ∙ ap (ending (record { state = serving_at setup works c filled_part; outs = flat_map stored (log.sends flight flight.group.members 0) }))
         (none_settles flight refl flight.group.members 0)
 
-    itself : held_of (put_held q.blocks b (written its_held value)) b ≡ written its_held value
-    itself = held_of-put_itself b (written its_held value) q.blocks
-
-    wrote_is : wrote before b value ≡ now
-    unfolding on_wrote
-    wrote_is = rw may refl
-
-    puts_is : makes before (Put b value) ≡ changes before b value
-    unfolding makes puts changes_if_fits
-    puts_is = rw (may, fits) refl
-
     fills_is : put_of now b value ≡ record { state = serving_at setup works c filled_part; outs = stores setup works c waiting ++ [] }
     fills_is =
-        ap (λ v. flights.writes now (log_in.Put b (record { ver = v; hop = 0; place = None }) value)) (ap (λ (h : Held). h.ver) itself)
+        ap (λ v. flights.writes now (log_in.Put b (record { ver = v; hop = 0; place = None }) value)) (ap (λ (h : Held). h.ver) (putting.itself setup works c q b value))
         ∙ fills_writes
 
     abbrev made : Done → ℕ → Made
-    made d ver = record { done = d; answer = Some (block.Put ver) }
-
-    abbrev changing : Serving → Made
-    changing w = made (record { state = (put_of w b value).state; outs = Does (acts.Wrote c b value) ∷ (put_of w b value).outs }) (held_at w b).ver
-
-    changes_are : changes before b value ≡ changing (wrote before b value)
-    unfolding changes
-    changes_are = refl
+    made = putting.made setup works c q b value
 
     pub put_fills : makes before (Put b value) ≡ record {
       done = record { state = serving_at setup works c filled_part; outs = fills ++ [] };
       answer = Some (block.Put (its_held.ver + 1));
     }
     put_fills =
-        puts_is
-        ∙ changes_are
-        ∙ ap changing wrote_is
+        putting.puts_is setup works c q b value may fits
+        ∙ putting.changes_are setup works c q b value
+        ∙ ap (putting.changing setup works c q b value) (putting.wrote_is setup works c q b value may)
         ∙ ap (λ (d : Done). made (record { state = d.state; outs = Does (acts.Wrote c b value) ∷ d.outs }) (held_at now b).ver) fills_is
-        ∙ ap (λ (h : Held). made (record { state = serving_at setup works c filled_part; outs = fills ++ [] }) h.ver) itself
+        ∙ ap (λ (h : Held). made (record { state = serving_at setup works c filled_part; outs = fills ++ [] }) h.ver) (putting.itself setup works c q b value)

@@ -82,50 +82,51 @@ abbrev pub writes : ℕ → BlockId → Option (List ℕ) → List Effect
 writes c b value = Does (acts.Wrote c b value) ∷ []
 
 module _ (setup : Setup) (works : NodeId → List Work) (c : ℕ) (q : ClientPart) (b : BlockId) (value : Option (List ℕ)) where
-  abbrev its_held : Held
+  abbrev pub its_held : Held
   its_held = held_of q.blocks b
 
-  abbrev before : Serving
+  abbrev pub before : Serving
   before = serving_at setup works c (record q { call = None })
+
+  -- the client that knows of the block what it wrote
+  abbrev pub now : Serving
+  now = serving_at setup works c (record q { call = None; blocks = put_held q.blocks b (written its_held value); cached = without b q.cached })
+
+  pub itself : held_of (put_held q.blocks b (written its_held value)) b ≡ written its_held value
+  itself = held_of-put_itself b (written its_held value) q.blocks
+
+  pub wrote_is : may_write its_held ≡ true → wrote before b value ≡ now
+  unfolding on_wrote
+  wrote_is may = rw may refl
+
+  pub puts_is : may_write its_held ≡ true → put_fits b (its_held.ver + 1) value ≡ true → makes before (Put b value) ≡ changes before b value
+  unfolding makes puts changes_if_fits
+  puts_is may fits = rw (may, fits) refl
+
+  abbrev pub made : Done → ℕ → Made
+  made d ver = record { done = d; answer = Some (block.Put ver) }
+
+  abbrev pub changing : Serving → Made
+  changing w = made (record { state = (put_of w b value).state; outs = Does (acts.Wrote c b value) ∷ (put_of w b value).outs }) (held_at w b).ver
+
+  pub changes_are : changes before b value ≡ changing (wrote before b value)
+  unfolding changes
+  changes_are = refl
 
   module _ (may : may_write its_held ≡ true) (fits : put_fits b (its_held.ver + 1) value ≡ true)
       (not_full : nat_le 24 (length (waiting_then q b value)) ≡ false) where
-    abbrev now : Serving
-    now = serving_at setup works c (record q { call = None; blocks = put_held q.blocks b (written its_held value); cached = without b q.cached })
-
-    itself : held_of (put_held q.blocks b (written its_held value)) b ≡ written its_held value
-    itself = held_of-put_itself b (written its_held value) q.blocks
-
-    wrote_is : wrote before b value ≡ now
-    unfolding on_wrote
-    wrote_is = rw may refl
-
-    puts_is : makes before (Put b value) ≡ changes before b value
-    unfolding makes puts changes_if_fits
-    puts_is = rw (may, fits) refl
-
     waits_is : put_of now b value ≡ record { state = serving_at setup works c (put_part q b value); outs = [] }
     waits_is =
         ap (λ v. flights.writes now (log_in.Put b (record { ver = v; hop = 0; place = None }) value)) (ap (λ (h : Held). h.ver) itself)
         ∙ put_writes now b (record { ver = its_held.ver + 1; hop = 0; place = None }) value not_full
-
-    abbrev made : Done → ℕ → Made
-    made d ver = record { done = d; answer = Some (block.Put ver) }
-
-    abbrev changing : Serving → Made
-    changing w = made (record { state = (put_of w b value).state; outs = Does (acts.Wrote c b value) ∷ (put_of w b value).outs }) (held_at w b).ver
-
-    changes_are : changes before b value ≡ changing (wrote before b value)
-    unfolding changes
-    changes_are = refl
 
     pub put_makes : makes before (Put b value) ≡ record {
       done = record { state = serving_at setup works c (put_part q b value); outs = writes c b value };
       answer = Some (block.Put (its_held.ver + 1));
     }
     put_makes =
-        puts_is
+        puts_is may fits
         ∙ changes_are
-        ∙ ap changing wrote_is
+        ∙ ap changing (wrote_is may)
         ∙ ap (λ (d : Done). made (record { state = d.state; outs = Does (acts.Wrote c b value) ∷ d.outs }) (held_at now b).ver) waits_is
         ∙ ap (λ (h : Held). made (record { state = serving_at setup works c (put_part q b value); outs = writes c b value }) h.ver) itself
