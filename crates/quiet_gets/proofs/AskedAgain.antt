@@ -367,26 +367,28 @@ module _ (setup : Setup) (works : NodeId → List Work) (k : ℕ) (s : Scene) (t
         second = length layer + r.deliveries;
         second_few = all_deliveries;
         second_drains = subst (λ (x : Done AnyNode). Drains any_step setup (length layer + r.deliveries) x.state x.outs last.end) (sym passed.is) last.drains;
-        stands = record {
-          placed = last.is_after.placed;
-          settled =
-              last.is_after.answered
-              ∙ ap (λ n. n - 1) passed.is_after.answered
-              ∙ ap (λ n. (n - 0) - 1) first.is_after.answered
-              ∙ ap (λ n. ((((n + 1) - 0) - 0) - 0) - 1) stands.settled;
+        answered = record {
+          stands = record {
+            placed = last.is_after.placed;
+            settled =
+                last.is_after.answered
+                ∙ ap (λ n. n - 1) passed.is_after.answered
+                ∙ ap (λ n. (n - 0) - 1) first.is_after.answered
+                ∙ ap (λ n. ((((n + 1) - 0) - 0) - 0) - 1) stands.settled;
+          };
+          drained = copy_drained setup works k s c d next.client.0 next.client.1 b asks unowned second_turn (omega arith) (omega arith) r.asked r.asks_few r.blocks r.cached
+              r.copy r.last_is others_now r.is_copy u clients_now client_now slots_now slot_now (λ v. refl);
+          begun = ap (λ (x : ClientPart). x.begun) client_now;
+          others = λ o differs. ap (λ (x : ClientPart). x.begun) (clients_now o differs);
+          answer = Got entry.ver r.value;
+          before = acts.Read c b entry.ver r.value ∷ [];
+          after = [];
+          acted =
+              last.is_after.acted
+              ∙ ap (λ xs. xs ++ done) (passed.is_after.acted ∙ append-nil first.end.acts ∙ first.is_after.acted ∙ append-nil (t.acts ++ []) ∙ append-nil t.acts);
+          none_before = refl;
+          none_after = refl;
+          believed = copy_named setup works k s c d next.client.0 next.client.1 b asks unowned second_turn (omega arith) (omega arith) r.asked r.asks_few r.blocks r.cached
+              r.copy r.last_is others_now r.is_copy u clients_now client_now slots_now slot_now (λ v. refl) next.next;
         };
-        drained = copy_drained setup works k s c d next.client.0 next.client.1 b asks unowned second_turn (omega arith) (omega arith) r.asked r.asks_few r.blocks r.cached
-            r.copy r.last_is others_now r.is_copy u clients_now client_now slots_now slot_now (λ v. refl);
-        begun = ap (λ (x : ClientPart). x.begun) client_now;
-        others = λ o differs. ap (λ (x : ClientPart). x.begun) (clients_now o differs);
-        answer = Got entry.ver r.value;
-        before = acts.Read c b entry.ver r.value ∷ [];
-        after = [];
-        acted =
-            last.is_after.acted
-            ∙ ap (λ xs. xs ++ done) (passed.is_after.acted ∙ append-nil first.end.acts ∙ first.is_after.acted ∙ append-nil (t.acts ++ []) ∙ append-nil t.acts);
-        none_before = refl;
-        none_after = refl;
-        believed = copy_named setup works k s c d next.client.0 next.client.1 b asks unowned second_turn (omega arith) (omega arith) r.asked r.asks_few r.blocks r.cached
-            r.copy r.last_is others_now r.is_copy u clients_now client_now slots_now slot_now (λ v. refl) next.next;
       }

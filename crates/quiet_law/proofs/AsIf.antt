@@ -19,7 +19,7 @@ use Rattle.xfs_base.specs.declared.block.BlockId.{BlockId}
 use Rattle.xfs_base.specs.declared.node.NodeId.{NodeId}
 use Rattle.xfs_base.specs.declared.node.NodeId.TheVariants.{Client}
 use Rattle.xfs_base.specs.declared.setup.Setup.{Setup}
-use Rattle.quiet_law.specs.Lines.{Ends, EndsAfterRound, IsNamed, Names, Stands}
+use Rattle.quiet_law.specs.Lines.{Ends, EndsAfterRound, IsAnswered, IsNamed, Names, Stands}
 use Rattle.quiet_law.proofs.Alike.{AfterOne, Alike, AreAlike, DrainsAlike, after_one, drains_alike, flows_both, rounds_alike}
 use Rattle.quiet_law.proofs.Keeping.{drained_more}
 use Rattle.quiet_nodes.specs.Moves.{IsAfter, IsPlaced, Moved, Moves}
@@ -28,6 +28,22 @@ use Rattle.quiet_nodes.proofs.Moving.{after_both, answers_both}
 use Rattle.quiet_nodes.proofs.Staging.{client_frame, client_put, happens_as, placed_on}
 
 -- what ends a step sooner ends so
+answered_up : (setup : Setup) (works : NodeId → List Work) (k : ℕ) (s : Scene) (t : Stage AnyNode) (c item : ℕ) (u : Scene) (end : Stage AnyNode)
+    → IsAnswered setup works k s t c item u end → IsAnswered setup works (suc k) s t c item u end
+answered_up setup works k s t c item u end a = record {
+  stands = a.stands;
+  drained = drained_more setup works (suc k) u a.drained;
+  begun = a.begun;
+  others = a.others;
+  answer = a.answer;
+  before = a.before;
+  after = a.after;
+  acted = a.acted;
+  none_before = a.none_before;
+  none_after = a.none_after;
+  believed = a.believed;
+}
+
 pub ends_up : (setup : Setup) (works : NodeId → List Work) (k most : ℕ) (s : Scene) (t : Stage AnyNode) (c item : ℕ) → Ends setup works k most s t c item
     → Ends setup works (suc k) most s t c item
 ends_up setup works k most s t c item e = record {
@@ -36,17 +52,7 @@ ends_up setup works k most s t c item e = record {
   deliveries = e.deliveries;
   few = e.few;
   drains = e.drains;
-  stands = e.stands;
-  drained = drained_more setup works (suc k) e.scene e.drained;
-  begun = e.begun;
-  others = e.others;
-  answer = e.answer;
-  before = e.before;
-  after = e.after;
-  acted = e.acted;
-  none_before = e.none_before;
-  none_after = e.none_after;
-  believed = e.believed;
+  answered = answered_up setup works k s t c item e.scene e.end e.answered;
 }
 
 pub ends_later_up : (setup : Setup) (works : NodeId → List Work) (k most more : ℕ) (s : Scene) (t : Stage AnyNode) (c item : ℕ)
@@ -62,17 +68,7 @@ ends_later_up setup works k most more s t c item e = record {
   second = e.second;
   second_few = e.second_few;
   second_drains = e.second_drains;
-  stands = e.stands;
-  drained = drained_more setup works (suc k) e.scene e.drained;
-  begun = e.begun;
-  others = e.others;
-  answer = e.answer;
-  before = e.before;
-  after = e.after;
-  acted = e.acted;
-  none_before = e.none_before;
-  none_after = e.none_after;
-  believed = e.believed;
+  answered = answered_up setup works k s t c item e.scene e.end e.answered;
 }
 
 -- ---- some packets come, and others wait then
@@ -235,6 +231,31 @@ module _ (setup : Setup) (works : NodeId → List Work) (k : ℕ) (s m r h : Sce
       by_case (inl before) = inl (fewer i within x e before)
       by_case (inr it) = inr (it.0, subst (λ p. Names (slice_get (works (Client c)) p.begun) x) same it.1)
 
+  -- where a stage is like the one in which it is answered as if, it is answered really, too
+  answered_from : (u : Scene) (end as_end : Stage AnyNode) → Alike any_step setup end as_end → IsAnswered setup works k m as_t c item u as_end
+      → IsAnswered setup works k s t c item u end
+  answered_from u end as_end like a =
+      record {
+        stands = record {
+          placed = λ name has. like.node name has ∙ a.stands.placed name has;
+          settled = like.unanswered ∙ a.stands.settled;
+        };
+        drained = a.drained;
+        begun = a.begun;
+        others = λ d differs. a.others d differs ∙ begun d;
+        answer = a.answer;
+        before = done ++ a.before;
+        after = a.after;
+        acted =
+            like.acts
+            ∙ a.acted
+            ∙ append_assoc t.acts done (a.before ++ acts.Answered (Client c) item a.answer ∷ a.after)
+            ∙ ap (λ xs. t.acts ++ xs) (sym (append_assoc done a.before (acts.Answered (Client c) item a.answer ∷ a.after)));
+        none_before = answers_both done a.before ∙ ap (λ x. x + answers a.before) quiet ∙ ap (λ x. 0 + x) a.none_before;
+        none_after = a.none_after;
+        believed = named_so u a.believed;
+      }
+
   module _ (few : ℕ) where
     fewer_then : (d less : ℕ) → d ≡ suc less → d ≤ few → n + less ≤ n + (few - 1)
     fewer_then d less is h = omega (arith, is, h)
@@ -248,24 +269,7 @@ module _ (setup : Setup) (works : NodeId → List Work) (k : ℕ) (s m r h : Sce
           deliveries = n + r.less;
           few = fewer_then e.deliveries r.less r.counts e.few;
           drains = r.drains;
-          stands = record {
-            placed = λ name has. r.like.node name has ∙ e.stands.placed name has;
-            settled = r.like.unanswered ∙ e.stands.settled;
-          };
-          drained = e.drained;
-          begun = e.begun;
-          others = λ d differs. e.others d differs ∙ begun d;
-          answer = e.answer;
-          before = done ++ e.before;
-          after = e.after;
-          acted =
-              r.like.acts
-              ∙ e.acted
-              ∙ append_assoc t.acts done (e.before ++ acts.Answered (Client c) item e.answer ∷ e.after)
-              ∙ ap (λ xs. t.acts ++ xs) (sym (append_assoc done e.before (acts.Answered (Client c) item e.answer ∷ e.after)));
-          none_before = answers_both done e.before ∙ ap (λ x. x + answers e.before) quiet ∙ ap (λ x. 0 + x) e.none_before;
-          none_after = e.none_after;
-          believed = named_so e.scene e.believed;
+          answered = answered_from e.scene r.end e.end r.like e.answered;
         })
 
     ends_later_from : (more : ℕ) → EndsAfterRound setup works k few more m as_t c item → EndsAfterRound setup works k (n + (few - 1)) more s t c item
@@ -286,24 +290,7 @@ module _ (setup : Setup) (works : NodeId → List Work) (k : ℕ) (s m r h : Sce
           second = e.second;
           second_few = e.second_few;
           second_drains = subst (λ os. Drains any_step setup e.second (rounds any_step setup r.end).state os then_.end) (sym passed.outs) then_.drains;
-          stands = record {
-            placed = λ name has. then_.alike.node name has ∙ e.stands.placed name has;
-            settled = then_.alike.unanswered ∙ e.stands.settled;
-          };
-          drained = e.drained;
-          begun = e.begun;
-          others = λ d differs. e.others d differs ∙ begun d;
-          answer = e.answer;
-          before = done ++ e.before;
-          after = e.after;
-          acted =
-              then_.alike.acts
-              ∙ e.acted
-              ∙ append_assoc t.acts done (e.before ++ acts.Answered (Client c) item e.answer ∷ e.after)
-              ∙ ap (λ xs. t.acts ++ xs) (sym (append_assoc done e.before (acts.Answered (Client c) item e.answer ∷ e.after)));
-          none_before = answers_both done e.before ∙ ap (λ x. x + answers e.before) quiet ∙ ap (λ x. 0 + x) e.none_before;
-          none_after = e.none_after;
-          believed = named_so e.scene e.believed;
+          answered = answered_from e.scene then_.end e.end then_.alike e.answered;
         })
 
     -- the line ends as it would from there

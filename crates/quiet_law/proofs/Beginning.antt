@@ -76,18 +76,20 @@ module _ (setup : Setup) (works : NodeId → List Work) (k : ℕ) (s u : Scene) 
     deliveries = n;
     few = few;
     drains = subst (λ (b : Done AnyNode). Drains any_step setup n b.state b.outs then_.end) (sym begins_so) then_.drains;
-    stands = record {
-      placed = then_.is_after.placed;
-      settled = then_.is_after.answered ∙ left t.unanswered (answers first) (answers done) stands.settled (sym (answers_both first done) ∙ counts_one);
+    answered = record {
+      stands = record {
+        placed = then_.is_after.placed;
+        settled = then_.is_after.answered ∙ left t.unanswered (answers first) (answers done) stands.settled (sym (answers_both first done) ∙ counts_one);
+      };
+      drained = drained;
+      begun = begun;
+      others = others;
+      answer = one.answer;
+      before = one.before;
+      after = one.after;
+      acted = then_.is_after.acted ∙ append_assoc t.acts first done ∙ ap (λ xs. t.acts ++ xs) one.are;
+      none_before = one.none_before;
+      none_after = one.none_after;
+      believed = believed;
     };
-    drained = drained;
-    begun = begun;
-    others = others;
-    answer = one.answer;
-    before = one.before;
-    after = one.after;
-    acted = then_.is_after.acted ∙ append_assoc t.acts first done ∙ ap (λ xs. t.acts ++ xs) one.are;
-    none_before = one.none_before;
-    none_after = one.none_after;
-    believed = believed;
   }

@@ -73,20 +73,22 @@ module _ (setup : Setup) (works : NodeId → List Work) (k : ℕ) (s : Scene) (t
       deliveries = 0;
       few = omega arith;
       drains = subst (λ (b : Done AnyNode). Drains any_step setup 0 b.state b.outs end) (sym begins_so) (drains_done any_step setup 0 end);
-      stands = record {
-        placed = placed_on setup works (Client c) s then_ (one_more t) [] all stands.placed (client_frame setup works c q s);
-        settled = none_left;
+      answered = record {
+        stands = record {
+          placed = placed_on setup works (Client c) s then_ (one_more t) [] all stands.placed (client_frame setup works c q s);
+          settled = none_left;
+        };
+        drained = drained_client setup works k s c q d idle fed same_end least most square;
+        begun = put_begun ∙ begun;
+        others = put_each (λ e (p : ClientPart). (e ≡ c → ⊥) → p.begun ≡ (s.client e).begun) s.client c q (λ differs. absurd (differs refl)) (λ e differs. refl);
+        answer = a;
+        before = first;
+        after = [];
+        acted = refl;
+        none_before = none;
+        none_after = refl;
+        believed = λ m inside x e has. inl has;
       };
-      drained = drained_client setup works k s c q d idle fed same_end least most square;
-      begun = put_begun ∙ begun;
-      others = put_each (λ e (p : ClientPart). (e ≡ c → ⊥) → p.begun ≡ (s.client e).begun) s.client c q (λ differs. absurd (differs refl)) (λ e differs. refl);
-      answer = a;
-      before = first;
-      after = [];
-      acted = refl;
-      none_before = none;
-      none_after = refl;
-      believed = λ m inside x e has. inl has;
     }
 
   -- ---- the cases

@@ -58,17 +58,7 @@ ends_more setup works k a most s t c item less e = record {
   deliveries = e.deliveries;
   few = (let few = e.few in omega (arith, less));
   drains = e.drains;
-  stands = e.stands;
-  drained = e.drained;
-  begun = e.begun;
-  others = e.others;
-  answer = e.answer;
-  before = e.before;
-  after = e.after;
-  acted = e.acted;
-  none_before = e.none_before;
-  none_after = e.none_after;
-  believed = e.believed;
+  answered = e.answered;
 }
 
 module _ (setup : Setup) (works : NodeId → List Work) (k : ℕ) (s : Scene) (t : Stage AnyNode) (c : ℕ) (d : Drained setup works k s) (stands : Stands setup works s t)

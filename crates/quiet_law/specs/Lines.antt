@@ -49,13 +49,8 @@ module _ (setup : Setup) (works : NodeId → List Work) where
       (i : ℕ) → i < 8 → (x : BlockId) (e : ℕ) → 1 ≤ share_of (u.slot i).beliefs x e
       → (1 ≤ share_of (s.slot i).beliefs x e) ⊎ ((e ≡ c) × Names (slice_get (works (Client c)) (s.client c).begun) x)
 
-  -- With so many deliveries the item is answered, and all is drained again.
-  pub record Ends (k most : ℕ) (s : Scene) (t : Stage AnyNode) (c item : ℕ) : Type 0 where
-    pub scene : Scene
-    pub end : Stage AnyNode
-    pub deliveries : ℕ
-    pub few : deliveries ≤ most
-    pub drains : Drains any_step setup deliveries (begins any_step t (Client c)).state (begins any_step t (Client c)).outs end
+  -- At this end of a line, whose nodes are those of a scene, the item is answered, and all is drained again.
+  pub record IsAnswered (k : ℕ) (s : Scene) (t : Stage AnyNode) (c item : ℕ) (scene : Scene) (end : Stage AnyNode) : Type 0 where
     pub stands : Stands scene end
     pub drained : Drained setup works (suc k) scene
     -- the item is begun, and no other
@@ -70,6 +65,15 @@ module _ (setup : Setup) (works : NodeId → List Work) where
     pub none_after : answers after ≡ 0
     pub believed : IsNamed s scene c
 
+  -- With so many deliveries the item is answered, and all is drained again.
+  pub record Ends (k most : ℕ) (s : Scene) (t : Stage AnyNode) (c item : ℕ) : Type 0 where
+    pub scene : Scene
+    pub end : Stage AnyNode
+    pub deliveries : ℕ
+    pub few : deliveries ≤ most
+    pub drains : Drains any_step setup deliveries (begins any_step t (Client c)).state (begins any_step t (Client c)).outs end
+    pub answered : IsAnswered k s t c item scene end
+
   -- With so many deliveries the packets are away and the item isn't answered; time passes at each node; and with so many more it is.
   pub record EndsAfterRound (k most more : ℕ) (s : Scene) (t : Stage AnyNode) (c item : ℕ) : Type 0 where
     pub mid : Stage AnyNode
@@ -82,17 +86,7 @@ module _ (setup : Setup) (works : NodeId → List Work) where
     pub second : ℕ
     pub second_few : second ≤ more
     pub second_drains : Drains any_step setup second (rounds any_step setup mid).state (rounds any_step setup mid).outs end
-    pub stands : Stands scene end
-    pub drained : Drained setup works (suc k) scene
-    pub begun : (scene.client c).begun ≡ item
-    pub others : (d : ℕ) → (d ≡ c → ⊥) → (scene.client d).begun ≡ (s.client d).begun
-    pub answer : Answer
-    pub before : List Act
-    pub after : List Act
-    pub acted : end.acts ≡ t.acts ++ (before ++ acts.Answered (Client c) item answer ∷ after)
-    pub none_before : answers before ≡ 0
-    pub none_after : answers after ≡ 0
-    pub believed : IsNamed s scene c
+    pub answered : IsAnswered k s t c item scene end
 
   -- ---- the numbers that counts are made of
 

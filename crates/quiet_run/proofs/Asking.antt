@@ -117,13 +117,13 @@ module _ (setup : Setup) where
     module _ (k : ℕ) (s : Scene) (t : Stage AnyNode) (c item : ℕ) (stands : Stands setup works s t) (has : HasNode setup (Client c)) (all : AllAsk s) where
       pub asks_then : (most : ℕ) (e : Ends setup works k most s t c item) → AllAsk e.scene
       asks_then most e =
-          all_ask e.scene e.end e.stands
+          all_ask e.scene e.end e.answered.stands
           (drains_keep e.deliveries (begins any_step t (Client c)).state e.end (begins any_step t (Client c)).outs e.drains
           (begins_keep t (Client c) has (stage_holds s t stands all)))
 
       pub asks_later : (most more : ℕ) (e : EndsAfterRound setup works k most more s t c item) → AllAsk e.scene
       asks_later most more e =
-          all_ask e.scene e.end e.stands
+          all_ask e.scene e.end e.answered.stands
           (drains_keep e.second (rounds any_step setup e.mid).state e.end (rounds any_step setup e.mid).outs e.second_drains
           (rounds_keep e.mid
           (drains_keep e.first (begins any_step t (Client c)).state e.mid (begins any_step t (Client c)).outs e.first_drains

@@ -53,15 +53,5 @@ ends_later_more setup its k a b most more s t c item less fewer e = record {
   second = e.second;
   second_few = (let few = e.second_few in omega arith);
   second_drains = e.second_drains;
-  stands = e.stands;
-  drained = e.drained;
-  begun = e.begun;
-  others = e.others;
-  answer = e.answer;
-  before = e.before;
-  after = e.after;
-  acted = e.acted;
-  none_before = e.none_before;
-  none_after = e.none_after;
-  believed = e.believed;
+  answered = e.answered;
 }

@@ -191,34 +191,38 @@ module _ (script : Script) (orderly : IsOrderly script) (quiet : IsQuiet script)
 
       soon : Ends script.setup its_works (suc (steps_of played)) most_deliveries b.scene t c item
           → EndsSoon any_step script.setup most_deliveries t (Client c) (suc (length (items_of played (Client c)))) (Between (played ++ line ∷ []))
-      soon e = subst (λ item. EndsSoon any_step script.setup most_deliveries t (Client c) item (Between (played ++ line ∷ []))) item_is (record {
-        end = e.end;
-        deliveries = e.deliveries;
-        few = e.few;
-        drains = e.drains;
-        settled = e.stands.settled;
-        answers_it = record { answer = e.answer; before = e.before; after = e.after; acted = e.acted; none_before = e.none_before; none_after = e.none_after };
-        so_then = between_then e.scene e.end e.stands e.drained e.begun e.others
-            (asks_then script.setup its_works (suc (steps_of played)) b.scene t c item b.stands its_number b.asks most_deliveries e);
-      })
+      soon e =
+          let a = e.answered in
+          subst (λ item. EndsSoon any_step script.setup most_deliveries t (Client c) item (Between (played ++ line ∷ []))) item_is (record {
+            end = e.end;
+            deliveries = e.deliveries;
+            few = e.few;
+            drains = e.drains;
+            settled = a.stands.settled;
+            answers_it = record { answer = a.answer; before = a.before; after = a.after; acted = a.acted; none_before = a.none_before; none_after = a.none_after };
+            so_then = between_then e.scene e.end a.stands a.drained a.begun a.others
+                (asks_then script.setup its_works (suc (steps_of played)) b.scene t c item b.stands its_number b.asks most_deliveries e);
+          })
 
       later : EndsAfterRound script.setup its_works (suc (steps_of played)) 63 65 b.scene t c item
           → EndsLater any_step script.setup 63 65 t (Client c) (suc (length (items_of played (Client c)))) (Between (played ++ line ∷ []))
-      later e = subst (λ item. EndsLater any_step script.setup 63 65 t (Client c) item (Between (played ++ line ∷ []))) item_is (record {
-        mid = e.mid;
-        first = e.first;
-        first_few = e.first_few;
-        first_drains = e.first_drains;
-        waits = let one = e.waits in omega arith;
-        end = e.end;
-        second = e.second;
-        second_few = e.second_few;
-        second_drains = e.second_drains;
-        settled = e.stands.settled;
-        answers_it = record { answer = e.answer; before = e.before; after = e.after; acted = e.acted; none_before = e.none_before; none_after = e.none_after };
-        so_then = between_then e.scene e.end e.stands e.drained e.begun e.others
-            (asks_later script.setup its_works (suc (steps_of played)) b.scene t c item b.stands its_number b.asks 63 65 e);
-      })
+      later e =
+          let a = e.answered in
+          subst (λ item. EndsLater any_step script.setup 63 65 t (Client c) item (Between (played ++ line ∷ []))) item_is (record {
+            mid = e.mid;
+            first = e.first;
+            first_few = e.first_few;
+            first_drains = e.first_drains;
+            waits = let one = e.waits in omega arith;
+            end = e.end;
+            second = e.second;
+            second_few = e.second_few;
+            second_drains = e.second_drains;
+            settled = a.stands.settled;
+            answers_it = record { answer = a.answer; before = a.before; after = a.after; acted = a.acted; none_before = a.none_before; none_after = a.none_after };
+            so_then = between_then e.scene e.end a.stands a.drained a.begun a.others
+                (asks_later script.setup its_works (suc (steps_of played)) b.scene t c item b.stands its_number b.asks 63 65 e);
+          })
 
       leads : EachLineLeadsOn → LeadsOn any_step script Between played line t
       leads law = record {
