@@ -1,6 +1,6 @@
 -- A put of a block that another client owns and has not settled: Want, Recall, the owner's segment, its Deltas once more and its Gave, and then the Grant, as if nobody
 -- else had held the block. From one drained state to the next.
-use Rattle.std.proofs.Common.{◌≡◌, ℕ, suc, ◌+◌, ◌-◌, ◌*◌, ◌<◌, ◌≤◌, true, false, cond, nat_lt, List, [], ◌∷◌, length, Option, Some, refl, sym, ap, subst, ◌∙◌, arith}
+use Rattle.std.proofs.Common.{◌≡◌, ℕ, suc, ◌+◌, ◌-◌, ◌*◌, ◌<◌, ◌≤◌, true, false, cond, not, nat_lt, List, [], ◌∷◌, length, Option, Some, refl, sym, ap, subst, ◌∙◌, arith}
 use Rattle.std.proofs.lemmas.Bool.{false≢true}
 use Rattle.std.specs.Prelude.{Bool, slice_get}
 use Rattle.xfs_base.specs.declared.node.NodeId.TheVariants.{Client}
@@ -21,7 +21,7 @@ use Rattle.xfs_base.specs.declared.node.NodeId.{NodeId}
 use Rattle.xfs_base.specs.declared.setup.Setup.{Setup}
 use Rattle.xfs_base.specs.declared.token.Mode.{Mode}
 use Rattle.xfs_base.specs.declared.token.Mode.TheVariants.{Copy, Nothing, Own}
-use Rattle.xfs_base.specs.Modes.{is_own}
+use Rattle.xfs_base.specs.Modes.{is_nothing, is_own}
 use Rattle.quiet_law.specs.Drained.{Drained, IsCalm, mode_number, most_steps}
 use Rattle.quiet_law.specs.Lines.{Ends, IsNext, Stands, holders, sealing, tail}
 use Rattle.quiet_law.proofs.Alone.{puts_alone}
@@ -79,6 +79,20 @@ module _ (setup : Setup) (works : NodeId → List Work) (k : ℕ) (s : Scene) (c
   pub listed : (owners : Bool) → others (s.slot at_slot).beliefs b c owners ≡ o ∷ []
   listed owners = listed_alone b c o owners differ true refl (s.slot at_slot).beliefs calm.ordered owns none_else
 
+  -- so the block is its owner's, in whichever mode it is wanted
+  pub is_owners : IsSetup setup → suc k < most_steps → (mode : Mode) → is_nothing mode ≡ false → IsOwners setup works k s c o b mode
+  is_owners ok few mode wants = record {
+    drained = d;
+    ok = ok;
+    few = few;
+    asker = asker;
+    owner = owner;
+    differ = differ;
+    dirty = dirty;
+    wants = wants;
+    listed = listed (not (is_own mode));
+  }
+
   -- and who asks doesn't own it
   pub asks : is_own (held_of (s.client c).blocks b).mode ≡ false
   asks =
@@ -107,17 +121,7 @@ module _ (setup : Setup) (works : NodeId → List Work) (k : ℕ) (s : Scene) (t
   asked = asking.asked setup works k s c d less_steps b value next asks_now
 
   its : IsOwners setup works k s c o b Own
-  its = record {
-    drained = d;
-    ok = ok;
-    few = few;
-    asker = next.client;
-    owner = owner;
-    differ = differ;
-    dirty = dirty;
-    wants = refl;
-    listed = listed setup works k s c o b d next.client owner differ dirty false;
-  }
+  its = is_owners setup works k s c o b d next.client owner differ dirty ok few Own refl
 
   abbrev m : Scene
   m = as_if.m setup works k s c o b Own its asked

@@ -90,17 +90,7 @@ module _ (setup : Setup) (works : NodeId → List Work) (k : ℕ) (s : Scene) (t
   asked = asking.asked setup works k s c d less_steps b next nothing
 
   its : IsOwners setup works k s c o b Copy
-  its = record {
-    drained = d;
-    ok = ok;
-    few = few;
-    asker = next.client;
-    owner = owner;
-    differ = differ;
-    dirty = dirty;
-    wants = refl;
-    listed = owned.listed setup works k s c o b d next.client owner differ dirty true;
-  }
+  its = owned.is_owners setup works k s c o b d next.client owner differ dirty ok few Copy refl
 
   abbrev m : Scene
   m = as_if.m setup works k s c o b Copy its asked
