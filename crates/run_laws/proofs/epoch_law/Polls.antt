@@ -1,31 +1,21 @@
 -- A Poll that the owner of a log answers is of an epoch above which nobody is active, so that its horizon is the registry's.
-use Rattle.std.proofs.Common.{◌≡◌, ℕ, zero, suc, ◌+◌, ◌-◌, ◌≤◌, ◌<◌, ◌==◌, Bool, min, true, List, [], ◌∷◌, inl, inr, slice_get, unwrap_or, Option, None, Some, refl, sym, ap, subst, ◌∙◌, mod-eq_of_lt, arith}
-use Rattle.std.proofs.lemmas.Bool.Decides.{nat_tests}
-use Rattle.std.proofs.lemmas.Option.{unwrap_or-slice_get}
+use Rattle.std.proofs.Common.{◌≡◌, ℕ, ◌≤◌, ◌<◌, ◌==◌, Bool, true, List, Option, None, Some, refl, sym, ap, subst, ◌∙◌, mod-eq_of_lt, arith}
 use Rattle.cleaner_serving.specs.declared.emptying.Emptying.{Emptying}
 use Rattle.client_node.specs.declared.phase.Phase.TheVariants as clients
 use Rattle.client_serving.specs.declared.serving.Serving.{Serving}
 use Rattle.cleaner_node.specs.declared.cleaner.Phase.TheVariants as cleaning
 use Rattle.core_world.specs.declared.any_node.AnyNode.{AnyNode}
-use Rattle.index_tie.proofs.Takeovers.{of_log_in}
-use Rattle.index_tie.specs.Net as index
 use Rattle.index_tie.specs.NetLaws.{CheckpointsHaveManagers}
-use Rattle.index_tie.specs.Takeovers.{of_log}
-use Rattle.log_scan.specs.Transition.{horizon_of, least_horizon}
-use Rattle.node_slots.specs.node_index_tie.RegistryEvents.{RegistryAgrees}
 use Rattle.node_slots.specs.node_index_tie.Sight.{Texts, held_in}
 use Rattle.node_slots.proofs.node_tie.SmallWorld.{with_promise}
 use Rattle.node_slots.specs.node_tie.CleanerEvents.{CleanerStands}
 use Rattle.node_slots.specs.node_tie.ClientEvents.{ClientAgrees}
 use Rattle.node_slots.specs.node_tie.Sight.{PollSeen}
-use Rattle.registry.specs.Board.{all_news, slot_news}
-use Rattle.registry.specs.BoardState.{BoardState}
 use Rattle.segment_format.specs.declared.segment.Segment.{Segment}
 use Rattle.registry_node.specs.declared.node.RegistryNode.{RegistryNode}
 use Rattle.token_client.specs.State.{TokensState, epoch_of, is_in_slot}
 use Rattle.token_law.specs.Laws.{ActiveEpochsPromised}
 use Rattle.token_manager.specs.SlotState.{SlotState}
-use Rattle.token_protocol.specs.Basics.{In}
 use Rattle.version_model.specs.declared.act.Act.{Act}
 use Rattle.wire_msg.specs.declared.body.Body.{Body}
 use Rattle.wire_msg.specs.declared.body.Body.TheVariants as body
@@ -35,66 +25,15 @@ use Rattle.world_base.specs.declared.cluster.Cluster.{Cluster}
 use Rattle.run_laws.specs.world_index.Standing as places
 use Rattle.run_laws.specs.world_law.Standing as owners
 use Rattle.xfs_base.specs.declared.block.BlockId.{BlockId}
-use Rattle.xfs_base.specs.declared.news.SlotNews.{SlotNews}
 use Rattle.xfs_base.specs.declared.node.NodeId.{NodeId}
 use Rattle.xfs_base.specs.declared.node.NodeId.TheVariants.{Client, Manager, Server, Cleaner, Registry}
 use Rattle.xfs_base.proofs.Booleans.{equal_itself}
 use Rattle.xfs_base.specs.Limits.{slot_count, block_logs}
 use Rattle.run_laws.proofs.epoch_law.Horizons.{horizons_stay}
+use Rattle.run_laws.proofs.epoch_law.Least.{least_since, up_to}
 use Rattle.run_laws.proofs.epoch_law.Nodes.{one_registry}
 use Rattle.run_laws.specs.epoch_law.Polls.{CleanerPollsAreLow, ClientPollsAreLow, IsLow, PollSent}
 use Rattle.run_laws.specs.epoch_law.Slots.{BothStand}
-
--- ---- the least horizon is none above each
-
-min_first : (a b : ℕ) → min a b ≤ a
-min_first a b = grind (arith, nat_tests)
-
-min_rest : (a b c : ℕ) → b ≤ c → min a b ≤ c
-min_rest a b c h = grind (arith, nat_tests)
-
-least_below : (l : ℕ) (slots : List SlotNews) (x : SlotNews) → In x slots → least_horizon l slots ≤ horizon_of l x
-least_below l [] x among = absurd among
-least_below l (y ∷ slots) x (inl same) = subst (λ z. least_horizon l (y ∷ slots) ≤ horizon_of l z) (sym same)
-    (min_first (horizon_of l y) (least_horizon l slots))
-least_below l (y ∷ slots) x (inr among) = min_rest (horizon_of l y) (least_horizon l slots) (horizon_of l x) (least_below l slots x among)
-
--- where the horizon has a number of the log, that is its horizon
-horizon_is : (x : SlotNews) (l : ℕ) → 0 < l → l ≤ block_logs → 0 < of_log x.horizon l → horizon_of l x ≤ of_log x.horizon l
-horizon_is x l some limit from_one =
-    subst (λ a. horizon_of l x ≤ a) (sym read) (by (slice_get x.horizon (l - 1)) (subst (λ a. 0 < a) read from_one))
-  where
-    read : of_log x.horizon l ≡ unwrap_or (slice_get x.horizon (l - 1)) 0
-    read = of_log_in x.horizon l some limit ∙ sym (unwrap_or-slice_get x.horizon (l - 1) 0)
-
-    by : (o : Option ℕ) → 0 < unwrap_or o 0 → unwrap_or o 1 ≤ unwrap_or o 0
-    by None less = absurd (omega arith)
-    by (Some a) less = omega arith
-
--- ---- the registry's news of the slot
-
-news_among : (b : BoardState) (part : ℕ) → part < slot_count → In (slot_news b part) (all_news b)
-news_among b zero less = inl refl
-news_among b (suc zero) less = inr (inl refl)
-news_among b (suc (suc zero)) less = inr (inr (inl refl))
-news_among b (suc (suc (suc zero))) less = inr (inr (inr (inl refl)))
-news_among b (suc (suc (suc (suc zero)))) less = inr (inr (inr (inr (inl refl))))
-news_among b (suc (suc (suc (suc (suc zero))))) less = inr (inr (inr (inr (inr (inl refl)))))
-news_among b (suc (suc (suc (suc (suc (suc zero)))))) less = inr (inr (inr (inr (inr (inr (inl refl))))))
-news_among b (suc (suc (suc (suc (suc (suc (suc zero))))))) less = inr (inr (inr (inr (inr (inr (inr (inl refl)))))))
-news_among b (suc (suc (suc (suc (suc (suc (suc (suc n)))))))) less = absurd (omega arith)
-
-up_to : (a b c : ℕ) → a ≤ b → b ≤ c → a ≤ c
-up_to a b c h g = omega arith
-
--- the registry's horizon of a log is at or above the least one
-least_kept : (part : ℕ) (n : index.Net) (r : RegistryNode) → part < slot_count → RegistryAgrees part n r → (l : ℕ) → 0 < l → l ≤ block_logs
-    → least_horizon l (all_news r.board) ≤ of_log (n.horizon n.epoch) l
-least_kept part n r of_eight agreed l some limit =
-    let x = slot_news r.board part in
-    subst (λ (h : List ℕ). least_horizon l (all_news r.board) ≤ of_log h l) agreed.horizon
-    (up_to (least_horizon l (all_news r.board)) (horizon_of l x) (of_log x.horizon l) (least_below l (all_news r.board) x (news_among r.board part of_eight))
-    (horizon_is x l some limit (subst (λ (h : List ℕ). 0 < of_log h l) (sym agreed.horizon) (agreed.horizon_fits.from_one l some limit))))
 
 -- ---- a moment
 
@@ -138,28 +77,10 @@ module _ (managed : CheckpointsHaveManagers) (promised : ActiveEpochsPromised) (
         by None fact = fact
         by (Some z) fact = let low = bound e z fact in absurd (omega arith)
 
-    same_horizon : (more : ℕ) → limit + more ≤ i.net.epoch → i.net.horizon (limit + more) ≡ i.net.horizon limit
-    same_horizon zero within = ap i.net.horizon (plus limit)
-      where
-        plus : (a : ℕ) → a + 0 ≡ a
-        plus a = omega arith
-    same_horizon (suc more) within =
-        ap i.net.horizon (plus limit more)
-        ∙ (horizons_stay managed part (held_in part texts) first i.net of_eight both.index.runs (limit + more) (omega arith)
-        (nobody (suc (limit + more)) (omega arith))
-        ∙ same_horizon more (omega arith))
-      where
-        plus : (a b : ℕ) → a + suc b ≡ suc (a + b)
-        plus a b = omega arith
-
     pub polled_low : limit ≤ i.net.epoch → (l : ℕ) → 0 < l → l ≤ block_logs → IsLow i limit l
     polled_low within l some less =
-        subst (λ (h : List ℕ). least_horizon l (all_news i.registry.board) ≤ of_log h l)
-        (ap i.net.horizon (sym end) ∙ same_horizon (i.net.epoch - limit) (omega arith))
-        (least_kept part i.net i.registry of_eight both.index.registry l some less)
-      where
-        end : limit + (i.net.epoch - limit) ≡ i.net.epoch
-        end = omega arith
+        least_since (horizons_stay managed) part (held_in part texts) first i.net of_eight both.index.runs limit nobody within i.registry both.index.registry l some
+        less
 
   -- ---- who answers
 
