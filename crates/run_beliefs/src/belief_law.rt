@@ -3,10 +3,7 @@
 
 ghost use Rattle.run_beliefs.specs.belief_law.Beliefs.{EveryRunsManagersBelieve};
 
-use node_slots::node_tie::{
-    client_events_are_seen, clients_ask_for_their_call, manager_events_are_seen,
-    other_events_are_seen,
-};
+use run_laws::world_law::nodes_are_seen;
 use token_law::tokens_keep_their_word;
 
 /// A manager of a slot at an epoch, be it the registry's or an earlier one, believes of each client that serves and has promised that epoch at least what it
@@ -16,9 +13,6 @@ use token_law::tokens_keep_their_word;
 pub fn managers_believe_their_clients()
     ensures believed { EveryRunsManagersBelieve }
 {
-    clients_ask_for_their_call();
-    client_events_are_seen();
-    manager_events_are_seen();
-    other_events_are_seen();
+    nodes_are_seen();
     tokens_keep_their_word();
 }

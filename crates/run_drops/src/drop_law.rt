@@ -5,10 +5,7 @@ ghost use Rattle.run_drops.specs.drop_law.Drops.{EveryRunDeletesBelowHorizons, E
 
 use log_tie::settings_exist;
 use node_moves::cleaner_moves::cleaner_events_are_moves;
-use node_slots::node_tie::{
-    client_events_are_seen, clients_ask_for_their_call, manager_events_are_seen,
-    other_events_are_seen,
-};
+use run_laws::world_law::nodes_are_seen;
 use run_laws::world_logs::runs_keep_logs;
 
 /// What servers are told to delete, whatever messages are lost, repeated or reordered and whichever nodes stop (the 1996 paper, "The Log Cleaner").
@@ -23,9 +20,6 @@ pub fn what_is_deleted_was_dropped()
 {
     settings_exist();
     runs_keep_logs();
-    clients_ask_for_their_call();
-    client_events_are_seen();
-    manager_events_are_seen();
-    other_events_are_seen();
+    nodes_are_seen();
     cleaner_events_are_moves();
 }

@@ -1,2 +1,3 @@
 pub mod FiledUpto
 pub mod Told
+pub mod NodeLaws

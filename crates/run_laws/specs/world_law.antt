@@ -4,3 +4,4 @@ pub mod Fallen
 pub mod Owes
 pub mod Standing
 pub mod Since
+pub mod NodeLaws

@@ -1,12 +1,24 @@
 //! What is told of logs was filed, in every run of the nodes' world: no horizon of a checkpoint is more than one beyond a segment that was acted to be filed.
-//! It has no code of the product: the function below calls the laws of each kind of node, and its contract is a law.
+//! It has no code of the product: each function below calls the laws that it stands on, and its contract is a law.
 
+ghost use Rattle.run_laws.specs.filed_law.NodeLaws.{NodeLaws};
 ghost use Rattle.run_laws.specs.filed_law.Told.{EventsKeepTold, EveryRunToldWasFiled, RunsStartTold, ToldHorizonsWereFiled};
 
 use node_tellings::filed_tie::{
     cleaner_tells_what_is_filed, clients_tell_what_is_filed, managers_tell_what_is_filed,
     registry_tells_what_is_filed, servers_tell_what_is_filed,
 };
+
+/// What each kind of node holds and tells of logs was filed: the laws of the nodes on which the laws of runs stand.
+pub fn nodes_tell_what_is_filed()
+    ensures { NodeLaws }
+{
+    clients_tell_what_is_filed();
+    managers_tell_what_is_filed();
+    servers_tell_what_is_filed();
+    cleaner_tells_what_is_filed();
+    registry_tells_what_is_filed();
+}
 
 /// At each moment of every run no node holds, and no packet that was sent tells, anything of logs beyond what was filed in the acts up to then: no end that is
 /// reported, no deltas, nothing applied and no horizon.
@@ -21,9 +33,5 @@ pub fn what_is_told_was_filed()
     ensures runs { EveryRunToldWasFiled }
     ensures horizons { ToldHorizonsWereFiled }
 {
-    clients_tell_what_is_filed();
-    managers_tell_what_is_filed();
-    servers_tell_what_is_filed();
-    cleaner_tells_what_is_filed();
-    registry_tells_what_is_filed();
+    nodes_tell_what_is_filed();
 }

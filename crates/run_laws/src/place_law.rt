@@ -7,12 +7,9 @@ ghost use Rattle.run_laws.specs.place_law.Fetches.{ClientsKeepSo, ClientsStartSo
 ghost use Rattle.run_laws.specs.place_law.Hands.{HandsReadTexts};
 ghost use Rattle.run_laws.specs.place_law.Reads.{TakeoversReadTexts, WhatIsReadIsTheText};
 
+use crate::world_law::nodes_are_seen;
 use log_law::{a_place_names_one_content, one_name_one_text};
 use node_logs::manager_log_tie::what_is_told_is_in_range;
-use node_slots::node_tie::{
-    client_events_are_seen, clients_ask_for_their_call, manager_events_are_seen,
-    other_events_are_seen,
-};
 use node_tellings::reading_tie::{
     cleaner_reads_what_came, clients_read_what_came, managers_read_what_came,
 };
@@ -77,8 +74,5 @@ pub fn lives_answer_checks()
     ensures managers { ManagersAnswer }
     ensures runs { RunsAnswer }
 {
-    clients_ask_for_their_call();
-    client_events_are_seen();
-    manager_events_are_seen();
-    other_events_are_seen();
+    nodes_are_seen();
 }

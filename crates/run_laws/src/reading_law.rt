@@ -4,11 +4,8 @@
 
 ghost use Rattle.run_laws.specs.reading_law.Readings.{RunsReadWhatCame};
 
+use crate::world_law::nodes_are_seen;
 use group_map::laws::groups_stay_as_made;
-use node_slots::node_tie::{
-    client_events_are_seen, clients_ask_for_their_call, manager_events_are_seen,
-    other_events_are_seen,
-};
 use node_tellings::reading_tie::{
     cleaner_empties_what_was_listed, cleaner_reads_what_came, clients_read_what_came,
     managers_read_what_came,
@@ -28,8 +25,5 @@ pub fn readers_hold_what_came()
     cleaner_reads_what_came();
     cleaner_empties_what_was_listed();
     groups_stay_as_made();
-    clients_ask_for_their_call();
-    client_events_are_seen();
-    manager_events_are_seen();
-    other_events_are_seen();
+    nodes_are_seen();
 }

@@ -2,6 +2,7 @@
 //! restart is doubtful. It has no code: each function calls the laws that it stands on, and its contract is a law. `specs/restart_law/Restarts.antt` says when
 //! a restart is doubtful.
 
+ghost use Rattle.run_laws.specs.restart_law.Below.{Below};
 ghost use Rattle.run_laws.specs.restart_law.Sure.{UndoubtedRunsAreSure};
 ghost use Rattle.run_laws.specs.restart_law.Unlost.{ScriptsWithoutLossesAreUndoubted, WithoutLossesNoRestartIsDoubtful};
 
@@ -14,13 +15,9 @@ use log_law::{
 use log_tie::settings_exist;
 use loss_law::fragments_go_with_disks;
 
-/// Where no restart that ended up to a count of the events of a run was doubtful, the line of each client's log and of the cleaner's is sure up to there, as
-/// the laws of logs assume it. A restart is doubtful where each member of the newest segment of the log, as its owner had it when it served last, unless that
-/// is below the low by which the opening picked its chain, lacked its fragment, or lost its disk, at some moment of the restart's span while no server was told
-/// to delete the segment; the span begins with the restart or, where attempts since the owner served last were cut short once they had written their opening
-/// segments, with the first of these (the 1996 paper, on recovery).
-pub fn undoubted_runs_are_sure()
-    ensures sure { UndoubtedRunsAreSure }
+/// What the law of logs says of openings and of what is held, and how fragments and lines go on.
+fn laws_below()
+    ensures { Below }
 {
     logs_stay_in_line();
     logs_stay_whole();
@@ -32,6 +29,17 @@ pub fn undoubted_runs_are_sure()
     owners_lines_go_on();
 }
 
+/// Where no restart that ended up to a count of the events of a run was doubtful, the line of each client's log and of the cleaner's is sure up to there, as
+/// the laws of logs assume it. A restart is doubtful where each member of the newest segment of the log, as its owner had it when it served last, unless that
+/// is below the low by which the opening picked its chain, lacked its fragment, or lost its disk, at some moment of the restart's span while no server was told
+/// to delete the segment; the span begins with the restart or, where attempts since the owner served last were cut short once they had written their opening
+/// segments, with the first of these (the 1996 paper, on recovery).
+pub fn undoubted_runs_are_sure()
+    ensures sure { UndoubtedRunsAreSure }
+{
+    laws_below();
+}
+
 /// Where no server loses its disk in a run, so that each server of a group is at each moment of the generation with which the group was made, no restart of
 /// the run is doubtful: while no server was told to delete the newest segment of a log, each member of its group holds its fragment. So it is in each run of a
 /// script that has no line by which a server loses its disk.
@@ -39,14 +47,7 @@ pub fn without_losses_no_restart_is_doubtful()
     ensures undoubted { WithoutLossesNoRestartIsDoubtful }
     ensures scripts { ScriptsWithoutLossesAreUndoubted }
 {
-    logs_stay_in_line();
-    logs_stay_whole();
-    one_name_one_text();
-    ends_are_last();
-    what_is_held_flew();
-    a_reopening_reads_back();
-    fragments_go_with_disks();
-    owners_lines_go_on();
+    laws_below();
     settings_exist();
     runs_keep_logs();
 }

@@ -7,12 +7,9 @@
 
 ghost use Rattle.run_laws.specs.world_index.Laws.{EveryRunKeepsIndexes};
 
+use crate::world_law::nodes_are_seen;
 use index_tie::cleaning_loses_nothing;
 use node_slots::node_index_tie::{manager_events_are_seen, registry_events_are_seen};
-use node_slots::node_tie::{
-    client_events_are_seen, clients_ask_for_their_call,
-    manager_events_are_seen as manager_tokens_are_seen, other_events_are_seen,
-};
 use node_slots::owner_index_tie::{
     cleaner_index_events_are_seen, client_index_events_are_seen, server_index_events_are_seen,
 };
@@ -27,10 +24,7 @@ use node_slots::owner_index_tie::{
 pub fn runs_keep_indexes()
     ensures keeps { EveryRunKeepsIndexes }
 {
-    clients_ask_for_their_call();
-    client_events_are_seen();
-    manager_tokens_are_seen();
-    other_events_are_seen();
+    nodes_are_seen();
     client_index_events_are_seen();
     cleaner_index_events_are_seen();
     server_index_events_are_seen();

@@ -7,6 +7,7 @@
 
 ghost use Rattle.run_laws.specs.world_law.Fallen.{EveryRunHasFallsApart, NobodyHoldsWhatFell};
 ghost use Rattle.run_laws.specs.world_law.Managers.{EveryRunHasOneManager};
+ghost use Rattle.run_laws.specs.world_law.NodeLaws.{NodeLaws};
 ghost use Rattle.run_laws.specs.world_law.Owners.{EveryRunHasOneOwner};
 
 use node_slots::node_tie::{
@@ -14,6 +15,16 @@ use node_slots::node_tie::{
     other_events_are_seen,
 };
 use token_law::{acts_are_legal, tokens_keep_their_word};
+
+/// What each kind of node does in an event is seen in the small world of tokens: the laws of the nodes on which the laws of runs stand.
+pub fn nodes_are_seen()
+    ensures { NodeLaws }
+{
+    clients_ask_for_their_call();
+    client_events_are_seen();
+    manager_events_are_seen();
+    other_events_are_seen();
+}
 
 /// In every run, whatever messages are lost, repeated or reordered and whichever nodes stop, at each of its
 /// moments a block has one owner at most, and then no other client holds it (the 1996 paper, on cache
@@ -23,10 +34,7 @@ use token_law::{acts_are_legal, tokens_keep_their_word};
 pub fn every_run_has_one_owner()
     ensures one_owner { EveryRunHasOneOwner }
 {
-    clients_ask_for_their_call();
-    client_events_are_seen();
-    manager_events_are_seen();
-    other_events_are_seen();
+    nodes_are_seen();
     tokens_keep_their_word();
 }
 
@@ -41,10 +49,7 @@ pub fn every_run_has_one_owner()
 pub fn every_run_has_one_manager()
     ensures one_manager { EveryRunHasOneManager }
 {
-    clients_ask_for_their_call();
-    client_events_are_seen();
-    manager_events_are_seen();
-    other_events_are_seen();
+    nodes_are_seen();
     tokens_keep_their_word();
 }
 
@@ -58,10 +63,7 @@ pub fn what_fell_is_held_by_nobody()
     ensures nobody { NobodyHoldsWhatFell }
     ensures apart { EveryRunHasFallsApart }
 {
-    clients_ask_for_their_call();
-    client_events_are_seen();
-    manager_events_are_seen();
-    other_events_are_seen();
+    nodes_are_seen();
     tokens_keep_their_word();
     acts_are_legal();
 }

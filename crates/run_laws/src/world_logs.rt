@@ -8,6 +8,8 @@ ghost use Rattle.run_laws.specs.world_logs.Lines.{LinesHaveTexts, RunsHaveLines}
 ghost use Rattle.run_laws.specs.world_logs.Listing.{RunsListTheirLogs};
 ghost use Rattle.run_laws.specs.world_logs.Logs.{RunsKeepLogs, RunsKeepManagersLogs, RunsKeepTheCleanersLog};
 
+use crate::filed_law::nodes_tell_what_is_filed;
+use crate::world_law::nodes_are_seen;
 use group_map::laws::groups_stay_as_made;
 use log_law::{
     a_reopening_reads_back, logs_stay_whole, one_name_one_text, openings_go_on, what_is_held_flew,
@@ -22,13 +24,8 @@ use node_logs::manager_log_tie::{
 use node_logs::node_log_tie::{
     cleaner_events_are_seen, registry_events_are_seen, server_events_are_seen,
 };
-use node_slots::node_tie::{
-    client_events_are_seen, clients_ask_for_their_call, manager_events_are_seen,
-    other_events_are_seen,
-};
 use node_tellings::filed_tie::{
-    cleaner_tells_what_is_filed, clients_tell_what_is_filed, managers_tell_what_is_filed,
-    registry_tells_what_is_filed, servers_tell_what_is_filed,
+    managers_tell_what_is_filed, registry_tells_what_is_filed, servers_tell_what_is_filed,
 };
 
 /// Whatever messages are lost, repeated or reordered, and whichever nodes stop and start again, logs are whole at
@@ -56,12 +53,8 @@ pub fn runs_keep_logs()
     ensures lists { RunsListTheirLogs }
     ensures texts { LinesHaveTexts }
 {
-    clients_ask_for_their_call();
-    client_events_are_seen();
-    manager_events_are_seen();
-    other_events_are_seen();
-    clients_tell_what_is_filed();
-    cleaner_tells_what_is_filed();
+    nodes_are_seen();
+    nodes_tell_what_is_filed();
     servers_tell_what_is_filed();
     managers_tell_what_is_filed();
     registry_tells_what_is_filed();

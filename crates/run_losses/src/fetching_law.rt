@@ -7,10 +7,7 @@ ghost use Rattle.run_losses.specs.fetching_law.Present.{ReadsByPresentGroups};
 use crate::missing_law::answers_tell_of_misses;
 use group_map::laws::groups_stay_as_made;
 use log_tie::settings_exist;
-use node_slots::node_tie::{
-    client_events_are_seen, clients_ask_for_their_call, manager_events_are_seen,
-    other_events_are_seen,
-};
+use run_laws::world_law::nodes_are_seen;
 use run_laws::world_logs::runs_keep_logs;
 
 /// Whatever messages are lost, repeated or reordered, however disks are lost and rebuilt, and whichever nodes stop and start again, in every run of a script of
@@ -30,10 +27,7 @@ pub fn fetches_lose_what_is_torn()
     runs_keep_logs();
     answers_tell_of_misses();
     groups_stay_as_made();
-    clients_ask_for_their_call();
-    client_events_are_seen();
-    manager_events_are_seen();
-    other_events_are_seen();
+    nodes_are_seen();
 }
 
 /// After any events that bring maps of groups, as each is by its type, the map by which a client reads, back through its log or for its open call, is one: so

@@ -5,11 +5,8 @@
 ghost use Rattle.run_losses.specs.gone_law.Gones.{ClientsAreToldWhatWasLost, GonesAreOfBroken, ManagersSayGoneWhatTheyLost};
 
 use log_tie::settings_exist;
-use node_slots::node_tie::{
-    client_events_are_seen, clients_ask_for_their_call, manager_events_are_seen,
-    other_events_are_seen,
-};
 use run_laws::reading_law::readers_hold_what_came;
+use run_laws::world_law::nodes_are_seen;
 use run_laws::world_logs::runs_keep_logs;
 
 /// What is said to be gone was lost, whatever messages are lost, repeated or reordered, however disks are lost and rebuilt, and whichever nodes stop and start
@@ -29,8 +26,5 @@ pub fn gone_was_lost()
     settings_exist();
     runs_keep_logs();
     readers_hold_what_came();
-    clients_ask_for_their_call();
-    client_events_are_seen();
-    manager_events_are_seen();
-    other_events_are_seen();
+    nodes_are_seen();
 }

@@ -6,12 +6,9 @@ ghost use Rattle.run_losses.specs.keeping_law.Grants.{ManagersGrantWhatTheyHold}
 ghost use Rattle.run_losses.specs.keeping_law.Keeping.{GrantsLeadToWhatStands};
 
 use index_tie::cleaning_loses_nothing;
-use node_slots::node_tie::{
-    client_events_are_seen, clients_ask_for_their_call, manager_events_are_seen,
-    other_events_are_seen,
-};
 use run_laws::restart_law::undoubted_runs_are_sure;
 use run_laws::segment_tie::items_say_all;
+use run_laws::world_law::nodes_are_seen;
 use run_laws::world_lines::lines_are_filed;
 use run_laws::world_logs::runs_keep_logs;
 use run_laws::world_reads::every_runs_acts_are_legal;
@@ -29,10 +26,7 @@ pub fn grants_lead_to_what_stands()
     ensures told { ManagersGrantWhatTheyHold }
     ensures stood { GrantsLeadToWhatStands }
 {
-    clients_ask_for_their_call();
-    client_events_are_seen();
-    manager_events_are_seen();
-    other_events_are_seen();
+    nodes_are_seen();
     tokens_keep_their_word();
     grants_tell_the_newest();
     cleaning_loses_nothing();

@@ -4,10 +4,7 @@
 ghost use Rattle.run_losses.specs.reader_law.Readers.{OnlyReadersSayLost};
 
 use crate::fetching_law::fetches_lose_what_is_torn;
-use node_slots::node_tie::{
-    client_events_are_seen, clients_ask_for_their_call, manager_events_are_seen,
-    other_events_are_seen,
-};
+use run_laws::world_law::nodes_are_seen;
 
 /// Whatever messages are lost, repeated or reordered, and whichever nodes stop and start again: where in an event it is said that a segment is lost, the node
 /// to which the event happens says so of itself; and it is a client, or the cleaner, that scans its log to open it, a client that serves and whose item waits
@@ -17,8 +14,5 @@ pub fn only_readers_say_lost()
     ensures readers { OnlyReadersSayLost }
 {
     fetches_lose_what_is_torn();
-    clients_ask_for_their_call();
-    client_events_are_seen();
-    manager_events_are_seen();
-    other_events_are_seen();
+    nodes_are_seen();
 }

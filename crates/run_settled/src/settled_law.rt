@@ -4,13 +4,10 @@
 ghost use Rattle.run_settled.specs.settled_law.Settled.{EveryRunsBlocksAreSettled};
 
 use log_law::{logs_stay_whole, one_name_one_text, what_is_held_flew};
-use node_slots::node_tie::{
-    client_events_are_seen, clients_ask_for_their_call, manager_events_are_seen,
-    other_events_are_seen,
-};
 use node_slots::owner_index_tie::server_index_events_are_seen;
 use run_laws::restart_law::undoubted_runs_are_sure;
 use run_laws::segment_tie::items_say_all;
+use run_laws::world_law::nodes_are_seen;
 use run_laws::world_lines::lines_are_filed;
 use run_laws::world_logs::runs_keep_logs;
 use run_laws::world_reads::every_runs_acts_are_legal;
@@ -26,10 +23,7 @@ pub fn what_is_settled_is_the_join()
     logs_stay_whole();
     one_name_one_text();
     what_is_held_flew();
-    clients_ask_for_their_call();
-    client_events_are_seen();
-    manager_events_are_seen();
-    other_events_are_seen();
+    nodes_are_seen();
     server_index_events_are_seen();
     undoubted_runs_are_sure();
     items_say_all();

@@ -5,11 +5,8 @@ ghost use Rattle.run_stripes.specs.stripe_law.ReadBack.{WhatIsFiledIsReadBack};
 
 use log_law::{logs_stay_whole, one_name_one_text, what_flew_is_written};
 use log_tie::settings_exist;
-use node_slots::node_tie::{
-    client_events_are_seen, clients_ask_for_their_call, manager_events_are_seen,
-    other_events_are_seen,
-};
 use node_slots::owner_index_tie::server_index_events_are_seen;
+use run_laws::world_law::nodes_are_seen;
 use run_laws::world_logs::runs_keep_logs;
 
 /// What is filed is read back (the 1996 paper, on RAID): at each moment of every run, whatever messages are lost, repeated or reordered, whichever nodes stop and
@@ -22,10 +19,7 @@ pub fn what_is_filed_is_read_back()
     one_name_one_text();
     what_flew_is_written();
     settings_exist();
-    clients_ask_for_their_call();
-    client_events_are_seen();
-    manager_events_are_seen();
-    other_events_are_seen();
+    nodes_are_seen();
     server_index_events_are_seen();
     runs_keep_logs();
 }

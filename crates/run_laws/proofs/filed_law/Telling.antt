@@ -25,14 +25,11 @@ use Rattle.xfs_base.specs.declared.node.NodeId.{NodeId}
 use Rattle.xfs_base.specs.declared.node.NodeId.TheVariants as nodes
 use Rattle.xfs_base.specs.declared.setup.Setup.{Setup}
 use Rattle.xfs_base.proofs.Alls.{all_append}
-use Rattle.node_tellings.specs.filed_tie.CleanerReach.{CleanerReachRises, CleanerStartsReaching, CleanerTellsFiled}
-use Rattle.node_tellings.specs.filed_tie.ClientReach.{ClientReachRises, ClientStartsReaching, ClientsTellFiled}
-use Rattle.node_tellings.specs.filed_tie.ManagerReach.{ManagerReachRises, ManagerStartsReaching, ManagersTellFiled}
 use Rattle.node_tellings.specs.filed_tie.Reach.{Reach, Rises, ActsReach, SlotsReach, DoTells, PacketTells, TellsFiled}
-use Rattle.node_tellings.specs.filed_tie.RegistryReach.{RegistryReaches, RegistryReachRises, RegistryStartsReaching, RegistryTellsFiled}
-use Rattle.node_tellings.specs.filed_tie.ServerReach.{ServersTellFiled}
+use Rattle.node_tellings.specs.filed_tie.RegistryReach.{RegistryReaches}
 use Rattle.node_tellings.proofs.filed_tie.Rising.{body_rises, least_low}
 use Rattle.run_laws.specs.filed_law.FiledUpto.{filed_upto, IsFiledUpto}
+pub use Rattle.run_laws.specs.filed_law.NodeLaws.{NodeLaws}
 use Rattle.run_laws.specs.filed_law.Told.{AnyReaches, ToldWasFiled, HorizonWasFiled, RunsStartTold, EventsKeepTold, EveryRunToldWasFiled, ToldHorizonsWereFiled}
 use Rattle.run_laws.proofs.filed_law.Reaching.{filed_rises, filed_reached, is_filed}
 
@@ -55,22 +52,6 @@ module _ {X : Type 0} (P : X → Type 0) where
   all_among (y ∷ xs) x all (inr later) = all_among xs x all.1 later
 
 -- ---- nodes of any kind
-
--- the laws of the nodes, each of its kind
-pub record NodeLaws : Type 0 where
-  pub client_starts : ClientStartsReaching
-  pub client_rises : ClientReachRises
-  pub client : ClientsTellFiled
-  pub manager_starts : ManagerStartsReaching
-  pub manager_rises : ManagerReachRises
-  pub manager : ManagersTellFiled
-  pub server : ServersTellFiled
-  pub cleaner_starts : CleanerStartsReaching
-  pub cleaner_rises : CleanerReachRises
-  pub cleaner : CleanerTellsFiled
-  pub registry_starts : RegistryStartsReaching
-  pub registry_rises : RegistryReachRises
-  pub registry : RegistryTellsFiled
 
 module _ (laws : NodeLaws) where
   any_starts : (reach : Reach) (node : NodeId) (setup : Setup) (items : List Work) → AnyReaches reach (any_start node setup items)

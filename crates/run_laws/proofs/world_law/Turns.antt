@@ -9,14 +9,14 @@ use Rattle.manager_node.specs.Events.{happens}
 use Rattle.manager_node.specs.Phases as managers
 use Rattle.node_slots.proofs.node_tie.SmallWorld.{premise, premise_to}
 use Rattle.node_slots.proofs.node_tie.StoreFrames.{all_neutral}
-use Rattle.node_slots.specs.node_tie.AskingEvents.{EventsKeepAsking, PhaseAsks, StartsAsking}
-use Rattle.node_slots.specs.node_tie.CleanerEvents.{CleanerDoes, CleanerGoes, CleanerOwed, CleanerStarts, CleanerTakes}
+use Rattle.node_slots.specs.node_tie.AskingEvents.{PhaseAsks}
+use Rattle.node_slots.specs.node_tie.CleanerEvents.{CleanerDoes, CleanerGoes, CleanerOwed}
 use Rattle.node_slots.specs.node_tie.CleanerLogs.{CleanerRuns}
-use Rattle.node_slots.specs.node_tie.ClientEvents.{ClientAgrees, ClientGoes, ClientOwed, ClientStands, ClientTakes, IsTaken}
-use Rattle.node_slots.specs.node_tie.ManagerEvents.{EventGets as ManagerEventGets, FirstManagerAgrees, ManagerEventGoes, ManagerGoes}
-use Rattle.node_slots.specs.node_tie.RegistryEvents.{RegistryEventGoes, RegistryGoes, RegistrySound, RegistryStarts}
+use Rattle.node_slots.specs.node_tie.ClientEvents.{ClientAgrees, ClientGoes, ClientOwed, ClientStands, IsTaken}
+use Rattle.node_slots.specs.node_tie.ManagerEvents.{EventGets as ManagerEventGets, ManagerGoes}
+use Rattle.node_slots.specs.node_tie.RegistryEvents.{RegistryGoes, RegistrySound}
 use Rattle.node_slots.specs.node_tie.Sight.{ManagerDoes, ServerSends}
-use Rattle.node_slots.specs.node_tie.StoreEvents.{AllNeutral, PacketsSay, ServersSay}
+use Rattle.node_slots.specs.node_tie.StoreEvents.{AllNeutral, PacketsSay}
 use Rattle.cleaner_node.specs.CleanerEvents as cleaners
 use Rattle.store_nodes.specs.declared.server.Server.{Server as ServerNode}
 use Rattle.registry_node.specs.Events.{registry_step}
@@ -49,6 +49,7 @@ use Rattle.run_laws.proofs.world_law.Places.{Behind, behind}
 use Rattle.run_laws.proofs.world_law.RegistryTurns as boards
 use Rattle.run_laws.proofs.world_law.RegistryTurns.{registry_scene, registry_turn}
 use Rattle.run_laws.proofs.world_law.Sent.{was_sent}
+pub use Rattle.run_laws.specs.world_law.NodeLaws.{NodeLaws}
 pub use Rattle.run_laws.specs.world_law.Since.{Since}
 use Rattle.run_laws.specs.world_law.Standing.{Fact, ManagerSees, PastAt, Scene, Stands, epoch_now, members}
 use Rattle.run_laws.proofs.world_law.Turning.{next_keeps}
@@ -57,19 +58,6 @@ use Rattle.run_laws.specs.world_law.Owners.{node_in}
 use Rattle.xfs_base.specs.declared.node.NodeId.{NodeId}
 use Rattle.xfs_base.specs.declared.node.NodeId.TheVariants.{Client, Manager, Server, Cleaner, Registry}
 use Rattle.xfs_base.specs.Limits.{slot_count}
-
--- the laws of the nodes, each of its kind
-pub record NodeLaws : Type 0 where
-  pub starts_asking : StartsAsking
-  pub keeps_asking : EventsKeepAsking
-  pub client : ClientTakes
-  pub first_manager : FirstManagerAgrees
-  pub manager : ManagerEventGoes
-  pub begins : RegistryStarts
-  pub registry : RegistryEventGoes
-  pub server : ServersSay
-  pub cleaner_starts : CleanerStarts
-  pub cleaner : CleanerTakes
 
 pub one_node : {X : Type 0} (a b : X) → Some a ≡ Some b → a ≡ b
 one_node a b same = ap (λ o. unwrap_or o a) same

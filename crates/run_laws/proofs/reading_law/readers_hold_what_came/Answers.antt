@@ -18,18 +18,7 @@ returns c = record {
       met_rises = c.cleaner_empties_what_was_listed.ensures.rises;
       met = c.cleaner_empties_what_was_listed.ensures.events;
     };
-    tokens = record {
-      starts_asking = c.clients_ask_for_their_call.ensures.start;
-      keeps_asking = c.clients_ask_for_their_call.ensures.events;
-      client = c.client_events_are_seen.ensures.events;
-      first_manager = c.manager_events_are_seen.ensures.start;
-      manager = c.manager_events_are_seen.ensures.events;
-      begins = c.other_events_are_seen.ensures.start;
-      registry = c.other_events_are_seen.ensures.events;
-      server = c.other_events_are_seen.ensures.servers;
-      cleaner_starts = c.other_events_are_seen.ensures.cleaner_start;
-      cleaner = c.other_events_are_seen.ensures.cleaner;
-    };
+    tokens = c.nodes_are_seen.ensures;
     groups = c.groups_stay_as_made.ensures;
   });
 }

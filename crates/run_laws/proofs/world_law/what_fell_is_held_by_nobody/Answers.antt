@@ -1,23 +1,8 @@
 use Rattle.run_laws.proofs.world_law.Fallen.{falls_apart, nobody_holds}
-use Rattle.run_laws.proofs.world_law.Laws.{NodeLaws}
 use Rattle.run_laws.proofs.world_law.what_fell_is_held_by_nobody.Goals as goal
 
 pub returns : goal.returns
 returns c = record {
-  nobody = nobody_holds laws c.tokens_keep_their_word.ensures.nobody;
-  apart = falls_apart laws c.acts_are_legal.ensures.apart;
+  nobody = nobody_holds c.nodes_are_seen.ensures c.tokens_keep_their_word.ensures.nobody;
+  apart = falls_apart c.nodes_are_seen.ensures c.acts_are_legal.ensures.apart;
 }
-  where
-    laws : NodeLaws
-    laws = record {
-      starts_asking = c.clients_ask_for_their_call.ensures.start;
-      keeps_asking = c.clients_ask_for_their_call.ensures.events;
-      client = c.client_events_are_seen.ensures.events;
-      first_manager = c.manager_events_are_seen.ensures.start;
-      manager = c.manager_events_are_seen.ensures.events;
-      begins = c.other_events_are_seen.ensures.start;
-      registry = c.other_events_are_seen.ensures.events;
-      server = c.other_events_are_seen.ensures.servers;
-      cleaner_starts = c.other_events_are_seen.ensures.cleaner_start;
-      cleaner = c.other_events_are_seen.ensures.cleaner;
-    }

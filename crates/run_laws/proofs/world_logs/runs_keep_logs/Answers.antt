@@ -1,4 +1,3 @@
-use Rattle.run_laws.proofs.world_law.Laws.{NodeLaws}
 use Rattle.run_laws.proofs.world_logs.Horizons.{horizons_reached}
 use Rattle.run_laws.proofs.world_logs.Texts.{texts_of}
 use Rattle.run_laws.proofs.world_logs.Laws.{Below, cleaners_log_stands, logs_stand, managers_logs_stand, runs_have_lines, runs_list_their_logs}
@@ -8,41 +7,15 @@ use Rattle.run_laws.specs.world_logs.Horizons.{RunsReachHorizons}
 
 pub returns : goal.returns
 returns c =
-    let tokens : NodeLaws = record {
-      starts_asking = c.clients_ask_for_their_call.ensures.start;
-      keeps_asking = c.clients_ask_for_their_call.ensures.events;
-      client = c.client_events_are_seen.ensures.events;
-      first_manager = c.manager_events_are_seen.ensures.start;
-      manager = c.manager_events_are_seen.ensures.events;
-      begins = c.other_events_are_seen.ensures.start;
-      registry = c.other_events_are_seen.ensures.events;
-      server = c.other_events_are_seen.ensures.servers;
-      cleaner_starts = c.other_events_are_seen.ensures.cleaner_start;
-      cleaner = c.other_events_are_seen.ensures.cleaner;
-    } in
-    let horizons : RunsReachHorizons = horizons_reached tokens (record {
-      told = record {
-        client_starts = c.clients_tell_what_is_filed.ensures.start;
-        client_rises = c.clients_tell_what_is_filed.ensures.rises;
-        client = c.clients_tell_what_is_filed.ensures.events;
-        manager_starts = c.managers_tell_what_is_filed.ensures.start;
-        manager_rises = c.managers_tell_what_is_filed.ensures.rises;
-        manager = c.managers_tell_what_is_filed.ensures.events;
-        server = c.servers_tell_what_is_filed.ensures.events;
-        cleaner_starts = c.cleaner_tells_what_is_filed.ensures.start;
-        cleaner_rises = c.cleaner_tells_what_is_filed.ensures.rises;
-        cleaner = c.cleaner_tells_what_is_filed.ensures.events;
-        registry_starts = c.registry_tells_what_is_filed.ensures.start;
-        registry_rises = c.registry_tells_what_is_filed.ensures.rises;
-        registry = c.registry_tells_what_is_filed.ensures.events;
-      };
+    let horizons : RunsReachHorizons = horizons_reached c.nodes_are_seen.ensures (record {
+      told = c.nodes_tell_what_is_filed.ensures;
       manager = c.managers_tell_what_is_filed.ensures.alone;
       server = c.servers_tell_what_is_filed.ensures.alone;
       registry = c.registry_tells_what_is_filed.ensures.alone;
     }) in
     let below : Below = record {
       nodes = record {
-        tokens = tokens;
+        tokens = c.nodes_are_seen.ensures;
         client_starts = c.client_log_events_are_seen.ensures.start;
         client = c.client_log_events_are_seen.ensures.events;
         server_starts = c.server_events_are_seen.ensures.start;

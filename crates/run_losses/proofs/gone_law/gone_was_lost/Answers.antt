@@ -8,17 +8,6 @@ returns c =
       setting = c.settings_exist.ensures.0;
       lines = c.runs_keep_logs.ensures.lines;
       came = c.readers_hold_what_came.ensures.runs;
-      nodes = record {
-        starts_asking = c.clients_ask_for_their_call.ensures.start;
-        keeps_asking = c.clients_ask_for_their_call.ensures.events;
-        client = c.client_events_are_seen.ensures.events;
-        first_manager = c.manager_events_are_seen.ensures.start;
-        manager = c.manager_events_are_seen.ensures.events;
-        begins = c.other_events_are_seen.ensures.start;
-        registry = c.other_events_are_seen.ensures.events;
-        server = c.other_events_are_seen.ensures.servers;
-        cleaner_starts = c.other_events_are_seen.ensures.cleaner_start;
-        cleaner = c.other_events_are_seen.ensures.cleaner;
-      };
+      nodes = c.nodes_are_seen.ensures;
     } in
     record { node = gones_are_of_broken; managers = managers_lost below; clients = clients_told below }

@@ -6,18 +6,7 @@ pub returns : goal.returns
 returns c = record {
   told = managers_grant_what_they_hold;
   stood = grants_lead_to_what_stands (record {
-    nodes = record {
-      starts_asking = c.clients_ask_for_their_call.ensures.start;
-      keeps_asking = c.clients_ask_for_their_call.ensures.events;
-      client = c.client_events_are_seen.ensures.events;
-      first_manager = c.manager_events_are_seen.ensures.start;
-      manager = c.manager_events_are_seen.ensures.events;
-      begins = c.other_events_are_seen.ensures.start;
-      registry = c.other_events_are_seen.ensures.events;
-      server = c.other_events_are_seen.ensures.servers;
-      cleaner_starts = c.other_events_are_seen.ensures.cleaner_start;
-      cleaner = c.other_events_are_seen.ensures.cleaner;
-    };
+    nodes = c.nodes_are_seen.ensures;
     promised = c.tokens_keep_their_word.ensures.promised;
     newest = c.grants_tell_the_newest.ensures.newest;
     outdated = c.cleaning_loses_nothing.ensures.outdated;

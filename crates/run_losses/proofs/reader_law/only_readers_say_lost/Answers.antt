@@ -1,19 +1,5 @@
 use Rattle.run_losses.proofs.reader_law.only_readers_say_lost.Goals as goal
 use Rattle.run_losses.proofs.reader_law.Saying.{readers_say_lost}
-use Rattle.run_laws.proofs.world_law.Laws.{NodeLaws}
 
 pub returns : goal.returns
-returns c =
-    let nodes : NodeLaws = record {
-      starts_asking = c.clients_ask_for_their_call.ensures.start;
-      keeps_asking = c.clients_ask_for_their_call.ensures.events;
-      client = c.client_events_are_seen.ensures.events;
-      first_manager = c.manager_events_are_seen.ensures.start;
-      manager = c.manager_events_are_seen.ensures.events;
-      begins = c.other_events_are_seen.ensures.start;
-      registry = c.other_events_are_seen.ensures.events;
-      server = c.other_events_are_seen.ensures.servers;
-      cleaner_starts = c.other_events_are_seen.ensures.cleaner_start;
-      cleaner = c.other_events_are_seen.ensures.cleaner;
-    } in
-    record { readers = readers_say_lost nodes c.fetches_lose_what_is_torn.ensures.earned }
+returns c = record { readers = readers_say_lost c.nodes_are_seen.ensures c.fetches_lose_what_is_torn.ensures.earned }

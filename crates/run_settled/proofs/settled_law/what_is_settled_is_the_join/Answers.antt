@@ -4,18 +4,7 @@ use Rattle.run_settled.proofs.settled_law.what_is_settled_is_the_join.Goals as g
 pub returns : goal.returns
 returns c = record {
   settled = every_runs_blocks_are_settled (record {
-    tokens = record {
-      starts_asking = c.clients_ask_for_their_call.ensures.start;
-      keeps_asking = c.clients_ask_for_their_call.ensures.events;
-      client = c.client_events_are_seen.ensures.events;
-      first_manager = c.manager_events_are_seen.ensures.start;
-      manager = c.manager_events_are_seen.ensures.events;
-      begins = c.other_events_are_seen.ensures.start;
-      registry = c.other_events_are_seen.ensures.events;
-      server = c.other_events_are_seen.ensures.servers;
-      cleaner_starts = c.other_events_are_seen.ensures.cleaner_start;
-      cleaner = c.other_events_are_seen.ensures.cleaner;
-    };
+    tokens = c.nodes_are_seen.ensures;
     servers = c.server_index_events_are_seen.ensures;
     whole = c.logs_stay_whole.ensures.whole;
     one = c.one_name_one_text.ensures.one_text;
