@@ -14,6 +14,8 @@ pub mod Start
 pub mod Falls
 pub mod Turns
 pub mod Laws
+pub mod Pasts
+pub mod FirstSlot
 pub mod Fallen
 pub mod Managers
 pub mod Numbers

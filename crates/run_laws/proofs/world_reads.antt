@@ -26,6 +26,7 @@ pub mod CleanerTold
 pub mod CleanerMoving
 pub mod CleanerPromises
 pub mod CleanerBeside
+pub mod Tying
 pub mod CleanerTelling
 pub mod After
 pub mod AfterLaws

@@ -36,6 +36,7 @@ use Rattle.world_base.specs.Events.{node_of, what_of}
 use Rattle.world_base.specs.Items.{items_of}
 use Rattle.world_base.specs.NextWorld.{next_world, start_world}
 use Rattle.run_laws.proofs.world_law.Nodes.{get_set_other, get_set_same}
+use Rattle.run_laws.proofs.world_law.Pasts.{done_after, none_after}
 use Rattle.run_laws.proofs.world_law.Places.{one_name}
 use Rattle.run_laws.proofs.world_law.Start.{first_stands}
 use Rattle.run_laws.proofs.world_law.Turning.{next_cluster, next_keeps}
@@ -324,14 +325,6 @@ module _ (e : Estate AnyNode) where
       next_stands =
           subst (λ k. AllStand (next_world any_step w event).acts k (next_world any_step w event).nodes) (sym (next_cluster any_step w event))
           (next_keeps any_step (λ xs sent acts. AllStand acts w.cluster xs) w event all (λ place x clock at fact. turn_stands place x at fact))
-
-      done_after : (xs ys : List Act) → drop (length xs) (xs ++ ys) ≡ ys
-      done_after [] ys = refl
-      done_after (x ∷ xs) ys = done_after xs ys
-
-      none_after : (xs : List Act) → drop (length xs) xs ≡ []
-      none_after [] = refl
-      none_after (x ∷ xs) = none_after xs
 
       no_acts : Tells []
       no_acts node item a [] behind e = absurd cc

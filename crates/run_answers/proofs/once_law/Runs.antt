@@ -1,5 +1,5 @@
 -- In every run each item is answered at most once, by its own node, after its Begin: each event keeps the ledgers of all nodes.
-use Rattle.std.proofs.Common.{◌≡◌, ◌⊎◌, ℕ, zero, suc, ◌+◌, ◌≤◌, ◌<◌, ◌==◌, Bool, true, false, List, [], ◌∷◌, ◌++◌, append-nil, append_assoc, drop, length, slice_get, slice_set, take, Option, Some, None, inl, inr, refl, sym, ap, subst, ◌∙◌, arith}
+use Rattle.std.proofs.Common.{◌≡◌, ◌⊎◌, ℕ, ◌+◌, ◌≤◌, ◌<◌, ◌==◌, Bool, true, false, List, [], ◌∷◌, ◌++◌, drop, length, slice_get, slice_set, take, Option, Some, None, inl, inr, refl, sym, ap, subst, ◌∙◌, arith}
 use Rattle.std.specs.List.{fold}
 use Rattle.std.proofs.lemmas.Bool.{eqb-true}
 use Rattle.std.proofs.lemmas.Bool.Decides.{nat_tests}
@@ -32,6 +32,7 @@ use Rattle.world_base.specs.Items.{items_of}
 use Rattle.world_base.specs.NextWorld.{next_world, start_world}
 use Rattle.world_base.specs.Runs.{Leads, begins_of}
 use Rattle.run_laws.proofs.world_law.Nodes.{get_set_other, get_set_same}
+use Rattle.run_laws.proofs.world_law.Pasts.{done_after, holds_at, none_after}
 use Rattle.run_laws.proofs.world_law.Places.{one_name}
 use Rattle.run_laws.proofs.world_law.Start.{first_stands}
 use Rattle.run_laws.proofs.world_law.Turning.{next_cluster, next_keeps}
@@ -446,14 +447,6 @@ module _ (script : Script) where
           subst (λ k. AllStand later k (next_world any_step w event).nodes (next_world any_step w event).acts) (sym (next_cluster any_step w event))
           (next_keeps any_step (λ xs sent acts. AllStand later w.cluster xs acts) w event still_stands (λ place x clock at fact. turn_stands place x at fact))
 
-      done_after : (xs ys : List Act) → drop (length xs) (xs ++ ys) ≡ ys
-      done_after [] ys = refl
-      done_after (x ∷ xs) ys = done_after xs ys
-
-      none_after : (xs : List Act) → drop (length xs) xs ≡ []
-      none_after [] = refl
-      none_after (x ∷ xs) = none_after xs
-
       abbrev Own : List Act → Type 0
       Own acts = (node : NodeId) (item : ℕ) (a : Answer) → In (act.Answered node item a) acts → (node ≡ node_of event) × Its later node item
 
@@ -472,12 +465,7 @@ module _ (script : Script) where
 
   all_stand : (events : List Event) (count : ℕ) (w : World AnyNode) (past : List Event) → WorldStands past w
       → WorldStands (past ++ take count events) (fold (next_world any_step) w (take count events))
-  all_stand events zero w past all = subst (λ es. WorldStands es w) (sym (append-nil past)) all
-  all_stand [] (suc count) w past all = subst (λ es. WorldStands es w) (sym (append-nil past)) all
-  all_stand (event ∷ events) (suc count) w past all =
-      subst (λ es. WorldStands es (fold (next_world any_step) (next_world any_step w event) (take count events)))
-      (append_assoc past (event ∷ []) (take count events))
-      (all_stand events count (next_world any_step w event) (now past event) (next_stands past event w all))
+  all_stand = holds_at WorldStands next_stands
 
 module _ (e : Estate AnyNode) where
   stands_at : (count : ℕ) → WorldStands e.script (take count e.events) (moment e count)

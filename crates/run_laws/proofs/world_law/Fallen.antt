@@ -1,23 +1,21 @@
 -- While a client that fell with a block isn't back, no client holds the block: so it is in the small world, in which its tokens have the block dirty. And falls
 -- are apart, since its acts are those of the run.
-use Rattle.std.proofs.Common.{◌≡◌, ℕ, ◌<◌, false, Some, subst, arith}
+use Rattle.std.proofs.Common.{◌≡◌, ℕ, ◌<◌, false, subst, arith}
 use Rattle.act_tie.specs.Shown.{FallsApart}
-use Rattle.node_slots.specs.node_tie.RegistryEvents.{RegistrySound}
 use Rattle.token_client.specs.State.{TokensState, held_of}
 use Rattle.node_slots.proofs.node_tie.SmallWorld.{with_promise}
 use Rattle.token_law.specs.Laws.{FallsAreApart, NobodyHoldsAfterFall}
-use Rattle.world_base.specs.Cluster.{cluster_of, place_of}
+use Rattle.world_base.specs.Cluster.{cluster_of}
 use Rattle.world_base.specs.declared.cluster.Cluster.{Cluster}
 use Rattle.world_base.specs.declared.world.World.{World}
 use Rattle.run_laws.proofs.world_law.Falls.{WaitsDirty}
-use Rattle.run_laws.proofs.world_law.Laws.{GoodWorld, NodeLaws, ServesThere, front, serves_there}
+use Rattle.run_laws.proofs.world_law.Laws.{GoodWorld, NodeLaws, front, slot_scene, slot_serves, slot_stands}
 use Rattle.run_laws.proofs.world_law.RegistryTurns.{slot_below}
-use Rattle.run_laws.specs.world_law.Standing.{Scene, Stands, members}
+use Rattle.run_laws.specs.world_law.Standing.{members}
 use Rattle.run_laws.specs.world_law.Fallen.{EveryRunHasFallsApart, NobodyHolds, NobodyHoldsWhatFell}
-use Rattle.run_laws.specs.world_law.Owners.{moment, node_in, tokens_of}
+use Rattle.run_laws.specs.world_law.Owners.{moment}
 use Rattle.core_world.specs.declared.any_node.AnyNode.{AnyNode}
 use Rattle.xfs_base.specs.Blocks.{slot_of}
-use Rattle.xfs_base.specs.declared.node.NodeId.TheVariants.{Client}
 use Rattle.xfs_base.specs.Modes.{is_held}
 use Rattle.xfs_base.proofs.Booleans.{equal_itself}
 use Rattle.xfs_base.specs.Limits.{slot_count}
@@ -25,28 +23,13 @@ use Rattle.xfs_base.specs.Limits.{slot_count}
 module _ (laws : NodeLaws) (small : NobodyHoldsAfterFall) where
   nobody_now : (w : World AnyNode) (k : Cluster) → w.cluster ≡ k → ((part : ℕ) (of_eight : part < slot_count) → GoodWorld laws k part of_eight w) → NobodyHolds w
   nobody_now w k cluster good b c d t fallen at_d =
+      let part = slot_of b.ino.0 in
+      let waits : WaitsDirty (members k part) (slot_scene laws w k good b).net b c = (good part (slot_below b.ino.0)).2 b c fallen in
+      let y = slot_serves laws w k good b cluster d t at_d in
       subst (λ (x : TokensState). is_held (held_of x.blocks b).mode ≡ false) y.tokens
-      (small false (members k part) part (with_promise 1 now.net) b (record { run = st.runs; inside = equal_itself part }) c d
+      (small false (members k part) part (with_promise 1 (slot_scene laws w k good b).net) b
+      (record { run = (slot_stands laws w k good b).runs; inside = equal_itself part }) c d
       (record { some = waits.some; within = waits.within }) y.client waits.down waits.dirty y.up)
-    where
-      part : ℕ
-      part = slot_of b.ino.0
-
-      of_eight : part < slot_count
-      of_eight = slot_below b.ino.0
-
-      now : Scene
-      now = (good part of_eight).0
-
-      st : Stands false k part w.nodes w.sent w.acts RegistrySound now
-      st = (good part of_eight).1
-
-      waits : WaitsDirty (members k part) now.net b c
-      waits = (good part of_eight).2 b c fallen
-
-      y : ServesThere laws k part of_eight now d t
-      y = serves_there laws k part of_eight w.nodes w.sent w.acts now st d t
-          (subst (λ cl. tokens_of (node_in w.nodes (place_of cl (Client d))) ≡ Some t) cluster at_d)
 
   pub nobody_holds : NobodyHoldsWhatFell
   nobody_holds e setup run count =

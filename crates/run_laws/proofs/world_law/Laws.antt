@@ -30,6 +30,7 @@ use Rattle.run_laws.proofs.world_law.Turns.{event_turns}
 pub use Rattle.run_laws.proofs.world_law.Turns.{NodeLaws, one_node}
 use Rattle.run_laws.specs.world_law.Owners.{EveryRunHasOneOwner, HasOneOwner, moment, node_in, tokens_in, tokens_of}
 use Rattle.xfs_base.specs.Blocks.{slot_of}
+use Rattle.xfs_base.specs.declared.block.BlockId.{BlockId}
 use Rattle.xfs_base.specs.declared.node.NodeId.TheVariants.{Client}
 use Rattle.xfs_base.specs.Modes.{is_held, is_own}
 use Rattle.xfs_base.proofs.Booleans.{equal_itself}
@@ -94,32 +95,31 @@ front laws e setup run count part of_eight =
       λ b c names. absurd names.among,
     )
 
+-- ---- the small world of a block's slot
+
+module _ (laws : NodeLaws) (w : World AnyNode) (k : Cluster) (good : (part : ℕ) (of_eight : part < slot_count) → GoodWorld laws k part of_eight w) (b : BlockId) where
+  abbrev pub slot_scene : Scene
+  slot_scene = (good (slot_of b.ino.0) (slot_below b.ino.0)).0
+
+  pub slot_stands : Stands false k (slot_of b.ino.0) w.nodes w.sent w.acts RegistrySound slot_scene
+  slot_stands = (good (slot_of b.ino.0) (slot_below b.ino.0)).1
+
+  pub slot_serves : w.cluster ≡ k → (c : ℕ) (t : TokensState) → tokens_of (node_in w.nodes (place_of w.cluster (Client c))) ≡ Some t
+      → ServesThere laws k (slot_of b.ino.0) (slot_below b.ino.0) slot_scene c t
+  slot_serves cluster c t at_c =
+      serves_there laws k (slot_of b.ino.0) (slot_below b.ino.0) w.nodes w.sent w.acts slot_scene slot_stands c t
+      (subst (λ cl. tokens_of (node_in w.nodes (place_of cl (Client c))) ≡ Some t) cluster at_c)
+
 module _ (laws : NodeLaws) (small : OneOwner) where
   one_owner_now : (w : World AnyNode) (k : Cluster) → w.cluster ≡ k → ((part : ℕ) (of_eight : part < slot_count) → GoodWorld laws k part of_eight w) → HasOneOwner w
   one_owner_now w k cluster good b c d s t at_c at_d own held =
-      small false (members k part) part (with_promise 1 now.net) b (record { run = st.runs; inside = equal_itself part }) c d x.client y.client x.up y.up
+      let part = slot_of b.ino.0 in
+      let x = slot_serves laws w k good b cluster c s at_c in
+      let y = slot_serves laws w k good b cluster d t at_d in
+      small false (members k part) part (with_promise 1 (slot_scene laws w k good b).net) b
+      (record { run = (slot_stands laws w k good b).runs; inside = equal_itself part }) c d x.client y.client x.up y.up
       (subst (λ (t : TokensState). is_own (held_of t.blocks b).mode ≡ true) (sym x.tokens) own)
       (subst (λ (t : TokensState). is_held (held_of t.blocks b).mode ≡ true) (sym y.tokens) held)
-    where
-      part : ℕ
-      part = slot_of b.ino.0
-
-      of_eight : part < slot_count
-      of_eight = slot_below b.ino.0
-
-      now : Scene
-      now = (good part of_eight).0
-
-      st : Stands false k part w.nodes w.sent w.acts RegistrySound now
-      st = (good part of_eight).1
-
-      x : ServesThere laws k part of_eight now c s
-      x = serves_there laws k part of_eight w.nodes w.sent w.acts now st c s
-          (subst (λ cl. tokens_of (node_in w.nodes (place_of cl (Client c))) ≡ Some s) cluster at_c)
-
-      y : ServesThere laws k part of_eight now d t
-      y = serves_there laws k part of_eight w.nodes w.sent w.acts now st d t
-          (subst (λ cl. tokens_of (node_in w.nodes (place_of cl (Client d))) ≡ Some t) cluster at_d)
 
   pub every_run : EveryRunHasOneOwner
   every_run e setup run count =

@@ -61,7 +61,7 @@ use Rattle.xfs_base.proofs.Booleans.{by_test}
 use Rattle.xfs_base.specs.Steps.{saying, still}
 use Rattle.run_laws.proofs.world_reads.AfterClients.{OwnAfter}
 use Rattle.run_laws.proofs.world_reads.AfterLaws.{AfterLaws}
-use Rattle.run_laws.proofs.world_reads.AfterLogs.{KnownLog, flight_stays, reopens_known, served_last, serves_known, stays_known}
+use Rattle.run_laws.proofs.world_reads.AfterLogs.{KnownLog, flight_stays, reopens_by, reopens_known, served_last, serves_known, stays_known}
 use Rattle.run_laws.proofs.world_reads.AfterOwners.{line_goes_on, never_files, same_filed}
 use Rattle.run_laws.proofs.world_reads.AfterTells.{AllTell, tells_reopened, tells_same, tells_serving}
 
@@ -286,17 +286,7 @@ module _ (laws : AfterLaws) (part : ℕ) (texts : Texts) (g : Setting) (trusted 
       ends = ends_so w v l.questions.last goes (subst (log_tie.CleanerAgrees g w) before sees).sees (subst (SeesLog g its_log v) back.log then_log) straight
 
       e : Reopens g w.net v.net ends.settling.chain ends.settling.log r.log
-      e = record {
-        sure = trusted;
-        apart = apart;
-        moment = at;
-        happens = ends.happens;
-        calm = subst (λ run. IsSureRun (then_on at.run run)) ends.one calm;
-        writes = ends.writes;
-        serves = ends.serves;
-        own = ends.own;
-        empty = ends.empty;
-      }
+      e = reopens_by g trusted apart w v at goes calm o r ends
 
       books : (count : ℕ) × (u.books ≡ with_empty count (reopened t.books its_log (has_flight e)) its_log)
       books =

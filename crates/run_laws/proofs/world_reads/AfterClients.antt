@@ -61,7 +61,7 @@ use Rattle.xfs_base.specs.declared.node.NodeId.TheVariants.{Client}
 use Rattle.xfs_base.specs.declared.segment.SegName.{SegName}
 use Rattle.run_laws.proofs.world_reads.AfterBack.{CameBack, came_back}
 use Rattle.run_laws.proofs.world_reads.AfterLaws.{AfterLaws}
-use Rattle.run_laws.proofs.world_reads.AfterLogs.{KnownLog, flight_stays, reopens_known, served_last, serves_known, stays_known}
+use Rattle.run_laws.proofs.world_reads.AfterLogs.{KnownLog, flight_stays, reopens_by, reopens_known, served_last, serves_known, stays_known}
 use Rattle.run_laws.proofs.world_reads.AfterOwners.{line_goes_on, never_files, same_filed}
 use Rattle.run_laws.proofs.world_reads.AfterTells.{AllTell, tells_reopened, tells_same, tells_serving}
 
@@ -197,17 +197,7 @@ module _ (laws : AfterLaws) (part : ℕ) (texts : Texts) (c : ℕ) (g : Setting)
       ends = ends_so w v l.questions.last goes (subst (log_tie.ClientAgrees g c w) before sees).1 (subst (log_tie.SeesLog g c v) back.log then_log) straight
 
       e : Reopens g w.net v.net ends.settling.chain ends.settling.log r.log
-      e = record {
-        sure = trusted;
-        apart = apart;
-        moment = at;
-        happens = ends.happens;
-        calm = subst (λ run. IsSureRun (then_on at.run run)) ends.one calm;
-        writes = ends.writes;
-        serves = ends.serves;
-        own = ends.own;
-        empty = ends.empty;
-      }
+      e = reopens_by g trusted apart w v at goes calm o r ends
 
       books : (chain : List SegName) × (count : ℕ) × basics.In (Does (act.Back c chain)) x.outs
           × (u.books ≡ with_empty count (reopened t.books c (adopts t.acts c chain)) c)

@@ -12,15 +12,19 @@ use Rattle.log_law.specs.Events.Runs.{Begun, On}
 use Rattle.log_law.specs.Laws.{Moment}
 use Rattle.log_law.specs.Net.{Net, Owner}
 use Rattle.log_law.specs.Net.Owner.{Down, Opening, Serving, Writing}
-use Rattle.log_law.specs.Restarts.{flight_in, is_serving, last_flight}
+use Rattle.log_law.specs.Restarts.{IsSureRun, flight_in, is_serving, last_flight}
 use Rattle.log_law.specs.Tails.{then_on}
+use Rattle.log_owner.specs.declared.opened.Opened.{Opened}
+use Rattle.log_owner.specs.declared.opening.Opening as openings
 use Rattle.log_tie.specs.Setting.{Setting}
+use Rattle.node_logs.specs.client_log_tie.Owner.{Scene}
 use Rattle.node_slots.specs.node_tie.LogRows.{LogSeen, rows_told}
 use Rattle.node_slots.specs.node_tie.Sight.{SameLog}
 use Rattle.node_slots.proofs.owner_index_tie.Growing.{head_is, segment_is}
 use Rattle.node_slots.specs.owner_index_tie.Filing.{IsSameLog}
 use Rattle.run_laws.specs.reopening_law.Flights.{FlightsOfOwners, LastFlew, OthersLeaveFlights}
-use Rattle.run_laws.specs.reopening_law.Reopens.{BooksFollow, BooksOf, BooksThen, FiledOf, Reopens, has_flight}
+use Rattle.run_laws.specs.reopening_law.Openings.{EndsByOne}
+use Rattle.run_laws.specs.reopening_law.Reopens.{BooksFollow, BooksOf, BooksThen, FiledOf, Reopens, TellsApart, has_flight}
 use Rattle.segment_format.specs.declared.segment.Segment.{Segment}
 use Rattle.token_law.specs.Books.{Books, reopened, with_empty}
 use Rattle.run_laws.specs.world_lines.Lines.{IsLine}
@@ -39,6 +43,21 @@ pub record KnownLog (l : ℕ) {g : Setting} {n : Net} (at : Moment g n) (k : Boo
 -- its line, as restarts know it
 pub filed_of : (l : ℕ) (n : Net) (f : Filed) → IsLine l n f → FiledOf l f n
 filed_of l n f line = record { flew = line.lined.flown; filed = line.lined.filed; seq = line.lined.seq; all = line.all }
+
+-- a restart that ended by one thing opened the log again
+abbrev pub reopens_by : (g : Setting) → g.doubts ≡ false → TellsApart g → (w v : Scene) (at : Moment g w.net) (goes : Runs g w.net v.net) → IsSureRun (then_on at.run goes)
+    → (o : openings.Opening) (r : Opened) (ends : EndsByOne g w v goes o r) → Reopens g w.net v.net ends.settling.chain ends.settling.log r.log
+reopens_by g trusted apart w v at goes calm o r ends = record {
+  sure = trusted;
+  apart = apart;
+  moment = at;
+  happens = ends.happens;
+  calm = subst (λ run. IsSureRun (then_on at.run run)) ends.one calm;
+  writes = ends.writes;
+  serves = ends.serves;
+  own = ends.own;
+  empty = ends.empty;
+}
 
 -- ---- what was in flight
 

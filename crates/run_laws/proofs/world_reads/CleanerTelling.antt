@@ -1,5 +1,5 @@
 -- What the small world of tokens is owed of the cleaner: where its log is opened again it is so as the books are, and what is answered Live is a copy.
-use Rattle.std.proofs.Common.{◌≡◌, ◌<◌, ℕ, suc, Bool, true, List, if◌then◌else◌, refl, sym, ap, subst, ◌∙◌, arith}
+use Rattle.std.proofs.Common.{◌≡◌, ◌<◌, ℕ, suc, Bool, true, List, if◌then◌else◌, refl, sym, ap, subst, ◌∙◌}
 use Rattle.cleaner_serving.specs.declared.emptying.Emptying.{Emptying}
 use Rattle.cleaner_serving.specs.EmptyingEvents.{served}
 use Rattle.cleaner_node.specs.CleanerEvents.{after_opening, happens, hears, on_deliver, on_time, phase_room, says_back, takes}
@@ -39,6 +39,7 @@ use Rattle.run_laws.specs.world_law.Owners.{moment}
 use Rattle.run_laws.specs.world_logs.Lines.{HasLines, Texts, cluster}
 use Rattle.run_laws.proofs.world_reads.CleanerMoment.{Steps, its_line, its_setting}
 use Rattle.run_laws.proofs.world_reads.CleanerReopening.{ReopensBelow, came, reopens_at}
+use Rattle.run_laws.proofs.world_reads.Tying.{slot_tied}
 use Rattle.run_laws.specs.world_reads.Joint.{IsSureUpto, Joint}
 use Rattle.xfs_base.specs.Steps.{still}
 
@@ -103,16 +104,7 @@ module _ (below : ReopensBelow) (copies : LivesTellCopies) (base : Setting) (e :
   module _ (of_eight : part < 8) (exact : AreExact joint.idx.net.filed) (answers : LivesAnswer sent) (v : Emptying) (has : HasJob joint.idx.net v)
       (asks : AsksOfHand sent v) where
     tied : Tied (owners.members (cluster base e) part) part (held_in part texts.text) (with_promise 1 joint.tok.net) joint.idx.net
-    tied = record {
-      some = omega arith;
-      few = joint.tokens_stand.few;
-      of_map = of_eight;
-      tokens_run = joint.tokens_stand.runs;
-      any = first;
-      index_run = joint.index_stands.runs;
-      books = joint.books;
-      plain = λ l q low high some limit. (joint.tells l q some limit).plain;
-    }
+    tied = slot_tied base e lines texts part of_eight first count joint
 
     pub live_told : (p : Packet) (m : Live) → In p sent → p.body ≡ body.Live m → LiveTold joint.tok.net.books v m
     live_told p m among fact =

@@ -20,6 +20,7 @@ use Rattle.run_laws.proofs.index_reads.Sayings.{Same, of_log, same_version}
 use Rattle.run_laws.proofs.index_reads.Worlds.{begins, same}
 use Rattle.run_laws.proofs.world_law.Laws as tokens
 use Rattle.run_laws.proofs.world_reads.TurnRun.{moment_cluster}
+use Rattle.run_laws.proofs.world_reads.Tying.{slot_tied}
 use Rattle.run_laws.specs.index_reads.Ties.{Tied}
 use Rattle.run_laws.specs.world_law.Owners.{moment, node_in, tokens_of}
 use Rattle.run_laws.specs.world_law.Standing.{members}
@@ -40,16 +41,7 @@ module _ (law : small.DirtyBlocksLead) (laws : tokens.NodeLaws) (base : Setting)
   all_members = members (k base e lines texts part first) part
 
   tied : Tied all_members part (held_in part texts.text) net joint.idx.net
-  tied = record {
-    some = omega arith;
-    few = joint.tokens_stand.few;
-    of_map = of_eight;
-    tokens_run = joint.tokens_stand.runs;
-    any = first;
-    index_run = joint.index_stands.runs;
-    books = joint.books;
-    plain = λ l q low high some limit. (joint.tells l q some limit).plain;
-  }
+  tied = slot_tied base e lines texts part of_eight first count joint
 
   both : Same net.books joint.idx.net.filed
   both = same all_members part (held_in part texts.text) net joint.idx.net tied

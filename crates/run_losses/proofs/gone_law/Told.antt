@@ -1,6 +1,6 @@
 -- What a client says is lost because a manager said that it is gone, that manager said was lost while it took the slot over, in the epoch that the client has
 -- promised.
-use Rattle.std.proofs.Common.{◌≡◌, ℕ, ◌<◌, ◌==◌, false, Option, Some, slice_get, refl, sym, subst, arith}
+use Rattle.std.proofs.Common.{◌≡◌, ℕ, ◌==◌, false, Option, Some, slice_get, refl, sym, subst}
 use Rattle.std.proofs.lemmas.Bool.{eqb-true}
 use Rattle.client_serving.specs.declared.serving.Serving.{Serving}
 use Rattle.core_world.specs.AnyNode.{any_start, any_step}
@@ -22,7 +22,8 @@ use Rattle.world_base.specs.declared.estate.Estate.{Estate}
 use Rattle.world_base.specs.declared.event.Event.{Event}
 use Rattle.world_base.specs.Events.{what_of}
 use Rattle.world_base.specs.Runs.{IsRun}
-use Rattle.run_laws.proofs.world_law.Laws.{NodeLaws, front}
+use Rattle.run_laws.proofs.world_law.FirstSlot as slot
+use Rattle.run_laws.proofs.world_law.Laws.{NodeLaws}
 use Rattle.run_laws.specs.world_law.Standing.{Scene, SentBy, Stands}
 use Rattle.run_laws.specs.world_law.Owners.{moment}
 use Rattle.run_laws.specs.world_logs.Roles.{IsThere}
@@ -32,23 +33,19 @@ use Rattle.xfs_base.specs.Blocks.{slot_of}
 use Rattle.xfs_base.specs.declared.node.NodeId.{NodeId}
 use Rattle.xfs_base.specs.declared.node.NodeId.TheVariants as names
 use Rattle.xfs_base.specs.declared.segment.SegName.{SegName}
-use Rattle.xfs_base.specs.Limits.{slot_count}
 use Rattle.run_losses.specs.gone_law.Gones.{GonesWereLost, SaidLost, ToldLost, promised_in}
 
 -- ---- a Gone is a manager's
 
 module _ (laws : NodeLaws) (e : Estate AnyNode) (setup : IsSetup e.script.setup) (run : IsRun any_step any_start e.script e.events e.world) (count : ℕ) where
-  first_slot : 0 < slot_count
-  first_slot = omega arith
-
   abbrev k : Cluster
   k = cluster_of e.script.setup
 
   abbrev now : Scene
-  now = (front laws e setup run count 0 first_slot).1.0
+  now = slot.scene laws e setup run count
 
   st : Stands false k 0 (moment e count).nodes (moment e count).sent (moment e count).acts RegistrySound now
-  st = (front laws e setup run count 0 first_slot).1.1
+  st = slot.stands laws e setup run count
 
   pub record FromManager (p : Packet) : Type 0 where
     pub manager : ℕ

@@ -1,5 +1,5 @@
 -- What is acted to be lost in an event, the node of the event says is lost; and it reads then.
-use Rattle.std.proofs.Common.{◌≡◌, ◌⊎◌, ⊎_elim, ℕ, ◌+◌, ◌<◌, ◌==◌, true, false, List, [], ◌∷◌, ◌++◌, Option, Some, None, is_some, drop, length, slice_get, refl, sym, ap, subst, ◌∙◌, inl, inr, arith}
+use Rattle.std.proofs.Common.{◌≡◌, ◌⊎◌, ⊎_elim, ℕ, ◌+◌, ◌<◌, ◌==◌, true, false, List, [], Option, Some, None, is_some, drop, length, slice_get, refl, sym, ap, subst, ◌∙◌, inl, inr, arith}
 use Rattle.cleaner_node.specs.CleanerEvents as cleaning
 use Rattle.cleaner_node.specs.declared.cleaner.Cleaner.{Cleaner as CleanerNode}
 use Rattle.cleaner_node.specs.declared.cleaner.Phase as cleaner_phases
@@ -29,7 +29,9 @@ use Rattle.node_slots.specs.node_tie.Asks.{AsksForCall, needed}
 use Rattle.node_slots.specs.node_tie.AskingEvents.{PhaseAsks}
 use Rattle.node_slots.specs.node_tie.ManagerEvents.{ManagerAgrees}
 use Rattle.node_slots.specs.node_tie.RegistryEvents.{RegistrySound}
-use Rattle.run_laws.proofs.world_law.Laws.{NodeLaws, front}
+use Rattle.run_laws.proofs.world_law.FirstSlot as slot
+use Rattle.run_laws.proofs.world_law.Laws.{NodeLaws}
+use Rattle.run_laws.proofs.world_law.Pasts.{done_after, none_after}
 use Rattle.run_laws.proofs.world_law.Places.{behind}
 use Rattle.run_laws.proofs.world_law.Turns.{one_node}
 use Rattle.run_laws.specs.world_law.Owners.{moment, node_in, node_named}
@@ -43,7 +45,6 @@ use Rattle.store_nodes.specs.ServerEvents as server_events
 use Rattle.token_client.specs.declared.held.Wanted.{Wanted}
 use Rattle.token_client.specs.State.{epoch_of}
 use Rattle.token_protocol.specs.Basics.{In}
-use Rattle.version_model.specs.declared.act.Act.{Act}
 use Rattle.version_model.specs.declared.act.Act.TheVariants as act
 use Rattle.wire_msg.specs.declared.packet.Do.{Do}
 use Rattle.world_base.specs.Cluster.{cluster_of, place_of}
@@ -60,7 +61,6 @@ use Rattle.xfs_base.specs.declared.token.Mode.{Mode}
 use Rattle.xfs_base.specs.declared.node.NodeId.{NodeId}
 use Rattle.xfs_base.specs.declared.node.NodeId.TheVariants as nodes
 use Rattle.xfs_base.specs.declared.segment.SegName.{SegName}
-use Rattle.xfs_base.specs.Limits.{slot_count}
 use Rattle.serving_moves.specs.item_moves.Events.{cleaner_losses, client_losses, log_losses}
 use Rattle.serving_moves.specs.item_moves.Moves.{MayTell}
 use Rattle.run_losses.proofs.answer_law.Cleaners as cleaners
@@ -78,14 +78,6 @@ use Rattle.run_losses.proofs.answer_law.Others.{manager_plain, registry_plain, r
 use Rattle.run_losses.proofs.answer_law.Telling.{AllPlain, SaysLost, says_lost, told_plain}
 
 -- ---- which node says so
-
-done_after : (xs ys : List Act) → drop (length xs) (xs ++ ys) ≡ ys
-done_after [] ys = refl
-done_after (x ∷ xs) ys = done_after xs ys
-
-none_after : (xs : List Act) → drop (length xs) xs ≡ []
-none_after [] = refl
-none_after (x ∷ xs) = none_after xs
 
 -- an opening that may say so scans its log still
 still_scans : (at : Stage) → MayTell (log_losses at) → is_some (scan_in at) ≡ true
@@ -131,20 +123,17 @@ gone_open s what name asks b = by s.lasting.items.unanswered refl
     by (Some item) fact = (item, fact)
 
 module _ (laws : NodeLaws) (e : Estate AnyNode) (setup : IsSetup e.script.setup) (run : IsRun any_step any_start e.script e.events e.world) (count : ℕ) where
-  first_slot : 0 < slot_count
-  first_slot = omega arith
-
   abbrev k : Cluster
   k = cluster_of e.script.setup
 
   abbrev now : Scene
-  now = (front laws e setup run count 0 first_slot).1.0
+  now = slot.scene laws e setup run count
 
   st : Stands false k 0 (moment e count).nodes (moment e count).sent (moment e count).acts RegistrySound now
-  st = (front laws e setup run count 0 first_slot).1.1
+  st = slot.stands laws e setup run count
 
   pub cluster_is : (moment e count).cluster ≡ k
-  cluster_is = (front laws e setup run count 0 first_slot).0
+  cluster_is = slot.cluster_is laws e setup run count
 
   abbrev Here : NodeId → Option AnyNode
   Here name = node_in (moment e count).nodes (place_of k name)

@@ -14,6 +14,7 @@ use Rattle.run_laws.proofs.index_reads.Sayings.{BeginsAtOne, Same}
 use Rattle.run_laws.proofs.index_reads.Worlds as worlds
 use Rattle.run_laws.proofs.world_law.Laws as tokens
 use Rattle.run_laws.proofs.world_reads.TurnRun.{moment_cluster}
+use Rattle.run_laws.proofs.world_reads.Tying.{slot_tied}
 use Rattle.run_laws.specs.index_reads.Ties.{Tied}
 use Rattle.run_laws.specs.world_law.Fallen.{Names}
 use Rattle.run_laws.specs.world_law.Owners.{moment, node_in, tokens_in, tokens_of}
@@ -56,16 +57,7 @@ module _ (laws : tokens.NodeLaws) (base : Setting) (e : Estate AnyNode) (lines :
   all_members = members cluster part
 
   tied : Tied all_members part (held_in part texts.text) net joint.idx.net
-  tied = record {
-    some = omega arith;
-    few = joint.tokens_stand.few;
-    of_map = of_eight;
-    tokens_run = joint.tokens_stand.runs;
-    any = first;
-    index_run = joint.index_stands.runs;
-    books = joint.books;
-    plain = λ l q low high some limit. (joint.tells l q some limit).plain;
-  }
+  tied = slot_tied base e lines texts part of_eight first count joint
 
   both : Same net.books f
   both = worlds.same all_members part (held_in part texts.text) net joint.idx.net tied
