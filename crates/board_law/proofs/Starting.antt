@@ -1,8 +1,6 @@
 -- Before the first event the registry stands in the world as it starts.
-use Rattle.std.proofs.Common.{◌≡◌, ℕ, zero, suc, ◌+◌, ◌<◌, List, [], ◌∷◌, map, refl, sym, ap, ◌∙◌, arith}
-use Rattle.std.specs.List.{range_with_len}
+use Rattle.std.proofs.Common.{◌≡◌, ℕ, zero, suc, ◌+◌, ◌<◌, List, refl, sym, ap, ◌∙◌, arith}
 use Rattle.std.specs.Prelude.{Some, replicate, slice_get}
-use Rattle.std.proofs.lemmas.Option.{same_Some}
 use Rattle.script_text.specs.declared.script.Script.{Script}
 use Rattle.version_model.specs.declared.work.Work.{Work}
 use Rattle.wire_msg.specs.declared.packet.Do.{Do}
@@ -10,23 +8,14 @@ use Rattle.wire_msg.specs.NodeStep.{NodeStep}
 use Rattle.xfs_base.specs.declared.node.NodeId.{NodeId}
 use Rattle.xfs_base.specs.declared.node.NodeId.TheVariants.{Registry}
 use Rattle.xfs_base.specs.declared.setup.Setup.{Setup}
-use Rattle.world_base.specs.Cluster.{cleaner_place, cluster_of, node_at, node_count, nodes_of}
+use Rattle.world_base.specs.Cluster.{cleaner_place, cluster_of, node_count}
 use Rattle.world_base.specs.Items.{items_of}
 use Rattle.world_base.specs.NextWorld.{first_node, start_world}
 use Rattle.world_base.proofs.Places.{node_there}
+use Rattle.world_base.proofs.Starting.{first_at_place}
 use Rattle.board_world.specs.Replicas.{first_replica}
 use Rattle.board_law.specs.OneRun.{HasRegistry}
 use Rattle.board_law.proofs.Worlds.{InWorld}
-
-range_at : (i n k : ℕ) → k < n → slice_get (range_with_len i n) k ≡ Some (i + k)
-range_at i zero k lt = absurd (omega arith)
-range_at i (suc n) zero lt = ap Some (omega arith)
-range_at i (suc n) (suc k) lt = range_at (i + 1) n k (omega arith) ∙ ap Some (omega arith)
-
-map_at : {X Y : Type 0} (f : X → Y) (xs : List X) (k : ℕ) (x : X) → slice_get xs k ≡ Some x → slice_get (map f xs) k ≡ Some (f x)
-map_at f [] k x at = absurd (cc)
-map_at f (y ∷ xs) zero x at = ap (λ z. Some (f z)) (same_Some y x at)
-map_at f (y ∷ xs) (suc k) x at = map_at f xs k x at
 
 zeros_at : (n k : ℕ) → k < n → slice_get {X = ℕ} (replicate n 0) k ≡ Some 0
 zeros_at zero k lt = absurd (omega arith)
@@ -39,10 +28,9 @@ module _ {N : Type 0} (step : N → Do → NodeStep N) (first : NodeId → Setup
   starts_in_world =
       let c = cluster_of script.setup in
       let p = cleaner_place c + 1 in
-      let at : slice_get (range_with_len 0 (node_count c)) p ≡ Some p = range_at 0 (node_count c) p (omega arith) ∙ ap Some (omega arith) in
       record {
         node =
-            map_at (first_node first script) (nodes_of c) p (node_at c p) (map_at (node_at c) (range_with_len 0 (node_count c)) p p at)
+            first_at_place first script p (omega arith)
             ∙ ap (λ node. Some (first_node first script node)) (sym (node_there c Registry p refl))
             ∙ ap Some (has.starts script.setup (items_of script.lines Registry));
         clock = zeros_at (node_count c) p (omega arith);

@@ -1,5 +1,5 @@
 -- What stands at each place of the world before the first event.
-use Rattle.std.proofs.Common.{◌≡◌, refl, sym, ap, ◌∙◌, ℕ, zero, suc, ◌+◌, ◌<◌, List, [], ◌∷◌, length, map, Some, arith}
+use Rattle.std.proofs.Common.{◌≡◌, refl, sym, ap, ◌∙◌, ℕ, zero, suc, ◌+◌, ◌<◌, List, [], ◌∷◌, length, map, Some}
 use Rattle.std.specs.Prelude.{slice_get, replicate}
 use Rattle.std.specs.List.{range_with_len}
 use Rattle.std.proofs.lemmas.Option.{same_Some}
@@ -7,18 +7,9 @@ use Rattle.script_text.specs.declared.script.Script.{Script}
 use Rattle.version_model.specs.declared.work.Work.{Work}
 use Rattle.xfs_base.specs.declared.node.NodeId.{NodeId}
 use Rattle.xfs_base.specs.declared.setup.Setup.{Setup}
+pub use Rattle.world_base.proofs.Starting.{first_at_place}
 use Rattle.world_base.specs.Cluster.{cluster_of, node_at, node_count, nodes_of}
-use Rattle.world_base.specs.NextWorld.{first_node, first_nodes, start_world}
-
-range_at : (i n k : ℕ) → k < n → slice_get (range_with_len i n) k ≡ Some (i + k)
-range_at i zero k lt = absurd (omega arith)
-range_at i (suc n) zero lt = ap Some (omega arith)
-range_at i (suc n) (suc k) lt = range_at (i + 1) n k (omega arith) ∙ ap Some (omega arith)
-
-map_at : {X Y : Type 0} (f : X → Y) (xs : List X) (k : ℕ) (x : X) → slice_get xs k ≡ Some x → slice_get (map f xs) k ≡ Some (f x)
-map_at f [] k x at = absurd (cc)
-map_at f (y ∷ xs) zero x at = ap (λ z. Some (f z)) (same_Some y x at)
-map_at f (y ∷ xs) (suc k) x at = map_at f xs k x at
+use Rattle.world_base.specs.NextWorld.{first_node, start_world}
 
 pub map_count : {X Y : Type 0} (f : X → Y) (xs : List X) → length (map f xs) ≡ length xs
 map_count f [] = refl
@@ -52,16 +43,9 @@ module _ {N : Type 0} (first : NodeId → Setup → List Work → N) (script : S
   unfolding start_world
   start_clocks = zeros_count (node_count (cluster_of script.setup))
 
-  pub first_at_place : (p : ℕ) → p < node_count (cluster_of script.setup)
-      → slice_get (first_nodes first script (cluster_of script.setup)) p ≡ Some (first_node first script (node_at (cluster_of script.setup) p))
-  first_at_place p below =
-      let c = cluster_of script.setup in
-      let at : slice_get (range_with_len 0 (node_count c)) p ≡ Some p = range_at 0 (node_count c) p below ∙ ap Some (omega arith) in
-      map_at (first_node first script) (nodes_of c) p (node_at c p) (map_at (node_at c) (range_with_len 0 (node_count c)) p p at)
-
   pub start_node : (p : ℕ) → p < node_count (cluster_of script.setup) → slice_get (start_world first script).nodes p ≡ Some (first_node first script (node_at (cluster_of script.setup) p))
   unfolding start_world
-  start_node p below = first_at_place p below
+  start_node p below = first_at_place first script p below
 
   pub start_clock : (p c : ℕ) → slice_get (start_world first script).clocks p ≡ Some c → c ≡ 0
   unfolding start_world

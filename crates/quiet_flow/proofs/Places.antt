@@ -1,11 +1,8 @@
 -- Where nodes stand: what is written at the place of one name is read there, and is not seen at the place of any other.
-use Rattle.std.proofs.Common.{◌≡◌, ◌≢◌, ℕ, ◌+◌, ◌-◌, ◌≤◌, ◌<◌, ◌&&◌, true, false, cond, nat_lt, nat_le, List, Option, Some, None, length, slice_get, slice_set, refl, sym, ap, subst, ◌∙◌, arith}
+use Rattle.std.proofs.Common.{◌≡◌, ℕ, ◌+◌, ◌-◌, ◌≤◌, ◌&&◌, true, false, cond, nat_lt, nat_le, List, Option, Some, None, slice_get, slice_set, refl, sym, ap, subst, ◌∙◌, arith}
 use Rattle.std.proofs.lemmas.Bool.Decides.{nat_tests}
-use Rattle.std.proofs.lemmas.Bool.{ltb-false, ltb-true}
-use Rattle.std.proofs.lemmas.List.{get_or-set_same, get_or-set_other}
-use Rattle.std.proofs.lemmas.Option.{slice_get_past, slice_get_within, slice_get-get_or}
-use Rattle.std.proofs.Math.ListN.{length-set}
 use Rattle.node_base.specs.Nodes.{has_node, peers_of}
+use Rattle.world_base.proofs.Lists.{get_set_other, get_set_same}
 use Rattle.world_base.proofs.Places.{node_there}
 use Rattle.world_base.specs.Cluster.{HasNode, cluster_of, place_behind, place_of}
 use Rattle.world_base.specs.declared.cluster.Cluster.{Cluster}
@@ -19,22 +16,6 @@ use Rattle.quiet_flow.specs.Follow.{node_in}
 -- two names have no place in common
 one_name : (c : Cluster) (a b : NodeId) (p : ℕ) → place_of c a ≡ Some p → place_of c b ≡ Some p → a ≡ b
 one_name c a b p at at_ = node_there c a p at ∙ sym (node_there c b p at_)
-
-module _ {X : Type 0} (xs : List X) (p : ℕ) (x : X) where
-  get_set_same : (y : X) → slice_get xs p ≡ Some y → slice_get (slice_set xs p x) p ≡ Some x
-  get_set_same y fact =
-      let less = slice_get_within xs p y fact in
-      slice_get-get_or (slice_set xs p x) p x (subst (λ n. p < n) (sym (length-set xs p x)) less) ∙ ap Some (get_or-set_same xs p x x less)
-
-  get_set_other : (q : ℕ) → q ≢ p → slice_get (slice_set xs p x) q ≡ slice_get xs q
-  get_set_other q other =
-      elim (nat_lt q (length xs)) as (λ t. nat_lt q (length xs) ≡ t → slice_get (slice_set xs p x) q ≡ slice_get xs q) [
-        | true ↦ λ h. let less = ltb-true q (length xs) h in
-            slice_get-get_or (slice_set xs p x) q x (subst (λ n. q < n) (sym (length-set xs p x)) less)
-            ∙ (ap Some (get_or-set_other xs p q x x other) ∙ sym (slice_get-get_or xs q x less))
-        | false ↦ λ h. let past = ltb-false q (length xs) h in
-            slice_get_past (slice_set xs p x) q (subst (λ n. n ≤ q) (sym (length-set xs p x)) past) ∙ sym (slice_get_past xs q past)
-      ] refl
 
 module _ {N : Type 0} (k : Cluster) (nodes : List N) (name : NodeId) (p : ℕ) (at : place_of k name ≡ Some p) (x : N) where
   pub here : (y : N) → slice_get nodes p ≡ Some y → node_in (slice_set nodes p x) (place_of k name) ≡ Some x
