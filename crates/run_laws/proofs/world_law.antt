@@ -5,6 +5,7 @@ pub mod Leaving
 pub mod Facts
 pub mod Frames
 pub mod Nodes
+pub mod Everyone
 pub mod ClientTurns
 pub mod Gets
 pub mod ManagerTurns

@@ -1,9 +1,7 @@
 -- In every run the answers of clients and of the cleaner tell of acts, and those of calls on files are by their plans: each event keeps the open call of each
 -- client one of its open item.
-use Rattle.std.proofs.Common.{◌≡◌, ℕ, zero, suc, ◌==◌, Bool, true, false, List, [], ◌∷◌, ◌++◌, drop, length, slice_get, slice_set, take, Option, Some, None, inl, inr, refl, sym, ap, subst, ◌∙◌, arith}
+use Rattle.std.proofs.Common.{◌≡◌, ℕ, zero, suc, List, [], ◌∷◌, ◌++◌, drop, length, slice_get, slice_set, take, Option, Some, None, inl, inr, refl, sym, ap, subst, ◌∙◌}
 use Rattle.std.specs.List.{fold}
-use Rattle.std.proofs.lemmas.Bool.{eqb-true}
-use Rattle.std.proofs.lemmas.Bool.Decides.{nat_tests}
 use Rattle.cleaner_node.specs.CleanerEvents as cleaning
 use Rattle.client_call.specs.declared.call.Call.{Call}
 use Rattle.client_node.specs.declared.client.Client.{Client}
@@ -35,9 +33,8 @@ use Rattle.world_base.specs.declared.world.World.{World}
 use Rattle.world_base.specs.Events.{node_of, what_of}
 use Rattle.world_base.specs.Items.{items_of}
 use Rattle.world_base.specs.NextWorld.{next_world, start_world}
-use Rattle.run_laws.proofs.world_law.Nodes.{get_set_other, get_set_same}
+use Rattle.run_laws.proofs.world_law.Everyone.{everyone_so}
 use Rattle.run_laws.proofs.world_law.Pasts.{done_after, none_after}
-use Rattle.run_laws.proofs.world_law.Places.{one_name}
 use Rattle.run_laws.proofs.world_law.Start.{first_stands}
 use Rattle.run_laws.proofs.world_law.Turning.{next_cluster, next_keeps}
 use Rattle.run_laws.proofs.world_reads.Taking.{moment_next}
@@ -290,36 +287,11 @@ module _ (e : Estate AnyNode) where
 
       turn_stands : (place : ℕ) (x : AnyNode) → place_of w.cluster (node_of event) ≡ Some place → slice_get w.nodes place ≡ Some x
           → AllStand (w.acts ++ (any_step x (what_of event)).acts) w.cluster (slice_set w.nodes place (any_step x (what_of event)).node)
-      turn_stands place x at fact name y = by (place_of w.cluster name) refl
-        where
-          there : node_named w (node_of event) ≡ Some x
-          there = found place x at fact
-
-          now : List Act
-          now = w.acts ++ (any_step x (what_of event)).acts
-
-          apart : (q : ℕ) → (q == place) ≡ false → q ≡ place → ⊥
-          apart q e = grind (arith, nat_tests)
-
-          at_place : (q : ℕ) → place_of w.cluster name ≡ Some q → (t : Bool) → (q == place) ≡ t
-              → slice_get (slice_set w.nodes place (any_step x (what_of event)).node) q ≡ Some y → Stands now name y
-          at_place q named true e now_is =
-              let same : q ≡ place = eqb-true q place e in
-              let its : name ≡ node_of event = one_name w.cluster name (node_of event) place (named ∙ ap Some same) at in
-              let is_new : (any_step x (what_of event)).node ≡ y =
-              same_node (any_step x (what_of event)).node y
-              (sym (get_set_same w.nodes place (any_step x (what_of event)).node x fact)
-              ∙ (ap (slice_get (slice_set w.nodes place (any_step x (what_of event)).node)) (sym same) ∙ now_is)) in
-              subst (λ n. Stands now n y) (sym its)
-              (subst (Stands now (node_of event)) is_new
-              (step_stands x there (all (node_of event) x there) (known (node_of event) x there).waits))
-          at_place q named false e now_is =
-              beside w.acts (any_step x (what_of event)).acts name y
-              (all name y (ap (node_in w.nodes) named ∙ (sym (get_set_other w.nodes place (any_step x (what_of event)).node q (apart q e)) ∙ now_is)))
-
-          by : (o : Option ℕ) → place_of w.cluster name ≡ o → node_in (slice_set w.nodes place (any_step x (what_of event)).node) o ≡ Some y → Stands now name y
-          by None named now_is = absurd cc
-          by (Some q) named now_is = at_place q named (q == place) refl now_is
+      turn_stands place x at fact =
+          let there = found place x at fact in
+          everyone_so w.cluster w.nodes (node_of event) place at x (any_step x (what_of event)).node fact (Stands (w.acts ++ (any_step x (what_of event)).acts))
+          (step_stands x there (all (node_of event) x there) (known (node_of event) x there).waits)
+          (λ name y differs was. beside w.acts (any_step x (what_of event)).acts name y (all name y was))
 
       next_stands : WorldStands (next_world any_step w event)
       next_stands =

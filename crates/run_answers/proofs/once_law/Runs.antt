@@ -1,8 +1,6 @@
 -- In every run each item is answered at most once, by its own node, after its Begin: each event keeps the ledgers of all nodes.
-use Rattle.std.proofs.Common.{◌≡◌, ◌⊎◌, ℕ, ◌+◌, ◌≤◌, ◌<◌, ◌==◌, Bool, true, false, List, [], ◌∷◌, ◌++◌, drop, length, slice_get, slice_set, take, Option, Some, None, inl, inr, refl, sym, ap, subst, ◌∙◌, arith}
+use Rattle.std.proofs.Common.{◌≡◌, ◌⊎◌, ℕ, ◌+◌, ◌≤◌, ◌<◌, List, [], ◌∷◌, ◌++◌, drop, length, slice_get, slice_set, take, Option, Some, None, inl, inr, refl, sym, ap, subst, ◌∙◌, arith}
 use Rattle.std.specs.List.{fold}
-use Rattle.std.proofs.lemmas.Bool.{eqb-true}
-use Rattle.std.proofs.lemmas.Bool.Decides.{nat_tests}
 use Rattle.cleaner_node.specs.CleanerEvents as cleaner
 use Rattle.client_node.specs.Phases as client
 use Rattle.core_world.specs.AnyNode.{any_start, any_step}
@@ -31,9 +29,8 @@ use Rattle.world_base.specs.Events.{node_of, what_of}
 use Rattle.world_base.specs.Items.{items_of}
 use Rattle.world_base.specs.NextWorld.{next_world, start_world}
 use Rattle.world_base.specs.Runs.{Leads, begins_of}
-use Rattle.run_laws.proofs.world_law.Nodes.{get_set_other, get_set_same}
+use Rattle.run_laws.proofs.world_law.Everyone.{everyone_so}
 use Rattle.run_laws.proofs.world_law.Pasts.{done_after, holds_at, none_after}
-use Rattle.run_laws.proofs.world_law.Places.{one_name}
 use Rattle.run_laws.proofs.world_law.Start.{first_stands}
 use Rattle.run_laws.proofs.world_law.Turning.{next_cluster, next_keeps}
 use Rattle.run_laws.specs.world_law.Owners.{moment, node_in}
@@ -371,44 +368,12 @@ module _ (script : Script) where
       turn_nodes : (place : ℕ) (x : AnyNode) → place_of w.cluster (node_of event) ≡ Some place → slice_get w.nodes place ≡ Some x
           → (name : NodeId) (y : AnyNode) → node_in (slice_set w.nodes place (any_step x (what_of event)).node) (place_of w.cluster name) ≡ Some y
           → Stands name (begins_of name later) (w.acts ++ (any_step x (what_of event)).acts) y
-      turn_nodes place x at fact name y = by (place_of w.cluster name) refl
-        where
-          s : Stands (node_of event) (begins_of (node_of event) past) w.acts x
-          s = here place x at fact
-
-          apart : (q : ℕ) → (q == place) ≡ false → q ≡ place → ⊥
-          apart q e = grind (arith, nat_tests)
-
-          some_place : (a b : ℕ) → Some a ≡ Some b → a ≡ b
-          some_place a b e = cc
-
-          none_new : (q : ℕ) → place_of w.cluster name ≡ Some q → (q ≡ place → ⊥) → (item : ℕ) → IsUnanswered (any_step x (what_of event)).acts name item
-          none_new q named other item a among =
-              let its : name ≡ node_of event = (new_its w.acts x s name item a among).0 in
-              other (some_place q place (sym named ∙ (ap (place_of w.cluster) its ∙ at)))
-
-          at_place : (q : ℕ) → place_of w.cluster name ≡ Some q → (t : Bool) → (q == place) ≡ t
-              → slice_get (slice_set w.nodes place (any_step x (what_of event)).node) q ≡ Some y
-              → Stands name (begins_of name later) (w.acts ++ (any_step x (what_of event)).acts) y
-          at_place q named true e now_is =
-              let same : q ≡ place = eqb-true q place e in
-              let its : name ≡ node_of event = one_name w.cluster name (node_of event) place (named ∙ ap Some same) at in
-              let is_new : (any_step x (what_of event)).node ≡ y =
-              same_node (any_step x (what_of event)).node y
-              (sym (get_set_same w.nodes place (any_step x (what_of event)).node x fact)
-              ∙ (ap (slice_get (slice_set w.nodes place (any_step x (what_of event)).node)) (sym same) ∙ now_is)) in
-              subst (λ n. Stands n (begins_of n later) (w.acts ++ (any_step x (what_of event)).acts) y) (sym its)
-              (subst (Stands (node_of event) (begins_of (node_of event) later) (w.acts ++ (any_step x (what_of event)).acts)) is_new
-              (now_stands w.acts x s))
-          at_place q named false e now_is =
-              other_stands name w.acts (any_step x (what_of event)).acts y (none_new q named (apart q e))
-              (all.nodes name y
-              (ap (node_in w.nodes) named ∙ (sym (get_set_other w.nodes place (any_step x (what_of event)).node q (apart q e)) ∙ now_is)))
-
-          by : (o : Option ℕ) → place_of w.cluster name ≡ o → node_in (slice_set w.nodes place (any_step x (what_of event)).node) o ≡ Some y
-              → Stands name (begins_of name later) (w.acts ++ (any_step x (what_of event)).acts) y
-          by None named now_is = absurd cc
-          by (Some q) named now_is = at_place q named (q == place) refl now_is
+      turn_nodes place x at fact =
+          let s = here place x at fact in
+          everyone_so w.cluster w.nodes (node_of event) place at x (any_step x (what_of event)).node fact
+          (λ name y. Stands name (begins_of name later) (w.acts ++ (any_step x (what_of event)).acts) y) (now_stands w.acts x s)
+          (λ name y differs was.
+          other_stands name w.acts (any_step x (what_of event)).acts y (λ item a among. differs (new_its w.acts x s name item a among).0) (all.nodes name y was))
 
       turn_its : (place : ℕ) (x : AnyNode) → place_of w.cluster (node_of event) ≡ Some place → slice_get w.nodes place ≡ Some x
           → AllIts later (w.acts ++ (any_step x (what_of event)).acts)

@@ -1,11 +1,8 @@
 -- What is so of each node at the start, and of the one that takes its turn in an event, is so of each at each moment of a run.
-use Rattle.std.proofs.Common.{◌≡◌, ◌⊎◌, ℕ, zero, suc, ◌==◌, Bool, true, false, slice_get, slice_set, Option, Some, None, inl, inr, refl, sym, ap, subst, ◌∙◌, arith}
-use Rattle.std.proofs.lemmas.Bool.{eqb-true}
-use Rattle.std.proofs.lemmas.Bool.Decides.{nat_tests}
+use Rattle.std.proofs.Common.{◌≡◌, ◌⊎◌, ℕ, zero, suc, slice_get, slice_set, Option, Some, None, inl, inr, refl, sym, ap, subst, ◌∙◌}
 use Rattle.core_world.specs.AnyNode.{any_start, any_step}
 use Rattle.core_world.specs.declared.any_node.AnyNode.{AnyNode}
-use Rattle.run_laws.proofs.world_law.Nodes.{get_set_other, get_set_same}
-use Rattle.run_laws.proofs.world_law.Places.{one_name}
+use Rattle.run_laws.proofs.world_law.Everyone.{everyone_so}
 use Rattle.run_laws.proofs.world_law.Start.{first_stands}
 use Rattle.run_laws.proofs.world_law.Turning.{next_cluster}
 use Rattle.run_laws.proofs.world_reads.Taking.{NothingHappens, Took, moment_next, takes_or_not}
@@ -68,33 +65,12 @@ module _ (P : NodeId → AnyNode → Type 0) (e : Estate AnyNode) where
           all name y (ap (λ nodes. node_in nodes (place_of w.cluster name)) (sym none.nodes) ∙ here name y fact)
 
       one_turns : (x : AnyNode) → Took w event x → AllStand next
-      one_turns x took name y fact = by (place_of w.cluster name) refl now
-        where
-          after : AnyNode
-          after = (any_step x (what_of event)).node
-
-          now : node_in (slice_set w.nodes took.place after) (place_of w.cluster name) ≡ Some y
-          now = ap (λ nodes. node_in nodes (place_of w.cluster name)) (sym took.nodes) ∙ here name y fact
-
-          apart : (q : ℕ) → (q == took.place) ≡ false → q ≡ took.place → ⊥
-          apart q differs = grind (arith, nat_tests)
-
-          at_place : (q : ℕ) → place_of w.cluster name ≡ Some q → (t : Bool) → (q == took.place) ≡ t → slice_get (slice_set w.nodes took.place after) q ≡ Some y
-              → P name y
-          at_place q named true same is =
-              let place : q ≡ took.place = eqb-true q took.place same in
-              let its : name ≡ node_of event = one_name w.cluster name (node_of event) took.place (named ∙ ap Some place) took.placed in
-              let it_is : after ≡ y =
-              same_node after y
-              (sym (get_set_same w.nodes took.place after x took.stands) ∙ (ap (slice_get (slice_set w.nodes took.place after)) (sym place) ∙ is)) in
-              let was : node_named w (node_of event) ≡ Some x = ap (node_in w.nodes) took.placed ∙ took.stands in
-              subst (λ n. P n y) (sym its) (subst (P (node_of event)) it_is (turns count event happens x was (all (node_of event) x was)))
-          at_place q named false differs is =
-              all name y (ap (node_in w.nodes) named ∙ (sym (get_set_other w.nodes took.place after q (apart q differs)) ∙ is))
-
-          by : (o : Option ℕ) → place_of w.cluster name ≡ o → node_in (slice_set w.nodes took.place after) o ≡ Some y → P name y
-          by None named is = absurd cc
-          by (Some q) named is = at_place q named (q == took.place) refl is
+      one_turns x took name y fact =
+          let now : node_in (slice_set w.nodes took.place (any_step x (what_of event)).node) (place_of w.cluster name) ≡ Some y =
+          ap (λ nodes. node_in nodes (place_of w.cluster name)) (sym took.nodes) ∙ here name y fact in
+          let was : node_named w (node_of event) ≡ Some x = ap (node_in w.nodes) took.placed ∙ took.stands in
+          everyone_so w.cluster w.nodes (node_of event) took.place took.placed x (any_step x (what_of event)).node took.stands P
+          (turns count event happens x was (all (node_of event) x was)) (λ other z differs before. all other z before) name y now
 
       next_stands : AllStand next
       next_stands = by (takes_or_not w event)

@@ -1,8 +1,6 @@
 -- In each event of a run: where a node answers that a segment is lost, it has said so before, and the item was begun.
-use Rattle.std.proofs.Common.{◌≡◌, ◌≤◌, ℕ, ◌==◌, Bool, true, false, List, [], ◌∷◌, ◌++◌, drop, length, slice_get, slice_set, take, Option, Some, None, refl, sym, ap, subst, ◌∙◌, arith}
+use Rattle.std.proofs.Common.{◌≡◌, ◌≤◌, ℕ, List, [], ◌∷◌, ◌++◌, drop, length, slice_get, slice_set, take, Option, Some, None, refl, sym, ap, subst, ◌∙◌}
 use Rattle.std.specs.List.{fold}
-use Rattle.std.proofs.lemmas.Bool.{eqb-true}
-use Rattle.std.proofs.lemmas.Bool.Decides.{nat_tests}
 use Rattle.cleaner_node.specs.CleanerEvents as cleaning
 use Rattle.client_node.specs.declared.client.Client.{Client}
 use Rattle.client_node.specs.Phases.{lasting_of, takes}
@@ -22,9 +20,8 @@ use Rattle.world_base.specs.Events.{node_of, what_of}
 use Rattle.world_base.specs.Items.{items_of}
 use Rattle.world_base.specs.NextWorld.{next_world, start_world}
 use Rattle.world_base.specs.Runs.{begins_of}
-use Rattle.run_laws.proofs.world_law.Nodes.{get_set_other, get_set_same}
+use Rattle.run_laws.proofs.world_law.Everyone.{everyone_so}
 use Rattle.run_laws.proofs.world_law.Pasts.{done_after, holds_at, none_after}
-use Rattle.run_laws.proofs.world_law.Places.{one_name}
 use Rattle.run_laws.proofs.world_law.Start.{first_stands}
 use Rattle.run_laws.proofs.world_law.Turning.{next_cluster, next_keeps}
 use Rattle.run_laws.specs.world_law.Owners.{moment, node_in, node_named}
@@ -150,29 +147,9 @@ module _ (past : List Event) (event : Event) where
 
     turn_stands : (place : ℕ) (x : AnyNode) → place_of w.cluster (node_of event) ≡ Some place → slice_get w.nodes place ≡ Some x
         → AllStand w.cluster (now past event) (slice_set w.nodes place (any_step x (what_of event)).node)
-    turn_stands place x at fact name y = by (place_of w.cluster name) refl
-      where
-        new : AnyNode
-        new = (any_step x (what_of event)).node
-
-        apart : (q : ℕ) → (q == place) ≡ false → q ≡ place → ⊥
-        apart q e = grind (arith, nat_tests)
-
-        at_place : (q : ℕ) → place_of w.cluster name ≡ Some q → (t : Bool) → (q == place) ≡ t → slice_get (slice_set w.nodes place new) q ≡ Some y
-            → Stands name (begins_of name (now past event)) y
-        at_place q named true e now_is =
-            let same : q ≡ place = eqb-true q place e in
-            let its : name ≡ node_of event = one_name w.cluster name (node_of event) place (named ∙ ap Some same) at in
-            let is_new : new ≡ y =
-            same_node new y (sym (get_set_same w.nodes place new x fact) ∙ (ap (slice_get (slice_set w.nodes place new)) (sym same) ∙ now_is)) in
-            subst (λ n. Stands n (begins_of n (now past event)) y) (sym its)
-            (subst (Stands (node_of event) (begins_of (node_of event) (now past event))) is_new (step_stands x (here place x at fact)))
-        at_place q named false e now_is =
-            later_stands name y (all name y (ap (node_in w.nodes) named ∙ (sym (get_set_other w.nodes place new q (apart q e)) ∙ now_is)))
-
-        by : (o : Option ℕ) → place_of w.cluster name ≡ o → node_in (slice_set w.nodes place new) o ≡ Some y → Stands name (begins_of name (now past event)) y
-        by None named now_is = absurd cc
-        by (Some q) named now_is = at_place q named (q == place) refl now_is
+    turn_stands place x at fact =
+        everyone_so w.cluster w.nodes (node_of event) place at x (any_step x (what_of event)).node fact (λ name y. Stands name (begins_of name (now past event)) y)
+        (step_stands x (here place x at fact)) (λ name y differs was. later_stands name y (all name y was))
 
     next_stands : AllStand (next_world any_step w event).cluster (now past event) (next_world any_step w event).nodes
     next_stands =
