@@ -22,7 +22,7 @@ use crate::reopening_law::{
 use crate::restart_law::{undoubted_runs_are_sure, without_losses_no_restart_is_doubtful};
 use crate::segment_law::clients_flew_originals;
 use crate::segment_tie::{items_say_all, runs_write_so};
-use crate::world_law::what_fell_is_held_by_nobody;
+use crate::world_law::{nodes_are_seen, what_fell_is_held_by_nobody};
 use crate::world_lines::{
     lines_are_filed, lines_go_on, logs_are_linked, owners_lines_go_on, what_flies_is_its_text,
     what_is_acted_is_filed, what_is_filed_flew, what_is_filed_is_owed,
@@ -35,10 +35,6 @@ use log_law::{
     names_bear_groups, one_name_one_text, openings_go_on, what_flew_is_written, what_is_held_flew,
 };
 use node_slots::node_index_tie::{manager_events_are_seen, registry_events_are_seen};
-use node_slots::node_tie::{
-    client_events_are_seen, clients_ask_for_their_call,
-    manager_events_are_seen as manager_tokens_are_seen, other_events_are_seen,
-};
 use node_slots::owner_index_tie::{
     cleaner_index_events_are_seen, client_index_events_are_seen, server_index_events_are_seen,
 };
@@ -53,10 +49,7 @@ use token_law::{acts_are_legal, dirty_blocks_lead, tokens_keep_their_word};
 fn tokens_below()
     ensures { TokensBelow }
 {
-    other_events_are_seen();
-    clients_ask_for_their_call();
-    client_events_are_seen();
-    manager_tokens_are_seen();
+    nodes_are_seen();
     tokens_keep_their_word();
     acts_are_legal();
     dirty_blocks_lead();

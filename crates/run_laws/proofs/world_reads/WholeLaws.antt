@@ -61,18 +61,7 @@ module _ (below : Below) where
   }
 
   pub token_nodes : tokens.NodeLaws
-  token_nodes = record {
-    starts_asking = below.tokens.starts_asking;
-    keeps_asking = below.tokens.events_keep_asking;
-    client = below.tokens.client_takes;
-    first_manager = below.tokens.first_manager_agrees;
-    manager = below.tokens.manager_event_goes;
-    begins = below.tokens.registry_starts;
-    registry = below.tokens.registry_event_goes;
-    server = below.tokens.servers_say;
-    cleaner_starts = below.tokens.cleaner_starts;
-    cleaner = below.tokens.cleaner_takes;
-  }
+  token_nodes = below.tokens.nodes
 
   pub index_nodes : index.NodeLaws
   index_nodes = record {
@@ -88,8 +77,8 @@ module _ (below : Below) where
     server = below.index.server_event_goes;
     registry_starts = below.index.registry_starts;
     registry = below.index.registry_event_goes;
-    begins = below.tokens.registry_starts;
-    maps = below.tokens.registry_event_goes;
+    begins = below.tokens.nodes.begins;
+    maps = below.tokens.nodes.registry;
     managed = below.index.checkpoints_have_managers;
   }
 
@@ -179,7 +168,7 @@ module _ (below : Below) where
     asks = asks_below;
     writes = below.lines.cleaner_writes_texts;
     unfiled = below.logs.nothing_filed_opening;
-    takes = below.tokens.cleaner_takes;
+    takes = below.tokens.nodes.cleaner;
   }
 
   told_below : ToldBelow

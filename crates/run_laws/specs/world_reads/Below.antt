@@ -23,12 +23,6 @@ use Rattle.log_law.specs.Written.{WhatFlewIsWritten}
 use Rattle.node_slots.specs.node_index_tie.ManagerEvents as managers
 use Rattle.node_slots.specs.node_index_tie.ManagerEvents.{ManagersStay}
 use Rattle.node_slots.specs.node_index_tie.RegistryEvents as registries
-use Rattle.node_slots.specs.node_tie.AskingEvents.{EventsKeepAsking, StartsAsking}
-use Rattle.node_slots.specs.node_tie.CleanerEvents.{CleanerStarts, CleanerTakes}
-use Rattle.node_slots.specs.node_tie.ClientEvents.{ClientTakes}
-use Rattle.node_slots.specs.node_tie.ManagerEvents.{FirstManagerAgrees, ManagerEventGoes}
-use Rattle.node_slots.specs.node_tie.RegistryEvents.{RegistryEventGoes, RegistryStarts}
-use Rattle.node_slots.specs.node_tie.StoreEvents.{ServersSay}
 use Rattle.node_slots.specs.owner_index_tie.CleanerEvents.{CleanerEventGoes, CleanerStartAgrees, CleanerStays}
 use Rattle.node_slots.specs.owner_index_tie.ClientEvents.{ClientEventGoes, ClientsStay, FirstClientAgrees}
 use Rattle.node_slots.specs.owner_index_tie.ServerEvents.{ServerEventGoes}
@@ -53,6 +47,7 @@ use Rattle.token_protocol.specs.Acts.{LegalActs}
 use Rattle.version_model.specs.Legal.{AreLegal}
 use Rattle.version_model.specs.declared.act.Act.{Act}
 use Rattle.run_laws.specs.world_law.Fallen.{EveryRunHasFallsApart}
+use Rattle.run_laws.specs.world_law.NodeLaws.{NodeLaws}
 use Rattle.run_laws.specs.world_lines.Filing.{CleanerFilesItsFlights, ClientsActsFile, ClientsFileTheirFlights, OpeningsFileWhatFlew, WhatIsFiledFlew}
 use Rattle.run_laws.specs.world_lines.Flights.{CleanerWritesTexts, ClientsWriteTexts, ManagersWriteTexts}
 use Rattle.run_laws.specs.world_lines.Lines.{LinesGive}
@@ -70,16 +65,7 @@ BlocksMakeLegal = (acts : List Act) → FallsApart acts → ((b : BlockId) → L
 
 -- what nodes do is seen in the small world of tokens, and the laws of that
 pub record TokensBelow : Type 0 where
-  pub cleaner_takes : CleanerTakes
-  pub starts_asking : StartsAsking
-  pub events_keep_asking : EventsKeepAsking
-  pub client_takes : ClientTakes
-  pub first_manager_agrees : FirstManagerAgrees
-  pub manager_event_goes : ManagerEventGoes
-  pub registry_starts : RegistryStarts
-  pub registry_event_goes : RegistryEventGoes
-  pub servers_say : ServersSay
-  pub cleaner_starts : CleanerStarts
+  pub nodes : NodeLaws
   pub active_epochs_promised : ActiveEpochsPromised
   pub acts_are_legal : ActsAreLegal
   pub dirty_blocks_lead : DirtyBlocksLead

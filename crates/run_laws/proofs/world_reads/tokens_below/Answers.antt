@@ -2,16 +2,7 @@ use Rattle.run_laws.proofs.world_reads.tokens_below.Goals as goal
 
 pub returns : goal.returns
 returns c = record {
-  cleaner_takes = c.other_events_are_seen.ensures.cleaner;
-  starts_asking = c.clients_ask_for_their_call.ensures.start;
-  events_keep_asking = c.clients_ask_for_their_call.ensures.events;
-  client_takes = c.client_events_are_seen.ensures.events;
-  first_manager_agrees = c.manager_events_are_seen.ensures.start;
-  manager_event_goes = c.manager_events_are_seen.ensures.events;
-  registry_starts = c.other_events_are_seen.ensures.start;
-  registry_event_goes = c.other_events_are_seen.ensures.events;
-  servers_say = c.other_events_are_seen.ensures.servers;
-  cleaner_starts = c.other_events_are_seen.ensures.cleaner_start;
+  nodes = c.nodes_are_seen.ensures;
   active_epochs_promised = c.tokens_keep_their_word.ensures.promised;
   acts_are_legal = c.acts_are_legal.ensures.legal;
   dirty_blocks_lead = c.dirty_blocks_lead.ensures.lead;
