@@ -11,6 +11,7 @@ mod ServerTurns
 mod OtherTurns
 mod Logs
 mod Moves
+mod OwnerSteps
 mod Picking
 mod Unwritten
 mod OwnerTurns
@@ -31,6 +32,8 @@ mod Ends
 mod Places
 mod Groups
 mod Held
+pub mod TextBytes
+pub mod Texts
 mod Written
 mod ReadingDown
 mod BeingRead

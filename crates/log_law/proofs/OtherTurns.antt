@@ -15,10 +15,10 @@ use Rattle.log_protocol.specs.Step.Steps.{Done, More}
 use Rattle.log_protocol.specs.Tables.{put, In}
 use Rattle.log_tie.specs.Setting.{Setting, name_of}
 use Rattle.log_tie.specs.Scans.{AllMetas, WholeMap}
-use Rattle.log_law.specs.Net.{Net}
+use Rattle.log_law.specs.Net.{Net, Packet}
 use Rattle.log_law.specs.Net.Packet.{ListedSent, DeleteSent, MapSent, HelloSent, WelcomeSent}
 use Rattle.log_law.specs.Below.{Below}
-use Rattle.log_law.proofs.Views.{HelloSeen, WelcomeSeen, View}
+use Rattle.log_law.proofs.Views.{HelloSeen, Shown, WelcomeSeen, View}
 use Rattle.log_law.proofs.Turning.{turned}
 use Rattle.log_law.proofs.ServerTurns.{nothing_apart}
 
@@ -103,8 +103,9 @@ module _ (k : Below) (g : Setting) (n : Net) (h : View g n) where
         cut = whole.cut;
       }
 
-  pub publishes_view : (m : GroupMapState) → WholeMap g n.registry m → Next g n h (record n { sent = MapSent m ∷ n.sent })
-  publishes_view m whole = turned k g n h _ h.w (MapSent m ∷ []) (record {
+  -- one more packet is sent, in which nothing but the truth is told
+  tells_view : (p : Packet) → Shown g h.w h.book h.hellos p → Next g n h (record n { sent = p ∷ n.sent })
+  tells_view p shown = turned k g n h _ h.w (p ∷ []) (record {
     steps = Done;
     apart = nothing_apart k g n h;
     rests = record { inc = refl; owner = refl; filed = refl; flown = refl; picked = refl };
@@ -113,28 +114,18 @@ module _ (k : Below) (g : Setting) (n : Net) (h : View g n) where
     registry = h.registry;
     low = h.low;
     sends = refl;
-    shown = (whole_here m whole, tt);
+    shown = (shown, tt);
     dropped = h.dropped;
     gone = λ z in_. inl in_;
     servers = λ y. inl refl;
   })
 
+  pub publishes_view : (m : GroupMapState) → WholeMap g n.registry m → Next g n h (record n { sent = MapSent m ∷ n.sent })
+  publishes_view m whole = tells_view (MapSent m) (whole_here m whole)
+
   pub welcomes_view : (inc ask : ℕ) (news : List SlotNews) (m : GroupMapState) → In (HelloSent inc ask) n.sent → least_horizon g.log.0 news ≡ n.low
       → WholeMap g n.registry m → Next g n h (record n { sent = WelcomeSent inc ask news m ∷ n.sent })
-  welcomes_view inc ask news m fact low whole = turned k g n h _ h.w (WelcomeSent inc ask news m ∷ []) (record {
-    steps = Done;
-    apart = nothing_apart k g n h;
-    rests = record { inc = refl; owner = refl; filed = refl; flown = refl; picked = refl };
-    shelves = h.shelves;
-    nobody = h.nobody;
-    registry = h.registry;
-    low = h.low;
-    sends = refl;
-    shown = (seen, tt);
-    dropped = h.dropped;
-    gone = λ z in_. inl in_;
-    servers = λ y. inl refl;
-  })
+  welcomes_view inc ask news m fact low whole = tells_view (WelcomeSent inc ask news m) seen
     where
       hello : HelloSeen h.hellos inc ask
       hello = h.sent (HelloSent inc ask) fact

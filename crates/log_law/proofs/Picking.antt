@@ -1,9 +1,10 @@
 -- Once an opening has picked where the log goes on, the horizon of the pick stays, until the owner restarts.
 use Rattle.std.proofs.Common.{◌≡◌, suc, ◌≤◌, ◌<◌, ◌⊎◌, refl, ◌∙◌, inl, inr, arith}
 use Rattle.log_protocol.specs.State.{State}
-use Rattle.log_protocol.specs.Step.{Step, Steps}
-use Rattle.log_protocol.specs.Step.Step.{Loses, Hears, Learns, Sends, Accepts, Accepts_again, Tells, Fills, Drops, Deletes, Raises, Fences, Seals, Restripes, Notes, Settles, Crashes, Restarts, Begins, Picks_none, Picks_kept, Picks_prior, Cuts, Opens, Serves}
+use Rattle.log_protocol.specs.Step.{Steps}
 use Rattle.log_protocol.specs.Step.Steps.{Done, More}
+use Rattle.log_law.proofs.OwnerSteps.{Turn, turn_of}
+use Rattle.log_law.proofs.OwnerSteps.Turn.{Rests, Falls, Boots, Picks, Writes}
 
 -- the owner has not restarted since
 pub record Picked (w v : State) : Type 0 where
@@ -41,36 +42,16 @@ again : (w v u : State) → u.incarnation ≡ suc v.incarnation → Since w v �
 again w v u boot (inl p) = inr (let a = p.boot in let b = boot in omega arith)
 again w v u boot (inr less) = inr (let b = boot in omega arith)
 
-step_since : (w v u : State) → Step v u → Since w v → Since w u
-step_since w v u (Loses x) s = carry w v u refl refl refl s
-step_since w v u (Hears x generation can) s = carry w v u refl refl refl s
-step_since w v u (Learns map can) s = carry w v u refl refl refl s
-step_since w v u (Sends x i can) s = carry w v u refl refl refl s
-step_since w v u (Accepts p can) s = carry w v u refl refl refl s
-step_since w v u (Accepts_again p can) s = carry w v u refl refl refl s
-step_since w v u (Tells y x can) s = carry w v u refl refl refl s
-step_since w v u (Fills y i p can) s = carry w v u refl refl refl s
-step_since w v u (Drops x can) s = carry w v u refl refl refl s
-step_since w v u (Deletes y x can) s = carry w v u refl refl refl s
-step_since w v u (Raises low can) s = carry w v u refl refl refl s
-step_since w v u (Fences y c can) s = carry w v u refl refl refl s
-step_since w v u (Seals x text count server content can) s = carry w v u refl refl refl s
-step_since w v u (Restripes x text count server can) s = carry w v u refl refl refl s
-step_since w v u (Notes p can) s = carry w v u refl refl refl s
-step_since w v u (Settles can) s = carry w v u refl refl refl s
-step_since w v u Crashes s = forth w v u refl (inr refl) refl s
-step_since w v u (Restarts can) s = again w v u refl s
-step_since w v u (Begins can) s = again w v u refl s
-step_since w v u (Picks_none list_of low can) s = never w v u can.gathering refl s
-step_since w v u (Picks_kept list_of low x can) s = never w v u can.gathering refl s
-step_since w v u (Picks_prior list_of low x i can) s = never w v u can.gathering refl s
-step_since w v u (Cuts low can) s = carry w v u refl refl refl s
-step_since w v u (Opens x text count server can) s = forth w v u refl (inl (omega arith)) refl s
-step_since w v u (Serves path lowest sure can) s = forth w v u refl (inl (omega arith)) refl s
+turn_since : (w v u : State) → Turn v u → Since w v → Since w u
+turn_since w v u (Rests phase boot low span) s = carry w v u low phase boot s
+turn_since w v u (Falls down boot low) s = forth w v u low (inr down) boot s
+turn_since w v u (Boots boot) s = again w v u boot s
+turn_since w v u (Picks one boot span) s = never w v u one boot s
+turn_since w v u (Writes late boot low) s = forth w v u low (inl (omega arith)) boot s
 
 since : (w v : State) → 2 ≤ w.phase → Steps w v → Since w v
 since w v some Done = inl (record { low = refl; phase = inl some; boot = omega arith })
-since w v some (More {v = u} run step) = step_since w u v step (since w u some run)
+since w v some (More {v = u} run step) = turn_since w u v (turn_of u v step) (since w u some run)
 
 -- in one boot the horizon of the pick stays
 pub pick_stays : (w v : State) → 2 ≤ w.phase → Steps w v → v.incarnation ≡ w.incarnation → v.pick_low ≡ w.pick_low

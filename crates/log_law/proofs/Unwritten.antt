@@ -1,9 +1,10 @@
 -- While an opening goes on in its boot and hasn't begun to write, the span stays as it was: only an opening segment that is written begins one.
 use Rattle.std.proofs.Common.{◌≡◌, suc, ◌≤◌, ◌<◌, ◌⊎◌, refl, ◌∙◌, inl, inr, arith}
 use Rattle.log_protocol.specs.State.{State}
-use Rattle.log_protocol.specs.Step.{Step, Steps}
-use Rattle.log_protocol.specs.Step.Step.{Loses, Hears, Learns, Sends, Accepts, Accepts_again, Tells, Fills, Drops, Deletes, Raises, Fences, Seals, Restripes, Notes, Settles, Crashes, Restarts, Begins, Picks_none, Picks_kept, Picks_prior, Cuts, Opens, Serves}
+use Rattle.log_protocol.specs.Step.{Steps}
 use Rattle.log_protocol.specs.Step.Steps.{Done, More}
+use Rattle.log_law.proofs.OwnerSteps.{Turn, turn_of}
+use Rattle.log_law.proofs.OwnerSteps.Turn.{Rests, Falls, Boots, Picks, Writes}
 
 -- nothing was written since
 record Stays (w v : State) : Type 0 where
@@ -53,36 +54,16 @@ picks w v u one span boot (inr l) = inr (record { past = by l.past; boot = (let 
 again : (w v u : State) → u.incarnation ≡ suc v.incarnation → Since w v → Since w u
 again w v u boot s = let a = began w v s in inr (record { past = inr (inr (let b = boot in omega arith)); boot = (let b = boot in omega arith) })
 
-step_since : (w v u : State) → Step v u → Since w v → Since w u
-step_since w v u (Loses x) s = carry w v u refl refl refl s
-step_since w v u (Hears x generation can) s = carry w v u refl refl refl s
-step_since w v u (Learns map can) s = carry w v u refl refl refl s
-step_since w v u (Sends x i can) s = carry w v u refl refl refl s
-step_since w v u (Accepts p can) s = carry w v u refl refl refl s
-step_since w v u (Accepts_again p can) s = carry w v u refl refl refl s
-step_since w v u (Tells y x can) s = carry w v u refl refl refl s
-step_since w v u (Fills y i p can) s = carry w v u refl refl refl s
-step_since w v u (Drops x can) s = carry w v u refl refl refl s
-step_since w v u (Deletes y x can) s = carry w v u refl refl refl s
-step_since w v u (Raises low can) s = carry w v u refl refl refl s
-step_since w v u (Fences y c can) s = carry w v u refl refl refl s
-step_since w v u (Seals x text count server content can) s = carry w v u refl refl refl s
-step_since w v u (Restripes x text count server can) s = carry w v u refl refl refl s
-step_since w v u (Notes p can) s = carry w v u refl refl refl s
-step_since w v u (Settles can) s = carry w v u refl refl refl s
-step_since w v u Crashes s = leaves w v u (inl refl) refl s
-step_since w v u (Restarts can) s = again w v u refl s
-step_since w v u (Begins can) s = again w v u refl s
-step_since w v u (Picks_none list_of low can) s = picks w v u can.gathering refl refl s
-step_since w v u (Picks_kept list_of low x can) s = picks w v u can.gathering refl refl s
-step_since w v u (Picks_prior list_of low x i can) s = picks w v u can.gathering refl refl s
-step_since w v u (Cuts low can) s = carry w v u refl refl refl s
-step_since w v u (Opens x text count server can) s = leaves w v u (inr (omega arith)) refl s
-step_since w v u (Serves path lowest sure can) s = leaves w v u (inr (omega arith)) refl s
+turn_since : (w v u : State) → Turn v u → Since w v → Since w u
+turn_since w v u (Rests phase boot low span) s = carry w v u span phase boot s
+turn_since w v u (Falls down boot low) s = leaves w v u (inl down) boot s
+turn_since w v u (Boots boot) s = again w v u boot s
+turn_since w v u (Picks one boot span) s = picks w v u one span boot s
+turn_since w v u (Writes late boot low) s = leaves w v u (inr late) boot s
 
 since : (w v : State) → Steps w v → Since w v
 since w v Done = inl (record { span = refl; boot = omega arith })
-since w v (More {v = u} run step) = step_since w u v step (since w u run)
+since w v (More {v = u} run step) = turn_since w u v (turn_of u v step) (since w u run)
 
 pub unwritten : (w v : State) → Steps w v → v.incarnation ≡ w.incarnation → 0 < v.phase → v.phase < 3 → v.spanning ≡ w.spanning
 unwritten w v run same some few = by (since w v run)
