@@ -1,6 +1,6 @@
 pub mod Counting
 pub mod Pairs
-mod Shelves
+pub mod Shelves
 pub mod Growing
 mod Asking
 pub mod Events

@@ -30,18 +30,18 @@ pub record ShelfOn (g : Setting) (n : Net) (s t : ShelfState) : Type 0 where
 pub shelf_same : (g : Setting) (n : Net) (s : ShelfState) → ShelfOn g n s s
 shelf_same g n s = record { up = omega arith; holds = λ name own fact. inl fact }
 
-none_found : (o : Option Fragment) → is_some o ≡ false → o ≡ None
+pub none_found : (o : Option Fragment) → is_some o ≡ false → o ≡ None
 none_found None e = refl
 none_found (Some f) e = contrary (sym e)
 
-found_too : (t : Bool) (f : Fragment) (o : Option Fragment) → is_some o ≡ true → is_some (cond t (Some f) o) ≡ true
+pub found_too : (t : Bool) (f : Fragment) (o : Option Fragment) → is_some o ≡ true → is_some (cond t (Some f) o) ≡ true
 found_too true f o fact = refl
 found_too false f o fact = fact
 
-less_min : (a b : ℕ) → a < b → a < min (a + 1) b
+pub less_min : (a b : ℕ) → a < b → a < min (a + 1) b
 less_min a b less = omega arith
 
-at_most : (a b : ℕ) → a < b → a ≤ b
+pub at_most : (a b : ℕ) → a < b → a ≤ b
 at_most a b less = omega arith
 
 kept_on : (g : Setting) (n : Net) (s : ShelfState) (f : Fragment) → ShelfOn g n s (kept s f)

@@ -1,8 +1,8 @@
 -- An event of a server leaves what its shelf holds, unless its disk is lost or it is told to delete it; and its generation never falls.
-use Rattle.std.proofs.Common.{◌≡◌, ℕ, ◌+◌, ◌<◌, ◌≤◌, ◌⊎◌, Bool, true, false, cond, is_some, min, List, Option, Some, None, refl, sym, ap, subst, ◌∙◌, inl, inr, arith}
+use Rattle.std.proofs.Common.{◌≡◌, ℕ, ◌+◌, ◌<◌, ◌≤◌, ◌⊎◌, Bool, true, false, cond, is_some, min, List, None, refl, ap, subst, ◌∙◌, inl, inr, arith}
 use Rattle.std.proofs.lemmas.Bool.Decides.{nat_tests}
 use Rattle.std.specs.BTreeMap.{insert_entry}
-use Rattle.xfs_base.proofs.Booleans.{by_test, contrary}
+use Rattle.xfs_base.proofs.Booleans.{by_test}
 use Rattle.xfs_base.specs.declared.fragment.Fragment.{Fragment}
 use Rattle.xfs_base.specs.declared.node.NodeId.{NodeId}
 use Rattle.xfs_base.specs.declared.segment.LogId.{LogId}
@@ -27,21 +27,8 @@ use Rattle.wire_msg.specs.declared.packet.Do.{Do}
 use Rattle.wire_msg.specs.declared.packet.Do.TheVariants.{Deliver}
 use Rattle.wire_msg.specs.declared.packet.Packet.{Packet}
 use Rattle.wire_msg.specs.declared.storage.Delete.{Delete}
+use Rattle.loss_law.proofs.Shelves.{at_most, found_too, less_min, none_found}
 use Rattle.node_moves.proofs.server_moves.Keeping.{Keeps, any_rebuild, event_keeps, takes_any}
-
-none_found : (o : Option Fragment) → is_some o ≡ false → o ≡ None
-none_found None e = refl
-none_found (Some f) e = contrary (sym e)
-
-found_too : (t : Bool) (f : Fragment) (o : Option Fragment) → is_some o ≡ true → is_some (cond t (Some f) o) ≡ true
-found_too true f o fact = refl
-found_too false f o fact = fact
-
-less_min : (a b : ℕ) → a < b → a < min (a + 1) b
-less_min a b less = omega arith
-
-at_most : (a b : ℕ) → a < b → a ≤ b
-at_most a b less = omega arith
 
 low_of : (g : ℕ) → has_room g ≡ true → g < u32_end
 low_of g room = grind (arith, nat_tests)
