@@ -1,5 +1,5 @@
 -- What the calls of a disk in memory make of it, one after the other, is what is written of its drive.
-use Rattle.std.proofs.Common.{◌≡◌, ◌≢◌, inl, inr, ℕ, zero, suc, ◌⊎◌, ◌+◌, ◌<◌, ◌≤◌, nat_lt, not, Bool, true, false, cond, List, [], ◌∷◌, ◌++◌, length, take, drop, refl, sym, ap, subst, ◌∙◌, arith, length-append, append_assoc}
+use Rattle.std.proofs.Common.{◌≡◌, ◌≢◌, inl, inr, ℕ, suc, ◌⊎◌, ◌+◌, ◌<◌, ◌≤◌, nat_lt, not, Bool, true, false, cond, List, [], ◌∷◌, ◌++◌, length, take, drop, refl, sym, ap, subst, ◌∙◌, arith, length-append, append_assoc}
 use Rattle.std.specs.Int.{w32, from_be_bytes}
 use Rattle.std.specs.List.{AllByRecursion}
 use Rattle.std.proofs.lemmas.Bool.{ne_eqb}
@@ -7,14 +7,13 @@ use Rattle.std.proofs.lemmas.Bool.Decides.{nat_tests}
 use Rattle.std.proofs.lemmas.List.{take_at}
 use Rattle.std.proofs.lemmas.Nat.{from_be_bytes-to_be_bytes_4}
 use Rattle.disk_shelf.specs.declared.record.Record.{Record}
-use Rattle.disk_shelf.specs.Deeds.{images}
 use Rattle.disk_shelf.specs.Deeds.Deed.{Write, Sync}
-use Rattle.disk_shelf.specs.Drives.{drive_bytes, gate_after, gate_of, opened, put_on, then_on, with_record}
+use Rattle.disk_shelf.specs.Drives.{drive_bytes, gate_after, opened, put_on, then_on}
 use Rattle.disk_shelf.specs.Gates.{HasClosed}
 use Rattle.disk_shelf.specs.MemDisk.{Drive, MemState, acted, disk_bytes, failed}
 use Rattle.disk_shelf.specs.Records.{Fits, blocks, body, four, text}
 use Rattle.disk_shelf.specs.Steps.{AppendedBy, PutBy}
-use Rattle.disk_shelf.specs.Stops.{DisksOpenSo, MemOpened}
+use Rattle.disk_shelf.specs.Stops.{DisksOpenSo}
 use Rattle.disk_shelf.proofs.Pieces.{length_body}
 use Rattle.xfs_base.proofs.Booleans.{contrary, not_true}
 

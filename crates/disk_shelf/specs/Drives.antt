@@ -1,5 +1,5 @@
 -- What a shelf makes of a disk in memory, call by call up to the first that fails: how it opens the disk, and how it adds a record.
-use Rattle.std.specs.Prelude.{◌≡◌, ℕ, zero, suc, ◌+◌, nat_lt, ◌==◌, Bool, if◌then◌else◌, List, [], ◌∷◌, ◌++◌, length, take, drop}
+use Rattle.std.specs.Prelude.{ℕ, zero, suc, ◌+◌, nat_lt, ◌==◌, if◌then◌else◌, List, [], ◌∷◌, ◌++◌, length, take, drop}
 use Rattle.std.specs.Int.{w32, from_be_bytes}
 use Rattle.disk_shelf.specs.declared.record.Record.{Record}
 use Rattle.disk_shelf.specs.Deeds.{images}
