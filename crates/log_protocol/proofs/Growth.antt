@@ -1,5 +1,5 @@
 -- What only grows, or stays, over every step and every run: the book, what is filed and dropped, the line up to its head, the least horizon.
-use Rattle.std.proofs.Common.{◌≡◌, ℕ, ◌≤◌, refl, arith}
+use Rattle.std.proofs.Common.{◌≡◌, ℕ, ◌<◌, ◌≤◌, arith}
 use Rattle.std.proofs.lemmas.Bool.Decides.{nat_tests}
 use Rattle.log_protocol.specs.Packets.{StorePacket, StoredPacket, FragmentPacket, FencedPacket}
 use Rattle.log_protocol.specs.State.{State}
@@ -100,29 +100,10 @@ notes_grows : (w : State) (p : StoredPacket) → CanNote w p → Invariant w →
 notes_grows w p can i = grind (arith, nat_tests)
 
 settles_grows : (w : State) → CanSettle w → Invariant w → Grows w (settles w)
-settles_grows w can i = record {
-  booked = λ x k. k;
-  text_of = λ x k. refl;
-  member_count = λ x k. refl;
-  member_server = λ x j k. refl;
-  member_generation = λ x j k. refl;
-  prior_of = λ x k. refl;
-  content_of = λ x k. refl;
-  filed = λ x k. grind (arith, nat_tests);
-  dropped = λ x k. k;
-  secured = λ x j k. grind (arith, nat_tests);
-  generation = λ x. omega arith;
-  low = omega arith;
-  incarnation = omega arith;
-  seq_of = λ x. refl;
-  incarnation_of = λ x. refl;
-  marked = λ u x k k1. k;
-  holds = λ u x k k1 k2. k;
-  clean = λ k. k;
-  head = λ k. let e = (i.line k).its_end in let f = i.shelf.boots.flight_seq can.flying can.serving in let h = (i.line k).head_seq in grind (arith, nat_tests);
-  line = λ q k k1. let e = (i.line k).its_end in let f = i.shelf.boots.flight_seq can.flying can.serving in let h =
-      (i.line k).head_seq in grind (arith, nat_tests);
-}
+settles_grows w can i =
+    let head : w.clean ≡ 1 → w.head < w.seq_of w.flight =
+    λ k. let e = (i.line k).its_end in let f = i.shelf.boots.flight_seq can.flying can.serving in let h = (i.line k).head_seq in grind (arith, nat_tests) in
+    grind (arith, nat_tests, head)
 
 crashes_grows : (w : State) → Invariant w → Grows w (crashes w)
 crashes_grows w i = grind (arith, nat_tests)
@@ -149,30 +130,12 @@ opens_grows : (w : State) (x text count : ℕ) (server : ℕ → ℕ) → CanOpe
 opens_grows w x text count server can i = let new : w.booked x ≡ 1 → ⊥ = new_opening w x count server can i.shelf.boots in grind (arith, nat_tests)
 
 serves_grows : (w : State) (path : ℕ → ℕ) (lowest sure : ℕ) → CanServe w path lowest sure → Invariant w → Grows w (serves w path lowest sure)
-serves_grows w path lowest sure can i = record {
-  booked = λ x k. k;
-  text_of = λ x k. refl;
-  member_count = λ x k. refl;
-  member_server = λ x j k. refl;
-  member_generation = λ x j k. refl;
-  prior_of = λ x k. refl;
-  content_of = λ x k. refl;
-  filed = λ x k. grind (arith, nat_tests);
-  dropped = λ x k. k;
-  secured = λ x j k. grind (arith, nat_tests);
-  generation = λ x. omega arith;
-  low = omega arith;
-  incarnation = omega arith;
-  seq_of = λ x. refl;
-  incarnation_of = λ x. refl;
-  marked = λ u x k k1. k;
-  holds = λ u x k k1 k2. k;
-  clean = λ k. (served_clean w path lowest sure can k).0;
-  head = λ k. let was = served_clean w path lowest sure can k in let writing = can.writing in let r =
-      opening_after w writing i.shelf (λ z. i.rising was.0 (was.1 z)) in omega arith;
-  line = λ q k k1. let was = served_clean w path lowest sure can k in let writing = can.writing in let r =
-      opening_after w writing i.shelf (λ z. i.rising was.0 (was.1 z)) in grind (arith, nat_tests);
-}
+serves_grows w path lowest sure can i =
+    let clean : (serves w path lowest sure).clean ≡ 1 → w.clean ≡ 1 = λ k. (served_clean w path lowest sure can k).0 in
+    let head : (serves w path lowest sure).clean ≡ 1 → w.head < w.opening_seq =
+    λ k. let was = served_clean w path lowest sure can k in let writing = can.writing in let r =
+    opening_after w writing i.shelf (λ z. i.rising was.0 (was.1 z)) in omega arith in
+    grind (arith, nat_tests, clean, head)
 
 pub step_grows : (w u : State) → Step w u → Invariant w → Grows w u
 step_grows w u (Loses v) past = loses_grows w v past
