@@ -7,13 +7,14 @@ use Rattle.std.proofs.lemmas.Bool.Decides.{nat_tests}
 use Rattle.log_protocol.specs.Packets.{FragmentPacket, FencedPacket}
 use Rattle.log_protocol.specs.State.{State, Names, new_log}
 use Rattle.log_protocol.specs.ServerSteps.{loses, hears, learns, sends, accepts, accepts_again, tells, fills, drops, deletes, raises, fences}
-use Rattle.log_protocol.specs.OwnerSteps.{seals, restripes, notes, settles, crashes}
+use Rattle.log_protocol.specs.OwnerSteps.{seals, restripes, notes, crashes}
 use Rattle.log_protocol.specs.OpeningSteps.{begins, Gathered, Picked, picks_kept, cuts, opens, ReadBack, serves}
 use Rattle.log_protocol.specs.Step.{Steps}
-use Rattle.log_protocol.specs.Step.Step.{Loses, Hears, Learns, Sends, Accepts, Accepts_again, Tells, Fills, Drops, Deletes, Raises, Fences, Seals, Restripes, Notes, Settles, Crashes, Begins, Picks_kept, Cuts, Opens, Serves}
-use Rattle.log_protocol.specs.Step.Steps.{Done, More}
+use Rattle.log_protocol.specs.Step.Step.{Loses, Hears, Learns, Sends, Accepts, Accepts_again, Tells, Fills, Drops, Deletes, Raises, Fences, Seals, Restripes, Notes, Crashes, Begins, Picks_kept, Cuts, Opens, Serves}
+use Rattle.log_protocol.specs.Step.Steps.{More}
 use Rattle.log_protocol.specs.StepKinds.{kinds}
 use Rattle.log_protocol.specs.LogRuns.{adopted_steps, TailAdopted}
+use Rattle.log_protocol.proofs.FirstFiled.{one_filed, files_one}
 use Rattle.log_protocol.proofs.RunParts.{first_server, one_server, at_zero, store_to_first, stored_by_first, settled_alone, second_attempt, first_dropped, le11, le12, le22, lt01, lt02, lt03, lt04}
 
 abbrev seqs : ℕ → ℕ
@@ -38,35 +39,11 @@ told = record { name = 3; text = 9 }
 abbrev w0 : State
 w0 = new_log 1 seqs boots attempts
 
-abbrev w1 : State
-w1 = seals w0 1 7 1 first_server 5
-
-s1 : Steps w0 w1
-s1 = More Done (Seals 1 7 1 first_server 5 (record { serving = refl; no_flight = refl; named = lt01; next = refl; own = refl; group = one_server w0 refl }))
-
-abbrev w2 : State
-w2 = sends w1 1 0
-
-s2 : Steps w0 w2
-s2 = More s1 (Sends 1 0 (record { booked = refl; member = lt01 }))
-
-abbrev w3 : State
-w3 = accepts w2 (store_to_first 1 7)
-
-s3 : Steps w0 w3
-s3 = More s2 (Accepts (store_to_first 1 7) (record { sent = inl refl; present = refl; unmarked = refl; absent = refl }))
-
-abbrev w4 : State
-w4 = notes w3 (stored_by_first 1)
-
-s4 : Steps w0 w4
-s4 = More s3 (Notes (stored_by_first 1) (record { sent = inl refl; flying = lt01; named = refl }))
-
 abbrev w5 : State
-w5 = settles w4
+w5 = one_filed 1 seqs boots attempts
 
 s5 : Steps w0 w5
-s5 = More s4 (Settles (record { serving = refl; flying = lt01; settled = settled_alone w4 refl refl }))
+s5 = files_one 1 seqs boots attempts lt01 refl refl
 
 -- it seals name 2, writes it again as name 3, which is stored, and falls
 abbrev w6 : State
@@ -261,7 +238,7 @@ s28 : Steps w0 w28
 s28 = More s27 (Fills 0 0 told (record { sent = inl refl; member = lt01; own = refl; unmarked = refl; absent = refl }))
 
 steps : kinds s28 ≡ adopted_steps
-unfolding s1 s2 s3 s4 s5 s6 s7 s8 s9 s10 s11 s12 s13 s14 s15 s16 s17 s18 s19 s20 s21 s22 s23 s24 s25 s26 s27 s28
+unfolding files_one s5 s6 s7 s8 s9 s10 s11 s12 s13 s14 s15 s16 s17 s18 s19 s20 s21 s22 s23 s24 s25 s26 s27 s28
 steps = refl
 
 pub tail_adopted : TailAdopted

@@ -8,13 +8,14 @@ use Rattle.log_protocol.specs.Tables.{In}
 use Rattle.log_protocol.specs.Packets.{FencedPacket}
 use Rattle.log_protocol.specs.State.{State, Names, new_log}
 use Rattle.log_protocol.specs.ServerSteps.{sends, accepts, fences}
-use Rattle.log_protocol.specs.OwnerSteps.{Group, seals, notes, settles, crashes, restarts}
+use Rattle.log_protocol.specs.OwnerSteps.{Group, seals, notes, crashes, restarts}
 use Rattle.log_protocol.specs.OpeningSteps.{begins, Gathered, Picked, picks_prior, opens, ReadBack, serves}
 use Rattle.log_protocol.specs.Step.{Steps}
-use Rattle.log_protocol.specs.Step.Step.{Sends, Accepts, Fences, Seals, Notes, Settles, Crashes, Restarts, Begins, Picks_prior, Opens, Serves}
-use Rattle.log_protocol.specs.Step.Steps.{Done, More}
+use Rattle.log_protocol.specs.Step.Step.{Sends, Accepts, Fences, Seals, Notes, Crashes, Restarts, Begins, Picks_prior, Opens, Serves}
+use Rattle.log_protocol.specs.Step.Steps.{More}
 use Rattle.log_protocol.specs.StepKinds.{kinds}
 use Rattle.log_protocol.specs.LogRuns.{discarded_steps, TailDiscarded}
+use Rattle.log_protocol.proofs.FirstFiled.{on_first, one_filed, files_one}
 use Rattle.log_protocol.proofs.RunParts.{first_server, store_to_first, stored_by_first, settled_alone, le11, le12, le22, lt01, lt02, lt03, lt12}
 
 abbrev seqs : ℕ → ℕ
@@ -36,50 +37,11 @@ small_seqs y less = grind (arith, nat_tests)
 abbrev w0 : State
 w0 = new_log 2 seqs boots (λ x. 1)
 
-first_of_two : Group w0 1 first_server
-first_of_two = record { some = lt01; known = λ j k. lt02; distinct = λ i j a b c. zeros i j a b }
-  where
-    zeros : (i j : ℕ) → i < 1 → j < 1 → i ≡ j
-    zeros i j a b = omega arith
-
-abbrev w1 : State
-w1 = seals w0 1 7 1 first_server 5
-
-s1 : Steps w0 w1
-s1 = More Done
-    (Seals 1 7 1 first_server 5
-    (record {
-      serving = refl;
-      no_flight = refl;
-      named = lt01;
-      next = refl;
-      own = refl;
-      group = record { some = lt01; known = first_of_two.known; distinct = first_of_two.distinct };
-    }))
-
-abbrev w2 : State
-w2 = sends w1 1 0
-
-s2 : Steps w0 w2
-s2 = More s1 (Sends 1 0 (record { booked = refl; member = lt01 }))
-
-abbrev w3 : State
-w3 = accepts w2 (store_to_first 1 7)
-
-s3 : Steps w0 w3
-s3 = More s2 (Accepts (store_to_first 1 7) (record { sent = inl refl; present = refl; unmarked = refl; absent = refl }))
-
-abbrev w4 : State
-w4 = notes w3 (stored_by_first 1)
-
-s4 : Steps w0 w4
-s4 = More s3 (Notes (stored_by_first 1) (record { sent = inl refl; flying = lt01; named = refl }))
-
 abbrev w5 : State
-w5 = settles w4
+w5 = one_filed 2 seqs boots (λ x. 1)
 
 s5 : Steps w0 w5
-s5 = More s4 (Settles (record { serving = refl; flying = lt01; settled = settled_alone w4 refl refl }))
+s5 = files_one 2 seqs boots (λ x. 1) lt02 refl refl
 
 both : Group w5 2 (λ j. j)
 both = record { some = lt02; known = λ j k. k; distinct = λ i j a b c. c }
@@ -169,7 +131,7 @@ s14 = More s13
       named = lt03;
       next = refl;
       own = refl;
-      group = record { some = lt01; known = first_of_two.known; distinct = first_of_two.distinct };
+      group = on_first w13 lt02;
     }))
 
 abbrev w15 : State
@@ -215,7 +177,7 @@ s20 : Steps w0 w20
 s20 = More s19 (Restarts (record { down = refl }))
 
 steps : kinds s20 ≡ discarded_steps
-unfolding s1 s2 s3 s4 s5 s6 s7 s8 s9 s10 s11 s12 s13 s14 s15 s16 s17 s18 s19 s20
+unfolding files_one s5 s6 s7 s8 s9 s10 s11 s12 s13 s14 s15 s16 s17 s18 s19 s20
 steps = refl
 
 pub tail_discarded : TailDiscarded

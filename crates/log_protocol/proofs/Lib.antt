@@ -41,6 +41,7 @@ pub mod PickedLists
 pub mod NamesAsNumbers
 pub mod Counting
 pub mod RunParts
+pub mod FirstFiled
 pub mod AdoptedRun
 pub mod EmptyRun
 pub mod DiscardedRun
