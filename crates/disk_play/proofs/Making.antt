@@ -178,10 +178,6 @@ shelf_is s (asks.Fill fragment) = refl
 shelf_is s asks.Lose = refl
 shelf_is s (asks.Welcome generation) = refl
 
--- another shelf is of another state
-pub other_state : (s : DiskState) (call : Ask) → shelf_after s.shelf call ≢ s.shelf → after_ask s call ≢ s
-other_state s call other same = other (sym (shelf_is s call) ∙ ap (λ (t : DiskState). t.shelf) same)
-
 there_by : (answered there : Bool) → (answered ≡ true → there ≡ true) → fate_by answered there ≢ Lost → there ≡ true
 there_by true there so counts = so refl
 there_by false true so counts = refl

@@ -26,7 +26,7 @@ use Rattle.disk_play.specs.declared.course.Seat.{Seat}
 use Rattle.disk_play.specs.declared.stop.Fate.{Fate}
 use Rattle.disk_play.specs.declared.stop.Fate.TheVariants.{Answered, Unanswered, Lost}
 use Rattle.disk_play.specs.declared.stop.Stop.{Stop}
-use Rattle.disk_play.specs.Courses.{Deck, fate_for, happens_at, happens_on, happens_to, player_by, running, seat_of, started_at, stops_at, tells, unanswered_of, with_player, with_stop, woken, woken_at}
+use Rattle.disk_play.specs.Courses.{Deck, fate_for, happens_at, player_by, running, seat_of, started_at, stops_at, tells, unanswered_of, with_player, with_stop, woken, woken_at}
 use Rattle.disk_play.specs.Standing.{Follow, Follows, Stands}
 use Rattle.disk_play.proofs.Places.{length_set, none_within}
 use Rattle.disk_play.proofs.Running.{leads_on}

@@ -1,8 +1,6 @@
 use Rattle.std.proofs.Common.{◌≡◌, ◌∙◌, Some, length, slice_get, slice_set, refl, sym, ap, subst}
 use Rattle.std.proofs.lemmas.Option.{slice_get_read}
 use Rattle.std.proofs.lemmas.Result.{on_ok_weaker}
-use Rattle.disk_shelf.specs.Kept.{Kept}
-use Rattle.disk_shelf.specs.MemDisk.{MemState}
 use Rattle.play.proofs.Happening.{same_event}
 use Rattle.world_base.specs.Events.{event_of, node_of}
 use Rattle.disk_play.specs.declared.course.Course.{Course}
