@@ -1,18 +1,19 @@
 -- What a turn adds to what a node has begun and answered.
-use Rattle.std.proofs.Common.{◌≡◌, sym, ap, ◌∙◌, ℕ, ◌+◌, ◌≤◌, Bool, true, cond, List, [], ◌∷◌, ◌++◌, map, Option, Some, None, arith, append-nil}
+use Rattle.std.proofs.Common.{◌≡◌, sym, ap, subst, ◌∙◌, ℕ, ◌+◌, ◌≤◌, Bool, true, cond, List, [], ◌∷◌, ◌++◌, map, Option, Some, None, arith, append-nil}
+use Rattle.std.specs.List.{count_by}
 use Rattle.std.proofs.lemmas.List.Elements.{filter-append}
 use Rattle.script_text.specs.declared.script.Script.{Script}
 use Rattle.version_model.specs.declared.act.Act.{Act}
 use Rattle.version_model.specs.declared.work.Work.{Work}
 use Rattle.wire_msg.specs.declared.packet.Do.{Do}
-use Rattle.wire_msg.specs.declared.packet.Do.TheVariants.{Begin}
+use Rattle.wire_msg.specs.declared.packet.Do.TheVariants.{Begin, Tick}
 use Rattle.wire_msg.specs.NodeStep.{NodeStep}
 use Rattle.xfs_base.specs.declared.node.NodeId.{NodeId}
 use Rattle.xfs_base.specs.declared.setup.Setup.{Setup}
 use Rattle.world_base.specs.NextWorld.{clock_after, sent_at}
 use Rattle.journals.specs.declared.moment.Moment.{Moment}
 use Rattle.journals.specs.Journals.{acts_in, begins, is_begin, last_clock, replayed, whats}
-use Rattle.live_links.specs.Acts.{turned, turned_at}
+use Rattle.live_links.specs.Acts.{is_tick, ticks, turned, turned_at}
 use Rattle.live_links.specs.Answered.{AnswersMore, answered_at, answers_by, is_answer_by}
 use Rattle.live_links.specs.Facts.{first_at, name_at}
 use Rattle.live_links.proofs.Turns.{acts_more, count_by-append, whats_more}
@@ -58,21 +59,31 @@ module _ {N : Type 0} (step : N → Do → NodeStep N) (node : NodeId) (first : 
       let m : Moment = moment_at what from number ms clock in
       (answers_by node (step (replayed step first (whats ms)) what).acts, answers_then ms m)
 
-  -- and a turn begins an item only where it is a Begin
-  begun_at : (place : ℕ) (what : Do) (from number : ℕ) (ms : List Moment) (clock : Option ℕ)
-      → begins (whats (turned_at step first place what from number ms clock).moments) ≤ begins (whats ms) + begins (what ∷ [])
-  begun_at place what from number ms None = omega arith
-  begun_at place what from number ms (Some clock) =
+  -- and in a turn nothing happens but what it is
+  counted_at : (test : Do → Bool) (place : ℕ) (what : Do) (from number : ℕ) (ms : List Moment) (clock : Option ℕ)
+      → count_by test (whats (turned_at step first place what from number ms clock).moments) ≤ count_by test (whats ms) + count_by test (what ∷ [])
+  counted_at test place what from number ms None = omega arith
+  counted_at test place what from number ms (Some clock) =
       let m : Moment = moment_at what from number ms clock in
-      let e : begins (whats (ms ++ m ∷ [])) ≡ begins (whats ms) + begins (what ∷ []) = ap begins (whats_more ms m) ∙ count_by-append is_begin (whats ms) (what ∷ []) in
+      let e : count_by test (whats (ms ++ m ∷ [])) ≡ count_by test (whats ms) + count_by test (what ∷ []) = ap (count_by test) (whats_more ms m) ∙ count_by-append test (whats ms) (what ∷ []) in
+      omega arith
+
+  counted_then : (test : Do → Bool) (place : ℕ) (what : Do) (from number : ℕ) (ms new : List Moment) (bound : ℕ) → new ≡ (turned step first place what from number ms).moments
+      → count_by test (what ∷ []) ≤ bound → count_by test (whats new) ≤ count_by test (whats ms) + bound
+  counted_then test place what from number ms new bound is most =
+      let one = counted_at test place what from number ms (clock_after (last_clock 0 ms) what) in
+      let same = ap (λ all. count_by test (whats all)) is in
       omega arith
 
   pub begun_then : (place : ℕ) (what : Do) (from number : ℕ) (ms new : List Moment) (bound : ℕ) → new ≡ (turned step first place what from number ms).moments
       → begins (what ∷ []) ≤ bound → begins (whats new) ≤ begins (whats ms) + bound
-  begun_then place what from number ms new bound is most =
-      let one = begun_at place what from number ms (clock_after (last_clock 0 ms) what) in
-      let same = ap (λ all. begins (whats all)) is in
-      omega arith
+  begun_then = counted_then is_begin
+
+  -- a turn of what a cell is after a packet was taken from its rings
+  pub ticked_then : (place : ℕ) (what : Do) (from number : ℕ) (old ms new : List Moment) (bound : ℕ) → ms ≡ old → new ≡ (turned step first place what from number ms).moments
+      → ticks (what ∷ []) ≤ bound → ticks (whats new) ≤ ticks (whats old) + bound
+  ticked_then place what from number old ms new bound same is most =
+      subst (λ (all : List Moment). ticks (whats new) ≤ ticks (whats all) + bound) same (counted_then is_tick place what from number ms new bound is most)
 
 begin_is : begins (Begin ∷ []) ≤ 1
 begin_is = omega arith
@@ -83,6 +94,9 @@ begun_still old new bound is = let same = ap (λ all. begins (whats all)) is in 
 
 pub one_begun : (may : Bool) → may ≡ true → begins (Begin ∷ []) ≤ cond may 1 0
 one_begun may is = rw is (omega arith)
+
+pub one_ticked : (idle : Bool) → idle ≡ true → ticks (Tick ∷ []) ≤ cond idle 1 0
+one_ticked idle is = rw is (omega arith)
 
 module _ {N : Type 0} (step : N → Do → NodeStep N) (first : NodeId → Setup → List Work → N) (script : Script) where
   pub answered_then : (place other : ℕ) (what : Do) (from number : ℕ) (old ms new : List Moment) → other ≡ place → ms ≡ old

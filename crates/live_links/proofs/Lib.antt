@@ -1,6 +1,7 @@
 pub mod Acting
 pub mod Answering
 pub mod Begins
+pub mod Choosing
 pub mod Closing
 pub mod Each
 pub mod Linking

@@ -1,12 +1,15 @@
 -- What one act of a cell does.
-use Rattle.std.specs.Prelude.{◌≡◌, ℕ, zero, suc, Bool, true, false, List, [], ◌∷◌, ◌++◌, length, map, Option, Some, None}
+use Rattle.std.specs.Prelude.{◌≡◌, ℕ, zero, suc, ◌+◌, ◌≤◌, Bool, true, false, cond, List, [], ◌∷◌, ◌++◌, length, map, Option, Some, None}
+use Rattle.std.specs.List.{count_by}
 use Rattle.wire_msg.specs.declared.packet.Do.{Do}
 use Rattle.wire_msg.specs.declared.packet.Do.TheVariants.{Begin, Deliver, Tick}
 use Rattle.wire_msg.specs.NodeStep.{NodeStep}
+use Rattle.xfs_base.specs.declared.node.NodeId.{NodeId}
 use Rattle.world_base.specs.declared.cluster.Cluster.{Cluster}
+use Rattle.world_base.specs.declared.due.Due.{Due}
 use Rattle.world_base.specs.NextWorld.{clock_after, sent_at}
 use Rattle.journals.specs.declared.moment.Moment.{Moment}
-use Rattle.journals.specs.Journals.{last_clock, replayed, sent_in, whats}
+use Rattle.journals.specs.Journals.{MayBegin, last_clock, replayed, sent_in, whats}
 use Rattle.live_links.specs.declared.letter.Letter.{Letter}
 use Rattle.live_links.specs.Ends.{AreStill, In, Out, Sends, TookOne, letters_of}
 
@@ -20,6 +23,15 @@ pub record CellView : Type 0 where
   pub moments : List Moment
   pub outs : List Out
   pub ins : List In
+
+abbrev pub is_tick : Do → Bool
+is_tick Begin = false
+is_tick (Deliver packet) = false
+is_tick Tick = true
+
+-- how often time passed
+abbrev pub ticks : List Do → ℕ
+ticks whats = count_by is_tick whats
 
 -- what a cell took from its rings in a turn: a packet that comes is what one end gave in this act, and for nothing else is one taken
 abbrev pub TakesFor : Do → ℕ → ℕ → List In → List In → Type 0
@@ -61,3 +73,24 @@ module _ {N : Type 0} (step : N → Do → NodeStep N) (first : N) where
   abbrev pub Acts : Cluster → ℕ → ℕ → CellView → CellView → Type 0
   Acts c place zero old new = old ≡ new
   Acts c place (suc count) old new = (mid : CellView) × (moved : Bool) × Acts c place count old mid × Acted c place moved mid new
+
+  module _ (c : Cluster) (place : ℕ) (node : NodeId) (dues : List Due) where
+    -- how a cell chooses what it does in an act
+    pub record Chooses (idle may_begin moved : Bool) (old new : CellView) : Type 0 where
+      -- it begins its next item where that is due and may begin
+      pub begins : may_begin ≡ true → MayBegin step node first dues (whats old.moments) → AreStill old.ins new.ins × Turns c place Begin 0 0 old new
+      -- time passes only where its worker is idle
+      pub waits : ticks (whats new.moments) ≤ ticks (whats old.moments) + cond idle 1 0
+      -- and it rests only where its worker isn't, and no item is due that may begin
+      pub rests : moved ≡ false → (idle ≡ false) × (may_begin ≡ true → MayBegin step node first dues (whats old.moments) → ⊥)
+
+    -- a visit at a cell: a first act, and behind one that was a turn so many more at most, in which no time passes
+    pub record Visits (idle : Bool) (more : ℕ) (moved : Bool) (old new : CellView) : Type 0 where
+      pub mid : CellView
+      pub acted : Acted c place moved old mid
+      pub chosen : Chooses idle true moved old mid
+      pub still : moved ≡ false → new ≡ mid
+      pub count : ℕ
+      pub most : count ≤ more
+      pub later : Acts c place count mid new
+      pub waits : ticks (whats new.moments) ≤ ticks (whats mid.moments)

@@ -5,7 +5,7 @@ ghost use Rattle.wire_msg.specs.declared.packet.Do.TheVariants.{Begin, Deliver};
 ghost use Rattle.wire_msg.specs.declared.packet.Packet.{Packet as Sent};
 ghost use Rattle.world_base.specs.Cluster.{cluster_of, node_count};
 ghost use Rattle.journals.specs.Journals.{MayBegin, begins, replayed, whats};
-ghost use Rattle.live_links.specs.Acts.{Acted, Acts, Turns};
+ghost use Rattle.live_links.specs.Acts.{Acted, Acts, Chooses, Turns, Visits, ticks};
 ghost use Rattle.live_links.specs.Answered.{AnswersMore, answered_at};
 ghost use Rattle.live_links.specs.Ends.{AreStill, IsInsOf, IsOutsOf, IsUnused, Received, TookOne};
 ghost use Rattle.live_links.specs.Facts.{IsDone, IsLinked, dues_at, first_at, name_at};
@@ -51,6 +51,8 @@ impl<N: Member, R: RunName> Cell<N, R> {
         requires unused { IsUnused outs }
         ensures place { IfOk result (λ c. c.journal.place ≡ place) }
         ensures empty { IfOk result (λ c. c.journal.moments ≡ []) }
+        ensures outs { IfOk result (λ c. c.outs ≡ outs) }
+        ensures ins { IfOk result (λ c. c.ins ≡ ins) }
     {
         let journal = Journal::start(alloc, script, place)?;
         Ok(Cell {
@@ -155,6 +157,8 @@ impl<N: Member, R: RunName> Cell<N, R> {
         ensures may { IsTrue result → may_begin ≡ true }
         ensures due { IsTrue result → MayBegin N.transition (name_at R.script self.now.journal.place) (first_at N.first R.script self.now.journal.place)
             (dues_at R.script self.now.journal.place) (whats self.now.journal.moments) }
+        ensures wherever { may_begin ≡ true → MayBegin N.transition (name_at R.script self.now.journal.place) (first_at N.first R.script self.now.journal.place)
+            (dues_at R.script self.now.journal.place) (whats self.now.journal.moments) → IsTrue result }
     {
         may_begin && self.journal.due()
     }
@@ -166,6 +170,9 @@ impl<N: Member, R: RunName> Cell<N, R> {
         ensures place { IfOk result (λ r. r.0.journal.place ≡ self.journal.place) }
         ensures acted { IfOk result (λ r. Acted N.transition (first_at N.first R.script self.journal.place) (cluster_of R.script.setup) self.journal.place r.1
             (record { moments = self.journal.moments; outs = self.outs; ins = self.ins }) (record { moments = r.0.journal.moments; outs = r.0.outs; ins = r.0.ins })) }
+        ensures chosen { IfOk result (λ r. Chooses N.transition (first_at N.first R.script self.journal.place) (cluster_of R.script.setup) self.journal.place
+            (name_at R.script self.journal.place) (dues_at R.script self.journal.place) idle true r.1
+            (record { moments = self.journal.moments; outs = self.outs; ins = self.ins }) (record { moments = r.0.journal.moments; outs = r.0.outs; ins = r.0.ins })) }
     {
         self.act_when(alloc, idle, true)
     }
@@ -175,6 +182,9 @@ impl<N: Member, R: RunName> Cell<N, R> {
     pub fn act_when(self, alloc: Global, idle: bool, may_begin: bool) -> Mem<(Cell<N, R>, bool)>
         ensures place { IfOk result (λ r. r.0.journal.place ≡ self.journal.place) }
         ensures acted { IfOk result (λ r. Acted N.transition (first_at N.first R.script self.journal.place) (cluster_of R.script.setup) self.journal.place r.1
+            (record { moments = self.journal.moments; outs = self.outs; ins = self.ins }) (record { moments = r.0.journal.moments; outs = r.0.outs; ins = r.0.ins })) }
+        ensures chosen { IfOk result (λ r. Chooses N.transition (first_at N.first R.script self.journal.place) (cluster_of R.script.setup) self.journal.place
+            (name_at R.script self.journal.place) (dues_at R.script self.journal.place) idle may_begin r.1
             (record { moments = self.journal.moments; outs = self.outs; ins = self.ins }) (record { moments = r.0.journal.moments; outs = r.0.outs; ins = r.0.ins })) }
         ensures begun { IfOk result (λ r. begins (whats r.0.journal.moments) ≤ begins (whats self.journal.moments) + cond may_begin 1 0) }
         ensures answered { IfOk result (λ r. AnswersMore N.transition N.first R.script self.journal.place self.journal.moments r.0.journal.moments) }
@@ -199,16 +209,15 @@ impl<N: Member, R: RunName> Cell<N, R> {
         }
     }
 
-    /// Acts one after the other, as act says, until one makes no turn, and so many at most after the first. Time
-    /// passes in the first alone, and only where the worker is idle. It says whether the first made a turn.
-    pub fn act_on(self, alloc: Global, idle: bool, more: u8) -> Mem<(Cell<N, R>, bool)>
-        ensures place { IfOk result (λ r. r.0.journal.place ≡ self.journal.place) }
-        ensures acted { IfOk result (λ r. (count : ℕ) × (count ≤ more + 1) × Acts N.transition (first_at N.first R.script self.journal.place) (cluster_of R.script.setup) self.journal.place count
-            (record { moments = self.journal.moments; outs = self.outs; ins = self.ins }) (record { moments = r.0.journal.moments; outs = r.0.outs; ins = r.0.ins })) }
+    /// Acts one after the other, as `act` says, until one makes no turn, and so many at most. No time passes.
+    fn act_more(self, alloc: Global, more: u8) -> Mem<Cell<N, R>>
+        ensures place { IfOk result (λ c. c.journal.place ≡ self.journal.place) }
+        ensures acted { IfOk result (λ c. (count : ℕ) × (count ≤ more) × Acts N.transition (first_at N.first R.script self.journal.place) (cluster_of R.script.setup) self.journal.place count
+            (record { moments = self.journal.moments; outs = self.outs; ins = self.ins }) (record { moments = c.journal.moments; outs = c.outs; ins = c.ins })) }
+        ensures waits { IfOk result (λ c. ticks (whats c.journal.moments) ≤ ticks (whats self.journal.moments)) }
     {
-        let (acted, moved) = self.act(alloc, idle)?;
-        let mut cell = acted;
-        let mut moves = moved;
+        let mut cell = self;
+        let mut moves = true;
         for _ in 0..more {
             if !moves {
                 break;
@@ -217,6 +226,25 @@ impl<N: Member, R: RunName> Cell<N, R> {
             cell = next;
             moves = again;
         }
-        Ok((cell, moved))
+        Ok(cell)
+    }
+
+    /// Acts one after the other, as `act` says, until one makes no turn, and so many at most after the first. Time
+    /// passes in the first alone, and only where the worker is idle. It says whether the first made a turn: where it
+    /// made none the cell is as it was, and no item is due.
+    pub fn act_on(self, alloc: Global, idle: bool, more: u8) -> Mem<(Cell<N, R>, bool)>
+        ensures place { IfOk result (λ r. r.0.journal.place ≡ self.journal.place) }
+        ensures acted { IfOk result (λ r. (count : ℕ) × (count ≤ more + 1) × Acts N.transition (first_at N.first R.script self.journal.place) (cluster_of R.script.setup) self.journal.place count
+            (record { moments = self.journal.moments; outs = self.outs; ins = self.ins }) (record { moments = r.0.journal.moments; outs = r.0.outs; ins = r.0.ins })) }
+        ensures visit { IfOk result (λ r. Visits N.transition (first_at N.first R.script self.journal.place) (cluster_of R.script.setup) self.journal.place
+            (name_at R.script self.journal.place) (dues_at R.script self.journal.place) idle more r.1
+            (record { moments = self.journal.moments; outs = self.outs; ins = self.ins }) (record { moments = r.0.journal.moments; outs = r.0.outs; ins = r.0.ins })) }
+    {
+        let (acted, moved) = self.act(alloc, idle)?;
+        if !moved {
+            return Ok((acted, false));
+        }
+        let cell = acted.act_more(alloc, more)?;
+        Ok((cell, true))
     }
 }

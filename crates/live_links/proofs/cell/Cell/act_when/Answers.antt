@@ -1,11 +1,13 @@
-use Rattle.std.proofs.Common.{refl, ap, arith}
+use Rattle.std.proofs.Common.{true≢false, false, true, refl, sym, ap, subst, cond, arith}
 use Rattle.wire_msg.specs.declared.packet.Do.TheVariants.{Begin, Deliver, Tick}
 use Rattle.world_base.specs.Cluster.{cluster_of}
 use Rattle.live_links.specs.Acts.{CellView}
-use Rattle.live_links.specs.Facts.{first_at, name_at}
+use Rattle.live_links.specs.Ends.{AreStill}
+use Rattle.live_links.specs.Facts.{dues_at, first_at, name_at}
 use Rattle.journals.specs.Journals.{begins, whats}
 use Rattle.live_links.proofs.Acting.{acted_then}
-use Rattle.live_links.proofs.Answering.{answered_then, begun_then, one_begun}
+use Rattle.live_links.proofs.Answering.{answered_then, begun_then, one_begun, one_ticked, ticked_then}
+use Rattle.live_links.proofs.Choosing.{begin_chosen, else_chosen}
 use Rattle.live_links.proofs.Popping.{received_took, still_none}
 use Rattle.live_links.proofs.cell.Cell.act_when.Goals as goal
 
@@ -98,3 +100,41 @@ returns-in_ok-ticked-in-None-clause-answered g c =
     let mid = c.receive.new.self in
     answered_then g.N.Actor.transition g.N.Member.first script s.journal.place mid.journal.place Tick 0 0 s.journal.moments mid.journal.moments
     c.in_ok-ticked-in-None.ticked.journal.moments c.receive.ensures.place c.receive.ensures.moments c.in_ok-ticked-in-None.ensures.turns.moments
+
+pub returns-then-is_to_begin-clause-chosen : goal.returns-then-is_to_begin-clause-chosen
+returns-then-is_to_begin-clause-chosen g c =
+    let script = g.R.RunName.script in
+    let s = c.args.self in
+    let new = c.in_ok-begun.begun in
+    let same = c.in_ok-begun.ensures.same in
+    begin_chosen g.N.Actor.transition (first_at g.N.Member.first script) (cluster_of script.setup) s.journal.place (name_at script s.journal.place) (dues_at script s.journal.place) c.args.idle
+    c.args.may_begin (record { moments = s.journal.moments; outs = s.outs; ins = s.ins }) (record { moments = new.journal.moments; outs = new.outs; ins = new.ins })
+    (subst (λ is. AreStill s.ins is) (sym same) (still_none s.ins)) c.in_ok-begun.ensures.turns
+
+pub returns-in_ok-taken-in-Some-clause-chosen : goal.returns-in_ok-taken-in-Some-clause-chosen
+returns-in_ok-taken-in-Some-clause-chosen g c =
+    let script = g.R.RunName.script in
+    let s = c.args.self in
+    let mid = c.receive.new.self in
+    let new = c.in_ok-taken-in-Some.taken in
+    let bound = cond c.args.idle 1 0 in
+    else_chosen g.N.Actor.transition (first_at g.N.Member.first script) (cluster_of script.setup) s.journal.place (name_at script s.journal.place) (dues_at script s.journal.place) c.args.idle
+    c.args.may_begin true c.is_to_begin.result (record { moments = s.journal.moments; outs = s.outs; ins = s.ins }) (record { moments = new.journal.moments; outs = new.outs; ins = new.ins })
+    c.is_to_begin.ensures.wherever c.if-is_to_begin.false
+    (ticked_then g.N.Actor.transition (name_at script mid.journal.place) (first_at g.N.Member.first script mid.journal.place) mid.journal.place (Deliver c.in-Some.letter.packet) c.in-Some.letter.from c.in-Some.letter.number s.journal.moments mid.journal.moments
+    new.journal.moments bound c.receive.ensures.moments c.in_ok-taken-in-Some.ensures.turns.moments (omega arith))
+    (λ e. absurd (true≢false e))
+
+pub returns-in_ok-ticked-in-None-clause-chosen : goal.returns-in_ok-ticked-in-None-clause-chosen
+returns-in_ok-ticked-in-None-clause-chosen g c =
+    let script = g.R.RunName.script in
+    let s = c.args.self in
+    let mid = c.receive.new.self in
+    let new = c.in_ok-ticked-in-None.ticked in
+    let bound = cond c.args.idle 1 0 in
+    else_chosen g.N.Actor.transition (first_at g.N.Member.first script) (cluster_of script.setup) s.journal.place (name_at script s.journal.place) (dues_at script s.journal.place) c.args.idle
+    c.args.may_begin true c.is_to_begin.result (record { moments = s.journal.moments; outs = s.outs; ins = s.ins }) (record { moments = new.journal.moments; outs = new.outs; ins = new.ins })
+    c.is_to_begin.ensures.wherever c.if-is_to_begin.false
+    (ticked_then g.N.Actor.transition (name_at script mid.journal.place) (first_at g.N.Member.first script mid.journal.place) mid.journal.place Tick 0 0 s.journal.moments mid.journal.moments
+    new.journal.moments bound c.receive.ensures.moments c.in_ok-ticked-in-None.ensures.turns.moments (one_ticked c.args.idle c.if-not-idle.false))
+    (λ e. absurd (true≢false e))
