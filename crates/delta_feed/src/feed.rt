@@ -186,11 +186,28 @@ fn count_upto(filed: &[FiledDeltas], number: u32) -> usize
 fn all_rows(alloc: Global, filed: &[FiledDeltas], slot: u8) -> Mem<List<(BlockId, Entry)>>
     ensures { IfOk result (λ rows. rows ≡ all_rows slot filed.now) }
 {
-    let mut rows = List::new(alloc);
+    let mut rows = List::from_vec(Vec::with_capacity(alloc, room_for(filed, slot))?);
     for segment in filed {
         add_slot_rows(&mut rows, slot, &segment.rows)?;
     }
     Ok(rows)
+}
+
+// How many rows of a slot there are, so that a list of them takes no more room: it stays in a run for good.
+fn room_for(filed: &[FiledDeltas], slot: u8) -> usize {
+    let mut room: usize = 0;
+    for segment in filed {
+        room = room.saturating_add(count_rows(&segment.rows, slot));
+    }
+    room
+}
+
+fn count_rows(rows: &List<(BlockId, Entry)>, slot: u8) -> usize {
+    let mut count: usize = 0;
+    for row in rows.as_slice() {
+        count = count.saturating_add(usize::from(row.0.ino.slot() == slot));
+    }
+    count
 }
 
 fn add_slot_rows(
