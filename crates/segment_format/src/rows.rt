@@ -12,7 +12,7 @@ use xfs_base::{BlockId, Entry, List, Mem, Place, SegRef};
 pub fn rows_of(alloc: Global, segment: &Segment) -> Mem<List<(BlockId, Entry)>>
     ensures { IfOk result (λ rows. rows ≡ rows_of segment.now) }
 {
-    let mut rows = List::new(alloc);
+    let mut rows = List::from_vec(Vec::with_capacity(alloc, segment.items.len())?);
     for item in segment.items.as_slice() {
         if let Some(row) = row_of(segment, item) {
             rows.push(row)?;
