@@ -4,7 +4,7 @@ ghost use Rattle.std.specs.Prelude.{◌≡◌, IfOk};
 use crate::{
     Check, CkptAck, CkptDone, Dead, Delete, Deleted, DeltaAck, Deltas, Fence, Fenced, Fetch,
     Forward, Found, Gave, Gone, Grant, Hello, ListAsk, Listed, Live, Missing, News, Poll, Recall,
-    Report, Store, Stored, Supply, Usage, UsageAsk, Want, Welcome,
+    Report, Shared, Store, Stored, Supply, Usage, UsageAsk, Want, Welcome,
 };
 use std::alloc::Global;
 use xfs_base::{Copied, Crosses, Mem};
@@ -14,7 +14,7 @@ pub enum Body {
     /// A client to a manager.
     Want(Want),
     /// A manager to a client.
-    Grant(Grant),
+    Grant(Shared<Grant>),
     /// A manager to a client.
     Forward(Forward),
     /// A client to a client.
@@ -68,11 +68,11 @@ pub enum Body {
     /// Any node to the registry.
     Hello(Hello),
     /// The registry to who asked.
-    Welcome(Welcome),
+    Welcome(Shared<Welcome>),
     /// The registry to all nodes.
-    MapNews(News),
+    MapNews(Shared<News>),
     /// A manager to the registry.
-    CkptDone(CkptDone),
+    CkptDone(Shared<CkptDone>),
     /// The registry to a manager.
     CkptAck(CkptAck),
 }
@@ -81,7 +81,7 @@ impl Drop for Body {
     fn drop(self) {
         match self {
             Body::Want(_) => {}
-            Body::Grant(_) => {}
+            Body::Grant(part) => drop(part),
             Body::Forward(_) => {}
             Body::Supply(part) => drop(part),
             Body::Recall(_) => {}
@@ -123,7 +123,7 @@ impl Body {
     {
         match self {
             Body::Want(want) => Ok(Body::Want(*want)),
-            Body::Grant(grant) => Ok(Body::Grant(*grant)),
+            Body::Grant(grant) => Ok(Body::Grant(grant.copy(alloc)?)),
             Body::Forward(forward) => Ok(Body::Forward(*forward)),
             Body::Supply(supply) => Ok(Body::Supply(supply.copy(alloc)?)),
             Body::Recall(recall) => Ok(Body::Recall(*recall)),

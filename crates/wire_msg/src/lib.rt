@@ -9,6 +9,7 @@ pub mod cleaning;
 pub mod deltas;
 pub mod packet;
 pub mod registry;
+pub mod shared;
 pub mod shared_packet;
 pub mod storage;
 pub mod tokens;
@@ -19,6 +20,7 @@ pub use cleaning::{Check, Dead, Live, Usage, UsageAsk};
 pub use deltas::{DeltaAck, Deltas, Poll, Report};
 pub use packet::{Do, Packet};
 pub use registry::{CkptAck, CkptDone, Hello, News, Welcome};
+pub use shared::Shared;
 pub use shared_packet::SharedPacket;
 pub use storage::{
     Delete, Deleted, Fence, Fenced, Fetch, Found, ListAsk, Listed, Missing, Store, Stored,
