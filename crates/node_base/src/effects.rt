@@ -72,9 +72,21 @@ impl Effects {
         ensures packets { IfOk result (λ parts. parts.0 ≡ packets_of node self) }
         ensures acts { IfOk result (λ parts. parts.1 ≡ acts_of node self) }
     {
-        let mut packets = List::new(alloc);
-        let mut acts = List::new(alloc);
+        if self.list.is_empty() {
+            drop(self);
+            return Ok((List::new(alloc), List::new(alloc)));
+        }
+        self.into_lists(alloc, node)
+    }
+
+    // The same, where there is something.
+    fn into_lists(self, alloc: Global, node: NodeId) -> Mem<(List<Packet>, List<Act>)>
+        ensures packets { IfOk result (λ parts. parts.0 ≡ packets_of node self) }
+        ensures acts { IfOk result (λ parts. parts.1 ≡ acts_of node self) }
+    {
         let Effects { list } = self;
+        let mut packets = List::from_vec(Vec::with_capacity(alloc, list.len())?);
+        let mut acts = List::new(alloc);
         for effect in list.into_vec() {
             add(&mut packets, &mut acts, node, effect)?;
         }
