@@ -113,7 +113,7 @@ impl Serving {
         ensures effects { OnOk result (effects.new ≡ effects.old ++ (on_body self.old from body.now).outs) }
     {
         match body {
-            Body::Grant(grant) => self.on_grant(alloc, effects, *grant),
+            Body::Grant(grant) => self.on_grant(alloc, effects, **grant),
             Body::Supply(supply) => self.on_supply(alloc, effects, supply),
             Body::Forward(asked) => forward(alloc, effects, &mut self.tokens, *asked),
             Body::Recall(recall) => self.on_recall(alloc, effects, *recall),

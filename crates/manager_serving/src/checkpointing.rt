@@ -1,10 +1,10 @@
 //! How a manager writes a checkpoint of its slots.
-ghost use Rattle.std.specs.Prelude.{◌≡◌, ◌++◌, OnOk, fold};
+ghost use Rattle.std.specs.Prelude.{◌≡◌, ◌++◌, OnOk, Some, fold};
 ghost use Rattle.std.specs.List.{flat_map};
 ghost use Rattle.node_base.specs.declared.effects.Effect.TheVariants.{Send};
 ghost use Rattle.manager_slots.specs.Numbers.{risen};
 ghost use Rattle.manager_slots.specs.SlotTable.{named_at};
-ghost use Rattle.manager_serving.specs.Checkpoints.{stored, gives_parts, awaiting, registers, says, says_each, writer_takes, on_settled, log_says, log_says_each, writes, on_stored, begins_slot, next_slot, on_checkpoint, awaits, kept_in, stale_in, counted, on_ckpt_ack, told_again, tells_again};
+ghost use Rattle.manager_serving.specs.Checkpoints.{stored, gives_parts, awaiting, registers, says, says_each, writer_takes, on_settled, log_says, log_says_each, writes, on_stored, begins_slot, next_slot, on_checkpoint, awaits, kept_in, stale_in, counted, on_ckpt_ack, done_again, told_again, tells_again};
 
 use crate::serving::Serving;
 use checkpoint::{In, Out};
@@ -15,7 +15,7 @@ use segment_format::Item;
 use std::alloc::Global;
 use std::mem;
 use version_model::{Act, Answer};
-use wire_msg::{Body, CkptAck, CkptDone, Stored};
+use wire_msg::{Body, CkptAck, CkptDone, Shared, Stored};
 use xfs_base::{End, List, Mem, NodeId};
 
 /// A checkpoint that is under way.
@@ -258,7 +258,7 @@ impl Serving {
     {
         self.slots
             .name(done.slot, done.epoch, done.parts.copy(alloc)?);
-        effects.send(NodeId::Registry, Body::CkptDone(done.copy(alloc)?))?;
+        send_done(alloc, effects, done)?;
         self.dones = self.dones.saturating_add(1);
         Ok(())
     }
@@ -273,6 +273,14 @@ impl Serving {
     }
 }
 
+// The registry is told of a checkpoint.
+fn send_done(alloc: Global, effects: &mut Effects, done: &CkptDone) -> Mem<()>
+    ensures { OnOk result (effects.new ≡ effects.old ++ done_again (Some done.now)) }
+{
+    let done = Shared::of(alloc, done.copy(alloc)?)?;
+    effects.send(NodeId::Registry, Body::CkptDone(done))
+}
+
 fn tell_again(alloc: Global, effects: &mut Effects, checkpoint: &Option<Checkpointing>) -> Mem<()>
     ensures { OnOk result (effects.new ≡ effects.old ++ told_again checkpoint.now) }
 {
@@ -282,7 +290,7 @@ fn tell_again(alloc: Global, effects: &mut Effects, checkpoint: &Option<Checkpoi
                 done: Some(done),
                 ..
             },
-        ) => effects.send(NodeId::Registry, Body::CkptDone(done.copy(alloc)?)),
+        ) => send_done(alloc, effects, done),
         _ => Ok(()),
     }
 }

@@ -8,8 +8,8 @@ use node_base::Effects;
 use std::alloc::Global;
 use token_manager::{In, Out};
 use wire_msg::{
-    Body, Check, Dead, DeltaAck, Deltas, Forward, Gave, Gone, Grant, Live, Recall, Usage, UsageAsk,
-    Want,
+    Body, Check, Dead, DeltaAck, Deltas, Forward, Gave, Gone, Grant, Live, Recall, Shared, Usage,
+    UsageAsk, Want,
 };
 use xfs_base::{LogId, Mem, NodeId};
 
@@ -194,25 +194,25 @@ fn take(
     };
     let epoch = active.slot.epoch();
     let outs = active.slot.take(alloc, input)?;
-    say_each(effects, number, epoch, outs.as_slice())
+    say_each(alloc, effects, number, epoch, outs.as_slice())
 }
 
-fn say_each(effects: &mut Effects, slot: u8, epoch: u32, outs: &[Out]) -> Mem<()>
+fn say_each(alloc: Global, effects: &mut Effects, slot: u8, epoch: u32, outs: &[Out]) -> Mem<()>
     ensures { OnOk result (effects.new ≡ effects.old ++ flat_map (said slot epoch) outs.now) }
 {
     for out in outs {
-        say(effects, slot, epoch, *out)?;
+        say(alloc, effects, slot, epoch, *out)?;
     }
     Ok(())
 }
 
 // What a slot says is sent. A check is answered where it is asked.
 #[tactic(auto, unfolding(crate::specs::Tokens::said))]
-fn say(effects: &mut Effects, slot: u8, epoch: u32, out: Out) -> Mem<()>
+fn say(alloc: Global, effects: &mut Effects, slot: u8, epoch: u32, out: Out) -> Mem<()>
     ensures { OnOk result (effects.new ≡ effects.old ++ said slot epoch out) }
 {
     match out {
-        Out::Grant { .. } => say_grant(effects, out),
+        Out::Grant { .. } => say_grant(alloc, effects, out),
         Out::Forward { .. } => say_forward(effects, out),
         Out::Recall {
             client,
@@ -235,7 +235,7 @@ fn say(effects: &mut Effects, slot: u8, epoch: u32, out: Out) -> Mem<()>
     }
 }
 
-fn say_grant(effects: &mut Effects, out: Out) -> Mem<()>
+fn say_grant(alloc: Global, effects: &mut Effects, out: Out) -> Mem<()>
     ensures { OnOk result (effects.new ≡ effects.old ++ grants out) }
 {
     let Out::Grant {
@@ -258,7 +258,10 @@ fn say_grant(effects: &mut Effects, out: Out) -> Mem<()>
         mode,
         entry,
     };
-    effects.send(NodeId::Client(client), Body::Grant(grant))
+    effects.send(
+        NodeId::Client(client),
+        Body::Grant(Shared::of(alloc, grant)?),
+    )
 }
 
 fn say_forward(effects: &mut Effects, out: Out) -> Mem<()>

@@ -11,7 +11,7 @@ use node_base::{Effects, Items, Peers, has_room, is_well_formed};
 use registry::{Board, In, Out};
 use std::alloc::Global;
 use version_model::{Act, Answer, Work};
-use wire_msg::{Actor, Body, CkptAck, CkptDone, Do, Hello, News, Packet, Welcome};
+use wire_msg::{Actor, Body, CkptAck, CkptDone, Do, Hello, News, Packet, Shared, Welcome};
 use xfs_base::{Crosses, List, Mem, NodeId, Setup};
 
 /// The registry: it gives out the maps, and changes them when a manager starts again, a server loses its
@@ -214,7 +214,7 @@ impl RegistryNode {
         ensures { OnOk result (effects.new ≡ effects.old ++ Send from (Welcoming (welcome_of self.now hello)) ∷ []) }
     {
         let welcome = self.welcome(alloc, hello)?;
-        effects.send(from, Body::Welcome(welcome))
+        effects.send(from, Body::Welcome(Shared::of(alloc, welcome)?))
     }
 
     fn welcome(&self, alloc: Global, hello: Hello) -> Mem<Welcome>
@@ -272,7 +272,7 @@ impl RegistryNode {
     fn tell_all(&self, alloc: Global, effects: &mut Effects) -> Mem<()>
         ensures { OnOk result (effects.new ≡ effects.old ++ tells_all self.now) }
     {
-        let body = Body::MapNews(self.news(alloc)?);
+        let body = Body::MapNews(Shared::of(alloc, self.news(alloc)?)?);
         effects.send_others(alloc, NodeId::Registry, self.peers, &body)
     }
 
