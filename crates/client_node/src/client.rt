@@ -1,7 +1,7 @@
 //! The client as a node: what each event makes of it.
-ghost use Rattle.std.specs.Prelude.{◌≡◌, ◌++◌, ℕ, IfOk, OnOk};
+ghost use Rattle.std.specs.Prelude.{◌≡◌, ◌++◌, ℕ, IfOk, IfSome, OnOk};
 ghost use Rattle.client_node.specs.declared.phase.Phase.TheVariants.{Opening as Opens};
-ghost use Rattle.client_node.specs.Phases.{client_step, on_begin, on_deliver, delivers, on_time, on_event, client_room, is_serving, takes};
+ghost use Rattle.client_node.specs.Phases.{client_step, on_begin, on_deliver, delivers, on_time, on_event, client_room, is_serving, opening_of, takes};
 ghost use Rattle.client_node.specs.Starting.{first_client};
 ghost use Rattle.client_serving.specs.Packets.{on_packet, on_tick};
 ghost use Rattle.client_running.specs.Running.{runs};
@@ -132,14 +132,21 @@ fn on_event(
     ensures effects { OnOk result (effects.new ≡ effects.old ++ (on_event peers cache phase.old what.now).outs) }
 {
     match what {
-        Do::Begin => {
-            let begun = begin(alloc, effects, peers, phase.take(alloc))?;
-            phase.turn_to(begun);
-            Ok(())
-        }
+        Do::Begin => begin_next(alloc, effects, peers, phase),
         Do::Deliver(packet) => { deliver(alloc, effects, peers, cache, phase, packet.as_packet()) }
         Do::Tick => tick(alloc, effects, cache, phase),
     }
+}
+
+// The next item begins. It is a function of its own, here and below, so that only such events pay for the room of
+// a phase that is handed on.
+fn begin_next(alloc: Global, effects: &mut Effects, peers: Peers, phase: &mut Phase) -> Mem<()>
+    ensures phase { OnOk result (phase.new ≡ (on_begin peers.servers phase.old).state) }
+    ensures effects { OnOk result (effects.new ≡ effects.old ++ (on_begin peers.servers phase.old).outs) }
+{
+    let begun = begin(alloc, effects, peers, phase.take(alloc))?;
+    phase.turn_to(begun);
+    Ok(())
 }
 
 // The next item begins. What isn't held on is dropped by a call, here and below, so that each part of it is
@@ -213,19 +220,34 @@ fn deliver(
     }
     match phase {
         Phase::Down(_) => Ok(()),
-        Phase::Opening(_, _) => match phase.take_opening(alloc) {
-            Some((lasting, opening)) => {
-                let after = hear(alloc, effects, lasting, opening, cache, packet)?;
-                phase.turn_to(after);
-                Ok(())
-            }
-            None => Ok(()),
-        },
+        Phase::Opening(_, _) => hear_here(alloc, effects, cache, phase, packet),
         Phase::Serving(serving) => take_and_run(alloc, effects, serving, packet),
     }
 }
 
 // A packet comes to a client that opens its log.
+fn hear_here(
+    alloc: Global,
+    effects: &mut Effects,
+    cache: u16,
+    phase: &mut Phase,
+    packet: &Packet,
+) -> Mem<()>
+    ensures phase { OnOk result (IfSome (opening_of phase.old) (λ o. phase.new ≡ (on_deliver cache (Opens o.0 o.1) packet.now).state)) }
+    ensures effects { OnOk result
+        (IfSome (opening_of phase.old) (λ o. effects.new ≡ effects.old ++ (on_deliver cache (Opens o.0 o.1) packet.now).outs)) }
+{
+    match phase.take_opening(alloc) {
+        Some((lasting, opening)) => {
+            let after = hear(alloc, effects, lasting, opening, cache, packet)?;
+            phase.turn_to(after);
+            Ok(())
+        }
+        None => Ok(()),
+    }
+}
+
+// What it makes of a client that opens its log.
 #[tactic(auto, unfolding(crate::specs::Phases::on_deliver))]
 fn hear(
     alloc: Global,
@@ -280,19 +302,28 @@ fn tick(alloc: Global, effects: &mut Effects, cache: u16, phase: &mut Phase) -> 
 {
     match phase {
         Phase::Down(_) => Ok(()),
-        Phase::Opening(_, _) => match phase.take_opening(alloc) {
-            Some((lasting, opening)) => {
-                let after = ask_again(alloc, effects, lasting, opening, cache)?;
-                phase.turn_to(after);
-                Ok(())
-            }
-            None => Ok(()),
-        },
+        Phase::Opening(_, _) => tick_here(alloc, effects, cache, phase),
         Phase::Serving(serving) => tick_and_run(alloc, effects, serving),
     }
 }
 
 // Time passes at a client that opens its log.
+fn tick_here(alloc: Global, effects: &mut Effects, cache: u16, phase: &mut Phase) -> Mem<()>
+    ensures phase { OnOk result (IfSome (opening_of phase.old) (λ o. phase.new ≡ (on_time cache (Opens o.0 o.1)).state)) }
+    ensures effects { OnOk result
+        (IfSome (opening_of phase.old) (λ o. effects.new ≡ effects.old ++ (on_time cache (Opens o.0 o.1)).outs)) }
+{
+    match phase.take_opening(alloc) {
+        Some((lasting, opening)) => {
+            let after = ask_again(alloc, effects, lasting, opening, cache)?;
+            phase.turn_to(after);
+            Ok(())
+        }
+        None => Ok(()),
+    }
+}
+
+// What it makes of a client that opens its log.
 #[tactic(auto, unfolding(crate::specs::Phases::on_time))]
 fn ask_again(
     alloc: Global,

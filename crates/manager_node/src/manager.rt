@@ -1,7 +1,7 @@
 //! The manager.
-ghost use Rattle.std.specs.Prelude.{◌≡◌, ◌++◌, IfOk, OnOk};
+ghost use Rattle.std.specs.Prelude.{◌≡◌, ◌++◌, IfOk, IfSome, OnOk};
 ghost use Rattle.node_base.specs.Setups.{IsSetup};
-ghost use Rattle.manager_node.specs.Phases.{is_serving, on_begin};
+ghost use Rattle.manager_node.specs.Phases.{is_serving, on_begin, waiting_of};
 ghost use Rattle.node_base.specs.Maps.{forgotten};
 ghost use Rattle.manager_node.specs.Events.{first_manager, takes_welcome, on_welcome, on_waiting, on_packet, on_deliver, on_time, on_event, happens, manager_step};
 ghost use Rattle.manager_serving.specs.Serving as servings;
@@ -96,14 +96,21 @@ fn on_event(
     ensures effects { OnOk result (effects.new ≡ effects.old ++ (on_event peers phase.old what.now).outs) }
 {
     match what {
-        Do::Begin => {
-            let begun = on_begin(alloc, effects, phase.take(alloc))?;
-            phase.turn_to(begun);
-            Ok(())
-        }
+        Do::Begin => begin_next(alloc, effects, phase),
         Do::Deliver(packet) => on_deliver(alloc, effects, peers, phase, packet.as_packet()),
         Do::Tick => on_time(alloc, effects, phase),
     }
+}
+
+// The next item begins. It is a function of its own, here and below, so that only such events pay for the room of
+// a phase that is handed on.
+fn begin_next(alloc: Global, effects: &mut Effects, phase: &mut Phase) -> Mem<()>
+    ensures state { OnOk result (phase.new ≡ (on_begin phase.old).state) }
+    ensures effects { OnOk result (effects.new ≡ effects.old ++ (on_begin phase.old).outs) }
+{
+    let begun = on_begin(alloc, effects, phase.take(alloc))?;
+    phase.turn_to(begun);
+    Ok(())
 }
 
 // The next item begins.
@@ -150,15 +157,30 @@ fn on_packet(
 {
     match phase {
         Phase::Down(_) => Ok(()),
-        Phase::Waiting(_, _) => match phase.take_waiting(alloc) {
-            Some((lasting, hello)) => {
-                let after = on_waiting(alloc, effects, peers, lasting, hello, &packet.body)?;
-                phase.turn_to(after);
-                Ok(())
-            }
-            None => Ok(()),
-        },
+        Phase::Waiting(_, _) => wait_here(alloc, effects, peers, phase, &packet.body),
         Phase::Serving(serving) => serving.hear(alloc, effects, peers.clients, packet),
+    }
+}
+
+// A body comes to a manager that awaits its Welcome.
+fn wait_here(
+    alloc: Global,
+    effects: &mut Effects,
+    peers: Peers,
+    phase: &mut Phase,
+    body: &Body,
+) -> Mem<()>
+    ensures state { OnOk result (IfSome (waiting_of phase.old) (λ w. phase.new ≡ (on_waiting peers w.0 w.1 body.now).state)) }
+    ensures effects { OnOk result
+        (IfSome (waiting_of phase.old) (λ w. effects.new ≡ effects.old ++ (on_waiting peers w.0 w.1 body.now).outs)) }
+{
+    match phase.take_waiting(alloc) {
+        Some((lasting, hello)) => {
+            let after = on_waiting(alloc, effects, peers, lasting, hello, body)?;
+            phase.turn_to(after);
+            Ok(())
+        }
+        None => Ok(()),
     }
 }
 
