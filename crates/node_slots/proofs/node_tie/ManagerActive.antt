@@ -1,5 +1,5 @@
 -- What the slot that is managed, and what each other one, makes of a want, a gave, deltas, a check and time.
-use Rattle.std.proofs.Common.{◌≡◌, ℕ, ◌-◌, ◌<◌, Bool, true, false, cond, List, [], ◌∷◌, inl, inr, length, Some, None, refl, sym, ap, subst, ◌∙◌, arith}
+use Rattle.std.proofs.Common.{◌≡◌, ◌⊎◌, ℕ, ◌-◌, ◌<◌, Bool, true, false, cond, List, [], ◌∷◌, inl, inr, length, Some, None, refl, sym, ap, subst, ◌∙◌, arith}
 use Rattle.std.specs.List.{flat_map}
 use Rattle.std.proofs.lemmas.Bool.{eqb-true, eq-eqb}
 use Rattle.std.proofs.lemmas.Bool.Decides.{nat_tests}
@@ -130,10 +130,13 @@ module _ (logs : Bool) (members part limit life : ℕ) where
           acts = refl;
           epoch = stay.0;
           slots = λ k other. put_there n.slots e (Some d.state) k (λ same. other (sym same));
+          changed = put_each (λ k o. (o ≡ n.slots k) ⊎ ((slot.transition a.slot given).state.epoch ≡ k)) n.slots e (Some d.state) (inr stay.0)
+              (λ k other. inl refl);
           entered = λ k y some none. absurd (put_each (λ x o. (y : SlotState) → o ≡ Some y → n.slots x ≡ None → ⊥) n.slots e (Some d.state)
               (λ y _ none. some_none z (sym agrees.there ∙ none)) (λ x other y some none. some_none y (sym some ∙ none)) k y some none);
           taking = λ k h. h;
           held = λ k h. sym stay.0 ∙ h;
+          managed = λ k h. stay.0 ∙ h;
           grows = λ x fact. in_more x (slot_packets d.outs) n.sent fact;
           does = said_seen next k e (slot.transition a.slot given).outs
               (λ x fact. in_front x (slot_packets d.outs) n.sent (subst (λ os. In x (slot_packets os)) (sym alike.outs) fact));

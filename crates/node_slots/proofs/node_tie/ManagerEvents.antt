@@ -96,6 +96,7 @@ module _ (logs : Bool) (members part limit j : ℕ) (n : Net) where
     books = refl;
     acts = refl;
     slots = λ e other. refl;
+    changed = λ e. inl refl;
     entered = λ e z some none. nothing_enters n e z some none;
     taken = λ e h. absurd h;
     rises = λ _ fact. contrary fact;
@@ -121,6 +122,7 @@ module _ (logs : Bool) (members part limit j : ℕ) (n : Net) where
     books = refl;
     acts = refl;
     slots = λ e other. refl;
+    changed = λ e. inl refl;
     entered = λ e z some none. nothing_enters n e z some none;
     taken = λ e h. absurd h;
     rises = λ _ fact. contrary fact;
@@ -147,6 +149,7 @@ module _ (logs : Bool) (members part limit j : ℕ) (exists : part < slot_count)
     books = h.goes.books;
     acts = done_acts logs members part limit j n h.next d.outs h.goes.acts;
     slots = h.goes.slots;
+    changed = h.goes.changed;
     entered = λ e z some none. let t = h.goes.entered e z some none in let at = taking_is (phase_at s.slots part) e t.0 in let up = h.goes.rises in
         (t.0, refl, omega arith, t.1);
     taken = λ e k. ⊎_elim (λ was. inl (was, h.lives)) (λ new. inr (new.0, new.1)) (h.goes.held e k);
@@ -327,6 +330,7 @@ module _ (logs : Bool) (members part limit j : ℕ) (exists : part < slot_count)
         books = h.goes.books;
         acts = done_acts logs members part limit j n h.next d.outs h.goes.acts;
         slots = λ e other. h.goes.slots e (λ held. other (subst (λ p. HeldAt p e) (unknown_at part) held));
+        changed = h.goes.changed;
         entered = λ e z some no. absurd (subst (λ p. TakingAt p e) (unknown_at part) (h.goes.entered e z some no).0);
         taken = λ e k. ⊎_elim (λ was. absurd (subst (λ p. HeldAt p e) (unknown_at part) was)) (λ new. let above = new.1 in inr (new.0, omega arith))
             (h.goes.held e k);

@@ -16,7 +16,6 @@ use Rattle.wire_msg.specs.declared.body.Body.{Body}
 use Rattle.wire_msg.specs.declared.body.Body.TheVariants as body
 use Rattle.wire_msg.specs.declared.packet.Packet.{Packet as Sent}
 use Rattle.wire_msg.specs.declared.registry.News.{News}
-use Rattle.manager_slots.specs.SlotTable as table
 use Rattle.manager_slots.specs.SlotTable.{Table}
 use Rattle.manager_slots.specs.Slots.{epoch_of}
 use Rattle.manager_serving.specs.Checkpoints.{Done, writes, on_stored, on_ckpt_ack}
@@ -24,7 +23,7 @@ use Rattle.manager_serving.specs.declared.serving.Serving.{Serving}
 use Rattle.manager_serving.specs.Serving.{asker_of, regroups, hearer_of, hears_with, hears_slots, on_newer, on_news, on_fitting_news, asks_for_maps, on_body, hears}
 use Rattle.node_slots.specs.node_tie.ManagerEvents.{phase_at, TableAgrees, AllNewsGets, ServingGets, NamedBy}
 use Rattle.node_slots.proofs.node_tie.ManagerCheckpoints.{Quiet, quiet_writes, quiet_stored, quiet_ckpt_ack}
-use Rattle.node_slots.proofs.node_tie.ManagerMoves.{held_is, Rises, Goes, stays_same, rises_of, goes_of, goes_moving, goes_rising, goes_staying}
+use Rattle.node_slots.proofs.node_tie.ManagerMoves.{Rises, Goes, stays_same, rises_of, rises_then, goes_moving, goes_rising, goes_staying}
 use Rattle.node_slots.proofs.node_tie.ManagerNews.{table_hears_all}
 use Rattle.node_slots.proofs.node_tie.ManagerTables.{table_same, table_regroups}
 use Rattle.node_slots.proofs.node_tie.ManagerServes as serves
@@ -91,15 +90,14 @@ module _ (logs : Bool) (members part limit life : ℕ) (exists : part < slot_cou
           (record { number = owed.number; many = owed.many }) agrees low owed.gets owed.names in
           record { numbered = refl; lives = refl; rises = h.rises; agrees = h.agrees; within = h.within; above = λ _. h.above }
 
-  serves_rose : (n : Net) (number inc : ℕ) (t : Table) (known : Bool) (slots : List SlotNews) (d e : Done)
-      (h : serves.Serves logs members part limit life exists n number inc t d)
-      → Rose h.event.next d.state.lasting.number d.state.lasting.inc d.state.slots known slots e → Went n number inc t known slots (saying d.outs e)
-  serves_rose n number inc t known slots d e h k = record {
+  quiet_rose : (n : Net) (number inc : ℕ) (t : Table) (known : Bool) (slots : List SlotNews) (d e : Done)
+      → Quiet logs members part limit life exists n number inc t d
+      → Rose n d.state.lasting.number d.state.lasting.inc d.state.slots known slots e → Rose n number inc t known slots (saying d.outs e)
+  quiet_rose n number inc t known slots d e h k = record {
     numbered = k.numbered ∙ h.number;
     lives = k.lives ∙ h.lives;
-    next = h.event.next;
-    goes = goes_of logs members part limit life named n h.event.next (phase_at t part) (phase_at d.state.slots part)
-        (phase_at e.state.slots part) d.outs e.outs h.event.moves k.rises;
+    rises = rises_then logs members part limit life named n (phase_at t part) (phase_at d.state.slots part) (phase_at e.state.slots part) d.outs e.outs
+        (rises_of logs members part limit life named n (phase_at t part) (phase_at d.state.slots part) d.outs h.stays) k.rises;
     agrees = k.agrees;
     within = k.within;
     above = k.above;
@@ -138,26 +136,27 @@ module _ (logs : Bool) (members part limit life : ℕ) (exists : part < slot_cou
   went_less n s known slots d h =
       record { numbered = h.numbered; lives = h.lives; next = h.next; goes = h.goes; agrees = h.agrees; within = h.within; above = λ fact. contrary fact }
 
-  serves_regroups : (n : Net) (s : Serving) (groups : GroupMapState) → TableAgrees members part n s.slots
-      → serves.Low logs members part limit life exists s.slots → serves.Of logs members part limit life exists n s (regroups s groups)
+  quiet_regroups : (n : Net) (s : Serving) (groups : GroupMapState) → TableAgrees members part n s.slots
+      → serves.Low logs members part limit life exists s.slots
+      → Quiet logs members part limit life exists n s.lasting.number s.lasting.inc s.slots (regroups s groups)
   unfolding regroups
-  serves_regroups n s groups agrees low = serves.by_asker logs members part limit life exists n s (table.regroups_all groups (asker_of s))
-      (table_regroups logs members part limit life exists n groups (asker_of s) agrees low)
+  quiet_regroups n s groups agrees low =
+      let h = table_regroups logs members part limit life exists n groups (asker_of s) agrees low in
+      record { number = refl; lives = refl; stays = h.stays; agrees = h.agrees }
 
-  -- what is owed still is once the slot has moved
-  owed_on : (n : Net) (s : Serving) (clients : ℕ) (slots : List SlotNews) (d : Done) (h : serves.Of logs members part limit life exists n s d)
-      → Owed n s clients slots
-      → Owed h.event.next d.state clients slots
+  quiet_low : (n : Net) (number inc : ℕ) (t : Table) (d : Done) → Quiet logs members part limit life exists n number inc t d
+      → serves.Low logs members part limit life exists t → serves.Low logs members part limit life exists d.state.slots
+  quiet_low n number inc t d h low = let same = h.stays.epoch in omega arith
+
+  -- what is owed still is after a step of which the small world sees nothing
+  owed_on : (n : Net) (s : Serving) (clients : ℕ) (slots : List SlotNews) (d : Done)
+      → Quiet logs members part limit life exists n s.lasting.number s.lasting.inc s.slots d → Owed n s clients slots → Owed n d.state clients slots
   owed_on n s clients slots d h owed =
-      let same = h.event.moves.epoch in
+      let same = h.stays.epoch in
       record {
         number = h.number ∙ owed.number;
         many = owed.many;
-        gets = λ news there of. let g = owed.gets news there of in record {
-          within = g.within;
-          new = λ ours later. h.event.moves.slots news.epoch (λ held. let at = held_is (phase_at s.slots part) news.epoch held in absurd (omega arith))
-              ∙ g.new ours (omega arith);
-        };
+        gets = λ news there of. let g = owed.gets news there of in record { within = g.within; new = λ ours later. g.new ours (omega arith) };
         names = owed.names;
       }
 
@@ -167,12 +166,12 @@ module _ (logs : Bool) (members part limit life : ℕ) (exists : part < slot_cou
   unfolding on_newer regroups
   went_newer n s clients news agrees low owed =
       let d = regroups s news.groups in
-      let h = serves_regroups n s news.groups agrees low in
+      let h = quiet_regroups n s news.groups agrees low in
       let e = hears_slots d.state clients news.slots in
-      let r = rose_slots h.event.next d.state clients news.slots h.event.agrees
-      (serves.low_on logs members part limit life exists n s.lasting.number s.lasting.inc s.slots d h low)
-      (owed_on n s clients news.slots d h owed) in
-      let w = serves_rose n s.lasting.number s.lasting.inc s.slots (is_some s.maps.groups) news.slots d e h r in
+      let r = rose_slots n d.state clients news.slots h.agrees
+      (quiet_low n s.lasting.number s.lasting.inc s.slots d h low) (owed_on n s clients news.slots d h owed) in
+      let w = rose_went n s (is_some s.maps.groups) news.slots (saying d.outs e)
+      (quiet_rose n s.lasting.number s.lasting.inc s.slots (is_some s.maps.groups) news.slots d e h r) in
       went_quiet n s.lasting.number s.lasting.inc s.slots (is_some s.maps.groups) news.slots (saying d.outs e) (writes e.state (log_input.Maps news.groups)) w
       (quiet_writes logs members part limit life exists w.next e.state (log_input.Maps news.groups) w.agrees)
 

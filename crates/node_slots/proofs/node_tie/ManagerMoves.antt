@@ -16,7 +16,7 @@ use Rattle.token_law.specs.Net.Runs.{Begun}
 use Rattle.token_manager.specs.SlotState.{SlotState}
 use Rattle.token_protocol.specs.Basics.{In}
 use Rattle.node_slots.specs.node_tie.Sight.{ManagerSends, ManagerDoes}
-use Rattle.node_slots.specs.node_tie.ManagerEvents.{TakingAt, HeldAt}
+use Rattle.node_slots.specs.node_tie.ManagerEvents.{TakingAt, HeldAt, ManagedAt}
 use Rattle.node_slots.proofs.node_tie.SmallWorld.{runs_through, promised_stays}
 
 pub in_more : {X : Type 0} (x : X) (xs ys : List X) → In x ys → In x (xs ++ ys)
@@ -84,9 +84,12 @@ module _ (logs : Bool) (members part limit life : ℕ) where
     pub acts : m.acts ≡ n.acts
     pub epoch : epoch_of q ≡ epoch_of p
     pub slots : (e : ℕ) → (HeldAt p e → ⊥) → m.slots e ≡ n.slots e
+    pub changed : (e : ℕ) → (m.slots e ≡ n.slots e) ⊎ ManagedAt q e
     pub entered : (e : ℕ) (z : SlotState) → m.slots e ≡ Some z → n.slots e ≡ None → TakingAt p e × (e ≤ n.promised)
     pub taking : (e : ℕ) → TakingAt q e → TakingAt p e
     pub held : (e : ℕ) → HeldAt q e → HeldAt p e
+    -- what is managed still is
+    pub managed : (e : ℕ) → ManagedAt p e → ManagedAt q e
     pub grows : Grows n m
     pub does : AllDone m outs
 
@@ -95,6 +98,7 @@ module _ (logs : Bool) (members part limit life : ℕ) where
     pub epoch : epoch_of q ≡ epoch_of p
     pub taking : (e : ℕ) → TakingAt q e → TakingAt p e
     pub held : (e : ℕ) → HeldAt q e → HeldAt p e
+    pub managed : (e : ℕ) → ManagedAt p e → ManagedAt q e
     pub does : AllDone n outs
 
   clash : (n m : Net) (e : ℕ) (z : SlotState) → m.slots ≡ n.slots → m.slots e ≡ Some z → n.slots e ≡ None → ⊥
@@ -112,21 +116,24 @@ module _ (logs : Bool) (members part limit life : ℕ) where
     acts = refl;
     epoch = t.epoch;
     slots = λ e other. refl;
+    changed = λ e. inl refl;
     entered = λ e z some none. absurd (clash n n e z refl some none);
     taking = t.taking;
     held = t.held;
+    managed = t.managed;
     grows = λ x fact. fact;
     does = t.does;
   }
 
   pub stays_same : (n : Net) (p : SlotPhase) (outs : List Effect) → AllDone n outs → Stays n p p outs
-  stays_same n p outs done = record { epoch = refl; taking = λ e h. h; held = λ e h. h; does = done }
+  stays_same n p outs done = record { epoch = refl; taking = λ e h. h; held = λ e h. h; managed = λ e h. h; does = done }
 
   pub stays_then : (n : Net) (p q r : SlotPhase) (outs more : List Effect) → Stays n p q outs → Stays n q r more → Stays n p r (outs ++ more)
   stays_then n p q r outs more t u = record {
     epoch = u.epoch ∙ t.epoch;
     taking = λ e h. t.taking e (u.taking e h);
     held = λ e h. t.held e (u.held e h);
+    managed = λ e h. u.managed e (t.managed e h);
     does = all_append (DoesAt n) outs more t.does u.does;
   }
 
@@ -139,9 +146,12 @@ module _ (logs : Bool) (members part limit life : ℕ) where
     acts = u.acts ∙ t.acts;
     epoch = u.epoch ∙ t.epoch;
     slots = λ e other. u.slots e (λ h. other (t.held e h)) ∙ t.slots e other;
+    changed = λ e.
+        ⊎_elim (λ same. ⊎_elim (λ before. inl (same ∙ before)) (λ was. inr (u.managed e was)) (t.changed e)) (λ managed. inr managed) (u.changed e);
     entered = λ e z some none. by e z (m.slots e) refl some none;
     taking = λ e h. t.taking e (u.taking e h);
     held = λ e h. t.held e (u.held e h);
+    managed = λ e h. u.managed e (t.managed e h);
     grows = λ x fact. u.grows x (t.grows x fact);
     does = all_append (DoesAt o) outs more (done_on m o u.grows outs t.does) u.does;
   }
@@ -168,7 +178,7 @@ module _ (logs : Bool) (members part limit life : ℕ) where
     does = all_append (DoesAt n) outs more t.does u.does;
   }
 
-  -- ---- the slot moves, and then rises
+  -- ---- the slot moves, or rises
 
   pub record Goes (named : ℕ → Type 0) (n m : Net) (p q : SlotPhase) (outs : List Effect) : Type 0 where
     pub runs : Runs logs members part n m
@@ -178,26 +188,11 @@ module _ (logs : Bool) (members part limit life : ℕ) where
     pub acts : m.acts ≡ n.acts
     pub rises : epoch_of p ≤ epoch_of q
     pub slots : (e : ℕ) → (HeldAt p e → ⊥) → m.slots e ≡ n.slots e
+    pub changed : (e : ℕ) → (m.slots e ≡ n.slots e) ⊎ ManagedAt q e
     pub entered : (e : ℕ) (z : SlotState) → m.slots e ≡ Some z → n.slots e ≡ None → TakingAt p e × (e ≤ n.promised)
     pub held : (e : ℕ) → HeldAt q e → HeldAt p e ⊎ (named e × (epoch_of p < e))
     pub grows : Grows n m
     pub does : AllDone m outs
-
-  pub goes_of : (named : ℕ → Type 0) (n m : Net) (p q r : SlotPhase) (outs more : List Effect) → Moves n m p q outs → Rises named m q r more
-      → Goes named n m p r (outs ++ more)
-  goes_of named n m p q r outs more t u = record {
-    runs = t.runs;
-    tokens = t.tokens;
-    up = t.up;
-    books = t.books;
-    acts = t.acts;
-    rises = let a = t.epoch in let b = u.rises in omega arith;
-    slots = t.slots;
-    entered = t.entered;
-    held = λ e h. ⊎_elim (λ k. inl (t.held e k)) (λ k. let a = t.epoch in let b = k.1 in inr (k.0, omega arith)) (u.held e h);
-    grows = t.grows;
-    does = all_append (DoesAt m) outs more t.does u.does;
-  }
 
   pub goes_moving : (named : ℕ → Type 0) (n m : Net) (p q : SlotPhase) (outs : List Effect) → Moves n m p q outs → Goes named n m p q outs
   goes_moving named n m p q outs t = record {
@@ -208,6 +203,7 @@ module _ (logs : Bool) (members part limit life : ℕ) where
     acts = t.acts;
     rises = let a = t.epoch in omega arith;
     slots = t.slots;
+    changed = t.changed;
     entered = t.entered;
     held = λ e h. inl (t.held e h);
     grows = t.grows;
@@ -215,7 +211,20 @@ module _ (logs : Bool) (members part limit life : ℕ) where
   }
 
   pub goes_rising : (named : ℕ → Type 0) (n : Net) (p q : SlotPhase) (outs : List Effect) → Rises named n p q outs → Goes named n n p q outs
-  goes_rising named n p q outs u = goes_of named n n p p q [] outs (moves_of n p p [] (stays_same n p [] tt)) u
+  goes_rising named n p q outs u = record {
+    runs = Begun;
+    tokens = refl;
+    up = refl;
+    books = refl;
+    acts = refl;
+    rises = u.rises;
+    slots = λ e other. refl;
+    changed = λ e. inl refl;
+    entered = λ e z some none. absurd (clash n n e z refl some none);
+    held = u.held;
+    grows = λ x fact. fact;
+    does = u.does;
+  }
 
   pub goes_staying : (named : ℕ → Type 0) (n m : Net) (p q r : SlotPhase) (outs more : List Effect) → Goes named n m p q outs → Stays m q r more
       → Goes named n m p r (outs ++ more)
@@ -227,6 +236,7 @@ module _ (logs : Bool) (members part limit life : ℕ) where
     acts = t.acts;
     rises = let a = t.rises in let b = u.epoch in omega arith;
     slots = t.slots;
+    changed = λ e. ⊎_elim (λ same. inl same) (λ managed. inr (u.managed e managed)) (t.changed e);
     entered = t.entered;
     held = λ e h. t.held e (u.held e h);
     grows = t.grows;

@@ -75,7 +75,7 @@ module _ (logs : Bool) (members part limit life : ℕ) (exists : part < slot_cou
   by_table : (n : Net) (s : Serving) (d : table.Done) → TableEvent logs members part limit life exists n s.slots d.state d.outs → Of n s (with_slots s d)
   by_table n s d h = record { number = refl; lives = refl; event = h }
 
-  pub by_asker : (n : Net) (s : Serving) (d : Asks) → TableEvent logs members part limit life exists n s.slots d.state.table d.outs → Of n s (with_asker s d)
+  by_asker : (n : Net) (s : Serving) (d : Asks) → TableEvent logs members part limit life exists n s.slots d.state.table d.outs → Of n s (with_asker s d)
   by_asker n s d h = record { number = refl; lives = refl; event = h }
 
   -- ---- clients and the cleaner

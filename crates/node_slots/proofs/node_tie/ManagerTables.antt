@@ -38,10 +38,10 @@ use Rattle.manager_slots.specs.Tokens as tokens
 use Rattle.node_slots.specs.node_tie.Sight.{WantSeen, GaveSeen}
 use Rattle.node_slots.specs.node_tie.ManagerEvents.{phase_at, PhaseAgrees, OtherAgrees, TableAgrees, ReportGets, DeltasJoin, TakeoverGets, LastReportGets}
 use Rattle.node_slots.proofs.node_tie.ManagerActive.{some_none, Event, event_same, event_staying, Other, slot_wants, slot_gaves, slot_deltas, slot_ticks, check_same, check_done, usage_done, other_takes, other_wants}
-use Rattle.node_slots.proofs.node_tie.ManagerMoves.{AllDone, Moves, Stays, moves_of, moves_then, stays_same}
+use Rattle.node_slots.proofs.node_tie.ManagerMoves.{AllDone, Moves, Stays, moves_of, moves_then, stays_same, stays_then}
 use Rattle.node_slots.proofs.node_tie.ManagerPages.{cleaned_alike}
 use Rattle.node_slots.proofs.node_tie.ManagerTakes.{Brings}
-use Rattle.node_slots.proofs.node_tie.ManagerTaking.{phases_last, quiet_asks, AskEvent, slot_hears, slot_reports, maps_owed, OtherAsks, other_hears, other_asks, other_reports}
+use Rattle.node_slots.proofs.node_tie.ManagerTaking.{Quiet, phases_last, quiet_asks, quiet_maps, AskEvent, slot_hears, slot_reports, OtherAsks, other_hears, other_asks, other_reports}
 use Rattle.token_manager.specs.declared.input.In.TheVariants as told
 
 -- ---- one slot of a table
@@ -304,17 +304,77 @@ module _ (logs : Bool) (members part limit life : ℕ) (exists : part < slot_cou
   table_asks_all n polls a agrees low = each_goes (λ (b : TableAsker). b.table) (table.asks polls)
       (λ n b k h l. table_asks n polls b k h l) n a all_slots agrees low
 
+  -- ---- newer groups: the small world sees nothing of them
+
+  pub record TableQuiet (n : Net) (t u : Table) (outs : List Effect) : Type 0 where
+    pub stays : Stays logs members part limit life n (phase_at t part) (phase_at u part) outs
+    pub agrees : TableAgrees members part n u
+
+  table_quiet : (n : Net) (t : Table) → TableAgrees members part n t → TableQuiet n t t []
+  table_quiet n t agrees = record { stays = stays_same logs members part limit life n (phase_at t part) [] tt; agrees = agrees }
+
+  module _ (n : Net) (a : TableAsker) (k : ℕ) (event : Asker → Stepped Asker Effect) (agrees : TableAgrees members part n a.table) where
+    -- the event of slot k, taken with what slot j has
+    abbrev done_at : ℕ → Stepped Asker Effect
+    done_at j = event (asker (phase_at a.table j) a.questions)
+
+    abbrev QuietAt : ℕ → Type 0
+    QuietAt j = TableQuiet n a.table (slice_set a.table k (done_at j).state.phase) (done_at j).outs
+
+    quiet_here : k ≡ part → Quiet logs members part limit life (PhaseAgrees members part n) n (phase_at a.table part) (done_at part) → QuietAt part
+    quiet_here same h = record {
+      stays = subst (λ q. Stays logs members part limit life n (phase_at a.table part) q (done_at part).outs)
+          (sym (at_part n a.table k (done_at part).state.phase agrees same)) h.stays;
+      agrees = set_slot n n a.table k (done_at part).state.phase agrees same h.agrees;
+    }
+
+    quiet_there : (k ≡ part → ⊥) → k < length a.table → OtherAsks logs members part limit life n k (done_at k) → QuietAt k
+    quiet_there other within h = record {
+      stays = subst (λ q. Stays logs members part limit life n (phase_at a.table part) q (done_at k).outs)
+          (sym (set_there a.table k part (done_at k).state.phase (λ e. other (sym e))))
+          (stays_same logs members part limit life n (phase_at a.table part) (done_at k).outs h.does);
+      agrees = set_other n a.table k (done_at k).state.phase agrees other within h.agrees;
+    }
+
+    at_taken-quiet : (k ≡ part → Quiet logs members part limit life (PhaseAgrees members part n) n (phase_at a.table part) (done_at part))
+        → ((k ≡ part → ⊥) → OtherAsks logs members part limit life n k (done_at k))
+        → TableQuiet n a.table (table.at_taken a k event).state.table (table.at_taken a k event).outs
+    at_taken-quiet here there =
+        by_taken (TableQuiet n a.table) a k event
+        (by_slot (TableQuiet n a.table) a.table k (as_slot a.questions event) (λ _. table_quiet n a.table agrees)
+        (λ within. slot_or_other k (QuietAt k) (λ same. subst QuietAt (sym same) (quiet_here same (here same)))
+        (λ other. quiet_there other within (there other))))
+
+  regroups-quiet : (n : Net) (groups : GroupMapState) (a : TableAsker) (k : ℕ) → TableAgrees members part n a.table → IsLow a.table
+      → TableQuiet n a.table (table.regroups groups a k).state.table (table.regroups groups a k).outs
+  unfolding table.takes
+  regroups-quiet n groups a k agrees low =
+      at_taken-quiet n a k (λ one. takeovers.takes one k (input.Maps groups)) agrees
+      (λ same. quiet_maps logs members part limit life n k (phase_at a.table part) a.questions groups agrees.here (λ _. low))
+      (λ other. other_hears logs members part limit life n k (asker (phase_at a.table k) a.questions) (input.Maps groups) other (agrees.there k other))
+
+  regroups_each : (n : Net) (groups : GroupMapState) (a : TableAsker) (slots : List ℕ) → TableAgrees members part n a.table → IsLow a.table
+      → TableQuiet n a.table (steps (table.regroups groups) a slots).state.table (steps (table.regroups groups) a slots).outs
+  regroups_each n groups a [] agrees low = table_quiet n a.table agrees
+  regroups_each n groups a (k ∷ slots) agrees low =
+      let d = table.regroups groups a k in
+      let one = regroups-quiet n groups a k agrees low in
+      let rest = regroups_each n groups d.state slots one.agrees (let e = one.stays.epoch in omega arith) in
+      record {
+        stays = stays_then logs members part limit life n (phase_at a.table part) (phase_at d.state.table part)
+            (phase_at (steps (table.regroups groups) d.state slots).state.table part) d.outs (steps (table.regroups groups) d.state slots).outs one.stays
+            rest.stays;
+        agrees = rest.agrees;
+      }
+
   pub table_regroups : (n : Net) (groups : GroupMapState) (a : TableAsker) → TableAgrees members part n a.table → IsLow a.table
-      → AskTable n a.table (table.regroups_all groups a)
-  table_regroups n groups a agrees low = each_goes (λ (b : TableAsker). b.table) (table.regroups groups)
-      (λ n b k h l. table_takes n b k (input.Maps groups) h l (λ r fact. fact) (λ _. maps_owed logs members part limit life n (phase_at b.table part) groups))
-      n a all_slots agrees low
+      → TableQuiet n a.table (table.regroups_all groups a).state.table (table.regroups_all groups a).outs
+  table_regroups n groups a agrees low = regroups_each n groups a all_slots agrees low
 
   -- ---- checkpoints
 
-  pub record TableStays (n : Net) (t u : Table) : Type 0 where
-    pub stays : Stays logs members part limit life n (phase_at t part) (phase_at u part) []
-    pub agrees : TableAgrees members part n u
+  abbrev pub TableStays : Net → Table → Table → Type 0
+  TableStays n t u = TableQuiet n t u []
 
   changes : (n : Net) (t : Table) (k : ℕ) (change : SlotPhase → SlotPhase) → TableAgrees members part n t
       → ((p : SlotPhase) → PhaseAgrees members part n p → PhaseAgrees members part n (change p))
@@ -337,13 +397,13 @@ module _ (logs : Bool) (members part limit life : ℕ) (exists : part < slot_cou
           })
 
       by : (o : Option SlotPhase) → slice_get t k ≡ o → TableStays n t (table.changed_in t k change o)
-      by None fact = record { stays = stays_same logs members part limit life n (phase_at t part) [] tt; agrees = agrees }
+      by None fact = table_quiet n t agrees
       by (Some p) fact = let same : phase_at t k ≡ p = ap (λ o. unwrap_or o (phase.Away 0)) fact in subst (λ x. TableStays n t (slice_set t k (change x))) same
           (at (slice_get_within t k p fact))
 
   clean_stays : (n : Net) (p : SlotPhase) → Stays logs members part limit life n p (table.cleaned_phase p) []
   unfolding table.cleaned_phase
-  clean_stays n (phase.Active a) = record { epoch = refl; taking = λ e h. h; held = λ e h. h; does = tt }
+  clean_stays n (phase.Active a) = record { epoch = refl; taking = λ e h. h; held = λ e h. h; managed = λ e h. h; does = tt }
   clean_stays n (phase.Away epoch) = stays_same logs members part limit life n (phase.Away epoch) [] tt
   clean_stays n (phase.Taking t) = stays_same logs members part limit life n (phase.Taking t) [] tt
   clean_stays n (phase.Broken epoch seg) = stays_same logs members part limit life n (phase.Broken epoch seg) [] tt
@@ -371,7 +431,7 @@ module _ (logs : Bool) (members part limit life : ℕ) (exists : part < slot_cou
   name_stays n epoch parts (phase.Active a) =
       by_test (λ q. Stays logs members part limit life n (phase.Active a) q []) (a.slot.epoch == epoch) (phase.Active (record a { parts = parts }))
       (phase.Active a)
-      (λ _. record { epoch = refl; taking = λ e h. h; held = λ e h. h; does = tt }) (λ _. stays_same logs members part limit life n (phase.Active a) [] tt)
+      (λ _. record { epoch = refl; taking = λ e h. h; held = λ e h. h; managed = λ e h. h; does = tt }) (λ _. stays_same logs members part limit life n (phase.Active a) [] tt)
   name_stays n epoch parts (phase.Away e) = stays_same logs members part limit life n (phase.Away e) [] tt
   name_stays n epoch parts (phase.Taking t) = stays_same logs members part limit life n (phase.Taking t) [] tt
   name_stays n epoch parts (phase.Broken e seg) = stays_same logs members part limit life n (phase.Broken e seg) [] tt

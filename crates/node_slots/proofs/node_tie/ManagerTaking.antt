@@ -1,5 +1,5 @@
 -- What a takeover makes of its inputs in the small world: nothing, or in the end that the slot is active there.
-use Rattle.std.proofs.Common.{◌≡◌, ℕ, ◌+◌, ◌==◌, ◌≤◌, ◌<◌, nat_lt, Bool, List, [], ◌∷◌, inl, inr, ⊎_elim, filter, Some, None, refl, sym, ap, subst, ◌∙◌, arith}
+use Rattle.std.proofs.Common.{◌≡◌, ℕ, ◌+◌, ◌==◌, ◌≤◌, ◌<◌, nat_lt, Bool, List, [], ◌∷◌, ◌⊎◌, inl, inr, ⊎_elim, filter, Some, None, refl, sym, ap, subst, ◌∙◌, arith}
 use Rattle.std.proofs.lemmas.Bool.{eqb-true, ltb-false, ltb-true}
 use Rattle.std.proofs.lemmas.List.Elements.{All-nil}
 use Rattle.xfs_base.proofs.Booleans.{by_test}
@@ -40,11 +40,11 @@ use Rattle.manager_slots.specs.declared.slot_phase.Taking.{Taking}
 use Rattle.manager_slots.specs.Slots.{epoch_of}
 use Rattle.manager_slots.specs.SlotTable.{Hearer, hears_of}
 use Rattle.manager_slots.specs.Takeovers.{Asker, asker, Done, fetches, says, says_each, heard, takes, is_wanted, asks_again, report_input, on_report, phase_of}
-use Rattle.node_slots.specs.node_tie.ManagerEvents.{HeldAt, ReportKnown, TakingAgrees, PhaseAgrees, OtherAgrees, ReportGets, NewsGets, HasGathered, Completes, TakeoverGets, LastReportGets}
-use Rattle.node_slots.proofs.node_tie.SmallWorld.{premise, premise_by}
+use Rattle.node_slots.specs.node_tie.ManagerEvents.{HeldAt, ManagedAt, ReportKnown, TakingAgrees, PhaseAgrees, OtherAgrees, ReportGets, NewsGets, HasGathered, Completes, TakeoverGets, LastReportGets}
+use Rattle.node_slots.proofs.node_tie.SmallWorld.{premise_by}
 use Rattle.node_slots.proofs.node_tie.ManagerActive.{put_here, put_there, some_none, Event, event_staying, event_same, Other}
 use Rattle.node_slots.proofs.node_tie.ManagerMoves.{held_is, DoesAt, Stays, Rises, stays_same, stays_then, rises_of}
-use Rattle.node_slots.proofs.node_tie.ManagerPlain.{plain_hands_nothing, maps_said}
+use Rattle.node_slots.proofs.node_tie.ManagerPlain.{maps_said}
 use Rattle.node_slots.proofs.node_tie.ManagerReports.{activates, cleaner_promised}
 use Rattle.node_slots.proofs.node_tie.ManagerTakes.{IsPlain, ArePlain, Hands, Brings, took, tick_said, kept_plain}
 
@@ -79,28 +79,51 @@ module _ (logs : Bool) (members part limit life : ℕ) where
 
     quiet_fetches : (p : SlotPhase) (q : Questions) (server : ℕ) (name : SegName) (own : ℕ) → A p → Quiet A n p (fetches p q server name own)
     quiet_fetches (phase.Taking t) q server name own agrees =
-        record { agrees = lasts.asked t _ agrees; stays = record { epoch = refl; taking = λ e h. h; held = λ e h. h; does = (tt, tt) } }
+        record { agrees = lasts.asked t _ agrees; stays = record { epoch = refl; taking = λ e h. h; held = λ e h. h; managed = λ e h. h; does = (tt, tt) } }
     quiet_fetches (phase.Away epoch) q server name own agrees = quiet_still (asker (phase.Away epoch) q) agrees
     quiet_fetches (phase.Active active) q server name own agrees = quiet_still (asker (phase.Active active) q) agrees
     quiet_fetches (phase.Broken epoch seg) q server name own agrees = quiet_still (asker (phase.Broken epoch seg) q) agrees
 
-    quiet_says : (a : Asker) (o : Out) → IsPlain o → A a.phase → IsLow k a.phase → Quiet A n a.phase (says k a o)
+    -- the slot isn't managed
+    abbrev pub Idle : SlotPhase → Type 0
+    Idle p = (e : ℕ) → ManagedAt p e → ⊥
+
+    idle_fetches : (p : SlotPhase) (q : Questions) (server : ℕ) (name : SegName) (own : ℕ) → Idle p → Idle (fetches p q server name own).state.phase
+    idle_fetches (phase.Taking t) q server name own idle = idle
+    idle_fetches (phase.Away epoch) q server name own idle = idle
+    idle_fetches (phase.Active active) q server name own idle = idle
+    idle_fetches (phase.Broken epoch seg) q server name own idle = idle
+
+    idle_says : (a : Asker) (o : Out) → IsPlain o → Idle a.phase → Idle (says k a o).state.phase
     unfolding says
-    quiet_says a (out.Poll to) plain agrees low = record { agrees = agrees; stays = stays_same logs members part limit life n a.phase _ (low, tt) }
-    quiet_says a (out.Fetch server name own) plain agrees low = quiet_fetches a.phase a.questions server name own agrees
-    quiet_says a (out.Active epoch index beliefs applied) plain agrees low = absurd plain
-    quiet_says a (out.Lost seg) plain agrees low = record {
+    idle_says a (out.Poll to) plain idle = idle
+    idle_says a (out.Fetch server name own) plain idle = idle_fetches a.phase a.questions server name own idle
+    idle_says a (out.Active epoch index beliefs applied) plain idle = absurd plain
+    idle_says a (out.Lost seg) plain idle = λ e h. h
+
+    quiet_says : (a : Asker) (o : Out) → IsPlain o → A a.phase → Idle a.phase → IsLow k a.phase → Quiet A n a.phase (says k a o)
+    unfolding says
+    quiet_says a (out.Poll to) plain agrees idle low = record { agrees = agrees; stays = stays_same logs members part limit life n a.phase _ (low, tt) }
+    quiet_says a (out.Fetch server name own) plain agrees idle low = quiet_fetches a.phase a.questions server name own agrees
+    quiet_says a (out.Active epoch index beliefs applied) plain agrees idle low = absurd plain
+    quiet_says a (out.Lost seg) plain agrees idle low = record {
       agrees = lasts.broken
           (epoch_of a.phase) seg;
-      stays = record { epoch = refl; taking = λ e h. absurd h; held = λ e h. absurd h; does = (tt, tt) };
+      stays = record { epoch = refl; taking = λ e h. absurd h; held = λ e h. absurd h; managed = idle; does = (tt, tt) };
     }
 
-    pub quiet_each : (a : Asker) (outs : List Out) → ArePlain outs → A a.phase → IsLow k a.phase → Quiet A n a.phase (says_each k a outs)
+    -- nothing is said
+    pub quiet_none : (a : Asker) → A a.phase → Quiet A n a.phase (says_each k a [])
     unfolding says_each
-    quiet_each a [] plain agrees low = quiet_still a agrees
-    quiet_each a (o ∷ os) plain agrees low =
-        let one = quiet_says a o plain.0 agrees low in
-        let rest = quiet_each (says k a o).state os plain.1 one.agrees (λ same. let l = low same in let e = one.stays.epoch in omega arith) in
+    quiet_none a agrees = quiet_still a agrees
+
+    pub quiet_each : (a : Asker) (outs : List Out) → ArePlain outs → A a.phase → Idle a.phase → IsLow k a.phase → Quiet A n a.phase (says_each k a outs)
+    unfolding says_each
+    quiet_each a [] plain agrees idle low = quiet_still a agrees
+    quiet_each a (o ∷ os) plain agrees idle low =
+        let one = quiet_says a o plain.0 agrees idle low in
+        let rest = quiet_each (says k a o).state os plain.1 one.agrees (idle_says a o plain.0 idle)
+        (λ same. let l = low same in let e = one.stays.epoch in omega arith) in
         record {
           agrees = rest.agrees;
           stays = stays_then logs members part limit life n a.phase (says k a o).state.phase _ (says k a o).outs _ one.stays rest.stays;
@@ -109,18 +132,19 @@ module _ (logs : Bool) (members part limit life : ℕ) where
     -- time alone says nothing else
     pub quiet_ticks : (p : SlotPhase) (q : Questions) → A p → IsLow k p → Quiet A n p (takes (asker p q) k input.Tick)
     unfolding takes heard
-    quiet_ticks (phase.Taking t) q agrees low = quiet_each (asker (phase.Taking t) q) (transition t.take input.Tick).outs (tick_said t.take) agrees low
-    quiet_ticks (phase.Away epoch) q agrees low = quiet_each (asker (phase.Away epoch) q) [] tt agrees low
-    quiet_ticks (phase.Active active) q agrees low = quiet_each (asker (phase.Active active) q) [] tt agrees low
-    quiet_ticks (phase.Broken epoch seg) q agrees low = quiet_each (asker (phase.Broken epoch seg) q) [] tt agrees low
+    quiet_ticks (phase.Taking t) q agrees low =
+        quiet_each (asker (phase.Taking t) q) (transition t.take input.Tick).outs (tick_said t.take) agrees (λ e h. h) low
+    quiet_ticks (phase.Away epoch) q agrees low = quiet_none (asker (phase.Away epoch) q) agrees
+    quiet_ticks (phase.Active active) q agrees low = quiet_none (asker (phase.Active active) q) agrees
+    quiet_ticks (phase.Broken epoch seg) q agrees low = quiet_none (asker (phase.Broken epoch seg) q) agrees
 
     pub quiet_asks : (p : SlotPhase) (q : Questions) (polls : Bool) → A p → IsLow k p → Quiet A n p (asks_again (asker p q) k polls)
     unfolding asks_again heard
     quiet_asks (phase.Taking t) q polls agrees low = quiet_each (asker (phase.Taking t) q) (filter (is_wanted polls) (transition t.take input.Tick).outs)
-        (kept_plain (is_wanted polls) (transition t.take input.Tick).outs (tick_said t.take)) agrees low
-    quiet_asks (phase.Away epoch) q polls agrees low = quiet_each (asker (phase.Away epoch) q) [] tt agrees low
-    quiet_asks (phase.Active active) q polls agrees low = quiet_each (asker (phase.Active active) q) [] tt agrees low
-    quiet_asks (phase.Broken epoch seg) q polls agrees low = quiet_each (asker (phase.Broken epoch seg) q) [] tt agrees low
+        (kept_plain (is_wanted polls) (transition t.take input.Tick).outs (tick_said t.take)) agrees (λ e h. h) low
+    quiet_asks (phase.Away epoch) q polls agrees low = quiet_none (asker (phase.Away epoch) q) agrees
+    quiet_asks (phase.Active active) q polls agrees low = quiet_none (asker (phase.Active active) q) agrees
+    quiet_asks (phase.Broken epoch seg) q polls agrees low = quiet_none (asker (phase.Broken epoch seg) q) agrees
 
   -- ---- any input, of the slot
 
@@ -152,11 +176,13 @@ module _ (logs : Bool) (members part limit life : ℕ) where
           acts = refl;
           epoch = of;
           slots = λ k other. put_there n.slots e (Some z) k (λ same. other (sym (same ∙ of)));
+          changed = put_each (λ k o. (o ≡ n.slots k) ⊎ (e ≡ k)) n.slots e (Some z) (inr refl) (λ k other. inl refl);
           entered = put_each (λ k o. (y : SlotState) → o ≡ Some y → n.slots k ≡ None → (t.epoch ≡ k) × (k ≤ n.promised)) n.slots e (Some z)
               (λ y _ _. (sym of, subst (λ x. x ≤ n.promised) (sym of) (cleaner_promised members part n t.take t.epoch hands.reported agrees.reported)))
               (λ k other y some none. absurd (some_none y (sym some ∙ none)));
           taking = λ k h. absurd h;
           held = λ k h. sym of ∙ h;
+          managed = λ k h. absurd h;
           grows = λ x fact. fact;
           does = tt;
         };
@@ -191,32 +217,57 @@ module _ (logs : Bool) (members part limit life : ℕ) where
       acts = h.moves.acts;
       epoch = h.moves.epoch;
       slots = h.moves.slots;
+      changed = h.moves.changed;
       entered = h.moves.entered;
       taking = h.moves.taking;
       held = h.moves.held;
+      managed = h.moves.managed;
       grows = h.moves.grows;
       does = h.moves.does;
     };
     agrees = h.agrees;
   }
 
+  -- what it has taken and said, where that is plain
+  plain_taken : (n : Net) (k : ℕ) (t : Taking) (q : Questions) (given : Input) → TakingAgrees members part n (record t { take = (transition t.take given).state })
+      → ArePlain (transition t.take given).outs → IsLow k (phase.Taking t)
+      → Quiet (PhaseAgrees members part n) n (phase.Taking t)
+      (says_each k (asker (phase.Taking (record t { take = (transition t.take given).state })) q) (transition t.take given).outs)
+  plain_taken n k t q given on plain low =
+      let u : Taking = record t { take = (transition t.take given).state } in
+      let d = quiet_each (PhaseAgrees members part n) (phases_last n) n k (asker (phase.Taking u) q) (transition t.take given).outs plain on (λ e h. h) low in
+      record {
+        agrees = d.agrees;
+        stays = record { epoch = d.stays.epoch; taking = d.stays.taking; held = d.stays.held; managed = d.stays.managed; does = d.stays.does };
+      }
+
+  -- newer groups complete no takeover
+  pub quiet_maps : (n : Net) (k : ℕ) (p : SlotPhase) (q : Questions) (groups : GroupMapState) → PhaseAgrees members part n p → IsLow k p
+      → Quiet (PhaseAgrees members part n) n p (takes (asker p q) k (input.Maps groups))
+  unfolding takes heard
+  quiet_maps n k (phase.Taking t) q groups agrees low =
+      plain_taken n k t q (input.Maps groups) (taken_on n t (input.Maps groups) agrees (λ r fact. absurd fact)) (maps_said t.take groups) low
+  quiet_maps n k (phase.Away epoch) q groups agrees low = quiet_none (PhaseAgrees members part n) (phases_last n) n k (asker (phase.Away epoch) q) agrees
+  quiet_maps n k (phase.Active active) q groups agrees low = quiet_none (PhaseAgrees members part n) (phases_last n) n k (asker (phase.Active active) q) agrees
+  quiet_maps n k (phase.Broken epoch seg) q groups agrees low =
+      quiet_none (PhaseAgrees members part n) (phases_last n) n k (asker (phase.Broken epoch seg) q) agrees
+
   pub slot_hears : (n : Net) (k : ℕ) (p : SlotPhase) (q : Questions) (given : Input) → PhaseAgrees members part n p → IsLow k p
       → ((r : Heard) → Brings given r → ReportKnown members part n (epoch_of p) r.from r.held r.end) → TakeoverGets logs members part n p given
       → AskEvent n p (takes (asker p q) k given)
   unfolding takes heard
   slot_hears n k (phase.Away epoch) q given agrees low known owed = event_of n (phase.Away epoch) _
-      (quiet_each (PhaseAgrees members part n) (phases_last n) n k (asker (phase.Away epoch) q) [] tt agrees low)
+      (quiet_none (PhaseAgrees members part n) (phases_last n) n k (asker (phase.Away epoch) q) agrees)
   slot_hears n k (phase.Active a) q given agrees low known owed = event_of n (phase.Active a) _
-      (quiet_each (PhaseAgrees members part n) (phases_last n) n k (asker (phase.Active a) q) [] tt agrees low)
+      (quiet_none (PhaseAgrees members part n) (phases_last n) n k (asker (phase.Active a) q) agrees)
   slot_hears n k (phase.Broken epoch seg) q given agrees low known owed = event_of n (phase.Broken epoch seg) _
-      (quiet_each (PhaseAgrees members part n) (phases_last n) n k (asker (phase.Broken epoch seg) q) [] tt agrees low)
+      (quiet_none (PhaseAgrees members part n) (phases_last n) n k (asker (phase.Broken epoch seg) q) agrees)
   slot_hears n k (phase.Taking t) q given agrees low known owed =
       let u : Taking = record t { take = (transition t.take given).state } in
       let on = taken_on n t given agrees known in
       ⊎_elim
       (λ plain. event_of n (phase.Taking t) (says_each k (asker (phase.Taking u) q) (transition t.take given).outs)
-      (let d = quiet_each (PhaseAgrees members part n) (phases_last n) n k (asker (phase.Taking u) q) (transition t.take given).outs plain on low in
-      record { agrees = d.agrees; stays = record { epoch = d.stays.epoch; taking = d.stays.taking; held = d.stays.held; does = d.stays.does } }))
+      (plain_taken n k t q given on plain low))
       (λ hands. subst (λ os. AskEvent n (phase.Taking t) (says_each k (asker (phase.Taking u) q) os)) (sym hands.says_active)
       (from_taking n t u.take _ _ (handed n u q k hands.index on (record { index = hands.index; says_active = refl; reported = hands.reported })
       (premise_by logs (λ (owed : Completes members part n t.take given). owed hands.index (subst (In _) (sym hands.says_active) (inl refl))) owed))))
@@ -243,14 +294,6 @@ module _ (logs : Bool) (members part limit life : ℕ) where
       known : (node : NodeId) → ReportGets part n members node report → report.epoch ≡ epoch_of p → (r : Heard)
           → r ≡ record { from = node; held = report.held; end = report.end } → ReportKnown members part n (epoch_of p) r.from r.held r.end
       known node g same r fact = subst (λ (x : Heard). ReportKnown members part n (epoch_of p) x.from x.held x.end) (sym fact) (of_node node g same)
-
-  -- newer groups complete no takeover
-  pub maps_owed : (n : Net) (p : SlotPhase) (groups : GroupMapState) → TakeoverGets logs members part n p (input.Maps groups)
-  maps_owed n (phase.Taking t) groups = premise logs
-      (λ index fact _. absurd (plain_hands_nothing (transition t.take (input.Maps groups)).outs (maps_said t.take groups) _ _ _ _ fact))
-  maps_owed n (phase.Active a) groups = tt
-  maps_owed n (phase.Away epoch) groups = tt
-  maps_owed n (phase.Broken epoch seg) groups = tt
 
   -- ---- any input, of another slot
 

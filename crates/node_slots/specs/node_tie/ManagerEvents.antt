@@ -89,6 +89,13 @@ HeldAt (phase.Active a) e = a.slot.epoch ≡ e
 HeldAt (phase.Away epoch) e = ⊥
 HeldAt (phase.Broken epoch seg) e = ⊥
 
+-- the slot is managed at this epoch
+abbrev pub ManagedAt : SlotPhase → ℕ → Type 0
+ManagedAt (phase.Taking t) e = ⊥
+ManagedAt (phase.Active a) e = a.slot.epoch ≡ e
+ManagedAt (phase.Away epoch) e = ⊥
+ManagedAt (phase.Broken epoch seg) e = ⊥
+
 module _ (members part : ℕ) (n : Net) where
   -- a report of a client was sent, in the epoch of the takeover; the cleaner has promised that epoch where it reports
   abbrev pub ReportKnown : ℕ → NodeId → List (BlockId × Mode) → End → Type 0
@@ -346,6 +353,8 @@ pub record ManagerGoes (logs : Bool) (members part last_epoch j : ℕ) (n : Net)
   pub acts : next.acts ≡ n.acts ++ acts_of (Manager j) w.outs
   -- only the slot that the manager takes over or manages changes: where it is away at an epoch, another one manages the slot at it
   pub slots : (e : ℕ) → (HeldAt (slot_in part p) e → ⊥) → next.slots e ≡ n.slots e
+  -- and only one that it manages after the event: one that it manages no longer stays as it was
+  pub changed : (e : ℕ) → (next.slots e ≡ n.slots e) ⊎ ManagedAt (slot_in part w.state) e
   -- a manager that becomes active in the small world had the slot under takeover, and the cleaner has promised its epoch
   pub entered : (e : ℕ) (z : SlotState) → next.slots e ≡ Some z → n.slots e ≡ None
       → TakingAt (slot_in part p) e × (is_serving w.state ≡ true) × (e ≤ epoch_in part w.state) × (e ≤ n.promised)
