@@ -1,15 +1,32 @@
--- No slot of the small world leaves it: at an epoch at which there is a manager there is one from then on.
-use Rattle.std.proofs.Common.{◌≡◌, ℕ, Bool, Some, None}
+-- No slot of the small world leaves it: at an epoch at which there is a manager there is one from then on. And what it has stays, where nobody manages it.
+use Rattle.std.proofs.Common.{◌≡◌, ◌⊎◌, ℕ, Bool, List, Some, None}
+use Rattle.core_world.specs.declared.any_node.AnyNode.{AnyNode}
+use Rattle.run_laws.specs.world_law.Managers.{active_of}
+use Rattle.run_laws.specs.world_law.Owners.{node_in}
 use Rattle.token_law.specs.Net.{Net, Happens, Runs}
 use Rattle.token_law.specs.Net.Happens.{Acts, Elsewhere, Reports, GetsCopy, GetsOwn, Declines, GetsRecall, GetsForward, GetsSupply, Fetches, Reads, Syncs, Seals, Files, GetsDeltas, GetsWant, GetsGave, Ticks, Crashes, Returns, SealsCopies, FilesCopies, Reopens, Activates, Says}
 use Rattle.token_law.specs.Net.Runs.{Begun, On}
 use Rattle.token_manager.specs.SlotState.{SlotState}
 use Rattle.token_protocol.proofs.Refining.{put_each}
 use Rattle.token_protocol.specs.Basics.{put}
+use Rattle.world_base.specs.Cluster.{place_of}
+use Rattle.world_base.specs.declared.cluster.Cluster.{Cluster}
+use Rattle.xfs_base.specs.declared.node.NodeId.TheVariants.{Manager}
 
 -- where there is no manager at an epoch there was none
 abbrev pub NoneLeaves : Net → Net → Type 0
 NoneLeaves n m = (e : ℕ) → m.slots e ≡ None → n.slots e ≡ None
+
+-- one of these nodes manages the slot at this epoch
+pub record ManagedIn (k : Cluster) (part : ℕ) (nodes : List AnyNode) (e : ℕ) : Type 0 where
+  pub manager : ℕ
+  pub state : SlotState
+  pub manages : active_of part (node_in nodes (place_of k (Manager manager))) ≡ Some state
+  pub epoch : state.epoch ≡ e
+
+-- where a slot has changed, one of these nodes manages it now
+abbrev pub SlotsGo : Cluster → ℕ → List AnyNode → Net → Net → Type 0
+SlotsGo k part nodes n m = (e : ℕ) → (m.slots e ≡ n.slots e) ⊎ ManagedIn k part nodes e
 
 put_leaves : (n : Net) (e : ℕ) (s : SlotState) (d : ℕ) → put n.slots e (Some s) d ≡ None → n.slots d ≡ None
 put_leaves n e s =

@@ -14,7 +14,7 @@ use Rattle.node_slots.proofs.node_tie.ManagerFrames.{manager_on}
 use Rattle.node_slots.proofs.node_tie.SmallWorld.{any_promise, premise_by, promised_stays, with_promise}
 use Rattle.node_slots.specs.node_tie.CleanerEvents.{CleanerStands, CleanerWelcomed}
 use Rattle.node_slots.specs.node_tie.CleanerLogs.{CleanerCopies}
-use Rattle.node_slots.specs.node_tie.ManagerEvents.{HeldAt, ManagerAgrees, ManagerGoes, NamedBy, NamedIn, Names, TakingAt, epoch_in, is_serving, is_waiting, slot_in}
+use Rattle.node_slots.specs.node_tie.ManagerEvents.{HeldAt, ManagedAt, ManagerAgrees, ManagerGoes, NamedBy, NamedIn, Names, TakingAt, epoch_in, is_serving, is_waiting, slot_in}
 use Rattle.node_slots.specs.node_tie.Sight.{ManagerDoes, ManagerSends}
 use Rattle.registry_node.specs.declared.node.RegistryNode.{RegistryNode}
 use Rattle.token_client.specs.State.{TokensState}
@@ -37,9 +37,11 @@ use Rattle.run_laws.proofs.world_law.ClientTurns.{number, welcome_frame}
 use Rattle.run_laws.proofs.world_law.Facts.{Grown, fact_stays}
 use Rattle.run_laws.proofs.world_law.Frames.{client_frame, runs_on, same_books, stands_frame}
 use Rattle.run_laws.proofs.world_law.Gets.{news_told, welcome_told}
+use Rattle.run_laws.proofs.world_law.Leaving.{SlotsGo}
 use Rattle.run_laws.proofs.world_law.Nodes.{here, there}
 use Rattle.run_laws.proofs.world_law.Sent.{in_append, sends}
 use Rattle.run_laws.specs.world_law.Standing.{AllTold, Been, Fact, ManagerSees, ManagerWelcomed, PastAt, Placed, Scene, SentBy, Stands, Welcomed, epoch_now, life_of_manager, life_told, members}
+use Rattle.run_laws.specs.world_law.Managers.{active_in, active_of}
 use Rattle.run_laws.specs.world_law.Owners.{node_in}
 use Rattle.xfs_base.specs.declared.news.SlotNews.{SlotNews}
 use Rattle.xfs_base.specs.declared.node.NodeId.{NodeId}
@@ -61,6 +63,12 @@ taking_held (phase.Taking t) e h = h
 taking_held (phase.Active a) e h = absurd h
 taking_held (phase.Away epoch) e h = absurd h
 taking_held (phase.Broken epoch seg) e h = absurd h
+
+managed_active : (p : SlotPhase) (e : ℕ) → ManagedAt p e → (a : SlotState) × (active_in p ≡ Some a) × (a.epoch ≡ e)
+managed_active (phase.Taking t) e h = absurd h
+managed_active (phase.Active a) e h = (a.slot, refl, h)
+managed_active (phase.Away epoch) e h = absurd h
+managed_active (phase.Broken epoch seg) e h = absurd h
 
 serving_waits_not : (p : Phase) → is_serving p ≡ true → is_waiting p ≡ true → ⊥
 serving_waits_not (Down kept) s w = absurd (cc)
@@ -139,6 +147,18 @@ module _ (logs : Bool) (k : Cluster) (part : ℕ) (RegistrySound : RegistryNode 
     promises = omega (arith, promised);
     cleaner = λ m life h. subst (λ x. CleanerWelcomed part x (epoch_now k part s) s.cleaner.phase m) (sym promised) h;
   }
+
+  -- a slot changes only where the manager manages it after its turn
+  pub slots_go : SlotsGo k part nodes_now s.net go.next
+  slots_go e =
+      ⊎_elim (λ same. inl same)
+      (λ managed. let m = managed_active (slot_in part w.state) e managed in inr (record {
+        manager = j;
+        state = m.0;
+        manages = ap (active_of part) (here k nodes (Manager j) p at (any.Manager after_node) (any.Manager (s.manager j)) premise) ∙ m.1;
+        epoch = m.2;
+      }))
+      (go.changed e)
 
   placed : Placed k part nodes_now sent_now manager_scene
   placed = record {

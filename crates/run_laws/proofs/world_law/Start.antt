@@ -28,12 +28,15 @@ use Rattle.token_law.specs.Net.{opening}
 use Rattle.token_law.specs.Net.Runs.{Begun}
 use Rattle.token_manager.specs.SlotState.{SlotState}
 use Rattle.token_protocol.proofs.Refining.{put_each}
+use Rattle.xfs_base.proofs.Booleans.{equal_itself}
 use Rattle.xfs_base.specs.Blocks.{slot_of}
 use Rattle.world_base.specs.Cluster.{place_of, place_behind, cluster_of, node_at, node_count, nodes_of}
 use Rattle.world_base.specs.declared.cluster.Cluster.{Cluster}
 use Rattle.world_base.specs.Items.{items_of}
 use Rattle.world_base.specs.NextWorld.{first_node, first_nodes}
+use Rattle.run_laws.proofs.world_law.Leaving.{ManagedIn}
 use Rattle.run_laws.proofs.world_law.Places.{behind, node_at_place, some_place}
+use Rattle.run_laws.specs.world_law.Managers.{active_in, active_of}
 use Rattle.run_laws.specs.world_law.Standing.{ManagerSees, Placed, PastAt, Scene, Stands, epoch_now, manager_now, members}
 use Rattle.run_laws.specs.world_law.Owners.{node_in}
 use Rattle.version_model.specs.declared.work.Work.{Work}
@@ -148,6 +151,30 @@ module _ (logs : Bool) (first_asks : StartsAsking) (first_agrees : FirstManagerA
     known = λ serves. (let a = begun.incarnations j in omega arith);
     told = (let a = begun.incarnations j in omega arith);
   })
+
+  -- at the start that manages it, at epoch 1
+  abbrev first_lord : ℕ
+  first_lord = (entry_at (start_entries script.setup.managers) (slot_of part)).manager
+
+  first_managed : ManagedIn k part (first_nodes any_start script k) 1
+  first_managed =
+      let itself : (first_lord == first_lord) ≡ true = equal_itself first_lord in
+      let now : manager_now k part start_scene ≡ first_lord =
+      mine first_lord 1 (first_lord == first_lord) refl (subst (λ t. HeldAt (cond t first_active (phase.Away 1)) 1) (sym itself) refl) in
+      let one = one_of_them in
+      let f = first_agrees (members k part) part first_lord script.setup (items_of script.lines (Manager first_lord)) of_eight in
+      record {
+        manager = first_lord;
+        state = _;
+        manages = ap (active_of part) (placed.managers first_lord (subst (λ x. 0 < x) now one.0) (subst (λ x. x ≤ script.setup.managers) now one.1))
+            ∙ ap active_in (f.slot ∙ ap (λ t. cond t first_active (phase.Away 1)) itself);
+        epoch = refl;
+      }
+
+  -- no other epoch has a manager then
+  pub managed_first : (e : ℕ) (z : SlotState) → opening.slots e ≡ Some z → ManagedIn k part (first_nodes any_start script k) e
+  managed_first = put_each (λ e o. (z : SlotState) → o ≡ Some z → ManagedIn k part (first_nodes any_start script k) e) (λ e. None) 1 (opening.slots 1)
+      (λ z fact. first_managed) (λ e other z fact. absurd (cc))
 
   entered : (e : ℕ) (z : SlotState) → opening.slots e ≡ Some z
       → (e ≤ epoch_now k part start_scene) × (0 < manager_now k part start_scene) × (manager_now k part start_scene ≤ script.setup.managers)

@@ -41,7 +41,7 @@ use Rattle.run_laws.proofs.world_law.Facts.{Grown}
 use Rattle.run_laws.proofs.world_law.Falls.{FallsStand, client_falls, falls_stay}
 use Rattle.run_laws.proofs.world_law.Gets.{client_gets, cleaner_gets, manager_gets}
 use Rattle.run_laws.proofs.world_law.ManagerTurns as reigning
-use Rattle.run_laws.proofs.world_law.Leaving.{NoneLeaves, none_leaves}
+use Rattle.run_laws.proofs.world_law.Leaving.{NoneLeaves, SlotsGo, none_leaves}
 use Rattle.run_laws.proofs.world_law.ManagerTurns.{delivered, manager_scene, manager_turn}
 use Rattle.run_laws.proofs.world_law.OtherTurns as others
 use Rattle.run_laws.proofs.world_law.OtherTurns.{cleaner_scene, cleaner_turn, said_fact, said_grown, said_scene, said_stands, server_turn}
@@ -80,6 +80,7 @@ module _ (laws : NodeLaws) (logs : Bool) (k : Cluster) (part : ℕ) (of_eight : 
           (acts ++ (any_step node what).acts) RegistrySound next
       pub since : Since k part s next
       pub stay : NoneLeaves s.net next.net
+      pub slots : SlotsGo k part (slice_set nodes place (any_step node what).node) s.net next.net
       pub books : BooksGo logs adopted s.net next.net name node what
       pub falls : FallsStand (members k part) s.net acts → FallsStand (members k part) next.net (acts ++ (any_step node what).acts)
 
@@ -132,6 +133,7 @@ module _ (laws : NodeLaws) (logs : Bool) (k : Cluster) (part : ℕ) (of_eight : 
               since = since_of k part s _ (clients.grown logs k part RegistrySound nodes sent acts s st c place clock b.some less at here
                   (takes (s.client c) what) go asks) (λ j life e past. past);
               stay = λ e none. sym (go.slots e) ∙ none;
+              slots = λ e. inl (go.slots e);
               books = record { others = go.books; own = go.log };
               falls = λ falls. client_falls (members k part) logs part (epoch_now k part s) c b.some less s.net
                   (Client (lasting_of (s.client c).phase).number) acts falls
@@ -180,6 +182,8 @@ module _ (laws : NodeLaws) (logs : Bool) (k : Cluster) (part : ℕ) (of_eight : 
                   (reigning.past_on logs k part RegistrySound nodes sent acts s st j place clock b.some b.within at here what fact
                   (happens (s.manager j) what) go);
               stay = none_leaves logs (members k part) part s.net go.next go.runs;
+              slots = reigning.slots_go logs k part RegistrySound nodes sent acts s st j place clock b.some b.within at here what fact
+                  (happens (s.manager j) what) go;
               books = go.books;
               falls = falls_stay (members k part) s.net go.next acts _ go.tokens go.up
                   (all_neutral (ManagerDoes part go.next.sent (epoch_now k part s) (managers.lasting_of after.state).inc)
@@ -196,6 +200,7 @@ module _ (laws : NodeLaws) (logs : Bool) (k : Cluster) (part : ℕ) (of_eight : 
           (said_stands logs k part RegistrySound nodes sent acts s st (server_step there.0 what).acts says.1) place clock what n at there.0 here says.0;
       since = since_of k part s _ (said_grown logs k part RegistrySound nodes sent acts s st (server_step there.0 what).acts says.1) (λ j life e past. past);
       stay = λ e none. none;
+      slots = λ e. inl refl;
       books = refl;
       falls = falls_stay (members k part) s.net _ acts _ refl refl says.1;
     })
@@ -240,6 +245,7 @@ module _ (laws : NodeLaws) (logs : Bool) (k : Cluster) (part : ℕ) (of_eight : 
               stands = cleaner_turn logs k part RegistrySound nodes sent acts s st place clock at here went go run;
               since = since_of k part s _ (others.grown logs k part RegistrySound nodes sent acts s st place clock at here went go run) (λ j life e past. past);
               stay = λ e none. none;
+              slots = λ e. inl refl;
               books = record { others = run.others; own = run.own };
               falls = falls_stay (members k part) s.net _ acts _ refl refl
                   (all_neutral (CleanerDoes part go.next (cleaners.lasting_of went.state).inc) Cleaner (λ a reason. reason) went.outs
@@ -260,6 +266,7 @@ module _ (laws : NodeLaws) (logs : Bool) (k : Cluster) (part : ℕ) (of_eight : 
             past = λ j life e past. past;
           });
       stay = λ e none. none;
+      slots = λ e. inl refl;
       books = refl;
       falls = falls_stay (members k part) s.net _ acts _ refl refl go.acts;
     })
@@ -309,6 +316,7 @@ module _ (laws : NodeLaws) (logs : Bool) (k : Cluster) (part : ℕ) (of_eight : 
       pub stands : Stands logs k part nodes sent acts RegistrySound next
       pub since : Since k part s next
       pub stay : NoneLeaves s.net next.net
+      pub slots : SlotsGo k part nodes s.net next.net
       pub books : (next.net.books ≡ s.net.books)
           ⊎ ((node : AnyNode) × (node_in w.nodes (place_of k (node_of event)) ≡ Some node)
           × BooksGo logs adopted s.net next.net (node_of event) node (what_of event))
@@ -329,6 +337,7 @@ module _ (laws : NodeLaws) (logs : Bool) (k : Cluster) (part : ℕ) (of_eight : 
         past = λ j life e past. past;
       };
       stay = λ e none. none;
+      slots = λ e. inl refl;
       books = inl refl;
       falls = λ falls. falls;
     })
@@ -338,4 +347,4 @@ module _ (laws : NodeLaws) (logs : Bool) (k : Cluster) (part : ℕ) (of_eight : 
         let t = turns w.nodes w.sent w.acts s st place clock (what_of event) adopted (node_of event)
         (delivered_fact w.sent s st.facts w refl event may) at_k node reason
         (owed node there) in
-        record { next = t.next; stands = t.stands; since = t.since; stay = t.stay; books = inr (node, there, t.books); falls = t.falls })
+        record { next = t.next; stands = t.stands; since = t.since; stay = t.stay; slots = t.slots; books = inr (node, there, t.books); falls = t.falls })
