@@ -1,2 +1,3 @@
 mod Small
+mod Fronts
 mod Runs

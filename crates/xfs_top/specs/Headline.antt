@@ -56,7 +56,8 @@ pub record IsSafe (e : Estate AnyNode) : Type 0 where
   pub holders_newest : HoldersAreNewestThroughout e
   -- nor has a slot two managers at one epoch, or one above the registry's; whoever serves has promised each epoch that is managed
   pub one_manager : OneManagerThroughout e
-  -- and who manages it at an epoch, deposed or not, believes of each client that has promised just that what it holds, reads or would still accept
+  -- and who manages it at an epoch, or did last, believes of each client that has promised just that, and of all until one does at a greater epoch, what it
+  -- holds, reads or would still accept
   pub beliefs : BelievedThroughout e
   -- nobody holds what a client fell with until it is back, no client falls again before, and no fall names a block twice
   pub nobody_holds : NobodyHoldsThroughout e

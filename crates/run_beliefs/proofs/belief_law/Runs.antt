@@ -1,19 +1,19 @@
--- At each moment of a run what a manager believes of a client that has promised its epoch is what the manager that reigns in the small world of tokens believes.
-use Rattle.std.proofs.Common.{◌≡◌, ℕ, ◌≤◌, ◌<◌, false, true, Some, is_some, sym, ap, subst, ◌∙◌}
+-- At each moment of a run what a manager believes, or believed when it managed a slot last, is what the manager that reigns in the small world of tokens
+-- believes: of a client that has promised its epoch, and of each client until one manages the slot at a greater epoch.
+use Rattle.std.proofs.Common.{◌≡◌, ◌⊎◌, ⊎_elim, ℕ, ◌≤◌, ◌<◌, false, true, Some, is_some, sym, ap, subst, ◌∙◌, arith}
 use Rattle.core_world.specs.AnyNode.{any_start, any_step}
 use Rattle.core_world.specs.declared.any_node.AnyNode.{AnyNode}
 use Rattle.node_base.specs.Setups.{IsSetup}
 use Rattle.node_slots.specs.node_tie.Promised.{with_promise}
 use Rattle.node_slots.specs.node_tie.RegistryEvents.{RegistrySound}
 use Rattle.node_slots.specs.node_tie.Sight.{ForwardSeen, GrantSeen, SupplySeen}
+use Rattle.run_beliefs.proofs.belief_law.Fronts.{Front, HasLast, front_at, same_cluster}
 use Rattle.run_beliefs.proofs.belief_law.Small.{fetches_believed, forwards_believed, reigns_where_promised, supplies_believed}
-use Rattle.run_beliefs.specs.belief_law.Beliefs.{AreOfOneEpoch, Believes, EveryRunsManagersBelieve}
+use Rattle.run_beliefs.specs.belief_law.Beliefs.{Believes, EveryRunsManagersBelieve, NoneLater, WasLast}
 use Rattle.run_laws.proofs.world_law.Gets.{grant_told}
-use Rattle.run_laws.proofs.world_law.Laws.{NodeLaws, ServesThere, front, serves_there}
-use Rattle.run_laws.proofs.world_law.Managers.{There, manages_there}
+use Rattle.run_laws.proofs.world_law.Laws.{NodeLaws, ServesThere, serves_there}
 use Rattle.run_laws.proofs.world_law.Sent.{was_sent}
-use Rattle.run_laws.specs.world_law.Managers.{active_of}
-use Rattle.run_laws.specs.world_law.Owners.{moment, node_in, tokens_of}
+use Rattle.run_laws.specs.world_law.Owners.{moment, node_in, tokens_at, tokens_of}
 use Rattle.run_laws.specs.world_law.Standing.{Scene, SentBy, Stands, members}
 use Rattle.slot_beliefs.specs.Beliefs.{share_of}
 use Rattle.token_client.specs.State.{TokensState, epoch_of, held_of, is_in_slot}
@@ -76,39 +76,49 @@ module _ (below : Below) (e : Estate AnyNode) (setup : IsSetup e.script.setup) (
   abbrev k : Cluster
   k = cluster_of e.script.setup
 
-  same_cluster : w.cluster ≡ k
-  same_cluster = (front below.nodes e setup run count part of_eight).0
+  f : Front below.nodes e setup run part of_eight count
+  f = front_at below.nodes e setup run part of_eight count
 
   abbrev now : Scene
-  now = (front below.nodes e setup run count part of_eight).1.0
+  now = f.scene
 
   st : Stands false k part w.nodes w.sent w.acts RegistrySound now
-  st = (front below.nodes e setup run count part of_eight).1.1
+  st = f.stands
 
   abbrev net : Net
   net = with_promise 1 now.net
 
-  module _ (j c : ℕ) (s : SlotState) (t : TokensState) (of_one : AreOfOneEpoch w part j c s t) where
-    manages : There k part w.nodes w.sent w.acts now st j s
-    manages =
-        manages_there k part w.nodes w.sent w.acts now st j s
-        (subst (λ cl. active_of part (node_in w.nodes (place_of cl (Manager j))) ≡ Some s) same_cluster of_one.manages)
+  module _ (j c : ℕ) (s : SlotState) (t : TokensState) (was_last : WasLast e count part j s) (serves_now : tokens_at w c ≡ Some t)
+      (owed : (s.epoch ≡ epoch_of t.epochs part) ⊎ NoneLater e count part s.epoch) where
+    manages : HasLast below.nodes e setup run part of_eight now j s
+    manages = f.last j s was_last
 
     serves : ServesThere below.nodes k part of_eight now c t
     serves =
         serves_there below.nodes k part of_eight w.nodes w.sent w.acts now st c t
-        (subst (λ cl. tokens_of (node_in w.nodes (place_of cl (Client c))) ≡ Some t) same_cluster of_one.serves)
+        (subst (λ cl. tokens_of (node_in w.nodes (place_of cl (Client c))) ≡ Some t) (same_cluster below.nodes e setup run part of_eight count) serves_now)
 
     module _ (b : BlockId) (inside : is_in_slot part b ≡ true) where
       here : Moment false (members k part) part net b
       here = record { run = st.runs; inside = inside }
 
+      -- none manages the slot at a greater epoch in the small world, where none did in the run
+      latest : NoneLater e count part s.epoch → (epoch : ℕ) (z : SlotState) → net.slots epoch ≡ Some z → epoch ≤ s.epoch
+      latest none epoch z there =
+          let m = f.managed epoch z there in
+          let low = none m.at m.manager m.state m.within m.managed in
+          let same = m.epoch_is in
+          omega arith
+
       reigns : Reigns net s.epoch manages.slot
       reigns =
-          reigns_where_promised below.promised false (members k part) part net b here s.epoch manages.slot manages.there c serves.client
-          (of_one.promised ∙ ap (λ (x : TokensState). epoch_of x.epochs part) (sym serves.tokens))
+          ⊎_elim
+          (λ promised. reigns_where_promised below.promised false (members k part) part net b here s.epoch manages.slot manages.there c serves.client
+          (promised ∙ ap (λ (x : TokensState). epoch_of x.epochs part) (sym serves.tokens)))
+          (λ none. record { active = manages.there; latest = latest none })
+          owed
 
-      -- what the slot that reigns there believes the manager believes
+      -- what the slot that reigns there believes the manager believes, or believed when it managed the slot last
       by_beliefs : (n : ℕ) → n ≤ share_of manages.slot.beliefs b c → n ≤ share_of s.beliefs b c
       by_beliefs n least = subst (λ beliefs. n ≤ share_of beliefs b c) (ap (λ (z : SlotState). z.beliefs) manages.same) least
 
@@ -159,4 +169,5 @@ module _ (below : Below) (e : Estate AnyNode) (setup : IsSetup e.script.setup) (
     }
 
 pub every_runs_managers_believe : Below → EveryRunsManagersBelieve
-every_runs_managers_believe below e setup run count part of_eight j c s t of_one = believes below e setup run count part of_eight j c s t of_one
+every_runs_managers_believe below e setup run count part of_eight j c s t was_last serves owed =
+    believes below e setup run count part of_eight j c s t was_last serves owed
