@@ -1,6 +1,6 @@
 -- Each moment of a run stands to the small world of a slot, whose slots were managed by then; and where a manager was the last to manage the slot at an epoch,
 -- the small world still has what it had at the last moment at which it did.
-use Rattle.std.proofs.Common.{◌≡◌, ◌⊎◌, ⊎_elim, ℕ, zero, suc, ◌==◌, ◌≤◌, ◌<◌, Bool, true, false, List, [], ◌∷◌, None, Some, take, inl, inr, refl, sym, ap, subst, ◌∙◌, arith}
+use Rattle.std.proofs.Common.{◌≡◌, ◌⊎◌, ⊎_elim, ℕ, zero, suc, ◌==◌, ◌≤◌, ◌<◌, Bool, true, false, List, [], ◌∷◌, Some, take, inl, inr, refl, sym, ap, subst, ◌∙◌, arith}
 use Rattle.std.specs.List.{fold}
 use Rattle.std.proofs.lemmas.Bool.{eqb-true}
 use Rattle.std.proofs.lemmas.Bool.Decides.{nat_tests}
@@ -18,8 +18,7 @@ use Rattle.run_laws.proofs.world_law.Turns.{event_turns}
 use Rattle.run_laws.specs.world_law.Managers.{active_at, active_of}
 use Rattle.run_laws.specs.world_law.Owners.{moment, node_in}
 use Rattle.run_laws.specs.world_law.Since.{Since}
-use Rattle.run_laws.specs.world_law.Standing.{Scene, Stands, epoch_now, members}
-use Rattle.token_law.specs.Net.{Net}
+use Rattle.run_laws.specs.world_law.Standing.{Scene, Stands, epoch_now}
 use Rattle.token_manager.specs.SlotState.{SlotState}
 use Rattle.world_base.specs.Cluster.{cluster_of, place_of}
 use Rattle.world_base.specs.declared.cluster.Cluster.{Cluster}
