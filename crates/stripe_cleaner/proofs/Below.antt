@@ -1,7 +1,7 @@
 -- What is read and deleted is below the least horizon of its log.
 use Rattle.std.proofs.Common.{◌≡◌, ℕ, zero, suc, ◌<◌, Bool, true, cond, List, [], ◌∷◌, ◌++◌, Option, Some, None, map, take, length, refl, arith}
 use Rattle.std.specs.Prelude.{fold, ◌==◌, ◌&&◌, not, nat_lt}
-use Rattle.std.specs.List.{AllByRecursion, cons_option}
+use Rattle.std.specs.List.{AllByRecursion}
 use Rattle.std.specs.declared.cmp.Ordering.{Ordering}
 use Rattle.std.specs.declared.cmp.Ordering.TheVariants.{Less, Equal, Greater}
 use Rattle.std.specs.Ordering.{match_ordering}
@@ -28,17 +28,18 @@ use Rattle.stripe_cleaner.specs.declared.output.Out.TheVariants as out
 use Rattle.stripe_cleaner.specs.declared.phase.Phase.{Phase}
 use Rattle.stripe_cleaner.specs.declared.phase.Phase.TheVariants.{Greeting, Listing, Counting, Reading, Checking, Deleting, Over}
 use Rattle.stripe_cleaner.specs.Candidates.{is_cleaned, is_candidate, least_horizon, candidates_with_one, candidates_with}
-use Rattle.stripe_cleaner.specs.Checks.{all_dead, any_asked, live_at, dead_at, moved_at, moves, questions, checks_from, is_awaited, place_in}
+use Rattle.stripe_cleaner.specs.Checks.{all_dead, any_asked, live_at, dead_at, moved_at, moves, questions, checks_from}
 use Rattle.stripe_cleaner.specs.CleaningState.{CleaningState, started}
 use Rattle.stripe_cleaner.specs.Counting.{CountingState, fullness_cmp, fullness_of, by_fullness_with_one, by_fullness, segment_at, chosen, has_usage, is_counted, awaited_slots, all_slots}
 use Rattle.stripe_cleaner.specs.Histories.{state_after, IsWelcomed, IsBelow, EmptiesBelow}
-use Rattle.stripe_cleaner.specs.Job.{Turn, next_of, next, deletes, servers_of, deleting, counted, left_to_delete, same_name, on_deleted, checking, on_read, looked_at, is_moving, on_moved}
+use Rattle.stripe_cleaner.specs.Job.{Turn, next_of, next, servers_of, deleting, counted, left_to_delete, same_name, on_deleted, checking, on_read, looked_at, is_moving, on_moved}
 use Rattle.stripe_cleaner.specs.JobState.{JobState}
 use Rattle.stripe_cleaner.specs.Listing.{ListingState, begun, is_among, without}
 use Rattle.stripe_cleaner.specs.Promises.{promised_with, is_above, is_promised}
 use Rattle.stripe_cleaner.specs.Transition as step
-use Rattle.stripe_cleaner.specs.Transition.{Done, turned, is_greeting, lists, usage_asks, welcomed, on_welcome, forgotten, forgetting, on_promise, mapped, listed, heard, on_list, usage_with, on_counts, listed_in, counted_in, read_in, answered_in, moved_in, deleted_in, awaits, on_usage, is_heard, may_move, on_live, on_dead, transition}
+use Rattle.stripe_cleaner.specs.Transition.{Done, turned, is_greeting, usage_asks, welcomed, on_welcome, forgotten, forgetting, on_promise, mapped, listed, heard, on_list, usage_with, on_counts, listed_in, counted_in, read_in, answered_in, moved_in, deleted_in, awaits, on_usage, is_heard, may_move, on_live, on_dead, transition}
 use Rattle.stripe_cleaner.proofs.Histories.{split_with, always}
+use Rattle.stripe_cleaner.proofs.Turns.{says_deletes, says_lists, says_usage_asks, says_questions}
 
 -- ---- keys of a table
 
@@ -137,31 +138,12 @@ module _ (start : CleaningState) where
     abbrev Fine : Turn → Type 0
     Fine turn = BelowIn turn.state × Says turn.outs
 
-    says_deletes : (name : SegName) (servers : List ℕ) → Below name → Says (deletes name servers)
-    says_deletes name [] b = tt
-    says_deletes name (s ∷ ss) b = (b, says_deletes name ss b)
-
-    says_lists : (servers : List ℕ) → Says (lists servers)
-    says_lists [] = tt
-    says_lists (s ∷ ss) = (tt, says_lists ss)
-
-    says_usage_asks : (slots : List ℕ) → Says (usage_asks slots)
-    says_usage_asks [] = tt
-    says_usage_asks (s ∷ ss) = (tt, says_usage_asks ss)
-
-    says_questions : (segment : SegRef) (checks : List Check) → Says (questions segment checks)
-    says_questions segment [] = tt
-    says_questions segment (c ∷ cs) =
-        by_test (λ (o : Option Out). Says (cons_option o (questions segment cs))) (is_awaited c.fate) (Some (out.Check c.block (place_in segment c.item))) None
-        (λ t. (tt, says_questions segment cs))
-        (λ t. says_questions segment cs)
-
     next_is_below : (left : List SegRef) (j : JobState) → AllByRecursion (λ (s : SegRef). Below s.name) left → Fine (next_of left j)
     next_is_below [] j all = (tt, (tt, tt))
     next_is_below (s ∷ left) j all = ((all.0, all.1), (all.0, tt))
 
     deleting_is_below : (j : JobState) (segment : SegRef) → AllBelow j segment → Fine (deleting j segment)
-    deleting_is_below j segment b = (b, says_deletes segment.name (servers_of j.groups segment) b.0)
+    deleting_is_below j segment b = (b, says_deletes (EmptiesBelow start history) segment.name (λ server. b.0) (servers_of j.groups segment))
 
     deleted_is_below : (server : ℕ) (name : SegName) (j : JobState) (segment : SegRef) (servers : List ℕ) → AllBelow j segment
         → Fine (on_deleted server name j segment servers)
@@ -177,7 +159,7 @@ module _ (start : CleaningState) where
     checking_is_below j segment checks b =
         by_test Fine (all_dead checks) (deleting j segment) (record { state = Checking j segment checks; outs = questions segment checks })
         (λ t. deleting_is_below j segment b)
-        (λ t. (b, says_questions segment checks))
+        (λ t. (b, says_questions (EmptiesBelow start history) (λ block place. tt) segment checks))
 
     looked_is_below : (j : JobState) (segment : SegRef) (was_asked : Bool) (checks : List Check) → AllBelow j segment
         → Fine (looked_at j segment was_asked checks)
@@ -194,7 +176,7 @@ module _ (start : CleaningState) where
     moved_is_below j segment checks b =
         by_test Fine (is_moving checks) (record { state = Checking j segment (map moved_at checks); outs = questions segment (map moved_at checks) })
         (still (Checking j segment checks))
-        (λ t. (b, says_questions segment (map moved_at checks)))
+        (λ t. (b, says_questions (EmptiesBelow start history) (λ block place. tt) segment (map moved_at checks)))
         (λ t. (b, tt))
 
     read_is_below : (read : Option Segment) (j : JobState) (segment : SegRef) → AllBelow j segment → Fine (on_read read j segment)
@@ -212,7 +194,7 @@ module _ (start : CleaningState) where
         (λ t. (
           all_moved_to (λ name. is_candidate l.slots name ≡ true) Below (keys_of l.candidates)
               (λ name c. record { slots = l.slots; welcomed = b.0; below = candidate_is_below l.slots name c }) b.1,
-          says_usage_asks all_slots,
+          says_usage_asks (EmptiesBelow start history) (λ slot. tt) all_slots,
         ))
         (λ t. (b, tt))
 
@@ -272,11 +254,11 @@ module _ (start : CleaningState) where
 
     awaits_below : (p : Phase) → BelowIn p → Says (awaits p)
     awaits_below Greeting b = (tt, tt)
-    awaits_below (Listing l) b = says_lists l.awaited
-    awaits_below (Counting c) b = says_usage_asks (awaited_slots c.usages)
+    awaits_below (Listing l) b = says_lists (EmptiesBelow start history) (λ server. tt) l.awaited
+    awaits_below (Counting c) b = says_usage_asks (EmptiesBelow start history) (λ slot. tt) (awaited_slots c.usages)
     awaits_below (Reading j segment) b = (b.0, tt)
-    awaits_below (Checking j segment checks) b = says_questions segment checks
-    awaits_below (Deleting j segment servers) b = says_deletes segment.name servers b.0
+    awaits_below (Checking j segment checks) b = says_questions (EmptiesBelow start history) (λ block place. tt) segment checks
+    awaits_below (Deleting j segment servers) b = says_deletes (EmptiesBelow start history) segment.name (λ server. b.0) servers
     awaits_below Over b = tt
 
   abbrev FineDone : List In → Done → Type 0
@@ -312,7 +294,7 @@ module _ (start : CleaningState) where
       by_test (FineDone (history ++ input.Welcome slots groups ∷ [])) (is_greeting s.phase && (length slots == slot_count)) (welcomed s slots groups) (still s)
       (λ t. (
         (record { groups = groups; before = history; later = []; split = refl; awaited = and_first (is_greeting s.phase) (length slots == slot_count) t }, tt),
-        says_lists (history ++ input.Welcome slots groups ∷ []) (begun slots groups).awaited,
+        says_lists (EmptiesBelow start (history ++ input.Welcome slots groups ∷ [])) (λ server. tt) (begun slots groups).awaited,
       ))
       (λ t. (b, tt))
 

@@ -1,7 +1,7 @@
 -- What is deleted is emptied.
 use Rattle.std.proofs.Common.{◌≡◌, ℕ, ◌+◌, Bool, true, false, cond, List, [], ◌∷◌, ◌++◌, Option, Some, None, map, length, refl, sym, ap, subst, ◌∙◌}
-use Rattle.std.specs.Prelude.{◌==◌, ◌&&◌, not}
-use Rattle.std.specs.List.{AllByRecursion, cons_option}
+use Rattle.std.specs.Prelude.{◌==◌, ◌&&◌}
+use Rattle.std.specs.List.{AllByRecursion}
 use Rattle.std.proofs.lemmas.Map.Views.{tells_apart}
 use Rattle.group_map.specs.GroupMapState.{GroupMapState}
 use Rattle.segment_format.specs.declared.segment.Item.{Item}
@@ -9,10 +9,8 @@ use Rattle.segment_format.specs.declared.segment.Item.TheVariants.{Block, Delta,
 use Rattle.segment_format.specs.declared.segment.Segment.{Segment}
 use Rattle.xfs_base.specs.declared.block.BlockId.{BlockId}
 use Rattle.xfs_base.specs.declared.entry.Entry.{Entry}
-use Rattle.xfs_base.specs.declared.fragment.FragMeta.{FragMeta}
 use Rattle.xfs_base.specs.declared.news.SlotNews.{SlotNews}
 use Rattle.xfs_base.specs.declared.segment.SegName.{SegName}
-use Rattle.xfs_base.specs.declared.segment.SegRef.{SegRef}
 use Rattle.xfs_base.specs.Blocks.{same_block}
 use Rattle.xfs_base.specs.Steps.{still}
 use Rattle.xfs_base.proofs.Booleans.{by_test, and_first, and_second}
@@ -25,21 +23,18 @@ use Rattle.stripe_cleaner.specs.declared.checks.Fate.TheVariants as fate
 use Rattle.stripe_cleaner.specs.declared.input.In.{In}
 use Rattle.stripe_cleaner.specs.declared.input.In.TheVariants as input
 use Rattle.stripe_cleaner.specs.declared.output.Out.{Out}
-use Rattle.stripe_cleaner.specs.declared.output.Out.TheVariants as out
 use Rattle.stripe_cleaner.specs.declared.phase.Phase.{Phase}
-use Rattle.stripe_cleaner.specs.declared.phase.Phase.TheVariants.{Greeting, Listing, Counting, Reading, Checking, Deleting, Over}
-use Rattle.stripe_cleaner.specs.Checks.{checks_from, after_live, after_dead, after_moved, live_at, dead_at, moved_at, is_dead, is_awaited, any_asked, all_dead, place_in, questions, moves}
+use Rattle.stripe_cleaner.specs.declared.phase.Phase.TheVariants.{Reading, Checking, Deleting}
+use Rattle.stripe_cleaner.specs.Checks.{checks_from, after_live, after_dead, after_moved, live_at, dead_at, moved_at, is_dead, any_asked, all_dead, questions}
 use Rattle.stripe_cleaner.specs.CleaningState.{CleaningState, started}
-use Rattle.stripe_cleaner.specs.Counting.{CountingState, has_usage, is_counted, awaited_slots, all_slots, chosen}
 use Rattle.stripe_cleaner.specs.Histories.{state_after, Stage, stage_at_live, stage_at_dead, stage_at_moved, awaits_moved, stage_with, stage_from, stage_after, blocks_of, reads, IsEmptied, DeletesEmptied}
 use Rattle.stripe_cleaner.specs.Histories.Stage.{Asked, Live, Moved, Dead}
-use Rattle.stripe_cleaner.specs.Job.{Turn, next_of, next, deletes, servers_of, deleting, counted, left_to_delete, same_name, on_deleted, checking, looked_at, is_moving}
-use Rattle.stripe_cleaner.specs.JobState.{JobState}
-use Rattle.stripe_cleaner.specs.Listing.{ListingState, begun, is_among, without}
+use Rattle.stripe_cleaner.specs.Job.{Turn, same_name, checking, is_moving}
+use Rattle.stripe_cleaner.specs.Listing.{begun}
 use Rattle.stripe_cleaner.specs.Promises.{promised_with, is_above, is_promised}
-use Rattle.stripe_cleaner.specs.Transition as step
-use Rattle.stripe_cleaner.specs.Transition.{Done, turned, is_greeting, lists, usage_asks, welcomed, on_welcome, forgotten, forgetting, on_promise, mapped, listed, heard, usage_with, listed_in, counted_in, read_in, answered_in, moved_in, deleted_in, awaits, on_usage, is_heard, may_move, on_live, on_dead, transition}
+use Rattle.stripe_cleaner.specs.Transition.{Done, turned, is_greeting, welcomed, on_welcome, forgetting, on_promise, counted_in, read_in, answered_in, moved_in, on_usage, is_heard, may_move, on_live, on_dead, transition}
 use Rattle.stripe_cleaner.proofs.Histories.{split_with, always}
+use Rattle.stripe_cleaner.proofs.Turns.{Carries, says_lists, says_questions, next_fine, checking_fine, looked_fine, listed_in_fine, counted_in_fine, forgetting_fine, mapped_fine, deleted_in_fine, awaits_fine}
 
 -- ---- stages
 
@@ -256,107 +251,23 @@ module _ (start : CleaningState) where
     abbrev Fine : Turn → Type 0
     Fine turn = KnownIn turn.state × Says turn.outs
 
-    says_deletes : (name : SegName) (servers : List ℕ) → IsEmptied start history name → Says (deletes name servers)
-    says_deletes name [] e = tt
-    says_deletes name (s ∷ ss) e = (e, says_deletes name ss e)
-
-    says_lists : (servers : List ℕ) → Says (lists servers)
-    says_lists [] = tt
-    says_lists (s ∷ ss) = (tt, says_lists ss)
-
-    says_usage_asks : (slots : List ℕ) → Says (usage_asks slots)
-    says_usage_asks [] = tt
-    says_usage_asks (s ∷ ss) = (tt, says_usage_asks ss)
-
-    says_questions : (segment : SegRef) (checks : List Check) → Says (questions segment checks)
-    says_questions segment [] = tt
-    says_questions segment (c ∷ cs) =
-        by_test (λ (o : Option Out). Says (cons_option o (questions segment cs))) (is_awaited c.fate) (Some (out.Check c.block (place_in segment c.item))) None
-        (λ t. (tt, says_questions segment cs))
-        (λ t. says_questions segment cs)
-
-    next_fine : (left : List SegRef) (j : JobState) → Fine (next_of left j)
-    next_fine [] j = (tt, (tt, tt))
-    next_fine (s ∷ left) j = (tt, (tt, tt))
-
-    deleting_fine : (j : JobState) (segment : SegRef) → IsEmptied start history segment.name → Fine (deleting j segment)
-    deleting_fine j segment e = (e, says_deletes segment.name (servers_of j.groups segment) e)
-
-    deleted_fine : (server : ℕ) (name : SegName) (j : JobState) (segment : SegRef) (servers : List ℕ) → IsEmptied start history segment.name
-        → Fine (on_deleted server name j segment servers)
-    deleted_fine server name j segment servers e =
-        by_test Fine (same_name name segment.name && is_among servers server) (left_to_delete j segment (without servers server))
-        (still (Deleting j segment servers))
-        (λ t. by_test Fine (length (without servers server) == 0) (next (counted j)) (still (Deleting j segment (without servers server)))
-        (λ u. next_fine j.left (counted j)) (λ u. (e, tt)))
-        (λ t. (e, tt))
-
-    checking_fine : (j : JobState) (segment : SegRef) (checks : List Check) → IsChecked history segment.name checks → Fine (checking j segment checks)
-    unfolding checking
-    checking_fine j segment checks k =
-        by_test Fine (all_dead checks) (deleting j segment) (record { state = Checking j segment checks; outs = questions segment checks })
-        (λ t. deleting_fine j segment (emptied_from history segment.name checks t k))
-        (λ t. (k, says_questions segment checks))
-
-    looked_fine : (j : JobState) (segment : SegRef) (was_asked : Bool) (checks : List Check) → IsChecked history segment.name checks
-        → Fine (looked_at j segment was_asked checks)
-    unfolding looked_at
-    looked_fine j segment was_asked checks k =
-        by_test Fine (all_dead checks) (deleting j segment)
-        (cond (was_asked && not (any_asked checks)) (record { state = Checking j segment checks; outs = out.Move (moves checks) ∷ [] })
-        (still (Checking j segment checks)))
-        (λ t. deleting_fine j segment (emptied_from history segment.name checks t k))
-        (λ t. by_test Fine (was_asked && not (any_asked checks)) (record { state = Checking j segment checks; outs = out.Move (moves checks) ∷ [] })
-        (still (Checking j segment checks)) (λ u. (k, (tt, tt))) (λ u. (k, tt)))
-
-    -- ---- inputs that are no answers
-
-    listed_fine : (l : ListingState) → Fine (listed l)
-    listed_fine l =
-        by_test Fine (length l.awaited == 0)
-        (record { state = Counting (record { groups = l.groups; candidates = l.candidates; usages = [] }); outs = usage_asks all_slots }) (still (Listing l))
-        (λ t. (tt, says_usage_asks all_slots))
-        (λ t. (tt, tt))
-
-    listed_in_fine : (server : ℕ) (held : List FragMeta) (p : Phase) → KnownIn p → Fine (listed_in server held p)
-    listed_in_fine server held (Listing l) k =
-        by_test Fine (is_among l.awaited server) (listed (heard l server held)) (still (Listing l)) (λ t. listed_fine (heard l server held)) (λ t. (tt, tt))
-    listed_in_fine server held p k = (k, tt)
-
-    counted_fine : (count : ℕ) (c : CountingState) → Fine (step.counted count c)
-    counted_fine count c =
-        by_test Fine (is_counted c.usages) (next (record { groups = c.groups; left = chosen count c; deleted = 0 })) (still (Counting c))
-        (λ t. next_fine (chosen count c) (record { groups = c.groups; left = chosen count c; deleted = 0 }))
-        (λ t. (tt, tt))
-
-    counted_in_fine : (count slot : ℕ) (counts : _) (p : Phase) → KnownIn p → Fine (counted_in count slot counts p)
-    counted_in_fine count slot counts (Counting c) k =
-        by_test Fine (has_usage c.usages slot) (still (Counting c)) (step.counted count (usage_with slot counts c)) (λ t. (tt, tt))
-        (λ t. counted_fine count (usage_with slot counts c))
-    counted_in_fine count slot counts p k = (k, tt)
-
-    forgetting_fine : (slot : ℕ) (p : Phase) → KnownIn p → Fine (forgetting slot p)
-    forgetting_fine slot (Counting c) k =
-        by_test Fine (has_usage c.usages slot) (record { state = Counting (forgotten slot c); outs = out.UsageAsk slot ∷ [] }) (still (Counting c))
-        (λ t. (tt, (tt, tt))) (λ t. (tt, tt))
-    forgetting_fine slot p k = (k, tt)
-
-    mapped_fine : (groups : GroupMapState) (p : Phase) → KnownIn p → KnownIn (mapped groups p)
-    mapped_fine groups (Listing l) k = k
-    mapped_fine groups p k = k
-
-    deleted_in_fine : (server : ℕ) (name : SegName) (p : Phase) → KnownIn p → Fine (deleted_in server name p)
-    deleted_in_fine server name (Deleting j segment servers) k = deleted_fine server name j segment servers k
-    deleted_in_fine server name p k = (k, tt)
-
-    awaits_fine : (p : Phase) → KnownIn p → Says (awaits p)
-    awaits_fine Greeting k = (tt, tt)
-    awaits_fine (Listing l) k = says_lists l.awaited
-    awaits_fine (Counting c) k = says_usage_asks (awaited_slots c.usages)
-    awaits_fine (Reading j segment) k = (tt, tt)
-    awaits_fine (Checking j segment checks) k = says_questions segment checks
-    awaits_fine (Deleting j segment servers) k = says_deletes segment.name servers k
-    awaits_fine Over k = tt
+    carries : Carries KnownIn (DeletesEmptied start history)
+    carries = record {
+      listing = λ l. tt;
+      counting = λ c. tt;
+      reading = λ j segment. tt;
+      over = tt;
+      checks = λ j i segment checks k. k;
+      deletes = λ j i segment servers left k. k;
+      hello = tt;
+      list = λ server. tt;
+      usage = λ slot. tt;
+      fetch = λ segment. tt;
+      question = λ block place. tt;
+      moving = λ moved. tt;
+      finished = λ count. tt;
+      delete = λ j segment servers server k. k;
+    }
 
   abbrev FineDone : List In → Done → Type 0
   FineDone history d = KnownIn history d.state.phase × Says history d.outs
@@ -373,12 +284,13 @@ module _ (start : CleaningState) where
   -- a read of the segment that is awaited
   read_fine : (history : List In) (read : Option Segment) (p : Phase) → (state_after start history).phase ≡ p → KnownIn history p
       → Fine (history ++ input.Read read ∷ []) (read_in read p)
-  read_fine history None (Reading j segment) e k = next_fine (history ++ input.Read None ∷ []) j.left j
+  read_fine history None (Reading j segment) e k = next_fine _ _ (carries (history ++ input.Read None ∷ [])) j.left j
   read_fine history (Some read) (Reading j segment) e k =
       by_test (Fine (history ++ input.Read (Some read) ∷ [])) (same_name read.name segment.name) (checking j segment (checks_from 0 read.items))
       (still (Reading j segment))
-      (λ t. checking_fine (history ++ input.Read (Some read) ∷ []) j segment (checks_from 0 read.items)
-      (checked_first history read segment.name (subst (reads segment.name) (sym e) refl) (tells_apart seg_cmp_exact read.name segment.name t)))
+      (λ t. let k = checked_first history read segment.name (subst (reads segment.name) (sym e) refl) (tells_apart seg_cmp_exact read.name segment.name t) in
+      checking_fine _ _ (carries (history ++ input.Read (Some read) ∷ [])) j segment (checks_from 0 read.items) k
+      (λ dead servers. emptied_from (history ++ input.Read (Some read) ∷ []) segment.name (checks_from 0 read.items) dead k))
       (λ t. (tt, tt))
   read_fine history read (Checking j segment checks) e k = (checked_later history (input.Read read) segment.name checks (λ b x. refl) k, tt)
   read_fine history read (Deleting j segment servers) e k = (emptied_later history (input.Read read) segment.name k, tt)
@@ -389,7 +301,9 @@ module _ (start : CleaningState) where
       → ((c : Check) → stage_of (answer c).fate ≡ stage_with (state_after start history) i c.block (stage_of c.fate)) → KnownIn history p
       → Fine (history ++ i ∷ []) (answered_in answer p)
   answered_fine history i answer (Checking j segment checks) same moves k =
-      looked_fine (history ++ i ∷ []) j segment (any_asked checks) (map answer checks) (checked_with history i segment.name checks answer same moves k)
+      let later = checked_with history i segment.name checks answer same moves k in
+      looked_fine _ _ (carries (history ++ i ∷ [])) j segment (any_asked checks) (map answer checks) later
+      (λ dead servers. emptied_from (history ++ i ∷ []) segment.name (map answer checks) dead later)
   answered_fine history i answer (Deleting j segment servers) same moves k = (emptied_later history i segment.name k, tt)
   answered_fine history i answer p same moves k = (tt, tt)
 
@@ -442,7 +356,7 @@ module _ (start : CleaningState) where
       (λ t. (
         checked_with history input.Moved segment.name checks moved_at (λ c. refl)
             (λ c. stage-after_moved c.fate ∙ ap (λ y. cond y (stage_at_moved (stage_of c.fate)) (stage_of c.fate)) (sym (ap awaits_moved e ∙ t))) k,
-        says_questions (history ++ input.Moved ∷ []) segment (map moved_at checks),
+        says_questions (DeletesEmptied start (history ++ input.Moved ∷ [])) (λ block place. tt) segment (map moved_at checks),
       ))
       (λ t. (checked_later history input.Moved segment.name checks (λ b x. ap (λ y. cond y (stage_at_moved x) x) (ap awaits_moved e ∙ t)) k, tt))
   moved_fine history (Deleting j segment servers) e k = (emptied_later history input.Moved segment.name k, tt)
@@ -454,19 +368,19 @@ module _ (start : CleaningState) where
   unfolding on_welcome
   welcome_fine h s slots groups k =
       by_test (FineDone h) (is_greeting s.phase && (length slots == slot_count)) (welcomed s slots groups) (still s)
-      (λ t. (tt, says_lists h (begun slots groups).awaited)) (λ t. (k, tt))
+      (λ t. (tt, says_lists (DeletesEmptied start h) (λ server. tt) (begun slots groups).awaited)) (λ t. (k, tt))
 
   promise_fine : (h : List In) (s : CleaningState) (slot epoch : ℕ) → KnownIn h s.phase → FineDone h (on_promise s slot epoch)
   unfolding on_promise
   promise_fine h s slot epoch k =
       by_test (FineDone h) (is_above s.promised slot epoch) (turned (record s { promised = promised_with s.promised slot epoch }) (forgetting slot s.phase))
-      (still s) (λ t. forgetting_fine h slot s.phase k) (λ t. (k, tt))
+      (still s) (λ t. forgetting_fine _ _ (carries h) slot s.phase k) (λ t. (k, tt))
 
   usage_fine : (h : List In) (s : CleaningState) (slot epoch : ℕ) (counts : _) → KnownIn h s.phase → FineDone h (on_usage s slot epoch counts)
   unfolding on_usage
   usage_fine h s slot epoch counts k =
       by_test (FineDone h) (is_promised s.promised slot epoch) (turned s (counted_in s.count slot counts s.phase)) (still s)
-      (λ t. counted_in_fine h s.count slot counts s.phase k) (λ t. (k, tt))
+      (λ t. counted_in_fine _ _ (carries h) s.count slot counts s.phase k) (λ t. (k, tt))
 
   abbrev now : List In → CleaningState
   now history = state_after start history
@@ -479,12 +393,12 @@ module _ (start : CleaningState) where
       promise_fine (history ++ input.Promise slot epoch ∷ []) (now history) slot epoch
       (stays_known history (input.Promise slot epoch) (now history).phase (λ b x. refl) k)
   turn_fine history (input.Maps groups) k = (
-    mapped_fine (history ++ input.Maps groups ∷ []) groups (now history).phase
+    mapped_fine _ _ (carries (history ++ input.Maps groups ∷ [])) groups (now history).phase
         (stays_known history (input.Maps groups) (now history).phase (λ b x. refl) k),
     tt,
   )
   turn_fine history (input.Listed server held) k =
-      listed_in_fine (history ++ input.Listed server held ∷ []) server held (now history).phase
+      listed_in_fine _ _ (carries (history ++ input.Listed server held ∷ [])) server held (now history).phase
       (stays_known history (input.Listed server held) (now history).phase (λ b x. refl) k)
   turn_fine history (input.Usage slot epoch counts) k =
       usage_fine (history ++ input.Usage slot epoch counts ∷ []) (now history) slot epoch counts
@@ -494,11 +408,11 @@ module _ (start : CleaningState) where
   turn_fine history (input.Dead block epoch) k = dead_fine history block epoch k
   turn_fine history input.Moved k = moved_fine history (now history).phase refl k
   turn_fine history (input.Deleted server name) k =
-      deleted_in_fine (history ++ input.Deleted server name ∷ []) server name (now history).phase
+      deleted_in_fine _ _ (carries (history ++ input.Deleted server name ∷ [])) server name (now history).phase
       (stays_known history (input.Deleted server name) (now history).phase (λ b x. refl) k)
   turn_fine history input.Tick k = (
     stays_known history input.Tick (now history).phase (λ b x. refl) k,
-    awaits_fine (history ++ input.Tick ∷ []) (now history).phase (stays_known history input.Tick (now history).phase (λ b x. refl) k),
+    awaits_fine _ _ (carries (history ++ input.Tick ∷ [])) (now history).phase (stays_known history input.Tick (now history).phase (λ b x. refl) k),
   )
 
   known_always : KnownIn [] start.phase → (history : List In) → KnownIn history (now history).phase

@@ -1,0 +1,163 @@
+-- What is known of the present segment is carried through a job's turns, and what they give may be given, whatever it is that is known.
+use Rattle.std.proofs.Common.{◌≡◌, ℕ, Bool, true, cond, List, [], ◌∷◌, Option, Some, None, length}
+use Rattle.std.specs.Prelude.{◌==◌, ◌&&◌, not}
+use Rattle.std.specs.List.{AllByRecursion, cons_option}
+use Rattle.group_map.specs.GroupMapState.{GroupMapState}
+use Rattle.xfs_base.specs.declared.block.BlockId.{BlockId}
+use Rattle.xfs_base.specs.declared.entry.Place.{Place}
+use Rattle.xfs_base.specs.declared.fragment.FragMeta.{FragMeta}
+use Rattle.xfs_base.specs.declared.segment.SegName.{SegName}
+use Rattle.xfs_base.specs.declared.segment.SegRef.{SegRef}
+use Rattle.xfs_base.specs.Steps.{still}
+use Rattle.xfs_base.proofs.Booleans.{by_test}
+use Rattle.stripe_cleaner.specs.declared.checks.Check.{Check}
+use Rattle.stripe_cleaner.specs.declared.output.Out.{Out}
+use Rattle.stripe_cleaner.specs.declared.output.Out.TheVariants as out
+use Rattle.stripe_cleaner.specs.declared.phase.Phase.{Phase}
+use Rattle.stripe_cleaner.specs.declared.phase.Phase.TheVariants.{Greeting, Listing, Counting, Reading, Checking, Deleting, Over}
+use Rattle.stripe_cleaner.specs.Checks.{is_awaited, any_asked, all_dead, place_in, questions, moves}
+use Rattle.stripe_cleaner.specs.Counting.{CountingState, has_usage, is_counted, awaited_slots, all_slots, chosen}
+use Rattle.stripe_cleaner.specs.Job.{Turn, next_of, next, deletes, servers_of, deleting, counted, left_to_delete, same_name, on_deleted, checking, looked_at}
+use Rattle.stripe_cleaner.specs.JobState.{JobState}
+use Rattle.stripe_cleaner.specs.Listing.{ListingState, is_among, without}
+use Rattle.stripe_cleaner.specs.Transition as step
+use Rattle.stripe_cleaner.specs.Transition.{lists, usage_asks, forgotten, forgetting, mapped, listed, heard, usage_with, listed_in, counted_in, deleted_in, awaits}
+
+-- ---- lists of packets of one kind
+
+module _ (May : Out → Type 0) where
+  abbrev Says : List Out → Type 0
+  Says outs = AllByRecursion May outs
+
+  pub says_deletes : (name : SegName) → ((server : ℕ) → May (out.Delete server name)) → (servers : List ℕ) → Says (deletes name servers)
+  says_deletes name may [] = tt
+  says_deletes name may (s ∷ ss) = (may s, says_deletes name may ss)
+
+  pub says_lists : ((server : ℕ) → May (out.List server)) → (servers : List ℕ) → Says (lists servers)
+  says_lists may [] = tt
+  says_lists may (s ∷ ss) = (may s, says_lists may ss)
+
+  pub says_usage_asks : ((slot : ℕ) → May (out.UsageAsk slot)) → (slots : List ℕ) → Says (usage_asks slots)
+  says_usage_asks may [] = tt
+  says_usage_asks may (s ∷ ss) = (may s, says_usage_asks may ss)
+
+  pub says_questions : ((block : BlockId) (place : Place) → May (out.Check block place)) → (segment : SegRef) (checks : List Check)
+      → Says (questions segment checks)
+  says_questions may segment [] = tt
+  says_questions may segment (c ∷ cs) =
+      by_test (λ (o : Option Out). Says (cons_option o (questions segment cs))) (is_awaited c.fate) (Some (out.Check c.block (place_in segment c.item))) None
+      (λ t. (may c.block (place_in segment c.item), says_questions may segment cs))
+      (λ t. says_questions may segment cs)
+
+-- ---- turns
+
+-- Nothing need be known but where a segment is checked or deleted, nor for any packet but the deletes.
+pub record Carries (Known : Phase → Type 0) (May : Out → Type 0) : Type 0 where
+  pub listing : (l : ListingState) → Known (Listing l)
+  pub counting : (c : CountingState) → Known (Counting c)
+  pub reading : (j : JobState) (segment : SegRef) → Known (Reading j segment)
+  pub over : Known Over
+  -- it is known of the segment, and not of the job or of the servers
+  pub checks : (j i : JobState) (segment : SegRef) (checks : List Check) → Known (Checking j segment checks) → Known (Checking i segment checks)
+  pub deletes : (j i : JobState) (segment : SegRef) (servers left : List ℕ) → Known (Deleting j segment servers) → Known (Deleting i segment left)
+  pub hello : May out.Hello
+  pub list : (server : ℕ) → May (out.List server)
+  pub usage : (slot : ℕ) → May (out.UsageAsk slot)
+  pub fetch : (segment : SegRef) → May (out.Fetch segment)
+  pub question : (block : BlockId) (place : Place) → May (out.Check block place)
+  pub moving : (moved : _) → May (out.Move moved)
+  pub finished : (count : ℕ) → May (out.Finished count)
+  pub delete : (j : JobState) (segment : SegRef) (servers : List ℕ) (server : ℕ) → Known (Deleting j segment servers) → May (out.Delete server segment.name)
+
+module _ (Known : Phase → Type 0) (May : Out → Type 0) (c : Carries Known May) where
+  abbrev Fine : Turn → Type 0
+  Fine turn = Known turn.state × AllByRecursion May turn.outs
+
+  pub next_fine : (left : List SegRef) (j : JobState) → Fine (next_of left j)
+  next_fine [] j = (c.over, (c.finished j.deleted, tt))
+  next_fine (s ∷ left) j = (c.reading _ s, (c.fetch s, tt))
+
+  deleting_fine : (j : JobState) (segment : SegRef) → ((servers : List ℕ) → Known (Deleting j segment servers)) → Fine (deleting j segment)
+  deleting_fine j segment k =
+      (k (servers_of j.groups segment), says_deletes May segment.name (λ server. c.delete j segment [] server (k [])) (servers_of j.groups segment))
+
+  deleted_fine : (server : ℕ) (name : SegName) (j : JobState) (segment : SegRef) (servers : List ℕ) → Known (Deleting j segment servers)
+      → Fine (on_deleted server name j segment servers)
+  deleted_fine server name j segment servers k =
+      by_test Fine (same_name name segment.name && is_among servers server) (left_to_delete j segment (without servers server))
+      (still (Deleting j segment servers))
+      (λ t. by_test Fine (length (without servers server) == 0) (next (counted j)) (still (Deleting j segment (without servers server)))
+      (λ u. next_fine j.left (counted j)) (λ u. (c.deletes j j segment servers (without servers server) k, tt)))
+      (λ t. (k, tt))
+
+  pub checking_fine : (j : JobState) (segment : SegRef) (checks : List Check) → Known (Checking j segment checks)
+      → (all_dead checks ≡ true → (servers : List ℕ) → Known (Deleting j segment servers)) → Fine (checking j segment checks)
+  unfolding checking
+  checking_fine j segment checks k ends =
+      by_test Fine (all_dead checks) (deleting j segment) (record { state = Checking j segment checks; outs = questions segment checks })
+      (λ t. deleting_fine j segment (ends t))
+      (λ t. (k, says_questions May c.question segment checks))
+
+  pub looked_fine : (j : JobState) (segment : SegRef) (was_asked : Bool) (checks : List Check) → Known (Checking j segment checks)
+      → (all_dead checks ≡ true → (servers : List ℕ) → Known (Deleting j segment servers)) → Fine (looked_at j segment was_asked checks)
+  unfolding looked_at
+  looked_fine j segment was_asked checks k ends =
+      by_test Fine (all_dead checks) (deleting j segment)
+      (cond (was_asked && not (any_asked checks)) (record { state = Checking j segment checks; outs = out.Move (moves checks) ∷ [] })
+      (still (Checking j segment checks)))
+      (λ t. deleting_fine j segment (ends t))
+      (λ t. by_test Fine (was_asked && not (any_asked checks)) (record { state = Checking j segment checks; outs = out.Move (moves checks) ∷ [] })
+      (still (Checking j segment checks)) (λ u. (k, (c.moving (moves checks), tt))) (λ u. (k, tt)))
+
+  -- ---- inputs that are no answers
+
+  listed_fine : (l : ListingState) → Fine (listed l)
+  listed_fine l =
+      by_test Fine (length l.awaited == 0)
+      (record { state = Counting (record { groups = l.groups; candidates = l.candidates; usages = [] }); outs = usage_asks all_slots }) (still (Listing l))
+      (λ t. (c.counting _, says_usage_asks May c.usage all_slots))
+      (λ t. (c.listing l, tt))
+
+  pub listed_in_fine : (server : ℕ) (held : List FragMeta) (p : Phase) → Known p → Fine (listed_in server held p)
+  listed_in_fine server held (Listing l) k =
+      by_test Fine (is_among l.awaited server) (listed (heard l server held)) (still (Listing l)) (λ t. listed_fine (heard l server held)) (λ t. (k, tt))
+  listed_in_fine server held p k = (k, tt)
+
+  counted_fine : (count : ℕ) (s : CountingState) → Fine (step.counted count s)
+  counted_fine count s =
+      by_test Fine (is_counted s.usages) (next (record { groups = s.groups; left = chosen count s; deleted = 0 })) (still (Counting s))
+      (λ t. next_fine (chosen count s) (record { groups = s.groups; left = chosen count s; deleted = 0 }))
+      (λ t. (c.counting s, tt))
+
+  pub counted_in_fine : (count slot : ℕ) (counts : _) (p : Phase) → Known p → Fine (counted_in count slot counts p)
+  counted_in_fine count slot counts (Counting s) k =
+      by_test Fine (has_usage s.usages slot) (still (Counting s)) (step.counted count (usage_with slot counts s)) (λ t. (k, tt))
+      (λ t. counted_fine count (usage_with slot counts s))
+  counted_in_fine count slot counts p k = (k, tt)
+
+  pub forgetting_fine : (slot : ℕ) (p : Phase) → Known p → Fine (forgetting slot p)
+  forgetting_fine slot (Counting s) k =
+      by_test Fine (has_usage s.usages slot) (record { state = Counting (forgotten slot s); outs = out.UsageAsk slot ∷ [] }) (still (Counting s))
+      (λ t. (c.counting (forgotten slot s), (c.usage slot, tt))) (λ t. (k, tt))
+  forgetting_fine slot p k = (k, tt)
+
+  pub mapped_fine : (groups : GroupMapState) (p : Phase) → Known p → Known (mapped groups p)
+  mapped_fine groups (Listing l) k = c.listing _
+  mapped_fine groups (Counting s) k = c.counting _
+  mapped_fine groups (Reading j segment) k = c.reading _ segment
+  mapped_fine groups (Checking j segment checks) k = c.checks j _ segment checks k
+  mapped_fine groups (Deleting j segment servers) k = c.deletes j _ segment servers servers k
+  mapped_fine groups p k = k
+
+  pub deleted_in_fine : (server : ℕ) (name : SegName) (p : Phase) → Known p → Fine (deleted_in server name p)
+  deleted_in_fine server name (Deleting j segment servers) k = deleted_fine server name j segment servers k
+  deleted_in_fine server name p k = (k, tt)
+
+  pub awaits_fine : (p : Phase) → Known p → AllByRecursion May (awaits p)
+  awaits_fine Greeting k = (c.hello, tt)
+  awaits_fine (Listing l) k = says_lists May c.list l.awaited
+  awaits_fine (Counting s) k = says_usage_asks May c.usage (awaited_slots s.usages)
+  awaits_fine (Reading j segment) k = (c.fetch segment, tt)
+  awaits_fine (Checking j segment checks) k = says_questions May c.question segment checks
+  awaits_fine (Deleting j segment servers) k = says_deletes May segment.name (λ server. c.delete j segment servers server k) servers
+  awaits_fine Over k = tt
