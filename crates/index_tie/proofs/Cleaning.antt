@@ -1,7 +1,7 @@
 -- A job's inputs as steps of the cleaner: promises, counts of what is answered Dead, and drops of what is deleted.
 use Rattle.std.proofs.Common.{◌≡◌, ℕ, ◌<◌, ◌≤◌, ◌⊎◌, inl, inr, Bool, true, false, cond, List, [], ◌∷◌, Option, Some, None, map, length, refl, sym, ap, subst, ◌∙◌, arith}
-use Rattle.std.specs.Prelude.{◌==◌, ◌&&◌, not, nat_lt}
-use Rattle.std.specs.List.{AllByRecursion, cons_option, list_any}
+use Rattle.std.specs.Prelude.{◌==◌, ◌&&◌, nat_lt}
+use Rattle.std.specs.List.{AllByRecursion, list_any}
 use Rattle.std.proofs.lemmas.Bool.{false≢true, ltb-true}
 use Rattle.std.proofs.lemmas.Bool.Decides.{nat_tests}
 use Rattle.std.proofs.lemmas.Map.Views.{tells_apart}
@@ -22,19 +22,17 @@ use Rattle.stripe_cleaner.specs.declared.checks.Check.{Check}
 use Rattle.stripe_cleaner.specs.declared.input.In.{In}
 use Rattle.stripe_cleaner.specs.declared.input.In.TheVariants as input
 use Rattle.stripe_cleaner.specs.declared.output.Out.{Out}
-use Rattle.stripe_cleaner.specs.declared.output.Out.TheVariants as out
 use Rattle.stripe_cleaner.specs.declared.phase.Phase.{Phase}
-use Rattle.stripe_cleaner.specs.declared.phase.Phase.TheVariants.{Greeting, Listing, Counting, Reading, Checking, Deleting, Over}
-use Rattle.stripe_cleaner.specs.Checks.{checks_from, after_live, after_dead, live_at, dead_at, moved_at, is_dead, is_awaited, any_asked, all_dead, place_in, questions, moves}
+use Rattle.stripe_cleaner.specs.declared.phase.Phase.TheVariants.{Reading, Checking}
+use Rattle.stripe_cleaner.specs.Checks.{checks_from, after_live, after_dead, live_at, dead_at, moved_at, is_dead, any_asked, all_dead, questions}
 use Rattle.stripe_cleaner.specs.CleaningState.{CleaningState}
-use Rattle.stripe_cleaner.specs.Counting.{CountingState, has_usage, is_counted, awaited_slots, all_slots, chosen}
 use Rattle.stripe_cleaner.specs.Histories.{blocks_of}
-use Rattle.stripe_cleaner.specs.Job.{Turn, next_of, next, deletes, servers_of, deleting, counted, left_to_delete, same_name, on_deleted, checking, looked_at, is_moving}
+use Rattle.stripe_cleaner.specs.Job.{Turn, next, same_name, checking, looked_at, is_moving}
 use Rattle.stripe_cleaner.specs.JobState.{JobState}
-use Rattle.stripe_cleaner.specs.Listing.{ListingState, begun, is_among, without}
+use Rattle.stripe_cleaner.specs.Listing.{begun}
 use Rattle.stripe_cleaner.specs.Promises.{promised_at, promised_with, is_above, is_promised}
-use Rattle.stripe_cleaner.specs.Transition as step
-use Rattle.stripe_cleaner.specs.Transition.{Done, turned, is_greeting, lists, usage_asks, welcomed, on_welcome, forgotten, forgetting, on_promise, mapped, listed, heard, usage_with, listed_in, counted_in, read_in, answered_in, moved_in, deleted_in, awaits, on_usage, is_heard, may_move, on_live, on_dead, transition}
+use Rattle.stripe_cleaner.specs.Transition.{Done, turned, is_greeting, welcomed, on_welcome, forgetting, on_promise, listed_in, counted_in, read_in, answered_in, moved_in, deleted_in, on_usage, is_heard, may_move, on_live, on_dead, transition}
+use Rattle.stripe_cleaner.proofs.Turns.{Carries, says_lists, says_questions, next_fine, checking_fine, looked_fine, listed_in_fine, counted_in_fine, forgetting_fine, mapped_fine, deleted_in_fine, awaits_fine}
 use Rattle.log_protocol.specs.IndexState.{IndexState}
 use Rattle.log_protocol.specs.IndexSteps.{IndexSteps, promises, counts, drops_row}
 use Rattle.log_protocol.specs.IndexSteps.IndexSteps.{Done as Ended, More}
@@ -69,106 +67,23 @@ module _ (b : BlockId) (f : Filed) where
     abbrev Fine : Turn → Type 0
     Fine turn = KnownIn turn.state × Says turn.outs
 
-    says_deletes : (name : SegName) (servers : List ℕ) → IsDropped b f dropped name → Says (deletes name servers)
-    says_deletes name [] e = tt
-    says_deletes name (s ∷ ss) e = (e, says_deletes name ss e)
-
-    says_lists : (servers : List ℕ) → Says (lists servers)
-    says_lists [] = tt
-    says_lists (s ∷ ss) = (tt, says_lists ss)
-
-    says_usage_asks : (slots : List ℕ) → Says (usage_asks slots)
-    says_usage_asks [] = tt
-    says_usage_asks (s ∷ ss) = (tt, says_usage_asks ss)
-
-    says_questions : (segment : SegRef) (checks : List Check) → Says (questions segment checks)
-    says_questions segment [] = tt
-    says_questions segment (c ∷ cs) =
-        by_test (λ (o : Option Out). Says (cons_option o (questions segment cs))) (is_awaited c.fate) (Some (out.Check c.block (place_in segment c.item))) None
-        (λ t. (tt, says_questions segment cs))
-        (λ t. says_questions segment cs)
-
-    next_fine : (left : List SegRef) (j : JobState) → Fine (next_of left j)
-    next_fine [] j = (tt, (tt, tt))
-    next_fine (s ∷ left) j = (tt, (tt, tt))
-
-    deleting_fine : (j : JobState) (segment : SegRef) → IsDropped b f dropped segment.name → Fine (deleting j segment)
-    deleting_fine j segment e = (e, says_deletes segment.name (servers_of j.groups segment) e)
-
-    deleted_fine : (server : ℕ) (name : SegName) (j : JobState) (segment : SegRef) (servers : List ℕ) → IsDropped b f dropped segment.name
-        → Fine (on_deleted server name j segment servers)
-    deleted_fine server name j segment servers e =
-        by_test Fine (same_name name segment.name && is_among servers server) (left_to_delete j segment (without servers server))
-        (still (Deleting j segment servers))
-        (λ t. by_test Fine (length (without servers server) == 0) (next (counted j)) (still (Deleting j segment (without servers server)))
-        (λ u. next_fine j.left (counted j)) (λ u. (e, tt)))
-        (λ t. (e, tt))
-
-    checking_fine : (j : JobState) (segment : SegRef) (checks : List Check) → IsChecked b f dead_table segment.name checks
-        → (all_dead checks ≡ true → IsDropped b f dropped segment.name) → Fine (checking j segment checks)
-    unfolding checking
-    checking_fine j segment checks k drops =
-        by_test Fine (all_dead checks) (deleting j segment) (record { state = Checking j segment checks; outs = questions segment checks })
-        (λ t. deleting_fine j segment (drops t))
-        (λ t. (k, says_questions segment checks))
-
-    looked_fine : (j : JobState) (segment : SegRef) (was_asked : Bool) (checks : List Check) → IsChecked b f dead_table segment.name checks
-        → (all_dead checks ≡ true → IsDropped b f dropped segment.name) → Fine (looked_at j segment was_asked checks)
-    unfolding looked_at
-    looked_fine j segment was_asked checks k drops =
-        by_test Fine (all_dead checks) (deleting j segment)
-        (cond (was_asked && not (any_asked checks)) (record { state = Checking j segment checks; outs = out.Move (moves checks) ∷ [] })
-        (still (Checking j segment checks)))
-        (λ t. deleting_fine j segment (drops t))
-        (λ t. by_test Fine (was_asked && not (any_asked checks)) (record { state = Checking j segment checks; outs = out.Move (moves checks) ∷ [] })
-        (still (Checking j segment checks)) (λ u. (k, (tt, tt))) (λ u. (k, tt)))
-
-    listed_fine : (l : ListingState) → Fine (listed l)
-    listed_fine l =
-        by_test Fine (length l.awaited == 0)
-        (record { state = Counting (record { groups = l.groups; candidates = l.candidates; usages = [] }); outs = usage_asks all_slots }) (still (Listing l))
-        (λ t. (tt, says_usage_asks all_slots))
-        (λ t. (tt, tt))
-
-    listed_in_fine : (server : ℕ) (held : List FragMeta) (p : Phase) → KnownIn p → Fine (listed_in server held p)
-    listed_in_fine server held (Listing l) k =
-        by_test Fine (is_among l.awaited server) (listed (heard l server held)) (still (Listing l)) (λ t. listed_fine (heard l server held)) (λ t. (tt, tt))
-    listed_in_fine server held p k = (k, tt)
-
-    counted_fine : (count : ℕ) (c : CountingState) → Fine (step.counted count c)
-    counted_fine count c =
-        by_test Fine (is_counted c.usages) (next (record { groups = c.groups; left = chosen count c; deleted = 0 })) (still (Counting c))
-        (λ t. next_fine (chosen count c) (record { groups = c.groups; left = chosen count c; deleted = 0 }))
-        (λ t. (tt, tt))
-
-    counted_in_fine : (count slot : ℕ) (counts : _) (p : Phase) → KnownIn p → Fine (counted_in count slot counts p)
-    counted_in_fine count slot counts (Counting c) k =
-        by_test Fine (has_usage c.usages slot) (still (Counting c)) (step.counted count (usage_with slot counts c)) (λ t. (tt, tt))
-        (λ t. counted_fine count (usage_with slot counts c))
-    counted_in_fine count slot counts p k = (k, tt)
-
-    forgetting_fine : (slot : ℕ) (p : Phase) → KnownIn p → Fine (forgetting slot p)
-    forgetting_fine slot (Counting c) k =
-        by_test Fine (has_usage c.usages slot) (record { state = Counting (forgotten slot c); outs = out.UsageAsk slot ∷ [] }) (still (Counting c))
-        (λ t. (tt, (tt, tt))) (λ t. (tt, tt))
-    forgetting_fine slot p k = (k, tt)
-
-    mapped_fine : (groups : GroupMapState) (p : Phase) → KnownIn p → KnownIn (mapped groups p)
-    mapped_fine groups (Listing l) k = k
-    mapped_fine groups p k = k
-
-    deleted_in_fine : (server : ℕ) (name : SegName) (p : Phase) → KnownIn p → Fine (deleted_in server name p)
-    deleted_in_fine server name (Deleting j segment servers) k = deleted_fine server name j segment servers k
-    deleted_in_fine server name p k = (k, tt)
-
-    awaits_fine : (p : Phase) → KnownIn p → Says (awaits p)
-    awaits_fine Greeting k = (tt, tt)
-    awaits_fine (Listing l) k = says_lists l.awaited
-    awaits_fine (Counting c) k = says_usage_asks (awaited_slots c.usages)
-    awaits_fine (Reading j segment) k = (tt, tt)
-    awaits_fine (Checking j segment checks) k = says_questions segment checks
-    awaits_fine (Deleting j segment servers) k = says_deletes segment.name servers k
-    awaits_fine Over k = tt
+    carries : Carries KnownIn (DeletesDropped b f dropped)
+    carries = record {
+      listing = λ l. tt;
+      counting = λ c. tt;
+      reading = λ j segment. tt;
+      over = tt;
+      checks = λ j i segment checks k. k;
+      deletes = λ j i segment servers left k. k;
+      hello = tt;
+      list = λ server. tt;
+      usage = λ slot. tt;
+      fetch = λ segment. tt;
+      question = λ block place. tt;
+      moving = λ moved. tt;
+      finished = λ count. tt;
+      delete = λ j segment servers server k. k;
+    }
 
     -- checks that a change leaves as dead as they were
     checked_map : (name : SegName) (checks : List Check) (g : Check → Check) → ((c : Check) → (g c).block ≡ c.block)
@@ -186,7 +101,7 @@ module _ (b : BlockId) (f : Filed) where
     moved_fine (Checking j segment checks) k =
         by_test Fine (is_moving checks) (record { state = Checking j segment (map moved_at checks); outs = questions segment (map moved_at checks) })
         (still (Checking j segment checks))
-        (λ t. (checked_map segment.name checks moved_at (λ c. refl) (λ c. moved_stays c.fate) k, says_questions segment (map moved_at checks)))
+        (λ t. (checked_map segment.name checks moved_at (λ c. refl) (λ c. moved_stays c.fate) k, says_questions (DeletesDropped b f dropped) (λ block place. tt) segment (map moved_at checks)))
         (λ t. (k, tt))
     moved_fine p k = (k, tt)
 
@@ -265,7 +180,7 @@ module _ (b : BlockId) (f : Filed) where
         frame = e.frame;
         promised = e.promised;
         polled = e.polled;
-        fine = looked_fine e.state.dead_at e.state.dropped j segment was_asked checks e.checked e.drops;
+        fine = looked_fine _ _ (carries e.state.dead_at e.state.dropped) j segment was_asked checks e.checked (λ dead servers. e.drops dead);
       }
 
   checked_first : (w : IndexState) (j : JobState) (segment : SegRef) (read : Segment) → IsWithin f segment.name
@@ -284,7 +199,7 @@ module _ (b : BlockId) (f : Filed) where
         frame = e.frame;
         promised = e.promised;
         polled = e.polled;
-        fine = checking_fine e.state.dead_at e.state.dropped j segment checks e.checked e.drops;
+        fine = checking_fine _ _ (carries e.state.dead_at e.state.dropped) j segment checks e.checked (λ dead servers. e.drops dead);
       }
     where
       weaker : (cs : List Check) → AllByRecursion (λ (c : Check). is_dead c.fate ≡ false) cs
@@ -293,7 +208,7 @@ module _ (b : BlockId) (f : Filed) where
       weaker (c ∷ cs) all = ((λ _ dead. absurd (false≢true (sym all.0 ∙ dead))), weaker cs all.1)
 
   read_turned : (w : IndexState) (read : Option Segment) (p : Phase) → Known b f w.dead_at w.dropped p → ReadFor f read p → Turned w (read_in read p)
-  read_turned w None (Reading j segment) k owes = by_nothing w (next j) (next_fine w.dead_at w.dropped j.left j)
+  read_turned w None (Reading j segment) k owes = by_nothing w (next j) (next_fine _ _ (carries w.dead_at w.dropped) j.left j)
   read_turned w (Some read) (Reading j segment) k owes =
       by_test (Turned w) (same_name read.name segment.name) (checking j segment (checks_from 0 read.items)) (still (Reading j segment))
       (λ t. checked_first w j segment read owes.0 (λ fact. owes.1 fact (tells_apart seg_cmp_exact read.name segment.name t)))
@@ -434,7 +349,7 @@ module _ (b : BlockId) (f : Filed) where
   welcome_known w s slots groups c =
       by_test (λ (d : Done). Known b f w.dead_at w.dropped d.state.phase × AllByRecursion (DeletesDropped b f w.dropped) d.outs)
       (is_greeting s.phase && (length slots == 8)) (welcomed s slots groups) (still s)
-      (λ _. (tt, says_lists w.dead_at w.dropped (begun slots groups).awaited))
+      (λ _. (tt, says_lists (DeletesDropped b f w.dropped) (λ server. tt) (begun slots groups).awaited))
       (λ _. (c.known, tt))
 
   promise_known : (w : IndexState) (s : CleaningState) (slot epoch : ℕ) → Cleans b f w s
@@ -444,7 +359,7 @@ module _ (b : BlockId) (f : Filed) where
       by_test (λ (d : Done). Known b f w.dead_at w.dropped d.state.phase × AllByRecursion (DeletesDropped b f w.dropped) d.outs)
       (is_above s.promised slot epoch)
       (turned (record s { promised = promised_with s.promised slot epoch }) (forgetting slot s.phase)) (still s)
-      (λ _. forgetting_fine w.dead_at w.dropped slot s.phase c.known)
+      (λ _. forgetting_fine _ _ (carries w.dead_at w.dropped) slot s.phase c.known)
       (λ _. (c.known, tt))
 
   pub welcome_rises : (w : IndexState) (s : CleaningState) (slots : List SlotNews) (groups : GroupMapState) → Cleans b f w s
@@ -464,7 +379,7 @@ module _ (b : BlockId) (f : Filed) where
   usage_stays w s slot epoch counts c =
       by_test (StaysOn w) (is_promised s.promised slot epoch) (turned s (counted_in s.count slot counts s.phase)) (still s)
       (λ _. turns w s (counted_in s.count slot counts s.phase) c
-      (by_nothing w (counted_in s.count slot counts s.phase) (counted_in_fine w.dead_at w.dropped s.count slot counts s.phase c.known)))
+      (by_nothing w (counted_in s.count slot counts s.phase) (counted_in_fine _ _ (carries w.dead_at w.dropped) s.count slot counts s.phase c.known)))
       (λ _. quiet w s c)
 
   pub live_answered : (w : IndexState) (s : CleaningState) (block : BlockId) (epoch : ℕ) (entry : Entry) → Cleans b f w s
@@ -502,13 +417,13 @@ module _ (b : BlockId) (f : Filed) where
   read_stays w s read c owes = turns w s (read_in read s.phase) c (read_turned w read s.phase c.known owes)
 
   pub maps_stay : (w : IndexState) (s : CleaningState) (groups : GroupMapState) → Cleans b f w s → StaysOn w (transition s (input.Maps groups))
-  maps_stay w s groups c = stays_same w s (transition s (input.Maps groups)) c refl (mapped_fine w.dead_at w.dropped groups s.phase c.known) tt
+  maps_stay w s groups c = stays_same w s (transition s (input.Maps groups)) c refl (mapped_fine _ _ (carries w.dead_at w.dropped) groups s.phase c.known) tt
 
   pub listed_stays : (w : IndexState) (s : CleaningState) (server : ℕ) (held : List FragMeta) → Cleans b f w s
       → StaysOn w (transition s (input.Listed server held))
   listed_stays w s server held c =
       turns w s (listed_in server held s.phase) c
-      (by_nothing w (listed_in server held s.phase) (listed_in_fine w.dead_at w.dropped server held s.phase c.known))
+      (by_nothing w (listed_in server held s.phase) (listed_in_fine _ _ (carries w.dead_at w.dropped) server held s.phase c.known))
 
   pub moved_stays_on : (w : IndexState) (s : CleaningState) → Cleans b f w s → StaysOn w (transition s input.Moved)
   moved_stays_on w s c = turns w s (moved_in s.phase) c (by_nothing w (moved_in s.phase) (moved_fine w.dead_at w.dropped s.phase c.known))
@@ -516,10 +431,10 @@ module _ (b : BlockId) (f : Filed) where
   pub deleted_stays : (w : IndexState) (s : CleaningState) (server : ℕ) (name : SegName) → Cleans b f w s → StaysOn w (transition s (input.Deleted server name))
   deleted_stays w s server name c =
       turns w s (deleted_in server name s.phase) c
-      (by_nothing w (deleted_in server name s.phase) (deleted_in_fine w.dead_at w.dropped server name s.phase c.known))
+      (by_nothing w (deleted_in server name s.phase) (deleted_in_fine _ _ (carries w.dead_at w.dropped) server name s.phase c.known))
 
   pub tick_stays : (w : IndexState) (s : CleaningState) → Cleans b f w s → StaysOn w (transition s input.Tick)
-  tick_stays w s c = stays_same w s (transition s input.Tick) c refl c.known (awaits_fine w.dead_at w.dropped s.phase c.known)
+  tick_stays w s c = stays_same w s (transition s input.Tick) c refl c.known (awaits_fine _ _ (carries w.dead_at w.dropped) s.phase c.known)
 
   welcome_cleans : (w : IndexState) (s : CleaningState) (slots : List SlotNews) (groups : GroupMapState) → Cleans b f w s
       → NoLower b w s (on_welcome s slots groups).state → Cleaned b f w (on_welcome s slots groups)
