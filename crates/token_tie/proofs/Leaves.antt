@@ -7,6 +7,7 @@ use Rattle.xfs_base.specs.declared.token.Mode.{Mode}
 use Rattle.xfs_base.specs.declared.token.Mode.TheVariants.{Nothing, Copy, Own}
 use Rattle.xfs_base.specs.declared.token.Stamp.{Stamp}
 use Rattle.token_client.specs.declared.held.Fetch.{Fetch}
+use Rattle.token_client.specs.declared.held.Giving.{Giving}
 use Rattle.token_client.specs.declared.held.Held.{Held}
 use Rattle.token_client.specs.declared.held.Wanted.{Wanted}
 use Rattle.token_client.specs.declared.output.Out.{Out}
@@ -62,8 +63,9 @@ module _ (logs : Bool) (g : Setting) (end : ℕ) (w : World) where
         fetch = s.fetch;
       }) tt
 
-  pub drops_fetch-goes : (l : Local) → Shown l → To (record l { held = unfetched l.held }) []
-  drops_fetch-goes l s =
+  -- a fetch is let go, whatever recall was put off
+  lets_fetch_go : (l : Local) (giving : Option Giving) → Shown l → To (record l { held = record l.held { fetch = None; giving = giving } }) []
+  lets_fetch_go l giving s =
       acts_by logs g end w (drops_fetch w g.client) [] _ [] (record here { fetching = 0 }) (DropsFetch g.client) refl refl refl (λ p fact. fact)
       (λ y fact. fact)
       (record {
@@ -81,26 +83,12 @@ module _ (logs : Bool) (g : Setting) (end : ℕ) (w : World) where
         fetch = refl;
       }) tt
 
-  -- a fetch is let go with a recall that was put off
+  pub drops_fetch-goes : (l : Local) → Shown l → To (record l { held = unfetched l.held }) []
+  drops_fetch-goes l = lets_fetch_go l l.held.giving
+
+  -- with the recall that was put off
   pub drops_promised-goes : (l : Local) → Shown l → To (record l { held = promise_dropped l.held }) []
-  drops_promised-goes l s =
-      acts_by logs g end w (drops_fetch w g.client) [] _ [] (record here { fetching = 0 }) (DropsFetch g.client) refl refl refl (λ p fact. fact)
-      (λ y fact. fact)
-      (record {
-        client = s.client;
-        serving = s.serving;
-        boot = s.boot;
-        incarnation = s.incarnation;
-        stamps = restamped _ here _ w.epoch refl refl s.stamps;
-        mode = s.mode;
-        counted = s.counted;
-        want = s.want;
-        version = s.version;
-        settled = s.settled;
-        value = s.value;
-        fetch = refl;
-      })
-      tt
+  drops_promised-goes l = lets_fetch_go l None
 
   -- a want is opened, whether or not one was open
   pub asks-goes : (l : Local) (mode : Mode) → Shown l → is_held mode ≡ true → mode_number l.held.mode < mode_number mode
