@@ -1,6 +1,7 @@
 -- A name that is booked: its page is that of the segment that is launched, and the others stay.
-use Rattle.std.proofs.Common.{◌≡◌, ◌⊎◌, inl, inr, ℕ, suc, ◌-◌, ◌<◌, ◌==◌, Bool, true, false, cond, if◌then◌else◌, length, refl, sym, ap, subst, ◌∙◌}
+use Rattle.std.proofs.Common.{◌≡◌, ◌⊎◌, inl, inr, ℕ, suc, ◌-◌, ◌<◌, ◌==◌, Bool, true, false, cond, if◌then◌else◌, length, refl, sym, ap, subst, ◌∙◌, arith}
 use Rattle.std.proofs.lemmas.Bool.{eqb-true}
+use Rattle.std.proofs.lemmas.Bool.Decides.{nat_tests}
 use Rattle.log_protocol.specs.State.{State}
 use Rattle.log_protocol.specs.Tables.{put}
 use Rattle.log_protocol.specs.OwnerSteps.{Group, books}
@@ -9,7 +10,7 @@ use Rattle.segment_format.specs.Text.{text_of}
 use Rattle.group_map.specs.declared.group.Group as groups
 use Rattle.group_map.specs.GroupMapState.{GroupMapState}
 use Rattle.log_tie.specs.Setting.{Setting, Stripe, stripe_of_group, server_of, generation_of, present_at, name_of, point, IsStripe}
-use Rattle.log_tie.specs.Seen.{Page, Book}
+use Rattle.log_tie.specs.Seen.{Page, Book, ByOwner}
 use Rattle.xfs_base.proofs.Booleans.{contrary, equal_itself}
 
 -- the book with a segment at a name
@@ -46,6 +47,21 @@ module _ (g : Setting) (w : State) (book : ℕ → Segment) (x : ℕ) (s : Segme
   pub stripe_group : w.servers ≡ suc g.servers → IsStripe g m group → Group w (length group.members) (server_of group.members)
   stripe_group servers fact =
       record { some = fact.some; known = λ j below. subst (λ n. server_of group.members j < n) (sym servers) (fact.exist j below); distinct = fact.differ }
+
+  -- the owner may book it, in whatever phase it does so
+  pub by_booking : (phase spanning : ℕ) → (w.booked x ≡ 1 → ⊥)
+      → ByOwner g w (record booked_state { phase = phase; spanning = spanning }) book (with_page book x s)
+  by_booking phase spanning new = record {
+    others = refl;
+    booked = λ y fact. stays y fact;
+    segment = λ y fact. page_there w book x s new y fact;
+    stores = λ p fact. fact;
+    filed = λ y fact. fact;
+    calm = λ none c. c;
+  }
+    where
+      stays : (y : ℕ) → w.booked y ≡ 1 → put w.booked x 1 y ≡ 1
+      stays y fact = grind (arith, nat_tests)
 
   -- the book of what is booked
   pub booked_pages : s.name ≡ name_of g x → 0 < s.name.pass.inc → s.group ≡ group.id → prior ≡ point g (s.name.seq - 1) s.prior.pass

@@ -40,7 +40,8 @@ use Rattle.log_tie.specs.Inputs.{StoredSeen, MapSeen}
 use Rattle.log_tie.specs.Openings.{Chained, AllFrom, ChainShown, ReadShown, WritingShown, AllFiled, OpeningShown, OpensByStep, OpeningTakes}
 use Rattle.xfs_base.proofs.SegmentNames.{one_name}
 use Rattle.log_tie.proofs.Names.{one_number, some_number, name_coded}
-use Rattle.log_tie.proofs.Booking.{books_one, with_page, page_here, page_there, booked_state, stripe_group, booked_pages}
+use Rattle.log_tie.proofs.Frames.{by_nothing}
+use Rattle.log_tie.proofs.Booking.{books_one, with_page, page_here, booked_state, stripe_group, by_booking, booked_pages}
 use Rattle.log_tie.proofs.Sending.{sent_all}
 use Rattle.log_tie.proofs.Sealing.{launch, nothing_noted}
 use Rattle.log_tie.proofs.Settling.{Aloft, restriped_goes, waits_goes, settled_there, flight_end}
@@ -221,17 +222,7 @@ module _ (g : Setting) (w : State) (book : ℕ → Segment) (fixed : Fixed g w) 
       stripe = sym fact.named ∙ ap (λ (z : Segment). g.stripe z.group) (sym here)
 
       by : ByOwner g w v book later
-      by = record {
-        others = refl;
-        booked = λ y fact. put_one y fact;
-        segment = λ y fact. page_there w book x f.segment new y fact;
-        stores = λ p fact. fact;
-        filed = λ y fact. fact;
-        calm = λ none c. c;
-      }
-        where
-          put_one : (y : ℕ) → w.booked y ≡ 1 → v.booked y ≡ 1
-          put_one y fact = grind (arith, nat_tests)
+      by = by_booking g w book x f.segment group m w.base 0 3 1 new
 
   -- it is settled, and the owner serves
   serves_goes : (chain : List Segment) (s : LogState) (f : FlightState) (sure : ℕ) → WritingShown g w book chain s
@@ -346,8 +337,7 @@ module _ (g : Setting) (chain : List Segment) where
           world = w;
           later = book;
           steps = Done;
-          frame =
-              record { others = refl; booked = λ x fact. fact; segment = λ x fact. refl; stores = λ p fact. fact; filed = λ x fact. fact; calm = λ none c. c };
+          frame = by_nothing g w book;
           fresh = λ x fact. inl fact;
           paged = paged;
           shows = inl h;

@@ -1,8 +1,7 @@
 -- Rounds of reading: what enough fragments of a booked segment join to is its text, and is read as it.
-use Rattle.std.proofs.Common.{◌≡◌, ℕ, zero, suc, ◌+◌, ◌-◌, ◌⊎◌, ◌==◌, ◌&&◌, Bool, true, false, cond, is_some, unwrap_or, List, [], ◌∷◌, ◌++◌, map, Option, Some, None, length, refl, sym, ap, subst, ◌∙◌, inl, inr, arith}
+use Rattle.std.proofs.Common.{◌≡◌, ℕ, ◌-◌, ◌⊎◌, ◌==◌, ◌&&◌, Bool, true, false, cond, is_some, unwrap_or, List, [], ◌∷◌, ◌++◌, map, Option, Some, None, length, refl, sym, ap, subst, ◌∙◌, inl, inr, arith}
 use Rattle.std.specs.Prelude.{IfSome, Ok, Result, count_by}
 use Rattle.std.specs.List.{range_with_len}
-use Rattle.std.proofs.lemmas.List.{length-append}
 use Rattle.std.proofs.lemmas.List.Elements.{All-nil}
 use Rattle.std.proofs.lemmas.List.FromFn.{length-map-range_with_len}
 use Rattle.std.proofs.lemmas.Bool.{eqb-true, leb-true}
@@ -26,9 +25,9 @@ use Rattle.stripe_code.specs.declared.round.Told.TheVariants.{Held, Missing}
 use Rattle.stripe_code.specs.Fragments.{fragment_at}
 use Rattle.stripe_code.specs.Joined.{AreOf, missing_from, joined}
 use Rattle.stripe_code.specs.Round.{RoundSoFar, count_of, asks, has_answered, len_in, bytes_in, parts_in, is_enough, have_answered, missing_in, taken, state_of, told_fits, new_round, TellsPart}
-use Rattle.stripe_code.specs.Stripe.{IsCut, part_of, pieces, stripe_of}
+use Rattle.stripe_code.specs.Stripe.{IsCut, stripe_of}
 use Rattle.stripe_code.proofs.Given.{gives_back}
-use Rattle.stripe_code.proofs.Pieces.{length-pieces}
+use Rattle.stripe_code.proofs.Places.{length_stripe, are_of, none_counted}
 use Rattle.stripe_code.proofs.Recovery.{few_missing}
 use Rattle.stripe_code.proofs.Rounds.{round_cut, pushed_is_round, enough_in}
 use Rattle.log_protocol.specs.State.{State}
@@ -39,29 +38,6 @@ use Rattle.log_tie.specs.Shelves.{is_of_log, IsPiece}
 use Rattle.log_tie.specs.Rounds.{IsSpelled, IsGrouped, ToldPiece, AllTold, RoundShown}
 use Rattle.xfs_base.proofs.SegmentNames.{one_name}
 use Rattle.log_tie.proofs.Names.{one_number}
-
--- ---- a stripe has as many fragments as there are members
-
-length_stripe : (text : List ℕ) (n parity : ℕ) → IsCut n parity → length (stripe_of text n parity) ≡ n
-unfolding stripe_of
-length_stripe text n zero cut = absurd (let a = cut.some in omega arith)
-length_stripe text n (suc zero) cut =
-    length-append (pieces (n - 1) (part_of (length text) (n - 1)) text) _
-    ∙ (let a = length-pieces (n - 1) (part_of (length text) (n - 1)) text in let b = cut.least in omega arith)
-length_stripe text n (suc (suc zero)) cut =
-    length-append (pieces (n - 2) (part_of (length text) (n - 2)) text) _
-    ∙ (let a = length-pieces (n - 2) (part_of (length text) (n - 2)) text in let b = cut.least in omega arith)
-length_stripe text n (suc (suc (suc p))) cut = absurd (let a = cut.few in omega arith)
-
--- each that is there is the stripe's at its place
-are_of : (ds : List (List ℕ)) (from : ℕ) (f : ℕ → Option (List ℕ)) → ((i k : ℕ) → k ≡ from + i → IfSome (f k) (λ bs. bs ≡ fragment_at ds i))
-    → AreOf (map f (range_with_len from (length ds))) ds
-are_of [] from f all = tt
-are_of (d ∷ ds) from f all = (all 0 from (omega arith), are_of ds (from + 1) f (λ i k e. all (suc i) k (omega arith)))
-
-none_counted : (f : ℕ → Option (List ℕ)) → ((i : ℕ) → f i ≡ None) → (from n : ℕ) → count_by is_some (map f (range_with_len from n)) ≡ 0
-none_counted f none from zero = refl
-none_counted f none from (suc n) = ap (λ o. count_by is_some (o ∷ map f (range_with_len (from + 1) n))) (none from) ∙ none_counted f none (from + 1) n
 
 module _ (g : Setting) (w : State) (book : ℕ → Segment) (paged : Book g w book) (spelled : IsSpelled g book w.booked) (e : End) where
   abbrev Shown : RoundSoFar → Type 0

@@ -25,7 +25,7 @@ use Rattle.log_tie.specs.Seen.{Book, Serves, ByOwner, BooksItsFlight, Goes, Fixe
 use Rattle.log_tie.proofs.Names.{some_number, name_coded}
 use Rattle.log_tie.proofs.Frames.{steps_through}
 use Rattle.log_tie.proofs.Sending.{sent_all}
-use Rattle.log_tie.proofs.Booking.{books_one, with_page, page_here, page_there, booked_state, stripe_group, booked_pages}
+use Rattle.log_tie.proofs.Booking.{books_one, with_page, page_here, booked_state, stripe_group, by_booking, booked_pages}
 
 -- nothing is noted of a segment that was written just now
 pub nothing_noted : (i : ℕ) → is_noted none_noted i ≡ false
@@ -135,14 +135,4 @@ module _ (g : Setting) (w : State) (book : ℕ → Segment) (fixed : Fixed g w) 
         here = page_here book x f.segment
 
         by : ByOwner g w v book later
-        by = record {
-          others = refl;
-          booked = λ y fact. put_one y fact;
-          segment = λ y fact. page_there w book x f.segment new y fact;
-          stores = λ p fact. fact;
-          filed = λ y fact. fact;
-          calm = λ none c. c;
-        }
-          where
-            put_one : (y : ℕ) → w.booked y ≡ 1 → v.booked y ≡ 1
-            put_one y fact = grind (arith, nat_tests)
+        by = by_booking g w book x f.segment group s.groups w.end (g.content items) w.phase w.spanning new

@@ -29,7 +29,8 @@ use Rattle.xfs_base.proofs.Booleans.{contrary, and_first, and_second}
 use Rattle.log_tie.specs.Setting.{Setting, Stripe, server_of, generation_of, present_at, name_of, point, IsStripe}
 use Rattle.log_tie.specs.Seen.{Page, Book, Flying, Writes, Serves, ByOwner, Goes, Fixed, standing_of}
 use Rattle.log_tie.proofs.Names.{coded, some_number, name_coded, point_some}
-use Rattle.log_tie.proofs.Booking.{books_one, with_page, page_here, page_there, booked_state, stripe_group, booked_pages}
+use Rattle.log_tie.proofs.Frames.{by_nothing}
+use Rattle.log_tie.proofs.Booking.{books_one, with_page, page_here, booked_state, stripe_group, by_booking, booked_pages}
 use Rattle.log_tie.proofs.Sealing.{launch, nothing_noted}
 
 pub goes_map : (g : Setting) (w : State) (book : ℕ → Segment) (P Q : State → (ℕ → Segment) → Type 0) (outs : List Out)
@@ -174,17 +175,7 @@ module _ (g : Setting) (w : State) (book : ℕ → Segment) (fixed : Fixed g w) 
           (page.follows ∙ ap (λ (z : Segment). point g (z.name.seq - 1) z.prior.pass) (sym h.segment)) content fact writes.known paged
 
       by : ByOwner g w v book later
-      by = record {
-        others = refl;
-        booked = λ y fact. put_one y fact;
-        segment = λ y fact. page_there w book x f'.segment new y fact;
-        stores = λ p fact. fact;
-        filed = λ y fact. fact;
-        calm = λ none c. c;
-      }
-        where
-          put_one : (y : ℕ) → w.booked y ≡ 1 → v.booked y ≡ 1
-          put_one y fact = grind (arith, nat_tests)
+      by = by_booking g w book x f'.segment group s.groups (w.prior_of w.flight) (w.content_of w.flight) w.phase w.spanning new
 
   -- it waits on
   pub waits_goes : (f : FlightState) → Writes g w s → FlyingHere f → Goes g w book (Aloft s f) []
@@ -193,8 +184,7 @@ module _ (g : Setting) (w : State) (book : ℕ → Segment) (fixed : Fixed g w) 
         world = w;
         later = book;
         steps = Done;
-        frame =
-            record { others = refl; booked = λ x fact. fact; segment = λ x fact. refl; stores = λ p fact. fact; filed = λ x fact. fact; calm = λ none c. c };
+        frame = by_nothing g w book;
         fresh = λ x fact. inl fact;
         paged = paged;
         shows = record { writes = writes; flying = h; standing = refl };
