@@ -3,6 +3,7 @@ use Rattle.std.proofs.Common.{◌≡◌, ℕ, zero, suc, ◌<◌, inl, inr, refl
 use Rattle.std.proofs.lemmas.Bool.Decides.{nat_tests}
 use Rattle.token_protocol.specs.Basics.{In}
 use Rattle.token_protocol.specs.World.{start}
+use Rattle.token_protocol.proofs.Accepting.{accepts}
 use Rattle.token_protocol.specs.Step.{Step, Steps}
 use Rattle.token_protocol.specs.Step.Step.{Asks, Offers, Recalls, WritesFirst, TakesPlace, Fetches, Reads, Gives, Notes, Applies, SealsWith, Settles, CrashesDirty, RestartsAdopting, RestartsDiscarding, Promises, Reports, Activates, SealsCopy, SettlesCopy}
 use Rattle.token_protocol.specs.Step.Steps.{Done, More}
@@ -31,18 +32,7 @@ step2 = Offers first_want (record { sent = inl refl; settled = refl; fits = λ d
 })
 
 abbrev pub step3 : Step true moment2 moment3
-step3 = WritesFirst first_offer 7 (record {
-  sent = inl refl;
-  live = record {
-    heard = refl;
-    newer = grind arith;
-    wanted = refl;
-    incarnation = refl;
-    request = refl;
-    some = grind arith;
-  };
-  of_mode = refl;
-})
+step3 = WritesFirst first_offer 7 (accepts moment2 first_offer 2 (inl refl) refl (grind arith) refl refl refl (grind arith) refl)
 
 abbrev pub step4 : Step true moment3 moment4
 step4 = Asks 2 1 1 0 (record { client = grind arith; serving = refl; some = grind arith; upto_own = grind arith; less = grind arith; unused = grind arith })
@@ -81,18 +71,7 @@ step11 = Offers copy_want (record { sent = inl refl; settled = refl; fits = λ d
 })
 
 abbrev pub step12 : Step true moment11 moment12
-step12 = TakesPlace copy_offer (record {
-  sent = inl refl;
-  live = record {
-    heard = refl;
-    newer = grind arith;
-    wanted = refl;
-    incarnation = refl;
-    request = refl;
-    some = grind arith;
-  };
-  of_mode = refl;
-}) (record { placed = grind arith })
+step12 = TakesPlace copy_offer (accepts moment11 copy_offer 1 (inl refl) refl (grind arith) refl refl refl (grind arith) refl) (record { placed = grind arith })
 
 abbrev pub step13 : Step true moment12 moment13
 step13 = Fetches 2 7 (record { fetching = refl }) (record { content = refl })
@@ -121,18 +100,7 @@ step19 = Offers second_want (record { sent = inl refl; settled = refl; fits = λ
 })
 
 abbrev pub step20 : Step true moment19 moment20
-step20 = WritesFirst second_offer 8 (record {
-  sent = inl refl;
-  live = record {
-    heard = refl;
-    newer = grind arith;
-    wanted = refl;
-    incarnation = refl;
-    request = refl;
-    some = grind arith;
-  };
-  of_mode = refl;
-})
+step20 = WritesFirst second_offer 8 (accepts moment19 second_offer 2 (inl refl) refl (grind arith) refl refl refl (grind arith) refl)
 
 abbrev pub step21 : Step true moment20 moment21
 step21 = SealsWith 1 (record { dirty = grind arith })
@@ -198,18 +166,7 @@ step34 = Offers third_want (record { sent = inl refl; settled = refl; fits = λ 
 })
 
 abbrev pub step35 : Step true moment34 moment35
-step35 = WritesFirst third_offer 9 (record {
-  sent = inl refl;
-  live = record {
-    heard = refl;
-    newer = grind arith;
-    wanted = refl;
-    incarnation = refl;
-    request = refl;
-    some = grind arith;
-  };
-  of_mode = refl;
-})
+step35 = WritesFirst third_offer 9 (accepts moment34 third_offer 2 (inl refl) refl (grind arith) refl refl refl (grind arith) refl)
 
 abbrev pub step36 : Step true moment35 moment36
 step36 = CrashesDirty 1 (record { dirty = grind arith })

@@ -2,6 +2,7 @@
 use Rattle.std.proofs.Common.{◌≡◌, inl, inr, refl, true, arith}
 use Rattle.std.proofs.lemmas.Bool.Decides.{nat_tests}
 use Rattle.token_protocol.specs.World.{start}
+use Rattle.token_protocol.proofs.Accepting.{accepts}
 use Rattle.token_protocol.specs.Told.{told}
 use Rattle.token_protocol.specs.Kinds.{kinds}
 use Rattle.token_protocol.specs.Step.{Step, Steps}
@@ -24,18 +25,7 @@ other_step3 = Offers absent_want (record { sent = inl refl; settled = refl; fits
 })
 
 abbrev pub other_step4 : Step true other_moment3 other_moment4
-other_step4 = TakesAbsent absent_offer (record {
-  sent = inl refl;
-  live = record {
-    heard = refl;
-    newer = grind arith;
-    wanted = refl;
-    incarnation = refl;
-    request = refl;
-    some = grind arith;
-  };
-  of_mode = refl;
-}) (record { unplaced = refl })
+other_step4 = TakesAbsent absent_offer (accepts other_moment3 absent_offer 1 (inl refl) refl (grind arith) refl refl refl (grind arith) refl) (record { unplaced = refl })
 
 abbrev pub other_step5 : Step true other_moment4 other_moment5
 other_step5 = Reads 2 (record { holds = grind arith })
@@ -71,18 +61,7 @@ other_step13 = Offers declined_want (record { sent = inl refl; settled = refl; f
 })
 
 abbrev pub other_step14 : Step true other_moment13 other_moment14
-other_step14 = Declines declined_offer (record {
-  sent = inl refl;
-  live = record {
-    heard = refl;
-    newer = grind arith;
-    wanted = refl;
-    incarnation = refl;
-    request = refl;
-    some = grind arith;
-  };
-  of_mode = refl;
-})
+other_step14 = Declines declined_offer (accepts other_moment13 declined_offer 2 (inl refl) refl (grind arith) refl refl refl (grind arith) refl)
 
 abbrev pub other_step15 : Step true other_moment14 other_moment15
 other_step15 =
@@ -96,18 +75,7 @@ other_step16 = Offers later_want (record { sent = inl refl; settled = refl; fits
 })
 
 abbrev pub other_step17 : Step true other_moment16 other_moment17
-other_step17 = WritesFirst later_offer 5 (record {
-  sent = inl refl;
-  live = record {
-    heard = refl;
-    newer = grind arith;
-    wanted = refl;
-    incarnation = refl;
-    request = refl;
-    some = grind arith;
-  };
-  of_mode = refl;
-})
+other_step17 = WritesFirst later_offer 5 (accepts other_moment16 later_offer 2 (inl refl) refl (grind arith) refl refl refl (grind arith) refl)
 
 abbrev pub other_step18 : Step true other_moment17 other_moment18
 other_step18 = Writes 1 6 (record { owns = refl })
@@ -151,18 +119,7 @@ other_step27 = Offers supplied_want (record { sent = inl refl; settled = refl; f
 })
 
 abbrev pub other_step28 : Step true other_moment27 other_moment28
-other_step28 = TakesSupply supplied_offer 6 (record {
-  sent = inl refl;
-  live = record {
-    heard = refl;
-    newer = grind arith;
-    wanted = refl;
-    incarnation = refl;
-    request = refl;
-    some = grind arith;
-  };
-  of_mode = refl;
-}) (record { content = refl })
+other_step28 = TakesSupply supplied_offer 6 (accepts other_moment27 supplied_offer 1 (inl refl) refl (grind arith) refl refl refl (grind arith) refl) (record { content = refl })
 
 abbrev pub other_step29 : Step true other_moment28 other_moment29
 other_step29 =
