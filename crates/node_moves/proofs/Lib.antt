@@ -1,2 +1,4 @@
 pub mod client_walk
 pub mod manager_walk
+pub mod OpeningMaps
+pub mod Effects

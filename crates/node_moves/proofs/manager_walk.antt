@@ -4,4 +4,5 @@ pub mod Slots
 pub mod Tables
 pub mod Writing
 pub mod Serving
+pub mod Items
 pub mod Events

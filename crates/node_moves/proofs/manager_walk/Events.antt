@@ -1,24 +1,17 @@
 -- What each event makes of a manager, and what it says.
-use Rattle.std.proofs.Common.{refl, ℕ, List, [], ◌∷◌}
-use Rattle.std.specs.Prelude.{Option, Some, None}
+use Rattle.std.proofs.Common.{refl, ℕ, List}
 use Rattle.std.specs.List.{AllByRecursion}
 use Rattle.manager_node.specs.declared.manager.Manager.{Manager}
 use Rattle.manager_node.specs.declared.phase.Phase.{Phase}
 use Rattle.manager_node.specs.declared.phase.Phase.TheVariants.{Down, Waiting, Serving as Serves}
 use Rattle.manager_node.specs.Events.{takes_welcome, on_welcome, on_waiting, on_packet, on_deliver, on_time, on_event, happens}
-use Rattle.manager_node.specs.Phases.{Went_to, phase_has_room, serves, crashes, restarts, wish_at, down_wish, waiting_wish, serving_wish, with_begun, down_item, waiting_item, serving_item, begin_down, begin_waiting, begin_serving, on_begin}
+use Rattle.manager_node.specs.Phases.{Went_to, phase_has_room, serves, restarts, with_begun, begin_serving, on_begin}
 use Rattle.manager_slots.specs.declared.lasting.Lasting.{Lasting as Life}
-use Rattle.manager_serving.specs.Checkpoints.{on_checkpoint}
 use Rattle.manager_serving.specs.declared.serving.Serving.{Serving}
 use Rattle.manager_serving.specs.Serving.{again, on_news}
-use Rattle.node_base.specs.Beginning.{next_item, work_at, answers_unanswered}
-use Rattle.node_base.specs.declared.effects.Effect.TheVariants.{Answer as Answers}
 use Rattle.node_base.specs.declared.peers.Peers.{Peers}
 use Rattle.node_base.specs.Maps.{forgotten}
 use Rattle.node_base.specs.Shape.{is_well_formed}
-use Rattle.version_model.specs.declared.answer.Answer.TheVariants as answer
-use Rattle.version_model.specs.declared.work.Work.{Work}
-use Rattle.version_model.specs.declared.work.Work.TheVariants as work
 use Rattle.wire_msg.specs.declared.body.Body.{Body}
 use Rattle.wire_msg.specs.declared.body.Body.TheVariants as body
 use Rattle.wire_msg.specs.declared.packet.Do.{Do}
@@ -28,16 +21,16 @@ use Rattle.wire_msg.specs.declared.registry.Welcome.{Welcome}
 use Rattle.xfs_base.proofs.Booleans.{by_test}
 use Rattle.xfs_base.specs.declared.node.NodeId.{NodeId}
 use Rattle.xfs_base.specs.Steps.{still}
-use Rattle.xfs_base.proofs.Alls.{all_append}
 use Rattle.xfs_base.proofs.Leaving.{Leaves}
 use Rattle.node_base.specs.declared.effects.Effect.{Effect}
-use Rattle.node_base.specs.declared.effects.Effect.TheVariants.{Send, Lose, Does}
 use Rattle.node_base.specs.Effects.{packets_of}
 use Rattle.wire_msg.specs.declared.packet.Packet.{Packet}
 use Rattle.xfs_base.specs.declared.node.NodeId.{NodeId}
+use Rattle.node_moves.proofs.Effects as effects
+use Rattle.node_moves.proofs.manager_walk.Items as items
 use Rattle.node_moves.proofs.manager_walk.Laws.{AllSay, Says, ServingSo, Walk}
 use Rattle.node_moves.proofs.manager_walk.Serving.{Hears, Ready, news_on, packet_on, tick_on}
-use Rattle.node_moves.proofs.manager_walk.Writing.{answers_say, checkpoint_on}
+use Rattle.node_moves.proofs.manager_walk.Writing.{checkpoint_on}
 
 module _ (w : Walk) where
   abbrev pub PhaseSo : Phase → Type 0
@@ -73,71 +66,23 @@ module _ (w : Walk) where
   unmoved : (p : Phase) → PhaseSo p → Goes (still p)
   unmoved p h = record { state = h; outs = tt }
 
-  crashes_on : (life : Life) (number : ℕ) → Goes (crashes life number)
-  unfolding crashes
-  crashes_on life number = record {
-    state = tt;
-    outs = all_append (Says w) (answers_unanswered life.items.unanswered answer.Cut) (Answers number answer.Done ∷ [])
-        (answers_say w life.items.unanswered answer.Cut) (tt, tt);
-  }
-
-  restarts_on : (life : Life) (number : ℕ) → Goes (restarts life number)
-  unfolding restarts
-  restarts_on life number = record { state = tt; outs = (tt, (w.plain _ tt, tt)) }
-
   -- ---- the next item
 
-  down_on : (life : Life) → Goes (begin_down life)
-  unfolding begin_down
-  down_on life = by (next_item life.items)
-    where
-      by_wish : (number : ℕ) (asked : Option Work) → Goes (down_wish (with_begun life) number (wish_at asked))
-      by_wish number None = record { state = tt; outs = (tt, tt) }
-      by_wish number (Some (work.Restart node)) = restarts_on (with_begun life) number
-      by_wish number (Some _) = record { state = tt; outs = (tt, tt) }
-
-      by : (item : Option ℕ) → Goes (down_item (with_begun life) item)
-      by None = record { state = tt; outs = tt }
-      by (Some number) = by_wish number (work_at (with_begun life).items number)
-
-  waiting_on : (life : Life) (hello : ℕ) → Goes (begin_waiting life hello)
-  unfolding begin_waiting
-  waiting_on life hello = by (next_item life.items)
-    where
-      by_wish : (number : ℕ) (asked : Option Work) → Goes (waiting_wish (with_begun life) hello number (wish_at asked))
-      by_wish number None = record { state = tt; outs = (tt, tt) }
-      by_wish number (Some (work.Crash node)) = crashes_on (with_begun life) number
-      by_wish number (Some _) = record { state = tt; outs = (tt, tt) }
-
-      by : (item : Option ℕ) → Goes (waiting_item (with_begun life) hello item)
-      by None = record { state = tt; outs = tt }
-      by (Some number) = by_wish number (work_at (with_begun life).items number)
+  greets : (life : Life) (number : ℕ) → AllByRecursion (Says w) (restarts life number).outs
+  unfolding restarts
+  greets life number = (tt, (w.plain _ tt, tt))
 
   serving_on : (s : Serving) → ServingSo w s → Goes (begin_serving s)
-  unfolding begin_serving
-  serving_on s h = by (next_item s.lasting.items)
+  serving_on s h =
+      items.serving_on PhaseSo (Says w) (λ life. tt) (λ life hello. tt) (λ number a. tt) greets s kept
+      (λ number. (let d = checkpoint_on w (record s { lasting = with_begun s.lasting }) number kept in record { state = d.state; outs = d.outs }))
     where
       kept : ServingSo w (record s { lasting = with_begun s.lasting })
       kept = record { slots = h.slots; work = h.work; job = h.job; log = h.log }
 
-      checkpoint : (number : ℕ) → Goes (serves (on_checkpoint (record s { lasting = with_begun s.lasting }) number))
-      checkpoint number =
-          let d = checkpoint_on w (record s { lasting = with_begun s.lasting }) number kept in
-          record { state = d.state; outs = d.outs }
-
-      by_wish : (number : ℕ) (asked : Option Work) → Goes (serving_wish (record s { lasting = with_begun s.lasting }) number (wish_at asked))
-      by_wish number None = checkpoint number
-      by_wish number (Some (work.Crash node)) = crashes_on (with_begun s.lasting) number
-      by_wish number (Some (work.Restart node)) = record { state = kept; outs = (tt, tt) }
-      by_wish number (Some _) = checkpoint number
-
-      by : (item : Option ℕ) → Goes (serving_item (record s { lasting = with_begun s.lasting }) item)
-      by None = record { state = kept; outs = tt }
-      by (Some number) = by_wish number (work_at (with_begun s.lasting).items number)
-
   begins_on : (p : Phase) → PhaseSo p → Goes (on_begin p)
-  begins_on (Down life) h = down_on life
-  begins_on (Waiting life hello) h = waiting_on life hello
+  begins_on (Down life) h = items.down_on PhaseSo (Says w) (λ life. tt) (λ life hello. tt) (λ number a. tt) greets life
+  begins_on (Waiting life hello) h = items.waiting_on PhaseSo (Says w) (λ life. tt) (λ life hello. tt) (λ number a. tt) greets life hello
   begins_on (Serves s) h = serving_on s h
 
   -- ---- packets
@@ -201,8 +146,4 @@ module _ (w : Walk) where
   -- the packets of the node tell what is said
   pub packets_so : (P : Packet → Type 0) (node : NodeId) → ((to : NodeId) (b : Body) → w.Tells b → P (record { from = node; to = to; clock = 0; body = b })) → (outs : List Effect)
       → AllSay w outs → AllByRecursion P (packets_of node outs)
-  packets_so P node one [] all = tt
-  packets_so P node one (Send to b ∷ outs) all = (one to b all.0, packets_so P node one outs all.1)
-  packets_so P node one (Answers item a ∷ outs) all = packets_so P node one outs all.1
-  packets_so P node one (Lose seg ∷ outs) all = packets_so P node one outs all.1
-  packets_so P node one (Does act ∷ outs) all = packets_so P node one outs all.1
+  packets_so P node one outs all = effects.packets_so w.Tells P node one outs all

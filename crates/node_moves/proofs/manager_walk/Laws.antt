@@ -20,7 +20,6 @@ use Rattle.manager_slots.specs.declared.slot_phase.SlotPhase.{SlotPhase}
 use Rattle.manager_slots.specs.declared.slot_phase.SlotPhase.TheVariants as phase
 use Rattle.manager_slots.specs.SlotTable.{begin_one}
 use Rattle.node_base.specs.declared.effects.Effect.{Effect}
-use Rattle.node_base.specs.declared.effects.Effect.TheVariants.{Send, Answer as Answers, Lose, Does}
 use Rattle.segment_format.specs.declared.segment.Item.{Item}
 use Rattle.segment_format.specs.declared.segment.Segment.{Segment}
 use Rattle.segment_reading.specs.Reading.{ReadingState, on_answer}
@@ -50,6 +49,7 @@ use Rattle.xfs_base.specs.declared.segment.End.{End}
 use Rattle.xfs_base.specs.declared.segment.LogId.{LogId}
 use Rattle.xfs_base.specs.declared.segment.SegRef.{SegRef}
 use Rattle.xfs_base.specs.declared.token.Mode.{Mode}
+use Rattle.node_moves.proofs.Effects as effects
 
 abbrev pub Rows : Type 0
 Rows = List (BlockId × Entry)
@@ -188,10 +188,7 @@ module _ (w : Walk) where
   -- ---- what it says is so
 
   abbrev pub Says : Effect → Type 0
-  Says (Send to b) = w.Tells b
-  Says (Answers item a) = Unit {0}
-  Says (Lose seg) = Unit {0}
-  Says (Does act) = Unit {0}
+  Says e = effects.Says w.Tells e
 
   abbrev pub AllSay : List Effect → Type 0
   AllSay outs = AllByRecursion Says outs

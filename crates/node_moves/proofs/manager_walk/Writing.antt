@@ -34,6 +34,7 @@ use Rattle.xfs_base.proofs.Alls.{all_flat_map}
 use Rattle.xfs_base.proofs.Leaving.{Leaves, goes_after, leaves_each}
 use Rattle.node_base.specs.Beginning.{answers_unanswered}
 use Rattle.version_model.specs.declared.answer.Answer.{Answer}
+use Rattle.node_moves.proofs.Effects as effects
 use Rattle.node_moves.proofs.manager_walk.Laws.{AllSay, Begins, DoneSo, IsHeard, JobSo, Says, ServingSo, Walk}
 use Rattle.node_moves.proofs.manager_walk.Tables.{begin_so, table_cleaned, table_named}
 
@@ -192,8 +193,7 @@ module _ (w : Walk) where
   Goes d = Leaves (ServingSo w) (Says w) d
 
   pub answers_say : (item : Option ℕ) (a : Answer) → AllSay w (answers_unanswered item a)
-  answers_say None a = tt
-  answers_say (Some number) a = (tt, tt)
+  answers_say item a = effects.answers_say w.Tells item a
 
   at_desk : (s : Serving) → ServingSo w s → AtDesk w s.writer.log s
   at_desk s h = record { so = h; writer_log = refl }
