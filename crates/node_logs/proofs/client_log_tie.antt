@@ -17,5 +17,6 @@ mod ScanSteps
 pub mod OpeningEvents
 mod ClientPhases
 mod ClientTakes
+pub mod Staying
 pub mod Written
 pub mod Owed

@@ -1,4 +1,3 @@
-mod Spelled
 mod Written
 pub mod Rows
 mod Slots

@@ -1,5 +1,6 @@
 pub mod Sights
 pub mod Going
+pub mod Falls
 pub mod Lists
 mod Rebuilding
 pub mod RebuildEvents
@@ -7,7 +8,7 @@ mod Shelving
 mod Servers
 mod SentMaps
 pub mod WholeMaps
-mod Horizons
+pub mod Horizons
 mod Boards
 pub mod Others
 mod Registries

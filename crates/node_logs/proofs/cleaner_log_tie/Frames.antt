@@ -22,7 +22,7 @@ use Rattle.cleaner_serving.specs.declared.emptying.Emptying.{Emptying}
 use Rattle.cleaner_serving.specs.Jobs.{Done}
 use Rattle.cleaner_job.specs.declared.job.Job.{Job}
 use Rattle.cleaner_job.specs.Starting.{cleaner_log}
-use Rattle.log_protocol.specs.Tables.{In}
+use Rattle.log_protocol.specs.Tables.{In, put}
 use Rattle.log_tie.specs.Seen.{log_filed}
 use Rattle.log_tie.specs.Setting.{Setting}
 use Rattle.log_tie.specs.Shelves.{is_of_log}
@@ -31,32 +31,24 @@ use Rattle.log_law.specs.Net.Packet.{StoredSent}
 use Rattle.log_law.specs.Events.{CameToLog}
 use Rattle.log_law.specs.Events.Runs.{Begun}
 use Rattle.node_logs.specs.node_log_tie.CleanerEvents.{JobSeen, EmptyingSeen}
-use Rattle.node_logs.specs.node_log_tie.Sight.{Asker, Question, AskedBy, AnsweredBy, BodySeen, Later}
-use Rattle.node_logs.specs.node_log_tie.Sight.Question.{Unasked, OfMaps, OfOpening}
+use Rattle.node_logs.specs.node_log_tie.Sight.{Asker, Question, BodySeen, Later}
+use Rattle.node_logs.specs.node_log_tie.Sight.Question.{Unasked, OfMaps}
 use Rattle.node_logs.proofs.node_log_tie.Emptied.{OnlyOrdered, emptying_later, ordered_then}
 use Rattle.node_logs.proofs.node_log_tie.Going.{run_later, runs_on}
 use Rattle.node_logs.proofs.node_log_tie.Lists.{if_some}
+use Rattle.node_logs.proofs.node_log_tie.Sights.{answered_on, asked_on}
 use Rattle.node_logs.specs.client_log_tie.ClientEvents.{Grown, IsOnce}
 use Rattle.node_logs.specs.client_log_tie.Owner.{Scene}
 use Rattle.node_logs.specs.client_log_tie.Texts.{InputFits}
 use Rattle.node_logs.proofs.client_log_tie.Frames as client_frames
 use Rattle.node_logs.proofs.client_log_tie.Logs as logs
+use Rattle.node_logs.proofs.client_log_tie.Questions.{put_keeps}
 use Rattle.node_logs.specs.cleaner_log_tie.Owner.{its_asker, its_number, JobStands, Stands}
 use Rattle.node_logs.specs.cleaner_log_tie.OwnerEvents.{ActSeen, Grows}
 
 -- ---- what the cleaner says, as it was said by another asker before
 
 module _ (g : Setting) (a b : Asker) (n next : Net) (later : Later n next) (more : (k : ℕ) → (a.asked k ≡ Unasked → ⊥) → b.asked k ≡ a.asked k) where
-  asked_as : (inc : ℕ) (q r : Question) → ((q ≡ Unasked → ⊥) → r ≡ q) → AskedBy g a n inc q → AskedBy g b next inc r
-  asked_as inc Unasked r same h = absurd h
-  asked_as inc OfMaps r same h = subst (AskedBy g b next inc) (sym (same (λ e. absurd cc))) tt
-  asked_as inc (OfOpening own) r same h = subst (AskedBy g b next inc) (sym (same (λ e. absurd cc))) (later.sent _ h)
-
-  answered_as : (m : Welcome) (q r : Question) → ((q ≡ Unasked → ⊥) → r ≡ q) → AnsweredBy g a n m q → AnsweredBy g b next m r
-  answered_as m Unasked r same h = absurd h
-  answered_as m OfMaps r same h = subst (AnsweredBy g b next m) (sym (same (λ e. absurd cc))) tt
-  answered_as m (OfOpening own) r same h = subst (AnsweredBy g b next m) (sym (same (λ e. absurd cc))) (later.sent _ h)
-
   pub said_as : (from to : NodeId) → from ≡ a.node → (said : Body) → ((m : Welcome) → said ≡ body.Welcome m → to ≡ b.node → to ≡ a.node)
       → BodySeen g a n from to said
       → BodySeen g b next Cleaner to said
@@ -75,9 +67,9 @@ module _ (g : Setting) (a b : Asker) (n next : Net) (later : Later n next) (more
   said_as from to fact (body.Fragment m) own h = λ its. later.sent _ (h its)
   said_as from to fact (body.Listed m) own h = later.sent _ h
   said_as from to fact (body.Delete m) own h = λ its. later.sent _ (h its)
-  said_as from to fact (body.Hello m) own h = record { own = λ e. asked_as m.inc (a.asked m.ask) (b.asked m.ask) (more m.ask) (h.own fact); reached = tt }
+  said_as from to fact (body.Hello m) own h = record { own = λ e. asked_on g a b n next later m.inc (a.asked m.ask) (b.asked m.ask) (more m.ask) (h.own fact); reached = tt }
   said_as from to fact (body.Welcome m) own h = record {
-    own = λ e. answered_as m (a.asked m.ask) (b.asked m.ask) (more m.ask) (h.own (own m refl e));
+    own = λ e. answered_on g a b n next later m (a.asked m.ask) (b.asked m.ask) (more m.ask) (h.own (own m refl e));
     map = later.sent _ h.map;
     low = (let x = h.low in let y = later.low in omega arith);
   }
@@ -97,6 +89,19 @@ module _ (g : Setting) where
     registry = refl;
     low = refl;
     asked = λ k some. refl;
+  }
+
+  -- but for what is asked
+  abbrev pub asks_grows : (w : Scene) (n : ℕ) (x : Question) → w.asked n ≡ Unasked → Grows g w (record { net = w.net; asked = put w.asked n x })
+  asks_grows w n x none = record {
+    runs = Begun;
+    sent = λ p fact. fact;
+    filed = λ name fact. fact;
+    dropped = λ name fact. fact;
+    shelves = refl;
+    registry = refl;
+    low = refl;
+    asked = put_keeps w.asked n x none;
   }
 
   pub grows_on : (u v w : Scene) → Grows g u v → Grows g v w → Grows g u w

@@ -69,14 +69,14 @@ use Rattle.node_logs.proofs.node_log_tie.Lists.{answers_send}
 use Rattle.node_logs.proofs.node_log_tie.RebuildEvents.{all_listed}
 use Rattle.node_logs.specs.client_log_tie.Owner.{Scene, Lasts}
 use Rattle.node_logs.specs.client_log_tie.Texts as texts
-use Rattle.node_logs.proofs.client_log_tie.Questions.{ask_no_lower, ask_rises, put_here, put_keeps, put_fresh}
+use Rattle.node_logs.proofs.client_log_tie.Questions.{ask_no_lower, ask_rises, put_here, put_fresh}
 use Rattle.node_logs.specs.cleaner_log_tie.Fitting.{ToldFits}
 use Rattle.node_logs.specs.cleaner_log_tie.Owner.{its_asker, its_number, JobStands, Stands}
 use Rattle.node_logs.specs.cleaner_log_tie.OwnerEvents.{Grows}
 use Rattle.node_logs.proofs.cleaner_log_tie.Bytes.{NextFits}
 use Rattle.node_logs.proofs.cleaner_log_tie.Fits.{MoveFits, OutFits, InputFits, DoneFits, cleaning_fits, awaits_fit}
 use Rattle.node_logs.proofs.cleaner_log_tie.Hands.{InHand, HeardFits, checked_fits, confirms_fits, dropped_fits, hears_fits, over_read_fits, taken_fits}
-use Rattle.node_logs.proofs.cleaner_log_tie.Frames.{CleanerDoes, AllDone, Gone, LogTook, still_grows, is_later, job_more, log_takes, at_once, stays, and_then, all_steps}
+use Rattle.node_logs.proofs.cleaner_log_tie.Frames.{CleanerDoes, AllDone, Gone, LogTook, still_grows, is_later, job_more, asks_grows, log_takes, at_once, stays, and_then, all_steps}
 
 module _ (g : Setting) (fact : g.log ≡ cleaner_log) where
   abbrev Goes : Scene → Done → Type 0
@@ -119,16 +119,7 @@ module _ (g : Setting) (fact : g.log ≡ cleaner_log) where
       let v : Scene = record { net = w.net; asked = put w.asked number OfMaps } in
       record {
         next = v;
-        grown = record {
-          runs = Begun;
-          sent = λ p among. among;
-          filed = λ name among. among;
-          dropped = λ name among. among;
-          shelves = refl;
-          registry = refl;
-          low = refl;
-          asked = put_keeps w.asked number OfMaps (h.lasts.fresh number rises);
-        };
+        grown = asks_grows g w number OfMaps (h.lasts.fresh number rises);
         stands = record {
           lasts = record { number = refl; inc = h.lasts.inc; fresh = put_fresh w.asked number OfMaps q.last rises h.lasts.fresh };
           log = record { owner = h.log.owner; own = h.log.own };

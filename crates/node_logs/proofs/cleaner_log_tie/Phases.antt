@@ -47,13 +47,13 @@ use Rattle.log_tie.specs.Setting.{Setting}
 use Rattle.log_law.specs.Net.{Net}
 use Rattle.log_law.specs.Net.{Owner as owner}
 use Rattle.log_law.specs.Net.Packet.{HelloSent}
-use Rattle.log_law.specs.Events.{Happens, Happens as happen}
-use Rattle.log_law.specs.Events.Happens.{Crashes}
+use Rattle.log_law.specs.Events.{Happens as happen}
 use Rattle.log_law.specs.Events.Runs.{Begun, On}
 use Rattle.log_law.specs.Restarts.{is_down, is_serving}
 use Rattle.log_law.specs.Tails.{then_on}
 use Rattle.node_logs.specs.node_log_tie.Sight.{AskedBy, BodySeen, PacketSeen, EffectSeen}
 use Rattle.node_logs.specs.node_log_tie.Sight.Question.{OfOpening}
+use Rattle.node_logs.proofs.node_log_tie.Falls.{Fall, fall_of}
 use Rattle.node_logs.proofs.node_log_tie.Emptied.{OnlyOrdered, only_deleted}
 use Rattle.node_logs.proofs.node_log_tie.Lists.{answers_send, packets_all}
 use Rattle.node_logs.specs.client_log_tie.ClientEvents.{FliesInBoot, NeverHasLog, ServesStraight, has_log}
@@ -117,41 +117,12 @@ module _ (g : Setting) (fact : g.log ≡ cleaner_log) (w : Scene) where
 
   -- ---- falls
 
-  -- the owner falls: nothing that was sent, filed or dropped is gone
-  record Fall (n : Net) : Type 0 where
-    net : Net
-    happens : Happens g n net
-    down : net.owner ≡ owner.Down
-    inc : net.inc ≡ n.inc
-    sent : net.sent ≡ n.sent
-    filed : net.filed ≡ n.filed
-    dropped : net.dropped ≡ n.dropped
-    shelves : net.shelves ≡ n.shelves
-    registry : net.registry ≡ n.registry
-    low : net.low ≡ n.low
-    flown : net.flown ≡ n.flown
-
-  fall_of : (n : Net) → Fall n
-  fall_of n = record {
-    net = _;
-    happens = Crashes;
-    down = refl;
-    inc = refl;
-    sent = refl;
-    filed = refl;
-    dropped = refl;
-    shelves = refl;
-    registry = refl;
-    low = refl;
-    flown = refl;
-  }
-
   abbrev fallen : Scene → Scene
-  fallen v = record v { net = (fall_of v.net).net }
+  fallen v = record v { net = (fall_of g v.net).net }
 
   fallen_grows : (v : Scene) → Grows g v (fallen v)
   fallen_grows v =
-      let f : Fall v.net = fall_of v.net in
+      let f : Fall g v.net = fall_of g v.net in
       record {
         runs = On Begun f.happens;
         sent = λ p among. subst (In p) (sym f.sent) among;
@@ -165,10 +136,10 @@ module _ (g : Setting) (fact : g.log ≡ cleaner_log) (w : Scene) where
 
   fallen_never : (v : Scene) → NeverHasLog (fallen_grows v).runs
   unfolding fallen_grows
-  fallen_never v = (ap has_log (fall_of v.net).down, tt)
+  fallen_never v = (ap has_log (fall_of g v.net).down, tt)
 
   fallen_agrees : (v : Scene) (l : Lasting) → LastsAs g v l → CleanerAgrees g (fallen v) (Down l)
-  fallen_agrees v l lasts = (record { number = refl; inc = (fall_of v.net).inc ∙ lasts.inc; fresh = lasts.fresh }, (fall_of v.net).down)
+  fallen_agrees v l lasts = (record { number = refl; inc = (fall_of g v.net).inc ∙ lasts.inc; fresh = lasts.fresh }, (fall_of g v.net).down)
 
   crashed : (l : Lasting) (number : ℕ) → LastsAs g w l → Goes (crashes l number)
   unfolding crashes
@@ -178,9 +149,9 @@ module _ (g : Setting) (fact : g.log ≡ cleaner_log) (w : Scene) where
     agrees = fallen_agrees w (record l { items = answered l.items }) lasts;
     does = all_append (CleanerDoes g (fallen w)) (answers_unanswered l.items.unanswered answer.Cut) _ (answers_do (fallen w) l.items.unanswered answer.Cut)
         (tt, tt);
-    flies = inr ((fall_of w.net).flown, (fall_of w.net).filed);
-    straight = down_straight g w.net (fallen w).net (fallen_grows w).runs (fallen_never w) (fall_of w.net).down;
-    only = λ name fact. inl (subst (In name) (fall_of w.net).dropped fact);
+    flies = inr ((fall_of g w.net).flown, (fall_of g w.net).filed);
+    straight = down_straight g w.net (fallen w).net (fallen_grows w).runs (fallen_never w) (fall_of g w.net).down;
+    only = λ name fact. inl (subst (In name) (fall_of g w.net).dropped fact);
   }
 
   -- ---- restarts
@@ -277,12 +248,12 @@ module _ (g : Setting) (fact : g.log ≡ cleaner_log) (w : Scene) where
         agrees = fallen_agrees t.next (record l { questions = x.questions; items = answered l.items }) t.lasts;
         does = all_append (CleanerDoes g (fallen t.next)) x.effects (answers_unanswered l.items.unanswered (answer.Lost seg))
             (all_more g t.next (fallen t.next) (fallen_grows t.next) x.effects t.does) (answers_do (fallen t.next) l.items.unanswered (answer.Lost seg));
-        flies = inr ((fall_of t.next.net).flown ∙ (lost tt).0, (fall_of t.next.net).filed ∙ (lost tt).1.0);
+        flies = inr ((fall_of g t.next.net).flown ∙ (lost tt).0, (fall_of g t.next.net).filed ∙ (lost tt).1.0);
         straight = down_straight g w.net (fallen t.next).net (then_on t.grown.runs (fallen_grows t.next).runs)
             (never_then g w.net t.next.net (fallen t.next).net t.grown.runs (fallen_grows t.next).runs
             ((once_straight g w.net t.next.net t.grown.runs t.once).rests (lost tt).1.1) (fallen_never t.next))
-            (fall_of t.next.net).down;
-        only = λ name fact. inl (subst (In name) ((fall_of t.next.net).dropped ∙ t.kept) fact);
+            (fall_of g t.next.net).down;
+        only = λ name fact. inl (subst (In name) ((fall_of g t.next.net).dropped ∙ t.kept) fact);
       }
 
   -- ---- items

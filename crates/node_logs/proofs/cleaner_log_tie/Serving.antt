@@ -58,16 +58,15 @@ use Rattle.log_tie.specs.Seen.{log_filed}
 use Rattle.log_tie.specs.Setting.{Setting}
 use Rattle.log_law.specs.Net.{Packet, log_packets}
 use Rattle.log_law.specs.Net.Packet.{StoreSent, MapSent}
-use Rattle.log_law.specs.Events.Runs.{Begun}
 use Rattle.node_logs.specs.node_log_tie.Sight.{AskedBy, BodySeen, WelcomeSeen}
 use Rattle.node_logs.specs.node_log_tie.Sight.Question.{OfMaps}
 use Rattle.node_logs.specs.client_log_tie.Owner.{Scene}
 use Rattle.node_logs.specs.client_log_tie.Texts.{MapFits}
-use Rattle.node_logs.proofs.client_log_tie.Questions.{ask_rises, put_here, put_keeps, put_fresh}
+use Rattle.node_logs.proofs.client_log_tie.Questions.{ask_rises, put_here, put_fresh}
 use Rattle.node_logs.specs.cleaner_log_tie.Fitting.{InRange}
 use Rattle.node_logs.specs.cleaner_log_tie.Owner.{its_asker, JobStands, Stands}
 use Rattle.node_logs.specs.cleaner_log_tie.OwnerEvents.{Grows}
-use Rattle.node_logs.proofs.cleaner_log_tie.Frames.{CleanerDoes, AllDone, Gone, LogTook, job_more, log_takes, log_takes_stored, at_once, stays, and_then, after_these, all_steps, grows_on}
+use Rattle.node_logs.proofs.cleaner_log_tie.Frames.{CleanerDoes, AllDone, Gone, LogTook, job_more, asks_grows, log_takes, log_takes_stored, at_once, stays, and_then, after_these, all_steps, grows_on}
 use Rattle.node_logs.proofs.cleaner_log_tie.Hands.{moved_fits}
 use Rattle.node_logs.proofs.cleaner_log_tie.Jobs.{job_goes_on, job_in_time, list_came, usage_came, live_came, dead_came, deleted_came, told_came}
 
@@ -329,16 +328,7 @@ module _ (g : Setting) (fact : g.log ≡ cleaner_log) where
       let number : ℕ = next_ask q in
       let rises = ask_rises q room in
       let v : Scene = record { net = w.net; asked = put w.asked number OfMaps } in
-      let grown : Grows g w v = record {
-        runs = Begun;
-        sent = λ p among. among;
-        filed = λ name among. among;
-        dropped = λ name among. among;
-        shelves = refl;
-        registry = refl;
-        low = refl;
-        asked = put_keeps w.asked number OfMaps (h.lasts.fresh number rises);
-      } in
+      let grown : Grows g w v = asks_grows g w number OfMaps (h.lasts.fresh number rises) in
       record {
         next = v;
         grown = grown;

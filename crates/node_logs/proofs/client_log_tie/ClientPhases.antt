@@ -50,8 +50,7 @@ use Rattle.log_tie.specs.Setting.{Setting}
 use Rattle.log_law.specs.Net.{Net}
 use Rattle.log_law.specs.Net.{Owner as owner}
 use Rattle.log_law.specs.Net.Packet.{HelloSent}
-use Rattle.log_law.specs.Events.{Happens, Happens as happen}
-use Rattle.log_law.specs.Events.Happens.{Crashes}
+use Rattle.log_law.specs.Events.{Happens as happen}
 use Rattle.log_law.specs.Events.Runs.{Begun, On}
 use Rattle.log_law.specs.Restarts.{is_down, is_serving}
 use Rattle.node_logs.specs.node_log_tie.Sight.{AskedBy}
@@ -60,6 +59,7 @@ use Rattle.node_logs.specs.client_log_tie.Owner.{Scene, asker, LastsAs, ClientAg
 use Rattle.client_log.specs.LogState.{LogState}
 use Rattle.node_logs.specs.client_log_tie.Texts.{StaysWritten}
 use Rattle.node_logs.specs.opening_law.Questions.{AsksOn, ProgressAsks}
+use Rattle.node_logs.proofs.node_log_tie.Falls.{Fall, fall_of}
 use Rattle.node_logs.proofs.opening_law.Asking.{packet_few, starts_few, tick_few}
 use Rattle.node_logs.specs.client_log_tie.ClientEvents.{StageWritten, StageTells, PhaseWritten, PhaseOwed, PacketOwed, ClientOwed, FliesInBoot, Grown, NeverHasLog, has_log}
 use Rattle.node_logs.specs.client_log_tie.Puts.{PutsOwn}
@@ -106,41 +106,12 @@ module _ (g : Setting) (c : ℕ) (fact : g.log ≡ record { 0 = c }) (small : is
 
   -- ---- falls
 
-  -- the owner falls: nothing that was sent or filed is gone
-  record Fall (n : Net) : Type 0 where
-    net : Net
-    happens : Happens g n net
-    down : net.owner ≡ owner.Down
-    inc : net.inc ≡ n.inc
-    sent : net.sent ≡ n.sent
-    filed : net.filed ≡ n.filed
-    shelves : net.shelves ≡ n.shelves
-    registry : net.registry ≡ n.registry
-    low : net.low ≡ n.low
-    dropped : net.dropped ≡ n.dropped
-    flown : net.flown ≡ n.flown
-
-  fall_of : (n : Net) → Fall n
-  fall_of n = record {
-    net = _;
-    happens = Crashes;
-    down = refl;
-    inc = refl;
-    sent = refl;
-    filed = refl;
-    shelves = refl;
-    registry = refl;
-    low = refl;
-    dropped = refl;
-    flown = refl;
-  }
-
   abbrev fallen : Scene → Scene
-  fallen v = record v { net = (fall_of v.net).net }
+  fallen v = record v { net = (fall_of g v.net).net }
 
   fallen_grown : (v : Scene) → Grown g v (fallen v)
   fallen_grown v =
-      let f : Fall v.net = fall_of v.net in
+      let f : Fall g v.net = fall_of g v.net in
       record {
         runs = On Begun f.happens;
         sent = λ p among. subst (In p) (sym f.sent) among;
@@ -154,11 +125,11 @@ module _ (g : Setting) (c : ℕ) (fact : g.log ≡ record { 0 = c }) (small : is
 
   fallen_never : (v : Scene) → NeverHasLog (fallen_grown v).runs
   unfolding fallen_grown
-  fallen_never v = (ap has_log (fall_of v.net).down, tt)
+  fallen_never v = (ap has_log (fall_of g v.net).down, tt)
 
   -- one that fell
   fallen_agrees : (v : Scene) (l : Lasting) → LastsAs g c v l → ClientAgrees g c (fallen v) (Down l)
-  fallen_agrees v l lasts = (record { number = lasts.number; inc = (fall_of v.net).inc ∙ lasts.inc; fresh = lasts.fresh }, (fall_of v.net).down)
+  fallen_agrees v l lasts = (record { number = lasts.number; inc = (fall_of g v.net).inc ∙ lasts.inc; fresh = lasts.fresh }, (fall_of g v.net).down)
 
   falls_so : (l : Lasting) (outs : List Effect) → LastsAs g c w l → frames.Plain g c outs → ClientDid g c w (Down l) outs
   falls_so l outs lasts plain = record {
@@ -167,9 +138,9 @@ module _ (g : Setting) (c : ℕ) (fact : g.log ≡ record { 0 = c }) (small : is
     agrees = fallen_agrees w l lasts;
     written = tt;
     does = plain (fallen w);
-    flies = inr ((fall_of w.net).flown, (fall_of w.net).filed);
-    straight = down_straight g w.net (fallen w).net (fallen_grown w).runs (fallen_never w) (fall_of w.net).down;
-    puts = λ s owns serves. contrary (sym (ap is_serving (fall_of w.net).down) ∙ serves);
+    flies = inr ((fall_of g w.net).flown, (fall_of g w.net).filed);
+    straight = down_straight g w.net (fallen w).net (fallen_grown w).runs (fallen_never w) (fall_of g w.net).down;
+    puts = λ s owns serves. contrary (sym (ap is_serving (fall_of g w.net).down) ∙ serves);
   }
 
   crash_said : (l : Lasting) (number : ℕ) → frames.Plain g c (crashed l number).outs
@@ -302,11 +273,11 @@ module _ (g : Setting) (c : ℕ) (fact : g.log ≡ record { 0 = c }) (small : is
           does = All-append (ClientDoes g c (fallen t.next)) x.effects (answers_unanswered l.items.unanswered (answer.Lost seg))
               (frames.all_more g c t.next (fallen t.next) (fallen_grown t.next) x.effects t.does)
               (tokens.plain_answers g c l.items.unanswered (answer.Lost seg) (fallen t.next));
-          flies = inr ((fall_of t.next.net).flown ∙ (lost tt).0, (fall_of t.next.net).filed ∙ (lost tt).1.0);
+          flies = inr ((fall_of g t.next.net).flown ∙ (lost tt).0, (fall_of g t.next.net).filed ∙ (lost tt).1.0);
           straight = down_straight g w.net (fallen t.next).net (frames.grown_on g w t.next (fallen t.next) t.grown (fallen_grown t.next)).runs
               (frames.never_on g w t.next (fallen t.next) t.grown (fallen_grown t.next)
               ((once_straight g w.net t.next.net t.grown.runs t.once).rests (lost tt).1.1) (fallen_never t.next))
-              (fall_of t.next.net).down;
+              (fall_of g t.next.net).down;
           puts = λ s owns serves. contrary (sym away ∙ ap is_serving owns);
         }
 

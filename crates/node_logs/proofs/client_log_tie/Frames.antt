@@ -1,5 +1,5 @@
 -- How a client that serves goes on in the small world of its log: what of it stays, and how one thing that it does follows another.
-use Rattle.std.proofs.Common.{◌≡◌, ℕ, List, [], ◌∷◌, ◌++◌, refl, ◌∙◌, subst, sym, ap, inl, inr, arith}
+use Rattle.std.proofs.Common.{◌≡◌, ℕ, List, [], ◌∷◌, ◌++◌, refl, ◌∙◌, sym, ap, inl, inr, arith}
 use Rattle.std.specs.Prelude.{All, fold}
 use Rattle.std.proofs.lemmas.List.Elements.{All-nil, All-append, All-weaker}
 use Rattle.client_log.specs.History.{state_after}
@@ -12,9 +12,8 @@ use Rattle.version_model.specs.declared.act.Act.{Act}
 use Rattle.version_model.specs.declared.act.Act.TheVariants.{Filed}
 use Rattle.wire_msg.specs.declared.body.Body.{Body}
 use Rattle.wire_msg.specs.declared.body.Body.TheVariants as body
-use Rattle.wire_msg.specs.declared.registry.Welcome.{Welcome}
 use Rattle.xfs_base.specs.declared.node.NodeId.{NodeId}
-use Rattle.xfs_base.specs.declared.node.NodeId.TheVariants.{Client, Manager, Server, Cleaner, Registry}
+use Rattle.xfs_base.specs.declared.node.NodeId.TheVariants.{Client}
 use Rattle.xfs_base.specs.Steps.{still, saying, steps}
 use Rattle.fragment_store.specs.ShelfState.{ShelfState}
 use Rattle.log_protocol.specs.Tables.{In}
@@ -23,8 +22,8 @@ use Rattle.log_law.specs.Net.{Net}
 use Rattle.log_law.specs.Net.{Owner as owner}
 use Rattle.log_law.specs.Events.{Runs}
 use Rattle.log_law.specs.Events.Runs.{Begun, On}
-use Rattle.node_logs.specs.node_log_tie.Sight.{Question, AskedBy, AnsweredBy, ReachedBy, BodySeen}
-use Rattle.node_logs.specs.node_log_tie.Sight.Question.{Unasked, OfMaps, OfOpening}
+use Rattle.node_logs.specs.node_log_tie.Sight.{Later, BodySeen}
+use Rattle.node_logs.proofs.node_log_tie.Sights.{seen_on}
 use Rattle.client_node.specs.declared.phase.Phase.{Phase}
 use Rattle.node_logs.specs.client_log_tie.Owner.{Scene, asker, Lasts, SeesLog, ClientAgrees}
 use Rattle.node_logs.specs.client_log_tie.Puts.{LogTook, PutsOwn, ServesBy}
@@ -129,54 +128,15 @@ module _ (g : Setting) (c : ℕ) where
   -- ---- what was seen is seen
 
   module _ (w v : Scene) (grown : Grown g w v) where
-    asked_more : (inc : ℕ) (q r : Question) → ((q ≡ Unasked → ⊥) → r ≡ q) → AskedBy g (asker c w) w.net inc q → AskedBy g (asker c v) v.net inc r
-    asked_more inc Unasked r same h = absurd h
-    asked_more inc OfMaps r same h = subst (AskedBy g (asker c v) v.net inc) (sym (same (λ e. absurd cc))) tt
-    asked_more inc (OfOpening own) r same h = subst (AskedBy g (asker c v) v.net inc) (sym (same (λ e. absurd cc))) (grown.sent _ h)
-
-    answered_more : (m : Welcome) (q r : Question) → ((q ≡ Unasked → ⊥) → r ≡ q) → AnsweredBy g (asker c w) w.net m q → AnsweredBy g (asker c v) v.net m r
-    answered_more m Unasked r same h = absurd h
-    answered_more m OfMaps r same h = subst (AnsweredBy g (asker c v) v.net m) (sym (same (λ e. absurd cc))) tt
-    answered_more m (OfOpening own) r same h = subst (AnsweredBy g (asker c v) v.net m) (sym (same (λ e. absurd cc))) (grown.sent _ h)
-
-    reached_more : (from : NodeId) (generation : ℕ) → ReachedBy g (asker c w) w.net from generation → ReachedBy g (asker c v) v.net from generation
-    reached_more (Server k) generation h = (let e = ap (λ (f : ℕ → ShelfState). (f k).generation) grown.shelves in omega arith)
-    reached_more (Client k) generation h = tt
-    reached_more (Manager k) generation h = tt
-    reached_more Cleaner generation h = tt
-    reached_more Registry generation h = tt
+    later : Later w.net v.net
+    later = record {
+      low = (let y = grown.low in omega arith);
+      sent = grown.sent;
+      reached = λ k. (let e = ap (λ (f : ℕ → ShelfState). (f k).generation) grown.shelves in omega arith);
+    }
 
     pub body_more : (from to : NodeId) (said : Body) → BodySeen g (asker c w) w.net from to said → BodySeen g (asker c v) v.net from to said
-    body_more from (Server k) (body.Store m) h = λ own. grown.sent _ (h own)
-    body_more from (Client k) (body.Store m) h = tt
-    body_more from (Manager k) (body.Store m) h = tt
-    body_more from Cleaner (body.Store m) h = tt
-    body_more from Registry (body.Store m) h = tt
-    body_more from (Server k) (body.Fence m) h = λ own. ((h own).0, grown.sent _ (h own).1)
-    body_more from (Client k) (body.Fence m) h = tt
-    body_more from (Manager k) (body.Fence m) h = tt
-    body_more from Cleaner (body.Fence m) h = tt
-    body_more from Registry (body.Fence m) h = tt
-    body_more (Server k) to (body.Fenced m) h = λ own. grown.sent _ (h own)
-    body_more (Client k) to (body.Fenced m) h = tt
-    body_more (Manager k) to (body.Fenced m) h = tt
-    body_more Cleaner to (body.Fenced m) h = tt
-    body_more Registry to (body.Fenced m) h = tt
-    body_more from to (body.Stored m) h = λ own. grown.sent _ (h own)
-    body_more from to (body.Fragment m) h = λ own. grown.sent _ (h own)
-    body_more from to (body.Listed m) h = grown.sent _ h
-    body_more from to (body.Delete m) h = λ own. grown.sent _ (h own)
-    body_more from to (body.Hello m) h = record {
-      own = λ fact. asked_more m.inc (w.asked m.ask) (v.asked m.ask) (grown.asked m.ask) (h.own fact);
-      reached = reached_more from m.inc h.reached;
-    }
-    body_more from to (body.Welcome m) h = record {
-      own = λ fact. answered_more m (w.asked m.ask) (v.asked m.ask) (grown.asked m.ask) (h.own fact);
-      map = grown.sent _ h.map;
-      low = (let x = h.low in let y = grown.low in omega arith);
-    }
-    body_more from to (body.MapNews m) h = grown.sent _ h
-    body_more from to _ h = tt
+    body_more from to said h = seen_on g (asker c w) (asker c v) refl grown.asked w.net v.net later from to said h
 
     act_more : (act : Act) → ActSeen w act → ActSeen v act
     act_more (Filed seg) h = grown.filed _ h

@@ -56,7 +56,6 @@ use Rattle.log_law.specs.Net.{Owner as owner}
 use Rattle.log_law.specs.Net.Packet.{StoredSent, FragmentSent, FencedSent, MapSent, WelcomeSent}
 use Rattle.log_law.specs.Events.{CameToScan, StartsWith, WritesText}
 use Rattle.log_law.specs.Events.{Happens as happen}
-use Rattle.log_law.specs.Events.Runs.{Begun}
 use Rattle.node_logs.specs.node_log_tie.Sight.{BodySeen, AskedBy, AnsweredBy, WelcomeSeen, FencedSeen, Question}
 use Rattle.node_logs.specs.node_log_tie.Sight.Question.{OfMaps, OfOpening}
 use Rattle.node_logs.specs.client_log_tie.Owner.{Scene, asker, AsksRegistry, AsksServers, AsksIn, AsksAt, MapCame, Lasts, SeesScan, SeesStage}
@@ -68,7 +67,7 @@ use Rattle.node_logs.proofs.client_log_tie.Logs.{writes_text}
 use Rattle.node_logs.proofs.client_log_tie.OpeningLog as writing
 use Rattle.node_logs.proofs.client_log_tie.OpeningLog.{WentTo}
 use Rattle.node_logs.proofs.client_log_tie.Owed.{ScanOwed, StageOwed}
-use Rattle.node_logs.proofs.client_log_tie.Questions.{ask_rises, put_here, put_below, put_keeps, put_fresh}
+use Rattle.node_logs.proofs.client_log_tie.Questions.{ask_rises, asks_grown, put_here, put_below, put_fresh}
 use Rattle.node_logs.proofs.client_log_tie.ScanSays.{Opens}
 use Rattle.node_logs.proofs.client_log_tie.ScanSteps as scanning
 
@@ -436,16 +435,7 @@ module _ (g : Setting) (c : ℕ) (small : is_log g.log.0 ≡ true) (w : Scene) (
       let v : Scene = record { net = w.net; asked = put w.asked (next_ask q) OfMaps } in
       record {
         next = v;
-        grown = record {
-          runs = Begun;
-          sent = λ p among. among;
-          filed = λ name among. among;
-          shelves = refl;
-          registry = refl;
-          low = refl;
-          dropped = refl;
-          asked = put_keeps w.asked (next_ask q) OfMaps (lasts.fresh (next_ask q) rises);
-        };
+        grown = asks_grown g w (next_ask q) OfMaps (lasts.fresh (next_ask q) rises);
         lasts = record { number = lasts.number; inc = lasts.inc; fresh = put_fresh w.asked (next_ask q) OfMaps q.last rises lasts.fresh };
         shows = (by_stage o.stage h.sees, h.written);
         does = All-cons (ClientDoes g c v) (hello o.known.owner.inc (next_ask q)) []

@@ -8,6 +8,10 @@ use Rattle.node_base.specs.Room.{has_room}
 use Rattle.xfs_base.proofs.Booleans.{by_test, equal_itself}
 use Rattle.xfs_base.specs.Limits.{u32_end}
 use Rattle.log_protocol.specs.Tables.{put}
+use Rattle.log_tie.specs.Setting.{Setting}
+use Rattle.log_law.specs.Events.Runs.{Begun}
+use Rattle.node_logs.specs.client_log_tie.ClientEvents.{Grown}
+use Rattle.node_logs.specs.client_log_tie.Owner.{Scene}
 use Rattle.node_logs.specs.node_log_tie.Sight.{Question}
 use Rattle.node_logs.specs.node_log_tie.Sight.Question.{Unasked}
 
@@ -39,3 +43,16 @@ module _ (f : ℕ → Question) (n : ℕ) (x : Question) where
   -- and what was asked by lower numbers stays so
   pub put_below : (k : ℕ) → k < n → put f n x k ≡ f k
   put_below k less = by_test (λ y. y ≡ f k) (k == n) x (f k) (λ t. (let e = eqb-true k n t in absurd (omega arith))) (λ t. refl)
+
+-- the small world is as it was, but for what is asked
+abbrev pub asks_grown : (g : Setting) (w : Scene) (n : ℕ) (x : Question) → w.asked n ≡ Unasked → Grown g w (record { net = w.net; asked = put w.asked n x })
+asks_grown g w n x none = record {
+  runs = Begun;
+  sent = λ p among. among;
+  filed = λ name among. among;
+  shelves = refl;
+  registry = refl;
+  low = refl;
+  dropped = refl;
+  asked = put_keeps w.asked n x none;
+}

@@ -51,7 +51,6 @@ use Rattle.xfs_base.specs.Steps.{Stepped, still, saying, steps}
 use Rattle.log_protocol.specs.Tables.{In, put}
 use Rattle.log_tie.specs.Setting.{Setting}
 use Rattle.log_law.specs.Net.Packet.{MapSent}
-use Rattle.log_law.specs.Events.Runs.{Begun}
 use Rattle.node_logs.specs.node_log_tie.Sight.{BodySeen, AskedBy}
 use Rattle.node_logs.specs.node_log_tie.Sight.Question.{OfMaps}
 use Rattle.node_logs.specs.client_log_tie.Puts.{PutsOwn}
@@ -61,7 +60,7 @@ use Rattle.node_logs.specs.client_log_tie.Texts.{MapFits}
 use Rattle.node_logs.specs.client_log_tie.ClientEvents.{BodyFits}
 use Rattle.node_logs.proofs.client_log_tie.Frames.{ClientDoes}
 use Rattle.node_logs.proofs.client_log_tie.Frames as frames
-use Rattle.node_logs.proofs.client_log_tie.Questions.{ask_rises, put_here, put_keeps, put_fresh}
+use Rattle.node_logs.proofs.client_log_tie.Questions.{ask_rises, asks_grown, put_here, put_fresh}
 use Rattle.node_logs.proofs.client_log_tie.ServingCalls as calls
 use Rattle.node_logs.proofs.client_log_tie.ServingLog as flights
 use Rattle.node_logs.proofs.client_log_tie.ServingTokens as tokens
@@ -219,16 +218,7 @@ module _ (g : Setting) (c : ℕ) (fact : g.log ≡ record { 0 = c }) where
       let v : Scene = record { net = w.net; asked = put w.asked number OfMaps } in
       record {
         next = v;
-        grown = record {
-          runs = Begun;
-          sent = λ p among. among;
-          filed = λ name among. among;
-          shelves = refl;
-          registry = refl;
-          low = refl;
-          dropped = refl;
-          asked = put_keeps w.asked number OfMaps (h.lasts.fresh number rises);
-        };
+        grown = asks_grown g w number OfMaps (h.lasts.fresh number rises);
         stands = record {
           lasts = record {
             number = h.lasts.number;

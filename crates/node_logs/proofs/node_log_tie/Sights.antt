@@ -1,5 +1,5 @@
 -- What is seen stays seen while the small world goes on, and each run of it goes on so.
-use Rattle.std.proofs.Common.{ℕ, arith}
+use Rattle.std.proofs.Common.{◌≡◌, ℕ, refl, sym, subst, ◌∙◌, arith}
 use Rattle.xfs_base.specs.declared.node.NodeId.{NodeId}
 use Rattle.xfs_base.specs.declared.node.NodeId.TheVariants.{Client, Manager, Server, Cleaner, Registry}
 use Rattle.wire_msg.specs.declared.body.Body.{Body}
@@ -20,52 +20,64 @@ then_later n m o a b = record {
   reached = λ v. (let x = a.reached v in let y = b.reached v in omega arith);
 }
 
+-- whoever asks, where it asked the same before
+module _ (g : Setting) (owner asker : Asker) (n next : Net) (later : Later n next) where
+  pub asked_on : (inc : ℕ) (q r : Question) → ((q ≡ Unasked → ⊥) → r ≡ q) → AskedBy g owner n inc q → AskedBy g asker next inc r
+  asked_on inc Unasked r alike h = absurd h
+  asked_on inc OfMaps r alike h = subst (AskedBy g asker next inc) (sym (alike (λ e. absurd cc))) tt
+  asked_on inc (OfOpening own) r alike h = subst (AskedBy g asker next inc) (sym (alike (λ e. absurd cc))) (later.sent _ h)
+
+  pub answered_on : (m : Welcome) (q r : Question) → ((q ≡ Unasked → ⊥) → r ≡ q) → AnsweredBy g owner n m q → AnsweredBy g asker next m r
+  answered_on m Unasked r alike h = absurd h
+  answered_on m OfMaps r alike h = subst (AnsweredBy g asker next m) (sym (alike (λ e. absurd cc))) tt
+  answered_on m (OfOpening own) r alike h = subst (AnsweredBy g asker next m) (sym (alike (λ e. absurd cc))) (later.sent _ h)
+
+  pub reached_on : (from : NodeId) (generation : ℕ) → ReachedBy g owner n from generation → ReachedBy g asker next from generation
+  reached_on (Server v) generation h = (let x = later.reached v in omega arith)
+  reached_on (Client c) generation h = tt
+  reached_on (Manager k) generation h = tt
+  reached_on Cleaner generation h = tt
+  reached_on Registry generation h = tt
+
+-- what is seen stays seen, while its owner asks more
+module _ (g : Setting) (owner asker : Asker) (same : asker.node ≡ owner.node) (keeps : (k : ℕ) → (owner.asked k ≡ Unasked → ⊥) → asker.asked k ≡ owner.asked k)
+    (n next : Net) (later : Later n next) where
+  pub seen_on : (from to : NodeId) (said : Body) → BodySeen g owner n from to said → BodySeen g asker next from to said
+  seen_on from (Server v) (body.Store m) h = λ own. later.sent _ (h own)
+  seen_on from (Client c) (body.Store m) h = tt
+  seen_on from (Manager k) (body.Store m) h = tt
+  seen_on from Cleaner (body.Store m) h = tt
+  seen_on from Registry (body.Store m) h = tt
+  seen_on from (Server v) (body.Fence m) h = λ own. ((h own).0, later.sent _ (h own).1)
+  seen_on from (Client c) (body.Fence m) h = tt
+  seen_on from (Manager k) (body.Fence m) h = tt
+  seen_on from Cleaner (body.Fence m) h = tt
+  seen_on from Registry (body.Fence m) h = tt
+  seen_on (Server v) to (body.Fenced m) h = λ own. later.sent _ (h own)
+  seen_on (Client c) to (body.Fenced m) h = tt
+  seen_on (Manager k) to (body.Fenced m) h = tt
+  seen_on Cleaner to (body.Fenced m) h = tt
+  seen_on Registry to (body.Fenced m) h = tt
+  seen_on from to (body.Stored m) h = λ own. later.sent _ (h own)
+  seen_on from to (body.Fragment m) h = λ own. later.sent _ (h own)
+  seen_on from to (body.Listed m) h = later.sent _ h
+  seen_on from to (body.Delete m) h = λ own. later.sent _ (h own)
+  seen_on from to (body.Hello m) h = record {
+    own = λ fact. asked_on g owner asker n next later m.inc (owner.asked m.ask) (asker.asked m.ask) (keeps m.ask) (h.own (fact ∙ same));
+    reached = reached_on g owner asker n next later from m.inc h.reached;
+  }
+  seen_on from to (body.Welcome m) h = record {
+    own = λ fact. answered_on g owner asker n next later m (owner.asked m.ask) (asker.asked m.ask) (keeps m.ask) (h.own (fact ∙ same));
+    map = later.sent _ h.map;
+    low = (let x = h.low in let y = later.low in omega arith);
+  }
+  seen_on from to (body.MapNews m) h = later.sent _ h
+  seen_on from to _ h = tt
+
+-- or nothing
 module _ (g : Setting) (owner : Asker) (n next : Net) (later : Later n next) where
   pub asked_later : (inc : ℕ) (q : Question) → AskedBy g owner n inc q → AskedBy g owner next inc q
-  asked_later inc Unasked h = h
-  asked_later inc OfMaps h = tt
-  asked_later inc (OfOpening own) h = later.sent _ h
+  asked_later inc q h = asked_on g owner owner n next later inc q q (λ some. refl) h
 
-  answered_later : (m : Welcome) (q : Question) → AnsweredBy g owner n m q → AnsweredBy g owner next m q
-  answered_later m Unasked h = h
-  answered_later m OfMaps h = tt
-  answered_later m (OfOpening own) h = later.sent _ h
-
-  reached_later : (from : NodeId) (generation : ℕ) → ReachedBy g owner n from generation → ReachedBy g owner next from generation
-  reached_later (Server v) generation h = (let x = later.reached v in omega arith)
-  reached_later (Client c) generation h = tt
-  reached_later (Manager k) generation h = tt
-  reached_later Cleaner generation h = tt
-  reached_later Registry generation h = tt
-
-  -- what is seen stays seen
   pub seen_later : (from to : NodeId) (said : Body) → BodySeen g owner n from to said → BodySeen g owner next from to said
-  seen_later from (Server v) (body.Store m) h = λ own. later.sent _ (h own)
-  seen_later from (Client c) (body.Store m) h = tt
-  seen_later from (Manager k) (body.Store m) h = tt
-  seen_later from Cleaner (body.Store m) h = tt
-  seen_later from Registry (body.Store m) h = tt
-  seen_later from (Server v) (body.Fence m) h = λ own. ((h own).0, later.sent _ (h own).1)
-  seen_later from (Client c) (body.Fence m) h = tt
-  seen_later from (Manager k) (body.Fence m) h = tt
-  seen_later from Cleaner (body.Fence m) h = tt
-  seen_later from Registry (body.Fence m) h = tt
-  seen_later (Server v) to (body.Fenced m) h = λ own. later.sent _ (h own)
-  seen_later (Client c) to (body.Fenced m) h = tt
-  seen_later (Manager k) to (body.Fenced m) h = tt
-  seen_later Cleaner to (body.Fenced m) h = tt
-  seen_later Registry to (body.Fenced m) h = tt
-  seen_later from to (body.Stored m) h = λ own. later.sent _ (h own)
-  seen_later from to (body.Fragment m) h = λ own. later.sent _ (h own)
-  seen_later from to (body.Listed m) h = later.sent _ h
-  seen_later from to (body.Delete m) h = λ own. later.sent _ (h own)
-  seen_later from to (body.Hello m) h =
-      record { own = λ fact. asked_later m.inc (owner.asked m.ask) (h.own fact); reached = reached_later from m.inc h.reached }
-  seen_later from to (body.Welcome m) h =
-      record {
-        own = λ fact. answered_later m (owner.asked m.ask) (h.own fact);
-        map = later.sent _ h.map;
-        low = (let x = h.low in let y = later.low in omega arith);
-      }
-  seen_later from to (body.MapNews m) h = later.sent _ h
-  seen_later from to _ h = tt
+  seen_later from to said h = seen_on g owner owner refl (λ k some. refl) n next later from to said h
