@@ -67,6 +67,7 @@ pub mod RegistryBoard
 pub mod RegistryNews
 pub mod RegistryNode
 pub mod RegistrySlots
+pub mod SlotTables
 pub mod SmallWorld
 pub mod StoreFrames
 pub mod StoreServer

@@ -1,5 +1,5 @@
 -- Each event of a manager is a list of things that happen in the small world of one slot's index.
-use Rattle.std.proofs.Common.{◌≡◌, ℕ, zero, suc, ◌+◌, ◌==◌, ◌<◌, ◌&&◌, true, inl, inr, ⊎_elim, List, [], ◌∷◌, ◌++◌, length, Option, Some, None, refl, sym, ap, subst, ◌∙◌}
+use Rattle.std.proofs.Common.{◌≡◌, ℕ, ◌+◌, ◌==◌, ◌<◌, ◌&&◌, true, inl, inr, ⊎_elim, List, [], ◌∷◌, ◌++◌, length, Option, Some, None, refl, sym, ap, subst, ◌∙◌}
 use Rattle.std.proofs.lemmas.Bool.{eqb-true}
 use Rattle.std.proofs.lemmas.List.Elements.{All-from_recursion}
 use Rattle.xfs_base.proofs.Booleans.{by_test, and_first}
@@ -19,7 +19,6 @@ use Rattle.client_log.specs.LogState.{started as log_started}
 use Rattle.manager_node.specs.declared.phase.Phase.{Phase}
 use Rattle.manager_node.specs.declared.phase.Phase.TheVariants.{Down, Waiting, Serving as Serves}
 use Rattle.manager_slots.specs.declared.lasting.Lasting.{Lasting as Kept}
-use Rattle.manager_slots.specs.declared.slot_phase.SlotPhase.TheVariants as phase
 use Rattle.manager_serving.specs.declared.serving.Serving.{Serving}
 use Rattle.group_map.specs.GroupMapState.{GroupMapState}
 use Rattle.node_base.specs.Beginning.{is_left, next_item, work_at, answers_unanswered, begun}
@@ -44,6 +43,7 @@ use Rattle.wire_msg.specs.declared.registry.Welcome.{Welcome}
 use Rattle.node_slots.specs.node_index_tie.ManagerEvents.{PhaseAgrees, ServingAgrees, ManagerAgrees, AllNewsGets, WaitingGets, PacketGets, EventGets, WritesTexts, ManagerGoes, ManagerEventGoes}
 use Rattle.node_slots.specs.node_index_tie.Pages.{FlightIsText}
 use Rattle.node_slots.specs.node_index_tie.Sight.{Texts, Questions, AreTexts, ManagerDoes}
+use Rattle.node_slots.proofs.node_tie.SlotTables.{unknown_at}
 use Rattle.node_slots.proofs.node_index_tie.Hearing.{MayEnd, tick_serves, hears_serves, news_serves}
 use Rattle.node_slots.proofs.node_index_tie.Moves.{Brought, AllDone, some_none}
 use Rattle.node_slots.proofs.node_index_tie.Serving.{Of, checkpoint_serves}
@@ -187,18 +187,6 @@ module _ (part : ℕ) (texts : Texts) (questions : Questions) (exists : part < s
       (tick_serves part texts questions exists (brings Tick) n s agrees.0 filed agrees.1)
 
   -- ---- packets
-
-  -- a table of which nothing is known
-  unknown_at : (k : ℕ) → phase_at unknown_table k ≡ phase.Away 0
-  unknown_at zero = refl
-  unknown_at (suc zero) = refl
-  unknown_at (suc (suc zero)) = refl
-  unknown_at (suc (suc (suc zero))) = refl
-  unknown_at (suc (suc (suc (suc zero)))) = refl
-  unknown_at (suc (suc (suc (suc (suc zero))))) = refl
-  unknown_at (suc (suc (suc (suc (suc (suc zero)))))) = refl
-  unknown_at (suc (suc (suc (suc (suc (suc (suc zero))))))) = refl
-  unknown_at (suc (suc (suc (suc (suc (suc (suc (suc k)))))))) = refl
 
   -- a log and a writer that have begun
   pub begun_agreed : (kept : Kept) (maps : Maps) (slots : Table) (groups : GroupMapState) → length slots ≡ slot_count

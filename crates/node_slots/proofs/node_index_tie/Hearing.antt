@@ -1,7 +1,5 @@
 -- What each packet, and time, makes of a manager that serves, in the small world: what comes for its slots, news of the maps, and what is said again.
-use Rattle.std.proofs.Common.{◌≡◌, ◌↔◌, ℕ, ◌==◌, ◌<◌, ◌≤◌, inl, Bool, true, false, List, [], ◌∷◌, Option, Some, None, refl, sym, subst, ◌∙◌, arith}
-use Rattle.std.specs.Prelude.{unwrap_or}
-use Rattle.std.specs.List.{slice_get}
+use Rattle.std.proofs.Common.{◌≡◌, ◌↔◌, ℕ, ◌==◌, ◌<◌, ◌≤◌, inl, Bool, true, false, List, Option, Some, None, refl, sym, subst, ◌∙◌, arith}
 use Rattle.std.proofs.lemmas.Bool.{eqb-true}
 use Rattle.xfs_base.proofs.Booleans.{by_test}
 use Rattle.xfs_base.specs.Steps.{still, saying}
@@ -28,6 +26,7 @@ use Rattle.node_slots.specs.node_tie.ManagerEvents.{phase_at, NamedBy}
 use Rattle.takeover.specs.declared.input.In.{In as TakeoverIn}
 use Rattle.takeover.specs.declared.input.In.TheVariants.{Got, Missing}
 use Rattle.takeover.specs.declared.report.Report.{Report as Heard}
+use Rattle.node_slots.proofs.node_tie.ManagerFetches.{fetch_is}
 use Rattle.node_slots.proofs.node_tie.ManagerTakes.{Brings}
 use Rattle.token_protocol.specs.Basics.{In as Among}
 use Rattle.wire_msg.specs.declared.body.Body.{Body}
@@ -50,32 +49,11 @@ use Rattle.xfs_base.specs.Limits.{slot_count}
 use Rattle.xfs_base.specs.Logs.{cleaner_log}
 use Rattle.node_slots.proofs.node_index_tie.Agreeing.{writer_on, done_seen}
 use Rattle.node_slots.proofs.node_index_tie.Handing.{OwesAt}
-use Rattle.node_slots.proofs.node_index_tie.Moves.{Brought, nothing, Grows, Sees, held_is, some_none, news_on, sees_quiet, sees_as, sees_then, sees_named}
+use Rattle.node_slots.proofs.node_index_tie.Moves.{Brought, nothing, Grows, Sees, held_is, news_on, sees_quiet, sees_as, sees_then, sees_named}
 use Rattle.node_slots.proofs.node_index_tie.Serving.{Of, still_of, ack_serves, tells_serves}
 use Rattle.node_slots.proofs.node_index_tie.Settling.{writes_serves}
 use Rattle.node_slots.proofs.node_index_tie.Tables.{TableAgrees, TableEvent, table_wants, table_gaves, table_deltas, table_checks, table_usage, table_takes, table_reports, table_recalls_all, table_asks_all, table_regroups, table_hears_all}
-use Rattle.node_slots.proofs.node_index_tie.Turning.{some_is}
 use Rattle.node_slots.proofs.node_index_tie.Writing.{serves_same, serves_then}
-
--- ---- the takeover that asked
-
-one_fetch : (t : Table) (ask k : ℕ) → table.fetch_at t ask k ≡ fetch_in (phase_at t k) ask
-one_fetch t ask k = by (slice_get t k)
-  where
-    by : (o : Option SlotPhase) → table.fetch_one ask o ≡ fetch_in (unwrap_or o (phase.Away 0)) ask
-    by None = refl
-    by (Some p) = refl
-
--- it awaits the answer, under its own number
-fetch_is : (t : Table) (ask : ℕ) (slots : List ℕ) (which : ℕ × ℕ) → table.fetch_among t ask slots ≡ Some which
-    → fetch_in (phase_at t which.0) ask ≡ Some which.1
-fetch_is t ask [] which fact = absurd (some_none which (sym fact))
-fetch_is t ask (k ∷ ks) which fact = by (table.fetch_at t ask k) refl fact (fetch_is t ask ks which)
-  where
-    by : (o : Option ℕ) → table.fetch_at t ask k ≡ o → table.first_fetch k o (table.fetch_among t ask ks) ≡ Some which
-        → (table.fetch_among t ask ks ≡ Some which → fetch_in (phase_at t which.0) ask ≡ Some which.1) → fetch_in (phase_at t which.0) ask ≡ Some which.1
-    by None at fact more = more fact
-    by (Some own) at fact more = subst (λ (w : ℕ × ℕ). fetch_in (phase_at t w.0) ask ≡ Some w.1) (some_is (k, own) which fact) (sym (one_fetch t ask k) ∙ at)
 
 -- the body may end a takeover: it is no news of the maps
 abbrev pub MayEnd : Body → Type 0

@@ -8,7 +8,7 @@ use Rattle.std.proofs.lemmas.Option.{unwrap_or-slice_get}
 use Rattle.xfs_base.proofs.Booleans.{contrary, and_first, and_second}
 use Rattle.xfs_base.specs.Limits.{u32_end}
 use Rattle.xfs_base.specs.declared.news.SlotNews.{SlotNews}
-use Rattle.index_tie.specs.Net.{Net}
+use Rattle.index_tie.specs.Net.{Net, Runs, ones}
 use Rattle.index_tie.specs.Net.Happens.{Keeps, Moves}
 use Rattle.index_tie.specs.Net.Packet.{CheckpointDone}
 use Rattle.log_protocol.specs.Tables.{In}
@@ -18,6 +18,7 @@ use Rattle.index_tie.proofs.Tables.{first_of, second_of}
 use Rattle.index_tie.proofs.Takeovers.{of_log_in, of_log_out, by_log}
 use Rattle.node_moves.proofs.registry_moves.Keeping.{Keeps as Keeping, event_keeps}
 use Rattle.node_moves.specs.server_moves.Moves.{Came}
+use Rattle.index_tie.proofs.Runs.{one_at}
 use Rattle.node_slots.specs.node_tie.RegistryEvents.{epoch_in, RegistrySound}
 use Rattle.node_slots.proofs.node_tie.RegistryNode.{registry_goes, registry_begins}
 use Rattle.registry.specs.Board.{manager_restarted, server_lost, moved, is_kept, checkpointed, slot_news, all_news}
@@ -33,7 +34,7 @@ use Rattle.wire_msg.specs.declared.packet.Do.{Do}
 use Rattle.wire_msg.specs.declared.packet.Packet.{Packet}
 use Rattle.wire_msg.specs.declared.registry.CkptDone.{CkptDone}
 use Rattle.node_slots.specs.node_index_tie.RegistryEvents.{IsHorizon, RegistryAgrees, BodyGets, DoGets, RegistryOwed, NewsTold, RegistryGoes, RegistryEventGoes, RegistryStarts}
-use Rattle.node_slots.specs.node_index_tie.Sight.{Texts}
+use Rattle.node_slots.specs.node_index_tie.Sight.{Texts, held_in}
 
 -- ---- the checkpoints of the slots
 
@@ -201,44 +202,46 @@ module _ (part : ℕ) (below : part < 8) (texts : Texts) (n : Net) (r : Registry
           (record { epoch = k.epoch; horizon = k.horizon; parts = k.parts; horizon_fits = subst IsHorizon (sym k.horizon) k.horizon_fits })
       by (x ∷ xs) (inr fact) = by xs fact
 
+  -- the small world is as it was, but for the epoch of the slot
+  goes_on : (epoch : ℕ) → n.epoch ≤ epoch → Runs part (held_in part texts) n (record n { epoch = epoch }) → RegistryAgrees part (record n { epoch = epoch }) later
+      → RegistryGoes part texts n r what
+  goes_on epoch up runs agreed = record {
+    next = record n { epoch = epoch };
+    runs = runs;
+    agrees = agreed;
+    slots = refl;
+    sent = refl;
+    filed = refl;
+    promised = refl;
+    job = refl;
+    number = refl;
+    deleted = refl;
+    epoch = up;
+    horizon = λ e _ _. refl;
+    parts = λ e _ _. refl;
+    tells = told (record n { epoch = epoch }) agreed;
+  }
+
   -- nothing that is kept of the slot has changed
   same_goes : length later.board.checkpoints ≡ 8 → Kept_so part r.board later.board → epoch_in later.board part ≡ epoch_in r.board part
       → RegistryGoes part texts n r what
-  same_goes eight kept same =
-      let k : RegistryAgrees part n later = record {
-        epoch = same ∙ agrees.epoch;
-        horizon = kept.horizon ∙ agrees.horizon;
-        parts = kept.parts ∙ agrees.parts;
-        eight = eight;
-        later_horizon = agrees.later_horizon;
-        later_parts = agrees.later_parts;
-        horizon_fits = agrees.horizon_fits;
-      } in
-      record {
-        next = n;
-        runs = Begun;
-        agrees = k;
-        slots = refl;
-        sent = refl;
-        filed = refl;
-        promised = refl;
-        job = refl;
-        number = refl;
-        deleted = refl;
-        epoch = omega arith;
-        horizon = λ e _ _. refl;
-        parts = λ e _ _. refl;
-        tells = told n k;
-      }
+  same_goes eight kept same = goes_on n.epoch (omega arith) Begun (record {
+    epoch = same ∙ agrees.epoch;
+    horizon = kept.horizon ∙ agrees.horizon;
+    parts = kept.parts ∙ agrees.parts;
+    eight = eight;
+    later_horizon = agrees.later_horizon;
+    later_parts = agrees.later_parts;
+    horizon_fits = agrees.horizon_fits;
+  })
 
   -- the slot has its next epoch
   moved_goes : length later.board.checkpoints ≡ 8 → Kept_so part r.board later.board → epoch_in later.board part ≡ epoch_in r.board part + 1
       → RegistryGoes part texts n r what
   moved_goes eight kept up =
-      let m : Net = record n { epoch = suc n.epoch } in
       let on : n.horizon (suc n.epoch) ≡ n.horizon n.epoch = agrees.later_horizon (suc n.epoch) (omega arith) in
       let on_parts : n.parts (suc n.epoch) ≡ n.parts n.epoch = agrees.later_parts (suc n.epoch) (omega arith) in
-      let k : RegistryAgrees part m later = record {
+      goes_on (suc n.epoch) (omega arith) (On Begun Moves) (record {
         epoch = let was = agrees.epoch in omega arith;
         horizon = kept.horizon ∙ agrees.horizon ∙ sym on;
         parts = kept.parts ∙ agrees.parts ∙ sym on_parts;
@@ -246,23 +249,7 @@ module _ (part : ℕ) (below : part < 8) (texts : Texts) (n : Net) (r : Registry
         later_horizon = λ e from. agrees.later_horizon e (omega arith) ∙ sym on;
         later_parts = λ e from. agrees.later_parts e (omega arith) ∙ sym on_parts;
         horizon_fits = subst IsHorizon (sym on) agrees.horizon_fits;
-      } in
-      record {
-        next = m;
-        runs = On Begun Moves;
-        agrees = k;
-        slots = refl;
-        sent = refl;
-        filed = refl;
-        promised = refl;
-        job = refl;
-        number = refl;
-        deleted = refl;
-        epoch = omega arith;
-        horizon = λ e _ _. refl;
-        parts = λ e _ _. refl;
-        tells = told m k;
-      }
+      })
 
   -- a checkpoint of its epoch is kept
   kept_goes : length later.board.checkpoints ≡ 8 → KeptOne part r.board later.board what → RegistryGoes part texts n r what
@@ -330,21 +317,6 @@ registry_event_goes part texts n r what below sound agrees owed = registry_event
 
 -- ---- the start
 
-abbrev nine_ones : List ℕ
-nine_ones = 1 ∷ 1 ∷ 1 ∷ 1 ∷ 1 ∷ 1 ∷ 1 ∷ 1 ∷ 1 ∷ []
-
-one_at : (k : ℕ) → k < 9 → get_or nine_ones k 0 ≡ 1
-one_at zero h = refl
-one_at (suc zero) h = refl
-one_at (suc (suc zero)) h = refl
-one_at (suc (suc (suc zero))) h = refl
-one_at (suc (suc (suc (suc zero)))) h = refl
-one_at (suc (suc (suc (suc (suc zero))))) h = refl
-one_at (suc (suc (suc (suc (suc (suc zero)))))) h = refl
-one_at (suc (suc (suc (suc (suc (suc (suc zero))))))) h = refl
-one_at (suc (suc (suc (suc (suc (suc (suc (suc zero)))))))) h = refl
-one_at (suc (suc (suc (suc (suc (suc (suc (suc (suc k))))))))) h = absurd (omega arith)
-
 -- what holds of the first checkpoint holds of that of each slot
 eight_at : (P : Option Checkpoint → Type 0) → P (Some first_checkpoint) → (k : ℕ) → k < 8 → P (slice_get (map (λ _. first_checkpoint) all_slots) k)
 eight_at P fact zero low = fact
@@ -359,9 +331,9 @@ eight_at P fact (suc (suc (suc (suc (suc (suc (suc (suc k)))))))) low = absurd (
 
 first_horizon : IsHorizon (1 ∷ 1 ∷ 1 ∷ 1 ∷ 1 ∷ 1 ∷ 1 ∷ 1 ∷ 1 ∷ [])
 first_horizon = record {
-  from_one = λ l some limit. let a = of_log_in nine_ones l some limit in let b = one_at (l - 1) (omega arith) in omega arith;
-  short = by_log (λ l. of_log nine_ones l ≤ u32_end) (λ l some limit. let a = of_log_in nine_ones l some limit in let b = one_at (l - 1) (omega arith) in omega
-      arith) (λ l out. let a = of_log_out nine_ones l out in omega arith);
+  from_one = λ l some limit. let a = of_log_in ones l some limit in let b = one_at (l - 1) (omega arith) in omega arith;
+  short = by_log (λ l. of_log ones l ≤ u32_end) (λ l some limit. let a = of_log_in ones l some limit in let b = one_at (l - 1) (omega arith) in omega
+      arith) (λ l out. let a = of_log_out ones l out in omega arith);
 }
 
 pub registry_starts : RegistryStarts

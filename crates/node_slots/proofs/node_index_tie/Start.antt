@@ -1,5 +1,5 @@
 -- A manager at the start of a run is seen in the opening of the small world of one slot's index.
-use Rattle.std.proofs.Common.{◌≡◌, ℕ, zero, suc, ◌-◌, ◌==◌, ◌<◌, List, [], ◌∷◌, map, get_or, None, refl, sym, subst, ◌∙◌, arith}
+use Rattle.std.proofs.Common.{◌≡◌, ℕ, zero, suc, ◌-◌, ◌==◌, ◌<◌, List, [], ◌∷◌, get_or, None, refl, sym, subst, ◌∙◌, arith}
 use Rattle.xfs_base.proofs.Booleans.{by_test}
 use Rattle.xfs_base.specs.Blocks.{slot_of}
 use Rattle.xfs_base.specs.declared.setup.Setup.{Setup}
@@ -7,33 +7,20 @@ use Rattle.xfs_base.specs.Limits.{slot_count}
 use Rattle.index_tie.specs.Net.{opening}
 use Rattle.manager_map.specs.Slots.{start_entries, entry_at}
 use Rattle.manager_node.specs.Events.{first_manager, first_life}
-use Rattle.manager_slots.specs.SlotTable.{all_slots, first_phase, first_table}
+use Rattle.manager_slots.specs.SlotTable.{first_phase, first_table}
 use Rattle.manager_slots.specs.Slots.{first_active}
-use Rattle.manager_slots.specs.declared.slot_phase.SlotPhase.{SlotPhase}
 use Rattle.manager_slots.specs.declared.slot_phase.SlotPhase.TheVariants as phase
 use Rattle.group_map.specs.Groups.{started as groups_started}
 use Rattle.node_base.specs.Maps.{at_start}
-use Rattle.node_slots.specs.node_tie.ManagerEvents.{phase_at}
 use Rattle.segment_format.specs.declared.segment.Segment.{Segment}
 use Rattle.version_model.specs.declared.work.Work.{Work}
 use Rattle.node_slots.specs.node_index_tie.ManagerEvents.{PhaseAgrees, ManagerAgrees, FirstManagerAgrees}
 use Rattle.node_slots.specs.node_index_tie.Pages.{Desk}
 use Rattle.node_slots.specs.node_index_tie.Pages.Paged.{Covered}
 use Rattle.node_slots.specs.node_index_tie.Sight.{Texts}
+use Rattle.node_slots.proofs.node_tie.SlotTables.{first_at}
 use Rattle.node_slots.proofs.node_index_tie.Events.{begun_agreed}
 use Rattle.node_slots.proofs.node_index_tie.Moves.{some_none}
-
--- a table made slot by slot has in each slot what was made of its number
-first_at : (f : ℕ → SlotPhase) (k : ℕ) → k < slot_count → phase_at (map f all_slots) k ≡ f k
-first_at f zero h = refl
-first_at f (suc zero) h = refl
-first_at f (suc (suc zero)) h = refl
-first_at f (suc (suc (suc zero))) h = refl
-first_at f (suc (suc (suc (suc zero)))) h = refl
-first_at f (suc (suc (suc (suc (suc zero))))) h = refl
-first_at f (suc (suc (suc (suc (suc (suc zero)))))) h = refl
-first_at f (suc (suc (suc (suc (suc (suc (suc zero))))))) h = refl
-first_at f (suc (suc (suc (suc (suc (suc (suc (suc k)))))))) h = absurd (omega arith)
 
 -- nothing is applied
 abbrev nine_zeros : List ℕ

@@ -1,10 +1,8 @@
 -- What an event of one slot of a manager's table, or of each, makes of the table and of the small world.
-use Rattle.std.proofs.Common.{◌≡◌, ℕ, zero, suc, ◌==◌, ◌<◌, ◌≤◌, ◌⊎◌, inl, inr, ⊎_elim, Bool, true, false, List, [], ◌∷◌, length, length-set, get_or, get_or-set_same, get_or-set_other, Option, Some, None, refl, sym, ap, subst, ◌∙◌, arith}
+use Rattle.std.proofs.Common.{◌≡◌, ℕ, ◌==◌, ◌<◌, ◌≤◌, ◌⊎◌, inl, inr, ⊎_elim, Bool, true, false, List, [], ◌∷◌, length, length-set, Option, Some, None, refl, sym, ap, subst, ◌∙◌, arith}
 use Rattle.std.specs.List.{slice_get, slice_set}
-use Rattle.std.specs.Prelude.{unwrap_or}
 use Rattle.std.proofs.lemmas.Bool.{eqb-true}
 use Rattle.std.proofs.lemmas.Bool.Decides.{nat_tests}
-use Rattle.std.proofs.lemmas.Option.{unwrap_or-slice_get, slice_get_within}
 use Rattle.xfs_base.specs.Blocks.{slot_of}
 use Rattle.xfs_base.specs.Steps.{Stepped, steps}
 use Rattle.xfs_base.specs.declared.news.SlotNews.{SlotNews}
@@ -24,7 +22,6 @@ use Rattle.manager_slots.specs.Tokens as tokens
 use Rattle.manager_slots.specs.declared.slot_phase.SlotPhase.{SlotPhase}
 use Rattle.manager_slots.specs.declared.slot_phase.SlotPhase.TheVariants as phase
 use Rattle.node_base.specs.declared.effects.Effect.{Effect}
-use Rattle.node_base.specs.declared.questions.Questions.{Questions as Numbers}
 use Rattle.node_slots.specs.node_tie.ManagerEvents.{phase_at, HeldAt}
 use Rattle.takeover.specs.declared.input.In.{In as Input}
 use Rattle.takeover.specs.declared.input.In.TheVariants as input
@@ -38,50 +35,11 @@ use Rattle.wire_msg.specs.declared.tokens.Gave.{Gave}
 use Rattle.wire_msg.specs.declared.tokens.Want.{Want}
 use Rattle.node_slots.specs.node_index_tie.ManagerEvents.{PhaseAgrees}
 use Rattle.node_slots.specs.node_index_tie.Sight.{Texts, Questions, AreTexts, DeltasKnown, ReportKnown, CheckKnown, NewsKnown}
+use Rattle.node_slots.proofs.node_tie.SlotTables.{set_here, set_there, by_slot, as_slot, by_taken}
 use Rattle.node_slots.proofs.node_index_tie.Active.{Event, slot_takes, slot_wants, slot_deltas, slot_checks, other_checks, other_takes, other_wants, usage_done}
 use Rattle.node_slots.proofs.node_index_tie.Handing.{Busy, OwesAt, AskEvent, event_staying, slot_hears, slot_regroups, slot_reports, slot_hears_of}
-use Rattle.node_slots.proofs.node_index_tie.Moves.{Brought, Grows, AllDone, DoesAt, Sees, managed_as, some_none, sees_same, sees_then}
+use Rattle.node_slots.proofs.node_index_tie.Moves.{Brought, Grows, AllDone, DoesAt, Sees, managed_as, sees_same, sees_then}
 use Rattle.node_slots.proofs.node_index_tie.Taking.{takes_done, asks_done, reports_done, hears_done, stays_asks, asks_managed}
-
--- ---- one slot of a table
-
-as_read : (t : Table) (k : ℕ) → phase_at t k ≡ get_or t k (phase.Away 0)
-as_read t k = unwrap_or-slice_get t k (phase.Away 0)
-
-pub set_here : (t : Table) (k : ℕ) (q : SlotPhase) → k < length t → phase_at (slice_set t k q) k ≡ q
-set_here t k q within = as_read (slice_set t k q) k ∙ get_or-set_same t k q (phase.Away 0) within
-
-pub set_there : (t : Table) (k m : ℕ) (q : SlotPhase) → (m ≡ k → ⊥) → phase_at (slice_set t k q) m ≡ phase_at t m
-set_there t k m q other = as_read (slice_set t k q) m ∙ get_or-set_other t k m q (phase.Away 0) other ∙ sym (as_read t m)
-
-pub past : (t : Table) (k : ℕ) → slice_get t k ≡ None → length t ≤ k
-past [] k fact = omega arith
-past (x ∷ xs) zero fact = absurd (some_none x fact)
-past (x ∷ xs) (suc k) fact = let rest = past xs k fact in omega arith
-
--- what holds of a table whose slot took the event holds of what the event makes of the table
-pub by_slot : (P : Table → List Effect → Type 0) (t : Table) (k : ℕ) (event : SlotPhase → Stepped SlotPhase Effect) → (length t ≤ k → P t [])
-    → (k < length t → P (slice_set t k (event (phase_at t k)).state) (event (phase_at t k)).outs)
-    → P (table.at_slot t k event).state (table.at_slot t k event).outs
-by_slot P t k event none some = by (slice_get t k) refl
-  where
-    by : (o : Option SlotPhase) → slice_get t k ≡ o → P (table.in_slot t k event o).state (table.in_slot t k event o).outs
-    by None fact = none (past t k fact)
-    by (Some p) fact = let same : phase_at t k ≡ p = ap (λ o. unwrap_or o (phase.Away 0)) fact in subst (λ x. P (slice_set t k (event x).state) (event x).outs)
-        same (some (slice_get_within t k p fact))
-
-abbrev pub as_slot : Numbers → (Asker → Stepped Asker Effect) → SlotPhase → Stepped SlotPhase Effect
-as_slot q event p = record { state = (event (asker p q)).state.phase; outs = (event (asker p q)).outs }
-
-pub by_taken : (P : Table → List Effect → Type 0) (a : TableAsker) (k : ℕ) (event : Asker → Stepped Asker Effect)
-    → P (table.at_slot a.table k (as_slot a.questions event)).state (table.at_slot a.table k (as_slot a.questions event)).outs
-    → P (table.at_taken a k event).state.table (table.at_taken a k event).outs
-by_taken P a k event = by (slice_get a.table k)
-  where
-    by : (o : Option SlotPhase) → P (table.in_slot a.table k (as_slot a.questions event) o).state (table.in_slot a.table k (as_slot a.questions event) o).outs
-        → P (table.in_taken a k event o).state.table (table.in_taken a k event o).outs
-    by None h = h
-    by (Some p) h = h
 
 -- the slot itself, or another
 pub by_part : (k part : ℕ) (P : Type 0) → (k ≡ part → P) → ((k ≡ part → ⊥) → P) → P

@@ -16,7 +16,7 @@ use Rattle.node_slots.specs.node_index_tie.ManagerEvents.{PhaseAgrees}
 use Rattle.node_slots.specs.node_index_tie.Pages.{Desk, IsWork, Paged, WorkSeen}
 use Rattle.node_slots.specs.node_index_tie.Pages.Paged.{Covered, Written, Ended}
 use Rattle.node_slots.specs.node_index_tie.Sight.{Texts}
-use Rattle.node_slots.proofs.node_index_tie.Tables.{past, set_here, set_there}
+use Rattle.node_slots.proofs.node_tie.SlotTables.{past, set_here, set_there}
 
 pub some_is : {X : Type 0} (x y : X) → Some x ≡ Some y → x ≡ y
 some_is x y same = ap (λ o. unwrap_or o x) same

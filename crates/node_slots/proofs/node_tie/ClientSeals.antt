@@ -101,37 +101,41 @@ module _ (logs : Bool) (members part limit c life room highest : ℕ) where
   all_known l t known =
       premise_all logs (λ b. IsUnsettled (held_of t.blocks b) (row_in (rows_waiting l) b) (row_in (rows_flown l.flight) b)) (λ b. (known b).1)
 
-  -- a log that waits for and flies the same is seen as well
-  pub restands : (n : Net) (t : TokensState) (l m : LogState) (number inc : ℕ) → m.end ≡ l.end → rows_waiting m ≡ rows_waiting l
-      → rows_flown m.flight ≡ rows_flown l.flight → Premise logs (LogSeen n.books c m) → Stands n t l number inc → Stands n t m number inc
-  restands n t l m number inc end waits flies seen h = record {
+  -- beside another log, and with other books, it stands so by what is known of its blocks and of the log then
+  stands_beside : (n : Net) (books : Books) (t : TokensState) (l m : LogState) (number inc : ℕ) → ((b : BlockId) → Known logs m b (held_of t.blocks b))
+      → Premise logs (LogStands books c m) → Premise logs (HasNumbers m.end.seq room highest) → Stands n t l number inc
+      → Stands (record n { books = books }) t m number inc
+  stands_beside n books t l m number inc held logged numbers h = record {
     up = h.up;
     tokens = h.tokens;
     number_is = h.number_is;
     inc_is = h.inc_is;
     sound = h.sound;
-    bears = record {
-      life_is = h.bears.life_is;
-      promised = h.bears.promised;
-      giving = h.bears.giving;
-      held = λ b.
-          subst (λ (w : Rows). IsValued (held_of t.blocks b) × Premise logs (IsUnsettled (held_of t.blocks b) (row_in w b) (row_in (rows_flown m.flight) b)))
-          (sym waits)
-          (subst (λ (f : Rows). IsValued (held_of t.blocks b) × Premise logs (IsUnsettled (held_of t.blocks b) (row_in (rows_waiting l) b) (row_in f b)))
-          (sym flies)
-          (h.bears.held b));
-    };
-    logged = premise_both logs (λ (x : LogSeen n.books c m) (k : LogStands n.books c l). record {
-      seen = x;
-      said = k.said ∙ sym flies;
-      beyond = k.beyond;
-      waits_once = subst AreOnce (sym waits) k.waits_once;
-      flies_once = subst AreOnce (sym flies) k.flies_once;
-      waits_some = subst AreVersions (sym waits) k.waits_some;
-      flies_some = subst AreVersions (sym flies) k.flies_some;
-    }) seen h.logged;
-    numbers = premise_by logs (λ (k : HasNumbers l.end.seq room highest). subst (λ (e : End). HasNumbers e.seq room highest) (sym end) k) h.numbers;
+    bears = record { life_is = h.bears.life_is; promised = h.bears.promised; giving = h.bears.giving; held = held };
+    logged = logged;
+    numbers = numbers;
   }
+
+  -- a log that waits for and flies the same is seen as well
+  pub restands : (n : Net) (t : TokensState) (l m : LogState) (number inc : ℕ) → m.end ≡ l.end → rows_waiting m ≡ rows_waiting l
+      → rows_flown m.flight ≡ rows_flown l.flight → Premise logs (LogSeen n.books c m) → Stands n t l number inc → Stands n t m number inc
+  restands n t l m number inc end waits flies seen h =
+      stands_beside n n.books t l m number inc
+      (λ b. subst (λ (w : Rows). IsValued (held_of t.blocks b) × Premise logs (IsUnsettled (held_of t.blocks b) (row_in w b) (row_in (rows_flown m.flight) b)))
+      (sym waits)
+      (subst (λ (f : Rows). IsValued (held_of t.blocks b) × Premise logs (IsUnsettled (held_of t.blocks b) (row_in (rows_waiting l) b) (row_in f b)))
+      (sym flies)
+      (h.bears.held b)))
+      (premise_both logs (λ (x : LogSeen n.books c m) (k : LogStands n.books c l). record {
+        seen = x;
+        said = k.said ∙ sym flies;
+        beyond = k.beyond;
+        waits_once = subst AreOnce (sym waits) k.waits_once;
+        flies_once = subst AreOnce (sym flies) k.flies_once;
+        waits_some = subst AreVersions (sym waits) k.waits_some;
+        flies_some = subst AreVersions (sym flies) k.flies_some;
+      }) seen h.logged)
+      (premise_by logs (λ (k : HasNumbers l.end.seq room highest). subst (λ (e : End). HasNumbers e.seq room highest) (sym end) k) h.numbers) h
 
   -- the same content flies, by this attempt
   pub reflown : (n : Net) (t : TokensState) (l : LogState) (f g : FlightState) (number inc : ℕ) → g.segment.items ≡ f.segment.items
@@ -154,21 +158,9 @@ module _ (logs : Bool) (members part limit c life room highest : ℕ) where
 
   -- what can't be where logs keep their word is seen beside any log
   pub stands_any : (n : Net) (t : TokensState) (l m : LogState) (number inc : ℕ) → Premise logs ⊥ → Stands n t l number inc → Stands n t m number inc
-  stands_any n t l m number inc never h = record {
-    up = h.up;
-    tokens = h.tokens;
-    number_is = h.number_is;
-    inc_is = h.inc_is;
-    sound = h.sound;
-    bears = record {
-      life_is = h.bears.life_is;
-      promised = h.bears.promised;
-      giving = h.bears.giving;
-      held = λ b. ((h.bears.held b).0, premise_by logs (λ (no : ⊥). absurd no) never);
-    };
-    logged = premise_by logs (λ (no : ⊥). absurd no) never;
-    numbers = premise_by logs (λ (no : ⊥). absurd no) never;
-  }
+  stands_any n t l m number inc never h =
+      stands_beside n n.books t l m number inc (λ b. ((h.bears.held b).0, premise_by logs (λ (no : ⊥). absurd no) never))
+      (premise_by logs (λ (no : ⊥). absurd no) never) (premise_by logs (λ (no : ⊥). absurd no) never) h
 
   pub passes_still : (n : Net) (t : TokensState) (l : LogState) (number inc : ℕ) → Stands n t l number inc → Passes n t l number inc
   passes_still n t l number inc h = record { next = n; grown = grown_still logs members part c n; stands = h }
@@ -249,24 +241,10 @@ module _ (logs : Bool) (members part limit c life room highest : ℕ) where
           acts = (grown_still logs members part c n).acts;
           own = premise_by logs (λ (x : LogStands k c l). onward_sealed k c rows (idle_flies x)) h.logged;
         };
-        stands = record {
-          up = h.up;
-          tokens = h.tokens;
-          number_is = h.number_is;
-          inc_is = h.inc_is;
-          sound = h.sound;
-          bears = record {
-            life_is = h.bears.life_is;
-            promised = h.bears.promised;
-            giving = h.bears.giving;
-            held = λ b. (
-              (h.bears.held b).0,
-              premise_at logs (λ b. IsUnsettled (held_of t.blocks b) (row_in (map told (drop segment_blocks l.dirty)) b) (row_in rows b)) unsettled b,
-            );
-          };
-          logged = logged_then;
-          numbers = h.numbers;
-        };
+        stands = stands_beside n (sealed k c rows) t l (log.sealed l).state number inc (λ b. (
+          (h.bears.held b).0,
+          premise_at logs (λ b. IsUnsettled (held_of t.blocks b) (row_in (map told (drop segment_blocks l.dirty)) b) (row_in rows b)) unsettled b,
+        )) logged_then h.numbers h;
       }
 
     idle_is : (o : Option FlightState) → is_none o ≡ true → o ≡ None

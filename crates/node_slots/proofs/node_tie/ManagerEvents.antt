@@ -1,5 +1,5 @@
 -- Each event of a manager is a list of things that happen in the small world.
-use Rattle.std.proofs.Common.{◌≡◌, ℕ, zero, suc, ◌+◌, ◌==◌, ◌≤◌, ◌<◌, true, false, ◌&&◌, List, [], ◌∷◌, ◌++◌, Bool, inl, inr, ⊎_elim, Option, Some, None, refl, sym, ap, subst, ◌∙◌, arith}
+use Rattle.std.proofs.Common.{◌≡◌, ℕ, ◌+◌, ◌==◌, ◌≤◌, ◌<◌, true, false, ◌&&◌, List, [], ◌∷◌, ◌++◌, Bool, inl, inr, ⊎_elim, Option, Some, None, refl, sym, ap, subst, ◌∙◌, arith}
 use Rattle.std.specs.Prelude.{nat_lt}
 use Rattle.std.specs.List.{All}
 use Rattle.std.proofs.lemmas.Bool.{eqb-true}
@@ -46,6 +46,7 @@ use Rattle.manager_serving.specs.Serving.{again, on_news, hears, on_tick}
 use Rattle.manager_serving.specs.declared.serving.Serving.{Serving}
 use Rattle.node_slots.specs.node_tie.Sight.{ManagerDoes}
 use Rattle.node_slots.specs.node_tie.ManagerEvents.{phase_at, TakingAt, HeldAt, PhaseAgrees, OtherAgrees, TableAgrees, ManagerAgrees, epoch_in, AllNewsGets, WaitingGets, EventGets, NamedBy, Names, is_waiting, ManagerGoes, ManagerEventGoes}
+use Rattle.node_slots.proofs.node_tie.SlotTables.{unknown_at}
 use Rattle.node_slots.proofs.node_tie.ManagerActive.{some_none}
 use Rattle.node_slots.proofs.node_tie.ManagerCheckpoints.{answers_done, quiet_checkpoint}
 use Rattle.node_slots.proofs.node_tie.SmallWorld.{neutral_acts, runs_through, says_all}
@@ -279,18 +280,6 @@ module _ (logs : Bool) (members part limit j : ℕ) (exists : part < slot_count)
       serves_on s Tick (on_tick s) agrees.number low (serves_tick logs members part limit s.lasting.inc exists n s agrees.table low)
 
   -- ---- packets
-
-  -- a table of which nothing is known
-  pub unknown_at : (k : ℕ) → phase_at unknown_table k ≡ phase.Away 0
-  unknown_at zero = refl
-  unknown_at (suc zero) = refl
-  unknown_at (suc (suc zero)) = refl
-  unknown_at (suc (suc (suc zero))) = refl
-  unknown_at (suc (suc (suc (suc zero)))) = refl
-  unknown_at (suc (suc (suc (suc (suc zero))))) = refl
-  unknown_at (suc (suc (suc (suc (suc (suc zero)))))) = refl
-  unknown_at (suc (suc (suc (suc (suc (suc (suc zero))))))) = refl
-  unknown_at (suc (suc (suc (suc (suc (suc (suc (suc k)))))))) = refl
 
   unknown_agrees : TableAgrees members part n unknown_table
   unknown_agrees = record {

@@ -82,9 +82,9 @@ module _ (logs : Bool) (members part limit life : ℕ) (exists : part < slot_cou
       → TableRose named n a.table (table.hears h a news).state.table (table.hears h a news).outs × IsAbove (table.hears h a news).state.table news
   unfolding table.hears
   table_hears named j n h a news ears agrees low gets named_ =
-      by_taken logs members part limit life exists (λ u outs. TableRose named n a.table u outs × IsAbove u news) a news.slot (table.hears_of h news)
+      by_taken (λ u outs. TableRose named n a.table u outs × IsAbove u news) a news.slot (table.hears_of h news)
       (by_slot (λ u outs. TableRose named n a.table u outs × IsAbove u news) a.table news.slot
-      (as_slot logs members part limit life exists a.questions (table.hears_of h news))
+      (as_slot a.questions (table.hears_of h news))
       (λ past. (
         record {
           rises = rises_of logs members part limit life named n _ _ []

@@ -1,5 +1,5 @@
 -- A manager at the start of a run is seen in the opening of the small world.
-use Rattle.std.proofs.Common.{◌≡◌, ℕ, zero, suc, ◌==◌, ◌<◌, List, [], ◌∷◌, map, refl, sym, ap, subst, ◌∙◌, arith}
+use Rattle.std.proofs.Common.{◌≡◌, ℕ, zero, suc, ◌==◌, ◌<◌, List, [], ◌∷◌, map, refl, sym, ap, subst, ◌∙◌}
 use Rattle.std.proofs.lemmas.List.Elements.{All-nil}
 use Rattle.xfs_base.proofs.Booleans.{by_test}
 use Rattle.xfs_base.specs.Blocks.{slot_of}
@@ -15,19 +15,8 @@ use Rattle.manager_slots.specs.SlotTable.{all_slots, first_phase}
 use Rattle.manager_slots.specs.Slots.{epoch_of, first_active}
 use Rattle.manager_slots.specs.declared.slot_phase.SlotPhase.{SlotPhase}
 use Rattle.manager_slots.specs.declared.slot_phase.SlotPhase.TheVariants as phase
+use Rattle.node_slots.proofs.node_tie.SlotTables.{first_at}
 use Rattle.node_slots.specs.node_tie.ManagerEvents.{phase_at, PhaseAgrees, OtherAgrees, FirstAgrees, FirstManagerAgrees}
-
--- a table made slot by slot has in each slot what was made of its number
-first_at : (f : ℕ → SlotPhase) (k : ℕ) → k < slot_count → phase_at (map f all_slots) k ≡ f k
-first_at f zero h = refl
-first_at f (suc zero) h = refl
-first_at f (suc (suc zero)) h = refl
-first_at f (suc (suc (suc zero))) h = refl
-first_at f (suc (suc (suc (suc zero)))) h = refl
-first_at f (suc (suc (suc (suc (suc zero))))) h = refl
-first_at f (suc (suc (suc (suc (suc (suc zero)))))) h = refl
-first_at f (suc (suc (suc (suc (suc (suc (suc zero))))))) h = refl
-first_at f (suc (suc (suc (suc (suc (suc (suc (suc k)))))))) h = absurd (omega arith)
 
 -- what holds of an unknown slot, and of each that was made, holds of all
 each_at : (f : ℕ → SlotPhase) (P : ℕ → SlotPhase → Type 0) → ((k : ℕ) → P k (phase.Away 0)) → ((k : ℕ) → P k (f k)) → (k : ℕ)

@@ -1,11 +1,10 @@
 -- What an event of one slot of a manager's table, or of each, makes of the table and of the small world.
-use Rattle.std.proofs.Common.{◌≡◌, ℕ, ◌==◌, ◌≤◌, ◌<◌, Bool, true, false, List, [], ◌∷◌, ◌++◌, length, length-set, get_or, get_or-set_same, get_or-set_other, Option, Some, None, refl, sym, ap, subst, ◌∙◌, arith}
+use Rattle.std.proofs.Common.{◌≡◌, ℕ, ◌==◌, ◌≤◌, ◌<◌, Bool, true, false, List, [], ◌∷◌, ◌++◌, length, length-set, Option, Some, None, refl, sym, ap, subst, ◌∙◌, arith}
 use Rattle.std.specs.List.{slice_get, slice_set}
 use Rattle.std.specs.Prelude.{unwrap_or}
-use Rattle.std.proofs.Common.{zero, suc}
 use Rattle.std.proofs.lemmas.Bool.{eqb-true}
 use Rattle.std.proofs.lemmas.Bool.Decides.{nat_tests}
-use Rattle.std.proofs.lemmas.Option.{unwrap_or-slice_get, slice_get_within}
+use Rattle.std.proofs.lemmas.Option.{slice_get_within}
 use Rattle.xfs_base.proofs.Booleans.{by_test}
 use Rattle.xfs_base.specs.Blocks.{slot_of}
 use Rattle.xfs_base.specs.declared.node.NodeId.{NodeId}
@@ -15,7 +14,6 @@ use Rattle.xfs_base.specs.Steps.{Stepped, steps}
 use Rattle.xfs_base.specs.Limits.{slot_count}
 use Rattle.group_map.specs.GroupMapState.{GroupMapState}
 use Rattle.node_base.specs.declared.effects.Effect.{Effect}
-use Rattle.node_base.specs.declared.questions.Questions.{Questions}
 use Rattle.takeover.specs.declared.input.In.{In as Input}
 use Rattle.takeover.specs.declared.input.In.TheVariants as input
 use Rattle.takeover.specs.declared.report.Report.{Report as Heard}
@@ -37,39 +35,13 @@ use Rattle.manager_slots.specs.Takeovers.{Asker, asker}
 use Rattle.manager_slots.specs.Tokens as tokens
 use Rattle.node_slots.specs.node_tie.Sight.{WantSeen, GaveSeen}
 use Rattle.node_slots.specs.node_tie.ManagerEvents.{phase_at, PhaseAgrees, OtherAgrees, TableAgrees, ReportGets, DeltasJoin, TakeoverGets, LastReportGets}
-use Rattle.node_slots.proofs.node_tie.ManagerActive.{some_none, Event, event_same, event_staying, Other, slot_wants, slot_gaves, slot_deltas, slot_ticks, check_same, check_done, usage_done, other_takes, other_wants}
+pub use Rattle.node_slots.proofs.node_tie.SlotTables.{set_here, set_there, by_slot, as_slot, by_taken}
+use Rattle.node_slots.proofs.node_tie.ManagerActive.{Event, event_same, event_staying, Other, slot_wants, slot_gaves, slot_deltas, slot_ticks, check_same, check_done, usage_done, other_takes, other_wants}
 use Rattle.node_slots.proofs.node_tie.ManagerMoves.{AllDone, Moves, Stays, moves_of, moves_then, stays_same, stays_then}
 use Rattle.node_slots.proofs.node_tie.ManagerPages.{cleaned_alike}
 use Rattle.node_slots.proofs.node_tie.ManagerTakes.{Brings}
 use Rattle.node_slots.proofs.node_tie.ManagerTaking.{Quiet, phases_last, quiet_asks, quiet_maps, AskEvent, slot_hears, slot_reports, OtherAsks, other_hears, other_asks, other_reports}
 use Rattle.token_manager.specs.declared.input.In.TheVariants as told
-
--- ---- one slot of a table
-
-as_read : (t : Table) (k : ℕ) → phase_at t k ≡ get_or t k (phase.Away 0)
-as_read t k = unwrap_or-slice_get t k (phase.Away 0)
-
-pub set_here : (t : Table) (k : ℕ) (q : SlotPhase) → k < length t → phase_at (slice_set t k q) k ≡ q
-set_here t k q within = as_read (slice_set t k q) k ∙ get_or-set_same t k q (phase.Away 0) within
-
-pub set_there : (t : Table) (k m : ℕ) (q : SlotPhase) → (m ≡ k → ⊥) → phase_at (slice_set t k q) m ≡ phase_at t m
-set_there t k m q other = as_read (slice_set t k q) m ∙ get_or-set_other t k m q (phase.Away 0) other ∙ sym (as_read t m)
-
--- what holds of a table whose slot took the event holds of what the event makes of the table
-past : (t : Table) (k : ℕ) → slice_get t k ≡ None → length t ≤ k
-past [] k fact = omega arith
-past (x ∷ xs) zero fact = absurd (some_none x fact)
-past (x ∷ xs) (suc k) fact = let rest = past xs k fact in omega arith
-
-pub by_slot : (P : Table → List Effect → Type 0) (t : Table) (k : ℕ) (event : SlotPhase → Stepped SlotPhase Effect) → (length t ≤ k → P t [])
-    → (k < length t → P (slice_set t k (event (phase_at t k)).state) (event (phase_at t k)).outs)
-    → P (table.at_slot t k event).state (table.at_slot t k event).outs
-by_slot P t k event none some = by (slice_get t k) refl
-  where
-    by : (o : Option SlotPhase) → slice_get t k ≡ o → P (table.in_slot t k event o).state (table.in_slot t k event o).outs
-    by None fact = none (past t k fact)
-    by (Some p) fact = let same : phase_at t k ≡ p = ap (λ o. unwrap_or o (phase.Away 0)) fact in subst
-        (λ x. P (slice_set t k (event x).state) (event x).outs) same (some (slice_get_within t k p fact))
 
 module _ (logs : Bool) (members part limit life : ℕ) (exists : part < slot_count) where
   -- what an event of the table makes of the small world
@@ -170,19 +142,6 @@ module _ (logs : Bool) (members part limit life : ℕ) (exists : part < slot_cou
   -- the same for an event that may ask
   abbrev pub AskTable : Net → Table → Asks → Type 0
   AskTable n t d = TableEvent n t d.state.table d.outs
-
-  abbrev pub as_slot : Questions → (Asker → Stepped Asker Effect) → SlotPhase → Stepped SlotPhase Effect
-  as_slot q event p = record { state = (event (asker p q)).state.phase; outs = (event (asker p q)).outs }
-
-  pub by_taken : (P : Table → List Effect → Type 0) (a : TableAsker) (k : ℕ) (event : Asker → Stepped Asker Effect)
-      → P (table.at_slot a.table k (as_slot a.questions event)).state (table.at_slot a.table k (as_slot a.questions event)).outs
-      → P (table.at_taken a k event).state.table (table.at_taken a k event).outs
-  by_taken P a k event = by (slice_get a.table k)
-    where
-      by : (o : Option SlotPhase) → P (table.in_slot a.table k (as_slot a.questions event) o).state (table.in_slot a.table k (as_slot a.questions event) o).outs
-          → P (table.in_taken a k event o).state.table (table.in_taken a k event o).outs
-      by None h = h
-      by (Some p) h = h
 
   pub at_taken-goes : (n : Net) (a : TableAsker) (k : ℕ) (event : Asker → Stepped Asker Effect) → TableAgrees members part n a.table
       → (k ≡ part → AskEvent logs members part limit life n (phase_at a.table part) (event (asker (phase_at a.table part) a.questions)))

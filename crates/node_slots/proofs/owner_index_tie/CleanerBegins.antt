@@ -30,9 +30,8 @@ use Rattle.node_slots.proofs.owner_index_tie.CleanerEpochs.{promise_is}
 use Rattle.node_slots.proofs.owner_index_tie.CleanerFrames as frames
 use Rattle.node_slots.proofs.owner_index_tie.CleanerFrames.{Grows, Stands}
 use Rattle.node_slots.proofs.owner_index_tie.CleanerJobs as jobs
-use Rattle.node_slots.proofs.owner_index_tie.CleanerSays.{told_nothing}
+use Rattle.node_slots.proofs.owner_index_tie.CleanerSays.{grows_job, told_nothing}
 use Rattle.node_slots.proofs.owner_index_tie.Feeds.{same_owner}
-use Rattle.node_slots.proofs.owner_index_tie.Frames.{more_itself}
 
 -- a job that awaits its Welcome says nothing when it is told of an epoch, and awaits it still
 pub record Waits (d : job.Done) : Type 0 where
@@ -282,16 +281,7 @@ module _ (New : Filed → Segment → Type 0) (part : ℕ) (texts : Texts) (sinc
       let m = record n { job = started count; number = suc n.number } in
       let r = with_new_job e number count in
       let d = steps promises_slot r (range_with_len 0 8) in
-      let grows : Grows n m = record {
-        slots = refl;
-        epoch = refl;
-        horizon = refl;
-        parts = refl;
-        promised = let q = n.promised in omega arith;
-        filed = more_itself n.filed;
-        sent = λ x fact. fact;
-        deleted = λ name fact. fact;
-      } in
+      let grows : Grows n m = grows_job New part texts since answered n count in
       let before : Before m r = record {
         stands = record {
           late = h.late;

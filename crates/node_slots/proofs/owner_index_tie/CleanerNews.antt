@@ -38,6 +38,7 @@ use Rattle.node_slots.proofs.owner_index_tie.CleanerFrames.{Grows, Stands}
 use Rattle.node_slots.proofs.owner_index_tie.CleanerJobs as jobs
 use Rattle.node_slots.proofs.owner_index_tie.CleanerJobs.{NoHigher}
 use Rattle.node_slots.proofs.owner_index_tie.CleanerLog.{writes_so}
+use Rattle.node_slots.proofs.owner_index_tie.CleanerPromises as promises
 use Rattle.node_slots.proofs.owner_index_tie.CleanerPromises.{UpTo, promised_so}
 use Rattle.node_slots.proofs.owner_index_tie.CleanerSays.{rejobbed}
 
@@ -149,19 +150,7 @@ module _ (New : Filed → Segment → Type 0) (part : ℕ) (texts : Texts) (sinc
 
   weaker : (P Q : Net → Emptying → Type 0) → ((v : Net) (s : Emptying) → P v s → Q v s) → (asked : Questions) (n : Net) (d : Done) → Goes_to P asked n d
       → Goes_to Q asked n d
-  weaker P Q to asked n d goes = (
-    λ owed. (let w = goes.0 owed in record {
-      next = w.next;
-      runs = w.runs;
-      grows = w.grows;
-      filed = w.filed;
-      questions = w.questions;
-      kept = w.kept;
-      stands = to w.next d.state w.stands;
-      says = w.says;
-    }),
-    goes.1,
-  )
+  weaker P Q to asked n d goes = promises.weaker New part texts since answered small to asked n d goes
 
   -- ---- slots
 

@@ -283,8 +283,8 @@ module _ (New : Filed → Segment → Type 0) (part : ℕ) (texts : Texts) (sinc
   abbrev pub jobless : Net → Net
   jobless n = record n { job = started 0; number = suc n.number }
 
-  pub grows_jobless : (n : Net) → Grows n (jobless n)
-  grows_jobless n = record {
+  pub grows_job : (n : Net) (count : ℕ) → Grows n (record n { job = started count; number = suc n.number })
+  grows_job n count = record {
     slots = refl;
     epoch = refl;
     horizon = refl;
@@ -294,6 +294,9 @@ module _ (New : Filed → Segment → Type 0) (part : ℕ) (texts : Texts) (sinc
     sent = λ x fact. fact;
     deleted = λ name fact. fact;
   }
+
+  pub grows_jobless : (n : Net) → Grows n (jobless n)
+  grows_jobless n = grows_job n 0
 
   finishes_so : (asked : Questions) (n : Net) (e : Emptying) (count : ℕ) → At n e → Goes asked n (finishes e count)
   finishes_so asked n e count h =
