@@ -1,5 +1,6 @@
 mod Leaving
 mod Saying
+pub mod Same
 mod Takeovers
 mod Flights
 mod Slots

@@ -1,19 +1,20 @@
 -- What an event has a node do, step by step: where all that it acts is among the acts of the event, the node stands so then, and what it sends tells nothing
 -- but what is told.
 use Rattle.std.proofs.Common.{ℕ, List, [], ◌∷◌, ◌++◌, Option, Some, None}
-use Rattle.std.specs.Prelude.{Contains, IfSome, fold}
+use Rattle.std.specs.Prelude.{Contains, IfSome}
 use Rattle.std.specs.List.{AllByRecursion, cons_option, filter_map}
 use Rattle.node_base.specs.Beginning.{answers_unanswered}
 use Rattle.node_base.specs.declared.effects.Effect.{Effect}
-use Rattle.node_base.specs.declared.effects.Effect.TheVariants.{Send, Answer as Answers, Lose, Does}
-use Rattle.node_base.specs.Effects.{packet_of, act_of, packets_of, acts_of}
+use Rattle.node_base.specs.declared.effects.Effect.TheVariants.{Answer as Answers}
+use Rattle.node_base.specs.Effects.{packets_of, acts_of}
 use Rattle.version_model.specs.declared.act.Act.{Act}
 use Rattle.version_model.specs.declared.answer.Answer.{Answer}
 use Rattle.xfs_base.proofs.Members.{contains_first, contains_rest}
 use Rattle.xfs_base.specs.declared.node.NodeId.{NodeId}
-use Rattle.xfs_base.specs.Steps.{Stepped, still, saying, steps}
-use Rattle.xfs_base.proofs.Alls.{all_weaker, all_append}
-use Rattle.node_tellings.proofs.filed_tie.Frames.{all_before, all_behind}
+use Rattle.xfs_base.specs.Steps.{Stepped, still, saying}
+use Rattle.xfs_base.proofs.Alls.{all_weaker}
+use Rattle.node_moves.proofs.client_walk.Frames as walk
+use Rattle.node_moves.proofs.Effects as effects
 use Rattle.node_tellings.specs.entry_tie.Told.{Told, BodyTold, PacketTold}
 
 -- ---- lists
@@ -37,17 +38,11 @@ module _ (told : Told) (done : List Act) where
 
   -- what is sent is told
   abbrev pub Says : Effect → Type 0
-  Says (Send to said) = BodyTold told said
-  Says (Answers item answer) = Unit {0}
-  Says (Lose seg) = Unit {0}
-  Says (Does act) = Unit {0}
+  Says e = effects.Says (BodyTold told) e
 
   -- what is acted is among the acts of the event
   abbrev pub Acted : Effect → Type 0
-  Acted (Send to said) = Unit {0}
-  Acted (Answers item answer) = Unit {0}
-  Acted (Lose seg) = Unit {0}
-  Acted (Does act) = Contains done act
+  Acted e = effects.Acted (Contains done) e
 
   abbrev pub AllSay : List Effect → Type 0
   AllSay outs = AllByRecursion Says outs
@@ -56,82 +51,36 @@ module _ (told : Told) (done : List Act) where
   AllActed outs = AllByRecursion Acted outs
 
   pub answers_say : (item : Option ℕ) (answer : Answer) → AllSay (answers_unanswered item answer)
-  answers_say None answer = tt
-  answers_say (Some number) answer = (tt, tt)
+  answers_say item answer = effects.answers_say (BodyTold told) item answer
 
   -- what was open is answered so, and then the item that ended it
   pub both_say : (item : Option ℕ) (first : Answer) (number : ℕ) (second : Answer) → AllSay (answers_unanswered item first ++ Answers number second ∷ [])
-  both_say item first number second = all_append Says (answers_unanswered item first) (Answers number second ∷ []) (answers_say item first) (tt, tt)
+  both_say item first number second = effects.both_say (BodyTold told) item first number second
 
-  module _ (node : NodeId) where
-    one_packet : (e : Effect) → Says e → AllByRecursion (PacketTold told) (packet_of node e)
-    one_packet (Send to said) says = (says, tt)
-    one_packet (Answers item answer) says = tt
-    one_packet (Lose seg) says = tt
-    one_packet (Does act) says = tt
+  -- the packets tell what the effects tell
+  pub packets_tell : (node : NodeId) (es : List Effect) → AllSay es → AllByRecursion (PacketTold told) (packets_of node es)
+  packets_tell node es all = effects.packets_so (BodyTold told) (PacketTold told) node (λ to b says. says) es all
 
-    -- the packets tell what the effects tell
-    pub packets_tell : (es : List Effect) → AllSay es → AllByRecursion (PacketTold told) (packets_of node es)
-    packets_tell [] all = tt
-    packets_tell (e ∷ es) all = all_append (PacketTold told) (packet_of node e) (packets_of node es) (one_packet e all.0) (packets_tell es all.1)
-
-    one_act : (e : Effect) → AllByRecursion (Contains done) (act_of node e) → Acted e
-    one_act (Send to said) acts = tt
-    one_act (Answers item answer) acts = tt
-    one_act (Lose seg) acts = tt
-    one_act (Does act) acts = acts.0
-
-    -- the effects act what is among the acts
-    pub acts_acted : (es : List Effect) → AllByRecursion (Contains done) (acts_of node es) → AllActed es
-    acts_acted [] acts = tt
-    acts_acted (e ∷ es) acts = (
-      one_act e (all_before (Contains done) (act_of node e) (acts_of node es) acts),
-      acts_acted es (all_behind (Contains done) (act_of node e) (acts_of node es) acts),
-    )
+  -- the effects act what is among the acts
+  pub acts_acted : (node : NodeId) (es : List Effect) → AllByRecursion (Contains done) (acts_of node es) → AllActed es
+  acts_acted node es acts = effects.acts_acted (Contains done) node es acts
 
   -- ---- steps
 
   module _ {S : Type 0} (At : S → Type 0) where
     -- where all that is acted is among the acts, it stands so, and tells nothing but what is told
     abbrev pub Goes : Stepped S Effect → Type 0
-    Goes d = AllActed d.outs → At d.state × AllSay d.outs
+    Goes d = walk.Goes Says Acted At d
 
     pub goes_still : (s : S) → At s → Goes (still s)
-    goes_still s h acts = (h, tt)
+    goes_still s h = walk.goes_still Says Acted At s h
 
     pub goes_plain : (s : S) (outs : List Effect) → At s → AllSay outs → Goes (record { state = s; outs = outs })
-    goes_plain s outs h says acts = (h, says)
+    goes_plain s outs h says = walk.goes_plain Says Acted At s outs h says
 
     -- one thing follows another
     pub goes_on : (d e : Stepped S Effect) → Goes d → (At d.state → Goes e) → Goes (saying d.outs e)
-    goes_on d e p f acts =
-        let first : At d.state × AllSay d.outs = p (all_before Acted d.outs e.outs acts) in
-        let second : At e.state × AllSay e.outs = f first.0 (all_behind Acted d.outs e.outs acts) in
-        (second.0, all_append Says d.outs e.outs first.1 second.1)
+    goes_on d e p f = walk.goes_on Says Acted At d e p f
 
     pub goes_after : (outs : List Effect) (d : Stepped S Effect) → AllSay outs → Goes d → Goes (saying outs d)
-    goes_after outs d says p acts =
-        let second : At d.state × AllSay d.outs = p (all_behind Acted outs d.outs acts) in
-        (second.0, all_append Says outs d.outs says second.1)
-
-    -- another state that stands so too, and more is said
-    pub goes_and_gives : (d : Stepped S Effect) (s : S) (outs : List Effect) → Goes d → (At d.state → At s) → (At d.state → AllSay outs)
-        → Goes (record { state = s; outs = d.outs ++ outs })
-    goes_and_gives d s outs p f says acts =
-        let first : At d.state × AllSay d.outs = p (all_before Acted d.outs outs acts) in
-        (f first.0, all_append Says d.outs outs first.1 (says first.0))
-
-    pub goes_steps : {A : Type 0} (f : S → A → Stepped S Effect) → ((s : S) (x : A) → At s → Goes (f s x)) → (s : S) (xs : List A) → At s → Goes (steps f s xs)
-    goes_steps f one s [] h = goes_still s h
-    goes_steps f one s (x ∷ xs) h = goes_on (f s x) (steps f (f s x).state xs) (one s x h) (λ k. goes_steps f one (f s x).state xs k)
-
-    -- one thing for each item of a list of such items
-    pub goes_each : {A : Type 0} (Takes : A → Type 0) (f : S → A → Stepped S Effect) → ((s : S) (x : A) → Takes x → At s → Goes (f s x)) → (s : S) (xs : List A)
-        → AllByRecursion Takes xs → At s → Goes (steps f s xs)
-    goes_each Takes f one s [] all h = goes_still s h
-    goes_each Takes f one s (x ∷ xs) all h =
-        goes_on (f s x) (steps f (f s x).state xs) (one s x all.0 h) (λ k. goes_each Takes f one (f s x).state xs all.1 k)
-
-    pub stands_fold : {A : Type 0} (f : S → A → S) → ((s : S) (x : A) → At s → At (f s x)) → (s : S) (xs : List A) → At s → At (fold f s xs)
-    stands_fold f one s [] h = h
-    stands_fold f one s (x ∷ xs) h = stands_fold f one (f s x) xs (one s x h)
+    goes_after outs d says p = walk.goes_after Says Acted At outs d says p

@@ -1,13 +1,14 @@
 -- Whatever happens to a manager, what it names of checkpoints is known, and so is what it sends.
-use Rattle.std.proofs.Common.{◌≡◌, ℕ, ◌==◌, List, [], ◌∷◌, refl}
+use Rattle.std.proofs.Common.{◌≡◌, ℕ, ◌==◌, List, refl}
 use Rattle.std.specs.Prelude.{Option, Some, None, IfSome}
+use Rattle.std.specs.List.{AllByRecursion}
 use Rattle.checkpoint.specs.WriterState.{WorkState}
 use Rattle.manager_map.specs.Slots.{start_entries, entry_at}
 use Rattle.manager_node.specs.declared.manager.Manager.{Manager}
 use Rattle.manager_node.specs.declared.phase.Phase.{Phase}
 use Rattle.manager_node.specs.declared.phase.Phase.TheVariants.{Down, Waiting, Serving as Serves}
 use Rattle.manager_node.specs.Events.{first_manager, manager_step, takes_welcome, on_welcome, on_waiting, on_packet, on_deliver, on_time, on_event, happens}
-use Rattle.manager_node.specs.Phases.{Went_to, lasting_of, phase_has_room, serves, crashes, restarts, wish_at, down_wish, waiting_wish, serving_wish, with_begun, down_item, waiting_item, serving_item, begin_down, begin_waiting, begin_serving, on_begin}
+use Rattle.manager_node.specs.Phases.{Went_to, lasting_of, phase_has_room, serves, restarts, with_begun, begin_serving, on_begin}
 use Rattle.manager_slots.specs.declared.lasting.Lasting.{Lasting as Life}
 use Rattle.manager_slots.specs.declared.slot_phase.SlotPhase.{SlotPhase}
 use Rattle.manager_slots.specs.declared.slot_phase.SlotPhase.TheVariants as phase
@@ -16,15 +17,11 @@ use Rattle.manager_slots.specs.SlotTable.{first_phase}
 use Rattle.manager_serving.specs.Checkpoints.{Done, on_checkpoint}
 use Rattle.manager_serving.specs.declared.serving.Serving.{Serving}
 use Rattle.manager_serving.specs.Serving.{again, hears, on_news, on_tick}
-use Rattle.node_base.specs.Beginning.{next_item, work_at, answers_unanswered}
-use Rattle.node_base.specs.declared.effects.Effect.TheVariants.{Answer as Answers}
 use Rattle.node_base.specs.declared.peers.Peers.{Peers}
 use Rattle.node_base.specs.Maps.{forgotten}
 use Rattle.node_base.specs.Shape.{is_well_formed}
 use Rattle.version_model.specs.declared.act.Act.{Act}
-use Rattle.version_model.specs.declared.answer.Answer.TheVariants as answer
 use Rattle.version_model.specs.declared.work.Work.{Work}
-use Rattle.version_model.specs.declared.work.Work.TheVariants as work
 use Rattle.wire_msg.specs.declared.body.Body.{Body}
 use Rattle.wire_msg.specs.declared.body.Body.TheVariants as body
 use Rattle.wire_msg.specs.declared.packet.Do.{Do}
@@ -37,6 +34,7 @@ use Rattle.xfs_base.specs.declared.node.NodeId.{NodeId}
 use Rattle.xfs_base.specs.declared.node.NodeId.TheVariants.{Manager as AManager}
 use Rattle.xfs_base.specs.declared.setup.Setup.{Setup}
 use Rattle.xfs_base.specs.Steps.{still}
+use Rattle.node_moves.proofs.manager_walk.Items as items
 use Rattle.node_tellings.proofs.entry_tie.Frames.{contains_all}
 use Rattle.node_tellings.proofs.part_tie.Leaving.{LeavesIf}
 use Rattle.manager_slots.specs.Lasting.{log_of}
@@ -44,12 +42,12 @@ use Rattle.manager_serving.specs.declared.checkpointing.Checkpointing.{Checkpoin
 use Rattle.wire_msg.specs.declared.registry.CkptDone.{CkptDone}
 use Rattle.xfs_base.specs.declared.segment.LogId.{LogId}
 use Rattle.xfs_base.specs.declared.segment.SegRef.{SegRef}
-use Rattle.xfs_base.proofs.Alls.{all_append, all_weaker}
+use Rattle.xfs_base.proofs.Alls.{all_weaker}
 use Rattle.xfs_base.proofs.Leaving.{Leaves}
 use Rattle.node_tellings.specs.part_tie.ManagerNames.{DoneNames, JobNames, ManagerNames, ManagerNamesRise, ManagersNameKnown, ManagersStartNaming, PhaseFlies, PhaseNames, ServingNames, SlotNames, WorkNames}
 use Rattle.node_tellings.specs.part_tie.Names.{AllKnown, BodyNames, DoNames, Known, NamesKnown, PacketNames, named_by}
 use Rattle.node_tellings.proofs.part_tie.Checkpoints.{Flies, Plain, Tells as ServingTells, checkpoint_on}
-use Rattle.node_tellings.proofs.part_tie.Saying.{Acted, Says, acts_acted, answers_say, packets_name}
+use Rattle.node_tellings.proofs.part_tie.Saying.{Acted, Says, acts_acted, packets_name}
 use Rattle.node_tellings.proofs.part_tie.Serving.{news_on, packet_on, tick_on}
 
 -- ---- the start
@@ -90,72 +88,24 @@ module _ (known : Known) (acts : List Act) where
   unmoved : (p : Phase) → PhaseNames known p → Goes (still p)
   unmoved p h = record { state = h; outs = tt }
 
-  crashes_on : (life : Life) (number : ℕ) → Goes (crashes life number)
-  unfolding crashes
-  crashes_on life number = record {
-    state = tt;
-    outs = all_append (Says known) (answers_unanswered life.items.unanswered answer.Cut) (Answers number answer.Done ∷ [])
-        (answers_say known life.items.unanswered answer.Cut) (tt, tt);
-  }
-
-  restarts_on : (life : Life) (number : ℕ) → Goes (restarts life number)
-  unfolding restarts
-  restarts_on life number = record { state = tt; outs = (tt, (tt, tt)) }
-
   -- ---- the next item
 
-  down_on : (life : Life) → Goes (begin_down life)
-  unfolding begin_down
-  down_on life = by (next_item life.items)
-    where
-      by_wish : (number : ℕ) (asked : Option Work) → Goes (down_wish (with_begun life) number (wish_at asked))
-      by_wish number None = record { state = tt; outs = (tt, tt) }
-      by_wish number (Some (work.Restart node)) = restarts_on (with_begun life) number
-      by_wish number (Some _) = record { state = tt; outs = (tt, tt) }
-
-      by : (item : Option ℕ) → Goes (down_item (with_begun life) item)
-      by None = record { state = tt; outs = tt }
-      by (Some number) = by_wish number (work_at (with_begun life).items number)
-
-  waiting_on : (life : Life) (hello : ℕ) → Goes (begin_waiting life hello)
-  unfolding begin_waiting
-  waiting_on life hello = by (next_item life.items)
-    where
-      by_wish : (number : ℕ) (asked : Option Work) → Goes (waiting_wish (with_begun life) hello number (wish_at asked))
-      by_wish number None = record { state = tt; outs = (tt, tt) }
-      by_wish number (Some (work.Crash node)) = crashes_on (with_begun life) number
-      by_wish number (Some _) = record { state = tt; outs = (tt, tt) }
-
-      by : (item : Option ℕ) → Goes (waiting_item (with_begun life) hello item)
-      by None = record { state = tt; outs = tt }
-      by (Some number) = by_wish number (work_at (with_begun life).items number)
+  greets : (life : Life) (number : ℕ) → AllByRecursion (Says known) (restarts life number).outs
+  unfolding restarts
+  greets life number = (tt, (tt, tt))
 
   serving_on : (s : Serving) → ServingNames known s → Goes (begin_serving s)
-  unfolding begin_serving
-  serving_on s h = by (next_item s.lasting.items)
-    where
-      kept : ServingNames known (record s { lasting = with_begun s.lasting })
-      kept = record { slots = h.slots; work = h.work; done = h.done }
-
-      checkpoint : (number : ℕ) → Goes (serves (on_checkpoint (record s { lasting = with_begun s.lasting }) number))
-      checkpoint number =
-          serving (on_checkpoint (record s { lasting = with_begun s.lasting }) number) s.lasting.number s.writer.log
-          (checkpoint_on known acts s.lasting.number s.writer.log (record s { lasting = with_begun s.lasting }) number
-          (record { slots = h.slots; work = h.work; own = refl; its = refl; done = h.done; more = tt }))
-
-      by_wish : (number : ℕ) (asked : Option Work) → Goes (serving_wish (record s { lasting = with_begun s.lasting }) number (wish_at asked))
-      by_wish number None = checkpoint number
-      by_wish number (Some (work.Crash node)) = crashes_on (with_begun s.lasting) number
-      by_wish number (Some (work.Restart node)) = record { state = kept; outs = (tt, tt) }
-      by_wish number (Some _) = checkpoint number
-
-      by : (item : Option ℕ) → Goes (serving_item (record s { lasting = with_begun s.lasting }) item)
-      by None = record { state = kept; outs = tt }
-      by (Some number) = by_wish number (work_at (with_begun s.lasting).items number)
+  serving_on s h =
+      items.serving_on (PhaseNames known) (Says known) (λ life. tt) (λ life hello. tt) (λ number a. tt) greets s
+      (record { slots = h.slots; work = h.work; done = h.done })
+      (λ number. serving (on_checkpoint (record s { lasting = with_begun s.lasting }) number) s.lasting.number s.writer.log
+      (checkpoint_on known acts s.lasting.number s.writer.log (record s { lasting = with_begun s.lasting }) number
+      (record { slots = h.slots; work = h.work; own = refl; its = refl; done = h.done; more = tt })))
 
   begins_on : (p : Phase) → PhaseNames known p → Goes (on_begin p)
-  begins_on (Down life) h = down_on life
-  begins_on (Waiting life hello) h = waiting_on life hello
+  begins_on (Down life) h = items.down_on (PhaseNames known) (Says known) (λ life. tt) (λ life hello. tt) (λ number a. tt) greets life
+  begins_on (Waiting life hello) h =
+      items.waiting_on (PhaseNames known) (Says known) (λ life. tt) (λ life hello. tt) (λ number a. tt) greets life hello
   begins_on (Serves s) h = serving_on s h
 
   -- ---- packets

@@ -1,6 +1,5 @@
 -- Whatever happens to the cleaner, whichever Report it sends bears the end that its log had before.
-use Rattle.std.proofs.Common.{◌≡◌, [], ◌∷◌, List, ap, ◌∙◌}
-use Rattle.std.specs.List.{AllByRecursion}
+use Rattle.std.proofs.Common.{◌≡◌, ap, ◌∙◌}
 use Rattle.cleaner_job.specs.declared.lasting.Lasting.{Lasting}
 use Rattle.cleaner_node.specs.CleanerEvents.{takes}
 use Rattle.cleaner_node.specs.declared.cleaner.Cleaner.{Cleaner}
@@ -8,16 +7,10 @@ use Rattle.cleaner_node.specs.declared.cleaner.Phase.TheVariants.{Serving}
 use Rattle.cleaner_serving.specs.declared.emptying.Emptying.{Emptying}
 use Rattle.client_log.specs.LogState.{LogState}
 use Rattle.log_owner.proofs.Behaving as behaving
-use Rattle.log_owner.specs.Behaves.{MayDo, MaySay}
-use Rattle.log_owner.specs.declared.ended.Owner.{Owner}
 use Rattle.log_owner.specs.declared.opening.Opening as openings
 use Rattle.log_owner.specs.Opening.{Went}
 use Rattle.node_base.specs.declared.effects.Effect.{Effect}
-use Rattle.node_base.specs.declared.effects.Effect.TheVariants.{Answer as Answers, Does, Lose, Send}
-use Rattle.wire_msg.specs.declared.body.Body.{Body}
-use Rattle.wire_msg.specs.declared.body.Body.TheVariants as body
 use Rattle.wire_msg.specs.declared.packet.Do.{Do}
-use Rattle.xfs_base.specs.declared.node.NodeId.{NodeId}
 use Rattle.xfs_base.specs.declared.node.NodeId.TheVariants.{Cleaner as TheCleaner}
 use Rattle.xfs_base.specs.declared.segment.End.{End}
 use Rattle.node_moves.proofs.cleaner_moves.Events.{promises_log}
@@ -27,7 +20,7 @@ use Rattle.node_moves.specs.cleaner_moves.Moves.{OpenedBy}
 use Rattle.node_moves.specs.cleaner_moves.Moves.OpenedBy.{PacketCame, TimeWent}
 use Rattle.node_tellings.proofs.reference_tie.Feeding.{pushes_all_say}
 use Rattle.node_tellings.proofs.reference_tie.Reporting as frames
-use Rattle.node_tellings.specs.reference_tie.Owners.{CleanerReportsItsEnd, ReportsEnd}
+use Rattle.node_tellings.specs.reference_tie.Owners.{CleanerReportsItsEnd}
 
 module _ (told : End) (first : Cleaner) (what : Do) (fact : (e : Emptying) → first.phase ≡ Serving e → e.log.end ≡ told) where
   -- it reports the end of its log, to a Poll alone
@@ -36,24 +29,9 @@ module _ (told : End) (first : Cleaner) (what : Do) (fact : (e : Emptying) → f
       ap (λ (l : LogState). l.end) (promises_log before m.slot m.epoch manager) ∙ fact before same
   gives_so e effect _ = tt
 
-  -- an opening reports nothing
-  may_say : (owner : Owner) (to : NodeId) (said : Body) → MaySay owner to said → ReportsEnd told said
-  may_say owner to (body.Report m) may = absurd may
-  may_say owner to (body.CkptDone m) may = absurd may
-  may_say owner to (body.MapNews m) may = absurd may
-  may_say owner to (body.Welcome m) may = absurd may
-  may_say owner to _ may = tt
-
-  may_do : (owner : Owner) (es : List Effect) → AllByRecursion (MayDo owner) es → frames.AllSay told es
-  may_do owner [] all = tt
-  may_do owner (Send to said ∷ es) all = (may_say owner to said all.0, may_do owner es all.1)
-  may_do owner (Answers item answer ∷ es) all = absurd all.0
-  may_do owner (Lose seg ∷ es) all = (tt, may_do owner es all.1)
-  may_do owner (Does act ∷ es) all = (tt, may_do owner es all.1)
-
   opens_so : (l : Lasting) (o : openings.Opening) (x : Went) → OpenedBy what l o x → frames.AllSay told x.effects
-  opens_so l o x (PacketCame packet event) = may_do o.known.owner x.effects (behaving.packet_so o l.questions packet).does
-  opens_so l o x (TimeWent event) = may_do o.known.owner x.effects (behaving.tick_so o l.questions).does
+  opens_so l o x (PacketCame packet event) = frames.may_do told o.known.owner x.effects (behaving.packet_so o l.questions packet).does
+  opens_so l o x (TimeWent event) = frames.may_do told o.known.owner x.effects (behaving.tick_so o l.questions).does
 
   keeps : EffectKeeps first what (λ p. Unit {0}) (λ o. Unit {0}) (frames.Says told)
   keeps = record {

@@ -1,10 +1,9 @@
 -- Whatever happens to a client that serves, whichever Report it sends bears the end that its log had before.
-use Rattle.std.specs.List.{AllByRecursion}
 use Rattle.client_node.specs.Phases.{Went_to, crashed, owner_of, restarted, after_opening, opened_on, answers, serves_on, wish_of, down_begins, opening_begins, serving_begins, lasting_of, begins_item, on_begin, on_deliver, on_time, delivers, happens, client_room, takes}
 use Rattle.client_node.specs.Crash.{falls}
 use Rattle.client_running.specs.Opens.{begins_call, call_at, opens}
 use Rattle.log_owner.proofs.Behaving as behaving
-use Rattle.log_owner.specs.Behaves.{Behaves, MayDo, MaySay}
+use Rattle.log_owner.specs.Behaves.{Behaves}
 use Rattle.log_owner.specs.declared.ended.Owner.{Owner}
 use Rattle.log_owner.specs.declared.opened.Progress.{Progress}
 use Rattle.log_owner.specs.declared.opened.Progress.TheVariants as progress
@@ -12,16 +11,12 @@ use Rattle.log_owner.specs.declared.opening.Opening as openings
 use Rattle.log_owner.specs.Opening as opening
 use Rattle.log_owner.specs.Opening.{Went}
 use Rattle.log_owner.specs.Sending.{pushes_all}
-use Rattle.node_base.specs.declared.effects.Effect.{Effect}
-use Rattle.node_base.specs.declared.effects.Effect.TheVariants.{Send, Answer as Answers, Lose, Does}
-use Rattle.wire_msg.specs.declared.body.Body.{Body}
-use Rattle.wire_msg.specs.declared.body.Body.TheVariants as body
-use Rattle.xfs_base.specs.declared.node.NodeId.{NodeId}
+use Rattle.node_base.specs.declared.effects.Effect.TheVariants.{Answer as Answers}
 use Rattle.client_node.specs.declared.phase.Phase.TheVariants.{Down, Opening, Serving as Serves}
 use Rattle.client_node.specs.declared.phase.Phase.{Phase}
 use Rattle.node_tellings.proofs.reference_tie.Feeding.{pushes_all_say}
-use Rattle.node_tellings.specs.reference_tie.Owners.{ClientsReportTheirEnd, ReportsEnd}
-use Rattle.std.proofs.Common.{◌≡◌, ℕ, List, [], ◌∷◌, Option, Some, None, is_some, refl}
+use Rattle.node_tellings.specs.reference_tie.Owners.{ClientsReportTheirEnd}
+use Rattle.std.proofs.Common.{◌≡◌, ℕ, [], ◌∷◌, Option, Some, None, is_some, refl}
 use Rattle.node_base.specs.Beginning.{next_item, begun, work_at, waiting, answered}
 use Rattle.xfs_base.specs.declared.segment.End.{End}
 use Rattle.client_node.specs.declared.client.Client.{Client}
@@ -101,20 +96,6 @@ module _ (told : End) where
 
   -- ---- an opening, which reports nothing
 
-  may_say : (owner : Owner) (to : NodeId) (said : Body) → MaySay owner to said → ReportsEnd told said
-  may_say owner to (body.Report m) may = absurd may
-  may_say owner to (body.CkptDone m) may = absurd may
-  may_say owner to (body.MapNews m) may = absurd may
-  may_say owner to (body.Welcome m) may = absurd may
-  may_say owner to _ may = tt
-
-  may_do : (owner : Owner) (es : List Effect) → AllByRecursion (MayDo owner) es → frames.AllSay told es
-  may_do owner [] all = tt
-  may_do owner (Send to said ∷ es) all = (may_say owner to said all.0, may_do owner es all.1)
-  may_do owner (Answers item answer ∷ es) all = absurd all.0
-  may_do owner (Lose seg ∷ es) all = (tt, may_do owner es all.1)
-  may_do owner (Does act ∷ es) all = (tt, may_do owner es all.1)
-
   after_opening_so : (l : Lasting) (capacity : ℕ) (p : Progress) → Goes (after_opening l capacity p)
   after_opening_so l capacity (progress.Opening o) = still_so (Opening l o)
   after_opening_so l capacity (progress.Opened o) = (
@@ -131,13 +112,13 @@ module _ (told : End) where
   opened_on_so l capacity owner w b =
       let e : Went_to = after_opening (record l { questions = w.questions }) capacity w.progress in (
         tt,
-        all_append (frames.Says told) w.effects e.outs (may_do owner w.effects b.does)
+        all_append (frames.Says told) w.effects e.outs (frames.may_do told owner w.effects b.does)
             (after_opening_so (record l { questions = w.questions }) capacity w.progress).1,
       )
 
   restarts_so : (servers : ℕ) (l : Lasting) → Goes (restarted servers l)
   restarts_so servers l =
-      (tt, may_do (owner_of l) (opening.on_start (owner_of l) servers l.questions).effects (behaving.begin_so (owner_of l) servers l.questions).does)
+      (tt, frames.may_do told (owner_of l) (opening.on_start (owner_of l) servers l.questions).effects (behaving.begin_so (owner_of l) servers l.questions).does)
 
   down_so : (servers number : ℕ) (l : Lasting) (wanted : Option Work) → Goes (down_begins servers l number (wish_of wanted))
   down_so servers number l (Some (work.Restart node)) = restarts_so servers (next_life l number)

@@ -1,5 +1,5 @@
 -- What an event has the owner of a log do, step by step: whichever Report it sends bears this end.
-use Rattle.std.proofs.Common.{refl, ℕ, List, [], ◌∷◌, ◌++◌, Option, Some, None}
+use Rattle.std.proofs.Common.{refl, ℕ, List, [], ◌∷◌, ◌++◌, Option}
 use Rattle.std.specs.Prelude.{fold}
 use Rattle.std.specs.List.{AllByRecursion}
 use Rattle.node_base.specs.Beginning.{answers_unanswered}
@@ -12,31 +12,44 @@ use Rattle.xfs_base.specs.declared.segment.End.{End}
 use Rattle.xfs_base.specs.Steps.{Stepped, still, saying, steps}
 use Rattle.xfs_base.proofs.Alls.{all_append}
 use Rattle.node_tellings.specs.reference_tie.Owners.{ReportsEnd, ReportsOf}
+use Rattle.log_owner.specs.Behaves.{MayDo, MaySay}
+use Rattle.log_owner.specs.declared.ended.Owner.{Owner}
+use Rattle.wire_msg.specs.declared.body.Body.{Body}
+use Rattle.wire_msg.specs.declared.body.Body.TheVariants as body
+use Rattle.node_moves.proofs.Effects as effects
 
 module _ (told : End) where
   abbrev pub Says : Effect → Type 0
-  Says (Send to said) = ReportsEnd told said
-  Says (Answers item answer) = Unit {0}
-  Says (Lose seg) = Unit {0}
-  Says (Does act) = Unit {0}
+  Says e = effects.Says (ReportsEnd told) e
 
   abbrev pub AllSay : List Effect → Type 0
   AllSay outs = AllByRecursion Says outs
 
   pub answers_say : (item : Option ℕ) (answer : Answer) → AllSay (answers_unanswered item answer)
-  answers_say None answer = tt
-  answers_say (Some number) answer = (tt, tt)
+  answers_say item answer = effects.answers_say (ReportsEnd told) item answer
 
   -- what was open is answered so, and then the item that ended it
   pub both_say : (item : Option ℕ) (first : Answer) (number : ℕ) (second : Answer) → AllSay (answers_unanswered item first ++ Answers number second ∷ [])
-  both_say item first number second = all_append Says (answers_unanswered item first) (Answers number second ∷ []) (answers_say item first) (tt, tt)
+  both_say item first number second = effects.both_say (ReportsEnd told) item first number second
 
   pub packets_say : (node : NodeId) (es : List Effect) → AllSay es → AllByRecursion (ReportsOf node told) (packets_of node es)
-  packets_say node [] all = tt
-  packets_say node (Send to said ∷ es) all = ((refl, all.0), packets_say node es all.1)
-  packets_say node (Answers item answer ∷ es) all = packets_say node es all.1
-  packets_say node (Lose seg ∷ es) all = packets_say node es all.1
-  packets_say node (Does act ∷ es) all = packets_say node es all.1
+  packets_say node es all = effects.packets_so (ReportsEnd told) (ReportsOf node told) node (λ to b says. (refl, says)) es all
+
+  -- ---- an opening reports nothing
+
+  may_say : (owner : Owner) (to : NodeId) (said : Body) → MaySay owner to said → ReportsEnd told said
+  may_say owner to (body.Report m) may = absurd may
+  may_say owner to (body.CkptDone m) may = absurd may
+  may_say owner to (body.MapNews m) may = absurd may
+  may_say owner to (body.Welcome m) may = absurd may
+  may_say owner to _ may = tt
+
+  pub may_do : (owner : Owner) (es : List Effect) → AllByRecursion (MayDo owner) es → AllSay es
+  may_do owner [] all = tt
+  may_do owner (Send to said ∷ es) all = (may_say owner to said all.0, may_do owner es all.1)
+  may_do owner (Answers item answer ∷ es) all = absurd all.0
+  may_do owner (Lose seg ∷ es) all = (tt, may_do owner es all.1)
+  may_do owner (Does act ∷ es) all = (tt, may_do owner es all.1)
 
   -- ---- steps
 

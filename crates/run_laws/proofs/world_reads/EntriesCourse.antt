@@ -22,6 +22,7 @@ use Rattle.takeover.specs.Rows.{told_of}
 use Rattle.takeover.specs.Sources.{back_from, goes_back, sources_of}
 use Rattle.takeover.specs.TakeState.{TakeState, started}
 use Rattle.takeover.specs.Transition.{Done, again, awaited, awaits, begun_if_all, can_ask, confirmed_as, go_on, goes_on_from, has_read, judged_as, next_of, on_maps, on_report, on_told, reads, sought, sought_again, sought_over, target_of, told_at, told_in, transition, waiting, waits_in, with_chain}
+use Rattle.node_tellings.proofs.part_tie.Same.{go_on_same, maps_same, told_same}
 use Rattle.xfs_base.proofs.Booleans.{by_test}
 use Rattle.xfs_base.specs.declared.news.SlotNews.{SlotNews}
 use Rattle.xfs_base.specs.Steps.{still}
@@ -95,83 +96,6 @@ module _ (So : Segment → Type 0) where
 
 -- ---- what it has heard
 
--- the reports are as they were
-abbrev Same : TakeState → Done → Type 0
-Same s d = d.state.reports ≡ s.reports
-
-sought_same : (s : TakeState) (source : Source) → Same s (sought s source)
-unfolding sought
-sought_same s source = by (group_of s.groups source.seg.group)
-  where
-    by : (group : Option Group) → Same s (sought_over s source group)
-    by None = refl
-    by (Some group) = refl
-
-go_on_same : (s : TakeState) → Same s (go_on s)
-unfolding go_on
-go_on_same s = by s.sources
-  where
-    by : (sources : List Source) → Same s (next_of sources s)
-    by [] = refl
-    by (source ∷ rest) = sought_same (record s { sources = rest }) source
-
-has_read_same : (s : TakeState) (source : Source) (segment : Segment) → Same s (has_read s source segment)
-unfolding has_read
-has_read_same s source segment = by (back_from source segment)
-  where
-    more : TakeState
-    more = record s { chain = told_of s.news.slot segment ∷ s.chain }
-
-    by : (left : Option Source) → Same s (goes_on_from (record s { chain = told_of s.news.slot segment ∷ s.chain }) left)
-    by None = go_on_same (with_chain (record s { chain = told_of s.news.slot segment ∷ s.chain }))
-    by (Some left) = sought_same (record s { chain = told_of s.news.slot segment ∷ s.chain }) left
-
-again_same : (s : TakeState) (source : Source) (r : ReadingState) → Same s (again s source r)
-unfolding again
-again_same s source r = by (on_confirmed r (s.ask + 1)).state (on_confirmed r (s.ask + 1)).next
-  where
-    by : (q : ReadingState) (n : Next) → Same s (confirmed_as s source q n)
-    by q next.Ask = refl
-    by q next.Lost = refl
-    by q next.Wait = refl
-    by q next.Again = refl
-    by q (next.Read segment) = refl
-
-judged_same : (s : TakeState) (source : Source) (q : ReadingState) (n : Next) → Same s (judged_as s source q n)
-judged_same s source q next.Again = again_same s source q
-judged_same s source q (next.Read segment) = has_read_same s source segment
-judged_same s source q next.Wait = refl
-judged_same s source q next.Ask = refl
-judged_same s source q next.Lost = refl
-
-told_same : (s : TakeState) (ask server : ℕ) (t : Told) → Same s (on_told s ask server t)
-unfolding on_told
-told_same s ask server t =
-    by_test (Same s) (can_ask s) (told_at (record s { present = None }) s.present ask server t) (still s) (λ _. by s.present) (λ _. refl)
-  where
-    by_reading : (source : Source) (r : Option ReadingState) → Same s (told_in (record s { present = None }) source r ask server t)
-    by_reading source None = refl
-    by_reading source (Some r) =
-        judged_same (record s { present = None }) source (on_answer r s.groups ask server t).state (on_answer r s.groups ask server t).next
-
-    by : (o : Option Present) → Same s (told_at (record s { present = None }) o ask server t)
-    by None = refl
-    by (Some p) = by_reading p.source p.reading
-
-maps_same : (s : TakeState) (groups : GroupMapState) → Same s (on_maps s groups)
-unfolding on_maps
-maps_same s groups = by s.present
-  where
-    by_reading : (source : Source) (r : Option ReadingState) → Same s (sought_again (record s { groups = groups }) (waits_in source r))
-    by_reading source None =
-        by_test (Same s) (can_ask s) (sought (record s { groups = groups }) source) (still (record s { groups = groups }))
-        (λ _. sought_same (record s { groups = groups }) source) (λ _. refl)
-    by_reading source (Some r) = refl
-
-    by : (o : Option Present) → Same s (sought_again (record s { groups = groups }) (waiting o))
-    by None = refl
-    by (Some p) = by_reading p.source p.reading
-
 module _ (Good : Report → Type 0) where
   earlier_report : (s : TakeState) (report : Report) → AllByRecursion Good (on_report s report).state.reports → AllByRecursion Good s.reports
   unfolding on_report
@@ -192,13 +116,13 @@ module _ (Good : Report → Type 0) where
       begins : AllByRecursion Good (begun_if_all heard).state.reports → AllByRecursion Good s.reports
       begins =
           by_test (λ (d : Done). AllByRecursion Good d.state.reports → AllByRecursion Good s.reports) (length (awaited heard) == 0) (go_on all) (still heard)
-          (λ _ good. before (subst (AllByRecursion Good) (go_on_same all) good)) (λ _ good. before good)
+          (λ _ good. before (subst (AllByRecursion Good) (go_on_same all).1 good)) (λ _ good. before good)
 
   earlier : (s : TakeState) (i : Input) → AllByRecursion Good (transition s i).state.reports → AllByRecursion Good s.reports
   earlier s (input.Report from held end) good = earlier_report s (record { from = from; held = held; end = end }) good
-  earlier s (input.Got ask server generation fragment) good = subst (AllByRecursion Good) (told_same s ask server (told.Held fragment)) good
-  earlier s (input.Missing ask server generation) good = subst (AllByRecursion Good) (told_same s ask server (told.Missing generation)) good
-  earlier s (input.Maps groups) good = subst (AllByRecursion Good) (maps_same s groups) good
+  earlier s (input.Got ask server generation fragment) good = subst (AllByRecursion Good) (told_same s ask server (told.Held fragment)).1 good
+  earlier s (input.Missing ask server generation) good = subst (AllByRecursion Good) (told_same s ask server (told.Missing generation)).1 good
+  earlier s (input.Maps groups) good = subst (AllByRecursion Good) (maps_same s groups).1 good
   earlier s input.Tick good = good
 
 -- ---- its sources
@@ -343,7 +267,7 @@ module _ (SourceSo : Source → Type 0) (So : Segment → Type 0) (Good : Report
           (λ _ good. go_on-on all (record {
             of = h.of;
             behind = subst (λ n. AllByRecursion SourceSo (sources_of n heard.reports)) (sym h.of)
-                (of_reports heard.reports (subst (AllByRecursion Good) (go_on_same all) good));
+                (of_reports heard.reports (subst (AllByRecursion Good) (go_on_same all).1 good));
           }))
           (λ _ _. record { of = h.of; behind = h.behind; present = h.present })
 
