@@ -1,14 +1,13 @@
 -- What a server was told to delete is below the least horizon of its log that the registry keeps; so nothing of a manager's log was deleted, of which no
 -- horizon tells.
-use Rattle.std.proofs.Common.{◌≡◌, ℕ, zero, suc, ◌-◌, ◌<◌, ◌≤◌, ◌==◌, true, List, [], ◌∷◌, length, slice_get, refl, ap, subst, ◌∙◌, arith}
-use Rattle.std.specs.Prelude.{unwrap_or}
+use Rattle.std.proofs.Common.{◌≡◌, ℕ, ◌<◌, ◌==◌, true, ap, subst, ◌∙◌, arith}
 use Rattle.core_world.specs.declared.any_node.AnyNode.{AnyNode}
 use Rattle.log_law.specs.Laws.{Moment}
 use Rattle.log_law.specs.Net.{Net, opening}
 use Rattle.log_law.specs.Net.Packet.{DeleteSent}
 use Rattle.log_law.specs.Written.{WhatFlewIsWritten}
 use Rattle.log_protocol.specs.Tables as tables
-use Rattle.log_scan.specs.Transition.{horizon_of, least_horizon}
+use Rattle.log_scan.specs.Transition.{least_horizon}
 use Rattle.log_tie.specs.Setting.{Setting}
 use Rattle.log_tie.specs.Shelves.{is_of_log}
 use Rattle.loss_law.proofs.Events.{first_base}
@@ -16,15 +15,15 @@ use Rattle.loss_law.proofs.Growing.{Base}
 use Rattle.loss_law.proofs.Interval.{passed}
 use Rattle.node_logs.specs.node_log_tie.RegistryEvents.{RegistrySeen}
 use Rattle.node_logs.specs.node_log_tie.Sight.{BodySeen, DeleteSeen}
-use Rattle.registry.specs.Board.{all_news, slot_news}
+use Rattle.registry.specs.Board.{all_news}
 use Rattle.registry.specs.BoardState.{BoardState}
-use Rattle.registry.specs.Checkpoints.{horizon_at}
 use Rattle.segment_format.specs.declared.segment.Segment.{Segment}
 use Rattle.token_protocol.specs.Basics.{In}
 use Rattle.wire_msg.specs.declared.body.Body.TheVariants as body
 use Rattle.wire_msg.specs.declared.packet.Packet.{Packet}
 use Rattle.wire_msg.specs.declared.storage.Delete.{Delete}
 use Rattle.world_base.specs.declared.estate.Estate.{Estate}
+use Rattle.node_logs.proofs.node_log_tie.Horizons.{least_is_one}
 use Rattle.run_laws.specs.world_law.Owners.{moment}
 use Rattle.run_laws.proofs.world_logs.Roles.{high_log}
 use Rattle.run_laws.specs.world_logs.Lines.{HasLines, setting}
@@ -33,31 +32,6 @@ use Rattle.run_laws.specs.world_logs.Roles.Role.{OfManager}
 use Rattle.xfs_base.specs.declared.segment.LogId.{LogId}
 use Rattle.xfs_base.specs.declared.segment.SegName.{SegName}
 use Rattle.xfs_base.proofs.Booleans.{equal_itself}
-use Rattle.xfs_base.specs.Limits.{slot_count, block_logs}
-
--- ---- a log above 9
-
--- a slot tells of nine logs: of any other its horizon is 1
-beyond : (h : List ℕ) (k : ℕ) → length h ≤ k → unwrap_or (slice_get h k) 1 ≡ 1
-beyond [] k less = refl
-beyond (x ∷ h) zero less = absurd (let e = less in omega arith)
-beyond (x ∷ h) (suc k) less = beyond h k (omega arith)
-
-least_is_one : (log : ℕ) → block_logs < log → (b : BoardState) → ((slot : ℕ) → slot < slot_count → length (horizon_at b.checkpoints slot) ≡ block_logs)
-    → least_horizon log (all_news b) ≡ 1
-least_is_one log high b nine =
-    let a = one 0 (omega arith) in
-    let c = one 1 (omega arith) in
-    let d = one 2 (omega arith) in
-    let e = one 3 (omega arith) in
-    let f = one 4 (omega arith) in
-    let h = one 5 (omega arith) in
-    let i = one 6 (omega arith) in
-    let j = one 7 (omega arith) in
-    omega arith
-  where
-    one : (slot : ℕ) → slot < slot_count → horizon_of log (slot_news b slot) ≡ 1
-    one slot below = beyond (horizon_at b.checkpoints slot) (log - 1) (let e = nine slot below in omega arith)
 
 -- ---- one log
 
