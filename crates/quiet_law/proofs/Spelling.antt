@@ -1,164 +1,28 @@
 -- A segment of changes that a segment can hold is written: its text is of bytes and says the segment.
-use Rattle.std.proofs.Common.{◌≡◌, ◌<◌, ◌≤◌, ℕ, zero, suc, ◌+◌, ◌*◌, ◌^◌, true, nat_le, nat_lt, List, [], ◌∷◌, ◌++◌, length, Ok, Option, Some, None, refl, sym, subst, arith}
+use Rattle.std.proofs.Common.{◌≡◌, ◌<◌, ◌≤◌, ℕ, ◌^◌, true, nat_le, nat_lt, List, [], ◌∷◌, length, Ok, Option, Some, None, sym, subst, arith}
 use Rattle.std.specs.Prelude.{IfSome}
-use Rattle.std.specs.List.{AllByRecursion, flat_map, list_all}
-use Rattle.std.specs.Int.{Width, w16, w32, w64, byte_len, byte_at, bytes_high_first, to_be_bytes}
+use Rattle.std.specs.List.{AllByRecursion, list_all}
 use Rattle.std.proofs.lemmas.Bool.{leb-true, ltb-true}
-use Rattle.std.proofs.lemmas.List.Elements.{All-nil, All-cons, All-append}
+use Rattle.std.proofs.lemmas.List.Elements.{All-nil, All-cons}
 use Rattle.client_call.specs.Fitting.{block_fits, is_byte, value_fits}
 use Rattle.indexmap.specs.IndexMap.{insert_entry}
-use Rattle.log_flight.proofs.ItemTexts.{written_have_text}
 use Rattle.log_flight.specs.declared.dirty.Change.{Change}
-use Rattle.log_flight.specs.Items.{change_items, items_of}
-use Rattle.log_flight.specs.Texts.{HasText}
+use Rattle.log_flight.specs.Items.{items_of}
 use Rattle.segment_format.proofs.SegmentLaws.{answer_again}
-use Rattle.segment_format.specs.declared.segment.Item.{Item}
-use Rattle.segment_format.specs.declared.segment.Item.TheVariants.{Block, Delta, Part}
 use Rattle.segment_format.specs.declared.segment.Segment.{Segment}
-use Rattle.segment_format.specs.Format.{IsLength, IsLog, first_version, is_length, second_version}
-use Rattle.segment_format.specs.Ranges.{FitsBlock, FitsItem, FitsName, FitsPrior}
+use Rattle.segment_format.specs.Format.{IsLength, IsLog, is_length, second_version}
+use Rattle.segment_format.specs.Ranges.{FitsBlock, FitsName, FitsPrior}
 use Rattle.segment_format.specs.ReadingItems.{answer_of}
-use Rattle.segment_format.specs.Text.{IsItem, block_text, head_of, head_text, item_text, name_text, pass_text, prior_text, text_of, value_text, version_of}
+use Rattle.segment_format.specs.Text.{text_of}
 use Rattle.stripe_code.specs.Stripe.{IsBytes}
 use Rattle.xfs_base.proofs.Booleans.{and_first, and_second, by_test}
 use Rattle.xfs_base.specs.Blocks.{same_block}
 use Rattle.xfs_base.specs.declared.block.BlockId.{BlockId}
-use Rattle.xfs_base.specs.declared.segment.Pass.{Pass}
-use Rattle.xfs_base.specs.declared.segment.Prior.{Prior}
-use Rattle.xfs_base.specs.declared.segment.SegName.{SegName}
-use Rattle.xfs_base.specs.Limits.{max_value, segment_blocks}
+use Rattle.xfs_base.specs.Limits.{max_value}
+use Rattle.xfs_base.proofs.Alls.{all_weaker}
+use Rattle.log_law.specs.Events.{IsWritten}
+use Rattle.log_law.proofs.Texts.{ChangeFits, ItemsFit, items_fit, segment_written}
 use Rattle.quiet_law.specs.Drained.{IsWritable}
-
--- ---- bytes
-
-abbrev IsByte : ℕ → Type 0
-IsByte b = b < 256
-
-byte_small : (k n : ℕ) → byte_at k n < 256
-byte_small zero n = omega arith
-byte_small (suc k) n = omega arith
-
-number_bytes : (k n : ℕ) → IsBytes (bytes_high_first k n)
-number_bytes zero n = All-nil IsByte
-number_bytes (suc k) n = All-cons IsByte (byte_at k n) (bytes_high_first k n) (byte_small k n) (number_bytes k n)
-
-both : (xs ys : List ℕ) → IsBytes xs → IsBytes ys → IsBytes (xs ++ ys)
-both xs ys = All-append IsByte xs ys
-
-one : (x : ℕ) (xs : List ℕ) → x < 256 → IsBytes xs → IsBytes (x ∷ xs)
-one x xs = All-cons IsByte x xs
-
-number : (w : Width) (n : ℕ) → IsBytes (to_be_bytes w n)
-number w n = number_bytes (byte_len w) n
-
-block_bytes : (b : BlockId) → IsBytes (block_text b)
-block_bytes b = both (to_be_bytes w32 b.ino.0) (to_be_bytes w32 b.blk) (number w32 b.ino.0) (number w32 b.blk)
-
-pass_bytes : (p : Pass) → IsBytes (pass_text p)
-pass_bytes p = both (to_be_bytes w32 p.inc) (to_be_bytes w32 p.att) (number w32 p.inc) (number w32 p.att)
-
-name_bytes : (n : SegName) → IsLog n.log.0 → IsBytes (name_text n)
-name_bytes n fact =
-    one n.log.0 (to_be_bytes w32 n.seq ++ pass_text n.pass) (let e = fact.1 in omega arith)
-    (both (to_be_bytes w32 n.seq) (pass_text n.pass) (number w32 n.seq) (pass_bytes n.pass))
-
-prior_bytes : (p : Prior) → IsBytes (prior_text p)
-prior_bytes p = both (pass_text p.pass) (to_be_bytes w32 p.group) (pass_bytes p.pass) (number w32 p.group)
-
--- the bytes of a Block are bytes; a log writes no Part
-abbrev ItemBytes : Item → Type 0
-ItemBytes (Block block value) = IfSome value IsBytes
-ItemBytes (Delta block ver hop item) = Unit {0}
-ItemBytes (Part slot rows) = ⊥
-
-value_bytes : (value : Option (List ℕ)) → IfSome value IsBytes → IsBytes (value_text value)
-value_bytes None h = All-nil IsByte
-value_bytes (Some bytes) h = both (to_be_bytes w16 (length bytes)) bytes (number w16 (length bytes)) h
-
-delta_bytes : (ver hop item : ℕ) → IsBytes (to_be_bytes w64 ver ++ (to_be_bytes w32 hop ++ to_be_bytes w16 item))
-delta_bytes ver hop item =
-    both (to_be_bytes w64 ver) (to_be_bytes w32 hop ++ to_be_bytes w16 item) (number w64 ver)
-    (both (to_be_bytes w32 hop) (to_be_bytes w16 item) (number w32 hop) (number w16 item))
-
-item_bytes : (i : Item) → ItemBytes i → IsBytes (item_text i)
-item_bytes (Block block value) h =
-    one 1 (block_text block ++ value_text value) (omega arith) (both (block_text block) (value_text value) (block_bytes block) (value_bytes value h))
-item_bytes (Delta block ver hop item) h =
-    one 2 (block_text block ++ (to_be_bytes w64 ver ++ (to_be_bytes w32 hop ++ to_be_bytes w16 item))) (omega arith)
-    (both (block_text block) (to_be_bytes w64 ver ++ (to_be_bytes w32 hop ++ to_be_bytes w16 item)) (block_bytes block) (delta_bytes ver hop item))
-item_bytes (Part slot rows) h = absurd h
-
-items_bytes : (items : List Item) → AllByRecursion ItemBytes items → IsBytes (flat_map item_text items)
-items_bytes [] all = All-nil IsByte
-items_bytes (i ∷ rest) all = both (item_text i) (flat_map item_text rest) (item_bytes i all.0) (items_bytes rest all.1)
-
-version_small : (items : List Item) → version_of items < 256
-version_small items = by_test (λ (v : ℕ). v < 256) _ second_version first_version (λ t. omega arith) (λ t. omega arith)
-
-head_bytes : (s : Segment) → IsLog s.name.log.0 → IsBytes (head_text (head_of s))
-head_bytes s fact =
-    let counted : List ℕ = to_be_bytes w32 s.group ++ to_be_bytes w16 (length s.items) in
-    one (version_of s.items) (name_text s.name ++ (prior_text s.prior ++ counted)) (version_small s.items)
-    (both (name_text s.name) (prior_text s.prior ++ counted) (name_bytes s.name fact)
-    (both (prior_text s.prior) counted (prior_bytes s.prior)
-    (both (to_be_bytes w32 s.group) (to_be_bytes w16 (length s.items)) (number w32 s.group) (number w16 (length s.items)))))
-
-text_bytes : (s : Segment) → IsLog s.name.log.0 → AllByRecursion ItemBytes s.items → IsBytes (text_of s)
-text_bytes s fact all =
-    let rest : List ℕ = head_text (head_of s) ++ flat_map item_text s.items in
-    one 0x78 (0x46 ∷ 0x53 ∷ rest) (omega arith)
-    (one 0x46 (0x53 ∷ rest) (omega arith)
-    (one 0x53 rest (omega arith) (both (head_text (head_of s)) (flat_map item_text s.items) (head_bytes s fact) (items_bytes s.items all))))
-
--- ---- items
-
-record ItemsFit (items : List Item) : Type 0 where
-  ranges : AllByRecursion FitsItem items
-  text : HasText items
-  bytes : AllByRecursion ItemBytes items
-
-ranges_of : (before : ℕ) (cs : List (BlockId × Change)) → before + 2 * length cs ≤ 48 → AllByRecursion IsWritable cs
-    → AllByRecursion FitsItem (items_of before cs)
-ranges_of before [] few all = tt
-ranges_of before (c ∷ cs) few all =
-    elim c.1.value as
-    (λ v. AllByRecursion FitsItem
-    (change_items before c.0 (record { entry = c.1.entry; value = v })
-    ++ items_of (before + length (change_items before c.0 (record { entry = c.1.entry; value = v }))) cs)) [
-      | None ↦ ((all.0.row.0, all.0.row.1, all.0.row.2, omega arith), ranges_of (before + 1) cs (omega arith) all.1)
-      | Some bytes ↦ (all.0.row.0, ((all.0.row.0, all.0.row.1, all.0.row.2, omega arith), ranges_of (before + 2) cs (omega arith) all.1))
-    ]
-
-each_of : (before : ℕ) (cs : List (BlockId × Change)) → AllByRecursion IsWritable cs → AllByRecursion (IsItem second_version) (items_of before cs)
-each_of before [] all = tt
-each_of before (c ∷ cs) all =
-    elim c.1.value as
-    (λ v. IfSome v (λ bytes. IsItem second_version (Block c.0 (Some bytes)))
-    → AllByRecursion (IsItem second_version)
-    (change_items before c.0 (record { entry = c.1.entry; value = v })
-    ++ items_of (before + length (change_items before c.0 (record { entry = c.1.entry; value = v }))) cs)) [
-      | None ↦ λ h. (tt, each_of (before + 1) cs all.1)
-      | Some bytes ↦ λ h. (h, (tt, each_of (before + 2) cs all.1))
-    ] all.0.length
-
-bytes_of : (before : ℕ) (cs : List (BlockId × Change)) → AllByRecursion IsWritable cs → AllByRecursion ItemBytes (items_of before cs)
-bytes_of before [] all = tt
-bytes_of before (c ∷ cs) all =
-    elim c.1.value as
-    (λ v. IfSome v IsBytes
-    → AllByRecursion ItemBytes
-    (change_items before c.0 (record { entry = c.1.entry; value = v })
-    ++ items_of (before + length (change_items before c.0 (record { entry = c.1.entry; value = v }))) cs)) [
-      | None ↦ λ h. (tt, bytes_of (before + 1) cs all.1)
-      | Some bytes ↦ λ h. (h, (tt, bytes_of (before + 2) cs all.1))
-    ] all.0.bytes
-
-items_fit : (cs : List (BlockId × Change)) → length cs ≤ segment_blocks → AllByRecursion IsWritable cs → ItemsFit (items_of 0 cs)
-items_fit cs few all = record {
-  ranges = ranges_of 0 cs (omega arith) all;
-  text = written_have_text (items_of 0 cs) cs few refl (each_of 0 cs all);
-  bytes = bytes_of 0 cs all;
-}
 
 -- ---- the segment
 
@@ -166,18 +30,15 @@ pub record IsSpelled (s : Segment) : Type 0 where
   pub text : answer_of (text_of s) ≡ Ok s
   pub bytes : IsBytes (text_of s)
 
+change_of : (c : BlockId × Change) → IsWritable c → ChangeFits c
+change_of c h = record { row = h.row; length = h.length; bytes = h.bytes }
+
 pub spelled : (s : Segment) (cs : List (BlockId × Change)) → length cs ≤ 24 → AllByRecursion IsWritable cs → s.items ≡ items_of 0 cs → IsLog s.name.log.0
     → FitsName s.name → FitsPrior s.prior → s.group < 2 ^ 32 → IsSpelled s
 spelled s cs few all is log name prior group =
-    let h : ItemsFit s.items = subst ItemsFit (sym is) (items_fit cs few all) in
-    record {
-      text = answer_again (text_of s) s (record { name = name; prior = prior; group = group; items = h.ranges })
-          (record {
-            limits = record { log = log; items = h.text.each; others = h.text.others; deltas = h.text.deltas; rule = h.text.rule };
-            spelled = refl;
-          });
-      bytes = text_bytes s log h.bytes;
-    }
+    let items : ItemsFit s.items = subst ItemsFit (sym is) (items_fit cs few (all_weaker IsWritable ChangeFits change_of cs all)) in
+    let written : IsWritten s = segment_written s (record { log = log; name = name; prior = prior; group = group; items = items }) in
+    record { text = answer_again (text_of s) s written.fits written.text; bytes = written.bytes }
 
 -- ---- what is put
 
