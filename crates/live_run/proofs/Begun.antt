@@ -1,9 +1,10 @@
 -- The ends that were made are those of the cells.
-use Rattle.std.proofs.Common.{◌≡◌, refl, sym, ap, subst, ◌∙◌, ℕ, ◌+◌, List, [], ◌∷◌, ◌++◌, length, Some, length-append}
+use Rattle.std.proofs.Common.{◌≡◌, refl, sym, ap, subst, ◌∙◌, ℕ, suc, ◌+◌, List, [], ◌∷◌, ◌++◌, length, Some, inl, inr, length-append, arith}
 use Rattle.std.specs.Prelude.{slice_get, reverse, All}
+use Rattle.std.proofs.lemmas.List.{length-reverse}
 use mathlib.Core.List.{reverse-cons}
 use Rattle.std.proofs.lemmas.List.Elements.{All-head, All-push, All-same, All-tail}
-use Rattle.journals.proofs.Gets.{get_end, get_front}
+use Rattle.journals.proofs.Gets.{get_end, get_front, get_snoc}
 use Rattle.live_links.specs.Ends.{In, IsInsOf, IsOutsOf, IsUnused, Out}
 use Rattle.live_links.specs.Made.{AreLinks}
 use Rattle.live_links.proofs.Each.{same_out}
@@ -42,3 +43,12 @@ pub All-reverse : {X : Type 0} (P : X → Type 0) (xs : List X) → All P xs →
 All-reverse P [] h = h
 All-reverse P (x ∷ xs) h =
     All-same P (reverse (x ∷ xs)) (reverse xs ++ x ∷ []) (reverse-cons x xs) (All-push P (reverse xs) x (All-reverse P xs (All-tail P x xs h)) (All-head P x xs h))
+
+-- what stands at a place stood at that place from the end
+pub get_reverse : {X : Type 0} (xs : List X) (p : ℕ) (x : X) → slice_get (reverse xs) p ≡ Some x → (k : ℕ) × (k + p + 1 ≡ length xs) × (slice_get xs k ≡ Some x)
+get_reverse {X} [] p x got = absurd (cc)
+get_reverse {X} (y ∷ xs) p x got =
+    elim (get_snoc (reverse xs) y x p (subst (λ (ys : List X). slice_get ys p ≡ Some x) (reverse-cons y xs) got)) [
+      | inl before ↦ let there = get_reverse xs p x before in let place = there.1 in (suc there.0, omega arith, there.2)
+      | inr last ↦ let place = last.0 in let count = length-reverse xs in (0, omega arith, ap Some last.1)
+    ]

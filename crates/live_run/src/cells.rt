@@ -1,5 +1,5 @@
 //! The cells of a run: how they are made; and how they, or others, are put behind locks and had back.
-ghost use Rattle.std.specs.Prelude.{◌≡◌, ◌<◌, ◌++◌, ◌∷◌, [], length, reverse, All, IfOk, IfSome, MatchOption};
+ghost use Rattle.std.specs.Prelude.{◌≡◌, ◌<◌, ◌++◌, ◌∷◌, [], ℕ, length, reverse, slice_get, Some, All, IfOk, IfSome, MatchOption};
 ghost use Rattle.node_base.specs.Setups.{IsSetup};
 ghost use Rattle.world_base.specs.Cluster.{cluster_of, node_count};
 ghost use Rattle.live_links.specs.Ends.{IsInsOf, IsOutsOf, IsUnused};
@@ -30,7 +30,7 @@ pub fn turned_round<T>(all: Vec<T>) -> Vec<T>
     all
 }
 
-/// The cells of the nodes of a script, to which nothing happened yet, in order of nodes.
+/// The cells of the nodes of a script, to which nothing happened yet, in order of nodes, each with the ends of its place.
 pub fn first_cells<N: Member, R: RunName>(
     alloc: Global,
     script: &Script,
@@ -45,6 +45,8 @@ pub fn first_cells<N: Member, R: RunName>(
     requires links { AreLinks count count outs.items ins.items }
     ensures count { IfOk result (λ cells. length cells.items ≡ count) }
     ensures fresh { IfOk result (λ cells. All (λ c. c.journal.moments ≡ []) cells.items) }
+    ensures each { IfOk result (λ cells. (p : ℕ) (c : _) → slice_get cells.items p ≡ Some c
+        → (c.journal.place ≡ p) × (slice_get outs.items p ≡ Some c.outs) × (slice_get ins.items p ≡ Some c.ins)) }
 {
     let mut cells = Vec::new(alloc);
     let mut outs = outs;
