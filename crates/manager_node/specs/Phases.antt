@@ -8,7 +8,7 @@ use Rattle.manager_serving.specs.Checkpoints.{Done, on_checkpoint}
 use Rattle.manager_serving.specs.declared.serving.Serving.{Serving}
 use Rattle.manager_serving.specs.Serving.{serving_room}
 use Rattle.node_base.specs.Asking.{next_ask, drawn}
-use Rattle.node_base.specs.Beginning.{next_item, begun, work_at, answers_unanswered}
+use Rattle.node_base.specs.Beginning.{next_item, begun, started, work_at, answers_unanswered}
 use Rattle.node_base.specs.declared.effects.Effect.{Effect}
 use Rattle.node_base.specs.declared.effects.Effect.TheVariants.{Answer as Answers}
 use Rattle.version_model.specs.declared.answer.Answer.{Answer}
@@ -30,6 +30,10 @@ abbrev pub is_serving : Phase → Bool
 is_serving (Down kept) = false
 is_serving (Waiting kept hello) = false
 is_serving (Serves s) = true
+
+-- a manager that is down and has nothing to do
+abbrev pub idle : Phase
+idle = Down (record { number = 1; inc = 1; questions = record { last = 0 }; items = started [] })
 
 -- what outlives a crash
 abbrev pub lasting_of : Phase → Kept

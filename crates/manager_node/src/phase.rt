@@ -1,6 +1,6 @@
 //! Where a manager stands.
 ghost use Rattle.std.specs.Prelude.{◌≡◌};
-ghost use Rattle.manager_node.specs.Phases.{is_serving, lasting_of, phase_has_room, waiting_of};
+ghost use Rattle.manager_node.specs.Phases.{idle, is_serving, lasting_of, phase_has_room, waiting_of};
 
 use manager_serving::Serving;
 use manager_slots::Lasting;
@@ -22,7 +22,9 @@ pub(crate) enum Phase {
 
 impl Phase {
     // A manager that is down and has nothing to do: it stands in while a phase is handed on.
-    fn idle(alloc: Global) -> Phase {
+    fn idle(alloc: Global) -> Phase
+        ensures { result ≡ idle }
+    {
         Phase::Down(Lasting {
             number: 1,
             inc: 1,
@@ -33,7 +35,8 @@ impl Phase {
 
     /// The phase, which is handed on: until `turn_to` another stands in for it.
     pub fn take(&mut self, alloc: Global) -> Phase
-        ensures { result ≡ self.old }
+        ensures taken { result ≡ self.old }
+        ensures leaves { self.new ≡ idle }
     {
         mem::replace(self, Phase::idle(alloc))
     }
@@ -41,7 +44,8 @@ impl Phase {
     /// What a manager has that awaits its Welcome, which is handed on: until `turn_to` another phase stands in. None
     /// in any other phase.
     pub fn take_waiting(&mut self, alloc: Global) -> Option<(Lasting, u32)>
-        ensures { result ≡ waiting_of self.old }
+        ensures taken { result ≡ waiting_of self.old }
+        ensures leaves { self.new ≡ idle }
     {
         match self.take(alloc) {
             Phase::Down(lasting) => {
