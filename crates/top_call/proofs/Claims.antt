@@ -1,6 +1,6 @@
 -- From what the parts of a call tell to the claim of the whole.
-use Rattle.std.proofs.Common.{◌≡◌, ◌+◌, ◌≤◌, ℕ, true, false, List, [], Option, Some, None, refl, sym, ap, ◌∙◌, inl, inr, subst, arith}
-use Rattle.std.specs.Prelude.{IfSome}
+use Rattle.std.proofs.Common.{◌≡◌, ◌≤◌, ℕ, true, false, List, [], Option, Some, None, refl, sym, ap, ◌∙◌, inl, inr, subst, arith}
+use Rattle.std.specs.Prelude.{IfSome, IsTrue}
 use Rattle.std.specs.Io.KnownBytes.{Consumes, Keeps}
 use Rattle.board_law.specs.OneRun.{HasRegistry}
 use Rattle.board_play.specs.declared.estate.BoardEstate.{BoardEstate}
@@ -35,8 +35,9 @@ use Rattle.top_call.specs.declared.command.Command.{Command}
 use Rattle.top_call.specs.declared.command.Command.TheVariants.{Run, Live, Mount, Gen, Big, Audit, Boards, Disks}
 use Rattle.top_call.specs.declared.outcome.Outcome.{Outcome}
 use Rattle.top_call.specs.Commands.{plays_plainly, reads}
-use Rattle.top_call.specs.Claim.{Wanted, Writing, Reading, reading, writing, line, run_answer, IsRead, IsInput, Tells, GivesUp, TellsOrGivesUp, CannotRead, Wants, AnswersOrGivesUp, Ends, IsPlayed, IsPlayedWithBoards, IsPlayedWithDisks, IsRunBy, TellsDisks, TellsLive, boards_in, boards_of, Claim}
+use Rattle.top_call.specs.Claim.{Wanted, Writing, Reading, reading, writing, line, run_answer, IsRead, IsInput, Tells, GivesUp, TellsOrGivesUp, CannotRead, Wants, AnswersOrGivesUp, Ends, IsPlayed, IsPlayedWithBoards, IsPlayedWithDisks, IsRunBy, TellsDisks, TellsLive, ReadsAtMost, boards_in, boards_of, Claim}
 use Rattle.top_call.specs.Disks.{DisksGive, DisksIn, LeavesDisks}
+use Rattle.top_call.specs.Input.{limit}
 use Rattle.top_call.specs.Mounts.{LeavesMounts, MountsIn}
 use Rattle.top_call.specs.Spoken.{usage_text}
 use Rattle.top_call.specs.Told.{boards_where, disks_where, lists_where}
@@ -57,7 +58,7 @@ pub gives_up : {N K : Type 0} (written : K → Option (List ℕ)) (faults : K �
 gives_up written faults sink o e = (ap (λ x. x.status) e, ap (λ x. x.estate) e, keeps_same (written sink))
 
 -- or since a read failed
-pub cannot_read : {N K : Type 0} (r : Reading) (written : K → Option (List ℕ)) (faults : K → ℕ) (sink : K) (o : Outcome N) → Rose r.faults r.faults_after
+cannot_read : {N K : Type 0} (r : Reading) (written : K → Option (List ℕ)) (faults : K → ℕ) (sink : K) (o : Outcome N) → Rose r.faults r.faults_after
     → o ≡ record { status = 4; estate = None; boards = None; disks = None; calls = None; replies = None } → CannotRead r (writing written faults sink sink) o
 cannot_read r written faults sink o rose e = (ap (λ x. x.status) e, ap (λ x. x.estate) e, keeps_same (written sink), rose)
 
@@ -256,6 +257,56 @@ module _ {N : Type 0} (step : N → Do → NodeStep N) (first : NodeId → Setup
       → AnswersOrGivesUp step first command input s o → Ends step first command r s o
   ends_of command r s o input i (inl a) = inl (input, i, a)
   ends_of command r s o input i (inr g) = inr (inl g)
+
+  -- where a read failed, that is how the call ends
+  pub ends_unread : {K : Type 0} (command : Option Command) (r : Reading) (written : K → Option (List ℕ)) (faults : K → ℕ) (sink : K) (o : Outcome N)
+      → IsTrue (reads command) → Rose r.faults r.faults_after
+      → o ≡ record { status = 4; estate = None; boards = None; disks = None; calls = None; replies = None }
+      → Ends step first command r (writing written faults sink sink) o
+  ends_unread command r written faults sink o is rose e = inr (inr (is, cannot_read r written faults sink o rose e))
+
+  -- the claim of a command that answers what it read
+  pub claims_read : (command : Command) (r : Reading) (s : Writing) (o : Outcome N) (input : List ℕ) → IsInput (Some command) r input
+      → AnswersOrGivesUp step first (Some command) input s o
+      → IfSome o.estate (IsRunBy step first (Some command))
+      → o.boards ≡ boards_of step first (Some command) o.estate
+      → ReadsAtMost r limit → r.faults ≤ r.faults_after → s.faults ≤ s.faults_after
+      → Claim step first (Some command) r s o
+  claims_read command r s o input i told run boards bounded read_later later = record {
+    usage = λ h. cc;
+    ends = ends_of (Some command) r s o input i told;
+    run = run;
+    boards = boards;
+    bounded = bounded;
+    later = (read_later, later);
+  }
+
+  -- of one that leaves no run, and writes nothing
+  module _ {K : Type 0} (command : Command) (no_boards : boards_of step first (Some command) None ≡ None) (r : Reading) (bounded : ReadsAtMost r limit)
+      (later : r.faults ≤ r.faults_after) (written : K → Option (List ℕ)) (faults : K → ℕ) (sink : K) (o : Outcome N) where
+    claims_unmade : (status : ℕ) → o ≡ record { status = status; estate = None; boards = None; disks = None; calls = None; replies = None }
+        → Ends step first (Some command) r (writing written faults sink sink) o → Claim step first (Some command) r (writing written faults sink sink) o
+    claims_unmade status e ends =
+        let none = ap (λ x. x.estate) e in
+        record {
+          usage = λ h. cc;
+          ends = ends;
+          run = subst (λ y. IfSome y (IsRunBy step first (Some command))) (sym none) tt;
+          boards = ap (λ x. x.boards) e ∙ sym no_boards ∙ ap (boards_of step first (Some command)) (sym none);
+          bounded = bounded;
+          later = (later, omega arith);
+        }
+
+    -- since a read failed
+    pub claims_unread_input : IsTrue (reads (Some command)) → Rose r.faults r.faults_after
+        → o ≡ record { status = 4; estate = None; boards = None; disks = None; calls = None; replies = None }
+        → Claim step first (Some command) r (writing written faults sink sink) o
+    claims_unread_input is rose e = claims_unmade 4 e (ends_unread (Some command) r written faults sink o is rose e)
+
+    -- or in want of memory
+    pub claims_given_up : o ≡ record { status = 7; estate = None; boards = None; disks = None; calls = None; replies = None }
+        → Claim step first (Some command) r (writing written faults sink sink) o
+    claims_given_up e = claims_unmade 7 e (inr (inl (gives_up written faults sink o e)))
 
   -- a command that reads nothing leaves the source as it is
   pub claims_unread : {S : Type 0} (left : S → Option (List ℕ)) (faults : S → ℕ) (source : S) (command : Option Command) (s : Writing) (o : Outcome N)

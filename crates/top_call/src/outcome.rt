@@ -47,106 +47,45 @@ impl<N: Drop> Drop for Outcome<N> {
 
 impl<N: Drop> Outcome<N> {
     /// This outcome with what happened to nodes and boards, where there is a run.
-    pub(crate) fn with_boards(self, events: List<BoardEvent>) -> Outcome<N>
+    pub(crate) fn with_boards(mut self, events: List<BoardEvent>) -> Outcome<N>
         ensures { result ≡ with_boards self events }
     {
-        let Outcome {
-            status,
-            estate,
-            boards,
-            disks,
-            calls,
-            replies,
-        } = self;
-        drop(boards);
-        match estate {
-            Some(estate) => Outcome {
-                status,
-                estate: Some(estate),
-                boards: Some(events),
-                disks,
-                calls,
-                replies,
-            },
-            None => Outcome {
-                status,
-                estate: None,
-                boards: None,
-                disks,
-                calls,
-                replies,
-            },
+        match &self.estate {
+            Some(_) => self.boards = Some(events),
+            None => self.boards = None,
         }
+        self
     }
 
     /// This outcome with the disks of the servers, where there is a run.
-    pub(crate) fn with_disks(self, all: List<MemDisk>) -> Outcome<N>
+    pub(crate) fn with_disks(mut self, all: List<MemDisk>) -> Outcome<N>
         ensures { result ≡ with_disks self all }
     {
-        let Outcome {
-            status,
-            estate,
-            boards,
-            disks,
-            calls,
-            replies,
-        } = self;
-        drop(disks);
-        match estate {
-            Some(estate) => Outcome {
-                status,
-                estate: Some(estate),
-                boards,
-                disks: Some(all),
-                calls,
-                replies,
-            },
-            None => Outcome {
-                status,
-                estate: None,
-                boards,
-                disks: None,
-                calls,
-                replies,
-            },
+        match &self.estate {
+            Some(_) => self.disks = Some(all),
+            None => self.disks = None,
         }
+        self
     }
 
     /// This outcome with what applications called and were replied, where there is a run.
     pub(crate) fn with_replies(
-        self,
+        mut self,
         all_calls: List<List<u32>>,
         all_replies: List<List<Reply>>,
     ) -> Outcome<N>
         ensures { result ≡ with_replies self all_calls all_replies }
     {
-        let Outcome {
-            status,
-            estate,
-            boards,
-            disks,
-            calls,
-            replies,
-        } = self;
-        drop(calls);
-        drop(replies);
-        match estate {
-            Some(estate) => Outcome {
-                status,
-                estate: Some(estate),
-                boards,
-                disks,
-                calls: Some(all_calls),
-                replies: Some(all_replies),
-            },
-            None => Outcome {
-                status,
-                estate: None,
-                boards,
-                disks,
-                calls: None,
-                replies: None,
-            },
+        match &self.estate {
+            Some(_) => {
+                self.calls = Some(all_calls);
+                self.replies = Some(all_replies);
+            }
+            None => {
+                self.calls = None;
+                self.replies = None;
+            }
         }
+        self
     }
 }

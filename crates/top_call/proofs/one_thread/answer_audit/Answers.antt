@@ -1,7 +1,7 @@
 use Rattle.std.proofs.Common.{Err, Some, ap, inl, inr, refl, subst}
 use Rattle.top_call.specs.declared.command.Command.TheVariants.{Audit}
 use Rattle.top_call.specs.Claim.{AnswersOrGivesUp, reading, writing}
-use Rattle.top_call.proofs.Claims.{cannot_read, ends_of, gives_up}
+use Rattle.top_call.proofs.Claims.{ends_of, ends_unread, gives_up}
 use Rattle.top_call.proofs.one_thread.answer_audit.Goals as goal
 
 pub returns-in-Ok-clause-ends : goal.returns-in-Ok-clause-ends
@@ -16,11 +16,8 @@ returns-in-Ok-clause-ends g c =
 pub returns-in-Err-Failed-clause-ends : goal.returns-in-Err-Failed-clause-ends
 returns-in-Err-Failed-clause-ends g c =
     let r = reading g.S.Source.left g.S.Source.faults c.args.source.now c.read_input.new.source in
-    inr (inr (
-      refl,
-      cannot_read r g.K.Sink.written g.K.Sink.faults c.args.sink.now c.ended.result
-          (c.in-Err-Failed.ensures.failed (ap Err c.in-Err-Failed.field-0-is)) c.ended.ensures,
-    ))
+    ends_unread g.N.Actor.transition g.N.Member.first (Some Audit) r g.K.Sink.written g.K.Sink.faults c.args.sink.now c.ended.result refl
+    (c.in-Err-Failed.ensures.failed (ap Err c.in-Err-Failed.field-0-is)) c.ended.ensures
 
 pub returns-in-Err-Memory-clause-ends : goal.returns-in-Err-Memory-clause-ends
 returns-in-Err-Memory-clause-ends g c =
