@@ -6,7 +6,7 @@ use Rattle.core_world.specs.declared.any_node.AnyNode.{AnyNode}
 use Rattle.top_call.specs.declared.command.Command.TheVariants.{Run}
 use Rattle.top_call.specs.declared.outcome.Outcome.{Outcome}
 use Rattle.top_call.specs.Claim as claim
-use Rattle.top_call.specs.Claim.{Ends, Reading, Wanted, Writing, refusal, run_wanted}
+use Rattle.top_call.specs.Claim.{Ends, Reading, Wanted, Writing, refusal}
 use Rattle.top_call.specs.Commands.{command_of}
 use Rattle.top_call.specs.Spoken.{refused_text}
 use Rattle.world_base.specs.declared.estate.Estate.{Estate}
