@@ -15,7 +15,7 @@ use Rattle.world_base.specs.declared.schedule.Next.TheVariants as next
 use Rattle.world_base.specs.declared.world.World.{World}
 use Rattle.world_base.specs.Events.{node_of}
 use Rattle.world_base.specs.NextWorld.{next_world}
-use Rattle.world_base.specs.Schedule.{Going, goes, is_done, left}
+use Rattle.world_base.specs.Schedule.{Going, ScheduleState, goes, is_done, left}
 use Rattle.xfs_base.proofs.Booleans.{by_test}
 use Rattle.xfs_base.specs.declared.node.NodeId.{NodeId}
 use Rattle.disk_play.specs.declared.course.Seat.{Seat}
@@ -68,7 +68,7 @@ module _ {N : Type 0} (step : N → Do → NodeStep N) (shelf_of : N → Option 
   abbrev with_going : Deck N → Deck N
   with_going d = on_course (λ c. with_player c (with_schedule c.player (going_of d).state)) d
 
-  pub goes_on_by_falls : (d : Deck N) → is_done (going_of d).next ≡ false → suc (left_of (goes_on_by step shelf_of d (going_of d))) ≡ left_of d
+  goes_on_by_falls : (d : Deck N) → is_done (going_of d).next ≡ false → suc (left_of (goes_on_by step shelf_of d (going_of d))) ≡ left_of d
   goes_on_by_falls d more =
       ap suc (comes_keeps (with_going d) (going_of d).next) ∙ (goes_falls d.course.player.unanswered d.course.player.schedule).0 more
 
@@ -78,11 +78,29 @@ module _ {N : Type 0} (step : N → Do → NodeStep N) (shelf_of : N → Option 
   comes_done d next.Done over = refl
 
   -- one thing happens, and then the rest
-  pub goes_on_for_more : (d : Deck N) → is_done (going_of d).next ≡ false
+  goes_on_for_more : (d : Deck N) → is_done (going_of d).next ≡ false
       → goes_on_for step shelf_of (left_of (goes_on_by step shelf_of d (going_of d))) (goes_on_by step shelf_of d (going_of d))
       ≡ goes_on_for step shelf_of (left_of d) d
   unfolding goes_on_for
   goes_on_for_more d more = ap (λ count. goes_on_for step shelf_of count d) (goes_on_by_falls d more)
+
+  -- what the schedule says is next comes, which is not the end of the line
+  module _ (d new : Deck N) (schedule : ScheduleState) (coming : Next) (state : schedule ≡ (going_of d).state) (is : coming ≡ (going_of d).next)
+      (came : new ≡ comes_on step shelf_of (on_course (λ c. with_player c (with_schedule c.player schedule)) d) coming) (more : is_done coming ≡ false) where
+    goes_by : new ≡ goes_on_by step shelf_of d (going_of d)
+    goes_by =
+        came ∙ ap (λ s. comes_on step shelf_of (on_course (λ c. with_player c (with_schedule c.player s)) d) coming) state
+        ∙ ap (comes_on step shelf_of (with_going d)) is
+
+    goes_more : is_done (going_of d).next ≡ false
+    goes_more = ap is_done (sym is) ∙ more
+
+    -- then the rest of it is that of before, of which one thing less is left
+    pub came_rest : goes_on_for step shelf_of (left_of new) new ≡ goes_on_for step shelf_of (left_of d) d
+    came_rest = ap (λ x. goes_on_for step shelf_of (left_of x) x) goes_by ∙ goes_on_for_more d goes_more
+
+    pub came_falls : suc (left_of new) ≡ left_of d
+    came_falls = ap (λ x. suc (left_of x)) goes_by ∙ goes_on_by_falls d goes_more
 
   -- nothing more happens to a line that is done
   pub goes_on_for_done : (d : Deck N) → is_done (going_of d).next ≡ true → (count : ℕ) → goes_on_for step shelf_of count d ≡ d

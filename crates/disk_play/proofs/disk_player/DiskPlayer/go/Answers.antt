@@ -1,43 +1,31 @@
-use Rattle.std.proofs.Common.{◌≡◌, ◌<◌, suc, sym, ap, ◌∙◌, true, false, arith}
+use Rattle.std.proofs.Common.{◌≡◌, ◌<◌, suc, sym, ap, ◌∙◌, true, arith}
 use Rattle.play.specs.Plays.{with_schedule}
 use Rattle.world_base.specs.Schedule.{goes, is_done, left}
-use Rattle.disk_play.specs.Courses.{comes_on, deck_of, goes_on_for, goes_out_on, on_course, with_player}
-use Rattle.disk_play.proofs.Left.{goes_on_by_falls, goes_on_for_done, goes_on_for_more}
+use Rattle.disk_play.specs.Courses.{deck_of, goes_out_on, on_course, with_player}
+use Rattle.disk_play.proofs.Left.{came_falls, came_rest, goes_on_for_done}
 use Rattle.play.proofs.Left.{goes_falls}
 use Rattle.disk_play.proofs.disk_player.DiskPlayer.go.Goals as goal
 
 pub loop-alloc-preserved : goal.loop-alloc-preserved
 loop-alloc-preserved g c =
-    let step = g.N.Actor.transition in
-    let shelf_of = g.N.Shelved.shelf_of in
     let d = deck_of c.loop-alloc.self.course c.loop-alloc.self.shelves.items in
-    let going = goes d.course.player.unanswered d.course.player.schedule in
-    let more : is_done going.next ≡ false = ap is_done (sym c.next-next.ensures.next) ∙ sym c.is_done.ensures ∙ c.if-is_done.false in
-    let came =
-    c.in_ok-come.ensures.exact
-    ∙ ap (λ s. comes_on step shelf_of (on_course (λ c. with_player c (with_schedule c.player s)) d) c.next-next.result) c.next-next.ensures.state
-    ∙ ap (λ n. comes_on step shelf_of (on_course (λ c. with_player c (with_schedule c.player going.state)) d) n) c.next-next.ensures.next
-    in
+    let new = deck_of c.come.new.self.course c.come.new.self.shelves.items in
     record {
-      all = ap (λ q. goes_on_for step shelf_of (left q.course.player.schedule) q) came ∙ goes_on_for_more step shelf_of d more ∙ c.loop-alloc.invariant.all;
+      all =
+          came_rest g.N.Actor.transition g.N.Shelved.shelf_of d new _ c.next-next.result c.next-next.ensures.state c.next-next.ensures.next
+          c.in_ok-come.ensures.exact (sym c.is_done.ensures ∙ c.if-is_done.false)
+          ∙ c.loop-alloc.invariant.all;
       stands = c.in_ok-come.ensures.stands;
       no_more = omega (arith, c.in_ok-come.ensures.no_more, c.loop-alloc.invariant.no_more);
     }
 
 pub loop-alloc-smaller : goal.loop-alloc-smaller
 loop-alloc-smaller g c =
-    let step = g.N.Actor.transition in
-    let shelf_of = g.N.Shelved.shelf_of in
     let d = deck_of c.loop-alloc.self.course c.loop-alloc.self.shelves.items in
-    let going = goes d.course.player.unanswered d.course.player.schedule in
-    let more : is_done going.next ≡ false = ap is_done (sym c.next-next.ensures.next) ∙ sym c.is_done.ensures ∙ c.if-is_done.false in
-    let came =
-    c.in_ok-come.ensures.exact
-    ∙ ap (λ s. comes_on step shelf_of (on_course (λ c. with_player c (with_schedule c.player s)) d) c.next-next.result) c.next-next.ensures.state
-    ∙ ap (λ n. comes_on step shelf_of (on_course (λ c. with_player c (with_schedule c.player going.state)) d) n) c.next-next.ensures.next
-    in
-    let falls : suc (left c.come.new.self.course.player.schedule) ≡ left d.course.player.schedule =
-    ap (λ q. suc (left q.course.player.schedule)) came ∙ goes_on_by_falls step shelf_of d more in
+    let new = deck_of c.come.new.self.course c.come.new.self.shelves.items in
+    let falls : suc (left new.course.player.schedule) ≡ left d.course.player.schedule =
+    came_falls g.N.Actor.transition g.N.Shelved.shelf_of d new _ c.next-next.result c.next-next.ensures.state c.next-next.ensures.next
+    c.in_ok-come.ensures.exact (sym c.is_done.ensures ∙ c.if-is_done.false) in
     let less : left c.come.new.self.course.player.schedule < left d.course.player.schedule = omega (arith, falls) in
     less
 
