@@ -34,8 +34,8 @@ use Rattle.token_tie.proofs.Takes.{at_block}
 use Rattle.token_law.specs.Net.{Net, acted}
 use Rattle.token_law.specs.Owed.{AllClean, IsNeutral}
 use Rattle.token_law.proofs.Premises.{owed}
-use Rattle.token_law.proofs.Views.{setting, View, Lasts, carried_on}
-use Rattle.token_law.proofs.Falls.{shown_up, same_manager}
+use Rattle.token_law.proofs.Views.{setting, View}
+use Rattle.token_law.proofs.Falls.{shown_up, rebooked_world}
 
 -- the world, with this version pinned
 abbrev pub pinning : World → ℕ → World
@@ -93,34 +93,7 @@ module _ (logs : Bool) (members part : ℕ) (b : BlockId) (n : Net) (v : View lo
   -- a version is pinned, and nothing else
   pub pinned_view : (pinned : ℕ) (more : List Act) (steps : Steps logs (start members) (pinning w pinned))
       → Premise logs (told (start members) (pinning w pinned) steps ≡ acts_of b more) → View logs members part b (record n { acts = more })
-  pinned_view pinned more steps told_ = record {
-    world = pinning w pinned;
-    steps = steps;
-    many = v.many;
-    some = v.some;
-    nobody = v.nobody;
-    positive = v.positive;
-    clients = v.clients;
-    fell = v.fell;
-    slot = v.slot;
-    sound = v.sound;
-    reigns = v.reigns;
-    manages = same_manager logs members part b n v (pinning w pinned) refl refl (λ d. refl) (λ d. refl) refl v.manages.job;
-    past = v.past;
-    sent = λ p fact. carried_on logs part b w (pinning w pinned) p
-        (record {
-          epoch = refl;
-          wants = λ x h. h;
-          gaves = λ x h. h;
-          offers = λ x h. h;
-          recalls = λ x h. h;
-          reports = λ x h. h;
-          lasts = owed logs (Lasts w (pinning w pinned)) (λ _. record { join = omega arith; value = λ m _. refl });
-        })
-        (v.sent p fact);
-    kept = v.kept;
-    acts = told_;
-  }
+  pinned_view pinned more steps told_ = rebooked_world logs members part b n v pinned w.end w.flight w.rows n.books more steps v.kept told_
 
 -- acts that tell nothing of the block
 unacted : (logs : Bool) (members part : ℕ) (b : BlockId) (n : Net) (v : View logs members part b n) (more : List Act)

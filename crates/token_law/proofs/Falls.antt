@@ -22,6 +22,7 @@ use Rattle.token_client.specs.Held.{is_dirty}
 use Rattle.token_client.specs.State.{held_of, is_in_slot, epoch_of}
 use Rattle.token_client.specs.State.{started as fresh_tokens}
 use Rattle.token_client.specs.Transition as client
+use Rattle.token_manager.specs.SlotState.{SlotState}
 use Rattle.token_protocol.specs.Acts.Act.{Fell as FellBlock, Back as BackBlock}
 use Rattle.token_protocol.specs.Basics.{put, In}
 use Rattle.token_protocol.specs.Crashing.{MayRestart, down, back, crashes_dirty, crashes_clean, restarts_adopting, restarts_discarding}
@@ -41,11 +42,11 @@ use Rattle.token_tie.proofs.Frames.{put_here, put_there}
 use Rattle.token_tie.proofs.TakingOver.{supplies_newest}
 use Rattle.token_law.specs.Books.{Books, said, filed, discarded, reopened}
 use Rattle.token_law.specs.Owed.{FallsSo, fall_from, adopts}
-use Rattle.token_law.specs.Net.{Net, acted}
+use Rattle.token_law.specs.Net.{Packet, Net, acted}
 use Rattle.token_law.specs.Net.Packet.{ForwardSent, SupplySent}
 use Rattle.token_law.proofs.Premises.{owed, owed_on, owed_both}
 use Rattle.token_law.proofs.Logged.{flag, Kept, filed_seen, discarded_seen}
-use Rattle.token_law.proofs.Views.{setting, IsDown, ClientShown, FellDirty, put_each_three, Supplies, Carried, IsNobody, View, Grows, lasts_by, carried_on}
+use Rattle.token_law.proofs.Views.{setting, IsDown, ClientShown, FellDirty, put_each_three, Supplies, Carried, IsNobody, View, Lasts, Grows, lasts_by, carried_on}
 
 module _ (logs : Bool) (members part : ℕ) (b : BlockId) (n : Net) (v : View logs members part b n) where
   abbrev pub w : World
@@ -75,6 +76,66 @@ module _ (logs : Bool) (members part : ℕ) (b : BlockId) (n : Net) (v : View lo
     index = index ∙ v.manages.index;
     job = job;
   }
+
+  -- the world stays as it is: more was sent, or a slot's state changed that doesn't reign
+  pub same_world : (slots : ℕ → Option SlotState) (sent : List Packet) → slots w.epoch ≡ Some v.slot
+      → ((e : ℕ) (s : SlotState) → slots e ≡ Some s → (e ≤ w.epoch) × (s.epoch ≡ e)) → ((p : Packet) → In p sent → Carried logs part b w p)
+      → View logs members part b (record n { slots = slots; sent = sent })
+  same_world slots sent_ reigns past sent = record {
+    world = w;
+    steps = v.steps;
+    many = v.many;
+    some = v.some;
+    nobody = v.nobody;
+    positive = v.positive;
+    clients = v.clients;
+    fell = v.fell;
+    slot = v.slot;
+    sound = v.sound;
+    reigns = reigns;
+    manages = v.manages;
+    past = past;
+    sent = sent;
+    kept = v.kept;
+    acts = v.acts;
+  }
+
+  -- logs and the pinned version change, and nothing else of the world
+  pub rebooked_world : (pinned : ℕ) (end flight : ℕ → ℕ) (rows : ℕ → ℕ → Row) (k : Books) (more : List Act)
+      (steps : Steps logs (start members) (record w { pinned = pinned; end = end; flight = flight; rows = rows }))
+      → Premise logs (Kept b k (record w { pinned = pinned; end = end; flight = flight; rows = rows }))
+      → Premise logs (told (start members) (record w { pinned = pinned; end = end; flight = flight; rows = rows }) steps ≡ acts_of b more)
+      → View logs members part b (record n { books = k; acts = more })
+  rebooked_world pinned end flight rows k more steps kept told_ =
+      let u : World = record w { pinned = pinned; end = end; flight = flight; rows = rows } in
+      record {
+        world = u;
+        steps = steps;
+        many = v.many;
+        some = v.some;
+        nobody = v.nobody;
+        positive = v.positive;
+        clients = v.clients;
+        fell = v.fell;
+        slot = v.slot;
+        sound = v.sound;
+        reigns = v.reigns;
+        manages = same_manager u refl refl (λ d. refl) (λ d. refl) refl v.manages.job;
+        past = v.past;
+        sent = λ p fact. carried_on logs part b w u p
+            (record {
+              epoch = refl;
+              wants = λ x h. h;
+              gaves = λ x h. h;
+              offers = λ x h. h;
+              recalls = λ x h. h;
+              reports = λ x h. h;
+              lasts = owed logs (Lasts w u) (λ _. record { join = omega arith; value = λ m _. refl });
+            })
+            (v.sent p fact);
+        kept = kept;
+        acts = told_;
+      }
 
   pub all_same : (u : World) → u.epoch ≡ w.epoch → u.wants ≡ w.wants → u.gaves ≡ w.gaves → u.offers ≡ w.offers → u.recalls ≡ w.recalls → u.reports ≡ w.reports
       → Steps logs w u → Grows logs w u
@@ -311,24 +372,9 @@ module _ (logs : Bool) (members part : ℕ) (b : BlockId) (n : Net) (v : View lo
       → In (ForwardSent c other block stamp inc req ver) n.sent → n.up c ≡ true
       → client.serves (n.tokens c) block stamp ver ≡ true → (held_of (n.tokens c).blocks block).value ≡ Some value
       → View logs members part b (record n { sent = SupplySent other block stamp inc req ver value ∷ n.sent })
-  supply_view c other block stamp inc req ver value pos less fact up serves value_is = record {
-    world = w;
-    steps = v.steps;
-    many = v.many;
-    some = v.some;
-    nobody = v.nobody;
-    positive = v.positive;
-    clients = v.clients;
-    fell = v.fell;
-    slot = v.slot;
-    sound = v.sound;
-    reigns = v.reigns;
-    past = v.past;
-    manages = v.manages;
-    sent = λ p h. ⊎_elim (λ e. subst (Carried logs part b w) (sym e) new) (λ old. v.sent p old) h;
-    kept = v.kept;
-    acts = v.acts;
-  }
+  supply_view c other block stamp inc req ver value pos less fact up serves value_is =
+      same_world n.slots (SupplySent other block stamp inc req ver value ∷ n.sent) v.reigns v.past
+      (λ p h. ⊎_elim (λ e. subst (Carried logs part b w) (sym e) new) (λ old. v.sent p old) h)
     where
       new : Carried logs part b w (SupplySent other block stamp inc req ver value)
       new same =

@@ -31,7 +31,7 @@ use Rattle.token_law.specs.Owed.{SealsNewest, SealsOriginals}
 use Rattle.token_law.proofs.Premises.{owed, owed_on}
 use Rattle.token_law.proofs.Logged.{flag, row_seen, LogsSeen, Kept, BooksWhole, sealed_seen, sealed_without, filed_seen, discarded_seen, whole_sealed, whole_filed, whole_discarded}
 use Rattle.token_law.proofs.Views.{setting, ClientShown, FellDirty, IsNobody, View, Lasts, told_no_more, lasts_by, carried_on}
-use Rattle.token_law.proofs.Falls.{shown_up, same_manager}
+use Rattle.token_law.proofs.Falls.{shown_up, same_manager, rebooked_world}
 use Rattle.token_law.proofs.Settling.{once_settled, none_settled, settled_here, settled_once, settled_some}
 
 -- the world, with these logs
@@ -49,35 +49,10 @@ module _ (logs : Bool) (members part : ℕ) (b : BlockId) (n : Net) (v : View lo
   pub rebooked : (k : Books) (end flight : ℕ → ℕ) (rows : ℕ → ℕ → abstract.Row) (step : Step logs w (logged w end flight rows))
       → tells w (logged w end flight rows) step ≡ []
       → Premise logs (LogsSeen b k end flight rows) → View logs members part b (record n { books = k })
-  rebooked k end flight rows step quiet kept = record {
-    world = logged w end flight rows;
-    steps = More v.steps step;
-    many = v.many;
-    some = v.some;
-    nobody = v.nobody;
-    positive = v.positive;
-    clients = v.clients;
-    fell = v.fell;
-    slot = v.slot;
-    sound = v.sound;
-    reigns = v.reigns;
-    manages = same_manager logs members part b n v (logged w end flight rows) refl refl (λ d. refl) (λ d. refl) refl v.manages.job;
-    past = v.past;
-    sent = λ p fact. carried_on logs part b w (logged w end flight rows) p
-        (record {
-          epoch = refl;
-          wants = λ x h. h;
-          gaves = λ x h. h;
-          offers = λ x h. h;
-          recalls = λ x h. h;
-          reports = λ x h. h;
-          lasts = owed logs (Lasts w (logged w end flight rows)) (λ _. record { join = omega arith; value = λ m _. refl });
-        })
-        (v.sent p fact);
-    kept = kept;
-    acts = owed_on logs (Told w v.steps) (Told (logged w end flight rows) (More v.steps step))
-        (λ old. (λ i. old i ++ quiet i) ∙ append-nil (acts_of b n.acts)) v.acts;
-  }
+  rebooked k end flight rows step quiet kept =
+      rebooked_world logs members part b n v w.pinned end flight rows k n.acts (More v.steps step) kept
+      (owed_on logs (Told w v.steps) (Told (logged w end flight rows) (More v.steps step))
+      (λ old. (λ i. old i ++ quiet i) ∙ append-nil (acts_of b n.acts)) v.acts)
 
   -- a client's segment, with this version of the block, is filed, and its tokens are told
   pub settled_view : (c ver : ℕ) (flight : ℕ → ℕ) (rows : ℕ → ℕ → abstract.Row) (s : TokensState) (k : Books) → 0 < c → c < members → n.up c ≡ true

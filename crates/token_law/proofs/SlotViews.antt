@@ -21,6 +21,7 @@ use Rattle.act_tie.specs.BlockActs.{acts_of}
 use Rattle.token_law.proofs.Premises.{owed_on}
 use Rattle.token_law.proofs.Logged.{Kept}
 use Rattle.token_law.proofs.Views.{either_in, ClientShown, some_one, Carried, IsNobody, View, lasts_by, carried_on}
+use Rattle.token_law.proofs.Falls.{same_world}
 
 module _ (logs : Bool) (members part : ℕ) (b : BlockId) (n : Net) (v : View logs members part b n) where
   abbrev pub w : World
@@ -102,22 +103,9 @@ module _ (logs : Bool) (members part : ℕ) (b : BlockId) (n : Net) (v : View lo
   -- a manager's that doesn't reign
   pub stale_view : (e : ℕ) (x : SlotState) (outs : List Packet) → e < w.epoch → x.epoch ≡ e → ((p : Packet) → In p outs → Carried logs part b w p)
       → View logs members part b (record n { slots = put n.slots e (Some x); sent = outs ++ n.sent })
-  stale_view e x outs old is_of new = record {
-    world = w;
-    steps = v.steps;
-    many = v.many;
-    some = v.some;
-    nobody = v.nobody;
-    positive = v.positive;
-    clients = v.clients;
-    fell = v.fell;
-    slot = v.slot;
-    sound = v.sound;
-    manages = v.manages;
-    reigns = put_there n.slots e (Some x) w.epoch (λ same. absurd (omega arith)) ∙ v.reigns;
-    past = put_each (λ k o. (s : SlotState) → o ≡ Some s → (k ≤ w.epoch) × (s.epoch ≡ k)) n.slots e (Some x)
-        (λ s fact. (omega arith, ap (λ (z : SlotState). z.epoch) (sym (some_one x s fact)) ∙ is_of)) (λ k other s fact. v.past k s fact);
-    sent = λ p fact. ⊎_elim (new p) (λ h. v.sent p h) (either_in p outs n.sent fact);
-    kept = v.kept;
-    acts = v.acts;
-  }
+  stale_view e x outs old is_of new =
+      same_world logs members part b n v (put n.slots e (Some x)) (outs ++ n.sent)
+      (put_there n.slots e (Some x) w.epoch (λ same. absurd (omega arith)) ∙ v.reigns)
+      (put_each (λ k o. (s : SlotState) → o ≡ Some s → (k ≤ w.epoch) × (s.epoch ≡ k)) n.slots e (Some x)
+      (λ s fact. (omega arith, ap (λ (z : SlotState). z.epoch) (sym (some_one x s fact)) ∙ is_of)) (λ k other s fact. v.past k s fact))
+      (λ p fact. ⊎_elim (new p) (λ h. v.sent p h) (either_in p outs n.sent fact))
