@@ -1,6 +1,5 @@
 -- Ends of rings stay those of their rings, and a mount and a port of one client are joined.
-use Rattle.std.proofs.Common.{◌≡◌, refl, sym, subst, ◌∙◌, ℕ, List, Some}
-use Rattle.std.specs.Prelude.{slice_get}
+use Rattle.std.proofs.Common.{refl, sym, subst, ◌∙◌, ℕ, List}
 use Rattle.std.proofs.Props.{props}
 use Rattle.std.proofs.Math.Logic.{∥∥₁_elim, ∥∥₁_map}
 use Rattle.rtrb.specs.declared.producer.Producer.{Producer}

@@ -1,4 +1,5 @@
 pub mod Acted
+pub mod Going
 pub mod Handing
 pub mod Joined
 pub mod Made

@@ -1,13 +1,13 @@
 -- The rings between applications and clients, as they are made, and who gets which.
-use Rattle.std.proofs.Common.{◌≡◌, refl, sym, ap, subst, ◌∙◌, ℕ, zero, suc, ◌+◌, ◌<◌, ◌≤◌, List, [], ◌∷◌, ◌++◌, length, Some, inl, inr, arith, length-append}
+use Rattle.std.proofs.Common.{◌≡◌, refl, sym, ap, subst, ◌∙◌, ℕ, suc, ◌+◌, List, [], ◌∷◌, ◌++◌, length, Some, inl, inr, arith, length-append}
 use Rattle.std.specs.Prelude.{slice_get, All}
 use Rattle.std.proofs.lemmas.List.Elements.{All-pop}
-use Rattle.std.proofs.lemmas.Option.{same_Some, slice_get_within}
+use Rattle.std.proofs.lemmas.Option.{slice_get_within}
 use Rattle.script_text.specs.declared.script.Script.{Script}
 use Rattle.journals.proofs.Gets.{get_snoc, has}
 use Rattle.mounts.specs.declared.mount.Mount.{Mount}
 use Rattle.mounts.specs.declared.port.Port.{Port}
-use Rattle.mounts.specs.Ports.{ArePairs, IsFreshPort, IsMountAt, IsPairFor, IsPortAt, SamePort}
+use Rattle.mounts.specs.Ports.{ArePairs, IsFreshPort, IsPairFor, IsPortAt, SamePort}
 
 pub no_pairs : (script : Script) (mounts : List Mount) (ports : List Port) → mounts ≡ [] → ports ≡ [] → ArePairs script 0 mounts ports
 no_pairs script mounts ports none nothing =

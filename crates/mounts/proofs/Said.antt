@@ -1,5 +1,5 @@
 -- What applications called and were replied, cell by cell, and of the run that the cells make.
-use Rattle.std.proofs.Common.{◌≡◌, refl, sym, ap, subst, ◌∙◌, ℕ, ◌+◌, ◌<◌, ◌≤◌, true, nat_lt, List, [], ◌∷◌, ◌++◌, length, Some, inl, inr, arith, length-append}
+use Rattle.std.proofs.Common.{◌≡◌, refl, sym, ap, subst, ◌∙◌, ℕ, ◌+◌, ◌<◌, true, nat_lt, List, [], ◌∷◌, ◌++◌, length, Some, inl, inr, arith, length-append}
 use Rattle.std.specs.Prelude.{slice_get}
 use Rattle.std.proofs.lemmas.Bool.Decides.{nat_tests}
 use Rattle.std.proofs.lemmas.Option.{slice_get_within}
@@ -21,11 +21,11 @@ use Rattle.journals.specs.declared.moment.Moment.{Moment}
 use Rattle.journals.specs.Journals.{acts_in, whats}
 use Rattle.journals.specs.Merging.{whats_of}
 use Rattle.journals.proofs.Gets.{get_end, get_front, get_snoc, has, one_there}
-use Rattle.live_links.specs.Answered.{answered_at, answers_by}
+use Rattle.live_links.specs.Answered.{answers_by}
 use Rattle.live_links.specs.Facts.{dues_at, first_at, name_at}
 use Rattle.live_run.specs.Live.{IsFront}
 use Rattle.mounts.specs.declared.reply.Reply.{Reply}
-use Rattle.mounts.specs.Mounted.{IsMounted, acts_of, client_at}
+use Rattle.mounts.specs.Mounted.{IsMounted, client_at}
 use Rattle.mounts.specs.Ports.{items_to}
 use Rattle.mounts.specs.Replies.{AreSaid, replied_at, replies_of}
 

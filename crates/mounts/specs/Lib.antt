@@ -1,3 +1,4 @@
 pub mod Mounted
 pub mod Ports
 pub mod Replies
+pub mod Turns

@@ -1,8 +1,9 @@
 //! An application: whoever calls the items of a client.
-ghost use Rattle.std.specs.Prelude.{◌≡◌, ◌+◌, ◌<◌, ◌↔◌, [], length, IfOk, IsTrue, OnOk};
+ghost use Rattle.std.specs.Prelude.{◌≡◌, ◌==◌, ◌&&◌, ◌+◌, ◌<◌, ◌↔◌, nat_le, true, [], length, IfOk, IsTrue, OnOk};
 ghost use Rattle.rtrb.specs.Ring.{SameConsumer, producer_capacity, received, sent};
 ghost use Rattle.live_links.specs.Facts.{dues_at};
 ghost use Rattle.mounts.specs.Ports.{IsFreshMount, IsMountAt, items_to};
+ghost use Rattle.mounts.specs.Turns.{GoesOn, Takes, called_on, may_call};
 
 use crate::{Mount, MountName, Reply};
 use std::alloc::{AllocError, Global};
@@ -48,6 +49,7 @@ fn take_one(mount: &mut Mount, replies: &mut List<Reply>) -> Mem<bool>
     ensures calls { mount.new.calls ≡ mount.old.calls }
     ensures ring { SameConsumer mount.old.replies mount.new.replies }
     ensures taken { OnOk result (replies.new ≡ received mount.new.replies) }
+    ensures took { IfOk result (λ took. Takes took replies.old replies.new) }
 {
     match mount.reply() {
         None => Ok(false),
@@ -84,7 +86,9 @@ impl<R: MountName> Application<R> {
     }
 
     /// Whether it has called all items and was replied as often.
-    pub fn is_over(&self) -> bool {
+    pub fn is_over(&self) -> bool
+        ensures { result ≡ ((length self.now.calls == length (dues_at R.script self.now.place)) && nat_le (length (dues_at R.script self.now.place)) (length self.now.replies)) }
+    {
         self.calls.len() == self.dues.len() && self.dues.len() <= self.replies.len()
     }
 
@@ -96,7 +100,9 @@ impl<R: MountName> Application<R> {
     }
 
     /// Whether it may call the next item now: there is one, and all calls before were replied, or it is a crash.
-    fn may_call(&self) -> bool {
+    fn may_call(&self) -> bool
+        ensures { result ≡ may_call self.now.dues (length self.now.calls) (length self.now.replies) }
+    {
         match self.dues.get(self.calls.len()) {
             None => false,
             Some(due) => due.free || self.calls.len() <= self.replies.len(),
@@ -104,7 +110,11 @@ impl<R: MountName> Application<R> {
     }
 
     /// Takes a reply, and says whether there was one.
-    fn take(self) -> Mem<(Application<R>, bool)> {
+    fn take(self) -> Mem<(Application<R>, bool)>
+        ensures place { IfOk result (λ r. r.0.place ≡ self.place) }
+        ensures calls { IfOk result (λ r. r.0.calls ≡ self.calls) }
+        ensures taken { IfOk result (λ r. Takes r.1 self.replies r.0.replies) }
+    {
         let mut mount = self.mount;
         let mut replies = self.replies;
         let taken = take_one(&mut mount, &mut replies)?;
@@ -121,7 +131,11 @@ impl<R: MountName> Application<R> {
     }
 
     /// Calls the next item, where there is one.
-    fn call(self) -> Mem<Application<R>> {
+    fn call(self) -> Mem<Application<R>>
+        ensures place { IfOk result (λ a. a.place ≡ self.place) }
+        ensures replies { IfOk result (λ a. a.replies ≡ self.replies) }
+        ensures called { IfOk result (λ a. length self.calls < length self.dues → a.calls ≡ called_on true self.calls) }
+    {
         if !self.has_more() {
             return Ok(self);
         }
@@ -144,15 +158,18 @@ impl<R: MountName> Application<R> {
 
     /// Takes a reply if there is one, and calls the next item if it may; says whether it did either. The gate is told
     /// of a call after it.
-    pub fn go_on<G: Gate>(self, gate: &G) -> Mem<(Application<R>, bool)> {
-        let (application, taken) = self.take()?;
-        if !application.may_call() {
-            return Ok((application, taken));
+    pub fn go_on<G: Gate>(self, gate: &G) -> Mem<(Application<R>, bool)>
+        ensures place { IfOk result (λ r. r.0.place ≡ self.place) }
+        ensures goes_on { IfOk result (λ r. GoesOn (dues_at R.script self.place) r.1 self.calls r.0.calls self.replies r.0.replies) }
+    {
+        let (listener, taken) = self.take()?;
+        if !listener.may_call() {
+            return Ok((listener, taken));
         }
-        let client = application.client;
-        let application = application.call()?;
+        let client = listener.client;
+        let caller = listener.call()?;
         gate.called(client);
-        Ok((application, true))
+        Ok((caller, true))
     }
 
     /// Its mount, what it called, and what it was replied. It takes no memory.

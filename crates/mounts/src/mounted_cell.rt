@@ -1,10 +1,13 @@
 //! A client's cell with its port.
-ghost use Rattle.std.specs.Prelude.{◌≡◌, ◌≤◌, ◌<◌, ◌+◌, ◌++◌, ◌∷◌, [], take, length, IfOk, OnOk, IsTrue, ◌↔◌};
+ghost use Rattle.std.specs.Prelude.{◌≡◌, ◌≤◌, ◌<◌, ◌+◌, ◌++◌, ◌∷◌, [], take, length, nat_lt, IfOk, OnOk, IsTrue, ◌↔◌};
 ghost use Rattle.rtrb.specs.Ring.{SameProducer, received, sent};
 ghost use Rattle.journals.specs.Journals.{begins, whats};
-ghost use Rattle.live_links.specs.Facts.{IsDone, name_at};
+ghost use Rattle.world_base.specs.Cluster.{cluster_of};
+ghost use Rattle.live_links.specs.Acts.{Acted, Chooses};
+ghost use Rattle.live_links.specs.Facts.{IsDone, dues_at, first_at, name_at};
 ghost use Rattle.mounts.specs.Ports.{IsFreshPort, IsPortAt, items_to};
 ghost use Rattle.mounts.specs.Replies.{replied_at, replies_of};
+ghost use Rattle.mounts.specs.Turns.{Hears};
 
 use crate::{MountName, Port, Reply};
 use live_links::Cell;
@@ -110,7 +113,8 @@ impl<N: Member, R: MountName> MountedCell<N, R> {
     /// Takes the next call, where each item that was called is begun. A call of another item than the next is answered
     /// like want of memory: no application makes one.
     fn hear(self) -> Mem<MountedCell<N, R>>
-        ensures { IfOk result (λ c. c.cell ≡ self.cell) }
+        ensures same { IfOk result (λ c. c.cell ≡ self.cell) }
+        ensures heard { IfOk result (λ c. Hears (begins (whats self.cell.journal.moments)) self.port c.port) }
     {
         if self.cell.begun() != self.called {
             return Ok(self);
@@ -141,7 +145,18 @@ impl<N: Member, R: MountName> MountedCell<N, R> {
     }
 
     /// Makes at most one turn, in which the next item is begun only where it was called, and gives the replies of it.
-    fn go_on(self, alloc: Global, idle: bool) -> Mem<(MountedCell<N, R>, bool)> {
+    fn go_on(self, alloc: Global, idle: bool) -> Mem<(MountedCell<N, R>, bool)>
+        ensures place { IfOk result (λ r. r.0.cell.journal.place ≡ self.cell.journal.place) }
+        ensures acted { IfOk result (λ r. Acted N.transition (first_at N.first R.script self.cell.journal.place) (cluster_of R.script.setup) self.cell.journal.place r.1
+            (record { moments = self.cell.journal.moments; outs = self.cell.outs; ins = self.cell.ins })
+            (record { moments = r.0.cell.journal.moments; outs = r.0.cell.outs; ins = r.0.cell.ins })) }
+        ensures calls { IfOk result (λ r. r.0.port.calls ≡ self.port.calls) }
+        ensures chosen { IfOk result (λ r. Chooses N.transition (first_at N.first R.script self.cell.journal.place) (cluster_of R.script.setup) self.cell.journal.place
+            (name_at R.script self.cell.journal.place) (dues_at R.script self.cell.journal.place) idle
+            (nat_lt (begins (whats self.cell.journal.moments)) (length (received r.0.port.calls))) r.1
+            (record { moments = self.cell.journal.moments; outs = self.cell.outs; ins = self.cell.ins })
+            (record { moments = r.0.cell.journal.moments; outs = r.0.cell.outs; ins = r.0.cell.ins })) }
+    {
         let given = self.cell.answered().len();
         let begun = self.cell.begun();
         let may_begin = begun < self.called;
@@ -159,9 +174,21 @@ impl<N: Member, R: MountName> MountedCell<N, R> {
     /// Makes at most one turn, and says whether it made one: begins the next item where it was called and is due, else
     /// takes a packet, else lets time pass where the worker is idle. What it answers in the turn it replies at its end.
     /// Where memory is wanting the node is given up with its run.
-    pub fn act(self, alloc: Global, idle: bool) -> Mem<(MountedCell<N, R>, bool)> {
+    pub fn act(self, alloc: Global, idle: bool) -> Mem<(MountedCell<N, R>, bool)>
+        ensures place { IfOk result (λ r. r.0.cell.journal.place ≡ self.cell.journal.place) }
+        ensures acted { IfOk result (λ r. Acted N.transition (first_at N.first R.script self.cell.journal.place) (cluster_of R.script.setup) self.cell.journal.place r.1
+            (record { moments = self.cell.journal.moments; outs = self.cell.outs; ins = self.cell.ins })
+            (record { moments = r.0.cell.journal.moments; outs = r.0.cell.outs; ins = r.0.cell.ins })) }
+        ensures heard { IfOk result (λ r. Hears (begins (whats self.cell.journal.moments)) self.port r.0.port) }
+        ensures chosen { IfOk result (λ r. Chooses N.transition (first_at N.first R.script self.cell.journal.place) (cluster_of R.script.setup) self.cell.journal.place
+            (name_at R.script self.cell.journal.place) (dues_at R.script self.cell.journal.place) idle
+            (nat_lt (begins (whats self.cell.journal.moments)) (length (received r.0.port.calls))) r.1
+            (record { moments = self.cell.journal.moments; outs = self.cell.outs; ins = self.cell.ins })
+            (record { moments = r.0.cell.journal.moments; outs = r.0.cell.outs; ins = r.0.cell.ins })) }
+    {
         let heard = self.hear()?;
-        heard.go_on(alloc, idle)
+        let (mounted, moved) = heard.go_on(alloc, idle)?;
+        Ok((mounted, moved))
     }
 
     /// The client's cell, and its port. It takes no memory.

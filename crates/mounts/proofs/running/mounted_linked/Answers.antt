@@ -1,4 +1,4 @@
-use Rattle.std.proofs.Common.{◌≡◌, ◌∙◌, ◌+◌, ℕ, sym, ap, subst, length, arith}
+use Rattle.std.proofs.Common.{◌∙◌, ℕ, sym, subst, length, arith}
 use Rattle.std.specs.Prelude.{List as Seq}
 use Rattle.script_text.specs.declared.script.Script.{Script}
 use Rattle.mounts.specs.declared.port.Port.{Port}
