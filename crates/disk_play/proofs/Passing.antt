@@ -106,6 +106,12 @@ module _ {N : Type 0} (step : N → Do → NodeStep N) (first : NodeId → Setup
     follow = subst (λ w. Follow shelf_of w shelves) (sym b.world) stands.follow;
   }
 
+  -- a line that is no item
+  pub stands_told : (c d : Course N) (work : Work) (shelves : List (Kept MemState)) → d ≡ tells c work → Stands step first shelf_of script c shelves
+      → Stands step first shelf_of script d shelves
+  stands_told c d work shelves is stands =
+      subst (λ x. Stands step first shelf_of script x shelves) (sym is) (stands_beside c (tells c work) shelves (tells_beside c work) stands)
+
   -- an event of a node that has no seat
   pub elsewhere_stands : (c : Course N) (shelves : List (Kept MemState)) (event : Event) → seat_of c.stops (node_of event) ≡ None
       → MayHappen c.player.world event → Stands step first shelf_of script c shelves

@@ -168,7 +168,7 @@ module _ {N : Type 0} (step : N → Do → NodeStep N) (first : NodeId → Setup
             after.1 ∙ ap Some (subst (λ o. GivesOf (what_of event) shelf.state.shelf o call) after.1 asked.gives after.2)
 
         -- and it is another one, where there is a call
-        pub differs : IfSome call (λ ask. shelf_after shelf.state.shelf ask ≢ shelf.state.shelf)
+        differs : IfSome call (λ ask. shelf_after shelf.state.shelf ask ≢ shelf.state.shelf)
         differs = by call refl
           where
             by : (o : Option Ask) → call ≡ o → IfSome o (λ ask. shelf_after shelf.state.shelf ask ≢ shelf.state.shelf)
@@ -300,3 +300,12 @@ module _ {N : Type 0} (step : N → Do → NodeStep N) (first : NodeId → Setup
               ∙ ap (λ n. settled step first script (fate_for seat.stop call) turned event n done) a
               ∙ ap (λ n. settled step first script (fate_for seat.stop call) turned event (length c.player.world.sent) n) b
               ∙ settled_so
+
+    -- the call that was found by the shelf at the seat changes it
+    pub found_differs : (w : World N) (node : NodeId) (what : Do) → node ≡ node_of event → what ≡ what_of event
+        → w ≡ happened step c.player.world node what
+        → (call : Option Ask) (x shelf : Kept MemState) → slice_get shelves seat.place ≡ Some x → slice_get shelves seat.place ≡ Some shelf
+        → call ≡ asked_of what (Some x.state.shelf) (shelf_at shelf_of w node) → GivesOf what x.state.shelf (shelf_at shelf_of w node) call
+        → IfSome call (λ ask. shelf_after shelf.state.shelf ask ≢ shelf.state.shelf)
+    found_differs w node what is_node is_what is_world call x shelf is_x is exact gives =
+        differs shelf is call (asked_so w node what is_node is_what is_world call x shelf is_x is exact gives)

@@ -1,9 +1,8 @@
-use Rattle.std.proofs.Common.{◌∙◌, sym, ap, subst, arith}
+use Rattle.std.proofs.Common.{◌∙◌, sym, ap, arith}
 use Rattle.std.proofs.lemmas.Result.{on_ok_weaker}
 use Rattle.disk_play.specs.declared.course.Course.{Course}
-use Rattle.disk_play.specs.Courses.{deck_of, opens_on, opens_on_for, tells}
-use Rattle.disk_play.specs.Standing.{Stands}
-use Rattle.disk_play.proofs.Passing.{stands_beside, tells_beside, tells_unanswered}
+use Rattle.disk_play.specs.Courses.{deck_of, opens_on, opens_on_for}
+use Rattle.disk_play.proofs.Passing.{stands_told, tells_unanswered}
 use Rattle.disk_play.proofs.disk_player.DiskPlayer.open.Goals as goal
 
 pub returns-in-Some-clause-exact : goal.returns-in-Some-clause-exact
@@ -26,14 +25,8 @@ returns-in-None-clause-exact g c =
 
 pub returns-in-None-clause-stands : goal.returns-in-None-clause-stands
 returns-in-None-clause-stands g c =
-    let step = g.N.Actor.transition in
-    let first = g.N.Member.first in
-    let shelf_of = g.N.Shelved.shelf_of in
-    let script = c.args.script.now in
-    let course = c.args.self.now.course in
-    let shelves = c.args.self.now.shelves.items in
-    subst (λ (d : Course g.row.N.Denot). Stands step first shelf_of script d shelves) (sym c.tell.ensures)
-    (stands_beside step first shelf_of script course (tells course c.args.work.now) shelves (tells_beside course c.args.work.now) c.requires.stands)
+    stands_told g.N.Actor.transition g.N.Member.first g.N.Shelved.shelf_of c.args.script.now c.args.self.now.course c.tell.new.self c.args.work.now
+    c.args.self.now.shelves.items c.tell.ensures c.requires.stands
 
 pub returns-in-None-clause-one_more : goal.returns-in-None-clause-one_more
 returns-in-None-clause-one_more g c =
