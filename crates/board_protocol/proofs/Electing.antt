@@ -7,7 +7,7 @@ use Rattle.board_protocol.specs.Growth.{Grows}
 use Rattle.board_protocol.specs.Leading.{leads_with, MayLead, MayLeadWithOwn, MayLeadWithTheirs}
 use Rattle.board_protocol.specs.Packets.{Promised}
 use Rattle.board_protocol.specs.Step.{Step}
-use Rattle.board_protocol.specs.Step.Step.{Offers, Extends, Ticks, SendsInstall, SendsAppend, Prepares, Promises, LeadsWithOwn, LeadsWithTheirs, LeadsAgain, Installs, InstallsAgain, Appends, AppendsAgain, Hears, Stops, Starts}
+use Rattle.board_protocol.specs.Step.Step.{LeadsWithOwn, LeadsWithTheirs}
 use Rattle.board_protocol.proofs.Prefixes.{each, same, no_longer, kept, at}
 use Rattle.board_protocol.proofs.Growing.{theirs_below}
 use Rattle.board_protocol.proofs.Facts.{Standing, Sending, Voter, Elected, Electing}
@@ -109,20 +109,6 @@ module _ {C : Type 0} where
       fits.promised
 
   pub keeps : (w v : World C) → Step w v → Grows w v → Standing w → Sending w → Electing w → Electing v
-  keeps w v (Offers k c up) g s t a = all_on w v g (λ b. refl) a
-  keeps w v (Extends k c h) g s t a = all_on w v g (λ b. refl) a
-  keeps w v (Ticks k c h) g s t a = all_on w v g (λ b. refl) a
-  keeps w v (SendsInstall k j h) g s t a = all_on w v g (λ b. refl) a
-  keeps w v (SendsAppend k j n c h) g s t a = all_on w v g (λ b. refl) a
-  keeps w v (Prepares k b h) g s t a = all_on w v g (λ b. refl) a
-  keeps w v (Promises k p h) g s t a = all_on w v g (λ b. refl) a
   keeps w v (LeadsWithOwn k p h) g s t a = one_more w k p.ballot (w.board k).list g (own_elected w k p h s t g) a
   keeps w v (LeadsWithTheirs k p h) g s t a = one_more w k p.ballot p.list g (theirs_elected w k p h s t g) a
-  keeps w v (LeadsAgain k p h) g s t a = all_on w v g (λ b. refl) a
-  keeps w v (Installs k p h) g s t a = all_on w v g (λ b. refl) a
-  keeps w v (InstallsAgain k p h) g s t a = all_on w v g (λ b. refl) a
-  keeps w v (Appends k p h) g s t a = all_on w v g (λ b. refl) a
-  keeps w v (AppendsAgain k p h) g s t a = all_on w v g (λ b. refl) a
-  keeps w v (Hears k p rest h left) g s t a = all_on w v g (λ b. refl) a
-  keeps w v (Stops k) g s t a = all_on w v g (λ b. refl) a
-  keeps w v (Starts k) g s t a = all_on w v g (λ b. refl) a
+  keeps w v step g s t a = all_on w v g (λ b. refl) a

@@ -7,7 +7,7 @@ use Rattle.board_protocol.specs.Growth.{Grows}
 use Rattle.board_protocol.specs.Leading.{MayExtend, extends, leads_with, MayLead, MayLeadWithTheirs}
 use Rattle.board_protocol.specs.Packets.{Promised}
 use Rattle.board_protocol.specs.Step.{Step}
-use Rattle.board_protocol.specs.Step.Step.{Offers, Extends, Ticks, SendsInstall, SendsAppend, Prepares, Promises, LeadsWithOwn, LeadsWithTheirs, LeadsAgain, Installs, InstallsAgain, Appends, AppendsAgain, Hears, Stops, Starts}
+use Rattle.board_protocol.specs.Step.Step.{Extends, Ticks, Prepares, Promises, LeadsWithOwn, LeadsWithTheirs, Installs, InstallsAgain, Appends, Hears}
 use Rattle.board_protocol.proofs.Prefixes.{each, same, longer, pushed, no_longer}
 use Rattle.board_protocol.proofs.Facts.{Standing, Sending}
 
@@ -67,20 +67,14 @@ module _ {C : Type 0} where
       grind (arith, h.greater, fits.last, no_longer p.list (w.book p.last) fits.listed, stands.promised, h.lead.promised, h.lead.own, stands.own)
 
   pub grows_step : (w v : World C) → Step w v → Standing w → Sending w → Grows w v
-  grows_step w v (Offers k c up) s t = grind (arith, nat_tests, same)
   grows_step w v (Extends k c h) s t = extends_grows w k c h.extend s
   grows_step w v (Ticks k c h) s t = extends_grows w k c h s
-  grows_step w v (SendsInstall k j h) s t = grind (arith, nat_tests, same)
-  grows_step w v (SendsAppend k j n c h) s t = grind (arith, nat_tests, same)
   grows_step w v (Prepares k b h) s t = grind (arith, nat_tests, same)
   grows_step w v (Promises k p h) s t = grind (arith, nat_tests, same)
   grows_step w v (LeadsWithOwn k p h) s t = leads_with_grows w k p (w.board k).list h.lead h.below s
   grows_step w v (LeadsWithTheirs k p h) s t = leads_with_grows w k p p.list h.lead (theirs_below w k p h s t) s
-  grows_step w v (LeadsAgain k p h) s t = grind (arith, nat_tests, same)
   grows_step w v (Installs k p h) s t = grind (arith, nat_tests, same, (s.stands k).later p.ballot)
   grows_step w v (InstallsAgain k p h) s t = grind (arith, nat_tests, same)
   grows_step w v (Appends k p h) s t = grind (arith, nat_tests, same, (s.stands k).now, pushed (w.board k).list p.command)
-  grows_step w v (AppendsAgain k p h) s t = grind (arith, nat_tests, same)
   grows_step w v (Hears k p rest h left) s t = grind (arith, nat_tests, same, longer (w.board k).applied)
-  grows_step w v (Stops k) s t = grind (arith, nat_tests, same)
-  grows_step w v (Starts k) s t = grind (arith, nat_tests, same)
+  grows_step w v step s t = grind (arith, nat_tests, same)

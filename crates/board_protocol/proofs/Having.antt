@@ -5,7 +5,7 @@ use Rattle.board_protocol.specs.Basics.{Prefix}
 use Rattle.board_protocol.specs.World.{World, start}
 use Rattle.board_protocol.specs.Laws.{Chosen, Had, HadTwice}
 use Rattle.board_protocol.specs.Step.{Step, Steps}
-use Rattle.board_protocol.specs.Step.Step.{Offers, Extends, Ticks, SendsInstall, SendsAppend, Prepares, Promises, LeadsWithOwn, LeadsWithTheirs, LeadsAgain, Installs, InstallsAgain, Appends, AppendsAgain, Hears, Stops, Starts}
+use Rattle.board_protocol.specs.Step.Step.{Extends, Ticks, LeadsWithOwn, LeadsWithTheirs, Installs, Appends}
 use Rattle.board_protocol.specs.Step.Steps.{Done, More}
 use Rattle.board_protocol.proofs.Prefixes.{through, shorter}
 use Rattle.board_protocol.proofs.Invariant.{Invariant, always, begins, onward}
@@ -16,23 +16,13 @@ module _ {C : Type 0} where
   Changes w v d b = (v.accepted d b ≡ w.accepted d b) ⊎ ((v.board d).ballot ≡ b)
 
   changes : (w v : World C) → Step w v → (d b : ℕ) → Changes w v d b
-  changes w v (Offers k c up) d b = inl refl
   changes w v (Extends k c h) d b = grind (arith, nat_tests)
   changes w v (Ticks k c h) d b = grind (arith, nat_tests)
-  changes w v (SendsInstall k j h) d b = inl refl
-  changes w v (SendsAppend k j n c h) d b = inl refl
-  changes w v (Prepares k e h) d b = inl refl
-  changes w v (Promises k p h) d b = inl refl
   changes w v (LeadsWithOwn k p h) d b = grind (arith, nat_tests)
   changes w v (LeadsWithTheirs k p h) d b = grind (arith, nat_tests)
-  changes w v (LeadsAgain k p h) d b = inl refl
   changes w v (Installs k p h) d b = grind (arith, nat_tests)
-  changes w v (InstallsAgain k p h) d b = inl refl
   changes w v (Appends k p h) d b = grind (arith, nat_tests)
-  changes w v (AppendsAgain k p h) d b = inl refl
-  changes w v (Hears k p rest h left) d b = inl refl
-  changes w v (Stops k) d b = inl refl
-  changes w v (Starts k) d b = inl refl
+  changes w v step d b = inl refl
 
   -- A board that accepted so much with a ballot had a list of that length with it.
   record Long (u v : World C) (k b n : ℕ) : Type 0 where

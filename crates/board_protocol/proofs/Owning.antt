@@ -7,7 +7,7 @@ use Rattle.board_protocol.specs.Laws.{Chosen}
 use Rattle.board_protocol.specs.Leading.{MayExtend, MayLead, extends, leads_with}
 use Rattle.board_protocol.specs.Following.{MayAcceptInstall, MayAcceptAppend, installs, appends}
 use Rattle.board_protocol.specs.Step.{Step, Steps}
-use Rattle.board_protocol.specs.Step.Step.{Offers, Extends, Ticks, SendsInstall, SendsAppend, Prepares, Promises, LeadsWithOwn, LeadsWithTheirs, LeadsAgain, Installs, InstallsAgain, Appends, AppendsAgain, Hears, Stops, Starts}
+use Rattle.board_protocol.specs.Step.Step.{Extends, Ticks, LeadsWithOwn, LeadsWithTheirs, Installs, Appends}
 use Rattle.board_protocol.specs.Step.Steps.{Done, More}
 use Rattle.board_protocol.proofs.Prefixes.{no_longer}
 use Rattle.board_protocol.proofs.Facts.{Standing, Sending}
@@ -34,23 +34,13 @@ module _ {C : Type 0} where
       grind (arith, nat_tests, o b l, other)
 
   keeps : (w v : World C) → Step w v → Standing w → Sending w → Owned w → Owned v
-  keeps w v (Offers k c up) s t o = o
   keeps w v (Extends k c h) s t o = extends_owned w k c h.extend s o
   keeps w v (Ticks k c h) s t o = extends_owned w k c h s o
-  keeps w v (SendsInstall k j h) s t o = o
-  keeps w v (SendsAppend k j n c h) s t o = o
-  keeps w v (Prepares k b h) s t o = o
-  keeps w v (Promises k p h) s t o = o
   keeps w v (LeadsWithOwn k p h) s t o = leads_with_owned w k p (w.board k).list h.lead o
   keeps w v (LeadsWithTheirs k p h) s t o = leads_with_owned w k p p.list h.lead o
-  keeps w v (LeadsAgain k p h) s t o = o
   keeps w v (Installs k p h) s t o = installs_owned w k p h s t o
-  keeps w v (InstallsAgain k p h) s t o = o
   keeps w v (Appends k p h) s t o = appends_owned w k p h s t o
-  keeps w v (AppendsAgain k p h) s t o = o
-  keeps w v (Hears k p rest h left) s t o = o
-  keeps w v (Stops k) s t o = o
-  keeps w v (Starts k) s t o = o
+  keeps w v step s t o = o
 
   owned_after : (owner : ℕ → ℕ) (w v : World C) → Steps (start owner) w → Owned w → Steps w v → (Steps (start owner) v) × Owned v
   owned_after owner w v reached o Done = (reached, o)

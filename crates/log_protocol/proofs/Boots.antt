@@ -4,7 +4,7 @@ use Rattle.std.proofs.Common.{◌≡◌, ℕ, suc, ◌<◌, ◌≤◌, arith}
 use Rattle.std.proofs.lemmas.Bool.Decides.{nat_tests}
 use Rattle.log_protocol.specs.State.{State, new_log}
 use Rattle.log_protocol.specs.Step.{Step}
-use Rattle.log_protocol.specs.Step.Step.{Loses, Hears, Learns, Sends, Accepts, Accepts_again, Tells, Fills, Drops, Deletes, Raises, Fences, Seals, Restripes, Notes, Settles, Crashes, Restarts, Begins, Picks_none, Picks_kept, Picks_prior, Cuts, Opens, Serves}
+use Rattle.log_protocol.specs.Step.Step.{Loses, Seals, Restripes, Settles, Begins, Picks_none, Picks_kept, Picks_prior, Opens, Serves}
 
 pub record Boots (w : State) : Type 0 where
   -- no name is of a boot to come
@@ -43,30 +43,16 @@ pub record Boots (w : State) : Type 0 where
 
 pub step_keeps_boots : (w u : State) → Step w u → Boots w → Boots u
 step_keeps_boots w u (Loses v) boots = grind (arith, nat_tests)
-step_keeps_boots w u (Hears v g can) boots = grind (arith, nat_tests)
-step_keeps_boots w u (Learns map can) boots = grind (arith, nat_tests)
-step_keeps_boots w u (Sends x i can) boots = grind (arith, nat_tests)
-step_keeps_boots w u (Accepts p can) boots = grind (arith, nat_tests)
-step_keeps_boots w u (Accepts_again p can) boots = grind (arith, nat_tests)
-step_keeps_boots w u (Tells v x can) boots = grind (arith, nat_tests)
-step_keeps_boots w u (Fills v i p can) boots = grind (arith, nat_tests)
-step_keeps_boots w u (Drops x can) boots = grind (arith, nat_tests)
-step_keeps_boots w u (Deletes v x can) boots = grind (arith, nat_tests)
-step_keeps_boots w u (Raises low can) boots = grind (arith, nat_tests)
-step_keeps_boots w u (Fences v c can) boots = grind (arith, nat_tests)
 step_keeps_boots w u (Seals x text count server content can) boots = grind (arith, nat_tests)
 step_keeps_boots w u (Restripes x text count server can) boots = grind (arith, nat_tests)
-step_keeps_boots w u (Notes p can) boots = grind (arith, nat_tests)
 step_keeps_boots w u (Settles can) boots = grind (arith, nat_tests)
-step_keeps_boots w u Crashes boots = grind (arith, nat_tests)
-step_keeps_boots w u (Restarts can) boots = grind (arith, nat_tests)
 step_keeps_boots w u (Begins can) boots = grind (arith, nat_tests)
 step_keeps_boots w u (Picks_none list_of low can) boots = grind (arith, nat_tests)
 step_keeps_boots w u (Picks_kept list_of low x can) boots = grind (arith, nat_tests)
 step_keeps_boots w u (Picks_prior list_of low x i can) boots = grind (arith, nat_tests)
-step_keeps_boots w u (Cuts low can) boots = grind (arith, nat_tests)
 step_keeps_boots w u (Opens x text count server can) boots = grind (arith, nat_tests)
 step_keeps_boots w u (Serves path lowest sure can) boots = grind (arith, nat_tests)
+step_keeps_boots w u step boots = grind (arith, nat_tests)
 
 pub new_log_boots : (servers : ℕ) (seq_of incarnation_of attempt_of : ℕ → ℕ) → Boots (new_log servers seq_of incarnation_of attempt_of)
 new_log_boots servers seq_of incarnation_of attempt_of = grind (arith, nat_tests)

@@ -6,7 +6,7 @@ use Rattle.log_protocol.specs.State.{State, new_log}
 use Rattle.log_protocol.specs.OwnerSteps.{CanSeal, seals, CanRestripe, restripes}
 use Rattle.log_protocol.specs.OpeningSteps.{CanOpen, opens}
 use Rattle.log_protocol.specs.Step.{Step}
-use Rattle.log_protocol.specs.Step.Step.{Loses, Hears, Learns, Sends, Accepts, Accepts_again, Tells, Fills, Drops, Deletes, Raises, Fences, Seals, Restripes, Notes, Settles, Crashes, Restarts, Begins, Picks_none, Picks_kept, Picks_prior, Cuts, Opens, Serves}
+use Rattle.log_protocol.specs.Step.Step.{Seals, Restripes, Settles, Opens}
 use Rattle.log_protocol.proofs.Boots.{Boots}
 use Rattle.log_protocol.proofs.NewNames.{new_seal, new_restripe, new_opening}
 
@@ -35,31 +35,11 @@ opens_keeps_contents w x text count server can boots contents =
     grind (arith, nat_tests)
 
 pub step_keeps_contents : (w u : State) → Step w u → Boots w → Contents w → Contents u
-step_keeps_contents w u (Loses v) boots contents = grind (arith, nat_tests)
-step_keeps_contents w u (Hears v g can) boots contents = grind (arith, nat_tests)
-step_keeps_contents w u (Learns map can) boots contents = grind (arith, nat_tests)
-step_keeps_contents w u (Sends x i can) boots contents = grind (arith, nat_tests)
-step_keeps_contents w u (Accepts p can) boots contents = grind (arith, nat_tests)
-step_keeps_contents w u (Accepts_again p can) boots contents = grind (arith, nat_tests)
-step_keeps_contents w u (Tells v x can) boots contents = grind (arith, nat_tests)
-step_keeps_contents w u (Fills v i p can) boots contents = grind (arith, nat_tests)
-step_keeps_contents w u (Drops x can) boots contents = grind (arith, nat_tests)
-step_keeps_contents w u (Deletes v x can) boots contents = grind (arith, nat_tests)
-step_keeps_contents w u (Raises low can) boots contents = grind (arith, nat_tests)
-step_keeps_contents w u (Fences v c can) boots contents = grind (arith, nat_tests)
 step_keeps_contents w u (Seals x text count server content can) boots contents = seals_keeps_contents w x text count server content can boots contents
 step_keeps_contents w u (Restripes x text count server can) boots contents = restripes_keeps_contents w x text count server can boots contents
-step_keeps_contents w u (Notes p can) boots contents = grind (arith, nat_tests)
 step_keeps_contents w u (Settles can) boots contents = grind (arith, nat_tests)
-step_keeps_contents w u Crashes boots contents = grind (arith, nat_tests)
-step_keeps_contents w u (Restarts can) boots contents = grind (arith, nat_tests)
-step_keeps_contents w u (Begins can) boots contents = grind (arith, nat_tests)
-step_keeps_contents w u (Picks_none list_of low can) boots contents = grind (arith, nat_tests)
-step_keeps_contents w u (Picks_kept list_of low x can) boots contents = grind (arith, nat_tests)
-step_keeps_contents w u (Picks_prior list_of low x i can) boots contents = grind (arith, nat_tests)
-step_keeps_contents w u (Cuts low can) boots contents = grind (arith, nat_tests)
 step_keeps_contents w u (Opens x text count server can) boots contents = opens_keeps_contents w x text count server can boots contents
-step_keeps_contents w u (Serves path lowest sure can) boots contents = grind (arith, nat_tests)
+step_keeps_contents w u step boots contents = grind (arith, nat_tests)
 
 pub new_log_contents : (servers : ℕ) (seq_of incarnation_of attempt_of : ℕ → ℕ) → Contents (new_log servers seq_of incarnation_of attempt_of)
 new_log_contents servers seq_of incarnation_of attempt_of = grind (arith, nat_tests)

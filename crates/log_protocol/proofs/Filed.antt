@@ -5,7 +5,7 @@ use Rattle.std.proofs.lemmas.Bool.Decides.{nat_tests}
 use Rattle.log_protocol.specs.State.{State, new_log}
 use Rattle.log_protocol.specs.OpeningSteps.{CanServe, serves}
 use Rattle.log_protocol.specs.Step.{Step}
-use Rattle.log_protocol.specs.Step.Step.{Loses, Hears, Learns, Sends, Accepts, Accepts_again, Tells, Fills, Drops, Deletes, Raises, Fences, Seals, Restripes, Notes, Settles, Crashes, Restarts, Begins, Picks_none, Picks_kept, Picks_prior, Cuts, Opens, Serves}
+use Rattle.log_protocol.specs.Step.Step.{Settles, Serves}
 use Rattle.log_protocol.proofs.Boots.{Boots}
 use Rattle.log_protocol.proofs.Horizons.{Horizons}
 use Rattle.log_protocol.proofs.Secured.{Secured}
@@ -28,32 +28,10 @@ serves_keeps_filed w path lowest sure can boots horizons secured priors filed =
     }
 
 pub step_keeps_filed : (w u : State) → Step w u → Boots w → Horizons w → Secured w → Priors w → Filed w → Filed u
-step_keeps_filed w u (Loses v) boots horizons secured priors filed = grind (arith, nat_tests)
-step_keeps_filed w u (Hears v g can) boots horizons secured priors filed = grind (arith, nat_tests)
-step_keeps_filed w u (Learns map can) boots horizons secured priors filed = grind (arith, nat_tests)
-step_keeps_filed w u (Sends x i can) boots horizons secured priors filed = grind (arith, nat_tests)
-step_keeps_filed w u (Accepts p can) boots horizons secured priors filed = grind (arith, nat_tests)
-step_keeps_filed w u (Accepts_again p can) boots horizons secured priors filed = grind (arith, nat_tests)
-step_keeps_filed w u (Tells v x can) boots horizons secured priors filed = grind (arith, nat_tests)
-step_keeps_filed w u (Fills v i p can) boots horizons secured priors filed = grind (arith, nat_tests)
-step_keeps_filed w u (Drops x can) boots horizons secured priors filed = grind (arith, nat_tests)
-step_keeps_filed w u (Deletes v x can) boots horizons secured priors filed = grind (arith, nat_tests)
-step_keeps_filed w u (Raises low can) boots horizons secured priors filed = grind (arith, nat_tests)
-step_keeps_filed w u (Fences v c can) boots horizons secured priors filed = grind (arith, nat_tests)
-step_keeps_filed w u (Seals x text count server content can) boots horizons secured priors filed = grind (arith, nat_tests)
-step_keeps_filed w u (Restripes x text count server can) boots horizons secured priors filed = grind (arith, nat_tests)
-step_keeps_filed w u (Notes p can) boots horizons secured priors filed = grind (arith, nat_tests)
 step_keeps_filed w u (Settles can) boots horizons secured priors filed = grind (arith, nat_tests)
-step_keeps_filed w u Crashes boots horizons secured priors filed = grind (arith, nat_tests)
-step_keeps_filed w u (Restarts can) boots horizons secured priors filed = grind (arith, nat_tests)
-step_keeps_filed w u (Begins can) boots horizons secured priors filed = grind (arith, nat_tests)
-step_keeps_filed w u (Picks_none list_of low can) boots horizons secured priors filed = grind (arith, nat_tests)
-step_keeps_filed w u (Picks_kept list_of low x can) boots horizons secured priors filed = grind (arith, nat_tests)
-step_keeps_filed w u (Picks_prior list_of low x i can) boots horizons secured priors filed = grind (arith, nat_tests)
-step_keeps_filed w u (Cuts low can) boots horizons secured priors filed = grind (arith, nat_tests)
-step_keeps_filed w u (Opens x text count server can) boots horizons secured priors filed = grind (arith, nat_tests)
 step_keeps_filed w u (Serves path lowest sure can) boots horizons secured priors filed =
     serves_keeps_filed w path lowest sure can boots horizons secured priors filed
+step_keeps_filed w u step boots horizons secured priors filed = grind (arith, nat_tests)
 
 pub new_log_filed : (servers : ℕ) (seq_of incarnation_of attempt_of : ℕ → ℕ) → Filed (new_log servers seq_of incarnation_of attempt_of)
 new_log_filed servers seq_of incarnation_of attempt_of = grind (arith, nat_tests)

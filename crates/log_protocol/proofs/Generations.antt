@@ -6,7 +6,7 @@ use Rattle.log_protocol.specs.Tables.{In}
 use Rattle.log_protocol.specs.Packets.{FencedPacket}
 use Rattle.log_protocol.specs.State.{State, new_log}
 use Rattle.log_protocol.specs.Step.{Step}
-use Rattle.log_protocol.specs.Step.Step.{Loses, Hears, Learns, Sends, Accepts, Accepts_again, Tells, Fills, Drops, Deletes, Raises, Fences, Seals, Restripes, Notes, Settles, Crashes, Restarts, Begins, Picks_none, Picks_kept, Picks_prior, Cuts, Opens, Serves}
+use Rattle.log_protocol.specs.Step.Step.{Loses, Hears, Learns}
 
 pub record Generations (w : State) : Type 0 where
   -- the owner's map is no newer than the registry's
@@ -22,28 +22,7 @@ pub step_keeps_generations : (w u : State) → Step w u → Generations w → Ge
 step_keeps_generations w u (Loses v) generations = grind (arith, nat_tests)
 step_keeps_generations w u (Hears v g can) generations = grind (arith, nat_tests)
 step_keeps_generations w u (Learns map can) generations = grind (arith, nat_tests)
-step_keeps_generations w u (Sends x i can) generations = grind (arith, nat_tests)
-step_keeps_generations w u (Accepts p can) generations = grind (arith, nat_tests)
-step_keeps_generations w u (Accepts_again p can) generations = grind (arith, nat_tests)
-step_keeps_generations w u (Tells v x can) generations = grind (arith, nat_tests)
-step_keeps_generations w u (Fills v i p can) generations = grind (arith, nat_tests)
-step_keeps_generations w u (Drops x can) generations = grind (arith, nat_tests)
-step_keeps_generations w u (Deletes v x can) generations = grind (arith, nat_tests)
-step_keeps_generations w u (Raises low can) generations = grind (arith, nat_tests)
-step_keeps_generations w u (Fences v c can) generations = grind (arith, nat_tests)
-step_keeps_generations w u (Seals x text count server content can) generations = grind (arith, nat_tests)
-step_keeps_generations w u (Restripes x text count server can) generations = grind (arith, nat_tests)
-step_keeps_generations w u (Notes p can) generations = grind (arith, nat_tests)
-step_keeps_generations w u (Settles can) generations = grind (arith, nat_tests)
-step_keeps_generations w u Crashes generations = grind (arith, nat_tests)
-step_keeps_generations w u (Restarts can) generations = grind (arith, nat_tests)
-step_keeps_generations w u (Begins can) generations = grind (arith, nat_tests)
-step_keeps_generations w u (Picks_none list_of low can) generations = grind (arith, nat_tests)
-step_keeps_generations w u (Picks_kept list_of low x can) generations = grind (arith, nat_tests)
-step_keeps_generations w u (Picks_prior list_of low x i can) generations = grind (arith, nat_tests)
-step_keeps_generations w u (Cuts low can) generations = grind (arith, nat_tests)
-step_keeps_generations w u (Opens x text count server can) generations = grind (arith, nat_tests)
-step_keeps_generations w u (Serves path lowest sure can) generations = grind (arith, nat_tests)
+step_keeps_generations w u step generations = grind (arith, nat_tests)
 
 pub new_log_generations : (servers : ℕ) (seq_of incarnation_of attempt_of : ℕ → ℕ) → Generations (new_log servers seq_of incarnation_of attempt_of)
 new_log_generations servers seq_of incarnation_of attempt_of = grind (arith, nat_tests)

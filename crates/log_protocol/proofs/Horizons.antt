@@ -4,7 +4,7 @@ use Rattle.std.proofs.Common.{◌≡◌, ℕ, suc, ◌<◌, ◌≤◌, arith}
 use Rattle.std.proofs.lemmas.Bool.Decides.{nat_tests}
 use Rattle.log_protocol.specs.State.{State, new_log}
 use Rattle.log_protocol.specs.Step.{Step}
-use Rattle.log_protocol.specs.Step.Step.{Loses, Hears, Learns, Sends, Accepts, Accepts_again, Tells, Fills, Drops, Deletes, Raises, Fences, Seals, Restripes, Notes, Settles, Crashes, Restarts, Begins, Picks_none, Picks_kept, Picks_prior, Cuts, Opens, Serves}
+use Rattle.log_protocol.specs.Step.Step.{Drops, Raises, Seals, Restripes, Settles, Picks_none, Picks_kept, Picks_prior, Cuts, Opens, Serves}
 
 pub record Horizons (w : State) : Type 0 where
   -- that of a booking is past
@@ -39,31 +39,18 @@ pub record Horizons (w : State) : Type 0 where
   pub feed_covered : w.phase ≡ 4 → w.feed_base < w.low
 
 pub step_keeps_horizons : (w u : State) → Step w u → Horizons w → Horizons u
-step_keeps_horizons w u (Loses v) horizons = grind (arith, nat_tests)
-step_keeps_horizons w u (Hears v g can) horizons = grind (arith, nat_tests)
-step_keeps_horizons w u (Learns map can) horizons = grind (arith, nat_tests)
-step_keeps_horizons w u (Sends x i can) horizons = grind (arith, nat_tests)
-step_keeps_horizons w u (Accepts p can) horizons = grind (arith, nat_tests)
-step_keeps_horizons w u (Accepts_again p can) horizons = grind (arith, nat_tests)
-step_keeps_horizons w u (Tells v x can) horizons = grind (arith, nat_tests)
-step_keeps_horizons w u (Fills v i p can) horizons = grind (arith, nat_tests)
 step_keeps_horizons w u (Drops x can) horizons = grind (arith, nat_tests)
-step_keeps_horizons w u (Deletes v x can) horizons = grind (arith, nat_tests)
 step_keeps_horizons w u (Raises low can) horizons = grind (arith, nat_tests)
-step_keeps_horizons w u (Fences v c can) horizons = grind (arith, nat_tests)
 step_keeps_horizons w u (Seals x text count server content can) horizons = grind (arith, nat_tests)
 step_keeps_horizons w u (Restripes x text count server can) horizons = grind (arith, nat_tests)
-step_keeps_horizons w u (Notes p can) horizons = grind (arith, nat_tests)
 step_keeps_horizons w u (Settles can) horizons = grind (arith, nat_tests)
-step_keeps_horizons w u Crashes horizons = grind (arith, nat_tests)
-step_keeps_horizons w u (Restarts can) horizons = grind (arith, nat_tests)
-step_keeps_horizons w u (Begins can) horizons = grind (arith, nat_tests)
 step_keeps_horizons w u (Picks_none list_of low can) horizons = grind (arith, nat_tests)
 step_keeps_horizons w u (Picks_kept list_of low x can) horizons = let a = can.gathered in let b = can.picked.above in grind (arith, nat_tests)
 step_keeps_horizons w u (Picks_prior list_of low x i can) horizons = let a = can.gathered in let b = can.picked.above in grind (arith, nat_tests)
 step_keeps_horizons w u (Cuts low can) horizons = grind (arith, nat_tests)
 step_keeps_horizons w u (Opens x text count server can) horizons = grind (arith, nat_tests)
 step_keeps_horizons w u (Serves path lowest sure can) horizons = grind (arith, nat_tests)
+step_keeps_horizons w u step horizons = grind (arith, nat_tests)
 
 pub new_log_horizons : (servers : ℕ) (seq_of incarnation_of attempt_of : ℕ → ℕ) → Horizons (new_log servers seq_of incarnation_of attempt_of)
 new_log_horizons servers seq_of incarnation_of attempt_of = grind (arith, nat_tests)

@@ -4,7 +4,7 @@ use Rattle.std.proofs.Common.{◌≡◌, ℕ, ◌<◌, ◌≤◌, arith}
 use Rattle.std.proofs.lemmas.Bool.Decides.{nat_tests}
 use Rattle.log_protocol.specs.IndexState.{IndexState, new_block}
 use Rattle.log_protocol.specs.IndexSteps.{CanBeat, beats, IndexStep}
-use Rattle.log_protocol.specs.IndexSteps.IndexStep.{Files, Files_none, Copies, Merges, Activates, Keeps, Moves, Promises, Beats, Counts, Drops_row}
+use Rattle.log_protocol.specs.IndexSteps.IndexStep.{Files, Beats, Counts, Drops_row}
 use Rattle.log_protocol.proofs.IndexRows.{IndexRows}
 use Rattle.log_protocol.proofs.IndexBounds.{IndexBounds}
 use Rattle.log_protocol.proofs.IndexJoins.{IndexJoins}
@@ -66,17 +66,11 @@ beats_keeps_index_beaten w d e l q below beaten = grind (arith, nat_tests)
 
 pub step_keeps_index_beaten : (w u : IndexState) → IndexStep w u → IndexRows w → IndexBounds w → IndexJoins w → IndexBeaten w → IndexBeaten u
 step_keeps_index_beaten w u (Files l version can) rows bounds joins beaten = grind (arith, nat_tests)
-step_keeps_index_beaten w u (Files_none l can) rows bounds joins beaten = grind (arith, nat_tests)
-step_keeps_index_beaten w u (Copies l q can) rows bounds joins beaten = grind (arith, nat_tests)
-step_keeps_index_beaten w u (Merges e applied entry can) rows bounds joins beaten = grind (arith, nat_tests)
-step_keeps_index_beaten w u (Activates e applied entry can) rows bounds joins beaten = grind (arith, nat_tests)
-step_keeps_index_beaten w u (Keeps horizon can) rows bounds joins beaten = grind (arith, nat_tests)
-step_keeps_index_beaten w u Moves rows bounds joins beaten = grind (arith, nat_tests)
-step_keeps_index_beaten w u (Promises e can) rows bounds joins beaten = grind (arith, nat_tests)
 step_keeps_index_beaten w u (Beats d e l q can) rows bounds joins beaten =
     beats_keeps_index_beaten w d e l q (told_below w d e l q can rows bounds joins) beaten
 step_keeps_index_beaten w u (Counts e l q can) rows bounds joins beaten = grind (arith, nat_tests)
 step_keeps_index_beaten w u (Drops_row l q can) rows bounds joins beaten = grind (arith, nat_tests)
+step_keeps_index_beaten w u step rows bounds joins beaten = grind (arith, nat_tests)
 
 pub new_block_index_beaten : (cleaner : ℕ) → IndexBeaten (new_block cleaner)
 new_block_index_beaten cleaner = grind (arith, nat_tests)

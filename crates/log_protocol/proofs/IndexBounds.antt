@@ -4,7 +4,7 @@ use Rattle.std.proofs.Common.{◌≡◌, ℕ, suc, ◌<◌, ◌≤◌, arith}
 use Rattle.std.proofs.lemmas.Bool.Decides.{nat_tests}
 use Rattle.log_protocol.specs.IndexState.{IndexState, new_block}
 use Rattle.log_protocol.specs.IndexSteps.{CanKeep, IndexStep}
-use Rattle.log_protocol.specs.IndexSteps.IndexStep.{Files, Files_none, Copies, Merges, Activates, Keeps, Moves, Promises, Beats, Counts, Drops_row}
+use Rattle.log_protocol.specs.IndexSteps.IndexStep.{Merges, Activates, Keeps, Promises}
 
 pub record IndexBounds (w : IndexState) : Type 0 where
   -- what is applied is filed
@@ -42,9 +42,6 @@ kept_idle w horizon l can bounds late =
     grind (arith, bounds.idle w.epoch l, bounds.active_flag w.epoch, bounds.active_reigning w.epoch)
 
 pub step_keeps_index_bounds : (w u : IndexState) → IndexStep w u → IndexBounds w → IndexBounds u
-step_keeps_index_bounds w u (Files l version can) bounds = grind (arith, nat_tests)
-step_keeps_index_bounds w u (Files_none l can) bounds = grind (arith, nat_tests)
-step_keeps_index_bounds w u (Copies l q can) bounds = grind (arith, nat_tests)
 step_keeps_index_bounds w u (Merges e applied entry can) bounds = grind (arith, nat_tests)
 step_keeps_index_bounds w u (Activates e applied entry can) bounds = grind (arith, nat_tests)
 step_keeps_index_bounds w u (Keeps horizon can) bounds = record {
@@ -63,11 +60,8 @@ step_keeps_index_bounds w u (Keeps horizon can) bounds = record {
       λ (z : w.reigning < w.epoch). kept_idle w horizon l can bounds z in grind (arith, nat_tests, k, bounds.floor_flat d e l, bounds.floor_flat d w.epoch l);
   floor_ahead = λ e l ahead. grind (arith, nat_tests);
 }
-step_keeps_index_bounds w u Moves bounds = grind (arith, nat_tests)
 step_keeps_index_bounds w u (Promises e can) bounds = grind (arith, nat_tests)
-step_keeps_index_bounds w u (Beats d e l q can) bounds = grind (arith, nat_tests)
-step_keeps_index_bounds w u (Counts e l q can) bounds = grind (arith, nat_tests)
-step_keeps_index_bounds w u (Drops_row l q can) bounds = grind (arith, nat_tests)
+step_keeps_index_bounds w u step bounds = grind (arith, nat_tests)
 
 pub new_block_index_bounds : (cleaner : ℕ) → IndexBounds (new_block cleaner)
 new_block_index_bounds cleaner = grind (arith, nat_tests)

@@ -6,7 +6,7 @@ use Rattle.std.proofs.lemmas.Bool.Decides.{nat_tests}
 use Rattle.log_protocol.proofs.IndexPlaces.{its, not_named, named_beats, copied}
 use Rattle.log_protocol.specs.IndexState.{Entry, IndexState, new_block}
 use Rattle.log_protocol.specs.IndexSteps.{CanMerge, CanCount, copies, IndexStep}
-use Rattle.log_protocol.specs.IndexSteps.IndexStep.{Files, Files_none, Copies, Merges, Activates, Keeps, Moves, Promises, Beats, Counts, Drops_row}
+use Rattle.log_protocol.specs.IndexSteps.IndexStep.{Files, Copies, Merges, Activates, Promises, Beats, Counts}
 use Rattle.log_protocol.proofs.IndexRows.{IndexRows}
 use Rattle.log_protocol.proofs.IndexBounds.{IndexBounds}
 use Rattle.log_protocol.proofs.IndexJoins.{IndexJoins}
@@ -104,7 +104,6 @@ dead_filed w l q bounds dead counted = let a = dead.told_applied (w.dead_at l q)
 
 pub step_keeps_index_dead : (w u : IndexState) → IndexStep w u → IndexRows w → IndexBounds w → IndexJoins w → IndexDead w → IndexDead u
 step_keeps_index_dead w u (Files l version can) rows bounds joins dead = grind (arith, nat_tests)
-step_keeps_index_dead w u (Files_none l can) rows bounds joins dead = grind (arith, nat_tests)
 step_keeps_index_dead w u (Copies l q can) rows bounds joins dead = record {
   active_promised = λ x0 k0. grind (arith, nat_tests, dead.active_promised x0);
   active_reported = λ x0 k0. grind (arith, nat_tests, dead.active_reported x0);
@@ -155,8 +154,6 @@ step_keeps_index_dead w u (Activates e applied entry can) rows bounds joins dead
   beater_seq = λ x0 x1 k0 k1 k2. grind (arith, nat_tests, dead.beater_seq x0 x1);
   beater_polled = λ x0 x1 x2 k0 k1 k2 k3. grind (arith, nat_tests, dead.beater_polled x0 x1 x2);
 }
-step_keeps_index_dead w u (Keeps horizon can) rows bounds joins dead = grind (arith, nat_tests)
-step_keeps_index_dead w u Moves rows bounds joins dead = grind (arith, nat_tests)
 step_keeps_index_dead w u (Promises e can) rows bounds joins dead = grind (arith, nat_tests)
 step_keeps_index_dead w u (Beats d e l q can) rows bounds joins dead = record {
   active_promised = λ x0 k0. grind (arith, nat_tests, dead.active_promised x0);
@@ -193,7 +190,7 @@ step_keeps_index_dead w u (Counts e l q can) rows bounds joins dead = record {
       (arith, nat_tests, dead.beater_seq x0 x1, λ (k : w.joined.version ≤ w.version l q). (counted_beaten w e l q can rows bounds joins dead k).seq);
   beater_polled = λ x0 x1 x2 k0 k1 k2 k3. grind (arith, nat_tests, dead.beater_polled x0 x1 x2, can.latest);
 }
-step_keeps_index_dead w u (Drops_row l q can) rows bounds joins dead = grind (arith, nat_tests)
+step_keeps_index_dead w u step rows bounds joins dead = grind (arith, nat_tests)
 
 pub new_block_index_dead : (cleaner : ℕ) → IndexDead (new_block cleaner)
 new_block_index_dead cleaner = grind (arith, nat_tests)

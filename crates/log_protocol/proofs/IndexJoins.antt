@@ -4,7 +4,7 @@ use Rattle.std.proofs.Common.{◌≡◌, ℕ, arith}
 use Rattle.std.proofs.lemmas.Bool.Decides.{nat_tests}
 use Rattle.log_protocol.specs.IndexState.{IndexState, new_block, Joins}
 use Rattle.log_protocol.specs.IndexSteps.{IndexStep}
-use Rattle.log_protocol.specs.IndexSteps.IndexStep.{Files, Files_none, Copies, Merges, Activates, Keeps, Moves, Promises, Beats, Counts, Drops_row}
+use Rattle.log_protocol.specs.IndexSteps.IndexStep.{Files, Files_none, Copies, Merges, Activates}
 use Rattle.log_protocol.proofs.IndexRows.{IndexRows}
 use Rattle.log_protocol.proofs.IndexBounds.{IndexBounds}
 
@@ -18,12 +18,7 @@ step_keeps_index_joins w u (Files_none l can) rows bounds joins = grind (arith, 
 step_keeps_index_joins w u (Copies l q can) rows bounds joins = grind (arith, nat_tests)
 step_keeps_index_joins w u (Merges e applied entry can) rows bounds joins = grind (arith, nat_tests)
 step_keeps_index_joins w u (Activates e applied entry can) rows bounds joins = grind (arith, nat_tests)
-step_keeps_index_joins w u (Keeps horizon can) rows bounds joins = record { each = joins.each }
-step_keeps_index_joins w u Moves rows bounds joins = record { each = joins.each }
-step_keeps_index_joins w u (Promises e can) rows bounds joins = record { each = joins.each }
-step_keeps_index_joins w u (Beats d e l q can) rows bounds joins = record { each = joins.each }
-step_keeps_index_joins w u (Counts e l q can) rows bounds joins = record { each = joins.each }
-step_keeps_index_joins w u (Drops_row l q can) rows bounds joins = record { each = joins.each }
+step_keeps_index_joins w u step rows bounds joins = record { each = joins.each }
 
 pub new_block_index_joins : (cleaner : ℕ) → IndexJoins (new_block cleaner)
 new_block_index_joins cleaner = grind (arith, nat_tests)

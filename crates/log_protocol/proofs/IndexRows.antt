@@ -4,7 +4,7 @@ use Rattle.std.proofs.Common.{◌≡◌, ℕ, ◌<◌, arith}
 use Rattle.std.proofs.lemmas.Bool.Decides.{nat_tests}
 use Rattle.log_protocol.specs.IndexState.{IndexState, new_block, Joins}
 use Rattle.log_protocol.specs.IndexSteps.{CanCopy, IndexStep}
-use Rattle.log_protocol.specs.IndexSteps.IndexStep.{Files, Files_none, Copies, Merges, Activates, Keeps, Moves, Promises, Beats, Counts, Drops_row}
+use Rattle.log_protocol.specs.IndexSteps.IndexStep.{Files, Files_none, Copies}
 
 pub record IndexRows (w : IndexState) : Type 0 where
   -- a client's rows are no copies
@@ -41,14 +41,7 @@ pub step_keeps_index_rows : (w u : IndexState) → IndexStep w u → IndexRows w
 step_keeps_index_rows w u (Files l version can) rows = grind (arith, nat_tests)
 step_keeps_index_rows w u (Files_none l can) rows = grind (arith, nat_tests)
 step_keeps_index_rows w u (Copies l q can) rows = let some = copies_named w l q can rows in grind (arith, nat_tests)
-step_keeps_index_rows w u (Merges e applied entry can) rows = grind (arith, nat_tests)
-step_keeps_index_rows w u (Activates e applied entry can) rows = grind (arith, nat_tests)
-step_keeps_index_rows w u (Keeps horizon can) rows = grind (arith, nat_tests)
-step_keeps_index_rows w u Moves rows = grind (arith, nat_tests)
-step_keeps_index_rows w u (Promises e can) rows = grind (arith, nat_tests)
-step_keeps_index_rows w u (Beats d e l q can) rows = grind (arith, nat_tests)
-step_keeps_index_rows w u (Counts e l q can) rows = grind (arith, nat_tests)
-step_keeps_index_rows w u (Drops_row l q can) rows = grind (arith, nat_tests)
+step_keeps_index_rows w u step rows = grind (arith, nat_tests)
 
 pub new_block_index_rows : (cleaner : ℕ) → IndexRows (new_block cleaner)
 new_block_index_rows cleaner = grind (arith, nat_tests)

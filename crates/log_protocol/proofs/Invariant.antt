@@ -16,9 +16,9 @@
 --  11 Spans         who lacks the head since the span began is hurt, and lists say so     on 10 (Serving.antt: on 12)
 --  12 Rising        openings that haven't served come after the head, and lead to it      on 10, 11; under the premise on losses
 --
--- A group's file has its facts, each with its plain meaning, and below them why each kind of step keeps them: a clause of step_keeps_GROUP, or in the
--- groups of the line a lemma STEP_keeps_GROUP. Each takes the guard of its step, the groups that it stands on and its own, nothing else: so each layer is
--- inductive with those below it. Induction.antt puts them together over runs; LogTheorems.antt, StateLaws.antt and StepLaws.antt draw the laws.
+-- A group's file has its facts, each with its plain meaning, and below them why each kind of step keeps them: a clause of step_keeps_GROUP (the last is of
+-- all steps whose guards aren't needed), or in the groups of the line a lemma STEP_keeps_GROUP. Each takes the guard of its step, the groups that it stands
+-- on and its own, nothing else: so each layer is inductive with those below it. Induction.antt puts them together over runs; LogTheorems.antt, StateLaws.antt and StepLaws.antt draw the laws.
 use Rattle.std.proofs.Common.{◌≡◌}
 use Rattle.log_protocol.specs.State.{State}
 use Rattle.log_protocol.specs.OpeningSteps.{Undoubted}

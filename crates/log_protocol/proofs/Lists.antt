@@ -9,7 +9,7 @@ use Rattle.log_protocol.specs.ServerSteps.{CanRaise, raises, CanFence, fences}
 use Rattle.log_protocol.specs.OwnerSteps.{CanSeal, seals, CanRestripe, restripes, CanRestart, restarts}
 use Rattle.log_protocol.specs.OpeningSteps.{CanBegin, begins, CanOpen, opens}
 use Rattle.log_protocol.specs.Step.{Step}
-use Rattle.log_protocol.specs.Step.Step.{Loses, Hears, Learns, Sends, Accepts, Accepts_again, Tells, Fills, Drops, Deletes, Raises, Fences, Seals, Restripes, Notes, Settles, Crashes, Restarts, Begins, Picks_none, Picks_kept, Picks_prior, Cuts, Opens, Serves}
+use Rattle.log_protocol.specs.Step.Step.{Deletes, Raises, Fences, Seals, Restripes, Restarts, Begins, Opens}
 use Rattle.log_protocol.proofs.Generations.{Generations}
 use Rattle.log_protocol.proofs.Texts.{Texts}
 
@@ -102,32 +102,16 @@ opens_keeps_lists w x text count server can generations texts lists = record {
 }
 
 pub step_keeps_lists : (w u : State) → Step w u → Generations w → Texts w → Lists w → Lists u
-step_keeps_lists w u (Loses v) generations texts lists = grind (arith, nat_tests)
-step_keeps_lists w u (Hears v g can) generations texts lists = grind (arith, nat_tests)
-step_keeps_lists w u (Learns map can) generations texts lists = grind (arith, nat_tests)
-step_keeps_lists w u (Sends x i can) generations texts lists = grind (arith, nat_tests)
-step_keeps_lists w u (Accepts p can) generations texts lists = grind (arith, nat_tests)
-step_keeps_lists w u (Accepts_again p can) generations texts lists = grind (arith, nat_tests)
-step_keeps_lists w u (Tells v x can) generations texts lists = grind (arith, nat_tests)
-step_keeps_lists w u (Fills v i p can) generations texts lists = grind (arith, nat_tests)
-step_keeps_lists w u (Drops x can) generations texts lists = grind (arith, nat_tests)
 step_keeps_lists w u (Deletes v x can) generations texts lists = grind (arith, nat_tests)
 step_keeps_lists w u (Raises low can) generations texts lists = raises_keeps_lists w low can generations texts lists
 step_keeps_lists w u (Fences v c can) generations texts lists = fences_keeps_lists w v c can generations texts lists
 step_keeps_lists w u (Seals x text count server content can) generations texts lists =
     seals_keeps_lists w x text count server content can generations texts lists
 step_keeps_lists w u (Restripes x text count server can) generations texts lists = restripes_keeps_lists w x text count server can generations texts lists
-step_keeps_lists w u (Notes p can) generations texts lists = grind (arith, nat_tests)
-step_keeps_lists w u (Settles can) generations texts lists = grind (arith, nat_tests)
-step_keeps_lists w u Crashes generations texts lists = grind (arith, nat_tests)
 step_keeps_lists w u (Restarts can) generations texts lists = restarts_keeps_lists w can generations texts lists
 step_keeps_lists w u (Begins can) generations texts lists = begins_keeps_lists w can generations texts lists
-step_keeps_lists w u (Picks_none list_of low can) generations texts lists = grind (arith, nat_tests)
-step_keeps_lists w u (Picks_kept list_of low x can) generations texts lists = grind (arith, nat_tests)
-step_keeps_lists w u (Picks_prior list_of low x i can) generations texts lists = grind (arith, nat_tests)
-step_keeps_lists w u (Cuts low can) generations texts lists = grind (arith, nat_tests)
 step_keeps_lists w u (Opens x text count server can) generations texts lists = opens_keeps_lists w x text count server can generations texts lists
-step_keeps_lists w u (Serves path lowest sure can) generations texts lists = grind (arith, nat_tests)
+step_keeps_lists w u step generations texts lists = grind (arith, nat_tests)
 
 pub new_log_lists : (servers : ℕ) (seq_of incarnation_of attempt_of : ℕ → ℕ) → Lists (new_log servers seq_of incarnation_of attempt_of)
 new_log_lists servers seq_of incarnation_of attempt_of = grind (arith, nat_tests)

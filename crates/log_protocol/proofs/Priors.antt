@@ -6,7 +6,7 @@ use Rattle.log_protocol.specs.Packets.{FencedPacket}
 use Rattle.log_protocol.specs.State.{State, Names, new_log}
 use Rattle.log_protocol.specs.OpeningSteps.{CanPickKept, picks_kept, CanPickPrior, picks_prior}
 use Rattle.log_protocol.specs.Step.{Step}
-use Rattle.log_protocol.specs.Step.Step.{Loses, Hears, Learns, Sends, Accepts, Accepts_again, Tells, Fills, Drops, Deletes, Raises, Fences, Seals, Restripes, Notes, Settles, Crashes, Restarts, Begins, Picks_none, Picks_kept, Picks_prior, Cuts, Opens, Serves}
+use Rattle.log_protocol.specs.Step.Step.{Seals, Restripes, Settles, Picks_none, Picks_kept, Picks_prior, Opens}
 use Rattle.log_protocol.proofs.Boots.{Boots}
 use Rattle.log_protocol.proofs.Lists.{Lists}
 use Rattle.log_protocol.proofs.Horizons.{Horizons}
@@ -112,33 +112,16 @@ picks_prior_keeps_priors w list_of low x i can names boots lists horizons secure
 
 pub step_keeps_priors : (w u : State) → Step w u → Names w.seq_of w.incarnation_of w.attempt_of → Boots w → Lists w → Horizons w → Secured w → Priors w
     → Priors u
-step_keeps_priors w u (Loses v) names boots lists horizons secured priors = grind (arith, nat_tests)
-step_keeps_priors w u (Hears v g can) names boots lists horizons secured priors = grind (arith, nat_tests)
-step_keeps_priors w u (Learns map can) names boots lists horizons secured priors = grind (arith, nat_tests)
-step_keeps_priors w u (Sends x i can) names boots lists horizons secured priors = grind (arith, nat_tests)
-step_keeps_priors w u (Accepts p can) names boots lists horizons secured priors = grind (arith, nat_tests)
-step_keeps_priors w u (Accepts_again p can) names boots lists horizons secured priors = grind (arith, nat_tests)
-step_keeps_priors w u (Tells v x can) names boots lists horizons secured priors = grind (arith, nat_tests)
-step_keeps_priors w u (Fills v i p can) names boots lists horizons secured priors = grind (arith, nat_tests)
-step_keeps_priors w u (Drops x can) names boots lists horizons secured priors = grind (arith, nat_tests)
-step_keeps_priors w u (Deletes v x can) names boots lists horizons secured priors = grind (arith, nat_tests)
-step_keeps_priors w u (Raises low can) names boots lists horizons secured priors = grind (arith, nat_tests)
-step_keeps_priors w u (Fences v c can) names boots lists horizons secured priors = grind (arith, nat_tests)
 step_keeps_priors w u (Seals x text count server content can) names boots lists horizons secured priors = grind (arith, nat_tests)
 step_keeps_priors w u (Restripes x text count server can) names boots lists horizons secured priors = grind (arith, nat_tests)
-step_keeps_priors w u (Notes p can) names boots lists horizons secured priors = grind (arith, nat_tests)
 step_keeps_priors w u (Settles can) names boots lists horizons secured priors = grind (arith, nat_tests)
-step_keeps_priors w u Crashes names boots lists horizons secured priors = grind (arith, nat_tests)
-step_keeps_priors w u (Restarts can) names boots lists horizons secured priors = grind (arith, nat_tests)
-step_keeps_priors w u (Begins can) names boots lists horizons secured priors = grind (arith, nat_tests)
 step_keeps_priors w u (Picks_none list_of low can) names boots lists horizons secured priors = grind (arith, nat_tests)
 step_keeps_priors w u (Picks_kept list_of low x can) names boots lists horizons secured priors =
     picks_kept_keeps_priors w list_of low x can names boots lists horizons secured priors
 step_keeps_priors w u (Picks_prior list_of low x i can) names boots lists horizons secured priors =
     picks_prior_keeps_priors w list_of low x i can names boots lists horizons secured priors
-step_keeps_priors w u (Cuts low can) names boots lists horizons secured priors = grind (arith, nat_tests)
 step_keeps_priors w u (Opens x text count server can) names boots lists horizons secured priors = grind (arith, nat_tests)
-step_keeps_priors w u (Serves path lowest sure can) names boots lists horizons secured priors = grind (arith, nat_tests)
+step_keeps_priors w u step names boots lists horizons secured priors = grind (arith, nat_tests)
 
 pub new_log_priors : (servers : ℕ) (seq_of incarnation_of attempt_of : ℕ → ℕ) → Priors (new_log servers seq_of incarnation_of attempt_of)
 new_log_priors servers seq_of incarnation_of attempt_of = grind (arith, nat_tests)

@@ -7,7 +7,7 @@ use Rattle.log_protocol.specs.Packets.{StoredPacket, FencedPacket}
 use Rattle.log_protocol.specs.State.{State, new_log}
 use Rattle.log_protocol.specs.OpeningSteps.{CanPickKept, picks_kept}
 use Rattle.log_protocol.specs.Step.{Step}
-use Rattle.log_protocol.specs.Step.Step.{Loses, Hears, Learns, Sends, Accepts, Accepts_again, Tells, Fills, Drops, Deletes, Raises, Fences, Seals, Restripes, Notes, Settles, Crashes, Restarts, Begins, Picks_none, Picks_kept, Picks_prior, Cuts, Opens, Serves}
+use Rattle.log_protocol.specs.Step.Step.{Accepts, Accepts_again, Deletes, Seals, Restripes, Notes, Settles, Picks_kept, Opens, Serves}
 use Rattle.log_protocol.proofs.Generations.{Generations}
 use Rattle.log_protocol.proofs.Boots.{Boots}
 use Rattle.log_protocol.proofs.Texts.{Texts}
@@ -40,32 +40,18 @@ picks_kept_keeps_secured w list_of low x can generations boots texts lists secur
     }
 
 pub step_keeps_secured : (w u : State) → Step w u → Generations w → Boots w → Texts w → Lists w → Secured w → Secured u
-step_keeps_secured w u (Loses v) generations boots texts lists secured = grind (arith, nat_tests)
-step_keeps_secured w u (Hears v g can) generations boots texts lists secured = grind (arith, nat_tests)
-step_keeps_secured w u (Learns map can) generations boots texts lists secured = grind (arith, nat_tests)
-step_keeps_secured w u (Sends x i can) generations boots texts lists secured = grind (arith, nat_tests)
 step_keeps_secured w u (Accepts p can) generations boots texts lists secured = grind (arith, nat_tests)
 step_keeps_secured w u (Accepts_again p can) generations boots texts lists secured = grind (arith, nat_tests)
-step_keeps_secured w u (Tells v x can) generations boots texts lists secured = grind (arith, nat_tests)
-step_keeps_secured w u (Fills v i p can) generations boots texts lists secured = grind (arith, nat_tests)
-step_keeps_secured w u (Drops x can) generations boots texts lists secured = grind (arith, nat_tests)
 step_keeps_secured w u (Deletes v x can) generations boots texts lists secured = grind (arith, nat_tests)
-step_keeps_secured w u (Raises low can) generations boots texts lists secured = grind (arith, nat_tests)
-step_keeps_secured w u (Fences v c can) generations boots texts lists secured = grind (arith, nat_tests)
 step_keeps_secured w u (Seals x text count server content can) generations boots texts lists secured = grind (arith, nat_tests)
 step_keeps_secured w u (Restripes x text count server can) generations boots texts lists secured = grind (arith, nat_tests)
 step_keeps_secured w u (Notes p can) generations boots texts lists secured = grind (arith, nat_tests)
 step_keeps_secured w u (Settles can) generations boots texts lists secured = grind (arith, nat_tests)
-step_keeps_secured w u Crashes generations boots texts lists secured = grind (arith, nat_tests)
-step_keeps_secured w u (Restarts can) generations boots texts lists secured = grind (arith, nat_tests)
-step_keeps_secured w u (Begins can) generations boots texts lists secured = grind (arith, nat_tests)
-step_keeps_secured w u (Picks_none list_of low can) generations boots texts lists secured = grind (arith, nat_tests)
 step_keeps_secured w u (Picks_kept list_of low x can) generations boots texts lists secured =
     picks_kept_keeps_secured w list_of low x can generations boots texts lists secured
-step_keeps_secured w u (Picks_prior list_of low x i can) generations boots texts lists secured = grind (arith, nat_tests)
-step_keeps_secured w u (Cuts low can) generations boots texts lists secured = grind (arith, nat_tests)
 step_keeps_secured w u (Opens x text count server can) generations boots texts lists secured = grind (arith, nat_tests)
 step_keeps_secured w u (Serves path lowest sure can) generations boots texts lists secured = grind (arith, nat_tests)
+step_keeps_secured w u step generations boots texts lists secured = grind (arith, nat_tests)
 
 pub new_log_secured : (servers : ℕ) (seq_of incarnation_of attempt_of : ℕ → ℕ) → Secured (new_log servers seq_of incarnation_of attempt_of)
 new_log_secured servers seq_of incarnation_of attempt_of = grind (arith, nat_tests)

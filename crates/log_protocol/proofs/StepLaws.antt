@@ -5,7 +5,7 @@ use Rattle.log_protocol.specs.State.{State}
 use Rattle.log_protocol.specs.ServerSteps.{loses}
 use Rattle.log_protocol.specs.OpeningSteps.{begins, CanServe, serves}
 use Rattle.log_protocol.specs.Step.{Step}
-use Rattle.log_protocol.specs.Step.Step.{Loses, Hears, Learns, Sends, Accepts, Accepts_again, Tells, Fills, Drops, Deletes, Raises, Fences, Seals, Restripes, Notes, Settles, Crashes, Restarts, Begins, Picks_none, Picks_kept, Picks_prior, Cuts, Opens, Serves}
+use Rattle.log_protocol.specs.Step.Step.{Loses, Raises, Seals, Settles, Crashes, Restarts, Begins, Picks_none, Picks_kept, Picks_prior, Cuts, Opens, Serves}
 use Rattle.log_protocol.specs.LogLaws.{Reached}
 use Rattle.log_protocol.specs.StepLaws.{NamesNew, FilesWhatWasRead, InSpan, HurtBefore, LacksHead, HurtEarned}
 use Rattle.log_protocol.proofs.Invariant.{Invariant}
@@ -91,47 +91,11 @@ no_crash n (inr h) = h
 
 step_hurt : (w u : State) → Step w u → Invariant w → w.clean ≡ 1 → HurtEarned w u
 step_hurt w u (Loses v) inv clean = λ j span some low hurt. lost_hurt w v j (record { not_serving = span.not_serving; begun = span.begun }) hurt
-step_hurt w u (Hears v g can) inv clean =
-    λ j span some low hurt. inl
-    (record { span = record { not_serving = span.not_serving; begun = span.begun }; span_low = refl; head = refl; line = refl; hurt = hurt })
-step_hurt w u (Learns map can) inv clean =
-    λ j span some low hurt. inl
-    (record { span = record { not_serving = span.not_serving; begun = span.begun }; span_low = refl; head = refl; line = refl; hurt = hurt })
-step_hurt w u (Sends x i can) inv clean =
-    λ j span some low hurt. inl
-    (record { span = record { not_serving = span.not_serving; begun = span.begun }; span_low = refl; head = refl; line = refl; hurt = hurt })
-step_hurt w u (Accepts p can) inv clean =
-    λ j span some low hurt. inl
-    (record { span = record { not_serving = span.not_serving; begun = span.begun }; span_low = refl; head = refl; line = refl; hurt = hurt })
-step_hurt w u (Accepts_again p can) inv clean =
-    λ j span some low hurt. inl
-    (record { span = record { not_serving = span.not_serving; begun = span.begun }; span_low = refl; head = refl; line = refl; hurt = hurt })
-step_hurt w u (Tells v x can) inv clean =
-    λ j span some low hurt. inl
-    (record { span = record { not_serving = span.not_serving; begun = span.begun }; span_low = refl; head = refl; line = refl; hurt = hurt })
-step_hurt w u (Fills v i p can) inv clean =
-    λ j span some low hurt. inl
-    (record { span = record { not_serving = span.not_serving; begun = span.begun }; span_low = refl; head = refl; line = refl; hurt = hurt })
-step_hurt w u (Drops x can) inv clean =
-    λ j span some low hurt. inl
-    (record { span = record { not_serving = span.not_serving; begun = span.begun }; span_low = refl; head = refl; line = refl; hurt = hurt })
-step_hurt w u (Deletes v x can) inv clean =
-    λ j span some low hurt. inl
-    (record { span = record { not_serving = span.not_serving; begun = span.begun }; span_low = refl; head = refl; line = refl; hurt = hurt })
 step_hurt w u (Raises low can) inv clean =
     λ j span some within hurt. inl
     (record { span = record { not_serving = span.not_serving; begun = span.begun }; span_low = refl; head = refl; line = refl; hurt = hurt })
-step_hurt w u (Fences v c can) inv clean =
-    λ j span some low hurt. inl
-    (record { span = record { not_serving = span.not_serving; begun = span.begun }; span_low = refl; head = refl; line = refl; hurt = hurt })
 step_hurt w u (Seals x text count server content can) inv clean =
     λ j span some low hurt. absurd (let a = can.serving in let b = span.not_serving in omega arith)
-step_hurt w u (Restripes x text count server can) inv clean =
-    λ j span some low hurt. inl
-    (record { span = record { not_serving = span.not_serving; begun = span.begun }; span_low = refl; head = refl; line = refl; hurt = hurt })
-step_hurt w u (Notes p can) inv clean =
-    λ j span some low hurt. inl
-    (record { span = record { not_serving = span.not_serving; begun = span.begun }; span_low = refl; head = refl; line = refl; hurt = hurt })
 step_hurt w u (Settles can) inv clean = λ j span some low hurt. absurd (let a = can.serving in let b = span.not_serving in omega arith)
 step_hurt w u Crashes inv clean =
     λ j span some low hurt. inl
@@ -154,6 +118,9 @@ step_hurt w u (Opens x text count server can) inv clean =
     λ j span some low hurt. inl
     (record { span = (let g = can.reading in opening_in_span w (omega arith) (omega arith)); span_low = refl; head = refl; line = refl; hurt = hurt })
 step_hurt w u (Serves path lowest sure can) inv clean = λ j span some low hurt. absurd (let b = span.not_serving in omega arith)
+step_hurt w u step inv clean =
+    λ j span some low hurt. inl
+    (record { span = record { not_serving = span.not_serving; begun = span.begun }; span_low = refl; head = refl; line = refl; hurt = hurt })
 
 pub hurt_earned_always : (w u : State) → Reached w → Step w u → w.clean ≡ 1 → HurtEarned w u
 hurt_earned_always w u reached step clean = step_hurt w u step (always w reached) clean

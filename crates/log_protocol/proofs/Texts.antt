@@ -8,7 +8,7 @@ use Rattle.log_protocol.specs.State.{State, new_log}
 use Rattle.log_protocol.specs.OwnerSteps.{CanSeal, seals, CanRestripe, restripes}
 use Rattle.log_protocol.specs.OpeningSteps.{CanOpen, opens}
 use Rattle.log_protocol.specs.Step.{Step}
-use Rattle.log_protocol.specs.Step.Step.{Loses, Hears, Learns, Sends, Accepts, Accepts_again, Tells, Fills, Drops, Deletes, Raises, Fences, Seals, Restripes, Notes, Settles, Crashes, Restarts, Begins, Picks_none, Picks_kept, Picks_prior, Cuts, Opens, Serves}
+use Rattle.log_protocol.specs.Step.Step.{Sends, Accepts, Tells, Fills, Seals, Restripes, Opens}
 use Rattle.log_protocol.proofs.Boots.{Boots}
 use Rattle.log_protocol.proofs.NewNames.{new_seal, new_restripe, new_opening}
 
@@ -64,31 +64,14 @@ opens_keeps_texts w x text count server can boots texts =
     grind (arith, nat_tests)
 
 pub step_keeps_texts : (w u : State) → Step w u → Boots w → Texts w → Texts u
-step_keeps_texts w u (Loses v) boots texts = grind (arith, nat_tests)
-step_keeps_texts w u (Hears v g can) boots texts = grind (arith, nat_tests)
-step_keeps_texts w u (Learns map can) boots texts = grind (arith, nat_tests)
 step_keeps_texts w u (Sends x i can) boots texts = grind (arith, nat_tests)
 step_keeps_texts w u (Accepts p can) boots texts = grind (arith, nat_tests)
-step_keeps_texts w u (Accepts_again p can) boots texts = grind (arith, nat_tests)
 step_keeps_texts w u (Tells v x can) boots texts = grind (arith, nat_tests)
 step_keeps_texts w u (Fills v i p can) boots texts = grind (arith, nat_tests)
-step_keeps_texts w u (Drops x can) boots texts = grind (arith, nat_tests)
-step_keeps_texts w u (Deletes v x can) boots texts = grind (arith, nat_tests)
-step_keeps_texts w u (Raises low can) boots texts = grind (arith, nat_tests)
-step_keeps_texts w u (Fences v c can) boots texts = grind (arith, nat_tests)
 step_keeps_texts w u (Seals x text count server content can) boots texts = seals_keeps_texts w x text count server content can boots texts
 step_keeps_texts w u (Restripes x text count server can) boots texts = restripes_keeps_texts w x text count server can boots texts
-step_keeps_texts w u (Notes p can) boots texts = grind (arith, nat_tests)
-step_keeps_texts w u (Settles can) boots texts = grind (arith, nat_tests)
-step_keeps_texts w u Crashes boots texts = grind (arith, nat_tests)
-step_keeps_texts w u (Restarts can) boots texts = grind (arith, nat_tests)
-step_keeps_texts w u (Begins can) boots texts = grind (arith, nat_tests)
-step_keeps_texts w u (Picks_none list_of low can) boots texts = grind (arith, nat_tests)
-step_keeps_texts w u (Picks_kept list_of low x can) boots texts = grind (arith, nat_tests)
-step_keeps_texts w u (Picks_prior list_of low x i can) boots texts = grind (arith, nat_tests)
-step_keeps_texts w u (Cuts low can) boots texts = grind (arith, nat_tests)
 step_keeps_texts w u (Opens x text count server can) boots texts = opens_keeps_texts w x text count server can boots texts
-step_keeps_texts w u (Serves path lowest sure can) boots texts = grind (arith, nat_tests)
+step_keeps_texts w u step boots texts = grind (arith, nat_tests)
 
 pub new_log_texts : (servers : ℕ) (seq_of incarnation_of attempt_of : ℕ → ℕ) → Texts (new_log servers seq_of incarnation_of attempt_of)
 new_log_texts servers seq_of incarnation_of attempt_of = grind (arith, nat_tests)

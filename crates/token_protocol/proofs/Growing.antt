@@ -5,38 +5,15 @@ use Rattle.std.proofs.lemmas.Bool.Decides.{nat_tests}
 use Rattle.token_protocol.specs.World.{World, start}
 use Rattle.token_protocol.specs.Growth.{Grows}
 use Rattle.token_protocol.specs.Step.{Step, Steps}
-use Rattle.token_protocol.specs.Step.Step.{Asks, AsksAgain, DropsWant, DropsFetch, Offers, Recalls, WritesFirst, Declines, TakesAbsent, TakesSupply, TakesPlace, Fetches, Writes, Reads, Syncs, Evicts, Gives, GivesAgain, Notes, Applies, Turns, SealsWith, Seals, Settles, CrashesDirty, CrashesClean, RestartsAdopting, RestartsDiscarding, Promises, Reports, Activates, SealsCopy, SealsOther, SettlesCopy, DiscardsCopy, Loses}
+use Rattle.token_protocol.specs.Step.Step.{WritesFirst, Writes, Applies, RestartsAdopting, RestartsDiscarding, Promises, Activates, Loses}
 use Rattle.token_protocol.specs.Step.Steps.{Done, More}
 use Rattle.token_protocol.proofs.Invariant.{Invariant, keeps, always}
 
 -- Each step.
 grows_step : (w v : World) → Step true w v → Invariant w → Grows w v
-grows_step w v (Asks who mode request end h k) i = grind (arith, nat_tests)
-grows_step w v (AsksAgain who end h k) i = grind (arith, nat_tests)
-grows_step w v (DropsWant who) i = grind (arith, nat_tests)
-grows_step w v (DropsFetch who) i = grind (arith, nat_tests)
-grows_step w v (Offers asked h k) i = grind (arith, nat_tests)
-grows_step w v (Recalls who keep h) i = grind (arith, nat_tests)
 grows_step w v (WritesFirst taken value h) i = grind (arith, nat_tests, i.content.versions.join_newest)
-grows_step w v (Declines taken h) i = grind (arith, nat_tests)
-grows_step w v (TakesAbsent taken h t) i = grind (arith, nat_tests)
-grows_step w v (TakesSupply taken value h t) i = grind (arith, nat_tests)
-grows_step w v (TakesPlace taken h t) i = grind (arith, nat_tests)
-grows_step w v (Fetches who value h k) i = grind (arith, nat_tests)
 grows_step w v (Writes who value h) i = grind (arith, nat_tests, i.content.versions.join_newest)
-grows_step w v (Reads who h) i = grind (arith, nat_tests)
-grows_step w v (Syncs who version h) i = grind (arith, nat_tests)
-grows_step w v (Evicts who h) i = grind (arith, nat_tests)
-grows_step w v (Gives answered end h k) i = grind (arith, nat_tests)
-grows_step w v (GivesAgain answered end h k) i = grind (arith, nat_tests)
-grows_step w v (Notes noted h) i = grind (arith, nat_tests)
 grows_step w v (Applies who upto e h k) i = grind (arith, nat_tests)
-grows_step w v Turns i = grind (arith, nat_tests)
-grows_step w v (SealsWith who h) i = grind (arith, nat_tests)
-grows_step w v (Seals who h) i = grind (arith, nat_tests)
-grows_step w v (Settles who h k) i = grind (arith, nat_tests)
-grows_step w v (CrashesDirty who h) i = grind (arith, nat_tests)
-grows_step w v (CrashesClean who h) i = grind (arith, nat_tests)
 grows_step w v (RestartsAdopting who incarnation promised h k) i = grind (
   arith,
   nat_tests,
@@ -52,13 +29,9 @@ grows_step w v (RestartsDiscarding who incarnation promised h) i = grind (
   i.content.versions.fallen_high who,
 )
 grows_step w v (Promises who epoch h) i = grind (arith, nat_tests)
-grows_step w v (Reports who end h k) i = grind (arith, nat_tests)
 grows_step w v (Activates epoch report applied e h k) i = grind (arith, nat_tests)
-grows_step w v (SealsCopy who log segment h k) i = grind (arith, nat_tests)
-grows_step w v (SealsOther who h) i = grind (arith, nat_tests)
-grows_step w v (SettlesCopy who h) i = grind (arith, nat_tests)
-grows_step w v (DiscardsCopy who h) i = grind (arith, nat_tests)
 grows_step w v (Loses x h) i = absurd (true≢false h)
+grows_step w v step i = grind (arith, nat_tests)
 
 same : (w : World) → Grows w w
 same w = grind arith

@@ -12,7 +12,7 @@
 -- Layers 1 to 3, and Idle of layer 7, ask no premise on logs, and hold where logs lose what they held. A takeover is a step like any other: what
 -- reports must say for it stands in the groups Promising, Reporting, Believing, Fallen and Behind. The cleaner's copies stand in Joined.
 -- Each group is one file of `layers/`: its facts, each with its meaning; the steps that want a hint, each a lemma `STEP_keeps_GROUP`; and `keeps`,
--- a clause for each step.
+-- a clause for each step whose guard is needed, and one for all the others.
 use Rattle.std.proofs.Common.{ℕ, Bool, true}
 use Rattle.token_protocol.specs.World.{World, start}
 use Rattle.token_protocol.specs.Step.{Step, Steps}

@@ -7,7 +7,7 @@ use Rattle.token_protocol.specs.Acts.{Act, History, LegalActs, LegalFrom, LegalF
 use Rattle.token_protocol.specs.Crashing.{MayCrashDirty}
 use Rattle.token_protocol.specs.Told.{tells, told}
 use Rattle.token_protocol.specs.Step.{Step, Steps}
-use Rattle.token_protocol.specs.Step.Step.{Asks, AsksAgain, DropsWant, DropsFetch, Offers, Recalls, WritesFirst, Declines, TakesAbsent, TakesSupply, TakesPlace, Fetches, Writes, Reads, Syncs, Evicts, Gives, GivesAgain, Notes, Applies, Turns, SealsWith, Seals, Settles, CrashesDirty, CrashesClean, RestartsAdopting, RestartsDiscarding, Promises, Reports, Activates, SealsCopy, SealsOther, SettlesCopy, DiscardsCopy, Loses}
+use Rattle.token_protocol.specs.Step.Step.{WritesFirst, Writes, Reads, Syncs, CrashesDirty, RestartsAdopting, RestartsDiscarding, Loses}
 use Rattle.token_protocol.specs.Step.Steps.{Done, More}
 use Rattle.token_protocol.proofs.Invariant.{Invariant, keeps, begins}
 use Rattle.token_protocol.proofs.Laws.{dirty_leads, falls_legal, returns_legal}
@@ -69,18 +69,7 @@ back w who h i m =
 
 -- What a step tells is legal in the world's history.
 legal_step : (w v : World) (step : Step true w v) (past : History) → Invariant w → Matches past w → Legal past (tells w v step) v
-legal_step w v (Asks who mode request end h k) past i m = record { matches = m; legal = tt }
-legal_step w v (AsksAgain who end h k) past i m = record { matches = m; legal = tt }
-legal_step w v (DropsWant who) past i m = record { matches = m; legal = tt }
-legal_step w v (DropsFetch who) past i m = record { matches = m; legal = tt }
-legal_step w v (Offers asked h k) past i m = record { matches = m; legal = tt }
-legal_step w v (Recalls who keep h) past i m = record { matches = m; legal = tt }
 legal_step w v (WritesFirst taken value h) past i m = record { matches = grind (arith, nat_tests); legal = (tt, tt) }
-legal_step w v (Declines taken h) past i m = record { matches = m; legal = tt }
-legal_step w v (TakesAbsent taken h t) past i m = record { matches = m; legal = tt }
-legal_step w v (TakesSupply taken value h t) past i m = record { matches = m; legal = tt }
-legal_step w v (TakesPlace taken h t) past i m = record { matches = m; legal = tt }
-legal_step w v (Fetches who value h k) past i m = record { matches = m; legal = tt }
 legal_step w v (Writes who value h) past i m = record { matches = grind (arith, nat_tests); legal = (tt, tt) }
 legal_step w v (Reads who h) past i m = record {
   matches = grind (arith, nat_tests);
@@ -102,27 +91,11 @@ legal_step w v (Reads who h) past i m = record {
   );
 }
 legal_step w v (Syncs who version h) past i m = record { matches = grind (arith, nat_tests); legal = (tt, tt) }
-legal_step w v (Evicts who h) past i m = record { matches = m; legal = tt }
-legal_step w v (Gives answered end h k) past i m = record { matches = m; legal = tt }
-legal_step w v (GivesAgain answered end h k) past i m = record { matches = m; legal = tt }
-legal_step w v (Notes noted h) past i m = record { matches = m; legal = tt }
-legal_step w v (Applies who upto e h k) past i m = record { matches = m; legal = tt }
-legal_step w v Turns past i m = record { matches = m; legal = tt }
-legal_step w v (SealsWith who h) past i m = record { matches = m; legal = tt }
-legal_step w v (Seals who h) past i m = record { matches = m; legal = tt }
-legal_step w v (Settles who h k) past i m = record { matches = m; legal = tt }
 legal_step w v (CrashesDirty who h) past i m = record { matches = grind (arith, nat_tests); legal = (fall w who past i m h, tt) }
-legal_step w v (CrashesClean who h) past i m = record { matches = m; legal = tt }
 legal_step w v (RestartsAdopting who incarnation promised h k) past i m = record { matches = grind (arith, nat_tests); legal = (back w who past i m, tt) }
 legal_step w v (RestartsDiscarding who incarnation promised h) past i m = record { matches = grind (arith, nat_tests); legal = (back w who past i m, tt) }
-legal_step w v (Promises who epoch h) past i m = record { matches = m; legal = tt }
-legal_step w v (Reports who end h k) past i m = record { matches = m; legal = tt }
-legal_step w v (Activates epoch report applied e h k) past i m = record { matches = m; legal = tt }
-legal_step w v (SealsCopy who log segment h k) past i m = record { matches = m; legal = tt }
-legal_step w v (SealsOther who h) past i m = record { matches = m; legal = tt }
-legal_step w v (SettlesCopy who h) past i m = record { matches = m; legal = tt }
-legal_step w v (DiscardsCopy who h) past i m = record { matches = m; legal = tt }
 legal_step w v (Loses x h) past i m = absurd (true≢false h)
+legal_step w v step past i m = record { matches = m; legal = tt }
 
 legal_steps : (w v : World) (steps : Steps true w v) (h : History) → Invariant w → Matches h w → Legal h (told w v steps) v × Invariant v
 legal_steps w v Done h i m = (record { matches = m; legal = tt }, i)

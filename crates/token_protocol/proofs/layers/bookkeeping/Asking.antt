@@ -6,7 +6,7 @@ use Rattle.token_protocol.specs.Packets.{Want}
 use Rattle.token_protocol.specs.World.{World, start, Dirty}
 use Rattle.token_protocol.specs.Asking.{MayAsk, MayAskAgain, asks, asks_again}
 use Rattle.token_protocol.specs.Step.{Step}
-use Rattle.token_protocol.specs.Step.Step.{Asks, AsksAgain, DropsWant, DropsFetch, Offers, Recalls, WritesFirst, Declines, TakesAbsent, TakesSupply, TakesPlace, Fetches, Writes, Reads, Syncs, Evicts, Gives, GivesAgain, Notes, Applies, Turns, SealsWith, Seals, Settles, CrashesDirty, CrashesClean, RestartsAdopting, RestartsDiscarding, Promises, Reports, Activates, SealsCopy, SealsOther, SettlesCopy, DiscardsCopy, Loses}
+use Rattle.token_protocol.specs.Step.Step.{Asks, AsksAgain, TakesPlace, Writes, Evicts, Gives, RestartsAdopting, RestartsDiscarding}
 use Rattle.token_protocol.proofs.layers.bookkeeping.Serving.{Serving}
 
 pub record Asking (w : World) : Type 0 where
@@ -54,40 +54,13 @@ ask_again_keeps_asking w who end h serving asking = record {
 pub keeps : (logs : Bool) (w v : World) → Step logs w v → Serving w → Asking w → Asking v
 keeps logs w v (Asks who mode request end h k) serving asking = ask_keeps_asking w who mode request end h serving asking
 keeps logs w v (AsksAgain who end h k) serving asking = ask_again_keeps_asking w who end h serving asking
-keeps logs w v (DropsWant who) serving asking = grind (arith, nat_tests)
-keeps logs w v (DropsFetch who) serving asking = grind (arith, nat_tests)
-keeps logs w v (Offers asked h k) serving asking = grind (arith, nat_tests)
-keeps logs w v (Recalls who keep h) serving asking = grind (arith, nat_tests)
-keeps logs w v (WritesFirst taken value h) serving asking = grind (arith, nat_tests)
-keeps logs w v (Declines taken h) serving asking = grind (arith, nat_tests)
-keeps logs w v (TakesAbsent taken h t) serving asking = grind (arith, nat_tests)
-keeps logs w v (TakesSupply taken value h t) serving asking = grind (arith, nat_tests)
 keeps logs w v (TakesPlace taken h t) serving asking = grind (arith, nat_tests)
-keeps logs w v (Fetches who value h k) serving asking = grind (arith, nat_tests)
 keeps logs w v (Writes who value h) serving asking = grind (arith, nat_tests)
-keeps logs w v (Reads who h) serving asking = grind (arith, nat_tests)
-keeps logs w v (Syncs who version h) serving asking = grind (arith, nat_tests)
 keeps logs w v (Evicts who h) serving asking = grind (arith, nat_tests)
 keeps logs w v (Gives answered end h k) serving asking = grind (arith, nat_tests)
-keeps logs w v (GivesAgain answered end h k) serving asking = grind (arith, nat_tests)
-keeps logs w v (Notes noted h) serving asking = grind (arith, nat_tests)
-keeps logs w v (Applies who upto e h k) serving asking = grind (arith, nat_tests)
-keeps logs w v Turns serving asking = grind (arith, nat_tests)
-keeps logs w v (SealsWith who h) serving asking = grind (arith, nat_tests)
-keeps logs w v (Seals who h) serving asking = grind (arith, nat_tests)
-keeps logs w v (Settles who h k) serving asking = grind (arith, nat_tests)
-keeps logs w v (CrashesDirty who h) serving asking = grind (arith, nat_tests)
-keeps logs w v (CrashesClean who h) serving asking = grind (arith, nat_tests)
 keeps logs w v (RestartsAdopting who incarnation promised h k) serving asking = grind (arith, nat_tests)
 keeps logs w v (RestartsDiscarding who incarnation promised h) serving asking = grind (arith, nat_tests)
-keeps logs w v (Promises who epoch h) serving asking = grind (arith, nat_tests)
-keeps logs w v (Reports who end h k) serving asking = grind (arith, nat_tests)
-keeps logs w v (Activates epoch report applied e h k) serving asking = grind (arith, nat_tests)
-keeps logs w v (SealsCopy who log segment h k) serving asking = grind (arith, nat_tests)
-keeps logs w v (SealsOther who h) serving asking = grind (arith, nat_tests)
-keeps logs w v (SettlesCopy who h) serving asking = grind (arith, nat_tests)
-keeps logs w v (DiscardsCopy who h) serving asking = grind (arith, nat_tests)
-keeps logs w v (Loses x h) serving asking = grind (arith, nat_tests)
+keeps logs w v step serving asking = grind (arith, nat_tests)
 
 pub begins : (n : ℕ) → Asking (start n)
 begins n = record {

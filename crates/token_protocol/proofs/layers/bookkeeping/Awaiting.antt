@@ -6,7 +6,7 @@ use Rattle.token_protocol.specs.Packets.{Offer, Recall}
 use Rattle.token_protocol.specs.World.{World, start}
 use Rattle.token_protocol.specs.Managing.{MayRecall, recalls}
 use Rattle.token_protocol.specs.Step.{Step}
-use Rattle.token_protocol.specs.Step.Step.{Asks, AsksAgain, DropsWant, DropsFetch, Offers, Recalls, WritesFirst, Declines, TakesAbsent, TakesSupply, TakesPlace, Fetches, Writes, Reads, Syncs, Evicts, Gives, GivesAgain, Notes, Applies, Turns, SealsWith, Seals, Settles, CrashesDirty, CrashesClean, RestartsAdopting, RestartsDiscarding, Promises, Reports, Activates, SealsCopy, SealsOther, SettlesCopy, DiscardsCopy, Loses}
+use Rattle.token_protocol.specs.Step.Step.{Offers, Recalls, WritesFirst, Declines, TakesAbsent, TakesSupply, TakesPlace, Gives}
 use Rattle.token_protocol.proofs.layers.bookkeeping.Stamps.{Stamps}
 
 pub record Awaiting (w : World) : Type 0 where
@@ -31,10 +31,6 @@ recall_keeps_awaiting w who keep h stamps awaiting = record {
 }
 
 pub keeps : (logs : Bool) (w v : World) → Step logs w v → Stamps w → Awaiting w → Awaiting v
-keeps logs w v (Asks who mode request end h k) stamps awaiting = grind (arith, nat_tests)
-keeps logs w v (AsksAgain who end h k) stamps awaiting = grind (arith, nat_tests)
-keeps logs w v (DropsWant who) stamps awaiting = grind (arith, nat_tests)
-keeps logs w v (DropsFetch who) stamps awaiting = grind (arith, nat_tests)
 keeps logs w v (Offers asked h k) stamps awaiting = grind (arith, nat_tests)
 keeps logs w v (Recalls who keep h) stamps awaiting = recall_keeps_awaiting w who keep h stamps awaiting
 keeps logs w v (WritesFirst taken value h) stamps awaiting = grind (arith, nat_tests)
@@ -42,31 +38,8 @@ keeps logs w v (Declines taken h) stamps awaiting = grind (arith, nat_tests)
 keeps logs w v (TakesAbsent taken h t) stamps awaiting = grind (arith, nat_tests)
 keeps logs w v (TakesSupply taken value h t) stamps awaiting = grind (arith, nat_tests)
 keeps logs w v (TakesPlace taken h t) stamps awaiting = grind (arith, nat_tests)
-keeps logs w v (Fetches who value h k) stamps awaiting = grind (arith, nat_tests)
-keeps logs w v (Writes who value h) stamps awaiting = grind (arith, nat_tests)
-keeps logs w v (Reads who h) stamps awaiting = grind (arith, nat_tests)
-keeps logs w v (Syncs who version h) stamps awaiting = grind (arith, nat_tests)
-keeps logs w v (Evicts who h) stamps awaiting = grind (arith, nat_tests)
 keeps logs w v (Gives answered end h k) stamps awaiting = grind (arith, nat_tests)
-keeps logs w v (GivesAgain answered end h k) stamps awaiting = grind (arith, nat_tests)
-keeps logs w v (Notes noted h) stamps awaiting = grind (arith, nat_tests)
-keeps logs w v (Applies who upto e h k) stamps awaiting = grind (arith, nat_tests)
-keeps logs w v Turns stamps awaiting = grind (arith, nat_tests)
-keeps logs w v (SealsWith who h) stamps awaiting = grind (arith, nat_tests)
-keeps logs w v (Seals who h) stamps awaiting = grind (arith, nat_tests)
-keeps logs w v (Settles who h k) stamps awaiting = grind (arith, nat_tests)
-keeps logs w v (CrashesDirty who h) stamps awaiting = grind (arith, nat_tests)
-keeps logs w v (CrashesClean who h) stamps awaiting = grind (arith, nat_tests)
-keeps logs w v (RestartsAdopting who incarnation promised h k) stamps awaiting = grind (arith, nat_tests)
-keeps logs w v (RestartsDiscarding who incarnation promised h) stamps awaiting = grind (arith, nat_tests)
-keeps logs w v (Promises who epoch h) stamps awaiting = grind (arith, nat_tests)
-keeps logs w v (Reports who end h k) stamps awaiting = grind (arith, nat_tests)
-keeps logs w v (Activates epoch report applied e h k) stamps awaiting = grind (arith, nat_tests)
-keeps logs w v (SealsCopy who log segment h k) stamps awaiting = grind (arith, nat_tests)
-keeps logs w v (SealsOther who h) stamps awaiting = grind (arith, nat_tests)
-keeps logs w v (SettlesCopy who h) stamps awaiting = grind (arith, nat_tests)
-keeps logs w v (DiscardsCopy who h) stamps awaiting = grind (arith, nat_tests)
-keeps logs w v (Loses x h) stamps awaiting = grind (arith, nat_tests)
+keeps logs w v step stamps awaiting = grind (arith, nat_tests)
 
 pub begins : (n : ℕ) → Awaiting (start n)
 begins n = record {

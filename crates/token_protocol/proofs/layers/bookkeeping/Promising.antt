@@ -7,7 +7,7 @@ use Rattle.token_protocol.specs.Packets.{Report}
 use Rattle.token_protocol.specs.World.{World, start}
 use Rattle.token_protocol.specs.Takeover.{MayReport, MayActivate, reports, activates}
 use Rattle.token_protocol.specs.Step.{Step}
-use Rattle.token_protocol.specs.Step.Step.{Asks, AsksAgain, DropsWant, DropsFetch, Offers, Recalls, WritesFirst, Declines, TakesAbsent, TakesSupply, TakesPlace, Fetches, Writes, Reads, Syncs, Evicts, Gives, GivesAgain, Notes, Applies, Turns, SealsWith, Seals, Settles, CrashesDirty, CrashesClean, RestartsAdopting, RestartsDiscarding, Promises, Reports, Activates, SealsCopy, SealsOther, SettlesCopy, DiscardsCopy, Loses}
+use Rattle.token_protocol.specs.Step.Step.{TakesPlace, RestartsAdopting, RestartsDiscarding, Promises, Reports, Activates}
 use Rattle.token_protocol.proofs.layers.bookkeeping.Serving.{Serving}
 
 pub record Promising (w : World) : Type 0 where
@@ -38,42 +38,13 @@ activate_keeps_promising w epoch report applied e h serving promising = record {
 }
 
 pub keeps : (logs : Bool) (w v : World) → Step logs w v → Serving w → Promising w → Promising v
-keeps logs w v (Asks who mode request end h k) serving promising = grind (arith, nat_tests)
-keeps logs w v (AsksAgain who end h k) serving promising = grind (arith, nat_tests)
-keeps logs w v (DropsWant who) serving promising = grind (arith, nat_tests)
-keeps logs w v (DropsFetch who) serving promising = grind (arith, nat_tests)
-keeps logs w v (Offers asked h k) serving promising = grind (arith, nat_tests)
-keeps logs w v (Recalls who keep h) serving promising = grind (arith, nat_tests)
-keeps logs w v (WritesFirst taken value h) serving promising = grind (arith, nat_tests)
-keeps logs w v (Declines taken h) serving promising = grind (arith, nat_tests)
-keeps logs w v (TakesAbsent taken h t) serving promising = grind (arith, nat_tests)
-keeps logs w v (TakesSupply taken value h t) serving promising = grind (arith, nat_tests)
 keeps logs w v (TakesPlace taken h t) serving promising = grind (arith, nat_tests)
-keeps logs w v (Fetches who value h k) serving promising = grind (arith, nat_tests)
-keeps logs w v (Writes who value h) serving promising = grind (arith, nat_tests)
-keeps logs w v (Reads who h) serving promising = grind (arith, nat_tests)
-keeps logs w v (Syncs who version h) serving promising = grind (arith, nat_tests)
-keeps logs w v (Evicts who h) serving promising = grind (arith, nat_tests)
-keeps logs w v (Gives answered end h k) serving promising = grind (arith, nat_tests)
-keeps logs w v (GivesAgain answered end h k) serving promising = grind (arith, nat_tests)
-keeps logs w v (Notes noted h) serving promising = grind (arith, nat_tests)
-keeps logs w v (Applies who upto e h k) serving promising = grind (arith, nat_tests)
-keeps logs w v Turns serving promising = grind (arith, nat_tests)
-keeps logs w v (SealsWith who h) serving promising = grind (arith, nat_tests)
-keeps logs w v (Seals who h) serving promising = grind (arith, nat_tests)
-keeps logs w v (Settles who h k) serving promising = grind (arith, nat_tests)
-keeps logs w v (CrashesDirty who h) serving promising = grind (arith, nat_tests)
-keeps logs w v (CrashesClean who h) serving promising = grind (arith, nat_tests)
 keeps logs w v (RestartsAdopting who incarnation promised h k) serving promising = grind (arith, nat_tests)
 keeps logs w v (RestartsDiscarding who incarnation promised h) serving promising = grind (arith, nat_tests)
 keeps logs w v (Promises who epoch h) serving promising = grind (arith, nat_tests)
 keeps logs w v (Reports who end h k) serving promising = report_keeps_promising w who end h serving promising
 keeps logs w v (Activates epoch report applied e h k) serving promising = activate_keeps_promising w epoch report applied e h serving promising
-keeps logs w v (SealsCopy who log segment h k) serving promising = grind (arith, nat_tests)
-keeps logs w v (SealsOther who h) serving promising = grind (arith, nat_tests)
-keeps logs w v (SettlesCopy who h) serving promising = grind (arith, nat_tests)
-keeps logs w v (DiscardsCopy who h) serving promising = grind (arith, nat_tests)
-keeps logs w v (Loses x h) serving promising = grind (arith, nat_tests)
+keeps logs w v step serving promising = grind (arith, nat_tests)
 
 pub begins : (n : ℕ) → Promising (start n)
 begins n = record {

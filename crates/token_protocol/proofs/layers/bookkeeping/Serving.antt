@@ -3,7 +3,7 @@ use Rattle.std.proofs.Common.{◌≡◌, ◌≤◌, ℕ, Bool, arith}
 use Rattle.std.proofs.lemmas.Bool.Decides.{nat_tests}
 use Rattle.token_protocol.specs.World.{World, start}
 use Rattle.token_protocol.specs.Step.{Step}
-use Rattle.token_protocol.specs.Step.Step.{Asks, AsksAgain, DropsWant, DropsFetch, Offers, Recalls, WritesFirst, Declines, TakesAbsent, TakesSupply, TakesPlace, Fetches, Writes, Reads, Syncs, Evicts, Gives, GivesAgain, Notes, Applies, Turns, SealsWith, Seals, Settles, CrashesDirty, CrashesClean, RestartsAdopting, RestartsDiscarding, Promises, Reports, Activates, SealsCopy, SealsOther, SettlesCopy, DiscardsCopy, Loses}
+use Rattle.token_protocol.specs.Step.Step.{Asks, WritesFirst, TakesAbsent, TakesSupply, TakesPlace, Fetches, RestartsAdopting, RestartsDiscarding}
 
 pub record Serving (w : World) : Type 0 where
   -- A client serves or doesn't.
@@ -19,41 +19,14 @@ pub record Serving (w : World) : Type 0 where
 
 pub keeps : (logs : Bool) (w v : World) → Step logs w v → Serving w → Serving v
 keeps logs w v (Asks who mode request end h k) serving = grind (arith, nat_tests)
-keeps logs w v (AsksAgain who end h k) serving = grind (arith, nat_tests)
-keeps logs w v (DropsWant who) serving = grind (arith, nat_tests)
-keeps logs w v (DropsFetch who) serving = grind (arith, nat_tests)
-keeps logs w v (Offers asked h k) serving = grind (arith, nat_tests)
-keeps logs w v (Recalls who keep h) serving = grind (arith, nat_tests)
 keeps logs w v (WritesFirst taken value h) serving = grind (arith, nat_tests)
-keeps logs w v (Declines taken h) serving = grind (arith, nat_tests)
 keeps logs w v (TakesAbsent taken h t) serving = grind (arith, nat_tests)
 keeps logs w v (TakesSupply taken value h t) serving = grind (arith, nat_tests)
 keeps logs w v (TakesPlace taken h t) serving = grind (arith, nat_tests)
 keeps logs w v (Fetches who value h k) serving = grind (arith, nat_tests)
-keeps logs w v (Writes who value h) serving = grind (arith, nat_tests)
-keeps logs w v (Reads who h) serving = grind (arith, nat_tests)
-keeps logs w v (Syncs who version h) serving = grind (arith, nat_tests)
-keeps logs w v (Evicts who h) serving = grind (arith, nat_tests)
-keeps logs w v (Gives answered end h k) serving = grind (arith, nat_tests)
-keeps logs w v (GivesAgain answered end h k) serving = grind (arith, nat_tests)
-keeps logs w v (Notes noted h) serving = grind (arith, nat_tests)
-keeps logs w v (Applies who upto e h k) serving = grind (arith, nat_tests)
-keeps logs w v Turns serving = grind (arith, nat_tests)
-keeps logs w v (SealsWith who h) serving = grind (arith, nat_tests)
-keeps logs w v (Seals who h) serving = grind (arith, nat_tests)
-keeps logs w v (Settles who h k) serving = grind (arith, nat_tests)
-keeps logs w v (CrashesDirty who h) serving = grind (arith, nat_tests)
-keeps logs w v (CrashesClean who h) serving = grind (arith, nat_tests)
 keeps logs w v (RestartsAdopting who incarnation promised h k) serving = grind (arith, nat_tests)
 keeps logs w v (RestartsDiscarding who incarnation promised h) serving = grind (arith, nat_tests)
-keeps logs w v (Promises who epoch h) serving = grind (arith, nat_tests)
-keeps logs w v (Reports who end h k) serving = grind (arith, nat_tests)
-keeps logs w v (Activates epoch report applied e h k) serving = grind (arith, nat_tests)
-keeps logs w v (SealsCopy who log segment h k) serving = grind (arith, nat_tests)
-keeps logs w v (SealsOther who h) serving = grind (arith, nat_tests)
-keeps logs w v (SettlesCopy who h) serving = grind (arith, nat_tests)
-keeps logs w v (DiscardsCopy who h) serving = grind (arith, nat_tests)
-keeps logs w v (Loses x h) serving = grind (arith, nat_tests)
+keeps logs w v step serving = grind (arith, nat_tests)
 
 pub begins : (n : ℕ) → Serving (start n)
 begins n = record {

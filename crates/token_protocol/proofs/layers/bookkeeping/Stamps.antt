@@ -9,7 +9,7 @@ use Rattle.token_protocol.specs.Managing.{MayOffer, MayRecall, offers, recalls, 
 use Rattle.token_protocol.specs.Taking.{MayTake, writes_first, declines, takes_value, takes_place}
 use Rattle.token_protocol.specs.Giving.{MayGive, MayGiveAgain, gives, gives_again}
 use Rattle.token_protocol.specs.Step.{Step}
-use Rattle.token_protocol.specs.Step.Step.{Asks, AsksAgain, DropsWant, DropsFetch, Offers, Recalls, WritesFirst, Declines, TakesAbsent, TakesSupply, TakesPlace, Fetches, Writes, Reads, Syncs, Evicts, Gives, GivesAgain, Notes, Applies, Turns, SealsWith, Seals, Settles, CrashesDirty, CrashesClean, RestartsAdopting, RestartsDiscarding, Promises, Reports, Activates, SealsCopy, SealsOther, SettlesCopy, DiscardsCopy, Loses}
+use Rattle.token_protocol.specs.Step.Step.{Offers, Recalls, WritesFirst, Declines, TakesAbsent, TakesSupply, TakesPlace, Gives, GivesAgain, Turns}
 use Rattle.token_protocol.proofs.layers.bookkeeping.Serving.{Serving}
 
 pub record Stamps (w : World) : Type 0 where
@@ -148,10 +148,6 @@ turn_keeps_stamps w serving stamps = record {
 }
 
 pub keeps : (logs : Bool) (w v : World) → Step logs w v → Serving w → Stamps w → Stamps v
-keeps logs w v (Asks who mode request end h k) serving stamps = grind (arith, nat_tests)
-keeps logs w v (AsksAgain who end h k) serving stamps = grind (arith, nat_tests)
-keeps logs w v (DropsWant who) serving stamps = grind (arith, nat_tests)
-keeps logs w v (DropsFetch who) serving stamps = grind (arith, nat_tests)
 keeps logs w v (Offers asked h k) serving stamps = offer_keeps_stamps w asked h serving stamps
 keeps logs w v (Recalls who keep h) serving stamps = recall_keeps_stamps w who keep h serving stamps
 keeps logs w v (WritesFirst taken value h) serving stamps = write_first_keeps_stamps w taken value h stamps
@@ -159,31 +155,10 @@ keeps logs w v (Declines taken h) serving stamps = decline_keeps_stamps w taken 
 keeps logs w v (TakesAbsent taken h t) serving stamps = take_value_keeps_stamps w taken 0 h stamps
 keeps logs w v (TakesSupply taken value h t) serving stamps = take_value_keeps_stamps w taken value h stamps
 keeps logs w v (TakesPlace taken h t) serving stamps = take_place_keeps_stamps w taken h stamps
-keeps logs w v (Fetches who value h k) serving stamps = grind (arith, nat_tests)
-keeps logs w v (Writes who value h) serving stamps = grind (arith, nat_tests)
-keeps logs w v (Reads who h) serving stamps = grind (arith, nat_tests)
-keeps logs w v (Syncs who version h) serving stamps = grind (arith, nat_tests)
-keeps logs w v (Evicts who h) serving stamps = grind (arith, nat_tests)
 keeps logs w v (Gives answered end h k) serving stamps = give_keeps_stamps w answered end h serving stamps
 keeps logs w v (GivesAgain answered end h k) serving stamps = give_again_keeps_stamps w answered end h serving stamps
-keeps logs w v (Notes noted h) serving stamps = grind (arith, nat_tests)
-keeps logs w v (Applies who upto e h k) serving stamps = grind (arith, nat_tests)
 keeps logs w v Turns serving stamps = turn_keeps_stamps w serving stamps
-keeps logs w v (SealsWith who h) serving stamps = grind (arith, nat_tests)
-keeps logs w v (Seals who h) serving stamps = grind (arith, nat_tests)
-keeps logs w v (Settles who h k) serving stamps = grind (arith, nat_tests)
-keeps logs w v (CrashesDirty who h) serving stamps = grind (arith, nat_tests)
-keeps logs w v (CrashesClean who h) serving stamps = grind (arith, nat_tests)
-keeps logs w v (RestartsAdopting who incarnation promised h k) serving stamps = grind (arith, nat_tests)
-keeps logs w v (RestartsDiscarding who incarnation promised h) serving stamps = grind (arith, nat_tests)
-keeps logs w v (Promises who epoch h) serving stamps = grind (arith, nat_tests)
-keeps logs w v (Reports who end h k) serving stamps = grind (arith, nat_tests)
-keeps logs w v (Activates epoch report applied e h k) serving stamps = grind (arith, nat_tests)
-keeps logs w v (SealsCopy who log segment h k) serving stamps = grind (arith, nat_tests)
-keeps logs w v (SealsOther who h) serving stamps = grind (arith, nat_tests)
-keeps logs w v (SettlesCopy who h) serving stamps = grind (arith, nat_tests)
-keeps logs w v (DiscardsCopy who h) serving stamps = grind (arith, nat_tests)
-keeps logs w v (Loses x h) serving stamps = grind (arith, nat_tests)
+keeps logs w v step serving stamps = grind (arith, nat_tests)
 
 pub begins : (n : ℕ) → Stamps (start n)
 begins n = record {

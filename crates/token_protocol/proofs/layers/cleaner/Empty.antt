@@ -7,7 +7,7 @@ use Rattle.token_protocol.specs.Logging.{MaySealWith, seals_with}
 use Rattle.token_protocol.specs.Crashing.{restarts_discarding}
 use Rattle.token_protocol.specs.Cleaning.{MaySealCopy, seals_copy, discards_copy}
 use Rattle.token_protocol.specs.Step.{Step}
-use Rattle.token_protocol.specs.Step.Step.{Asks, AsksAgain, DropsWant, DropsFetch, Offers, Recalls, WritesFirst, Declines, TakesAbsent, TakesSupply, TakesPlace, Fetches, Writes, Reads, Syncs, Evicts, Gives, GivesAgain, Notes, Applies, Turns, SealsWith, Seals, Settles, CrashesDirty, CrashesClean, RestartsAdopting, RestartsDiscarding, Promises, Reports, Activates, SealsCopy, SealsOther, SettlesCopy, DiscardsCopy, Loses}
+use Rattle.token_protocol.specs.Step.Step.{SealsWith, Seals, Settles, RestartsAdopting, RestartsDiscarding, SealsCopy, SealsOther, SettlesCopy, DiscardsCopy, Loses}
 use Rattle.token_protocol.proofs.layers.cleaner.Idle.{Idle}
 
 pub record Empty (w : World) : Type 0 where
@@ -47,42 +47,17 @@ discard_copy_keeps_empty w who idle empty = record {
 }
 
 pub keeps : (w v : World) → Step true w v → Idle w → Empty w → Empty v
-keeps w v (Asks who mode request end h k) idle empty = grind (arith, nat_tests)
-keeps w v (AsksAgain who end h k) idle empty = grind (arith, nat_tests)
-keeps w v (DropsWant who) idle empty = grind (arith, nat_tests)
-keeps w v (DropsFetch who) idle empty = grind (arith, nat_tests)
-keeps w v (Offers asked h k) idle empty = grind (arith, nat_tests)
-keeps w v (Recalls who keep h) idle empty = grind (arith, nat_tests)
-keeps w v (WritesFirst taken value h) idle empty = grind (arith, nat_tests)
-keeps w v (Declines taken h) idle empty = grind (arith, nat_tests)
-keeps w v (TakesAbsent taken h t) idle empty = grind (arith, nat_tests)
-keeps w v (TakesSupply taken value h t) idle empty = grind (arith, nat_tests)
-keeps w v (TakesPlace taken h t) idle empty = grind (arith, nat_tests)
-keeps w v (Fetches who value h k) idle empty = grind (arith, nat_tests)
-keeps w v (Writes who value h) idle empty = grind (arith, nat_tests)
-keeps w v (Reads who h) idle empty = grind (arith, nat_tests)
-keeps w v (Syncs who version h) idle empty = grind (arith, nat_tests)
-keeps w v (Evicts who h) idle empty = grind (arith, nat_tests)
-keeps w v (Gives answered end h k) idle empty = grind (arith, nat_tests)
-keeps w v (GivesAgain answered end h k) idle empty = grind (arith, nat_tests)
-keeps w v (Notes noted h) idle empty = grind (arith, nat_tests)
-keeps w v (Applies who upto e h k) idle empty = grind (arith, nat_tests)
-keeps w v Turns idle empty = grind (arith, nat_tests)
 keeps w v (SealsWith who h) idle empty = seal_with_keeps_empty w who h idle empty
 keeps w v (Seals who h) idle empty = grind (arith, nat_tests)
 keeps w v (Settles who h k) idle empty = grind (arith, nat_tests)
-keeps w v (CrashesDirty who h) idle empty = grind (arith, nat_tests)
-keeps w v (CrashesClean who h) idle empty = grind (arith, nat_tests)
 keeps w v (RestartsAdopting who incarnation promised h k) idle empty = grind (arith, nat_tests)
 keeps w v (RestartsDiscarding who incarnation promised h) idle empty = restart_discarding_keeps_empty w who incarnation promised idle empty
-keeps w v (Promises who epoch h) idle empty = grind (arith, nat_tests)
-keeps w v (Reports who end h k) idle empty = grind (arith, nat_tests)
-keeps w v (Activates epoch report applied e h k) idle empty = grind (arith, nat_tests)
 keeps w v (SealsCopy who log segment h k) idle empty = seal_copy_keeps_empty w who log segment h idle empty
 keeps w v (SealsOther who h) idle empty = grind (arith, nat_tests)
 keeps w v (SettlesCopy who h) idle empty = grind (arith, nat_tests)
 keeps w v (DiscardsCopy who h) idle empty = discard_copy_keeps_empty w who idle empty
 keeps w v (Loses x h) idle empty = absurd (true≢false h)
+keeps w v step idle empty = grind (arith, nat_tests)
 
 pub begins : (n : ℕ) → Empty (start n)
 begins n = record {

@@ -9,7 +9,7 @@ use Rattle.token_protocol.specs.Asking.{MayAsk, MayAskAgain, asks, asks_again}
 use Rattle.token_protocol.specs.Managing.{MayOffer, offers}
 use Rattle.token_protocol.specs.Takeover.{MayActivate, reports, activates}
 use Rattle.token_protocol.specs.Step.{Step}
-use Rattle.token_protocol.specs.Step.Step.{Asks, AsksAgain, DropsWant, DropsFetch, Offers, Recalls, WritesFirst, Declines, TakesAbsent, TakesSupply, TakesPlace, Fetches, Writes, Reads, Syncs, Evicts, Gives, GivesAgain, Notes, Applies, Turns, SealsWith, Seals, Settles, CrashesDirty, CrashesClean, RestartsAdopting, RestartsDiscarding, Promises, Reports, Activates, SealsCopy, SealsOther, SettlesCopy, DiscardsCopy, Loses}
+use Rattle.token_protocol.specs.Step.Step.{Asks, AsksAgain, Offers, WritesFirst, Declines, TakesAbsent, TakesSupply, TakesPlace, Fetches, Writes, CrashesDirty, Reports, Activates}
 
 pub record Idle (w : World) : Type 0 where
   -- A sent want is not the cleaner's.
@@ -100,10 +100,7 @@ activate_keeps_idle w epoch report applied e h idle = record {
 pub keeps : (logs : Bool) (w v : World) → Step logs w v → Idle w → Idle v
 keeps logs w v (Asks who mode request end h k) idle = ask_keeps_idle w who mode request end h idle
 keeps logs w v (AsksAgain who end h k) idle = ask_again_keeps_idle w who end h idle
-keeps logs w v (DropsWant who) idle = grind (arith, nat_tests)
-keeps logs w v (DropsFetch who) idle = grind (arith, nat_tests)
 keeps logs w v (Offers asked h k) idle = offer_keeps_idle w asked h idle
-keeps logs w v (Recalls who keep h) idle = grind (arith, nat_tests)
 keeps logs w v (WritesFirst taken value h) idle = grind (arith, nat_tests, idle.offer_client taken h.sent)
 keeps logs w v (Declines taken h) idle = grind (arith, nat_tests, idle.offer_client taken h.sent)
 keeps logs w v (TakesAbsent taken h t) idle = grind (arith, nat_tests, idle.offer_client taken h.sent)
@@ -111,29 +108,10 @@ keeps logs w v (TakesSupply taken value h t) idle = grind (arith, nat_tests, idl
 keeps logs w v (TakesPlace taken h t) idle = grind (arith, nat_tests, idle.offer_client taken h.sent)
 keeps logs w v (Fetches who value h k) idle = grind (arith, nat_tests)
 keeps logs w v (Writes who value h) idle = grind (arith, nat_tests)
-keeps logs w v (Reads who h) idle = grind (arith, nat_tests)
-keeps logs w v (Syncs who version h) idle = grind (arith, nat_tests)
-keeps logs w v (Evicts who h) idle = grind (arith, nat_tests)
-keeps logs w v (Gives answered end h k) idle = grind (arith, nat_tests)
-keeps logs w v (GivesAgain answered end h k) idle = grind (arith, nat_tests)
-keeps logs w v (Notes noted h) idle = grind (arith, nat_tests)
-keeps logs w v (Applies who upto e h k) idle = grind (arith, nat_tests)
-keeps logs w v Turns idle = grind (arith, nat_tests)
-keeps logs w v (SealsWith who h) idle = grind (arith, nat_tests)
-keeps logs w v (Seals who h) idle = grind (arith, nat_tests)
-keeps logs w v (Settles who h k) idle = grind (arith, nat_tests)
 keeps logs w v (CrashesDirty who h) idle = grind (arith, nat_tests)
-keeps logs w v (CrashesClean who h) idle = grind (arith, nat_tests)
-keeps logs w v (RestartsAdopting who incarnation promised h k) idle = grind (arith, nat_tests)
-keeps logs w v (RestartsDiscarding who incarnation promised h) idle = grind (arith, nat_tests)
-keeps logs w v (Promises who epoch h) idle = grind (arith, nat_tests)
 keeps logs w v (Reports who end h k) idle = report_keeps_idle w who end idle
 keeps logs w v (Activates epoch report applied e h k) idle = activate_keeps_idle w epoch report applied e h idle
-keeps logs w v (SealsCopy who log segment h k) idle = grind (arith, nat_tests)
-keeps logs w v (SealsOther who h) idle = grind (arith, nat_tests)
-keeps logs w v (SettlesCopy who h) idle = grind (arith, nat_tests)
-keeps logs w v (DiscardsCopy who h) idle = grind (arith, nat_tests)
-keeps logs w v (Loses x h) idle = grind (arith, nat_tests)
+keeps logs w v step idle = grind (arith, nat_tests)
 
 pub begins : (n : ℕ) → Idle (start n)
 begins n = record {

@@ -10,7 +10,7 @@ use Rattle.token_protocol.specs.Logging.{MaySealWith, MaySettle, seals_with, set
 use Rattle.token_protocol.specs.Crashing.{MayCrashDirty, MayRestart, crashes_dirty, restarts_discarding}
 use Rattle.token_protocol.specs.Cleaning.{MaySealCopy, MayDiscardCopy, seals_copy, discards_copy}
 use Rattle.token_protocol.specs.Step.{Step}
-use Rattle.token_protocol.specs.Step.Step.{Asks, AsksAgain, DropsWant, DropsFetch, Offers, Recalls, WritesFirst, Declines, TakesAbsent, TakesSupply, TakesPlace, Fetches, Writes, Reads, Syncs, Evicts, Gives, GivesAgain, Notes, Applies, Turns, SealsWith, Seals, Settles, CrashesDirty, CrashesClean, RestartsAdopting, RestartsDiscarding, Promises, Reports, Activates, SealsCopy, SealsOther, SettlesCopy, DiscardsCopy, Loses}
+use Rattle.token_protocol.specs.Step.Step.{Asks, Offers, WritesFirst, Declines, TakesAbsent, TakesSupply, TakesPlace, Fetches, Writes, Gives, SealsWith, Settles, CrashesDirty, CrashesClean, RestartsAdopting, RestartsDiscarding, Promises, SealsCopy, SettlesCopy, DiscardsCopy, Loses}
 use Rattle.token_protocol.proofs.layers.bookkeeping.{Bookkeeping}
 use Rattle.token_protocol.proofs.layers.tokens.{Tokens}
 use Rattle.token_protocol.proofs.layers.crash.{Crash}
@@ -124,11 +124,7 @@ discard_copy_keeps_versions w who h book tokens crash logs filing versions = rec
 
 pub keeps : (w v : World) → Step true w v → Bookkeeping w → Tokens w → Crash w → Logs w → Filing w → Versions w → Versions v
 keeps w v (Asks who mode request end h k) book tokens crash logs filing versions = grind (arith, nat_tests)
-keeps w v (AsksAgain who end h k) book tokens crash logs filing versions = grind (arith, nat_tests)
-keeps w v (DropsWant who) book tokens crash logs filing versions = grind (arith, nat_tests)
-keeps w v (DropsFetch who) book tokens crash logs filing versions = grind (arith, nat_tests)
 keeps w v (Offers asked h k) book tokens crash logs filing versions = grind (arith, nat_tests)
-keeps w v (Recalls who keep h) book tokens crash logs filing versions = grind (arith, nat_tests)
 keeps w v (WritesFirst taken value h) book tokens crash logs filing versions = grind (arith, nat_tests)
 keeps w v (Declines taken h) book tokens crash logs filing versions = grind (arith, nat_tests)
 keeps w v (TakesAbsent taken h t) book tokens crash logs filing versions = grind (arith, nat_tests)
@@ -136,16 +132,8 @@ keeps w v (TakesSupply taken value h t) book tokens crash logs filing versions =
 keeps w v (TakesPlace taken h t) book tokens crash logs filing versions = grind (arith, nat_tests)
 keeps w v (Fetches who value h k) book tokens crash logs filing versions = grind (arith, nat_tests)
 keeps w v (Writes who value h) book tokens crash logs filing versions = grind (arith, nat_tests)
-keeps w v (Reads who h) book tokens crash logs filing versions = grind (arith, nat_tests)
-keeps w v (Syncs who version h) book tokens crash logs filing versions = grind (arith, nat_tests)
-keeps w v (Evicts who h) book tokens crash logs filing versions = grind (arith, nat_tests)
 keeps w v (Gives answered end h k) book tokens crash logs filing versions = grind (arith, nat_tests)
-keeps w v (GivesAgain answered end h k) book tokens crash logs filing versions = grind (arith, nat_tests)
-keeps w v (Notes noted h) book tokens crash logs filing versions = grind (arith, nat_tests)
-keeps w v (Applies who upto e h k) book tokens crash logs filing versions = grind (arith, nat_tests)
-keeps w v Turns book tokens crash logs filing versions = grind (arith, nat_tests)
 keeps w v (SealsWith who h) book tokens crash logs filing versions = seal_with_keeps_versions w who h book tokens crash logs filing versions
-keeps w v (Seals who h) book tokens crash logs filing versions = grind (arith, nat_tests)
 keeps w v (Settles who h k) book tokens crash logs filing versions = settle_keeps_versions w who h k book tokens crash logs filing versions
 keeps w v (CrashesDirty who h) book tokens crash logs filing versions = crash_dirty_keeps_versions w who h book tokens crash logs filing versions
 keeps w v (CrashesClean who h) book tokens crash logs filing versions = grind (arith, nat_tests)
@@ -153,14 +141,12 @@ keeps w v (RestartsAdopting who incarnation promised h k) book tokens crash logs
 keeps w v (RestartsDiscarding who incarnation promised h) book tokens crash logs filing versions =
     restart_discarding_keeps_versions w who incarnation promised h book tokens crash logs filing versions
 keeps w v (Promises who epoch h) book tokens crash logs filing versions = grind (arith, nat_tests)
-keeps w v (Reports who end h k) book tokens crash logs filing versions = grind (arith, nat_tests)
-keeps w v (Activates epoch report applied e h k) book tokens crash logs filing versions = grind (arith, nat_tests)
 keeps w v (SealsCopy who log segment h k) book tokens crash logs filing versions =
     seal_copy_keeps_versions w who log segment h k book tokens crash logs filing versions
-keeps w v (SealsOther who h) book tokens crash logs filing versions = grind (arith, nat_tests)
 keeps w v (SettlesCopy who h) book tokens crash logs filing versions = grind (arith, nat_tests)
 keeps w v (DiscardsCopy who h) book tokens crash logs filing versions = discard_copy_keeps_versions w who h book tokens crash logs filing versions
 keeps w v (Loses x h) book tokens crash logs filing versions = absurd (true≢false h)
+keeps w v step book tokens crash logs filing versions = grind (arith, nat_tests)
 
 pub begins : (n : ℕ) → Versions (start n)
 begins n = record {

@@ -10,7 +10,7 @@ use Rattle.token_protocol.specs.Giving.{MayGive, MayGiveAgain, gives, gives_agai
 use Rattle.token_protocol.specs.Crashing.{MayCrashDirty, MayRestart, crashes_dirty, restarts_adopting, restarts_discarding}
 use Rattle.token_protocol.specs.Takeover.{MayReport, MayActivate, reports, activates}
 use Rattle.token_protocol.specs.Step.{Step}
-use Rattle.token_protocol.specs.Step.Step.{Asks, AsksAgain, DropsWant, DropsFetch, Offers, Recalls, WritesFirst, Declines, TakesAbsent, TakesSupply, TakesPlace, Fetches, Writes, Reads, Syncs, Evicts, Gives, GivesAgain, Notes, Applies, Turns, SealsWith, Seals, Settles, CrashesDirty, CrashesClean, RestartsAdopting, RestartsDiscarding, Promises, Reports, Activates, SealsCopy, SealsOther, SettlesCopy, DiscardsCopy, Loses}
+use Rattle.token_protocol.specs.Step.Step.{Offers, Recalls, Gives, GivesAgain, Notes, CrashesDirty, RestartsAdopting, RestartsDiscarding, Reports, Activates}
 use Rattle.token_protocol.proofs.layers.bookkeeping.{Bookkeeping}
 use Rattle.token_protocol.proofs.layers.tokens.{Tokens}
 
@@ -148,44 +148,19 @@ activate_keeps_fallen w epoch report applied e h book tokens fallen = record {
 }
 
 pub keeps : (logs : Bool) (w v : World) → Step logs w v → Bookkeeping w → Tokens w → Fallen w → Fallen v
-keeps logs w v (Asks who mode request end h k) book tokens fallen = grind (arith, nat_tests)
-keeps logs w v (AsksAgain who end h k) book tokens fallen = grind (arith, nat_tests)
-keeps logs w v (DropsWant who) book tokens fallen = grind (arith, nat_tests)
-keeps logs w v (DropsFetch who) book tokens fallen = grind (arith, nat_tests)
 keeps logs w v (Offers asked h k) book tokens fallen = offer_keeps_fallen w asked h book tokens fallen
 keeps logs w v (Recalls who keep h) book tokens fallen = recall_keeps_fallen w who keep h book tokens fallen
-keeps logs w v (WritesFirst taken value h) book tokens fallen = grind (arith, nat_tests)
-keeps logs w v (Declines taken h) book tokens fallen = grind (arith, nat_tests)
-keeps logs w v (TakesAbsent taken h t) book tokens fallen = grind (arith, nat_tests)
-keeps logs w v (TakesSupply taken value h t) book tokens fallen = grind (arith, nat_tests)
-keeps logs w v (TakesPlace taken h t) book tokens fallen = grind (arith, nat_tests)
-keeps logs w v (Fetches who value h k) book tokens fallen = grind (arith, nat_tests)
-keeps logs w v (Writes who value h) book tokens fallen = grind (arith, nat_tests)
-keeps logs w v (Reads who h) book tokens fallen = grind (arith, nat_tests)
-keeps logs w v (Syncs who version h) book tokens fallen = grind (arith, nat_tests)
-keeps logs w v (Evicts who h) book tokens fallen = grind (arith, nat_tests)
 keeps logs w v (Gives answered end h k) book tokens fallen = give_keeps_fallen w answered end h book tokens fallen
 keeps logs w v (GivesAgain answered end h k) book tokens fallen = give_again_keeps_fallen w answered end h book tokens fallen
 keeps logs w v (Notes noted h) book tokens fallen = note_keeps_fallen w noted h book tokens fallen
-keeps logs w v (Applies who upto e h k) book tokens fallen = grind (arith, nat_tests)
-keeps logs w v Turns book tokens fallen = grind (arith, nat_tests)
-keeps logs w v (SealsWith who h) book tokens fallen = grind (arith, nat_tests)
-keeps logs w v (Seals who h) book tokens fallen = grind (arith, nat_tests)
-keeps logs w v (Settles who h k) book tokens fallen = grind (arith, nat_tests)
 keeps logs w v (CrashesDirty who h) book tokens fallen = crash_dirty_keeps_fallen w who h book tokens fallen
-keeps logs w v (CrashesClean who h) book tokens fallen = grind (arith, nat_tests)
 keeps logs w v (RestartsAdopting who incarnation promised h k) book tokens fallen =
     restart_adopting_keeps_fallen w who incarnation promised h book tokens fallen
 keeps logs w v (RestartsDiscarding who incarnation promised h) book tokens fallen =
     restart_discarding_keeps_fallen w who incarnation promised h book tokens fallen
-keeps logs w v (Promises who epoch h) book tokens fallen = grind (arith, nat_tests)
 keeps logs w v (Reports who end h k) book tokens fallen = report_keeps_fallen w who end h book tokens fallen
 keeps logs w v (Activates epoch report applied e h k) book tokens fallen = activate_keeps_fallen w epoch report applied e h book tokens fallen
-keeps logs w v (SealsCopy who log segment h k) book tokens fallen = grind (arith, nat_tests)
-keeps logs w v (SealsOther who h) book tokens fallen = grind (arith, nat_tests)
-keeps logs w v (SettlesCopy who h) book tokens fallen = grind (arith, nat_tests)
-keeps logs w v (DiscardsCopy who h) book tokens fallen = grind (arith, nat_tests)
-keeps logs w v (Loses x h) book tokens fallen = grind (arith, nat_tests)
+keeps logs w v step book tokens fallen = grind (arith, nat_tests)
 
 pub begins : (n : ℕ) → Fallen (start n)
 begins n = record {

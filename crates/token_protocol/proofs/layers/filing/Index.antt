@@ -14,7 +14,7 @@ use Rattle.token_protocol.specs.Crashing.{MayRestart, restarts_adopting, restart
 use Rattle.token_protocol.specs.Takeover.{MayActivate, activates}
 use Rattle.token_protocol.specs.Cleaning.{MaySealCopy, MaySettleCopy, MayDiscardCopy, seals_copy, settles_copy, discards_copy}
 use Rattle.token_protocol.specs.Step.{Step}
-use Rattle.token_protocol.specs.Step.Step.{Asks, AsksAgain, DropsWant, DropsFetch, Offers, Recalls, WritesFirst, Declines, TakesAbsent, TakesSupply, TakesPlace, Fetches, Writes, Reads, Syncs, Evicts, Gives, GivesAgain, Notes, Applies, Turns, SealsWith, Seals, Settles, CrashesDirty, CrashesClean, RestartsAdopting, RestartsDiscarding, Promises, Reports, Activates, SealsCopy, SealsOther, SettlesCopy, DiscardsCopy, Loses}
+use Rattle.token_protocol.specs.Step.Step.{Offers, TakesPlace, Applies, SealsWith, Settles, RestartsAdopting, RestartsDiscarding, Activates, SealsCopy, SettlesCopy, DiscardsCopy, Loses}
 use Rattle.token_protocol.proofs.layers.bookkeeping.{Bookkeeping}
 use Rattle.token_protocol.proofs.layers.logs.{Logs}
 use Rattle.token_protocol.proofs.layers.filing.Joined.{Joined}
@@ -171,44 +171,21 @@ discard_copy_keeps_index w who h book logs joined index = record {
 }
 
 pub keeps : (w v : World) → Step true w v → Bookkeeping w → Logs w → Joined w → Index w → Index v
-keeps w v (Asks who mode request end h k) book logs joined index = grind (arith, nat_tests)
-keeps w v (AsksAgain who end h k) book logs joined index = grind (arith, nat_tests)
-keeps w v (DropsWant who) book logs joined index = grind (arith, nat_tests)
-keeps w v (DropsFetch who) book logs joined index = grind (arith, nat_tests)
 keeps w v (Offers asked h k) book logs joined index = offer_keeps_index w asked h k book logs joined index
-keeps w v (Recalls who keep h) book logs joined index = grind (arith, nat_tests)
-keeps w v (WritesFirst taken value h) book logs joined index = grind (arith, nat_tests)
-keeps w v (Declines taken h) book logs joined index = grind (arith, nat_tests)
-keeps w v (TakesAbsent taken h t) book logs joined index = grind (arith, nat_tests)
-keeps w v (TakesSupply taken value h t) book logs joined index = grind (arith, nat_tests)
 keeps w v (TakesPlace taken h t) book logs joined index = take_place_keeps_index w taken h t book logs joined index
-keeps w v (Fetches who value h k) book logs joined index = grind (arith, nat_tests)
-keeps w v (Writes who value h) book logs joined index = grind (arith, nat_tests)
-keeps w v (Reads who h) book logs joined index = grind (arith, nat_tests)
-keeps w v (Syncs who version h) book logs joined index = grind (arith, nat_tests)
-keeps w v (Evicts who h) book logs joined index = grind (arith, nat_tests)
-keeps w v (Gives answered end h k) book logs joined index = grind (arith, nat_tests)
-keeps w v (GivesAgain answered end h k) book logs joined index = grind (arith, nat_tests)
-keeps w v (Notes noted h) book logs joined index = grind (arith, nat_tests)
 keeps w v (Applies who upto e h k) book logs joined index = apply_keeps_index w who upto e h k book logs joined index
-keeps w v Turns book logs joined index = grind (arith, nat_tests)
 keeps w v (SealsWith who h) book logs joined index = seal_with_keeps_index w who h book logs joined index
-keeps w v (Seals who h) book logs joined index = grind (arith, nat_tests)
 keeps w v (Settles who h k) book logs joined index = settle_keeps_index w who h k book logs joined index
-keeps w v (CrashesDirty who h) book logs joined index = grind (arith, nat_tests)
-keeps w v (CrashesClean who h) book logs joined index = grind (arith, nat_tests)
 keeps w v (RestartsAdopting who incarnation promised h k) book logs joined index =
     restart_adopting_keeps_index w who incarnation promised h k book logs joined index
 keeps w v (RestartsDiscarding who incarnation promised h) book logs joined index =
     restart_discarding_keeps_index w who incarnation promised h book logs joined index
-keeps w v (Promises who epoch h) book logs joined index = grind (arith, nat_tests)
-keeps w v (Reports who end h k) book logs joined index = grind (arith, nat_tests)
 keeps w v (Activates epoch report applied e h k) book logs joined index = activate_keeps_index w epoch report applied e h k book logs joined index
 keeps w v (SealsCopy who log segment h k) book logs joined index = seal_copy_keeps_index w who log segment h k book logs joined index
-keeps w v (SealsOther who h) book logs joined index = grind (arith, nat_tests)
 keeps w v (SettlesCopy who h) book logs joined index = settle_copy_keeps_index w who h book logs joined index
 keeps w v (DiscardsCopy who h) book logs joined index = discard_copy_keeps_index w who h book logs joined index
 keeps w v (Loses x h) book logs joined index = absurd (true≢false h)
+keeps w v step book logs joined index = grind (arith, nat_tests)
 
 pub begins : (n : ℕ) → Index (start n)
 begins n = record {

@@ -8,7 +8,7 @@ use Rattle.token_protocol.specs.Logging.{MaySealWith, seals_with}
 use Rattle.token_protocol.specs.Crashing.{MayRestart, restarts_discarding}
 use Rattle.token_protocol.specs.Cleaning.{MaySealCopy, MayDiscardCopy, seals_copy, discards_copy}
 use Rattle.token_protocol.specs.Step.{Step}
-use Rattle.token_protocol.specs.Step.Step.{Asks, AsksAgain, DropsWant, DropsFetch, Offers, Recalls, WritesFirst, Declines, TakesAbsent, TakesSupply, TakesPlace, Fetches, Writes, Reads, Syncs, Evicts, Gives, GivesAgain, Notes, Applies, Turns, SealsWith, Seals, Settles, CrashesDirty, CrashesClean, RestartsAdopting, RestartsDiscarding, Promises, Reports, Activates, SealsCopy, SealsOther, SettlesCopy, DiscardsCopy, Loses}
+use Rattle.token_protocol.specs.Step.Step.{SealsWith, RestartsDiscarding, SealsCopy, SettlesCopy, DiscardsCopy, Loses}
 use Rattle.token_protocol.proofs.layers.bookkeeping.{Bookkeeping}
 use Rattle.token_protocol.proofs.layers.logs.{Logs}
 
@@ -52,42 +52,13 @@ discard_copy_keeps_joined w who h book logs joined = record {
 }
 
 pub keeps : (w v : World) → Step true w v → Bookkeeping w → Logs w → Joined w → Joined v
-keeps w v (Asks who mode request end h k) book logs joined = grind (arith, nat_tests)
-keeps w v (AsksAgain who end h k) book logs joined = grind (arith, nat_tests)
-keeps w v (DropsWant who) book logs joined = grind (arith, nat_tests)
-keeps w v (DropsFetch who) book logs joined = grind (arith, nat_tests)
-keeps w v (Offers asked h k) book logs joined = grind (arith, nat_tests)
-keeps w v (Recalls who keep h) book logs joined = grind (arith, nat_tests)
-keeps w v (WritesFirst taken value h) book logs joined = grind (arith, nat_tests)
-keeps w v (Declines taken h) book logs joined = grind (arith, nat_tests)
-keeps w v (TakesAbsent taken h t) book logs joined = grind (arith, nat_tests)
-keeps w v (TakesSupply taken value h t) book logs joined = grind (arith, nat_tests)
-keeps w v (TakesPlace taken h t) book logs joined = grind (arith, nat_tests)
-keeps w v (Fetches who value h k) book logs joined = grind (arith, nat_tests)
-keeps w v (Writes who value h) book logs joined = grind (arith, nat_tests)
-keeps w v (Reads who h) book logs joined = grind (arith, nat_tests)
-keeps w v (Syncs who version h) book logs joined = grind (arith, nat_tests)
-keeps w v (Evicts who h) book logs joined = grind (arith, nat_tests)
-keeps w v (Gives answered end h k) book logs joined = grind (arith, nat_tests)
-keeps w v (GivesAgain answered end h k) book logs joined = grind (arith, nat_tests)
-keeps w v (Notes noted h) book logs joined = grind (arith, nat_tests)
-keeps w v (Applies who upto e h k) book logs joined = grind (arith, nat_tests)
-keeps w v Turns book logs joined = grind (arith, nat_tests)
 keeps w v (SealsWith who h) book logs joined = seal_with_keeps_joined w who h book logs joined
-keeps w v (Seals who h) book logs joined = grind (arith, nat_tests)
-keeps w v (Settles who h k) book logs joined = grind (arith, nat_tests)
-keeps w v (CrashesDirty who h) book logs joined = grind (arith, nat_tests)
-keeps w v (CrashesClean who h) book logs joined = grind (arith, nat_tests)
-keeps w v (RestartsAdopting who incarnation promised h k) book logs joined = grind (arith, nat_tests)
 keeps w v (RestartsDiscarding who incarnation promised h) book logs joined = restart_discarding_keeps_joined w who incarnation promised h book logs joined
-keeps w v (Promises who epoch h) book logs joined = grind (arith, nat_tests)
-keeps w v (Reports who end h k) book logs joined = grind (arith, nat_tests)
-keeps w v (Activates epoch report applied e h k) book logs joined = grind (arith, nat_tests)
 keeps w v (SealsCopy who log segment h k) book logs joined = seal_copy_keeps_joined w who log segment h k book logs joined
-keeps w v (SealsOther who h) book logs joined = grind (arith, nat_tests)
 keeps w v (SettlesCopy who h) book logs joined = grind (arith, nat_tests)
 keeps w v (DiscardsCopy who h) book logs joined = discard_copy_keeps_joined w who h book logs joined
 keeps w v (Loses x h) book logs joined = absurd (true≢false h)
+keeps w v step book logs joined = grind (arith, nat_tests)
 
 pub begins : (n : ℕ) → Joined (start n)
 begins n = record {

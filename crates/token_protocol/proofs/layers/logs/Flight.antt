@@ -4,7 +4,7 @@ use Rattle.std.proofs.lemmas.Bool.Decides.{nat_tests}
 use Rattle.std.proofs.lemmas.Bool.{true≢false}
 use Rattle.token_protocol.specs.World.{World, start, flying_row}
 use Rattle.token_protocol.specs.Step.{Step}
-use Rattle.token_protocol.specs.Step.Step.{Asks, AsksAgain, DropsWant, DropsFetch, Offers, Recalls, WritesFirst, Declines, TakesAbsent, TakesSupply, TakesPlace, Fetches, Writes, Reads, Syncs, Evicts, Gives, GivesAgain, Notes, Applies, Turns, SealsWith, Seals, Settles, CrashesDirty, CrashesClean, RestartsAdopting, RestartsDiscarding, Promises, Reports, Activates, SealsCopy, SealsOther, SettlesCopy, DiscardsCopy, Loses}
+use Rattle.token_protocol.specs.Step.Step.{WritesFirst, Declines, TakesAbsent, TakesSupply, Fetches, SealsWith, Settles, CrashesDirty, CrashesClean, SealsCopy, Loses}
 use Rattle.token_protocol.proofs.layers.bookkeeping.{Bookkeeping}
 use Rattle.token_protocol.proofs.layers.tokens.{Tokens}
 use Rattle.token_protocol.proofs.layers.crash.{Crash}
@@ -19,42 +19,18 @@ pub record Flight (w : World) : Type 0 where
       ⊎ ((w.fallen c ≡ 1) × (w.cut_low c < (flying_row w c).version))
 
 pub keeps : (w v : World) → Step true w v → Bookkeeping w → Tokens w → Crash w → Rows w → Flight w → Flight v
-keeps w v (Asks who mode request end h k) book tokens crash rows flight = grind (arith, nat_tests)
-keeps w v (AsksAgain who end h k) book tokens crash rows flight = grind (arith, nat_tests)
-keeps w v (DropsWant who) book tokens crash rows flight = grind (arith, nat_tests)
-keeps w v (DropsFetch who) book tokens crash rows flight = grind (arith, nat_tests)
-keeps w v (Offers asked h k) book tokens crash rows flight = grind (arith, nat_tests)
-keeps w v (Recalls who keep h) book tokens crash rows flight = grind (arith, nat_tests)
 keeps w v (WritesFirst taken value h) book tokens crash rows flight = grind (arith, nat_tests)
 keeps w v (Declines taken h) book tokens crash rows flight = grind (arith, nat_tests)
 keeps w v (TakesAbsent taken h t) book tokens crash rows flight = grind (arith, nat_tests)
 keeps w v (TakesSupply taken value h t) book tokens crash rows flight = grind (arith, nat_tests)
-keeps w v (TakesPlace taken h t) book tokens crash rows flight = grind (arith, nat_tests)
 keeps w v (Fetches who value h k) book tokens crash rows flight = grind (arith, nat_tests)
-keeps w v (Writes who value h) book tokens crash rows flight = grind (arith, nat_tests)
-keeps w v (Reads who h) book tokens crash rows flight = grind (arith, nat_tests)
-keeps w v (Syncs who version h) book tokens crash rows flight = grind (arith, nat_tests)
-keeps w v (Evicts who h) book tokens crash rows flight = grind (arith, nat_tests)
-keeps w v (Gives answered end h k) book tokens crash rows flight = grind (arith, nat_tests)
-keeps w v (GivesAgain answered end h k) book tokens crash rows flight = grind (arith, nat_tests)
-keeps w v (Notes noted h) book tokens crash rows flight = grind (arith, nat_tests)
-keeps w v (Applies who upto e h k) book tokens crash rows flight = grind (arith, nat_tests)
-keeps w v Turns book tokens crash rows flight = grind (arith, nat_tests)
 keeps w v (SealsWith who h) book tokens crash rows flight = grind (arith, nat_tests)
-keeps w v (Seals who h) book tokens crash rows flight = grind (arith, nat_tests)
 keeps w v (Settles who h k) book tokens crash rows flight = grind (arith, nat_tests)
 keeps w v (CrashesDirty who h) book tokens crash rows flight = grind (arith, nat_tests)
 keeps w v (CrashesClean who h) book tokens crash rows flight = grind (arith, nat_tests)
-keeps w v (RestartsAdopting who incarnation promised h k) book tokens crash rows flight = grind (arith, nat_tests)
-keeps w v (RestartsDiscarding who incarnation promised h) book tokens crash rows flight = grind (arith, nat_tests)
-keeps w v (Promises who epoch h) book tokens crash rows flight = grind (arith, nat_tests)
-keeps w v (Reports who end h k) book tokens crash rows flight = grind (arith, nat_tests)
-keeps w v (Activates epoch report applied e h k) book tokens crash rows flight = grind (arith, nat_tests)
 keeps w v (SealsCopy who log segment h k) book tokens crash rows flight = grind (arith, nat_tests)
-keeps w v (SealsOther who h) book tokens crash rows flight = grind (arith, nat_tests)
-keeps w v (SettlesCopy who h) book tokens crash rows flight = grind (arith, nat_tests)
-keeps w v (DiscardsCopy who h) book tokens crash rows flight = grind (arith, nat_tests)
 keeps w v (Loses x h) book tokens crash rows flight = absurd (true≢false h)
+keeps w v step book tokens crash rows flight = grind (arith, nat_tests)
 
 pub begins : (n : ℕ) → Flight (start n)
 begins n = record {

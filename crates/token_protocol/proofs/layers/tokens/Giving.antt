@@ -8,7 +8,7 @@ use Rattle.token_protocol.specs.Managing.{MayOffer, MayRecall, offers, recalls}
 use Rattle.token_protocol.specs.Taking.{MayTake, IsAbsent, IsPlaced, writes_first, declines, takes_value, takes_place}
 use Rattle.token_protocol.specs.Giving.{MayGive, MayGiveAgain, gives, gives_again}
 use Rattle.token_protocol.specs.Step.{Step}
-use Rattle.token_protocol.specs.Step.Step.{Asks, AsksAgain, DropsWant, DropsFetch, Offers, Recalls, WritesFirst, Declines, TakesAbsent, TakesSupply, TakesPlace, Fetches, Writes, Reads, Syncs, Evicts, Gives, GivesAgain, Notes, Applies, Turns, SealsWith, Seals, Settles, CrashesDirty, CrashesClean, RestartsAdopting, RestartsDiscarding, Promises, Reports, Activates, SealsCopy, SealsOther, SettlesCopy, DiscardsCopy, Loses}
+use Rattle.token_protocol.specs.Step.Step.{Asks, Offers, Recalls, WritesFirst, Declines, TakesAbsent, TakesSupply, TakesPlace, Fetches, Gives, GivesAgain, Notes, RestartsAdopting, RestartsDiscarding, Promises}
 use Rattle.token_protocol.proofs.layers.bookkeeping.{Bookkeeping}
 
 pub record Giving (w : World) : Type 0 where
@@ -118,9 +118,6 @@ give_again_keeps_giving w answered end h book giving = record {
 
 pub keeps : (logs : Bool) (w v : World) → Step logs w v → Bookkeeping w → Giving w → Giving v
 keeps logs w v (Asks who mode request end h k) book giving = grind (arith, nat_tests)
-keeps logs w v (AsksAgain who end h k) book giving = grind (arith, nat_tests)
-keeps logs w v (DropsWant who) book giving = grind (arith, nat_tests)
-keeps logs w v (DropsFetch who) book giving = grind (arith, nat_tests)
 keeps logs w v (Offers asked h k) book giving = offer_keeps_giving w asked h book giving
 keeps logs w v (Recalls who keep h) book giving = recall_keeps_giving w who keep h book giving
 keeps logs w v (WritesFirst taken value h) book giving = write_first_keeps_giving w taken value h book giving
@@ -129,30 +126,13 @@ keeps logs w v (TakesAbsent taken h t) book giving = take_absent_keeps_giving w 
 keeps logs w v (TakesSupply taken value h t) book giving = take_supply_keeps_giving w taken value h book giving
 keeps logs w v (TakesPlace taken h t) book giving = take_place_keeps_giving w taken h t book giving
 keeps logs w v (Fetches who value h k) book giving = grind (arith, nat_tests)
-keeps logs w v (Writes who value h) book giving = grind (arith, nat_tests)
-keeps logs w v (Reads who h) book giving = grind (arith, nat_tests)
-keeps logs w v (Syncs who version h) book giving = grind (arith, nat_tests)
-keeps logs w v (Evicts who h) book giving = grind (arith, nat_tests)
 keeps logs w v (Gives answered end h k) book giving = give_keeps_giving w answered end h book giving
 keeps logs w v (GivesAgain answered end h k) book giving = give_again_keeps_giving w answered end h book giving
 keeps logs w v (Notes noted h) book giving = grind (arith, nat_tests)
-keeps logs w v (Applies who upto e h k) book giving = grind (arith, nat_tests)
-keeps logs w v Turns book giving = grind (arith, nat_tests)
-keeps logs w v (SealsWith who h) book giving = grind (arith, nat_tests)
-keeps logs w v (Seals who h) book giving = grind (arith, nat_tests)
-keeps logs w v (Settles who h k) book giving = grind (arith, nat_tests)
-keeps logs w v (CrashesDirty who h) book giving = grind (arith, nat_tests)
-keeps logs w v (CrashesClean who h) book giving = grind (arith, nat_tests)
 keeps logs w v (RestartsAdopting who incarnation promised h k) book giving = grind (arith, nat_tests)
 keeps logs w v (RestartsDiscarding who incarnation promised h) book giving = grind (arith, nat_tests)
 keeps logs w v (Promises who epoch h) book giving = grind (arith, nat_tests)
-keeps logs w v (Reports who end h k) book giving = grind (arith, nat_tests)
-keeps logs w v (Activates epoch report applied e h k) book giving = grind (arith, nat_tests)
-keeps logs w v (SealsCopy who log segment h k) book giving = grind (arith, nat_tests)
-keeps logs w v (SealsOther who h) book giving = grind (arith, nat_tests)
-keeps logs w v (SettlesCopy who h) book giving = grind (arith, nat_tests)
-keeps logs w v (DiscardsCopy who h) book giving = grind (arith, nat_tests)
-keeps logs w v (Loses x h) book giving = grind (arith, nat_tests)
+keeps logs w v step book giving = grind (arith, nat_tests)
 
 pub begins : (n : ℕ) → Giving (start n)
 begins n = record {

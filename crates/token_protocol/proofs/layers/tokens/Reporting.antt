@@ -9,7 +9,7 @@ use Rattle.token_protocol.specs.Managing.{MayRecall, MayNote, recalls, notes}
 use Rattle.token_protocol.specs.Giving.{MayGive, MayGiveAgain, gives, gives_again}
 use Rattle.token_protocol.specs.Takeover.{MayPromise, MayReport, MayActivate, promises, reports, activates}
 use Rattle.token_protocol.specs.Step.{Step}
-use Rattle.token_protocol.specs.Step.Step.{Asks, AsksAgain, DropsWant, DropsFetch, Offers, Recalls, WritesFirst, Declines, TakesAbsent, TakesSupply, TakesPlace, Fetches, Writes, Reads, Syncs, Evicts, Gives, GivesAgain, Notes, Applies, Turns, SealsWith, Seals, Settles, CrashesDirty, CrashesClean, RestartsAdopting, RestartsDiscarding, Promises, Reports, Activates, SealsCopy, SealsOther, SettlesCopy, DiscardsCopy, Loses}
+use Rattle.token_protocol.specs.Step.Step.{Recalls, WritesFirst, TakesAbsent, TakesSupply, Fetches, Gives, GivesAgain, Notes, Promises, Reports, Activates}
 use Rattle.token_protocol.proofs.layers.bookkeeping.{Bookkeeping}
 use Rattle.token_protocol.proofs.layers.tokens.Giving.{Giving}
 
@@ -67,42 +67,18 @@ activate_keeps_reporting w epoch report applied e h book giving reporting = reco
 }
 
 pub keeps : (logs : Bool) (w v : World) → Step logs w v → Bookkeeping w → Giving w → Reporting w → Reporting v
-keeps logs w v (Asks who mode request end h k) book giving reporting = grind (arith, nat_tests)
-keeps logs w v (AsksAgain who end h k) book giving reporting = grind (arith, nat_tests)
-keeps logs w v (DropsWant who) book giving reporting = grind (arith, nat_tests)
-keeps logs w v (DropsFetch who) book giving reporting = grind (arith, nat_tests)
-keeps logs w v (Offers asked h k) book giving reporting = grind (arith, nat_tests)
 keeps logs w v (Recalls who keep h) book giving reporting = recall_keeps_reporting w who keep h book giving reporting
 keeps logs w v (WritesFirst taken value h) book giving reporting = grind (arith, nat_tests)
-keeps logs w v (Declines taken h) book giving reporting = grind (arith, nat_tests)
 keeps logs w v (TakesAbsent taken h t) book giving reporting = grind (arith, nat_tests)
 keeps logs w v (TakesSupply taken value h t) book giving reporting = grind (arith, nat_tests)
-keeps logs w v (TakesPlace taken h t) book giving reporting = grind (arith, nat_tests)
 keeps logs w v (Fetches who value h k) book giving reporting = grind (arith, nat_tests)
-keeps logs w v (Writes who value h) book giving reporting = grind (arith, nat_tests)
-keeps logs w v (Reads who h) book giving reporting = grind (arith, nat_tests)
-keeps logs w v (Syncs who version h) book giving reporting = grind (arith, nat_tests)
-keeps logs w v (Evicts who h) book giving reporting = grind (arith, nat_tests)
 keeps logs w v (Gives answered end h k) book giving reporting = give_keeps_reporting w answered end h book giving reporting
 keeps logs w v (GivesAgain answered end h k) book giving reporting = give_again_keeps_reporting w answered end h book giving reporting
 keeps logs w v (Notes noted h) book giving reporting = note_keeps_reporting w noted h book giving reporting
-keeps logs w v (Applies who upto e h k) book giving reporting = grind (arith, nat_tests)
-keeps logs w v Turns book giving reporting = grind (arith, nat_tests)
-keeps logs w v (SealsWith who h) book giving reporting = grind (arith, nat_tests)
-keeps logs w v (Seals who h) book giving reporting = grind (arith, nat_tests)
-keeps logs w v (Settles who h k) book giving reporting = grind (arith, nat_tests)
-keeps logs w v (CrashesDirty who h) book giving reporting = grind (arith, nat_tests)
-keeps logs w v (CrashesClean who h) book giving reporting = grind (arith, nat_tests)
-keeps logs w v (RestartsAdopting who incarnation promised h k) book giving reporting = grind (arith, nat_tests)
-keeps logs w v (RestartsDiscarding who incarnation promised h) book giving reporting = grind (arith, nat_tests)
 keeps logs w v (Promises who epoch h) book giving reporting = promise_keeps_reporting w who epoch h book giving reporting
 keeps logs w v (Reports who end h k) book giving reporting = report_keeps_reporting w who end h book giving reporting
 keeps logs w v (Activates epoch report applied e h k) book giving reporting = activate_keeps_reporting w epoch report applied e h book giving reporting
-keeps logs w v (SealsCopy who log segment h k) book giving reporting = grind (arith, nat_tests)
-keeps logs w v (SealsOther who h) book giving reporting = grind (arith, nat_tests)
-keeps logs w v (SettlesCopy who h) book giving reporting = grind (arith, nat_tests)
-keeps logs w v (DiscardsCopy who h) book giving reporting = grind (arith, nat_tests)
-keeps logs w v (Loses x h) book giving reporting = grind (arith, nat_tests)
+keeps logs w v step book giving reporting = grind (arith, nat_tests)
 
 pub begins : (n : ℕ) → Reporting (start n)
 begins n = record {
