@@ -31,7 +31,7 @@ use Rattle.token_manager.specs.declared.input.In.TheVariants.{Want, Gave, Deltas
 use Rattle.token_manager.specs.SlotState.{SlotState}
 use Rattle.token_manager.specs.Transition.{started, want_of, finished, given, gave_one, with_deltas, finished_at, transition}
 use Rattle.token_manager.specs.Laws.{OwnsAlone, Awaits, MustGiveWay, IsGuarded, state_after}
-use Rattle.token_manager.proofs.Cases.{recalled_from, by_want, all_given, by_gave_answered, by_deltas, let_go, by_finished_at}
+use Rattle.token_manager.proofs.Cases.{recalled_from, by_want, all_given, by_gave_both, by_deltas, let_go, by_finished_at}
 use Rattle.token_manager.proofs.JobsBarGrants.{Waiting, block_laws, waiting-removed, after_removal, was_there, gone, not_waiting}
 use Rattle.token_manager.proofs.Guarded.{Sound, sound-transition, sound-answered, sound-start, ReadyAt, ready_finds, jobs_fewer}
 
@@ -377,8 +377,8 @@ exact-transition s (Want client block inc req again mode end) sound exact =
     (recalls-once s.epoch s.turn owners (recalled_from s want) (others_once s.beliefs block client owners sound.sorted)) exact)
 exact-transition s (Gave client block stamp end) sound exact =
     let w = sound.waiting in
-    by_gave_answered (λ r. Exact r.state) s client block stamp end exact
-    (λ job fact _. exact-finished (all_given s client block job.want) job.want (waiting-removed s.jobs block w)
+    by_gave_both (λ r. Exact r.state) s client block stamp end exact
+    (λ job fact _ _. exact-finished (all_given s client block job.want) job.want (waiting-removed s.jobs block w)
     (exact-all_given s job.want client block sound exact)
     (subst (λ x. job_at (without_job s.jobs block) x ≡ None) (sym (w.own block job fact)) (gone s.jobs block w.sorted)))
     (λ job fact any. exact-gave_one s job client block stamp end sound exact fact any)

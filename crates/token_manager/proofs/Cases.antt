@@ -1,5 +1,5 @@
 -- The cases of each transition: what holds of each outcome holds of what the transition gives.
-use Rattle.std.proofs.Common.{◌≡◌, ℕ, ◌==◌, Bool, true, false, cond, not, List, length, Option, Some, None, refl, ap}
+use Rattle.std.proofs.Common.{◌≡◌, ℕ, ◌==◌, true, false, cond, not, List, length, Option, Some, None, refl, ap}
 use Rattle.std.specs.List.{list_any}
 use Rattle.xfs_base.specs.Steps.{still}
 use Rattle.xfs_base.specs.declared.block.BlockId.{BlockId}
@@ -7,6 +7,7 @@ use Rattle.xfs_base.specs.declared.entry.Entry.{Entry}
 use Rattle.xfs_base.specs.declared.segment.LogId.{LogId}
 use Rattle.xfs_base.specs.declared.token.Stamp.{Stamp}
 use Rattle.xfs_base.specs.Modes.{is_own}
+use Rattle.xfs_base.proofs.Booleans.{by_test}
 use Rattle.slot_beliefs.specs.declared.job.Wanted.{Wanted}
 use Rattle.slot_beliefs.specs.declared.job.Awaited.{Awaited}
 use Rattle.slot_beliefs.specs.declared.job.Job.{Job}
@@ -14,10 +15,6 @@ use Rattle.slot_beliefs.specs.Beliefs.{others}
 use Rattle.slot_beliefs.specs.Recalls.{answers, noted, applied_of, is_ready, job_at, without_job, is_followed}
 use Rattle.token_manager.specs.SlotState.{SlotState}
 use Rattle.token_manager.specs.Transition.{Done, has_turns, finished, finish, recalled, recall, recall_or_finish, is_dropped, on_want, given, gave_last, gave_one, gave_noted, gave_job, on_gave, finished_job, finished_at, can_apply, apply, apply_or_not, joins_on, told_applied, deltas_of, on_deltas}
-
-choose : (Q : Done → Type 0) (b : Bool) (x y : Done) → (b ≡ true → Q x) → (b ≡ false → Q y) → Q (cond b x y)
-choose Q true x y first second = first refl
-choose Q false x y first second = second refl
 
 -- the clients from which a want recalls its block
 abbrev pub recalled_from : SlotState → Wanted → List ℕ
@@ -28,10 +25,10 @@ pub by_want : (Q : Done → Type 0) (s : SlotState) (want : Wanted) (end : ℕ) 
     → (is_dropped s want end ≡ false → Q (recalled s want (recalled_from s want))) → Q (on_want s want end)
 by_want Q s want end same done waits =
     let clients = recalled_from s want in
-    choose Q (is_dropped s want end) (still s) (recall_or_finish s want clients) (λ _. same) (λ going.
-    choose Q (length clients == 0) (finish s want) (recall s want clients)
-    (λ none. choose Q (has_turns s.turn 1) (finished s want) (still s) (λ _. done going none) (λ _. same))
-    (λ _. choose Q (has_turns s.turn (length clients)) (recalled s want clients) (still s) (λ _. waits going) (λ _. same)))
+    by_test Q (is_dropped s want end) (still s) (recall_or_finish s want clients) (λ _. same) (λ going.
+    by_test Q (length clients == 0) (finish s want) (recall s want clients)
+    (λ none. by_test Q (has_turns s.turn 1) (finished s want) (still s) (λ _. done going none) (λ _. same))
+    (λ _. by_test Q (has_turns s.turn (length clients)) (recalled s want clients) (still s) (λ _. waits going) (λ _. same)))
 
 -- a want that is dropped changes nothing
 pub on_want-dropped : (s : SlotState) (want : Wanted) (end : ℕ) → is_dropped s want end ≡ true → on_want s want end ≡ still s
@@ -46,43 +43,34 @@ on_want-taken s want end taken = ap (λ b. cond b (still s) (recall_or_finish s 
 abbrev pub all_given : SlotState → ℕ → BlockId → Wanted → SlotState
 all_given s client block want = record (given s want client block) { jobs = without_job s.jobs block }
 
+-- the cases of a Gave: it is dropped, it ends the want's waiting, or the want waits on
+pub by_gave_both : (Q : Done → Type 0) (s : SlotState) (client : ℕ) (block : BlockId) (stamp : Stamp) (end : ℕ) → Q (still s)
+    → ((job : Job) → job_at s.jobs block ≡ Some job → list_any (answers client stamp) job.awaited ≡ true
+    → is_ready s.applied (noted job.awaited client stamp end) ≡ true → Q (finished (all_given s client block job.want) job.want))
+    → ((job : Job) → job_at s.jobs block ≡ Some job → list_any (answers client stamp) job.awaited ≡ true
+    → Q (still (gave_one s client block job.want (noted job.awaited client stamp end))))
+    → Q (on_gave s client block stamp end)
+unfolding gave_noted
+by_gave_both Q s client block stamp end same done on = by_job (job_at s.jobs block) refl
+  where
+    by_job : (o : Option Job) → job_at s.jobs block ≡ o → Q (gave_job s client block stamp end o)
+    by_job None fact = same
+    by_job (Some job) fact =
+        let awaited = noted job.awaited client stamp end in
+        by_test Q (list_any (answers client stamp) job.awaited) (gave_noted s client block job.want awaited) (still s)
+        (λ any. by_test Q (is_ready s.applied awaited) (gave_last s client block job.want) (still (gave_one s client block job.want awaited))
+        (λ ready. by_test Q (has_turns s.turn 1) (finished (all_given s client block job.want) job.want) (still s) (λ _. done job fact any ready) (λ _. same))
+        (λ _. on job fact any))
+        (λ _. same)
+
+-- the same, where it is of no account whose recall is answered
 pub by_gave : (Q : Done → Type 0) (s : SlotState) (client : ℕ) (block : BlockId) (stamp : Stamp) (end : ℕ) → Q (still s)
     → ((job : Job) → job_at s.jobs block ≡ Some job → is_ready s.applied (noted job.awaited client stamp end) ≡ true
     → Q (finished (all_given s client block job.want) job.want))
     → ((job : Job) → job_at s.jobs block ≡ Some job → Q (still (gave_one s client block job.want (noted job.awaited client stamp end))))
     → Q (on_gave s client block stamp end)
-unfolding gave_noted
-by_gave Q s client block stamp end same done noted_ = by_job (job_at s.jobs block) refl
-  where
-    by_job : (o : Option Job) → job_at s.jobs block ≡ o → Q (gave_job s client block stamp end o)
-    by_job None fact = same
-    by_job (Some job) fact =
-        let awaited = noted job.awaited client stamp end in
-        choose Q (list_any (answers client stamp) job.awaited) (gave_noted s client block job.want awaited) (still s)
-        (λ _. choose Q (is_ready s.applied awaited) (gave_last s client block job.want) (still (gave_one s client block job.want awaited))
-        (λ ready. choose Q (has_turns s.turn 1) (finished (all_given s client block job.want) job.want) (still s) (λ _. done job fact ready) (λ _. same))
-        (λ _. noted_ job fact))
-        (λ _. same)
-
--- the same, with the recall that is answered
-pub by_gave_answered : (Q : Done → Type 0) (s : SlotState) (client : ℕ) (block : BlockId) (stamp : Stamp) (end : ℕ) → Q (still s)
-    → ((job : Job) → job_at s.jobs block ≡ Some job → list_any (answers client stamp) job.awaited ≡ true
-    → Q (finished (all_given s client block job.want) job.want))
-    → ((job : Job) → job_at s.jobs block ≡ Some job → list_any (answers client stamp) job.awaited ≡ true
-    → Q (still (gave_one s client block job.want (noted job.awaited client stamp end))))
-    → Q (on_gave s client block stamp end)
-unfolding gave_noted
-by_gave_answered Q s client block stamp end same done noted_ = by_job (job_at s.jobs block) refl
-  where
-    by_job : (o : Option Job) → job_at s.jobs block ≡ o → Q (gave_job s client block stamp end o)
-    by_job None fact = same
-    by_job (Some job) fact =
-        let awaited = noted job.awaited client stamp end in
-        choose Q (list_any (answers client stamp) job.awaited) (gave_noted s client block job.want awaited) (still s)
-        (λ any. choose Q (is_ready s.applied awaited) (gave_last s client block job.want) (still (gave_one s client block job.want awaited))
-        (λ _. choose Q (has_turns s.turn 1) (finished (all_given s client block job.want) job.want) (still s) (λ _. done job fact any) (λ _. same))
-        (λ _. noted_ job fact any))
-        (λ _. same)
+by_gave Q s client block stamp end same done on =
+    by_gave_both Q s client block stamp end same (λ job fact _. done job fact) (λ job fact _. on job fact)
 
 -- where an answer is the last, the want is answered
 pub gave_noted-ready : (s : SlotState) (client : ℕ) (block : BlockId) (want : Wanted) (awaited : List Awaited) → is_ready s.applied awaited ≡ true
@@ -93,9 +81,9 @@ gave_noted-ready s client block want awaited ready = ap (λ b. cond b (gave_last
 pub by_deltas : (Q : Done → Type 0) (s : SlotState) (log : LogId) (first upto : ℕ) (rows : List (BlockId × Entry)) → Q (still s) → Q (told_applied s log)
     → (joins_on (applied_of s.applied log.0) first upto ≡ true → Q (apply s log upto rows)) → Q (on_deltas s log first upto rows)
 by_deltas Q s log first upto rows same told done =
-    choose Q (is_followed log) (deltas_of s log first upto rows) (still s)
-    (λ _. choose Q (joins_on (applied_of s.applied log.0) first upto) (apply_or_not s log upto rows) (told_applied s log)
-    (λ joins. choose Q (can_apply s log upto rows) (apply s log upto rows) (still s) (λ _. done joins) (λ _. same))
+    by_test Q (is_followed log) (deltas_of s log first upto rows) (still s)
+    (λ _. by_test Q (joins_on (applied_of s.applied log.0) first upto) (apply_or_not s log upto rows) (told_applied s log)
+    (λ joins. by_test Q (can_apply s log upto rows) (apply s log upto rows) (still s) (λ _. done joins) (λ _. same))
     (λ _. told))
     (λ _. same)
 

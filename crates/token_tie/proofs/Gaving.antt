@@ -24,8 +24,8 @@ use Rattle.slot_beliefs.proofs.Shares.{belief, disowned, holder_laws}
 use Rattle.token_manager.specs.Laws.{Awaits}
 use Rattle.token_manager.specs.Recalls.{sent}
 use Rattle.token_manager.specs.SlotState.{SlotState}
-use Rattle.token_manager.specs.Transition.{Done, has_turns, passers, finished, given, gave_last, gave_one, gave_noted, gave_job, on_gave}
-use Rattle.token_manager.proofs.Cases.{all_given}
+use Rattle.token_manager.specs.Transition.{passers, finished, given, gave_one, on_gave}
+use Rattle.token_manager.proofs.Cases.{all_given, by_gave_both}
 use Rattle.token_manager.proofs.Guarded.{Sound, LeavesRoom, leaves_room, awaits-given, awaits-noted, ready_none}
 use Rattle.token_manager.proofs.AwaitsJust.{more_elsewhere, more_others, answered}
 use Rattle.token_manager.proofs.JobsBarGrants.{block_laws, after_removal, gone}
@@ -43,27 +43,7 @@ use Rattle.token_tie.proofs.Frames.{put_there, both_quiet}
 use Rattle.token_tie.proofs.Managing.{by_through, runs_nowhere, turns-runs, finished-runs}
 use Rattle.token_tie.proofs.Wanting.{by_block, answer_quiet, other_put}
 use Rattle.xfs_base.specs.Modes.{is_nothing, is_own}
-use Rattle.xfs_base.proofs.Booleans.{and_first, and_second, by_test, contrary}
-
--- the cases of a Gave: it is dropped, it ends the want's waiting, or the want waits on
-by_gave_both : (Q : Done → Type 0) (s : SlotState) (client : ℕ) (block : BlockId) (stamp : Stamp) (end : ℕ) → Q (still s)
-    → ((job : Job) → job_at s.jobs block ≡ Some job → list_any (answers client stamp) job.awaited ≡ true
-    → is_ready s.applied (noted job.awaited client stamp end) ≡ true → Q (finished (all_given s client block job.want) job.want))
-    → ((job : Job) → job_at s.jobs block ≡ Some job → list_any (answers client stamp) job.awaited ≡ true
-    → Q (still (gave_one s client block job.want (noted job.awaited client stamp end))))
-    → Q (on_gave s client block stamp end)
-unfolding gave_noted
-by_gave_both Q s client block stamp end same done on = by_job (job_at s.jobs block) refl
-  where
-    by_job : (o : Option Job) → job_at s.jobs block ≡ o → Q (gave_job s client block stamp end o)
-    by_job None fact = same
-    by_job (Some job) fact =
-        let awaited = noted job.awaited client stamp end in
-        by_test Q (list_any (answers client stamp) job.awaited) (gave_noted s client block job.want awaited) (still s)
-        (λ any. by_test Q (is_ready s.applied awaited) (gave_last s client block job.want) (still (gave_one s client block job.want awaited))
-        (λ ready. by_test Q (has_turns s.turn 1) (finished (all_given s client block job.want) job.want) (still s) (λ _. done job fact any ready) (λ _. same))
-        (λ _. on job fact any))
-        (λ _. same)
+use Rattle.xfs_base.proofs.Booleans.{and_first, and_second, contrary}
 
 -- ---- the recalls
 
