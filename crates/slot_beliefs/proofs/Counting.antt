@@ -143,7 +143,7 @@ fits_more i m ms counted fits = λ seg some.
     omega arith
 
 -- no segment has more of the rows than there are
-live_in-limit : (seg : SegName) (rows : List (BlockId × Entry)) → live_in seg rows ≤ length rows
+pub live_in-limit : (seg : SegName) (rows : List (BlockId × Entry)) → live_in seg rows ≤ length rows
 live_in-limit seg [] = omega arith
 live_in-limit seg (r ∷ rs) =
     let rest : live_in seg rs ≤ length rs = live_in-limit seg rs in
