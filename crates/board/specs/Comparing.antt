@@ -7,6 +7,7 @@ use Rattle.wire_msg.specs.declared.packet.Do.TheVariants.{Begin, Deliver, Tick}
 use Rattle.wire_msg.specs.declared.packet.Packet.{Packet}
 use Rattle.wire_msg.specs.declared.registry.CkptDone.{CkptDone}
 use Rattle.wire_msg.specs.declared.registry.Hello.{Hello}
+use Rattle.wire_msg.specs.Kinds.{is_begin, is_tick}
 use Rattle.xfs_base.specs.Nodes.{same_node}
 use Rattle.xfs_base.specs.declared.segment.SegRef.{SegRef}
 use Rattle.board.specs.declared.command.Command.{Command}
@@ -47,16 +48,6 @@ same_body _ b = false
 
 abbrev pub same_packet : Packet → Packet → Bool
 same_packet a b = same_node a.from b.from && (same_node a.to b.to && ((a.clock == b.clock) && same_body a.body b.body))
-
-abbrev pub is_begin : Do → Bool
-is_begin Begin = true
-is_begin (Deliver b) = false
-is_begin Tick = false
-
-abbrev pub is_tick : Do → Bool
-is_tick Begin = false
-is_tick (Deliver b) = false
-is_tick Tick = true
 
 abbrev pub is_delivery : Packet → Do → Bool
 is_delivery a Begin = false

@@ -1,6 +1,7 @@
 //! Commands are compared whole, clocks of delivered packets included.
 ghost use Rattle.std.specs.Prelude.{◌≡◌, nat_eq};
-ghost use Rattle.board.specs.Comparing.{same_lists, same_segment, same_hello, same_done, is_hello, is_done, same_body, same_packet, is_begin, is_tick, is_delivery, same_do, same_command};
+ghost use Rattle.wire_msg.specs.Kinds.{is_begin, is_tick};
+ghost use Rattle.board.specs.Comparing.{same_lists, same_segment, same_hello, same_done, is_hello, is_done, same_body, same_packet, is_delivery, same_do, same_command};
 
 use crate::Command;
 use wire_msg::{Body, CkptDone, Do, Hello, Packet};

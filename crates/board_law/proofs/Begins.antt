@@ -15,7 +15,7 @@ use Rattle.world_base.specs.declared.event.Event.{Event}
 use Rattle.world_base.specs.declared.event.Event.TheVariants as events
 use Rattle.world_base.specs.Events.{event_of, node_of}
 use Rattle.world_base.specs.Runs.{begin_of, begins_of, begun_in}
-use Rattle.board.specs.Comparing.{is_begin}
+use Rattle.wire_msg.specs.Kinds.{is_begin}
 use Rattle.board.specs.State.{chosen_part}
 use Rattle.board.specs.declared.command.Command.{Command}
 use Rattle.board.specs.declared.input.In as inputs

@@ -2,7 +2,7 @@
 use Rattle.std.specs.Prelude.{ℕ, ◌+◌, ◌==◌, Bool, not, ◌&&◌, ◌||◌, nat_le, List, [], ◌∷◌, if◌then◌else◌}
 use Rattle.xfs_base.specs.Steps.{Stepped, still, steps}
 use Rattle.xfs_base.specs.declared.node.NodeId.TheVariants.{Registry}
-use Rattle.board.specs.Comparing.{is_begin}
+use Rattle.wire_msg.specs.Kinds.{is_begin}
 use Rattle.board.specs.declared.command.Command.{Command}
 use Rattle.world_base.specs.Events.{event_of}
 use Rattle.world_base.specs.declared.event.Event.{Event}

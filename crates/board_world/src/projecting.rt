@@ -1,6 +1,6 @@
 //! Which commands happen to a registry that takes them in their order, and as which events.
 ghost use Rattle.std.specs.Prelude.{◌≡◌, ◌++◌, OnOk, IfOk};
-ghost use Rattle.board.specs.Comparing.{is_begin};
+ghost use Rattle.wire_msg.specs.Kinds.{is_begin};
 ghost use Rattle.board_world.specs.Projection.{is_next, is_due, begun_by, projected, projected_all};
 
 use board::Command;

@@ -203,11 +203,10 @@ fn room_for(filed: &[FiledDeltas], slot: u8) -> usize {
 }
 
 fn count_rows(rows: &List<(BlockId, Entry)>, slot: u8) -> usize {
-    let mut count: usize = 0;
-    for row in rows.as_slice() {
-        count = count.saturating_add(usize::from(row.0.ino.slot() == slot));
-    }
-    count
+    rows.as_slice()
+        .iter()
+        .filter(|row| row.0.ino.slot() == slot)
+        .count()
 }
 
 fn add_slot_rows(

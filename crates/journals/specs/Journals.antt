@@ -5,6 +5,7 @@ use Rattle.version_model.specs.declared.act.Act.{Act}
 use Rattle.wire_msg.specs.declared.packet.Do.{Do}
 use Rattle.wire_msg.specs.declared.packet.Do.TheVariants.{Begin, Deliver, Tick}
 use Rattle.wire_msg.specs.declared.packet.Packet.{Packet}
+use Rattle.wire_msg.specs.Kinds.{is_begin}
 use Rattle.wire_msg.specs.NodeStep.{NodeStep}
 use Rattle.xfs_base.specs.declared.node.NodeId.{NodeId}
 use Rattle.world_base.specs.declared.due.Due.{Due}
@@ -45,11 +46,6 @@ packet_at m = packet_of m.what
 -- the packets that were delivered
 abbrev pub delivered_in : List Moment → List Packet
 delivered_in ms = filter_map packet_at ms
-
-abbrev pub is_begin : Do → Bool
-is_begin Begin = true
-is_begin (Deliver packet) = false
-is_begin Tick = false
 
 -- how many items were begun
 abbrev pub begins : List Do → ℕ

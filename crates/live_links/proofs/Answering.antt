@@ -7,13 +7,14 @@ use Rattle.version_model.specs.declared.act.Act.{Act}
 use Rattle.version_model.specs.declared.work.Work.{Work}
 use Rattle.wire_msg.specs.declared.packet.Do.{Do}
 use Rattle.wire_msg.specs.declared.packet.Do.TheVariants.{Begin, Tick}
+use Rattle.wire_msg.specs.Kinds.{is_begin, is_tick}
 use Rattle.wire_msg.specs.NodeStep.{NodeStep}
 use Rattle.xfs_base.specs.declared.node.NodeId.{NodeId}
 use Rattle.xfs_base.specs.declared.setup.Setup.{Setup}
 use Rattle.world_base.specs.NextWorld.{clock_after, sent_at}
 use Rattle.journals.specs.declared.moment.Moment.{Moment}
-use Rattle.journals.specs.Journals.{acts_in, begins, is_begin, last_clock, replayed, whats}
-use Rattle.live_links.specs.Acts.{is_tick, ticks, turned, turned_at}
+use Rattle.journals.specs.Journals.{acts_in, begins, last_clock, replayed, whats}
+use Rattle.live_links.specs.Acts.{ticks, turned, turned_at}
 use Rattle.live_links.specs.Answered.{AnswersMore, answered_at, answers_by, is_answer_by}
 use Rattle.live_links.specs.Facts.{first_at, name_at}
 use Rattle.live_links.proofs.Turns.{acts_more, count_by-append, whats_more}

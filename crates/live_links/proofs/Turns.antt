@@ -8,6 +8,7 @@ use Rattle.std.proofs.lemmas.List.Elements.{Contains-push_cases}
 use Rattle.wire_msg.specs.declared.packet.Do.{Do}
 use Rattle.wire_msg.specs.declared.packet.Do.TheVariants.{Begin}
 use Rattle.wire_msg.specs.declared.packet.Packet.{Packet}
+use Rattle.wire_msg.specs.Kinds.{is_begin}
 use Rattle.wire_msg.specs.NodeStep.{NodeStep}
 use Rattle.xfs_base.specs.declared.node.NodeId.{NodeId}
 use Rattle.xfs_base.proofs.Booleans.{and_first, and_second, equal_itself}
@@ -16,7 +17,7 @@ use Rattle.world_base.specs.NextWorld.{clock_after, sent_at}
 use Rattle.journals.specs.declared.answers.Answers.{Answers}
 use Rattle.journals.specs.declared.moment.Moment.{Moment}
 use Rattle.journals.specs.Answers.{AreKnown, IsSettled, has_answer, knows}
-use Rattle.journals.specs.Journals.{MayBegin, MeetsDues, acts_in, begins, is_begin, is_some_of, is_stamped, last_clock, replayed, sent_in, told_by, what_at, whats}
+use Rattle.journals.specs.Journals.{MayBegin, MeetsDues, acts_in, begins, is_some_of, is_stamped, last_clock, replayed, sent_in, told_by, what_at, whats}
 use Rattle.journals.proofs.Gets.{get_left, get_right, get_snoc, none_in, place_of}
 use Rattle.journals.proofs.Keeping.{told_more}
 use Rattle.journals.proofs.Known.{known_more}

@@ -4,6 +4,7 @@ use Rattle.std.specs.List.{count_by}
 use Rattle.wire_msg.specs.declared.packet.Do.{Do}
 use Rattle.wire_msg.specs.declared.packet.Do.TheVariants.{Begin, Deliver, Tick}
 use Rattle.wire_msg.specs.NodeStep.{NodeStep}
+use Rattle.wire_msg.specs.Kinds.{is_tick}
 use Rattle.xfs_base.specs.declared.node.NodeId.{NodeId}
 use Rattle.world_base.specs.declared.cluster.Cluster.{Cluster}
 use Rattle.world_base.specs.declared.due.Due.{Due}
@@ -23,11 +24,6 @@ pub record CellView : Type 0 where
   pub moments : List Moment
   pub outs : List Out
   pub ins : List In
-
-abbrev pub is_tick : Do → Bool
-is_tick Begin = false
-is_tick (Deliver packet) = false
-is_tick Tick = true
 
 -- how often time passed
 abbrev pub ticks : List Do → ℕ

@@ -6,6 +6,7 @@ use Rattle.std.proofs.lemmas.List.Sums.{sum_by-cons}
 use Rattle.script_text.specs.declared.script.Line.{Line}
 use Rattle.wire_msg.specs.declared.packet.Do.{Do}
 use Rattle.wire_msg.specs.declared.packet.Do.TheVariants as whats
+use Rattle.wire_msg.specs.Kinds.{is_begin}
 use Rattle.wire_msg.specs.NodeStep.{NodeStep}
 use Rattle.xfs_base.specs.declared.node.NodeId.{NodeId}
 use Rattle.xfs_base.specs.declared.setup.Setup.{Setup}
@@ -21,7 +22,7 @@ use Rattle.world_base.specs.Items.{actor_of, is_for, is_for_actor, items_of}
 use Rattle.world_base.specs.NextWorld.{at_place, clock_at, happened, happened_at, next_world, turned}
 use Rattle.world_base.specs.Runs.{begins_of, begun_in}
 use Rattle.world_base.proofs.Places.{place_had}
-use Rattle.journals.specs.Journals.{begins, is_begin}
+use Rattle.journals.specs.Journals.{begins}
 use Rattle.journals.specs.Merging.{Rises, whats_of}
 use Rattle.live_run.specs.Live.{IsLineOfNode, IsOfNode}
 

@@ -1,1 +1,2 @@
 pub mod NodeStep
+pub mod Kinds

@@ -35,9 +35,7 @@ impl<T: Drop> Shared<T> {
             shared: Arc::new(alloc, part)?,
         })
     }
-}
 
-impl<T: Drop> Shared<T> {
     /// The same part.
     pub fn copy(&self, _alloc: Global) -> Mem<Shared<T>>
         ensures { IfOk result (λ copied. copied ≡ self.now) }
