@@ -6,82 +6,30 @@ use Rattle.log_protocol.specs.Packets.{StorePacket, StoredPacket, FragmentPacket
 use Rattle.log_protocol.specs.State.{State}
 use Rattle.log_protocol.specs.Tables.{In}
 use Rattle.log_tie.specs.Setting.{Setting, present_at, point}
+use Rattle.log_tie.specs.Shelves.{rest}
 use Rattle.log_tie.specs.Seen.{Page, Book, Flying, FlightShown, Writes, Serves, Fixed}
 use Rattle.log_tie.specs.Openings.{Chained, WritingShown}
 use Rattle.log_tie.specs.Rounds.{IsSpelled, IsGrouped}
-use Rattle.log_tie.specs.Scans.{Asked, Opener, opener_of, ByOthers}
+use Rattle.log_tie.specs.Scans.{Asked, opener_of, ByOthers}
 use Rattle.log_law.specs.Net.{Owner}
 use Rattle.log_law.specs.Net.Owner.{Down, Opening, Writing, Serving}
 use Rattle.log_law.specs.Below.{Below}
 use Rattle.log_law.proofs.Views.{Behind, Flown, OwnerShown}
 use Rattle.log_law.proofs.Growing.{Later}
 
--- all that is the owner's, or of the book
-pub record Seat : Type 0 where
-  pub servers : ℕ
-  pub seq_of : ℕ → ℕ
-  pub incarnation_of : ℕ → ℕ
-  pub attempt_of : ℕ → ℕ
-  pub owner_generation : ℕ → ℕ
-  pub booked : ℕ → ℕ
-  pub text_of : ℕ → ℕ
-  pub member_count : ℕ → ℕ
-  pub member_server : ℕ → ℕ → ℕ
-  pub member_generation : ℕ → ℕ → ℕ
-  pub prior_of : ℕ → ℕ
-  pub content_of : ℕ → ℕ
-  pub filed : ℕ → ℕ
-  pub stores : List StorePacket
-  pub incarnation : ℕ
-  pub phase : ℕ
-  pub end : ℕ
-  pub flight : ℕ
-  pub noted : ℕ → ℕ
-  pub base : ℕ
-  pub opening_seq : ℕ
-  pub read_low : ℕ
-  pub pick_low : ℕ
-  pub begin_low : ℕ
-  pub span_low : ℕ
-  pub spanning : ℕ
-  pub served : ℕ
-  pub clean : ℕ
-  pub line : ℕ → ℕ
-  pub head : ℕ
-
-abbrev pub seat_of : State → Seat
-seat_of w = record {
-  servers = w.servers;
-  seq_of = w.seq_of;
-  incarnation_of = w.incarnation_of;
-  attempt_of = w.attempt_of;
-  owner_generation = w.owner_generation;
-  booked = w.booked;
-  text_of = w.text_of;
-  member_count = w.member_count;
-  member_server = w.member_server;
-  member_generation = w.member_generation;
-  prior_of = w.prior_of;
-  content_of = w.content_of;
-  filed = w.filed;
-  stores = w.stores;
-  incarnation = w.incarnation;
-  phase = w.phase;
-  end = w.end;
-  flight = w.flight;
-  noted = w.noted;
-  base = w.base;
-  opening_seq = w.opening_seq;
-  read_low = w.read_low;
-  pick_low = w.pick_low;
-  begin_low = w.begin_low;
-  span_low = w.span_low;
-  spanning = w.spanning;
-  served = w.served;
-  clean = w.clean;
-  line = w.line;
-  head = w.head;
-}
+-- the log, but for what servers, the registry and the cleaner change: what is left is the owner's, or of the book
+abbrev pub seat_of : State → State
+seat_of w =
+    record (rest w) {
+      registry_generation = λ v. 0;
+      content_at = λ q c. 0;
+      low_when_booked = λ x. 0;
+      dropped = λ x. 0;
+      feed = λ q. 0;
+      feed_base = 0;
+      low = 0;
+      line_low = 0;
+    }
 
 -- Servers, the registry or the cleaner stepped: the owner and the book are as they were, what was sent or dropped stays so, generations and horizons rise.
 pub record Apart (w u : State) : Type 0 where
@@ -95,7 +43,7 @@ pub record Apart (w u : State) : Type 0 where
 
 module _ (g : Setting) (w u : State) (book : ℕ → Segment) (by : Apart w u) where
   -- what holds of the seat there holds here
-  pub same : (P : Seat → Type 0) → P (seat_of w) → P (seat_of u)
+  pub same : (P : State → Type 0) → P (seat_of w) → P (seat_of u)
   same P h = subst P (sym by.seat) h
 
   pub later_apart : Later w u book book
@@ -184,21 +132,7 @@ module _ (g : Setting) (w u : State) (book : ℕ → Segment) (by : Apart w u) w
   }
 
   by_others : ByOthers w u
-  by_others = record { opener = same (λ o. opener_of_seat o ≡ opener_of w) refl; fenceds = by.fenceds; registry = by.registry; low = by.low }
-    where
-      opener_of_seat : Seat → Opener
-      opener_of_seat o = record {
-        incarnation = o.incarnation;
-        phase = o.phase;
-        begin_low = o.begin_low;
-        base = o.base;
-        opening_seq = o.opening_seq;
-        read_low = o.read_low;
-        pick_low = o.pick_low;
-        owner_generation = o.owner_generation;
-        booked = o.booked;
-        prior_of = o.prior_of;
-      }
+  by_others = record { opener = same (λ o. opener_of o ≡ opener_of w) refl; fenceds = by.fenceds; registry = by.registry; low = by.low }
 
   pub owner_apart : Below → (hellos : List Asked) (o : Owner) → OwnerShown g w book hellos o → OwnerShown g u book hellos o
   owner_apart k hellos Down h = same (λ o. o.phase ≡ 0) h

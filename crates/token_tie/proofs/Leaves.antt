@@ -18,16 +18,15 @@ use Rattle.token_protocol.specs.Client.{Client}
 use Rattle.token_protocol.specs.Entry as abstract_entry
 use Rattle.token_protocol.specs.Premises.{Premise, SettledEnd, PlaceRead, IsSupplied}
 use Rattle.token_protocol.specs.Stamps.{Seen}
-use Rattle.token_protocol.specs.Step.{Step}
 use Rattle.token_protocol.specs.Step.Step.{Asks, AsksAgain, DropsWant, DropsFetch, WritesFirst, Declines, TakesAbsent, TakesSupply, TakesPlace, Fetches, Writes, Evicts, Gives, GivesAgain, Promises}
 use Rattle.token_protocol.specs.World.{World}
 use Rattle.token_protocol.specs.Asking.{asks, asks_again, drops_want, drops_fetch}
 use Rattle.token_protocol.specs.Taking.{MayTake, writes_first, declines, takes_value, takes_place, fetches}
 use Rattle.token_protocol.specs.Using.{writes, evicts}
-use Rattle.token_protocol.specs.Giving.{gives, gives_again}
+use Rattle.token_protocol.specs.Giving.{MayGive, gives, gives_again}
 use Rattle.token_protocol.specs.Takeover.{promises}
 use Rattle.token_protocol.proofs.StampsSeen.{taken, equal, stamped, promised}
-use Rattle.token_tie.specs.Seen.{WantShown, FetchShown, SentOffer, SentRecall, offer_seen, recall_seen, Setting, Local, Shows, mode_number, kept, located, stamp_seen, node_seen}
+use Rattle.token_tie.specs.Seen.{WantShown, FetchShown, ValueShown, SentOffer, SentRecall, offer_seen, recall_seen, Setting, Local, Shows, mode_number, kept, located, stamp_seen, node_seen}
 use Rattle.token_tie.specs.Taken.{Acts, Goes, AllSaid}
 use Rattle.token_tie.proofs.Frames.{acts_by, goes_saying}
 use Rattle.xfs_base.specs.Modes.{is_held, is_own}
@@ -45,23 +44,28 @@ module _ (logs : Bool) (g : Setting) (end : ℕ) (w : World) where
   abbrev Shown : Local → Type 0
   Shown l = Shows g w.epoch l here
 
+  -- a client is shown whose want alone is another
+  wants_shown : (l : Local) → Shown l → {o : Option Wanted} {req want request : ℕ} → request ≤ req → WantShown o want request
+      → Shows g w.epoch (record l { req = req; held = record l.held { want = o } }) (record here { want = want; request = request })
+  wants_shown l s counted wants = record {
+    client = s.client;
+    serving = s.serving;
+    boot = s.boot;
+    incarnation = s.incarnation;
+    stamps = restamped _ here _ w.epoch refl refl s.stamps;
+    mode = s.mode;
+    counted = counted;
+    want = wants;
+    version = s.version;
+    settled = s.settled;
+    value = s.value;
+    fetch = s.fetch;
+  }
+
   pub drops_want-goes : (l : Local) → Shown l → To (record l { held = record l.held { want = None } }) []
   drops_want-goes l s =
       acts_by logs g end w (drops_want w g.client) [] _ [] (record here { want = 0 }) (DropsWant g.client) refl refl refl (λ p fact. fact) (λ y fact. fact)
-      (record {
-        client = s.client;
-        serving = s.serving;
-        boot = s.boot;
-        incarnation = s.incarnation;
-        stamps = restamped _ here _ w.epoch refl refl s.stamps;
-        mode = s.mode;
-        counted = s.counted;
-        want = refl;
-        version = s.version;
-        settled = s.settled;
-        value = s.value;
-        fetch = s.fetch;
-      }) tt
+      (wants_shown l s s.counted refl) tt
 
   -- a fetch is let go, whatever recall was put off
   lets_fetch_go : (l : Local) (giving : Option Giving) → Shown l → To (record l { held = record l.held { fetch = None; giving = giving } }) []
@@ -101,20 +105,7 @@ module _ (logs : Bool) (g : Setting) (end : ℕ) (w : World) where
       (record { client = s.client; serving = s.serving; some = some_rank mode some; upto_own = most_rank mode; less = omega arith; unused = omega arith })
       settled)
       refl refl refl (λ p fact. inr fact) (λ y fact. fact)
-      (record {
-        client = s.client;
-        serving = s.serving;
-        boot = s.boot;
-        incarnation = s.incarnation;
-        stamps = restamped _ here _ w.epoch refl refl s.stamps;
-        mode = s.mode;
-        counted = omega arith;
-        want = (refl, refl, some);
-        version = s.version;
-        settled = s.settled;
-        value = s.value;
-        fetch = s.fetch;
-      }) (
+      (wants_shown l s (omega arith) (refl, refl, some)) (
         λ fact. inl (ap (λ i. record { client = g.client; incarnation = i; request = l.req + 1; mode = mode_number mode; end = end }) (sym s.incarnation)),
         tt,
       )
@@ -127,20 +118,7 @@ module _ (logs : Bool) (g : Setting) (end : ℕ) (w : World) where
       let limit = some_rank v.mode open_.2 in let named = open_.0 in
       acts_by logs g end w (asks_again w g.client end) [] _ _ here (AsksAgain g.client end (record { open_want = omega arith }) settled)
       refl (sym (put_back w.client g.client)) refl (λ p here. inr here) (λ y here. here)
-      (record {
-        client = s.client;
-        serving = s.serving;
-        boot = s.boot;
-        incarnation = s.incarnation;
-        stamps = s.stamps;
-        mode = s.mode;
-        counted = s.counted;
-        want = open_;
-        version = s.version;
-        settled = s.settled;
-        value = s.value;
-        fetch = s.fetch;
-      }) (λ same. inl (λ i. record { client = g.client; incarnation = sym s.incarnation i; request = sym open_.1 i; mode = sym open_.0 i; end = end }), tt)
+      (wants_shown l s s.counted open_) (λ same. inl (λ i. record { client = g.client; incarnation = sym s.incarnation i; request = sym open_.1 i; mode = sym open_.0 i; end = end }), tt)
 
   -- ---- offers
 
@@ -188,26 +166,42 @@ module _ (logs : Bool) (g : Setting) (end : ℕ) (w : World) where
   Run outs = (v : World) → AllSaid g end v outs
 
   module _ (l : Local) (stamp : Stamp) (inc req : ℕ) (outs : List Out) (s : Shown l) (run : Run outs) (reigns : stamp.epoch ≡ w.epoch) where
+    -- the client that takes the offer acts on its stamp and wants nothing more; what it holds then is told
+    taken_shown : {mode : Mode} {ver settled : ℕ} {kept : Option (Option (List ℕ))} {fetch : Option Fetch} {version last value fetching : ℕ}
+        {from : abstract_entry.Entry} → version ≡ ver → last ≡ settled → ValueShown g.number kept value → FetchShown fetch fetching from
+        → Shows g w.epoch
+        (record l { held = record l.held { mode = mode; ver = ver; settled = settled; value = kept; stamp = stamp; want = None; fetch = fetch } }) (record here {
+          mode = mode_number mode;
+          stamp = stamp.turn;
+          want = 0;
+          version = version;
+          settled = last;
+          value = value;
+          fetching = fetching;
+          fetch = from;
+        })
+    taken_shown newest last holds fetches = record {
+      client = s.client;
+      serving = s.serving;
+      boot = s.boot;
+      incarnation = s.incarnation;
+      stamps = stamping l stamp _ s reigns refl refl;
+      mode = refl;
+      counted = s.counted;
+      want = refl;
+      version = newest;
+      settled = last;
+      value = holds;
+      fetch = fetches;
+    }
+
     -- a copy of an absent version
     pub absent-goes : (ver hop : ℕ) → MayTake w (offer_seen g.client stamp inc req Copy (located ver hop None)) 1
         → To (record l { held = copied l.held stamp ver None }) outs
     absent-goes ver hop may =
         let p = offer_seen g.client stamp inc req Copy (located ver hop None) in
         acts_by logs g end w (takes_value w p 0) [] _ outs _ (TakesAbsent p may (record { unplaced = refl })) refl refl refl (λ p fact. fact) (λ y fact. fact)
-        (record {
-          client = s.client;
-          serving = s.serving;
-          boot = s.boot;
-          incarnation = s.incarnation;
-          stamps = stamping l stamp _ s reigns refl refl;
-          mode = refl;
-          counted = s.counted;
-          want = refl;
-          version = refl;
-          settled = refl;
-          value = sym g.absent;
-          fetch = refl;
-        }) (run (takes_value w p 0))
+        (taken_shown refl refl (sym g.absent) refl) (run (takes_value w p 0))
 
     -- a copy that another client supplied
     pub supplied-goes : (ver hop : ℕ) (place : Option Place) (value : Option (List ℕ))
@@ -218,20 +212,7 @@ module _ (logs : Bool) (g : Setting) (end : ℕ) (w : World) where
         let p = offer_seen g.client stamp inc req Copy (located ver hop place) in
         acts_by logs g end w (takes_value w p (g.number value)) [] _ outs _ (TakesSupply p (g.number value) may fact) refl refl refl (λ p fact. fact)
         (λ y fact. fact)
-        (record {
-          client = s.client;
-          serving = s.serving;
-          boot = s.boot;
-          incarnation = s.incarnation;
-          stamps = stamping l stamp _ s reigns refl refl;
-          mode = refl;
-          counted = s.counted;
-          want = refl;
-          version = refl;
-          settled = refl;
-          value = refl;
-          fetch = refl;
-        }) (run (takes_value w p (g.number value)))
+        (taken_shown refl refl refl refl) (run (takes_value w p (g.number value)))
 
     -- a place, which is read first
     pub place-goes : (ver hop : ℕ) (place : Place) → MayTake w (offer_seen g.client stamp inc req Copy (located ver hop (Some place))) 1
@@ -239,20 +220,7 @@ module _ (logs : Bool) (g : Setting) (end : ℕ) (w : World) where
     place-goes ver hop place may =
         let p = offer_seen g.client stamp inc req Copy (located ver hop (Some place)) in
         acts_by logs g end w (takes_place w p) [] _ outs _ (TakesPlace p may (record { placed = omega arith })) refl refl refl (λ p fact. fact) (λ y fact. fact)
-        (record {
-          client = s.client;
-          serving = s.serving;
-          boot = s.boot;
-          incarnation = s.incarnation;
-          stamps = stamping l stamp _ s reigns refl refl;
-          mode = refl;
-          counted = s.counted;
-          want = refl;
-          version = s.version;
-          settled = s.settled;
-          value = tt;
-          fetch = (refl, (hop, refl));
-        }) (run (takes_place w p))
+        (taken_shown s.version s.settled tt (refl, (hop, refl))) (run (takes_place w p))
 
     -- owned, and written in the same event
     pub first-goes : (ver hop : ℕ) (place : Option Place) (value : Option (List ℕ))
@@ -262,20 +230,7 @@ module _ (logs : Bool) (g : Setting) (end : ℕ) (w : World) where
         let p = offer_seen g.client stamp inc req Own (located ver hop place) in
         acts_by logs g end w (writes_first w p (g.number value)) (WroteBlock g.client (g.number value) ∷ []) _ outs _
         (WritesFirst p (g.number value) may) refl refl refl (λ p fact. fact) (λ y fact. fact)
-        (record {
-          client = s.client;
-          serving = s.serving;
-          boot = s.boot;
-          incarnation = s.incarnation;
-          stamps = stamping l stamp _ s reigns refl refl;
-          mode = refl;
-          counted = s.counted;
-          want = refl;
-          version = omega arith;
-          settled = refl;
-          value = refl;
-          fetch = refl;
-        }) (run (writes_first w p (g.number value)))
+        (taken_shown (omega arith) refl refl refl) (run (writes_first w p (g.number value)))
 
     -- owned, and let go unwritten
     pub declines-goes : (ver hop : ℕ) (place : Option Place) → MayTake w (offer_seen g.client stamp inc req Own (located ver hop place)) 2
@@ -283,20 +238,7 @@ module _ (logs : Bool) (g : Setting) (end : ℕ) (w : World) where
     declines-goes ver hop place may =
         let p = offer_seen g.client stamp inc req Own (located ver hop place) in
         acts_by logs g end w (declines w p) [] _ outs _ (Declines p may) refl refl refl (λ p fact. fact) (λ y fact. fact)
-        (record {
-          client = s.client;
-          serving = s.serving;
-          boot = s.boot;
-          incarnation = s.incarnation;
-          stamps = stamping l stamp _ s reigns refl refl;
-          mode = refl;
-          counted = s.counted;
-          want = refl;
-          version = refl;
-          settled = refl;
-          value = tt;
-          fetch = refl;
-        }) (run (declines w p))
+        (taken_shown refl refl tt refl) (run (declines w p))
 
   -- ---- what is held
 
@@ -391,47 +333,42 @@ module _ (logs : Bool) (g : Setting) (end : ℕ) (w : World) where
         fetch = s.fetch;
       }) (run w))
 
+  -- the block is given up, and held in this mode with this value from then on
+  given_as : (l : Local) (stamp : Stamp) (keep : Bool) (mode : Mode) (value : Option (Option (List ℕ))) → Shown l
+      → MayGive w (recall_seen g.client stamp keep) → Premise logs (SettledEnd w g.client end) → stamp.epoch ≡ w.epoch
+      → min here.mode (kept keep) ≡ mode_number mode → ValueShown g.number value here.value → is_none l.held.fetch ≡ true
+      → To (record l { held = record l.held { mode = mode; value = value; stamp = stamp; giving = None } }) (Gave g.block stamp ∷ [])
+  given_as l stamp keep mode value s may settled reigns less holds unfetched_ =
+      let r = recall_seen g.client stamp keep in
+      acts_by logs g end w (gives w r end) [] _ _ _ (Gives r end may settled) refl refl refl (λ p fact. fact) (λ y fact. inr fact)
+      (record {
+        client = s.client;
+        serving = s.serving;
+        boot = s.boot;
+        incarnation = s.incarnation;
+        stamps = stamping l stamp _ s reigns refl refl;
+        mode = less;
+        counted = s.counted;
+        want = s.want;
+        version = s.version;
+        settled = s.settled;
+        value = holds;
+        fetch = unfetching l.held.fetch here.fetching here.fetch unfetched_ s.fetch;
+      }) (λ fact. (omega (arith, reigns), inl refl), tt)
+
   pub gives-goes : (l : Local) (stamp : Stamp) (keep : Bool) → Shown l → w.epoch ≤ here.promised → SentRecall g.client w stamp keep → stamp.epoch ≡ l.promised
       → is_later stamp l.held.stamp ≡ true → is_dirty l.held ≡ false
       → is_none l.held.fetch ≡ true → Premise logs (SettledEnd w g.client end) → To (record l { held = given_up l.held stamp keep }) (Gave g.block stamp ∷ [])
   gives-goes l stamp keep s high sent same later clean unfetched_ settled =
       let seen = taken (node_seen l.promised l.held.stamp) here w.epoch (stamp_seen stamp) s.stamps high sent.low sent.some same
       (later_exceeds stamp l.held.stamp later) in
-      let r = recall_seen g.client stamp keep in
-      let step : Step logs w (gives w r end) =
-      Gives r end (record { sent = sent.recalled seen.1; serving = s.serving; heard = seen.0; newer = seen.2; clean = cleaned l s clean }) settled in
+      let may : MayGive w (recall_seen g.client stamp keep) =
+      record { sent = sent.recalled seen.1; serving = s.serving; heard = seen.0; newer = seen.2; clean = cleaned l s clean } in
+      let less = λ (b : Bool) (t : (keep && is_held l.held.mode) ≡ b). ap (λ n. min n (kept keep)) s.mode ∙ given_rank l.held.mode keep b t in
       by_test (λ (h : Held). To (record l { held = h }) (Gave g.block stamp ∷ [])) (keep && is_held l.held.mode)
       (record l.held { mode = Copy; stamp = stamp; giving = None }) (record l.held { mode = Nothing; value = None; stamp = stamp; giving = None })
-      (λ t. acts_by logs g end w (gives w r end) [] _ _ _ step refl refl refl (λ p fact. fact) (λ y fact. inr fact)
-      (record {
-        client = s.client;
-        serving = s.serving;
-        boot = s.boot;
-        incarnation = s.incarnation;
-        stamps = stamping l stamp _ s seen.1 refl refl;
-        mode = ap (λ n. min n (kept keep)) s.mode ∙ given_rank l.held.mode keep true t;
-        counted = s.counted;
-        want = s.want;
-        version = s.version;
-        settled = s.settled;
-        value = s.value;
-        fetch = unfetching l.held.fetch here.fetching here.fetch unfetched_ s.fetch;
-      }) (λ fact. (sent.low, inl refl), tt))
-      (λ t. acts_by logs g end w (gives w r end) [] _ _ _ step refl refl refl (λ p fact. fact) (λ y fact. inr fact)
-      (record {
-        client = s.client;
-        serving = s.serving;
-        boot = s.boot;
-        incarnation = s.incarnation;
-        stamps = stamping l stamp _ s seen.1 refl refl;
-        mode = ap (λ n. min n (kept keep)) s.mode ∙ given_rank l.held.mode keep false t;
-        counted = s.counted;
-        want = s.want;
-        version = s.version;
-        settled = s.settled;
-        value = tt;
-        fetch = unfetching l.held.fetch here.fetching here.fetch unfetched_ s.fetch;
-      }) (λ fact. (sent.low, inl refl), tt))
+      (λ t. given_as l stamp keep Copy l.held.value s may settled seen.1 (less true t) s.value unfetched_)
+      (λ t. given_as l stamp keep Nothing None s may settled seen.1 (less false t) tt unfetched_)
 
   pub gives_again-goes : (l : Local) (stamp : Stamp) (keep : Bool) → Shown l → w.epoch ≤ here.promised → SentRecall g.client w stamp keep
       → stamp.epoch ≡ l.promised → stamp_seen l.held.stamp ≡ stamp_seen stamp
