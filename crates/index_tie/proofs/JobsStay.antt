@@ -20,7 +20,7 @@ use Rattle.stripe_cleaner.specs.Job.{counted, same_name}
 use Rattle.stripe_cleaner.specs.Promises.{promised_at}
 use Rattle.index_tie.specs.Filed.{Filed}
 use Rattle.index_tie.specs.Growth.{IsMore}
-use Rattle.index_tie.specs.Cleaning.{is_filed_name, has_block, IsDropped, Known, promise_of, JobsStay, JobsBegin}
+use Rattle.index_tie.specs.Cleaning.{is_filed_name, has_block, IsWithin, IsDropped, Known, promise_of, JobsStay, JobsBegin}
 
 pub jobs_begin : JobsBegin
 jobs_begin b f w count = record { promised = inl (none_yet (slot_of b.ino.0)); known = tt }
@@ -34,39 +34,41 @@ jobs_begin b f w count = record { promised = inl (none_yet (slot_of b.ino.0)); k
 
 -- ---- more is filed
 
+-- a segment that was filed stays, with its name and its Blocks
+record Stays (b : BlockId) (f g : Filed) (name : SegName) : Type 0 where
+  same : g.segment name.log.0 name.seq ≡ f.segment name.log.0 name.seq
+  its : is_filed_name g name ≡ is_filed_name f name
+  has : has_block b g name ≡ has_block b f name
+  within : IsWithin g name
+
+segment_stays : (b : BlockId) (f g : Filed) (name : SegName) → IsMore f g → IsWithin f name → Stays b f g name
+segment_stays b f g name more within =
+    let head = more.head name.log.0 in
+    let filed = within.filed in
+    let same : g.segment name.log.0 name.seq ≡ f.segment name.log.0 name.seq = more.segment name.log.0 name.seq within.some filed in
+    record {
+      same = same;
+      its = ap (λ (s : Segment). same_name name s.name) same;
+      has = ap (λ (s : Segment). list_any (same_block b) (blocks_of s.items)) same;
+      within = record { some = within.some; filed = omega arith };
+    }
+
 -- what was dropped stays so
 pub dropped_stays : (b : BlockId) (f g : Filed) (dropped more_dropped : ℕ → ℕ → ℕ) (name : SegName) → IsMore f g
     → ((l q : ℕ) → dropped l q ≡ 1 → more_dropped l q ≡ 1) → IsDropped b f dropped name → IsDropped b g more_dropped name
 dropped_stays b f g dropped more_dropped name more drops k =
-    let l = name.log.0 in
-    let q = name.seq in
-    let head = more.head l in
-    let filed = k.within.filed in
-    let same : g.segment l q ≡ f.segment l q = more.segment l q k.within.some filed in
-    let its : is_filed_name g name ≡ is_filed_name f name = ap (λ (s : Segment). same_name name s.name) same in
-    let has : has_block b g name ≡ has_block b f name = ap (λ (s : Segment). list_any (same_block b) (blocks_of s.items)) same in
-    record {
-      within = record { some = k.within.some; filed = omega arith };
-      row_dropped = λ fact any. drops l q (k.row_dropped (sym its ∙ fact) (sym has
-          ∙ any));
-    }
+    let stays = segment_stays b f g name more k.within in
+    record { within = stays.within; row_dropped = λ fact any. drops name.log.0 name.seq (k.row_dropped (sym stays.its ∙ fact) (sym stays.has ∙ any)) }
 
 known_stays : (b : BlockId) (f g : Filed) (dead more_dead dropped more_dropped : ℕ → ℕ → ℕ) (p : Phase) → IsMore f g → ((l q : ℕ) → dead l q ≤ more_dead l q)
     → ((l q : ℕ) → dropped l q ≡ 1 → more_dropped l q ≡ 1) → Known b f dead dropped p
     → Known b g more_dead more_dropped p
 known_stays b f g dead more_dead dropped more_dropped (Checking j segment checks) more counted drops k =
-    let name = segment.name in
-    let l = name.log.0 in
-    let q = name.seq in
-    let head = more.head l in
-    let filed = k.within.filed in
-    let same : g.segment l q ≡ f.segment l q = more.segment l q k.within.some filed in
-    let its : is_filed_name g name ≡ is_filed_name f name = ap (λ (s : Segment). same_name name s.name) same in
-    let has : has_block b g name ≡ has_block b f name = ap (λ (s : Segment). list_any (same_block b) (blocks_of s.items)) same in
+    let stays = segment_stays b f g segment.name more k.within in
     record {
-      within = record { some = k.within.some; filed = omega arith };
-      blocks = λ fact. k.blocks (sym its ∙ fact) ∙ sym (ap (λ (s : Segment). blocks_of s.items) same);
-      counted = λ fact any. all_more checks (k.counted (sym its ∙ fact) (sym has ∙ any));
+      within = stays.within;
+      blocks = λ fact. k.blocks (sym stays.its ∙ fact) ∙ sym (ap (λ (s : Segment). blocks_of s.items) stays.same);
+      counted = λ fact any. all_more checks (k.counted (sym stays.its ∙ fact) (sym stays.has ∙ any));
     }
   where
     all_more : (cs : List Check) → AllByRecursion (λ (c : Check). c.block ≡ b → is_dead c.fate ≡ true → 0 < dead segment.name.log.0 segment.name.seq) cs
