@@ -9,10 +9,11 @@ use Rattle.node_base.specs.Room.{has_room}
 use Rattle.token_client.specs.Repetitions.{repetition}
 use Rattle.token_client.specs.State.{TokensState, epoch_of, held_of}
 use Rattle.xfs_base.specs.declared.block.BlockId.{BlockId}
+use Rattle.xfs_base.specs.Limits.{slot_count}
 
 -- each promised epoch is at least 65,536 below its end
 unfoldable pub epochs_room : TokensState → Bool
-epochs_room t = list_all (λ slot. has_room (epoch_of t.epochs slot)) (range_with_len 0 8)
+epochs_room t = list_all (λ slot. has_room (epoch_of t.epochs slot)) (range_with_len 0 slot_count)
 
 -- the block that the open call is on
 abbrev pub open_block : Option Call → Option BlockId

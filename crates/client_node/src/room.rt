@@ -8,6 +8,7 @@ use client_serving::Serving;
 use log_owner::log_has_room;
 use node_base::has_room;
 use token_client::Tokens;
+use xfs_base::limits::SLOT_COUNT;
 
 /// Whether each counter of a phase is.
 pub(crate) fn phase_has_room(phase: &Phase) -> bool
@@ -35,7 +36,7 @@ fn serving_has_room(serving: &Serving) -> bool
 fn epochs_have_room(tokens: &Tokens) -> bool
     ensures { result ≡ epochs_room tokens.now }
 {
-    for slot in 0..8 {
+    for slot in 0..SLOT_COUNT {
         if !has_room(tokens.promised(slot)) {
             return false;
         }

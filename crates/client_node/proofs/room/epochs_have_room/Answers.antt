@@ -2,6 +2,7 @@ use Rattle.std.proofs.Common.{◌≡◌, ℕ, suc, ◌+◌, ◌-◌, ◌<◌, Bo
 use Rattle.std.specs.List.{list_all, range_with_len}
 use Rattle.node_base.specs.Room.{has_room}
 use Rattle.token_client.specs.State.{epoch_of}
+use Rattle.xfs_base.specs.Limits.{slot_count}
 use Rattle.client_node.proofs.room.epochs_have_room.Goals as goal
 
 -- where one passes the test, all depends on those after it
@@ -14,5 +15,5 @@ one_more test slot n all below passes before =
 pub loop-slot-preserved : goal.loop-slot-preserved
 loop-slot-preserved c =
     let room : ℕ → Bool = λ slot. has_room (epoch_of c.args.tokens.now.epochs slot) in
-    one_more room c.loop-slot.slot 8 (list_all room (range_with_len 0 8)) (omega arith)
+    one_more room c.loop-slot.slot slot_count (list_all room (range_with_len 0 slot_count)) (omega arith)
     (ap has_room (sym c.promised.ensures) ∙ sym c.has_room.ensures ∙ c.if-not-has_room.false) c.loop-slot.invariant
