@@ -38,19 +38,7 @@ pub struct Emptying {
 
 impl Drop for Emptying {
     fn drop(self) {
-        let Emptying {
-            lasting,
-            maps,
-            promised: _,
-            log,
-            feed,
-            job,
-        } = self;
-        drop(lasting);
-        drop(maps);
-        drop(log);
-        drop(feed);
-        drop(job);
+        drop(self.into_lasting());
     }
 }
 

@@ -43,23 +43,7 @@ pub struct Serving {
 
 impl Drop for Serving {
     fn drop(self) {
-        let Serving {
-            lasting,
-            maps,
-            managers: _,
-            tokens,
-            log,
-            feed,
-            cache,
-            call,
-        } = self;
-        drop(lasting);
-        drop(maps);
-        drop(tokens);
-        drop(log);
-        drop(feed);
-        drop(cache);
-        drop(call);
+        drop(self.into_lasting());
     }
 }
 
