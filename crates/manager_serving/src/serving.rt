@@ -43,21 +43,7 @@ pub struct Serving {
 
 impl Drop for Serving {
     fn drop(self) {
-        let Serving {
-            lasting,
-            maps,
-            slots,
-            log,
-            writer,
-            dones: _,
-            checkpoint,
-        } = self;
-        drop(lasting);
-        drop(maps);
-        drop(slots);
-        drop(log);
-        drop(writer);
-        drop(checkpoint);
+        drop(self.into_lasting());
     }
 }
 
