@@ -44,23 +44,32 @@ module _ (logs : Bool) (g : Setting) (end : ℕ) (w : World) where
   abbrev Shown : Local → Type 0
   Shown l = Shows g w.epoch l here
 
+  -- What is shown of a client that is who it was: in this order, what it acted on, its mode, how many wants it counts, the open one, the version and the
+  -- settled one, its value and its fetch.
+  shown_as : (l : Local) → Shown l → {m : Local} {x : Client} → m.inc ≡ l.inc → x.serving ≡ here.serving → x.incarnation ≡ here.incarnation
+      → Seen (node_seen m.promised m.held.stamp) x w.epoch → x.mode ≡ mode_number m.held.mode → x.request ≤ m.req → WantShown m.held.want x.want x.request
+      → x.version ≡ m.held.ver → x.settled ≡ m.held.settled → ValueShown g.number m.held.value x.value → FetchShown m.held.fetch x.fetching x.fetch
+      → Shows g w.epoch m x
+  shown_as l s boot serves incarnation stamps mode counted want version settled value fetch = record {
+    client = s.client;
+    serving = serves ∙ s.serving;
+    boot = boot ∙ s.boot;
+    incarnation = incarnation ∙ s.incarnation;
+    stamps = stamps;
+    mode = mode;
+    counted = counted;
+    want = want;
+    version = version;
+    settled = settled;
+    value = value;
+    fetch = fetch;
+  }
+
   -- a client is shown whose want alone is another
   wants_shown : (l : Local) → Shown l → {o : Option Wanted} {req want request : ℕ} → request ≤ req → WantShown o want request
       → Shows g w.epoch (record l { req = req; held = record l.held { want = o } }) (record here { want = want; request = request })
-  wants_shown l s counted wants = record {
-    client = s.client;
-    serving = s.serving;
-    boot = s.boot;
-    incarnation = s.incarnation;
-    stamps = restamped _ here _ w.epoch refl refl s.stamps;
-    mode = s.mode;
-    counted = counted;
-    want = wants;
-    version = s.version;
-    settled = s.settled;
-    value = s.value;
-    fetch = s.fetch;
-  }
+  wants_shown l s counted wants =
+      shown_as l s refl refl refl (restamped _ here _ w.epoch refl refl s.stamps) s.mode counted wants s.version s.settled s.value s.fetch
 
   pub drops_want-goes : (l : Local) → Shown l → To (record l { held = record l.held { want = None } }) []
   drops_want-goes l s =
@@ -72,20 +81,7 @@ module _ (logs : Bool) (g : Setting) (end : ℕ) (w : World) where
   lets_fetch_go l giving s =
       acts_by logs g end w (drops_fetch w g.client) [] _ [] (record here { fetching = 0 }) (DropsFetch g.client) refl refl refl (λ p fact. fact)
       (λ y fact. fact)
-      (record {
-        client = s.client;
-        serving = s.serving;
-        boot = s.boot;
-        incarnation = s.incarnation;
-        stamps = restamped _ here _ w.epoch refl refl s.stamps;
-        mode = s.mode;
-        counted = s.counted;
-        want = s.want;
-        version = s.version;
-        settled = s.settled;
-        value = s.value;
-        fetch = refl;
-      }) tt
+      (shown_as l s refl refl refl (restamped _ here _ w.epoch refl refl s.stamps) s.mode s.counted s.want s.version s.settled s.value refl) tt
 
   pub drops_fetch-goes : (l : Local) → Shown l → To (record l { held = unfetched l.held }) []
   drops_fetch-goes l = lets_fetch_go l l.held.giving
@@ -180,20 +176,8 @@ module _ (logs : Bool) (g : Setting) (end : ℕ) (w : World) where
           fetching = fetching;
           fetch = from;
         })
-    taken_shown newest last holds fetches = record {
-      client = s.client;
-      serving = s.serving;
-      boot = s.boot;
-      incarnation = s.incarnation;
-      stamps = stamping l stamp _ s reigns refl refl;
-      mode = refl;
-      counted = s.counted;
-      want = refl;
-      version = newest;
-      settled = last;
-      value = holds;
-      fetch = fetches;
-    }
+    taken_shown newest last holds fetches =
+        shown_as l s refl refl refl (stamping l stamp _ s reigns refl refl) refl s.counted refl newest last holds fetches
 
     -- a copy of an absent version
     pub absent-goes : (ver hop : ℕ) → MayTake w (offer_seen g.client stamp inc req Copy (located ver hop None)) 1
@@ -250,20 +234,8 @@ module _ (logs : Bool) (g : Setting) (end : ℕ) (w : World) where
       let ver : here.fetch.version ≡ f.ver = ap (λ (e : abstract_entry.Entry). e.version) open_.1.1 in
       acts_by logs g end w (fetches w g.client (g.number value)) [] _ outs _
       (Fetches g.client (g.number value) (record { fetching = open_.0 }) read) refl refl refl (λ p fact. fact) (λ y fact. fact)
-      (record {
-        client = s.client;
-        serving = s.serving;
-        boot = s.boot;
-        incarnation = s.incarnation;
-        stamps = restamped _ here _ w.epoch refl refl s.stamps;
-        mode = refl;
-        counted = s.counted;
-        want = s.want;
-        version = ver;
-        settled = ver;
-        value = refl;
-        fetch = refl;
-      }) (run (fetches w g.client (g.number value)))
+      (shown_as l s refl refl refl (restamped _ here _ w.epoch refl refl s.stamps) refl s.counted s.want ver ver refl refl)
+      (run (fetches w g.client (g.number value)))
 
   pub writes-goes : (l : Local) (value : Option (List ℕ)) → Shown l → is_own l.held.mode ≡ true
       → Acts logs g end w (WroteBlock g.client (g.number value) ∷ []) (record l { held = written l.held value }) []
@@ -272,20 +244,7 @@ module _ (logs : Bool) (g : Setting) (end : ℕ) (w : World) where
       let known = s.version in
       acts_by logs g end w (writes w g.client (g.number value)) (WroteBlock g.client (g.number value) ∷ []) _ [] _
       (Writes g.client (g.number value) (record { owns = owns })) refl refl refl (λ p fact. fact) (λ y fact. fact)
-      (record {
-        client = s.client;
-        serving = s.serving;
-        boot = s.boot;
-        incarnation = s.incarnation;
-        stamps = restamped _ here _ w.epoch refl refl s.stamps;
-        mode = s.mode;
-        counted = s.counted;
-        want = s.want;
-        version = omega arith;
-        settled = s.settled;
-        value = refl;
-        fetch = s.fetch;
-      }) tt
+      (shown_as l s refl refl refl (restamped _ here _ w.epoch refl refl s.stamps) s.mode s.counted s.want (omega arith) s.settled refl s.fetch) tt
 
   cleaned : (l : Local) → Shown l → is_dirty l.held ≡ false → here.version ≤ here.settled
   cleaned l s clean = let v = s.version in let q = s.settled in grind (arith, nat_tests)
@@ -294,20 +253,7 @@ module _ (logs : Bool) (g : Setting) (end : ℕ) (w : World) where
   evicts-goes l s clean =
       acts_by logs g end w (evicts w g.client) [] _ [] _ (Evicts g.client (record { victim = cleaned l s clean })) refl refl refl (λ p fact. fact)
       (λ y fact. fact)
-      (record {
-        client = s.client;
-        serving = s.serving;
-        boot = s.boot;
-        incarnation = s.incarnation;
-        stamps = restamped _ here _ w.epoch refl refl s.stamps;
-        mode = refl;
-        counted = s.counted;
-        want = s.want;
-        version = s.version;
-        settled = s.settled;
-        value = tt;
-        fetch = s.fetch;
-      }) tt
+      (shown_as l s refl refl refl (restamped _ here _ w.epoch refl refl s.stamps) refl s.counted s.want s.version s.settled tt s.fetch) tt
 
   -- ---- recalls
 
@@ -318,20 +264,7 @@ module _ (logs : Bool) (g : Setting) (end : ℕ) (w : World) where
       (record l.held { giving = Some (record { stamp = stamp; keep = keep }) })
       (λ t. goes_saying logs g end w l outs s (run w))
       (λ t. goes_saying logs g end w _ outs
-      (record {
-        client = s.client;
-        serving = s.serving;
-        boot = s.boot;
-        incarnation = s.incarnation;
-        stamps = s.stamps;
-        mode = s.mode;
-        counted = s.counted;
-        want = s.want;
-        version = s.version;
-        settled = s.settled;
-        value = s.value;
-        fetch = s.fetch;
-      }) (run w))
+      (shown_as l s refl refl refl s.stamps s.mode s.counted s.want s.version s.settled s.value s.fetch) (run w))
 
   -- the block is given up, and held in this mode with this value from then on
   given_as : (l : Local) (stamp : Stamp) (keep : Bool) (mode : Mode) (value : Option (Option (List ℕ))) → Shown l
@@ -341,20 +274,8 @@ module _ (logs : Bool) (g : Setting) (end : ℕ) (w : World) where
   given_as l stamp keep mode value s may settled reigns less holds unfetched_ =
       let r = recall_seen g.client stamp keep in
       acts_by logs g end w (gives w r end) [] _ _ _ (Gives r end may settled) refl refl refl (λ p fact. fact) (λ y fact. inr fact)
-      (record {
-        client = s.client;
-        serving = s.serving;
-        boot = s.boot;
-        incarnation = s.incarnation;
-        stamps = stamping l stamp _ s reigns refl refl;
-        mode = less;
-        counted = s.counted;
-        want = s.want;
-        version = s.version;
-        settled = s.settled;
-        value = holds;
-        fetch = unfetching l.held.fetch here.fetching here.fetch unfetched_ s.fetch;
-      }) (λ fact. (omega (arith, reigns), inl refl), tt)
+      (shown_as l s refl refl refl (stamping l stamp _ s reigns refl refl) less s.counted s.want s.version s.settled holds
+      (unfetching l.held.fetch here.fetching here.fetch unfetched_ s.fetch)) (λ fact. (omega (arith, reigns), inl refl), tt)
 
   pub gives-goes : (l : Local) (stamp : Stamp) (keep : Bool) → Shown l → w.epoch ≤ here.promised → SentRecall g.client w stamp keep → stamp.epoch ≡ l.promised
       → is_later stamp l.held.stamp ≡ true → is_dirty l.held ≡ false
@@ -394,17 +315,5 @@ module _ (logs : Bool) (g : Setting) (end : ℕ) (w : World) where
       let p = s.stamps.promised in
       acts_by logs g end w (promises w g.client epoch) [] _ [] _ (Promises g.client epoch (record { serving = s.serving; higher = omega arith })) refl refl refl
       (λ p fact. fact) (λ y fact. fact)
-      (record {
-        client = s.client;
-        serving = s.serving;
-        boot = s.boot;
-        incarnation = s.incarnation;
-        stamps = promised (node_seen l.promised l.held.stamp) here w.epoch epoch s.stamps;
-        mode = s.mode;
-        counted = s.counted;
-        want = s.want;
-        version = s.version;
-        settled = s.settled;
-        value = s.value;
-        fetch = refl;
-      }) tt
+      (shown_as l s refl refl refl (promised (node_seen l.promised l.held.stamp) here w.epoch epoch s.stamps) s.mode s.counted s.want s.version s.settled
+      s.value refl) tt
