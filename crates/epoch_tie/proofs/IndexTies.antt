@@ -1,7 +1,7 @@
 -- Steps of epochs against the index.
 use Rattle.std.proofs.Common.{◌∙◌, refl, arith}
 use Rattle.std.proofs.lemmas.Bool.Decides.{nat_tests}
-use Rattle.epoch_protocol.specs.Step.Step.{Bumps, Hears, Moves, Tells, Welcomes, Answers, Greets, EntersByNews, EntersByWelcome, LeavesByNews, LeavesByWelcome, Polls, Activates, Breaks, Falls, Rises, PromisesPoll, PromisesNews, PromisesWelcome, Reports, Crashes, Restarts, Calls, Takes, Serves}
+use Rattle.epoch_protocol.specs.Step.Step.{Bumps, Moves, Activates, PromisesPoll, PromisesNews, PromisesWelcome, Reports, Crashes, Restarts, Takes, Serves}
 use Rattle.epoch_protocol.proofs.Invariant.{always}
 use Rattle.epoch_protocol.proofs.Growing.{grows}
 use Rattle.epoch_protocol.proofs.Laws.{activates_new, registry_ahead, reigns, serves_above}
@@ -62,28 +62,15 @@ serve n first e a steps tied h = (
 
 pub quiet : QuietIndexed
 quiet e v a (Bumps h may) none tied = absurd none
-quiet e v a (Hears h may) none tied = record { epoch = tied.epoch; active = tied.active; reigning = tied.reigning; promised = tied.promised }
 quiet e v a (Moves m) none tied = absurd none
-quiet e v a Tells none tied = record { epoch = tied.epoch; active = tied.active; reigning = tied.reigning; promised = tied.promised }
-quiet e v a (Welcomes h may) none tied = record { epoch = tied.epoch; active = tied.active; reigning = tied.reigning; promised = tied.promised }
-quiet e v a (Answers h may) none tied = record { epoch = tied.epoch; active = tied.active; reigning = tied.reigning; promised = tied.promised }
-quiet e v a (Greets m) none tied = record { epoch = tied.epoch; active = tied.active; reigning = tied.reigning; promised = tied.promised }
-quiet e v a (EntersByNews m n may) none tied = record { epoch = tied.epoch; active = tied.active; reigning = tied.reigning; promised = tied.promised }
-quiet e v a (EntersByWelcome p may) none tied = record { epoch = tied.epoch; active = tied.active; reigning = tied.reigning; promised = tied.promised }
-quiet e v a (LeavesByNews m n may) none tied = record { epoch = tied.epoch; active = tied.active; reigning = tied.reigning; promised = tied.promised }
-quiet e v a (LeavesByWelcome p may) none tied = record { epoch = tied.epoch; active = tied.active; reigning = tied.reigning; promised = tied.promised }
-quiet e v a (Polls m may) none tied = record { epoch = tied.epoch; active = tied.active; reigning = tied.reigning; promised = tied.promised }
 quiet e v a (Activates m may) none tied = absurd none
-quiet e v a (Breaks m may) none tied = record { epoch = tied.epoch; active = tied.active; reigning = tied.reigning; promised = tied.promised }
-quiet e v a (Falls m) none tied = record { epoch = tied.epoch; active = tied.active; reigning = tied.reigning; promised = tied.promised }
-quiet e v a (Rises m may) none tied = record { epoch = tied.epoch; active = tied.active; reigning = tied.reigning; promised = tied.promised }
 quiet e v a (PromisesPoll c p may) none tied = absurd none
 quiet e v a (PromisesNews c n may) none tied = absurd none
 quiet e v a (PromisesWelcome p may) none tied = absurd none
 quiet e v a (Reports c may) none tied = absurd none
 quiet e v a (Crashes c) none tied = absurd none
 quiet e v a (Restarts c may) none tied = absurd none
-quiet e v a (Calls c) none tied = record { epoch = tied.epoch; active = tied.active; reigning = tied.reigning; promised = tied.promised }
 quiet e v a (Takes p may) none tied =
     record { epoch = tied.epoch; active = tied.active; reigning = tied.reigning; promised = grind (arith, nat_tests, tied.promised) }
 quiet e v a (Serves c may) none tied = absurd none
+quiet e v a step none tied = record { epoch = tied.epoch; active = tied.active; reigning = tied.reigning; promised = tied.promised }

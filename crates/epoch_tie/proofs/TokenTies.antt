@@ -7,7 +7,7 @@ use Rattle.token_protocol.specs.Crashing as crashing
 use Rattle.epoch_protocol.specs.World as epochs
 use Rattle.epoch_protocol.specs.Promising.{promises}
 use Rattle.epoch_protocol.specs.Opening.{crashes, serves}
-use Rattle.epoch_protocol.specs.Step.Step.{Bumps, Hears, Moves, Tells, Welcomes, Answers, Greets, EntersByNews, EntersByWelcome, LeavesByNews, LeavesByWelcome, Polls, Activates, Breaks, Falls, Rises, PromisesPoll, PromisesNews, PromisesWelcome, Reports, Crashes, Restarts, Calls, Takes, Serves}
+use Rattle.epoch_protocol.specs.Step.Step.{Bumps, Moves, Activates, PromisesPoll, PromisesNews, PromisesWelcome, Reports, Crashes, Restarts, Takes, Serves}
 use Rattle.epoch_protocol.proofs.Invariant.{always}
 use Rattle.epoch_protocol.proofs.Laws.{activates_new, serves_above}
 use Rattle.epoch_tie.specs.TokenTie.{TokensTied, TokensStart, PollTied, NewsTied, WelcomeTied, ReportTied, CrashTied, RestartTied, ServeTied, ActivateTied, BumpTied, MoveTied, QuietTied}
@@ -132,41 +132,14 @@ move e t m tied = record { members = tied.members; reigning = tied.reigning; pro
 
 pub quiet : QuietTied
 quiet e v t (Bumps h may) none tied = absurd none
-quiet e v t (Hears h may) none tied =
-    record { members = tied.members; reigning = tied.reigning; promised = tied.promised; serving = tied.serving; down = tied.down }
 quiet e v t (Moves m) none tied = absurd none
-quiet e v t Tells none tied = record { members = tied.members; reigning = tied.reigning; promised = tied.promised; serving = tied.serving; down = tied.down }
-quiet e v t (Welcomes h may) none tied =
-    record { members = tied.members; reigning = tied.reigning; promised = tied.promised; serving = tied.serving; down = tied.down }
-quiet e v t (Answers h may) none tied =
-    record { members = tied.members; reigning = tied.reigning; promised = tied.promised; serving = tied.serving; down = tied.down }
-quiet e v t (Greets m) none tied =
-    record { members = tied.members; reigning = tied.reigning; promised = tied.promised; serving = tied.serving; down = tied.down }
-quiet e v t (EntersByNews m n may) none tied =
-    record { members = tied.members; reigning = tied.reigning; promised = tied.promised; serving = tied.serving; down = tied.down }
-quiet e v t (EntersByWelcome p may) none tied =
-    record { members = tied.members; reigning = tied.reigning; promised = tied.promised; serving = tied.serving; down = tied.down }
-quiet e v t (LeavesByNews m n may) none tied =
-    record { members = tied.members; reigning = tied.reigning; promised = tied.promised; serving = tied.serving; down = tied.down }
-quiet e v t (LeavesByWelcome p may) none tied =
-    record { members = tied.members; reigning = tied.reigning; promised = tied.promised; serving = tied.serving; down = tied.down }
-quiet e v t (Polls m may) none tied =
-    record { members = tied.members; reigning = tied.reigning; promised = tied.promised; serving = tied.serving; down = tied.down }
 quiet e v t (Activates m may) none tied = absurd none
-quiet e v t (Breaks m may) none tied =
-    record { members = tied.members; reigning = tied.reigning; promised = tied.promised; serving = tied.serving; down = tied.down }
-quiet e v t (Falls m) none tied =
-    record { members = tied.members; reigning = tied.reigning; promised = tied.promised; serving = tied.serving; down = tied.down }
-quiet e v t (Rises m may) none tied =
-    record { members = tied.members; reigning = tied.reigning; promised = tied.promised; serving = tied.serving; down = tied.down }
 quiet e v t (PromisesPoll c p may) none tied = absurd none
 quiet e v t (PromisesNews c n may) none tied = absurd none
 quiet e v t (PromisesWelcome p may) none tied = absurd none
 quiet e v t (Reports c may) none tied = absurd none
 quiet e v t (Crashes c) none tied = absurd none
 quiet e v t (Restarts c may) none tied = absurd none
-quiet e v t (Calls c) none tied =
-    record { members = tied.members; reigning = tied.reigning; promised = tied.promised; serving = tied.serving; down = tied.down }
 quiet e v t (Takes p may) none tied = record {
   members = tied.members;
   reigning = tied.reigning;
@@ -175,3 +148,4 @@ quiet e v t (Takes p may) none tied = record {
   down = λ d k j. grind (arith, nat_tests, tied.down d k);
 }
 quiet e v t (Serves c may) none tied = absurd none
+quiet e v t step none tied = record { members = tied.members; reigning = tied.reigning; promised = tied.promised; serving = tied.serving; down = tied.down }

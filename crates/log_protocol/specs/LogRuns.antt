@@ -76,6 +76,10 @@ pub record EmptyOpened : Type 0 where
   pub boot : state.incarnation ≡ 2
   pub head : state.head ≡ 1
 
+-- the steps of the three runs, one run after another
+abbrev pub all_steps : List Kind
+all_steps = adopted_steps ++ (discarded_steps ++ empty_steps)
+
 -- Every kind of step is taken: no guard is one that nothing meets.
 abbrev pub EveryStepTaken : Type 0
-EveryStepTaken = (k : Kind) → In k (adopted_steps ++ (discarded_steps ++ empty_steps))
+EveryStepTaken = (k : Kind) → In k all_steps
