@@ -4,7 +4,7 @@ use Rattle.std.proofs.Common.{◌≡◌, ⊎_elim, ℕ, zero, suc, ◌≤◌, �
 use Rattle.log_protocol.specs.LogLaws.{Reached}
 use Rattle.log_protocol.specs.State.{State, new_log}
 use Rattle.log_protocol.specs.Step.{Step, Steps}
-use Rattle.log_protocol.specs.Step.Step.{Loses, Hears, Learns, Sends, Accepts, Accepts_again, Tells, Fills, Drops, Deletes, Raises, Fences, Seals, Restripes, Notes, Settles, Crashes, Restarts, Begins, Picks_none, Picks_kept, Picks_prior, Cuts, Opens, Serves}
+use Rattle.log_protocol.specs.Step.Step.{Crashes, Restarts, Begins, Picks_none, Picks_kept, Picks_prior, Opens, Serves}
 use Rattle.log_protocol.specs.Step.Steps.{Done, More}
 use Rattle.log_protocol.specs.StepLaws.{InSpan, HurtBefore, LacksHead}
 use Rattle.log_law.specs.Below.{Below}
@@ -24,31 +24,15 @@ zero_one : (n : ℕ) → n ≡ 0 → n ≡ 1 → ⊥
 zero_one n a b = omega arith
 
 step_idle : (w u : State) → Step w u → Idle w → Idle u
-step_idle w u (Loses v) h = h
-step_idle w u (Hears v generation can) h = h
-step_idle w u (Learns map can) h = h
-step_idle w u (Sends x i can) h = h
-step_idle w u (Accepts p can) h = h
-step_idle w u (Accepts_again p can) h = h
-step_idle w u (Tells v x can) h = h
-step_idle w u (Fills v i p can) h = h
-step_idle w u (Drops x can) h = h
-step_idle w u (Deletes v x can) h = h
-step_idle w u (Raises low can) h = h
-step_idle w u (Fences v c can) h = h
-step_idle w u (Seals x text count server content can) h = h
-step_idle w u (Restripes x text count server can) h = h
-step_idle w u (Notes p can) h = h
-step_idle w u (Settles can) h = h
 step_idle w u Crashes h = λ clean four. absurd (no_four 0 (omega arith) four)
 step_idle w u (Restarts can) h = λ clean four. absurd (zero_one 0 refl clean)
 step_idle w u (Begins can) h = λ clean four. absurd (no_four 1 (omega arith) four)
 step_idle w u (Picks_none list_of low can) h = λ clean four. absurd (no_four 2 (omega arith) four)
 step_idle w u (Picks_kept list_of low x can) h = λ clean four. absurd (no_four 2 (omega arith) four)
 step_idle w u (Picks_prior list_of low x i can) h = λ clean four. absurd (no_four 2 (omega arith) four)
-step_idle w u (Cuts low can) h = h
 step_idle w u (Opens x text count server can) h = λ clean four. absurd (no_four 3 (omega arith) four)
 step_idle w u (Serves path lowest sure can) h = λ clean four. refl
+step_idle w u step h = h
 
 pub idle : (w : State) → Reached w → Idle w
 idle w reached = all w reached.run

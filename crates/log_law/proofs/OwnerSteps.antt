@@ -2,7 +2,7 @@
 use Rattle.std.proofs.Common.{◌≡◌, suc, ◌≤◌, refl, arith}
 use Rattle.log_protocol.specs.State.{State}
 use Rattle.log_protocol.specs.Step.{Step}
-use Rattle.log_protocol.specs.Step.Step.{Loses, Hears, Learns, Sends, Accepts, Accepts_again, Tells, Fills, Drops, Deletes, Raises, Fences, Seals, Restripes, Notes, Settles, Crashes, Restarts, Begins, Picks_none, Picks_kept, Picks_prior, Cuts, Opens, Serves}
+use Rattle.log_protocol.specs.Step.Step.{Crashes, Restarts, Begins, Picks_none, Picks_kept, Picks_prior, Opens, Serves}
 
 -- and what becomes of the span and of the horizon of the pick
 pub data Turn (v u : State) : Type 0 where
@@ -13,28 +13,12 @@ pub data Turn (v u : State) : Type 0 where
   Writes : 3 ≤ u.phase → u.incarnation ≡ v.incarnation → u.pick_low ≡ v.pick_low → Turn v u
 
 pub turn_of : (v u : State) → Step v u → Turn v u
-turn_of v u (Loses x) = Rests refl refl refl refl
-turn_of v u (Hears x generation can) = Rests refl refl refl refl
-turn_of v u (Learns map can) = Rests refl refl refl refl
-turn_of v u (Sends x i can) = Rests refl refl refl refl
-turn_of v u (Accepts p can) = Rests refl refl refl refl
-turn_of v u (Accepts_again p can) = Rests refl refl refl refl
-turn_of v u (Tells y x can) = Rests refl refl refl refl
-turn_of v u (Fills y i p can) = Rests refl refl refl refl
-turn_of v u (Drops x can) = Rests refl refl refl refl
-turn_of v u (Deletes y x can) = Rests refl refl refl refl
-turn_of v u (Raises low can) = Rests refl refl refl refl
-turn_of v u (Fences y c can) = Rests refl refl refl refl
-turn_of v u (Seals x text count server content can) = Rests refl refl refl refl
-turn_of v u (Restripes x text count server can) = Rests refl refl refl refl
-turn_of v u (Notes p can) = Rests refl refl refl refl
-turn_of v u (Settles can) = Rests refl refl refl refl
 turn_of v u Crashes = Falls refl refl refl
 turn_of v u (Restarts can) = Boots refl
 turn_of v u (Begins can) = Boots refl
 turn_of v u (Picks_none list_of low can) = Picks can.gathering refl refl
 turn_of v u (Picks_kept list_of low x can) = Picks can.gathering refl refl
 turn_of v u (Picks_prior list_of low x i can) = Picks can.gathering refl refl
-turn_of v u (Cuts low can) = Rests refl refl refl refl
 turn_of v u (Opens x text count server can) = Writes (omega arith) refl refl
 turn_of v u (Serves path lowest sure can) = Writes (omega arith) refl refl
+turn_of v u step = Rests refl refl refl refl

@@ -3,7 +3,7 @@ use Rattle.std.proofs.Common.{◌≡◌, ⊎_elim, ℕ, ◌≤◌, ◌<◌, ◌�
 use Rattle.log_protocol.specs.LogLaws.{Reached}
 use Rattle.log_protocol.specs.State.{State}
 use Rattle.log_protocol.specs.Step.{Step, Steps}
-use Rattle.log_protocol.specs.Step.Step.{Loses, Hears, Learns, Sends, Accepts, Accepts_again, Tells, Fills, Drops, Deletes, Raises, Fences, Seals, Restripes, Notes, Settles, Crashes, Restarts, Begins, Picks_none, Picks_kept, Picks_prior, Cuts, Opens, Serves}
+use Rattle.log_protocol.specs.Step.Step.{Seals, Restripes, Settles, Crashes, Restarts, Begins, Picks_none, Picks_kept, Picks_prior, Opens, Serves}
 use Rattle.log_protocol.specs.Step.Steps.{Done, More}
 use Rattle.log_tie.proofs.Booking.{books_one}
 use Rattle.log_law.specs.Below.{Below}
@@ -45,21 +45,7 @@ began w v (inl p) = p.boot
 began w v (inr q) = q.1
 
 course_step : (w v u : State) → Step v u → Course w v → Course w u
-course_step w v u (Loses x) c = carry w v u refl refl (λ p. p) (omega arith) c
-course_step w v u (Hears x generation can) c = carry w v u refl refl (λ p. p) (omega arith) c
-course_step w v u (Learns map can) c = carry w v u refl refl (λ p. p) (omega arith) c
-course_step w v u (Sends x i can) c = carry w v u refl refl (λ p. p) (omega arith) c
-course_step w v u (Accepts p can) c = carry w v u refl refl (λ p. p) (omega arith) c
-course_step w v u (Accepts_again p can) c = carry w v u refl refl (λ p. p) (omega arith) c
-course_step w v u (Tells y x can) c = carry w v u refl refl (λ p. p) (omega arith) c
-course_step w v u (Fills y i p can) c = carry w v u refl refl (λ p. p) (omega arith) c
-course_step w v u (Drops x can) c = carry w v u refl refl (λ p. p) (omega arith) c
-course_step w v u (Deletes y x can) c = carry w v u refl refl (λ p. p) (omega arith) c
-course_step w v u (Raises low can) c = carry w v u refl refl (λ p. p) (omega arith) c
-course_step w v u (Fences y b can) c = carry w v u refl refl (λ p. p) (omega arith) c
 course_step w v u (Seals x text count server content can) c = beyond w v u can.serving refl refl c
-course_step w v u (Restripes x text count server can) c = carry w v u refl refl (λ p. p) (omega arith) c
-course_step w v u (Notes p can) c = carry w v u refl refl (λ p. p) (omega arith) c
 course_step w v u (Settles can) c = beyond w v u can.serving refl refl c
 course_step w v u Crashes c = carry w v u refl refl (λ p. omega arith) (omega arith) c
 course_step w v u (Restarts can) c = wakes w v u (began w v c) (omega arith) (omega arith)
@@ -67,9 +53,9 @@ course_step w v u (Begins can) c = carry w v u refl refl (λ p. omega arith) (om
 course_step w v u (Picks_none list_of low can) c = carry w v u refl refl (λ p. omega arith) (omega arith) c
 course_step w v u (Picks_kept list_of low x can) c = carry w v u refl refl (λ p. omega arith) (omega arith) c
 course_step w v u (Picks_prior list_of low x i can) c = carry w v u refl refl (λ p. omega arith) (omega arith) c
-course_step w v u (Cuts low can) c = carry w v u refl refl (λ p. p) (omega arith) c
 course_step w v u (Opens x text count server can) c = carry w v u refl refl (λ p. omega arith) (omega arith) c
 course_step w v u (Serves path lowest sure can) c = wakes w v u (began w v c) (omega arith) (omega arith)
+course_step w v u step c = carry w v u refl refl (λ p. p) (omega arith) c
 
 course : (w v : State) → w.phase < 4 → Steps w v → Course w v
 course w v less Done = inl (record { served = refl; head = refl; phase = less; boot = omega arith })
@@ -103,31 +89,10 @@ books w v u y names boot booked own o = record {
 }
 
 own_step : (w v u : State) → Step v u → Own w v → Own w u
-own_step w v u (Loses x) o = keep w v u refl (omega arith) refl o
-own_step w v u (Hears x generation can) o = keep w v u refl (omega arith) refl o
-own_step w v u (Learns map can) o = keep w v u refl (omega arith) refl o
-own_step w v u (Sends x i can) o = keep w v u refl (omega arith) refl o
-own_step w v u (Accepts p can) o = keep w v u refl (omega arith) refl o
-own_step w v u (Accepts_again p can) o = keep w v u refl (omega arith) refl o
-own_step w v u (Tells y x can) o = keep w v u refl (omega arith) refl o
-own_step w v u (Fills y i p can) o = keep w v u refl (omega arith) refl o
-own_step w v u (Drops x can) o = keep w v u refl (omega arith) refl o
-own_step w v u (Deletes y x can) o = keep w v u refl (omega arith) refl o
-own_step w v u (Raises low can) o = keep w v u refl (omega arith) refl o
-own_step w v u (Fences y b can) o = keep w v u refl (omega arith) refl o
 own_step w v u (Seals x text count server content can) o = books w v u x refl refl (books_one v x) can.own o
 own_step w v u (Restripes x text count server can) o = books w v u x refl refl (books_one v x) can.own o
-own_step w v u (Notes p can) o = keep w v u refl (omega arith) refl o
-own_step w v u (Settles can) o = keep w v u refl (omega arith) refl o
-own_step w v u Crashes o = keep w v u refl (omega arith) refl o
-own_step w v u (Restarts can) o = keep w v u refl (omega arith) refl o
-own_step w v u (Begins can) o = keep w v u refl (omega arith) refl o
-own_step w v u (Picks_none list_of low can) o = keep w v u refl (omega arith) refl o
-own_step w v u (Picks_kept list_of low x can) o = keep w v u refl (omega arith) refl o
-own_step w v u (Picks_prior list_of low x i can) o = keep w v u refl (omega arith) refl o
-own_step w v u (Cuts low can) o = keep w v u refl (omega arith) refl o
 own_step w v u (Opens x text count server can) o = books w v u x refl refl (books_one v x) can.own o
-own_step w v u (Serves path lowest sure can) o = keep w v u refl (omega arith) refl o
+own_step w v u step o = keep w v u refl (omega arith) refl o
 
 pub own : (w v : State) → Steps w v → Own w v
 own w v Done = record { names = refl; boot = omega arith; fresh = λ x fact. inl fact }
