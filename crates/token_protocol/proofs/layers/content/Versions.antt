@@ -1,8 +1,9 @@
 -- Which versions are where: holders have the newest, and the join is the newest where nobody is dirty and nobody fell. Depends on: all layers before.
-use Rattle.std.proofs.Common.{◌≡◌, ◌<◌, ◌≤◌, ◌⊎◌, ℕ, true, max, arith}
+use Rattle.std.proofs.Common.{◌≡◌, ◌<◌, ◌≤◌, ◌⊎◌, ℕ, suc, true, max, arith}
 use Rattle.std.proofs.lemmas.Bool.Decides.{nat_tests}
 use Rattle.std.proofs.lemmas.Bool.{true≢false}
 use Rattle.token_protocol.specs.Basics.{In}
+use Rattle.token_protocol.specs.Entry.{Row}
 use Rattle.token_protocol.specs.Packets.{Offer}
 use Rattle.token_protocol.specs.World.{World, start, Dirty, Live, flying_row}
 use Rattle.token_protocol.specs.Premises.{SegmentFlying, OriginalFiled}
@@ -37,24 +38,31 @@ pub record Versions (w : World) : Type 0 where
   -- Its return may settle what was in flight, which is no newer than the newest version.
   pub fallen_high : (c : ℕ) → w.fallen c ≡ 1 → (w.cut_high c ≡ max (w.cut_low c) (flying_row w c).version) × (w.cut_high c ≤ w.newest)
 
+-- only segments in flight and their rows change
+logs_keep_versions : (w : World) (flight : ℕ → ℕ) (rows : ℕ → ℕ → Row) → ((c q : ℕ) → (rows c q).version ≤ w.newest)
+    → ((c : ℕ) → w.fallen c ≡ 1 → (w.cut_high c ≡ max (w.cut_low c) (rows c (suc (w.end c))).version) × (w.cut_high c ≤ w.newest)) → Versions w
+    → Versions (record w { flight = flight; rows = rows })
+logs_keep_versions w flight rows rows_newest fallen_high versions = record {
+  rows_newest = rows_newest;
+  join_newest = versions.join_newest;
+  last_dirty = versions.last_dirty;
+  own_settled = versions.own_settled;
+  held_version = versions.held_version;
+  fetch_version = versions.fetch_version;
+  offer_newest = versions.offer_newest;
+  fallen_low = versions.fallen_low;
+  fallen_high = fallen_high;
+}
+
 seal_with_keeps_versions : (w : World) (who : ℕ) → MaySealWith w who → Bookkeeping w → Tokens w → Crash w → Logs w → Filing w → Versions w
     → Versions (seals_with w who)
-seal_with_keeps_versions w who h book tokens crash logs filing versions = record {
-  rows_newest = λ c q. grind (arith, nat_tests, versions.rows_newest c q);
-  join_newest = grind (arith, nat_tests, versions.join_newest);
-  last_dirty = λ k0. grind (arith, nat_tests, versions.last_dirty);
-  own_settled = λ c k0. grind (arith, nat_tests, versions.own_settled c);
-  held_version = λ c k0. grind (arith, nat_tests, versions.held_version c);
-  fetch_version = λ c k0. grind (arith, nat_tests, versions.fetch_version c);
-  offer_newest = λ g k0 k1. grind (arith, nat_tests, versions.offer_newest g);
-  fallen_low = λ c k0. grind (arith, nat_tests, versions.fallen_low c);
-  fallen_high = λ c k0. grind (arith, nat_tests, versions.fallen_high c);
-}
+seal_with_keeps_versions w who h book tokens crash logs filing versions =
+    logs_keep_versions w _ _ (λ c q. grind (arith, nat_tests, versions.rows_newest c q)) (λ c k0. grind (arith, nat_tests, versions.fallen_high c)) versions
 
 settle_keeps_versions : (w : World) (who : ℕ) → MaySettle w who → SegmentFlying w who → Bookkeeping w → Tokens w → Crash w → Logs w → Filing w → Versions w
     → Versions (settles w who)
 settle_keeps_versions w who h k book tokens crash logs filing versions = record {
-  rows_newest = λ c q. grind (arith, nat_tests, versions.rows_newest c q);
+  rows_newest = versions.rows_newest;
   join_newest = grind (arith, nat_tests, versions.join_newest);
   last_dirty = λ k0. grind (arith, nat_tests, versions.last_dirty);
   own_settled = λ c k0. grind (arith, nat_tests, versions.own_settled c);
@@ -68,8 +76,8 @@ settle_keeps_versions w who h k book tokens crash logs filing versions = record 
 crash_dirty_keeps_versions : (w : World) (who : ℕ) → MayCrashDirty w who → Bookkeeping w → Tokens w → Crash w → Logs w → Filing w → Versions w
     → Versions (crashes_dirty w who)
 crash_dirty_keeps_versions w who h book tokens crash logs filing versions = record {
-  rows_newest = λ c q. grind (arith, nat_tests, versions.rows_newest c q);
-  join_newest = grind (arith, nat_tests, versions.join_newest);
+  rows_newest = versions.rows_newest;
+  join_newest = versions.join_newest;
   last_dirty = λ k0. grind (arith, nat_tests, versions.last_dirty);
   own_settled = λ c k0. grind (arith, nat_tests, versions.own_settled c);
   held_version = λ c k0. grind (arith, nat_tests, versions.held_version c);
@@ -96,31 +104,13 @@ restart_discarding_keeps_versions w who incarnation promised h book tokens crash
 seal_copy_keeps_versions : (w : World) (who log segment : ℕ) → MaySealCopy w who → OriginalFiled w log segment → Bookkeeping w → Tokens w → Crash w → Logs w
     → Filing w
     → Versions w → Versions (seals_copy w who log segment)
-seal_copy_keeps_versions w who log segment h k book tokens crash logs filing versions = record {
-  rows_newest = λ c q. grind (arith, nat_tests, versions.rows_newest c q);
-  join_newest = grind (arith, nat_tests, versions.join_newest);
-  last_dirty = λ k0. grind (arith, nat_tests, versions.last_dirty);
-  own_settled = λ c k0. grind (arith, nat_tests, versions.own_settled c);
-  held_version = λ c k0. grind (arith, nat_tests, versions.held_version c);
-  fetch_version = λ c k0. grind (arith, nat_tests, versions.fetch_version c);
-  offer_newest = λ g k0 k1. grind (arith, nat_tests, versions.offer_newest g);
-  fallen_low = λ c k0. grind (arith, nat_tests, versions.fallen_low c);
-  fallen_high = λ c k0. grind (arith, nat_tests, versions.fallen_high c);
-}
+seal_copy_keeps_versions w who log segment h k book tokens crash logs filing versions =
+    logs_keep_versions w _ _ (λ c q. grind (arith, nat_tests, versions.rows_newest c q)) (λ c k0. grind (arith, nat_tests, versions.fallen_high c)) versions
 
 discard_copy_keeps_versions : (w : World) (who : ℕ) → MayDiscardCopy w who → Bookkeeping w → Tokens w → Crash w → Logs w → Filing w → Versions w
     → Versions (discards_copy w who)
-discard_copy_keeps_versions w who h book tokens crash logs filing versions = record {
-  rows_newest = λ c q. grind (arith, nat_tests, versions.rows_newest c q);
-  join_newest = grind (arith, nat_tests, versions.join_newest);
-  last_dirty = λ k0. grind (arith, nat_tests, versions.last_dirty);
-  own_settled = λ c k0. grind (arith, nat_tests, versions.own_settled c);
-  held_version = λ c k0. grind (arith, nat_tests, versions.held_version c);
-  fetch_version = λ c k0. grind (arith, nat_tests, versions.fetch_version c);
-  offer_newest = λ g k0 k1. grind (arith, nat_tests, versions.offer_newest g);
-  fallen_low = λ c k0. grind (arith, nat_tests, versions.fallen_low c);
-  fallen_high = λ c k0. grind (arith, nat_tests, versions.fallen_high c);
-}
+discard_copy_keeps_versions w who h book tokens crash logs filing versions =
+    logs_keep_versions w _ _ (λ c q. grind (arith, nat_tests, versions.rows_newest c q)) (λ c k0. grind (arith, nat_tests, versions.fallen_high c)) versions
 
 pub keeps : (w v : World) → Step true w v → Bookkeeping w → Tokens w → Crash w → Logs w → Filing w → Versions w → Versions v
 keeps w v (Asks who mode request end h k) book tokens crash logs filing versions = grind (arith, nat_tests)
