@@ -1,3 +1,4 @@
 pub mod Events
 pub mod Keeping
+pub mod JobWalk
 pub mod Jobs

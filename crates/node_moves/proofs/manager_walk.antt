@@ -1,7 +1,9 @@
 pub mod Laws
+pub mod Grants
 pub mod Taking
 pub mod Slots
 pub mod Tables
+pub mod Writers
 pub mod Writing
 pub mod Serving
 pub mod Items

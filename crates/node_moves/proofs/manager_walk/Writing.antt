@@ -1,13 +1,13 @@
 -- What each event makes of the checkpoints that a manager writes, and of its log, and what the manager says of them.
-use Rattle.std.proofs.Common.{◌≡◌, ℕ, ◌+◌, ◌==◌, ◌||◌, not, List, [], ◌∷◌, ◌++◌, length, is_some, refl, sym, subst}
-use Rattle.std.specs.Prelude.{Option, Some, None, IfSome, fold, nat_lt}
+use Rattle.std.proofs.Common.{◌≡◌, ℕ, ◌==◌, List, [], ◌∷◌, length, is_some, refl, sym, subst}
+use Rattle.std.specs.Prelude.{Option, Some, None, IfSome, fold}
 use Rattle.std.specs.List.{AllByRecursion}
 use Rattle.checkpoint.specs.declared.input.In.{In as WriterIn}
 use Rattle.checkpoint.specs.declared.input.In.TheVariants as writer_in
 use Rattle.checkpoint.specs.declared.output.Out.{Out}
 use Rattle.checkpoint.specs.declared.output.Out.TheVariants as out
 use Rattle.checkpoint.specs.Transition as writer
-use Rattle.checkpoint.specs.WriterState.{WorkState, WriterState}
+use Rattle.checkpoint.specs.WriterState.{WriterState}
 use Rattle.client_log.proofs.Settlings.{tells_due}
 use Rattle.client_log.specs.declared.input.In.{In as LogIn}
 use Rattle.client_log.specs.declared.input.In.TheVariants as log_input
@@ -36,71 +36,25 @@ use Rattle.node_base.specs.Beginning.{answers_unanswered}
 use Rattle.version_model.specs.declared.answer.Answer.{Answer}
 use Rattle.node_moves.proofs.Effects as effects
 use Rattle.node_moves.proofs.manager_walk.Laws.{AllSay, Begins, DoneSo, IsHeard, JobSo, Says, ServingSo, Walk}
+use Rattle.node_moves.proofs.manager_walk.Writers.{WriterLaw, GivenSo, OutSo, acked_on, writer_goes}
 use Rattle.node_moves.proofs.manager_walk.Tables.{begin_so, table_cleaned, table_named}
 
-module _ (w : Walk) (l : LogId) where
+module _ (w : Walk) where
   -- ---- the writer of checkpoints
 
-  -- what is done
-  abbrev OutSo : Out → Type 0
-  OutSo (out.Parts items) = w.Items items
-  OutSo (out.Done slot epoch parts horizon) = w.Done slot epoch parts horizon
-  OutSo out.Kept = Unit {0}
-  OutSo (out.Stale epoch) = Unit {0}
+  abbrev law : WriterLaw
+  law = record {
+    Work = w.Work;
+    Items = w.Items;
+    Done = w.Done;
+    Settles = w.Settles;
+    gives = w.gives;
+    left = w.left;
+    done = w.done;
+    parted = w.parted;
+  }
 
-  -- the writer, of this log
-  abbrev WriterStands : WriterState → Type 0
-  WriterStands s = IfSome s.work w.Work × (s.log ≡ l)
-
-  abbrev Writes : Stepped WriterState Out → Type 0
-  Writes d = Leaves WriterStands OutSo d
-
-  -- what it is given: a segment that is settled is a part from then on
-  abbrev GivenSo : WriterIn → Type 0
-  GivenSo (writer_in.Begin slot epoch pages parts horizon) =
-      w.Work (record { slot = slot; epoch = epoch; left = pages; parts = parts; horizon = horizon })
-  GivenSo (writer_in.Settled end) = w.Settles l end
-  GivenSo (writer_in.Ack epoch number) = Unit {0}
-
-  goes_on : (s : WriterState) (it : WorkState) → s.log ≡ l → w.Work it → Writes (writer.go_on s it)
-  goes_on s it at h =
-      by_test Writes (length it.left == 0) (writer.finished s it) (writer.gives s it) (λ _. record { state = (tt, at); outs = (w.done it h, tt) })
-      (λ _. record { state = (w.left it h, at); outs = (w.gives it h, tt) })
-
-  begun_on : (s : WriterState) (it : WorkState) → WriterStands s → w.Work it → Writes (writer.begun s it)
-  begun_on s it before h =
-      by_test Writes (writer.is_idle s) (writer.go_on (record s { number = s.number + 1 }) it) (still s)
-      (λ _. goes_on (record s { number = s.number + 1 }) it before.1 h)
-      (λ _. record { state = before; outs = tt })
-
-  settled_on : (s : WriterState) (end : End) → w.Settles l end → WriterStands s → Writes (writer.on_settled s end)
-  settled_on s end new before = by s.work before.0
-    where
-      by : (work : Option WorkState) → IfSome work w.Work → Writes (writer.settled s work end)
-      by None h = record { state = before; outs = tt }
-      by (Some it) h =
-          goes_on s (record it { parts = it.parts ++ writer.part_at s.log end ∷ [] }) before.1
-          (w.parted s.log it end (subst (λ x. w.Settles x end) (sym before.1) new) h)
-
-  acked_on : (s : WriterState) (epoch number : ℕ) → WriterStands s → Writes (writer.on_ack s epoch number)
-  acked_on s epoch number before = by s.asked
-    where
-      answer_on : (own : ℕ) → AllByRecursion OutSo (writer.answer own epoch ∷ [])
-      answer_on own = (by_test OutSo (epoch == own) out.Kept (out.Stale epoch) (λ _. tt) (λ _. tt), tt)
-
-      by : (asked_ : Option ℕ) → Writes (writer.acked s asked_ epoch number)
-      by None = record { state = before; outs = tt }
-      by (Some own) =
-          by_test Writes (not (number == s.number) || nat_lt epoch own) (still s)
-          (record { state = record s { asked = None }; outs = writer.answer own epoch ∷ [] })
-          (λ _. record { state = before; outs = tt }) (λ _. record { state = before; outs = answer_on own })
-
-  writer_goes : (s : WriterState) (given : WriterIn) → WriterStands s → GivenSo given → Writes (writer.transition s given)
-  writer_goes s (writer_in.Begin slot epoch pages parts horizon) before told =
-      begun_on s (record { slot = slot; epoch = epoch; left = pages; parts = parts; horizon = horizon }) before told
-  writer_goes s (writer_in.Settled end) before told = settled_on s end told before
-  writer_goes s (writer_in.Ack epoch number) before told = acked_on s epoch number before
-
+module _ (w : Walk) (l : LogId) where
   -- ---- what the writer says
 
   -- a manager that serves, whose writer is of this log
@@ -145,7 +99,7 @@ module _ (w : Walk) (l : LogId) where
       by None = tt
       by (Some job) = told
 
-  says_on : (s : Serving) (o : Out) → AtDesk s → OutSo o → Works (says s o)
+  says_on : (s : Serving) (o : Out) → AtDesk s → OutSo (law w) o → Works (says s o)
   unfolding says
   says_on s (out.Parts items) h told = parts_on s items told h
   says_on s (out.Done slot epoch parts horizon) h told =
@@ -154,17 +108,17 @@ module _ (w : Walk) (l : LogId) where
   says_on s out.Kept h told = record { state = h; outs = tt }
   says_on s (out.Stale epoch) h told = record { state = h; outs = tt }
 
-  pub writer_on : (s : Serving) (given : WriterIn) → AtDesk s → GivenSo given → Works (writer_takes s given)
+  pub writer_on : (s : Serving) (given : WriterIn) → AtDesk s → GivenSo (law w) l given → Works (writer_takes s given)
   unfolding writer_takes says_each
   writer_on s given h told =
-      let d = writer_goes s.writer given (h.so.work, h.writer_log) told in
-      leaves_each AtDesk (Says w) OutSo says says_on (record s { writer = (writer.transition s.writer given).state })
+      let d = writer_goes (law w) l s.writer given (h.so.work, h.writer_log) told in
+      leaves_each AtDesk (Says w) (OutSo (law w)) says says_on (record s { writer = (writer.transition s.writer given).state })
       (writer.transition s.writer given).outs
       (record { so = record { slots = h.so.slots; work = d.state.0; job = h.so.job; log = h.so.log }; writer_log = d.state.1 }) d.outs
 
   pub acks_so : (s : WriterState) (epoch number : ℕ) → IfSome s.work w.Work → s.log ≡ l
       → IfSome (writer.on_ack s epoch number).state.work w.Work
-  acks_so s epoch number before at = (acked_on s epoch number (before, at)).state.0
+  acks_so s epoch number before at = (acked_on (law w) l s epoch number (before, at)).state.0
 
   -- ---- the log of checkpoints
 
@@ -201,7 +155,7 @@ module _ (w : Walk) where
   from_desk : (l : LogId) (d : Done) → Leaves (AtDesk w l) (Says w) d → Goes d
   from_desk l d h = record { state = h.state.so; outs = h.outs }
 
-  writer_so : (s : Serving) (given : WriterIn) → ServingSo w s → GivenSo w s.writer.log given → Goes (writer_takes s given)
+  writer_so : (s : Serving) (given : WriterIn) → ServingSo w s → GivenSo (law w) s.writer.log given → Goes (writer_takes s given)
   writer_so s given h told = from_desk s.writer.log (writer_takes s given) (writer_on w s.writer.log s given (at_desk s h) told)
 
   -- what is settled was in flight
@@ -233,13 +187,13 @@ module _ (w : Walk) where
   }
 
   -- a checkpoint that begins
-  given_so : (l : LogId) (o : Option WriterIn) → IfSome o (Begins w.Work) → IfSome o (GivenSo w l)
+  given_so : (l : LogId) (o : Option WriterIn) → IfSome o (Begins w.Work) → IfSome o (GivenSo (law w) l)
   given_so l None told = tt
   given_so l (Some (writer_in.Begin slot epoch pages parts horizon)) told = told
   given_so l (Some (writer_in.Settled end)) told = absurd told
   given_so l (Some (writer_in.Ack epoch number)) told = tt
 
-  writes_slot-on : (s : Serving) (o : Option WriterIn) → ServingSo w s → IfSome o (GivenSo w s.writer.log) → Goes (writes_slot s o)
+  writes_slot-on : (s : Serving) (o : Option WriterIn) → ServingSo w s → IfSome o (GivenSo (law w) s.writer.log) → Goes (writes_slot s o)
   writes_slot-on s None h told = record { state = h; outs = tt }
   writes_slot-on s (Some given) h told = writer_so s given h told
 

@@ -1,13 +1,13 @@
 -- What a manager names in the checkpoints that it writes is known: the segments that it had in flight, and acted to be filed.
-use Rattle.std.proofs.Common.{◌≡◌, ℕ, ◌+◌, ◌==◌, ◌||◌, not, List, [], ◌∷◌, ◌++◌, length, is_some, sym, subst}
-use Rattle.std.specs.Prelude.{Option, Some, None, IfSome, Contains, fold, nat_lt}
+use Rattle.std.proofs.Common.{◌≡◌, ℕ, ◌==◌, List, [], ◌∷◌, length, is_some, subst}
+use Rattle.std.specs.Prelude.{Option, Some, None, IfSome, Contains, fold}
 use Rattle.std.specs.List.{AllByRecursion}
 use Rattle.checkpoint.specs.declared.input.In.{In as WriterIn}
 use Rattle.checkpoint.specs.declared.input.In.TheVariants as writer_in
 use Rattle.checkpoint.specs.declared.output.Out.{Out}
 use Rattle.checkpoint.specs.declared.output.Out.TheVariants as out
 use Rattle.checkpoint.specs.Transition as writer
-use Rattle.checkpoint.specs.WriterState.{WorkState, WriterState}
+use Rattle.checkpoint.specs.WriterState.{WriterState}
 use Rattle.client_log.specs.declared.input.In.{In as LogIn}
 use Rattle.client_log.specs.declared.input.In.TheVariants as log_input
 use Rattle.client_log.specs.declared.output.Out.{Out as LogOut}
@@ -32,6 +32,7 @@ use Rattle.xfs_base.proofs.Booleans.{by_test}
 use Rattle.xfs_base.specs.declared.segment.End.{End}
 use Rattle.xfs_base.specs.Steps.{Stepped, still}
 use Rattle.client_log.specs.LogState.{LogState}
+use Rattle.node_moves.proofs.manager_walk.Writers.{WriterLaw, GivenSo, OutSo, WriterStands, writer_goes}
 use Rattle.node_tellings.proofs.part_tie.Leaving.{LeavesIf, leaves_each-if}
 use Rattle.segment_format.specs.declared.segment.Item.{Item}
 use Rattle.xfs_base.specs.declared.segment.LogId.{LogId}
@@ -46,64 +47,18 @@ use Rattle.node_tellings.proofs.part_tie.Tables.{BeginNames, begin_names, table_
 module _ (known : Known) (acts : List Act) (its_number : ℕ) (log_id : LogId) where
   -- ---- the writer of checkpoints
 
-  -- one of this log
-  record WriterSo (s : WriterState) : Type 0 where
-    work : IfSome s.work (WorkNames known)
-    own : s.log ≡ log_id
-
-  -- the parts of one that is done
-  abbrev OutSo : Out → Type 0
-  OutSo (out.Done slot epoch parts horizon) = AllKnown known parts
-  OutSo _ = Unit {0}
-
-  -- what it is told: the parts that are named again, and a segment that is settled
-  abbrev InSo : WriterIn → Type 0
-  InSo (writer_in.Begin slot epoch pages parts horizon) = AllKnown known parts
-  InSo (writer_in.Settled end) = known (writer.part_at log_id end)
-  InSo (writer_in.Ack epoch number) = Unit {0}
-
-  abbrev Writes : Stepped WriterState Out → Type 0
-  Writes d = Leaves WriterSo OutSo d
-
-  goes_on : (s : WriterState) (w : WorkState) → s.log ≡ log_id → WorkNames known w → Writes (writer.go_on s w)
-  goes_on s w own h =
-      by_test Writes (length w.left == 0) (writer.finished s w) (writer.gives s w)
-      (λ _. record { state = record { work = tt; own = own }; outs = (h, tt) })
-      (λ _. record { state = record { work = h; own = own }; outs = (tt, tt) })
-
-  begun_on : (s : WriterState) (w : WorkState) → WriterSo s → WorkNames known w → Writes (writer.begun s w)
-  begun_on s w before h =
-      by_test Writes (writer.is_idle s) (writer.go_on (record s { number = s.number + 1 }) w) (still s)
-      (λ _. goes_on (record s { number = s.number + 1 }) w before.own h)
-      (λ _. record { state = before; outs = tt })
-
-  settled_on : (s : WriterState) (end : End) → WriterSo s → known (writer.part_at log_id end) → Writes (writer.on_settled s end)
-  settled_on s end before fact = by s.work before.work
-    where
-      by : (work : Option WorkState) → IfSome work (WorkNames known) → Writes (writer.settled s work end)
-      by None h = record { state = before; outs = tt }
-      by (Some w) h =
-          goes_on s (record w { parts = w.parts ++ writer.part_at s.log end ∷ [] }) before.own
-          (all_append known w.parts (writer.part_at s.log end ∷ []) h (subst (λ l. known (writer.part_at l end)) (sym before.own) fact, tt))
-
-  acked_on : (s : WriterState) (epoch number : ℕ) → WriterSo s → Writes (writer.on_ack s epoch number)
-  acked_on s epoch number before = by s.asked
-    where
-      answer_on : (own : ℕ) → AllByRecursion OutSo (writer.answer own epoch ∷ [])
-      answer_on own = (by_test OutSo (epoch == own) out.Kept (out.Stale epoch) (λ _. tt) (λ _. tt), tt)
-
-      by : (asked_ : Option ℕ) → Writes (writer.acked s asked_ epoch number)
-      by None = record { state = before; outs = tt }
-      by (Some own) =
-          by_test Writes (not (number == s.number) || nat_lt epoch own) (still s)
-          (record { state = record s { asked = None }; outs = writer.answer own epoch ∷ [] })
-          (λ _. record { state = before; outs = tt }) (λ _. record { state = record { work = before.work; own = before.own }; outs = answer_on own })
-
-  writer_goes : (s : WriterState) (given : WriterIn) → WriterSo s → InSo given → Writes (writer.transition s given)
-  writer_goes s (writer_in.Begin slot epoch pages parts horizon) before fact =
-      begun_on s (record { slot = slot; epoch = epoch; left = pages; parts = parts; horizon = horizon }) before fact
-  writer_goes s (writer_in.Settled end) before fact = settled_on s end before fact
-  writer_goes s (writer_in.Ack epoch number) before fact = acked_on s epoch number before
+  -- what it is given are the parts that are named again, and a segment that is settled; what it gives out are the parts of a checkpoint that is done
+  abbrev law : WriterLaw
+  law = record {
+    Work = WorkNames known;
+    Items = λ items. Unit {0};
+    Done = λ slot epoch parts horizon. AllKnown known parts;
+    Settles = λ l end. known (writer.part_at l end);
+    gives = λ it h. tt;
+    left = λ it h. h;
+    done = λ it h. h;
+    parted = λ l it end fact h. all_append known it.parts (writer.part_at l end ∷ []) h (fact, tt);
+  }
 
   -- ---- what the writer says
 
@@ -166,7 +121,7 @@ module _ (known : Known) (acts : List Act) (its_number : ℕ) (log_id : LogId) w
     outs = (fact, tt);
   }
 
-  says_on : (s : Serving) (o : Out) → Plain s → OutSo o → Goes (says s o)
+  says_on : (s : Serving) (o : Out) → Plain s → OutSo law o → Goes (says s o)
   unfolding says
   says_on s (out.Parts items) h fact = parts_on s items h
   says_on s (out.Done slot epoch parts horizon) h fact =
@@ -174,13 +129,13 @@ module _ (known : Known) (acts : List Act) (its_number : ℕ) (log_id : LogId) w
   says_on s out.Kept h fact = record { state = h; outs = tt }
   says_on s (out.Stale epoch) h fact = record { state = h; outs = tt }
 
-  writer_on : (s : Serving) (given : WriterIn) → Plain s → InSo given → Goes (writer_takes s given)
+  writer_on : (s : Serving) (given : WriterIn) → Plain s → GivenSo law log_id given → Goes (writer_takes s given)
   unfolding writer_takes says_each
   writer_on s given h fact =
-      let d = writer_goes s.writer given (record { work = h.work; own = h.own }) fact in
+      let d = writer_goes law log_id s.writer given (h.work, h.own) fact in
       let after = d.state in
-      leaves_each Plain (Says known) OutSo says says_on (record s { writer = (writer.transition s.writer given).state })
-      (writer.transition s.writer given).outs (record { slots = h.slots; work = after.work; own = after.own; its = h.its; done = h.done; more = tt }) d.outs
+      leaves_each Plain (Says known) (OutSo law) says says_on (record s { writer = (writer.transition s.writer given).state })
+      (writer.transition s.writer given).outs (record { slots = h.slots; work = after.0; own = after.1; its = h.its; done = h.done; more = tt }) d.outs
 
   -- ---- the log of checkpoints
 
@@ -273,20 +228,20 @@ module _ (known : Known) (acts : List Act) (its_number : ℕ) (log_id : LogId) w
   all_counted job [] fact = fact
   all_counted job (o ∷ outs) fact = all_counted (counted job o) outs (one_counted job o fact)
 
-  answered_on : (s : Serving) (r : Stepped WriterState Out) → Plain s → WriterSo r.state → Goes (answered_by s r)
+  answered_on : (s : Serving) (r : Stepped WriterState Out) → Plain s → WriterStands law log_id r.state → Goes (answered_by s r)
   answered_on s r h left =
       by_test Goes (length r.outs == 0) (still (record s { writer = r.state }))
       (next_slot (record s { writer = r.state; checkpoint = fold counted s.checkpoint r.outs }))
-      (λ _. record { state = record { slots = h.slots; work = left.work; own = left.own; its = h.its; done = h.done; more = tt }; outs = tt })
+      (λ _. record { state = record { slots = h.slots; work = left.0; own = left.1; its = h.its; done = h.done; more = tt }; outs = tt })
       (λ _. next_on (record s { writer = r.state; checkpoint = fold counted s.checkpoint r.outs })
-      (record { slots = h.slots; work = left.work; own = left.own; its = h.its; done = all_counted s.checkpoint r.outs h.done; more = tt }))
+      (record { slots = h.slots; work = left.0; own = left.1; its = h.its; done = all_counted s.checkpoint r.outs h.done; more = tt }))
 
   pub acks_on : (s : Serving) (ack : CkptAck) → Plain s → Goes (on_ckpt_ack s ack)
   unfolding on_ckpt_ack
   acks_on s ack h =
       by_test Goes (awaits s.checkpoint ack.ask) (answered_by s (writer.transition s.writer (writer_in.Ack ack.epoch s.dones))) (still s)
       (λ _. answered_on s (writer.transition s.writer (writer_in.Ack ack.epoch s.dones)) h
-      (let d = writer_goes s.writer (writer_in.Ack ack.epoch s.dones) (record { work = h.work; own = h.own }) tt in d.state))
+      (let d = writer_goes law log_id s.writer (writer_in.Ack ack.epoch s.dones) (h.work, h.own) tt in d.state))
       (λ _. record { state = h; outs = tt })
 
   pub tells_on : (s : Serving) → Plain s → Goes (tells_again s)
