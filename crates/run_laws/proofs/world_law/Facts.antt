@@ -29,100 +29,48 @@ up_to a b c h g = omega arith
 module _ (part : ℕ) (xs ys : List NetPacket) (grows : (x : NetPacket) → In x xs → In x ys) where
   pub grant_stays : (to : NodeId) (m : Grant) → GrantSeen part xs to m → GrantSeen part ys to m
   grant_stays (Client c) m h = λ inside. grows _ (h inside)
-  grant_stays (Manager n) m h = absurd h
-  grant_stays (Server n) m h = absurd h
-  grant_stays Cleaner m h = absurd h
-  grant_stays Registry m h = absurd h
+  grant_stays _ m h = absurd h
 
   pub forward_stays : (to : NodeId) (m : Forward) → ForwardSeen part xs to m → ForwardSeen part ys to m
   forward_stays (Client c) m h = λ inside. grows _ (h inside)
-  forward_stays (Manager n) m h = absurd h
-  forward_stays (Server n) m h = absurd h
-  forward_stays Cleaner m h = absurd h
-  forward_stays Registry m h = absurd h
+  forward_stays _ m h = absurd h
 
   pub recall_stays : (to : NodeId) (m : Recall) → RecallSeen part xs to m → RecallSeen part ys to m
   recall_stays (Client c) m h = λ inside. grows _ (h inside)
-  recall_stays (Manager n) m h = absurd h
-  recall_stays (Server n) m h = absurd h
-  recall_stays Cleaner m h = absurd h
-  recall_stays Registry m h = absurd h
+  recall_stays _ m h = absurd h
 
   pub supply_stays : (to : NodeId) (m : Supply) → SupplySeen part xs to m → SupplySeen part ys to m
   supply_stays (Client c) m h = λ inside. grows _ (h inside)
-  supply_stays (Manager n) m h = absurd h
-  supply_stays (Server n) m h = absurd h
-  supply_stays Cleaner m h = absurd h
-  supply_stays Registry m h = absurd h
+  supply_stays _ m h = absurd h
 
   pub client_stays : (c life later : ℕ) → life ≤ later → (to : NodeId) (m : Body) → ClientSends part xs c life to m → ClientSends part ys c later to m
   client_stays c life later less to (body.Want m) h = λ inside. grows _ (h inside)
-  client_stays c life later less to (body.Grant m) h = absurd h
-  client_stays c life later less to (body.Forward m) h = absurd h
   client_stays c life later less to (body.Supply m) h = supply_stays to m h
-  client_stays c life later less to (body.Recall m) h = absurd h
   client_stays c life later less to (body.Gave m) h = λ inside. grows _ (h inside)
-  client_stays c life later less to (body.Gone m) h = absurd h
   client_stays c life later less to (body.Deltas m) h = tt
-  client_stays c life later less to (body.DeltaAck m) h = absurd h
-  client_stays c life later less to (body.Poll m) h = absurd h
   client_stays c life later less to (body.Report m) h = λ same. grows _ (h same)
   client_stays c life later less to (body.Store m) h = tt
-  client_stays c life later less to (body.Stored m) h = absurd h
   client_stays c life later less to (body.Fetch m) h = tt
-  client_stays c life later less to (body.Fragment m) h = absurd h
-  client_stays c life later less to (body.Missing m) h = absurd h
   client_stays c life later less to (body.Fence m) h = tt
-  client_stays c life later less to (body.Fenced m) h = absurd h
-  client_stays c life later less to (body.List m) h = absurd h
-  client_stays c life later less to (body.Listed m) h = absurd h
-  client_stays c life later less to (body.Delete m) h = absurd h
-  client_stays c life later less to (body.Deleted m) h = absurd h
-  client_stays c life later less to (body.Check m) h = absurd h
-  client_stays c life later less to (body.Live m) h = absurd h
-  client_stays c life later less to (body.Dead m) h = absurd h
-  client_stays c life later less to (body.UsageAsk m) h = absurd h
-  client_stays c life later less to (body.Usage m) h = absurd h
   client_stays c life later less to (body.Hello m) h = up_to m.inc life later h less
-  client_stays c life later less to (body.Welcome m) h = absurd h
-  client_stays c life later less to (body.MapNews m) h = absurd h
-  client_stays c life later less to (body.CkptDone m) h = absurd h
-  client_stays c life later less to (body.CkptAck m) h = absurd h
+  client_stays c life later less to _ h = absurd h
 
   pub manager_stays : (limit more life later : ℕ) → limit ≤ more → life ≤ later → (to : NodeId) (m : Body) → ManagerSends part xs limit life to m
       → ManagerSends part ys more later to m
-  manager_stays limit more life later rise less to (body.Want m) h = absurd h
   manager_stays limit more life later rise less to (body.Grant m) h = grant_stays to m h
   manager_stays limit more life later rise less to (body.Forward m) h = forward_stays to m h
-  manager_stays limit more life later rise less to (body.Supply m) h = absurd h
   manager_stays limit more life later rise less to (body.Recall m) h = recall_stays to m h
-  manager_stays limit more life later rise less to (body.Gave m) h = absurd h
   manager_stays limit more life later rise less to (body.Gone m) h = tt
-  manager_stays limit more life later rise less to (body.Deltas m) h = absurd h
   manager_stays limit more life later rise less to (body.DeltaAck m) h = tt
   manager_stays limit more life later rise less to (body.Poll m) h = λ same. up_to m.epoch limit more (h same) rise
-  manager_stays limit more life later rise less to (body.Report m) h = absurd h
   manager_stays limit more life later rise less to (body.Store m) h = tt
-  manager_stays limit more life later rise less to (body.Stored m) h = absurd h
   manager_stays limit more life later rise less to (body.Fetch m) h = tt
-  manager_stays limit more life later rise less to (body.Fragment m) h = absurd h
-  manager_stays limit more life later rise less to (body.Missing m) h = absurd h
-  manager_stays limit more life later rise less to (body.Fence m) h = absurd h
-  manager_stays limit more life later rise less to (body.Fenced m) h = absurd h
-  manager_stays limit more life later rise less to (body.List m) h = absurd h
-  manager_stays limit more life later rise less to (body.Listed m) h = absurd h
-  manager_stays limit more life later rise less to (body.Delete m) h = absurd h
-  manager_stays limit more life later rise less to (body.Deleted m) h = absurd h
-  manager_stays limit more life later rise less to (body.Check m) h = absurd h
   manager_stays limit more life later rise less to (body.Live m) h = tt
   manager_stays limit more life later rise less to (body.Dead m) h = tt
-  manager_stays limit more life later rise less to (body.UsageAsk m) h = absurd h
   manager_stays limit more life later rise less to (body.Usage m) h = tt
   manager_stays limit more life later rise less to (body.Hello m) h = up_to m.inc life later h less
-  manager_stays limit more life later rise less to (body.Welcome m) h = absurd h
-  manager_stays limit more life later rise less to (body.MapNews m) h = absurd h
   manager_stays limit more life later rise less to (body.CkptDone m) h = tt
-  manager_stays limit more life later rise less to (body.CkptAck m) h = absurd h
+  manager_stays limit more life later rise less to _ h = absurd h
 
 pub cleaner_stays : (part promised more life later : ℕ) → promised ≤ more → life ≤ later → (m : Body) → CleanerSends part promised life m
     → CleanerSends part more later m
@@ -195,38 +143,10 @@ module _ (k : Cluster) (part : ℕ) where
     welcomed_stays Registry m all h = tt
 
     registry_stays : (to : NodeId) (m : Body) → RegistrySends k part s to m → RegistrySends k part t to m
-    registry_stays to (body.Want m) h = absurd h
-    registry_stays to (body.Grant m) h = absurd h
-    registry_stays to (body.Forward m) h = absurd h
-    registry_stays to (body.Supply m) h = absurd h
-    registry_stays to (body.Recall m) h = absurd h
-    registry_stays to (body.Gave m) h = absurd h
-    registry_stays to (body.Gone m) h = absurd h
-    registry_stays to (body.Deltas m) h = absurd h
-    registry_stays to (body.DeltaAck m) h = absurd h
-    registry_stays to (body.Poll m) h = absurd h
-    registry_stays to (body.Report m) h = absurd h
-    registry_stays to (body.Store m) h = absurd h
-    registry_stays to (body.Stored m) h = absurd h
-    registry_stays to (body.Fetch m) h = absurd h
-    registry_stays to (body.Fragment m) h = absurd h
-    registry_stays to (body.Missing m) h = absurd h
-    registry_stays to (body.Fence m) h = absurd h
-    registry_stays to (body.Fenced m) h = absurd h
-    registry_stays to (body.List m) h = absurd h
-    registry_stays to (body.Listed m) h = absurd h
-    registry_stays to (body.Delete m) h = absurd h
-    registry_stays to (body.Deleted m) h = absurd h
-    registry_stays to (body.Check m) h = absurd h
-    registry_stays to (body.Live m) h = absurd h
-    registry_stays to (body.Dead m) h = absurd h
-    registry_stays to (body.UsageAsk m) h = absurd h
-    registry_stays to (body.Usage m) h = absurd h
-    registry_stays to (body.Hello m) h = absurd h
     registry_stays to (body.Welcome m) h = (all_stays m.news.slots h.0, welcomed_stays to m h.0 h.1)
     registry_stays to (body.MapNews m) h = all_stays m.slots h
-    registry_stays to (body.CkptDone m) h = absurd h
     registry_stays to (body.CkptAck m) h = tt
+    registry_stays to _ h = absurd h
 
     sent_stays : (from to : NodeId) (m : Body) → SentBy k part s from to m → SentBy k part t from to m
     sent_stays (Client c) to m h = (h.0, h.1, client_stays part s.net.sent t.net.sent g.sent c (life_of_client s c) (life_of_client t c) (g.lives c) to m h.2)

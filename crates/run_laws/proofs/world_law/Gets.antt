@@ -105,39 +105,15 @@ module _ (k : Cluster) (part : ℕ) (s : Scene) where
 
   client_body : (c : ℕ) (from to : NodeId) (m : Body) → SentBy k part s from to m → to ≡ Client c
       → GetsBody part (epoch_now k part s) c s.net (s.client c).phase m
-  client_body c from to (body.Want m) h same = tt
   client_body c from to (body.Grant m) h same = subst (λ x. GrantSeen part s.net.sent x m) same (grant_told from to m h)
   client_body c from to (body.Forward m) h same = subst (λ x. ForwardSeen part s.net.sent x m) same (forward_told from to m h)
   client_body c from to (body.Supply m) h same = subst (λ x. SupplySeen part s.net.sent x m) same (supply_told from to m h)
   client_body c from to (body.Recall m) h same = subst (λ x. RecallSeen part s.net.sent x m) same (recall_told from to m h)
-  client_body c from to (body.Gave m) h same = tt
-  client_body c from to (body.Gone m) h same = tt
-  client_body c from to (body.Deltas m) h same = tt
-  client_body c from to (body.DeltaAck m) h same = tt
   client_body c from to (body.Poll m) h same = poll_told from to m h
-  client_body c from to (body.Report m) h same = tt
-  client_body c from to (body.Store m) h same = tt
-  client_body c from to (body.Stored m) h same = tt
-  client_body c from to (body.Fetch m) h same = tt
-  client_body c from to (body.Fragment m) h same = tt
-  client_body c from to (body.Missing m) h same = tt
-  client_body c from to (body.Fence m) h same = tt
-  client_body c from to (body.Fenced m) h same = tt
-  client_body c from to (body.List m) h same = tt
-  client_body c from to (body.Listed m) h same = tt
-  client_body c from to (body.Delete m) h same = tt
-  client_body c from to (body.Deleted m) h same = tt
-  client_body c from to (body.Check m) h same = tt
-  client_body c from to (body.Live m) h same = tt
-  client_body c from to (body.Dead m) h same = tt
-  client_body c from to (body.UsageAsk m) h same = tt
-  client_body c from to (body.Usage m) h same = tt
-  client_body c from to (body.Hello m) h same = tt
   client_body c from to (body.Welcome m) h same =
       (let w = welcome_told from to m h in (news_within c m.news.slots w.0, (subst (λ x. Welcomed k part s x m) same w.1).rises))
   client_body c from to (body.MapNews m) h same = news_within c m.slots (news_told from to m h)
-  client_body c from to (body.CkptDone m) h same = tt
-  client_body c from to (body.CkptAck m) h same = tt
+  client_body c from to _ h same = tt
 
   pub client_gets : (logs : Bool) (c : ℕ) (q : Packet) → Fact k part s q → q.to ≡ Client c
       → Premise logs (ReadsSo part (epoch_now k part s) c s.net (s.client c).phase q)
@@ -267,75 +243,22 @@ module _ (k : Cluster) (part : ℕ) (s : Scene) where
         → Premise logs (SlotTold (members k part) part s.net (slot_in part (Serves v)) from m)
         → ServingGets logs part (epoch_now k part s) j s.net (members k part) v.lasting.inc (slot_in part (Serves v)) from m
     serving_body logs v premise sees from to (body.Want m) h told = want_gets from to m h
-    serving_body logs v premise sees from to (body.Grant m) h told = tt
-    serving_body logs v premise sees from to (body.Forward m) h told = tt
-    serving_body logs v premise sees from to (body.Supply m) h told = tt
-    serving_body logs v premise sees from to (body.Recall m) h told = tt
     serving_body logs v premise sees from to (body.Gave m) h told = gave_gets from to m h
-    serving_body logs v premise sees from to (body.Gone m) h told = tt
     serving_body logs v premise sees from to (body.Deltas m) h told = deltas_gets logs (slot_in part (Serves v)) from m told
-    serving_body logs v premise sees from to (body.DeltaAck m) h told = tt
-    serving_body logs v premise sees from to (body.Poll m) h told = tt
     serving_body logs v premise sees from to (body.Report m) h told = (report_gets from to m h, last_gets logs (slot_in part (Serves v)) from m told)
-    serving_body logs v premise sees from to (body.Store m) h told = tt
-    serving_body logs v premise sees from to (body.Stored m) h told = tt
-    serving_body logs v premise sees from to (body.Fetch m) h told = tt
     serving_body logs v premise sees from to (body.Fragment m) h told = found_gets logs (slot_in part (Serves v)) from m told
     serving_body logs v premise sees from to (body.Missing m) h told = absent_gets logs (slot_in part (Serves v)) from m told
-    serving_body logs v premise sees from to (body.Fence m) h told = tt
-    serving_body logs v premise sees from to (body.Fenced m) h told = tt
-    serving_body logs v premise sees from to (body.List m) h told = tt
-    serving_body logs v premise sees from to (body.Listed m) h told = tt
-    serving_body logs v premise sees from to (body.Delete m) h told = tt
-    serving_body logs v premise sees from to (body.Deleted m) h told = tt
-    serving_body logs v premise sees from to (body.Check m) h told = tt
-    serving_body logs v premise sees from to (body.Live m) h told = tt
-    serving_body logs v premise sees from to (body.Dead m) h told = tt
-    serving_body logs v premise sees from to (body.UsageAsk m) h told = tt
-    serving_body logs v premise sees from to (body.Usage m) h told = tt
-    serving_body logs v premise sees from to (body.Hello m) h told = tt
     serving_body logs v premise sees from to (body.Welcome m) h told = λ life. serving_news v premise sees m.news.slots (welcome_told from to m h).0
     serving_body logs v premise sees from to (body.MapNews m) h told = serving_news v premise sees m.slots (news_told from to m h)
-    serving_body logs v premise sees from to (body.CkptDone m) h told = tt
-    serving_body logs v premise sees from to (body.CkptAck m) h told = tt
+    serving_body logs v premise sees from to _ h told = tt
 
     waiting_body : (kept : Kept) (hello : ℕ) → (s.manager j).phase ≡ Waiting kept hello → (from to : NodeId) (m : Body) → SentBy k part s from to m
         → to ≡ Manager j
         → WaitingGets part (epoch_now k part s) j s.net kept.inc m
-    waiting_body kept hello premise from to (body.Want m) h same = tt
-    waiting_body kept hello premise from to (body.Grant m) h same = tt
-    waiting_body kept hello premise from to (body.Forward m) h same = tt
-    waiting_body kept hello premise from to (body.Supply m) h same = tt
-    waiting_body kept hello premise from to (body.Recall m) h same = tt
-    waiting_body kept hello premise from to (body.Gave m) h same = tt
-    waiting_body kept hello premise from to (body.Gone m) h same = tt
-    waiting_body kept hello premise from to (body.Deltas m) h same = tt
-    waiting_body kept hello premise from to (body.DeltaAck m) h same = tt
-    waiting_body kept hello premise from to (body.Poll m) h same = tt
-    waiting_body kept hello premise from to (body.Report m) h same = tt
-    waiting_body kept hello premise from to (body.Store m) h same = tt
-    waiting_body kept hello premise from to (body.Stored m) h same = tt
-    waiting_body kept hello premise from to (body.Fetch m) h same = tt
-    waiting_body kept hello premise from to (body.Fragment m) h same = tt
-    waiting_body kept hello premise from to (body.Missing m) h same = tt
-    waiting_body kept hello premise from to (body.Fence m) h same = tt
-    waiting_body kept hello premise from to (body.Fenced m) h same = tt
-    waiting_body kept hello premise from to (body.List m) h same = tt
-    waiting_body kept hello premise from to (body.Listed m) h same = tt
-    waiting_body kept hello premise from to (body.Delete m) h same = tt
-    waiting_body kept hello premise from to (body.Deleted m) h same = tt
-    waiting_body kept hello premise from to (body.Check m) h same = tt
-    waiting_body kept hello premise from to (body.Live m) h same = tt
-    waiting_body kept hello premise from to (body.Dead m) h same = tt
-    waiting_body kept hello premise from to (body.UsageAsk m) h same = tt
-    waiting_body kept hello premise from to (body.Usage m) h same = tt
-    waiting_body kept hello premise from to (body.Hello m) h same = tt
     waiting_body kept hello premise from to (body.Welcome m) h same =
         λ life. (let w = welcome_told from to m h in let mine : Welcomed k part s (Manager j) m = subst (λ x. Welcomed k part s x m) same w.1 in
         record { newer = mine.version; slots = waiting_news kept hello premise m life w.0 mine })
-    waiting_body kept hello premise from to (body.MapNews m) h same = tt
-    waiting_body kept hello premise from to (body.CkptDone m) h same = tt
-    waiting_body kept hello premise from to (body.CkptAck m) h same = tt
+    waiting_body kept hello premise from to _ h same = tt
 
     pub manager_gets : (logs : Bool) (p : ManagerPhase) → (s.manager j).phase ≡ p → ManagerSees k part s j p → (q : Packet) → Fact k part s q → q.to ≡ Manager j
         → Premise logs (ServingTold (members k part) part s.net p q) → ManagerGets logs part (epoch_now k part s) j s.net (members k part) p q

@@ -217,38 +217,9 @@ module _ (logs : Bool) (k : Cluster) (part : ℕ) (RegistrySound : RegistryNode 
       (ap s.lord (sym names.3) ∙ (t.given ∙ names.4), subst (λ x. x ≤ epoch_now k part s) names.3 t.within, subst (λ x. 0 < x) names.3 t.some)
 
   named : (e : ℕ) (q : Packet) (m : Body) → SentBy k part s q.from q.to m → NamedBy part j e m → (s.lord e ≡ j) × (e ≤ epoch_now k part s) × (0 < e)
-  named e q (body.Want m) h names = absurd names
-  named e q (body.Grant m) h names = absurd names
-  named e q (body.Forward m) h names = absurd names
-  named e q (body.Supply m) h names = absurd names
-  named e q (body.Recall m) h names = absurd names
-  named e q (body.Gave m) h names = absurd names
-  named e q (body.Gone m) h names = absurd names
-  named e q (body.Deltas m) h names = absurd names
-  named e q (body.DeltaAck m) h names = absurd names
-  named e q (body.Poll m) h names = absurd names
-  named e q (body.Report m) h names = absurd names
-  named e q (body.Store m) h names = absurd names
-  named e q (body.Stored m) h names = absurd names
-  named e q (body.Fetch m) h names = absurd names
-  named e q (body.Fragment m) h names = absurd names
-  named e q (body.Missing m) h names = absurd names
-  named e q (body.Fence m) h names = absurd names
-  named e q (body.Fenced m) h names = absurd names
-  named e q (body.List m) h names = absurd names
-  named e q (body.Listed m) h names = absurd names
-  named e q (body.Delete m) h names = absurd names
-  named e q (body.Deleted m) h names = absurd names
-  named e q (body.Check m) h names = absurd names
-  named e q (body.Live m) h names = absurd names
-  named e q (body.Dead m) h names = absurd names
-  named e q (body.UsageAsk m) h names = absurd names
-  named e q (body.Usage m) h names = absurd names
-  named e q (body.Hello m) h names = absurd names
   named e q (body.Welcome m) h names = named_in e m.news.slots (welcome_told k part s q.from q.to m h).0 names
   named e q (body.MapNews m) h names = named_in e m.slots (news_told k part s q.from q.to m h) names
-  named e q (body.CkptDone m) h names = absurd names
-  named e q (body.CkptAck m) h names = absurd names
+  named e q _ h names = absurd names
 
   owns_after : (e : ℕ) → HeldAt (slot_in part w.state) e → (s.lord e ≡ j) × (s.since e ≡ (lasting_of w.state).inc)
   owns_after e held = ⊎_elim (λ was. (let o = sees.owns e was.0 in (o.0, o.1 ∙ sym was.1))) (λ new. by_what what refl new.0 new.1) (go.taken e held)

@@ -24,7 +24,7 @@ use Rattle.cleaner_node.specs.declared.cleaner.Phase.TheVariants.{Down, Opening,
 use Rattle.registry_node.specs.declared.node.RegistryNode.{RegistryNode}
 use Rattle.store_nodes.specs.declared.server.Server.{Server as ServerNode}
 use Rattle.store_nodes.specs.ServerEvents.{server_step}
-use Rattle.token_law.specs.Net.{acted}
+use Rattle.token_law.specs.Net.{Net, acted}
 use Rattle.token_law.specs.Owed.{IsNeutral}
 use Rattle.token_protocol.specs.Basics.{In}
 use Rattle.version_model.specs.declared.act.Act.{Act}
@@ -48,6 +48,23 @@ use Rattle.xfs_base.specs.declared.node.NodeId.TheVariants.{Client, Manager, Ser
 pub equal_or_not : (n m : ℕ) → (n ≡ m) ⊎ (n ≡ m → ⊥)
 equal_or_not n m =
     elim (n == m) as (λ t. (n == m) ≡ t → (n ≡ m) ⊎ (n ≡ m → ⊥)) [ true ↦ λ h. inl (eqb-true n m h) | false ↦ λ h. inr (λ e. grind (arith, nat_tests)) ] refl
+
+-- ---- managers
+
+-- a manager is seen as before where nothing is sent, slots stay and no less is promised, whatever becomes of the cleaner
+sees_on : (k : Cluster) (part : ℕ) (s : Scene) (net : Net) (cleaner : CleanerNode) → net.sent ≡ s.net.sent → net.slots ≡ s.net.slots
+    → s.net.promised ≤ net.promised → (j : ℕ) → ManagerSees k part s j (s.manager j).phase
+    → ManagerSees k part (record s { net = net; cleaner = cleaner }) j (s.manager j).phase
+sees_on k part s net cleaner sent slots rises j h = record {
+  agrees = manager_on (members k part) part s.net net (λ x among. subst (In x) (sym sent) among) rises j (s.manager j).phase (λ e held. ap (λ (f : ℕ → _). f
+      e) slots)
+      h.agrees;
+  within = h.within;
+  owns = h.owns;
+  fresh = h.fresh;
+  known = h.known;
+  told = h.told;
+}
 
 -- ---- acts that change no history
 
@@ -77,14 +94,7 @@ module _ (logs : Bool) (k : Cluster) (part : ℕ) (RegistrySound : RegistryNode 
   said_fact q h = fact_stays k part s said_scene said_grown q h
 
   said_sees : (j : ℕ) → 0 < j → j ≤ k.managers → ManagerSees k part said_scene j (s.manager j).phase
-  said_sees j pos limit = (let h = st.managers j pos limit in record {
-    agrees = manager_on (members k part) part s.net said_scene.net (λ x sent_. sent_) (omega arith) j (s.manager j).phase (λ e held. refl) h.agrees;
-    within = h.within;
-    owns = h.owns;
-    fresh = h.fresh;
-    known = h.known;
-    told = h.told;
-  })
+  said_sees j pos limit = sees_on k part s said_scene.net s.cleaner refl refl (omega arith) j (st.managers j pos limit)
 
   pub said_stands : Stands logs k part nodes sent (done ++ more) RegistrySound said_scene
   said_stands = record {
@@ -235,14 +245,7 @@ module _ (logs : Bool) (k : Cluster) (part : ℕ) (RegistrySound : RegistryNode 
   }
 
   sees : (j : ℕ) → 0 < j → j ≤ k.managers → ManagerSees k part cleaner_scene j (s.manager j).phase
-  sees j pos limit = (let h = st.managers j pos limit in record {
-    agrees = manager_on (members k part) part s.net cleaner_scene.net (λ x sent_. sent_) go.rises j (s.manager j).phase (λ e held. refl) h.agrees;
-    within = h.within;
-    owns = h.owns;
-    fresh = h.fresh;
-    known = h.known;
-    told = h.told;
-  })
+  sees j pos limit = sees_on k part s cleaner_scene.net after_node refl refl go.rises j (st.managers j pos limit)
 
   new_facts : (q : Packet) → In q (map (sent_at clock) (packets_of Cleaner w.outs)) → Fact k part cleaner_scene q
   new_facts q h = sends Cleaner clock (CleanerDoes part go.next (lasting_of w.state).inc) (Fact k part cleaner_scene) (λ to m does. does) w.outs go.does q h

@@ -245,38 +245,10 @@ module _ (logs : Bool) (k : Cluster) (part : ℕ) (nodes : List AnyNode) (sent :
   welcomed Registry m w = tt
 
   says : (to : NodeId) (m : Body) → RegistrySends part what after_node.board to m → Sends k part registry_scene to m
-  says to (body.Want m) h = absurd h
-  says to (body.Grant m) h = absurd h
-  says to (body.Forward m) h = absurd h
-  says to (body.Supply m) h = absurd h
-  says to (body.Recall m) h = absurd h
-  says to (body.Gave m) h = absurd h
-  says to (body.Gone m) h = absurd h
-  says to (body.Deltas m) h = absurd h
-  says to (body.DeltaAck m) h = absurd h
-  says to (body.Poll m) h = absurd h
-  says to (body.Report m) h = absurd h
-  says to (body.Store m) h = absurd h
-  says to (body.Stored m) h = absurd h
-  says to (body.Fetch m) h = absurd h
-  says to (body.Fragment m) h = absurd h
-  says to (body.Missing m) h = absurd h
-  says to (body.Fence m) h = absurd h
-  says to (body.Fenced m) h = absurd h
-  says to (body.List m) h = absurd h
-  says to (body.Listed m) h = absurd h
-  says to (body.Delete m) h = absurd h
-  says to (body.Deleted m) h = absurd h
-  says to (body.Check m) h = absurd h
-  says to (body.Live m) h = absurd h
-  says to (body.Dead m) h = absurd h
-  says to (body.UsageAsk m) h = absurd h
-  says to (body.Usage m) h = absurd h
-  says to (body.Hello m) h = absurd h
   says to (body.Welcome m) h = (news_told m.news h.news, welcomed to m h)
   says to (body.MapNews m) h = news_told m h
-  says to (body.CkptDone m) h = absurd h
   says to (body.CkptAck m) h = tt
+  says to _ h = absurd h
 
   new_facts : (q : Packet) → In q (map (sent_at clock) (registry_step s.registry what).packets) → Fact k part registry_scene q
   new_facts q h =
