@@ -14,6 +14,7 @@ use Rattle.node_base.specs.Effects.{packets_of}
 use Rattle.node_slots.proofs.node_index_tie.Moves.{in_front, in_more, runs_through}
 use Rattle.node_slots.specs.node_index_tie.ManagerEvents.{ManagersStay}
 use Rattle.node_slots.specs.node_index_tie.Sight.{Questions, Texts}
+use Rattle.node_slots.specs.node_tie.ManagerEvents.{slot_in}
 use Rattle.node_slots.specs.owner_index_tie.CleanerEvents.{CleanerDoes, CleanerGoes, CleanerSays}
 use Rattle.node_slots.specs.owner_index_tie.ClientEvents.{ClientsStay}
 use Rattle.segment_format.specs.declared.segment.Segment.{Segment}
@@ -30,14 +31,12 @@ use Rattle.run_laws.proofs.world_index.Asking.{book_with, cleaner_fewer}
 use Rattle.run_laws.specs.world_index.Asking.{CleanerAsks}
 use Rattle.run_laws.proofs.world_index.CleanerGoing.{BodyKnown, EffectKnown, NewAsks, all_more, new_asks}
 use Rattle.run_laws.proofs.world_index.Facts.{Grown, sent_stays}
-use Rattle.run_laws.proofs.world_index.Frames.{cleaner_head, heads_stay, registry_frame}
-use Rattle.run_laws.proofs.world_index.Horizons.{runs_stay, steady_always}
+use Rattle.run_laws.proofs.world_index.Frames.{Leaves, cleaner_head, heads_stay, leaves_grown, leaves_pass, registry_frame}
 use Rattle.run_laws.proofs.world_index.Placing.{place_cleaner}
 use Rattle.run_laws.specs.world_index.Standing.{CleanerTells, Fact, Scene, Stands, WasAsked}
 use Rattle.run_laws.proofs.world_law.Sent.{in_append, sends}
 use Rattle.xfs_base.specs.declared.node.NodeId.TheVariants.{Cleaner}
 use Rattle.xfs_base.specs.declared.segment.SegName.{SegName}
-use Rattle.xfs_base.specs.declared.segment.SegRef.{SegRef}
 
 -- what is in two lists is in one of them
 in_either : {X : Type 0} (x : X) (xs ys : List X) → tables.In x (xs ++ ys) → tables.In x xs ⊎ tables.In x ys
@@ -88,18 +87,19 @@ module _ (clients_stay : ClientsStay) (managers_stay : ManagersStay) (k : Cluste
     kept : (x : ℕ × ℕ × SegName) → tables.In x s.asked → tables.In x asked_now
     kept x old = in_more x new.list s.asked old
 
-    pub grown : Grown s.net go.next
-    grown = record {
+    leaves : Leaves s.net go.next
+    leaves = record {
       filed = go.more;
       stay = λ e none. ap (λ (f : ℕ → _). f e) (sym go.slots) ∙ none;
       sent = go.sent;
       deleted = go.deleted;
-      epoch = let same = go.epoch in omega arith;
-      from_one = (steady_always part _ first s.net st.runs).from_one;
-      rises = (runs_stay part _ s.net go.next go.runs (steady_always part _ first s.net st.runs)).rises;
-      horizon = λ e none low. ap (λ (f : ℕ → List ℕ). f e) go.horizon;
-      parts = λ e none low. ap (λ (f : ℕ → List SegRef). f e) go.parts;
+      epoch = go.epoch;
+      horizon = go.horizon;
+      parts = go.parts;
     }
+
+    pub grown : Grown s.net go.next
+    grown = leaves_grown part texts first s.net go.next st.runs go.runs leaves
 
     -- ---- what it sends
 
@@ -131,15 +131,7 @@ module _ (clients_stay : ClientsStay) (managers_stay : ManagersStay) (k : Cluste
       clients = λ c pos less. clients_stay part texts s.net go.next c (s.client c).phase (go.others c (λ same. let few = st.few in absurd (omega arith)))
           (st.clients c pos less);
       managers = λ j pos limit. managers_stay part texts s.net go.next (s.manager j).phase
-          (record {
-            slots = λ e held. ap (λ (f : ℕ → _). f e) go.slots;
-            stay = grown.stay;
-            sent = go.sent;
-            filed = go.more;
-            epoch = grown.epoch;
-            horizon = λ e held none. ap (λ (f : ℕ → List ℕ). f e) go.horizon;
-            parts = λ e held none. ap (λ (f : ℕ → List SegRef). f e) go.parts;
-          })
+          (leaves_pass part texts first s.net go.next st.runs go.runs leaves (slot_in part (s.manager j).phase) (λ e held. ap (λ (f : ℕ → _). f e) go.slots))
           (st.managers j pos limit);
       cleaner = go.agrees;
       asks = cleaner_fewer (book_with (WasAsked s.asked) outs) (WasAsked asked_now) asked_then state asks;

@@ -4,12 +4,13 @@ use Rattle.client_node.specs.declared.client.Client.{Client as ClientNode}
 use Rattle.client_node.specs.Phases.{Went_to, lasting_of}
 use Rattle.core_world.specs.declared.any_node.AnyNode.{AnyNode}
 use Rattle.core_world.specs.declared.any_node.AnyNode.TheVariants as any
-use Rattle.index_tie.specs.Net.{Net, Packet as Said, opening}
+use Rattle.index_tie.specs.Net.{Net, opening}
 use Rattle.log_protocol.specs.Tables as tables
 use Rattle.node_base.specs.Effects.{packets_of}
 use Rattle.node_slots.proofs.node_index_tie.Moves.{runs_through}
 use Rattle.node_slots.specs.node_index_tie.ManagerEvents.{ManagersStay}
 use Rattle.node_slots.specs.node_index_tie.Sight.{Texts}
+use Rattle.node_slots.specs.node_tie.ManagerEvents.{slot_in}
 use Rattle.node_slots.specs.owner_index_tie.CleanerEvents.{CleanerStays}
 use Rattle.node_slots.specs.owner_index_tie.ClientEvents.{ClientAgrees, ClientGoes, ClientsStay}
 use Rattle.node_slots.specs.owner_index_tie.Owners.{OwnerDoes, OwnerSays}
@@ -24,13 +25,11 @@ use Rattle.world_base.specs.Cluster.{place_of}
 use Rattle.world_base.specs.declared.cluster.Cluster.{Cluster}
 use Rattle.world_base.specs.NextWorld.{sent_at}
 use Rattle.run_laws.proofs.world_index.Facts.{Grown, sent_stays}
-use Rattle.run_laws.proofs.world_index.Frames.{client_head, client_number, heads_stay, registry_frame}
-use Rattle.run_laws.proofs.world_index.Horizons.{runs_stay, steady_always}
+use Rattle.run_laws.proofs.world_index.Frames.{Leaves, client_head, client_number, heads_stay, leaves_grown, leaves_pass, registry_frame}
 use Rattle.run_laws.proofs.world_index.Placing.{place_client}
 use Rattle.run_laws.specs.world_index.Standing.{Fact, OwnerTells, Scene, SentBy, Stands, members}
 use Rattle.run_laws.proofs.world_law.Sent.{in_append, sends}
 use Rattle.xfs_base.specs.declared.node.NodeId.TheVariants.{Client}
-use Rattle.xfs_base.specs.declared.segment.SegRef.{SegRef}
 use Rattle.xfs_base.specs.Logs.{cleaners_number}
 
 -- what an owner says, it tells
@@ -74,21 +73,19 @@ module _ (clients_stay : ClientsStay) (managers_stay : ManagersStay) (cleaner_st
   deleted : go.next.deleted ≡ s.net.deleted
   deleted = ap (λ (x : Net). x.deleted) go.only_files
 
-  said_on : (x : Said) → tables.In x s.net.sent → tables.In x go.next.sent
-  said_on x is_in = subst (λ xs. tables.In x xs) (sym said) is_in
-
-  pub grown : Grown s.net go.next
-  grown = record {
+  leaves : Leaves s.net go.next
+  leaves = record {
     filed = go.more;
     stay = λ e none. ap (λ (f : ℕ → _). f e) (sym slots) ∙ none;
-    sent = said_on;
+    sent = λ x is_in. subst (λ xs. tables.In x xs) (sym said) is_in;
     deleted = λ name is_in. subst (λ xs. tables.In name xs) (sym deleted) is_in;
-    epoch = let same = epoch in omega arith;
-    from_one = (steady_always part _ first s.net st.runs).from_one;
-    rises = (runs_stay part _ s.net go.next go.runs (steady_always part _ first s.net st.runs)).rises;
-    horizon = λ e none low. ap (λ (f : ℕ → List ℕ). f e) horizon;
-    parts = λ e none low. ap (λ (f : ℕ → List SegRef). f e) parts;
+    epoch = epoch;
+    horizon = horizon;
+    parts = parts;
   }
+
+  pub grown : Grown s.net go.next
+  grown = leaves_grown part texts first s.net go.next st.runs go.runs leaves
 
   new_facts : (q : Packet) → In q (map (sent_at clock) (packets_of (Client (lasting_of (s.client c).phase).number) w.outs)) → Fact part client_scene q
   new_facts q h =
@@ -109,22 +106,14 @@ module _ (clients_stay : ClientsStay) (managers_stay : ManagersStay) (cleaner_st
     clients = put_each (λ d (x : ClientNode). 0 < d → d < members k → ClientAgrees part texts go.next d x.phase) s.client c after_node (λ _ _. go.agrees)
         (λ d other pos less. clients_stay part texts s.net go.next d (s.client d).phase (go.others d other) (st.clients d pos less));
     managers = λ j pos limit. managers_stay part texts s.net go.next (s.manager j).phase
-        (record {
-          slots = λ e held. ap (λ (f : ℕ → _). f e) slots;
-          stay = grown.stay;
-          sent = said_on;
-          filed = go.more;
-          epoch = grown.epoch;
-          horizon = λ e held none. ap (λ (f : ℕ → List ℕ). f e) horizon;
-          parts = λ e held none. ap (λ (f : ℕ → List SegRef). f e) parts;
-        })
+        (leaves_pass part texts first s.net go.next st.runs go.runs leaves (slot_in part (s.manager j).phase) (λ e held. ap (λ (f : ℕ → _). f e) slots))
         (st.managers j pos limit);
     cleaner = cleaner_stays part texts s.net go.next s.cleaner.phase
         (record {
           log = go.others cleaners_number not_cleaner;
           promised = ap (λ (x : Net). x.promised) go.only_files;
           job = ap (λ (x : Net). x.job) go.only_files;
-          sent = said_on;
+          sent = leaves.sent;
         })
         st.cleaner;
     asks = st.asks;

@@ -1,15 +1,21 @@
 -- What the small world leaves as it is leaves the registry and logs seen.
-use Rattle.std.proofs.Common.{◌≡◌, ◌⊎◌, ℕ, ◌≤◌, ◌<◌, List, inl, inr, refl, sym, ap, subst, ◌∙◌, arith}
+use Rattle.std.proofs.Common.{◌≡◌, ◌⊎◌, ℕ, ◌≤◌, ◌<◌, List, None, inl, inr, refl, sym, ap, subst, ◌∙◌, arith}
 use Rattle.client_node.specs.declared.phase.Phase.{Phase as ClientPhase}
 use Rattle.client_node.specs.declared.phase.Phase.TheVariants as clients
 use Rattle.client_node.specs.Phases.{lasting_of}
 use Rattle.cleaner_node.specs.declared.cleaner.Phase.{Phase as CleanerPhase}
 use Rattle.cleaner_node.specs.declared.cleaner.Phase.TheVariants as cleaners
 use Rattle.core_world.specs.declared.any_node.AnyNode.{AnyNode}
-use Rattle.index_tie.specs.Net.{Net}
+use Rattle.index_tie.specs.Growth.{IsMore}
+use Rattle.index_tie.specs.Net.{Net, Packet as Said, Runs, opening}
+use Rattle.index_tie.specs.Net.Runs.{Begun}
 use Rattle.index_tie.specs.Takeovers.{of_log}
+use Rattle.log_protocol.specs.Tables as tables
+use Rattle.manager_slots.specs.declared.slot_phase.SlotPhase.{SlotPhase}
+use Rattle.node_slots.specs.node_index_tie.ManagerEvents.{Passes}
 use Rattle.node_slots.specs.node_index_tie.RegistryEvents.{RegistryAgrees}
-use Rattle.node_slots.specs.node_index_tie.Sight.{Texts}
+use Rattle.node_slots.specs.node_index_tie.Sight.{Texts, held_in}
+use Rattle.node_slots.specs.node_tie.ManagerEvents.{HeldAt}
 use Rattle.node_slots.proofs.owner_index_tie.Frames.{more_itself}
 use Rattle.node_slots.specs.owner_index_tie.CleanerEvents.{PhaseAgrees}
 use Rattle.node_slots.specs.owner_index_tie.ClientEvents.{ClientAgrees}
@@ -19,10 +25,11 @@ use Rattle.registry_node.specs.declared.node.RegistryNode.{RegistryNode}
 use Rattle.wire_msg.specs.declared.packet.Packet.{Packet}
 use Rattle.world_base.specs.declared.cluster.Cluster.{Cluster}
 use Rattle.run_laws.proofs.world_index.Facts.{Grown}
-use Rattle.run_laws.proofs.world_index.Horizons.{steady_always}
+use Rattle.run_laws.proofs.world_index.Horizons.{runs_stay, steady_always}
 use Rattle.run_laws.specs.world_index.Standing.{Scene, Stands}
 use Rattle.run_laws.proofs.world_law.OtherTurns.{equal_or_not}
 use Rattle.xfs_base.specs.Limits.{u32_end}
+use Rattle.xfs_base.specs.declared.segment.SegName.{SegName}
 use Rattle.xfs_base.specs.declared.segment.SegRef.{SegRef}
 use Rattle.xfs_base.specs.Logs.{cleaners_number}
 
@@ -75,17 +82,55 @@ heads_stay n m l others own heads d = by (equal_or_not d l)
     by (inl same) = subst (λ x. m.filed.head x < u32_end) (sym same) own
     by (inr other) = subst (λ x. x < u32_end) (sym (others d other).head) (heads d)
 
+-- ---- how the small world goes on
+
+-- where nothing that was filed, sent or to be deleted is taken back, no epoch loses its manager, and the registry keeps what it kept
+pub record Leaves (n m : Net) : Type 0 where
+  pub filed : IsMore n.filed m.filed
+  pub stay : (e : ℕ) → m.slots e ≡ None → n.slots e ≡ None
+  pub sent : (x : Said) → tables.In x n.sent → tables.In x m.sent
+  pub deleted : (name : SegName) → tables.In name n.deleted → tables.In name m.deleted
+  pub epoch : m.epoch ≡ n.epoch
+  pub horizon : m.horizon ≡ n.horizon
+  pub parts : m.parts ≡ n.parts
+
+module _ (part : ℕ) (texts : Texts) (first : ℕ → ℕ → Segment) (n m : Net) (before : Runs part (held_in part texts) (opening first) n)
+    (runs : Runs part (held_in part texts) n m) (leaves : Leaves n m) where
+  -- it may follow
+  pub leaves_grown : Grown n m
+  leaves_grown = record {
+    filed = leaves.filed;
+    stay = leaves.stay;
+    sent = leaves.sent;
+    deleted = leaves.deleted;
+    epoch = let same = leaves.epoch in omega arith;
+    from_one = (steady_always part (held_in part texts) first n before).from_one;
+    rises = (runs_stay part (held_in part texts) n m runs (steady_always part (held_in part texts) first n before)).rises;
+    horizon = λ e none low. ap (λ (f : ℕ → List ℕ). f e) leaves.horizon;
+    parts = λ e none low. ap (λ (f : ℕ → List SegRef). f e) leaves.parts;
+  }
+
+  -- and a manager of whose slots each stays is passed
+  pub leaves_pass : (p : SlotPhase) → ((e : ℕ) → HeldAt p e → m.slots e ≡ n.slots e) → Passes n m p
+  leaves_pass p slots = record {
+    slots = slots;
+    stay = leaves.stay;
+    sent = leaves.sent;
+    filed = leaves.filed;
+    epoch = leaves_grown.epoch;
+    horizon = λ e held none. ap (λ (f : ℕ → List ℕ). f e) leaves.horizon;
+    parts = λ e held none. ap (λ (f : ℕ → List SegRef). f e) leaves.parts;
+  }
+
 -- a small world is one that may follow itself
 pub grown_itself : (k : Cluster) (part : ℕ) (texts : Texts) (first : ℕ → ℕ → Segment) (nodes : List AnyNode) (sent : List Packet)
     (RegistrySound : RegistryNode → Type 0) (s : Scene) → Stands k part texts first nodes sent RegistrySound s → Grown s.net s.net
-grown_itself k part texts first nodes sent RegistrySound s st = record {
+grown_itself k part texts first nodes sent RegistrySound s st = leaves_grown part texts first s.net s.net st.runs Begun (record {
   filed = more_itself s.net.filed;
   stay = λ e none. none;
   sent = λ x fact. fact;
   deleted = λ name fact. fact;
-  epoch = let e = s.net.epoch in omega arith;
-  from_one = (steady_always part _ first s.net st.runs).from_one;
-  rises = λ e l some limit. omega arith;
-  horizon = λ e none low. refl;
-  parts = λ e none low. refl;
-}
+  epoch = refl;
+  horizon = refl;
+  parts = refl;
+})

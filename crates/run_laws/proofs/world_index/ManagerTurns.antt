@@ -1,5 +1,5 @@
 -- A manager that has its turn: the moment after it stands to the small world that runs on with it.
-use Rattle.std.proofs.Common.{◌≡◌, ⊎_elim, ℕ, ◌≤◌, ◌<◌, List, ◌++◌, Some, map, slice_get, slice_set, refl, sym, ap, subst, arith}
+use Rattle.std.proofs.Common.{◌≡◌, ⊎_elim, ℕ, ◌≤◌, ◌<◌, List, ◌++◌, Some, map, slice_get, slice_set, refl, sym, ap, subst}
 use Rattle.core_world.specs.declared.any_node.AnyNode.{AnyNode}
 use Rattle.core_world.specs.declared.any_node.AnyNode.TheVariants as any
 use Rattle.index_tie.specs.Filed.{Filed}
@@ -12,6 +12,7 @@ use Rattle.node_base.specs.Effects.{packets_of}
 use Rattle.node_slots.proofs.node_index_tie.Moves.{runs_through}
 use Rattle.node_slots.specs.node_index_tie.ManagerEvents.{ManagerAgrees, ManagerGoes, ManagersStay}
 use Rattle.node_slots.specs.node_index_tie.Sight.{AreTexts, ManagerDoes, Texts}
+use Rattle.node_slots.specs.node_tie.ManagerEvents.{slot_in}
 use Rattle.node_slots.proofs.owner_index_tie.Frames.{more_itself}
 use Rattle.node_slots.specs.owner_index_tie.CleanerEvents.{CleanerStays}
 use Rattle.node_slots.specs.owner_index_tie.ClientEvents.{ClientsStay}
@@ -26,15 +27,13 @@ use Rattle.world_base.specs.Cluster.{place_of}
 use Rattle.world_base.specs.declared.cluster.Cluster.{Cluster}
 use Rattle.world_base.specs.NextWorld.{sent_at}
 use Rattle.run_laws.proofs.world_index.Facts.{Grown, sent_stays}
-use Rattle.run_laws.proofs.world_index.Frames.{registry_frame}
-use Rattle.run_laws.proofs.world_index.Horizons.{runs_stay, steady_always}
+use Rattle.run_laws.proofs.world_index.Frames.{Leaves, leaves_grown, leaves_pass, registry_frame}
 use Rattle.run_laws.proofs.world_index.Placing.{place_manager}
 use Rattle.run_laws.specs.world_index.Standing.{Fact, Scene, Stands, holder}
 use Rattle.run_laws.specs.world_index.Owes.{HeldApart}
 use Rattle.run_laws.proofs.world_law.Sent.{in_append, sends}
 use Rattle.xfs_base.specs.Limits.{u32_end}
 use Rattle.xfs_base.specs.declared.node.NodeId.TheVariants.{Manager}
-use Rattle.xfs_base.specs.declared.segment.SegRef.{SegRef}
 use Rattle.xfs_base.specs.Logs.{cleaners_number}
 
 -- where the same is filed, each log has filed the same, and more is filed
@@ -77,18 +76,19 @@ module _ (clients_stay : ClientsStay) (managers_stay : ManagersStay) (cleaner_st
   deleted : go.next.deleted ≡ s.net.deleted
   deleted = ap (λ (x : Net). x.deleted) go.rest
 
-  pub grown : Grown s.net go.next
-  grown = record {
+  leaves : Leaves s.net go.next
+  leaves = record {
     filed = same_more s.net go.next filed;
     stay = go.stay;
     sent = go.grows;
     deleted = λ name is_in. subst (λ xs. tables.In name xs) (sym deleted) is_in;
-    epoch = let same = epoch in omega arith;
-    from_one = (steady_always part _ first s.net st.runs).from_one;
-    rises = (runs_stay part _ s.net go.next go.runs (steady_always part _ first s.net st.runs)).rises;
-    horizon = λ e none low. ap (λ (f : ℕ → List ℕ). f e) horizon;
-    parts = λ e none low. ap (λ (f : ℕ → List SegRef). f e) parts;
+    epoch = epoch;
+    horizon = horizon;
+    parts = parts;
   }
+
+  pub grown : Grown s.net go.next
+  grown = leaves_grown part texts first s.net go.next st.runs go.runs leaves
 
   new_facts : (q : Packet) → In q (map (sent_at clock) (packets_of (Manager (lasting_of (s.manager j).phase).number) w.outs)) → Fact part manager_scene q
   new_facts q h =
@@ -97,15 +97,8 @@ module _ (clients_stay : ClientsStay) (managers_stay : ManagersStay) (cleaner_st
 
   others_stay : (d : ℕ) → (d ≡ j → ⊥) → 0 < d → d ≤ k.managers → ManagerAgrees part texts go.next (s.manager d).phase
   others_stay d other pos less = managers_stay part texts s.net go.next (s.manager d).phase
-      (record {
-        slots = λ e held. let clear = apart d e pos less other held in go.slots e clear.0 clear.1;
-        stay = go.stay;
-        sent = go.grows;
-        filed = same_more s.net go.next filed;
-        epoch = grown.epoch;
-        horizon = λ e held none. ap (λ (f : ℕ → List ℕ). f e) horizon;
-        parts = λ e held none. ap (λ (f : ℕ → List SegRef). f e) parts;
-      })
+      (leaves_pass part texts first s.net go.next st.runs go.runs leaves (slot_in part (s.manager d).phase)
+      (λ e held. let clear = apart d e pos less other held in go.slots e clear.0 clear.1))
       (st.managers d pos less)
 
   pub manager_turn : Stands k part texts first (slice_set nodes p (any.Manager after_node)) sent_now RegistrySound manager_scene
