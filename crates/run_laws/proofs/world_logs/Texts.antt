@@ -36,8 +36,8 @@ in_either (y ∷ xs) ys x (inr fact) = ⊎_elim (λ here. inl (inr here)) (λ th
 
 -- ---- counts
 
-counted : (c limit : ℕ) → suc c ≤ limit → (0 < suc c) × (suc c ≤ limit)
-counted c limit h = (omega arith, h)
+positive : (n : ℕ) → 0 < suc n
+positive n = omega arith
 
 one_less : (c limit : ℕ) → suc c ≤ limit → c ≤ limit
 one_less c limit h = omega arith
@@ -60,48 +60,13 @@ module _ (law : OneNameOneText) (own : WhatFlewIsOfTheLog) (base : Setting) (e :
   abbrev flown_in : (r : Role) → There r → List Segment
   flown_in r there = ((lines r there).scene (length e.events)).net.flown
 
-  -- of the first so many clients, and managers
-  of_clients : (c : ℕ) → c ≤ clients → List Segment
-  of_clients zero limit = []
-  of_clients (suc c) limit = flown_in (OfClient (suc c)) (counted c clients limit) ++ of_clients c (one_less c clients limit)
-
-  of_managers : (j : ℕ) → j ≤ managers → List Segment
-  of_managers zero limit = []
-  of_managers (suc j) limit = flown_in (OfManager (suc j)) (counted j managers limit) ++ of_managers j (one_less j managers limit)
-
-  all_flown : List Segment
-  all_flown = of_clients clients (all_of clients) ++ (flown_in OfCleaner tt ++ of_managers managers (all_of managers))
-
   -- a segment that was in flight in some log
   record Flew (s : Segment) : Type 0 where
     role : Role
     there : There role
     here : In s (flown_in role there)
 
-  from_clients : (c : ℕ) (limit : c ≤ clients) (s : Segment) → In s (of_clients c limit) → Flew s
-  unfolding of_clients
-  from_clients zero limit s fact = absurd fact
-  from_clients (suc c) limit s fact =
-      ⊎_elim (λ here. record { role = OfClient (suc c); there = counted c clients limit; here = here })
-      (λ more. from_clients c (one_less c clients limit) s more)
-      (in_either (flown_in (OfClient (suc c)) (counted c clients limit)) (of_clients c (one_less c clients limit)) s fact)
-
-  from_managers : (j : ℕ) (limit : j ≤ managers) (s : Segment) → In s (of_managers j limit) → Flew s
-  unfolding of_managers
-  from_managers zero limit s fact = absurd fact
-  from_managers (suc j) limit s fact =
-      ⊎_elim (λ here. record { role = OfManager (suc j); there = counted j managers limit; here = here })
-      (λ more. from_managers j (one_less j managers limit) s more)
-      (in_either (flown_in (OfManager (suc j)) (counted j managers limit)) (of_managers j (one_less j managers limit)) s fact)
-
-  flew : (s : Segment) → In s all_flown → Flew s
-  unfolding all_flown
-  flew s fact = ⊎_elim (λ here. from_clients clients (all_of clients) s here)
-      (λ rest. ⊎_elim (λ here. record { role = OfCleaner; there = tt; here = here }) (λ more. from_managers managers (all_of managers) s more)
-      (in_either (flown_in OfCleaner tt) (of_managers managers (all_of managers)) s rest))
-      (in_either (of_clients clients (all_of clients)) (flown_in OfCleaner tt ++ of_managers managers (all_of managers)) s fact)
-
-  -- it is among them, whichever way its log is known to be there
+  -- it is in flight there, whichever way its log is known to be there
   there_prop : (r : Role) (a b : There r) → a ≡ b
   there_prop (OfClient c) a b = λ i. (le_prop a.0 b.0 i, le_prop a.1 b.1 i)
   there_prop OfCleaner a b = refl
@@ -111,39 +76,56 @@ module _ (law : OneNameOneText) (own : WhatFlewIsOfTheLog) (base : Setting) (e :
   moved s r q same h m fact =
       subst (λ x. (n : There x) → In s (flown_in x n)) same (λ n. subst (λ z. In s (flown_in r z)) (there_prop r h n) fact) m
 
-  in_clients : (s : Segment) (c : ℕ) (limit : c ≤ clients) (d : ℕ) (h : There (OfClient d)) → d ≤ c → In s (flown_in (OfClient d) h)
-      → In s (of_clients c limit)
-  unfolding of_clients
-  in_clients s zero limit d h less fact = absurd (let some = h.0 in omega arith)
-  in_clients s (suc c) limit d h less fact = ⊎_elim
-      (λ same. in_left (flown_in (OfClient (suc c)) (counted c clients limit)) (of_clients c (one_less c clients limit)) s
-      (moved s (OfClient d) (OfClient (suc c)) (ap OfClient same) h (counted c clients limit) fact))
-      (λ before. in_right (flown_in (OfClient (suc c)) (counted c clients limit)) (of_clients c (one_less c clients limit)) s
-      (in_clients s c (one_less c clients limit) d h before fact))
-      (last_or_before d c less)
+  -- owners that are numbered from 1 on, as clients are, and managers
+  module _ (role : ℕ → Role) (top : ℕ) (there : (n : ℕ) → 0 < n → n ≤ top → There (role n)) where
+    abbrev flown_next : (n : ℕ) → suc n ≤ top → List Segment
+    flown_next n limit = flown_in (role (suc n)) (there (suc n) (positive n) limit)
 
-  in_managers : (s : Segment) (j : ℕ) (limit : j ≤ managers) (d : ℕ) (h : There (OfManager d)) → d ≤ j → In s (flown_in (OfManager d) h)
-      → In s (of_managers j limit)
-  unfolding of_managers
-  in_managers s zero limit d h less fact = absurd (let some = h.0 in omega arith)
-  in_managers s (suc j) limit d h less fact = ⊎_elim
-      (λ same. in_left (flown_in (OfManager (suc j)) (counted j managers limit)) (of_managers j (one_less j managers limit)) s
-      (moved s (OfManager d) (OfManager (suc j)) (ap OfManager same) h (counted j managers limit) fact))
-      (λ before. in_right (flown_in (OfManager (suc j)) (counted j managers limit)) (of_managers j (one_less j managers limit)) s
-      (in_managers s j (one_less j managers limit) d h before fact))
-      (last_or_before d j less)
+    -- of the first so many of them
+    of_first : (n : ℕ) → n ≤ top → List Segment
+    of_first zero limit = []
+    of_first (suc n) limit = flown_next n limit ++ of_first n (one_less n top limit)
+
+    from_first : (n : ℕ) (limit : n ≤ top) (s : Segment) → In s (of_first n limit) → Flew s
+    unfolding of_first
+    from_first zero limit s fact = absurd fact
+    from_first (suc n) limit s fact =
+        ⊎_elim (λ here. record { role = role (suc n); there = there (suc n) (positive n) limit; here = here })
+        (λ more. from_first n (one_less n top limit) s more) (in_either (flown_next n limit) (of_first n (one_less n top limit)) s fact)
+
+    in_first : (s : Segment) (n : ℕ) (limit : n ≤ top) (d : ℕ) → 0 < d → (h : There (role d)) → d ≤ n → In s (flown_in (role d) h) → In s (of_first n limit)
+    unfolding of_first
+    in_first s zero limit d some h less fact = absurd (omega arith)
+    in_first s (suc n) limit d some h less fact = ⊎_elim
+        (λ same. in_left (flown_next n limit) (of_first n (one_less n top limit)) s
+        (moved s (role d) (role (suc n)) (ap role same) h (there (suc n) (positive n) limit) fact))
+        (λ before. in_right (flown_next n limit) (of_first n (one_less n top limit)) s (in_first s n (one_less n top limit) d some h before fact))
+        (last_or_before d n less)
+
+  abbrev of_clients : List Segment
+  of_clients = of_first OfClient clients (λ n some limit. (some, limit)) clients (all_of clients)
+
+  abbrev of_managers : List Segment
+  of_managers = of_first OfManager managers (λ n some limit. (some, limit)) managers (all_of managers)
+
+  all_flown : List Segment
+  all_flown = of_clients ++ (flown_in OfCleaner tt ++ of_managers)
+
+  flew : (s : Segment) → In s all_flown → Flew s
+  unfolding all_flown
+  flew s fact = ⊎_elim (λ here. from_first OfClient clients (λ n some limit. (some, limit)) clients (all_of clients) s here)
+      (λ rest. ⊎_elim (λ here. record { role = OfCleaner; there = tt; here = here })
+      (λ more. from_first OfManager managers (λ n some limit. (some, limit)) managers (all_of managers) s more)
+      (in_either (flown_in OfCleaner tt) of_managers s rest)) (in_either of_clients (flown_in OfCleaner tt ++ of_managers) s fact)
 
   among_all : (s : Segment) (r : Role) (h : There r) → In s (flown_in r h) → In s all_flown
   unfolding all_flown
-  among_all s (OfClient c) h fact =
-      in_left (of_clients clients (all_of clients)) (flown_in OfCleaner tt ++ of_managers managers (all_of managers)) s
-      (in_clients s clients (all_of clients) c h h.1 fact)
-  among_all s OfCleaner h fact =
-      in_right (of_clients clients (all_of clients)) (flown_in OfCleaner tt ++ of_managers managers (all_of managers)) s
-      (in_left (flown_in OfCleaner tt) (of_managers managers (all_of managers)) s fact)
-  among_all s (OfManager j) h fact =
-      in_right (of_clients clients (all_of clients)) (flown_in OfCleaner tt ++ of_managers managers (all_of managers)) s
-      (in_right (flown_in OfCleaner tt) (of_managers managers (all_of managers)) s (in_managers s managers (all_of managers) j h h.1 fact))
+  among_all s (OfClient c) h fact = in_left of_clients (flown_in OfCleaner tt ++ of_managers) s
+      (in_first OfClient clients (λ n some limit. (some, limit)) s clients (all_of clients) c h.0 h h.1 fact)
+  among_all s OfCleaner h fact = in_right of_clients (flown_in OfCleaner tt ++ of_managers) s (in_left (flown_in OfCleaner tt) of_managers s fact)
+  among_all s (OfManager j) h fact = in_right of_clients (flown_in OfCleaner tt ++ of_managers) s
+      (in_right (flown_in OfCleaner tt) of_managers s
+      (in_first OfManager managers (λ n some limit. (some, limit)) s managers (all_of managers) j h.0 h h.1 fact))
 
   -- ---- no two logs have one number
 
