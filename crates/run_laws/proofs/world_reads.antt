@@ -29,18 +29,17 @@ pub mod CleanerBeside
 pub mod Tying
 pub mod CleanerTelling
 pub mod After
-pub mod AfterLaws
 pub mod AfterLogs
 pub mod AfterOwners
 pub mod AfterTells
 pub mod AfterBack
+pub mod AfterOwn
 pub mod AfterClients
 pub mod AfterCleaner
 pub mod AfterWrites
 pub mod AfterFalls
 pub mod AfterStill
 pub mod TurnBoth
-pub mod TurnLaws
 pub mod TurnMoment
 pub mod TurnBooks
 pub mod TurnClient
@@ -79,7 +78,6 @@ pub mod EntriesNames
 pub mod EntriesManagers
 pub mod EntriesSame
 pub mod EntriesThen
-pub mod WholeLaws
 pub mod OwnActs
 pub mod OwnTable
 pub mod LegalJoints

@@ -1,4 +1,5 @@
 pub mod Asking
+pub mod NodeLaws
 pub mod Standing
 pub mod Growth
 pub mod Owes

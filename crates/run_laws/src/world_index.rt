@@ -6,6 +6,7 @@
 //! (`proofs/world_index/Tokens.antt`).
 
 ghost use Rattle.run_laws.specs.world_index.Laws.{EveryRunKeepsIndexes};
+ghost use Rattle.run_laws.specs.world_index.NodeLaws.{NodeLaws};
 
 use crate::world_law::nodes_are_seen;
 use index_tie::cleaning_loses_nothing;
@@ -13,6 +14,19 @@ use node_slots::node_index_tie::{manager_events_are_seen, registry_events_are_se
 use node_slots::owner_index_tie::{
     cleaner_index_events_are_seen, client_index_events_are_seen, server_index_events_are_seen,
 };
+
+/// What each kind of node does in an event is seen in the small world of a slot's index: the laws of the nodes on which the laws of runs stand.
+pub fn index_events_are_seen()
+    ensures { NodeLaws }
+{
+    nodes_are_seen();
+    client_index_events_are_seen();
+    cleaner_index_events_are_seen();
+    server_index_events_are_seen();
+    manager_events_are_seen();
+    registry_events_are_seen();
+    cleaning_loses_nothing();
+}
 
 /// In every run whose events are given what they are owed, whatever messages are lost, repeated or reordered and
 /// whichever nodes stop, the index of a slot says of each block the newest that it was told, and the cleaner deletes
@@ -25,10 +39,6 @@ pub fn runs_keep_indexes()
     ensures keeps { EveryRunKeepsIndexes }
 {
     nodes_are_seen();
-    client_index_events_are_seen();
-    cleaner_index_events_are_seen();
-    server_index_events_are_seen();
-    manager_events_are_seen();
-    registry_events_are_seen();
+    index_events_are_seen();
     cleaning_loses_nothing();
 }

@@ -22,6 +22,7 @@ use crate::reopening_law::{
 use crate::restart_law::{undoubted_runs_are_sure, without_losses_no_restart_is_doubtful};
 use crate::segment_law::clients_flew_originals;
 use crate::segment_tie::{items_say_all, runs_write_so};
+use crate::world_index::index_events_are_seen;
 use crate::world_law::{nodes_are_seen, what_fell_is_held_by_nobody};
 use crate::world_lines::{
     lines_are_filed, lines_go_on, logs_are_linked, owners_lines_go_on, what_flies_is_its_text,
@@ -33,10 +34,6 @@ use index_tie::cleaning_loses_nothing;
 use log_law::{
     a_place_names_one_content, a_tail_is_filed_or_never, ends_are_last, logs_stay_whole,
     names_bear_groups, one_name_one_text, openings_go_on, what_flew_is_written, what_is_held_flew,
-};
-use node_slots::node_index_tie::{manager_events_are_seen, registry_events_are_seen};
-use node_slots::owner_index_tie::{
-    cleaner_index_events_are_seen, client_index_events_are_seen, server_index_events_are_seen,
 };
 use node_tellings::entry_tie::{
     cleaner_tells_told_entries, clients_tell_told_entries, managers_tell_told_entries,
@@ -64,11 +61,7 @@ fn tokens_below()
 fn index_below()
     ensures { IndexBelow }
 {
-    server_index_events_are_seen();
-    client_index_events_are_seen();
-    cleaner_index_events_are_seen();
-    manager_events_are_seen();
-    registry_events_are_seen();
+    index_events_are_seen();
     cleaning_loses_nothing();
     flights_are_news();
     managers_are_told();

@@ -33,7 +33,8 @@ use Rattle.world_base.specs.Runs.{Leads, MayHappen}
 use Rattle.run_laws.proofs.world_index.Senders.{kinds_of_tokens}
 use Rattle.run_laws.proofs.world_index.Start.{start_scene, start_stands}
 use Rattle.run_laws.proofs.world_index.Tokens.{Entered, entered_starts, entered_stays, tokens_give}
-use Rattle.run_laws.proofs.world_index.Turns.{NodeLaws, event_turns}
+use Rattle.run_laws.specs.world_index.NodeLaws.{NodeLaws}
+use Rattle.run_laws.proofs.world_index.Turns.{event_turns}
 use Rattle.run_laws.specs.world_index.Laws.{EveryRunKeepsIndexes, KeepsBy, WasDeleted}
 use Rattle.run_laws.specs.world_index.Owes.{IndexOwes}
 use Rattle.run_laws.specs.world_index.Standing.{Scene, SentBy, Stands}

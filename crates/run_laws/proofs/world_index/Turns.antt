@@ -6,19 +6,17 @@ use Rattle.core_world.specs.AnyNode.{any_step}
 use Rattle.core_world.specs.declared.any_node.AnyNode.{AnyNode}
 use Rattle.core_world.specs.declared.any_node.AnyNode.TheVariants as any
 use Rattle.index_tie.specs.Net.{Net}
-use Rattle.index_tie.specs.NetLaws.{CheckpointsHaveManagers}
 use Rattle.manager_node.specs.declared.manager.Manager.{Manager as ManagerNode}
 use Rattle.manager_node.specs.Events.{happens}
 use Rattle.node_slots.proofs.node_index_tie.Moves.{some_none}
-use Rattle.node_slots.specs.node_index_tie.ManagerEvents.{FirstManagerAgrees, ManagerEventGoes, ManagerGoes, ManagersStay}
-use Rattle.node_slots.specs.node_index_tie.RegistryEvents.{RegistryEventGoes, RegistryGoes, RegistryStarts}
+use Rattle.node_slots.specs.node_index_tie.ManagerEvents.{ManagerGoes}
+use Rattle.node_slots.specs.node_index_tie.RegistryEvents.{RegistryGoes}
 use Rattle.node_slots.specs.node_index_tie.Sight.{Texts}
 use Rattle.node_slots.specs.node_tie.ManagerEvents.{epoch_in, is_serving}
 use Rattle.node_slots.specs.node_tie.RegistryEvents.{RegistrySound}
 use Rattle.node_slots.specs.node_tie.RegistryEvents as maps
-use Rattle.node_slots.specs.owner_index_tie.CleanerEvents.{CleanerEventGoes, CleanerGoes, CleanerStartAgrees, CleanerStays}
-use Rattle.node_slots.specs.owner_index_tie.ClientEvents.{ClientEventGoes, ClientGoes, ClientsStay, FirstClientAgrees}
-use Rattle.node_slots.specs.owner_index_tie.ServerEvents.{ServerEventGoes}
+use Rattle.node_slots.specs.owner_index_tie.CleanerEvents.{CleanerGoes}
+use Rattle.node_slots.specs.owner_index_tie.ClientEvents.{ClientGoes}
 use Rattle.segment_format.specs.declared.segment.Segment.{Segment}
 use Rattle.store_nodes.specs.declared.server.Server.{Server as ServerNode}
 use Rattle.token_manager.specs.SlotState.{SlotState}
@@ -49,6 +47,7 @@ use Rattle.run_laws.proofs.world_index.ManagerTurns as managers
 use Rattle.run_laws.proofs.world_index.RegistryTurns as others
 use Rattle.run_laws.proofs.world_index.Senders.{IsKind, IsSentBy}
 use Rattle.run_laws.specs.world_index.Standing.{Came, Fact, Scene, SentBy, Stands, WasAsked, holder, members}
+use Rattle.run_laws.specs.world_index.NodeLaws.{NodeLaws}
 use Rattle.run_laws.specs.world_index.Owes.{IndexOwes, Makes, TokensGive}
 use Rattle.run_laws.proofs.world_law.ManagerTurns.{delivered}
 use Rattle.run_laws.proofs.world_law.Places.{Behind, behind}
@@ -60,24 +59,6 @@ use Rattle.xfs_base.specs.declared.node.NodeId.{NodeId}
 use Rattle.xfs_base.specs.declared.node.NodeId.TheVariants.{Client, Manager, Server, Cleaner, Registry}
 use Rattle.xfs_base.specs.Limits.{slot_count}
 use Rattle.xfs_base.specs.Logs.{cleaners_number}
-
--- the laws of the nodes, each of its kind, and of the small world
-pub record NodeLaws : Type 0 where
-  pub client_starts : FirstClientAgrees
-  pub client : ClientEventGoes
-  pub clients_stay : ClientsStay
-  pub manager_starts : FirstManagerAgrees
-  pub manager : ManagerEventGoes
-  pub managers_stay : ManagersStay
-  pub cleaner_starts : CleanerStartAgrees
-  pub cleaner : CleanerEventGoes
-  pub cleaner_stays : CleanerStays
-  pub server : ServerEventGoes
-  pub registry_starts : RegistryStarts
-  pub registry : RegistryEventGoes
-  pub begins : maps.RegistryStarts
-  pub maps : maps.RegistryEventGoes
-  pub managed : CheckpointsHaveManagers
 
 module _ (laws : NodeLaws) (k : Cluster) (part : ℕ) (of_eight : part < slot_count) (texts : Texts) (first : ℕ → ℕ → Segment) where
   -- ---- one node takes its step

@@ -25,11 +25,11 @@ use Rattle.run_laws.specs.world_logs.Roles.Role.{OfClient, OfCleaner, OfManager}
 use Rattle.xfs_base.proofs.Booleans.{contrary}
 use Rattle.xfs_base.specs.Limits.{block_logs}
 use Rattle.xfs_base.specs.Logs.{cleaners_number}
-use Rattle.run_laws.proofs.world_reads.AfterClients.{OwnAfter}
-use Rattle.run_laws.proofs.world_reads.AfterLaws.{AfterLaws}
+use Rattle.run_laws.proofs.world_reads.AfterOwn.{OwnAfter}
 use Rattle.run_laws.proofs.world_reads.AfterLogs.{flight_left, stays_known}
 use Rattle.run_laws.proofs.world_reads.AfterTells.{tells_same}
 use Rattle.run_laws.specs.world_reads.Joint.{There, WritesKind, flew_at, log_at}
+use Rattle.run_laws.specs.world_reads.Below.{Below}
 
 module _ (base : Setting) (e : Estate AnyNode) (lines : HasLines base e) (texts : Texts base e lines) (part : ℕ) (first : ℕ → ℕ → Segment) where
   -- some owner has this log
@@ -118,20 +118,20 @@ module _ (base : Setting) (e : Estate AnyNode) (lines : HasLines base e) (texts 
 
   -- ---- the log of one that is left as it was
 
-  pub left_flight : AfterLaws → (count : ℕ) (r : Role) (there : There base e lines texts part first r)
+  pub left_flight : Below → (count : ℕ) (r : Role) (there : There base e lines texts part first r)
       → IsLeft ((lines r there).scene count).net ((lines r there).scene (suc count)).net
       → last_flight (then_on ((lines r there).stands count).moment.run ((lines r there).goes count)) ≡ last_flight ((lines r there).stands count).moment.run
   left_flight laws count r there left =
-      flight_left laws.leave (setting base e r) _ _ _ ((lines r there).stands count).moment.run ((lines r there).goes count) left
+      flight_left laws.logs.others_leave_flights (setting base e r) _ _ _ ((lines r there).stands count).moment.run ((lines r there).goes count) left
 
-  pub left_after : AfterLaws → (count : ℕ) (k m : Books) (f h : Filed) (r : Role) (there : There base e lines texts part first r)
+  pub left_after : Below → (count : ℕ) (k m : Books) (f h : Filed) (r : Role) (there : There base e lines texts part first r)
       → IsLeft ((lines r there).scene count).net ((lines r there).scene (suc count)).net → SameLog k m (log_by r) → IsSameLog (log_by r) f h
       → KnownAt count k f r there
       → KnownAt (suc count) m h r there
   left_after laws count k m f h r there left books filed fact =
       subst (λ x. OwnAfter (WritesKind r) (log_by r) x m h) (sym ((lines r there).joined count)) (record {
         known = stays_known (setting base e r) (log_by r) _ _ ((lines r there).stands count).moment ((lines r there).goes count) k m f h fact.known
-            (laws.stay (log_by r) _ _ f h left.filed left.flown filed fact.known.line) (left_flight laws count r there left) books filed;
+            (laws.lines.lines_stay (log_by r) _ _ f h left.filed left.flown filed fact.known.line) (left_flight laws count r there left) books filed;
         tells = tells_same (log_by r) f h filed fact.tells;
         kind = subst (λ (y : Option FlightState). IfSome y (λ x. WritesKind r x.segment)) (sym (left_flight laws count r there left)) fact.kind;
       })

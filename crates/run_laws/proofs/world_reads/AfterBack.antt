@@ -21,6 +21,7 @@ use Rattle.log_owner.specs.Sending.{pushes_all, range}
 use Rattle.node_base.specs.Beginning.{answers_unanswered, begun, next_item, work_at}
 use Rattle.node_base.specs.declared.effects.Effect.{Effect}
 use Rattle.node_base.specs.declared.effects.Effect.TheVariants.{Send, Answer as Answers, Lose, Does}
+use Rattle.node_base.specs.declared.questions.Questions.{Questions}
 use Rattle.node_base.specs.Shape.{is_well_formed}
 use Rattle.token_protocol.specs.Basics.{In}
 use Rattle.version_model.specs.declared.act.Act.TheVariants as act
@@ -36,15 +37,14 @@ use Rattle.xfs_base.specs.declared.segment.SegName.{SegName}
 use Rattle.xfs_base.specs.Steps.{saying, still}
 
 -- an opening comes to this, by a packet or by time
-abbrev pub ComesTo : Lasting → openings.Opening → Opened → Type 0
-ComesTo l o r =
-    ((packet : wire.Packet) × ((opening.on_packet o l.questions packet).progress ≡ progress.Opened r))
-    ⊎ ((opening.on_tick o l.questions).progress ≡ progress.Opened r)
+abbrev pub ComesTo : Questions → openings.Opening → Opened → Type 0
+ComesTo q o r =
+    ((packet : wire.Packet) × ((opening.on_packet o q packet).progress ≡ progress.Opened r)) ⊎ ((opening.on_tick o q).progress ≡ progress.Opened r)
 
 -- The opening ended: the client serves the log that it came to, and says that it is back by its chain alone.
 pub record CameBack (l : Lasting) (o : openings.Opening) (w : Went_to) (t : Serving) : Type 0 where
   pub opened : Opened
-  pub comes : ComesTo l o opened
+  pub comes : ComesTo l.questions o opened
   pub log : t.log ≡ opened.log
   pub says : (c : ℕ) (chain : List SegName) → In (Does (act.Back c chain)) w.outs → chain ≡ opened.chain
 
@@ -103,7 +103,7 @@ module _ (l : Lasting) (o : openings.Opening) where
   same_serving s t fact = cc
 
   progress_comes : (k : Lasting) (capacity : ℕ) (effects : List Effect) → AllByRecursion (MayDo o.known.owner) effects
-      → (p : Progress) → ((r : Opened) → p ≡ progress.Opened r → ComesTo l o r) → Comes (saying effects (after_opening k capacity p))
+      → (p : Progress) → ((r : Opened) → p ≡ progress.Opened r → ComesTo l.questions o r) → Comes (saying effects (after_opening k capacity p))
   progress_comes k capacity effects may (progress.Opening x) from = not_open k x (effects ++ [])
   progress_comes k capacity effects may (progress.Lost seg) from = λ t fact. absurd cc
   progress_comes k capacity effects may (progress.Opened r) from = λ t fact. record {

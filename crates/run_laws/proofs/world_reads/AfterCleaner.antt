@@ -1,5 +1,5 @@
 -- The cleaner's own event: the small worlds know the same of its log then as they did, and what is filed of it tells of each block once.
-use Rattle.std.proofs.Common.{◌≡◌, ◌⊎◌, ⊎_elim, ℕ, Bool, true, false, List, Option, Some, None, inl, inr, refl, sym, ap, subst, ◌∙◌}
+use Rattle.std.proofs.Common.{◌≡◌, ◌⊎◌, ⊎_elim, ℕ, Bool, false, List, Option, Some, None, inl, inr, refl, sym, ap, subst, ◌∙◌}
 use Rattle.std.specs.Prelude.{IfSome}
 use Rattle.cleaner_serving.specs.declared.emptying.Emptying.{Emptying}
 use Rattle.client_node.specs.Crash.{flight_of}
@@ -15,7 +15,6 @@ use Rattle.node_logs.specs.client_log_tie.ClientEvents.{ServesStraight}
 use Rattle.node_logs.specs.client_log_tie.Owner.{Scene, SeesLog, SeesStage}
 use Rattle.index_tie.specs.Growth.{IsMore}
 use Rattle.index_tie.specs.Net as index
-use Rattle.log_flight.specs.Flights.{FlightState}
 use Rattle.log_law.specs.Ends.{IsFlight}
 use Rattle.log_law.specs.Events.{Runs}
 use Rattle.log_law.specs.Laws.{Moment}
@@ -39,15 +38,14 @@ use Rattle.node_base.specs.Shape.{is_well_formed}
 use Rattle.node_slots.specs.node_index_tie.Sight.{Texts}
 use Rattle.node_slots.specs.node_tie.CleanerLogs.{CleanerCopies, OwnGoes, its_log}
 use Rattle.node_slots.specs.node_tie.LogRows.{LogSeen}
-use Rattle.node_slots.specs.node_tie.Sight.{SameLog}
 use Rattle.node_slots.specs.owner_index_tie.CleanerEvents as owner
 use Rattle.node_slots.specs.owner_index_tie.Filing.{filed_after}
-use Rattle.run_laws.specs.reopening_law.Openings.{EndsByOne, EndsSo}
+use Rattle.run_laws.specs.reopening_law.Openings.{EndsByOne}
 use Rattle.run_laws.specs.reopening_law.Reopens.{Reopens, TellsApart, has_flight}
 use Rattle.segment_format.specs.declared.segment.Segment.{Segment}
 use Rattle.run_laws.specs.segment_tie.Cleaners.{CleanerWrites}
-use Rattle.run_laws.specs.segment_tie.Segments.{IsCopies, TellsOnce}
-use Rattle.token_law.specs.Books.{Books, reopened, with_empty}
+use Rattle.run_laws.specs.segment_tie.Segments.{IsCopies}
+use Rattle.token_law.specs.Books.{reopened, with_empty}
 use Rattle.token_law.specs.Net as token
 use Rattle.version_model.specs.Effects.{holds_flight}
 use Rattle.wire_msg.specs.declared.packet.Do.{Do}
@@ -59,33 +57,30 @@ use Rattle.run_laws.specs.world_lines.Turns.{AllSo}
 use Rattle.run_laws.specs.world_logs.Lines.{moment_then}
 use Rattle.xfs_base.proofs.Booleans.{by_test}
 use Rattle.xfs_base.specs.Steps.{saying, still}
-use Rattle.run_laws.proofs.world_reads.AfterClients.{OwnAfter}
-use Rattle.run_laws.proofs.world_reads.AfterLaws.{AfterLaws}
-use Rattle.run_laws.proofs.world_reads.AfterLogs.{KnownLog, flight_stays, reopens_by, reopens_known, served_last, serves_known, stays_known}
-use Rattle.run_laws.proofs.world_reads.AfterOwners.{line_goes_on, never_files, same_filed}
-use Rattle.run_laws.proofs.world_reads.AfterTells.{AllTell, tells_reopened, tells_same, tells_serving}
+use Rattle.run_laws.proofs.world_reads.AfterBack.{ComesTo}
+use Rattle.run_laws.proofs.world_reads.AfterOwn as after_own
+use Rattle.run_laws.proofs.world_reads.AfterOwn.{OwnAfter, comes_by_one, none_serves, one_log, own_after}
+use Rattle.run_laws.proofs.world_reads.AfterLogs.{KnownLog, reopens_by}
+use Rattle.run_laws.proofs.world_reads.AfterOwners.{line_goes_on}
+use Rattle.run_laws.proofs.world_reads.AfterTells.{AllTell}
+use Rattle.run_laws.specs.world_reads.Below.{Below}
 
 -- ---- an opening that ends
 
 -- The opening ended, by a packet or by time: the cleaner serves the log that it came to.
 pub record CleanerBack (l : Lasting) (o : openings.Opening) (t : Emptying) : Type 0 where
   pub opened : Opened
-  pub comes : ((packet : wire.Packet) × ((opening.on_packet o l.questions packet).progress ≡ progress.Opened opened))
-      ⊎ ((opening.on_tick o l.questions).progress ≡ progress.Opened opened)
+  pub comes : ComesTo l.questions o opened
   pub log : t.log ≡ opened.log
 
 module _ (l : Lasting) (o : openings.Opening) where
   abbrev Comes : Went_to → Type 0
   Comes w = (t : Emptying) → w.state ≡ Serves t → CleanerBack l o t
 
-  abbrev From : Opened → Type 0
-  From r = ((packet : wire.Packet) × ((opening.on_packet o l.questions packet).progress ≡ progress.Opened r))
-      ⊎ ((opening.on_tick o l.questions).progress ≡ progress.Opened r)
-
   same_emptying : (s t : Emptying) → Serves s ≡ Serves t → s ≡ t
   same_emptying s t fact = cc
 
-  progress_comes : (k : Lasting) (effects : List Effect) (p : Progress) → ((r : Opened) → p ≡ progress.Opened r → From r)
+  progress_comes : (k : Lasting) (effects : List Effect) (p : Progress) → ((r : Opened) → p ≡ progress.Opened r → ComesTo l.questions o r)
       → Comes (saying effects (after_opening k p))
   unfolding after_opening
   progress_comes k effects (progress.Opening x) from = λ t fact. absurd cc
@@ -157,16 +152,10 @@ module _ (part : ℕ) (texts : Texts) (g : Setting) (v : Scene) (n : index.Net) 
   cleaner_away (Opening l o) sees away = not_up o.known l.questions.last o.stage sees.sees
   cleaner_away (Serves s) sees away = absurd away
 
-  one_log : (s t : LogState) → Serving s ≡ Serving t → s ≡ t
-  one_log s t fact = cc
-
-  none_serves : (s : LogState) → is_serving v.net.owner ≡ false → v.net.owner ≡ Serving s → ⊥
-  none_serves s none fact = (let e : true ≡ false = sym (ap is_serving fact) ∙ none in absurd cc)
-
   pub cleaner_end : (p : Phase) → log_tie.CleanerAgrees g v p → owner.PhaseAgrees part n texts p → (s : LogState) → v.net.owner ≡ Serving s
       → s.end.seq ≡ n.filed.head its_log
-  cleaner_end (Down l) sees agrees s fact = absurd (none_serves s (cleaner_away (Down l) sees tt) fact)
-  cleaner_end (Opening l o) sees agrees s fact = absurd (none_serves s (cleaner_away (Opening l o) sees tt) fact)
+  cleaner_end (Down l) sees agrees s fact = absurd (none_serves v.net.owner s (cleaner_away (Down l) sees tt) fact)
+  cleaner_end (Opening l o) sees agrees s fact = absurd (none_serves v.net.owner s (cleaner_away (Opening l o) sees tt) fact)
   cleaner_end (Serves t) sees agrees s fact = ap (λ (x : LogState). x.end.seq) (one_log s t.log (sym fact ∙ sees.log.owner)) ∙ agrees.0.owner.end.seq
 
 -- ---- the event
@@ -176,7 +165,7 @@ abbrev pub AdoptsWhatFlew : {g : Setting} {n : Net} → Moment g n → Bool → 
 AdoptsWhatFlew {n = n} at adopted = (chain : List Segment) (s : LogState) → n.owner ≡ Writing chain s
     → adopted ≡ holds_flight (names_in chain) (flight_of (last_flight at.run))
 
-module _ (laws : AfterLaws) (part : ℕ) (texts : Texts) (g : Setting) (trusted : g.doubts ≡ false) (apart : TellsApart g) (w v : Scene)
+module _ (laws : Below) (part : ℕ) (texts : Texts) (g : Setting) (trusted : g.doubts ≡ false) (apart : TellsApart g) (w v : Scene)
     (at : Moment g w.net) (goes : Runs g w.net v.net)
     (straight : ServesStraight goes) (sure : IsSure texts its_log g v.net) (calm : IsSureRun (then_on at.run goes))
     (node : CleanerNode) (what : Do)
@@ -195,78 +184,60 @@ module _ (laws : AfterLaws) (part : ℕ) (texts : Texts) (g : Setting) (trusted 
   abbrev x : Went_to
   x = takes node.peers node.phase what
 
-  abbrev later : Moment g v.net
-  later = moment_then at goes
-
-  abbrev After : Type 0
-  After = OwnAfter IsCopies its_log later u.books j.filed
+  abbrev Way : Type 0
+  Way = after_own.Way IsCopies its_log g w v at goes t.books u.books i.filed j.filed
 
   goes_as : (p q : Phase) → node.phase ≡ p → x.state ≡ q → OwnGoes t.books u.books adopted p q
   goes_as p q before after =
       subst (λ y. OwnGoes t.books u.books adopted p y) after (subst (λ y. OwnGoes t.books u.books adopted y x.state) before log)
 
   line : IsLine its_log v.net j.filed
-  line = line_goes_on laws.on laws.unfiled texts its_log g w.net v.net i.filed j.filed x.outs at goes straight.never sure acts filed
+  line = line_goes_on laws.lines.lines_go_on laws.logs.nothing_filed_opening texts its_log g w.net v.net i.filed j.filed x.outs at goes straight.never sure
+      acts filed
       (cleaner_end part texts g v j x.state then_sees then_agrees.phase) known.line
 
-  once : (s : Option FlightState) → IfSome s (λ x. IsCopies x.segment) → IfSome s (λ x. TellsOnce x.segment)
-  once None h = tt
-  once (Some f) h = h.tells
-
   -- it doesn't serve then
-  away : is_serving v.net.owner ≡ false → u.books ≡ t.books → After
-  away none same =
-      let never = straight.never none in
-      let flight : last_flight (then_on at.run goes) ≡ last_flight at.run = flight_stays g _ w.net v.net at.run goes never in
-      let of = same_filed its_log w.net v.net i.filed j.filed (never_files laws.unfiled g w.net v.net at goes never) more known.line line in
-      let books : SameLog t.books u.books its_log = record {
-        end = ap (λ (k : Books). k.end its_log) same;
-        flying = ap (λ (k : Books). k.flying its_log) same;
-        rows = ap (λ (k : Books). k.rows its_log) same;
-      } in
-      record {
-        known = stays_known g its_log w.net v.net at goes t.books u.books i.filed j.filed known line flight books of;
-        tells = tells_same its_log i.filed j.filed of tells;
-        kind = subst (λ (y : Option FlightState). IfSome y (λ x. IsCopies x.segment)) (sym flight) kind;
-      }
-
-  writes_kind : (e : Emptying) → x.state ≡ Serves e → v.net.owner ≡ Serving e.log
-      → IfSome (last_flight (then_on at.run goes)) (λ y. IsCopies y.segment)
-  writes_kind e after up =
-      subst (λ (y : Option FlightState). IfSome y (λ x. IsCopies x.segment)) (sym (served_last g _ v.net (then_on at.run goes) e.log up))
-      (subst CleanerWrites after writes).log.flies
+  away : is_serving v.net.owner ≡ false → u.books ≡ t.books → Way
+  away none same = inl (record { none = none; books = same })
 
   -- it serves on
-  serves : (r s : Emptying) → node.phase ≡ Serves r → x.state ≡ Serves s → After
+  serves : (r s : Emptying) → node.phase ≡ Serves r → x.state ≡ Serves s → Way
   serves r s before after =
       let kept = goes_as (Serves r) (Serves s) before after in
       let was = (subst (log_tie.CleanerAgrees g w) before sees).log.owner in
-      let up = (subst (log_tie.CleanerAgrees g v) after then_sees).log.owner in
       let seen = (subst (CleanerCopies t.books) before held).seen in
-      let then_seen = (subst (CleanerCopies u.books) after then_held).seen in
       let own = (subst (owner.CleanerAgrees part i texts) before agrees).phase in
-      let then_own = (subst (owner.CleanerAgrees part j texts) after then_agrees).phase in
-      let on = subst (GoesOnByFlight its_log r.log i.filed) (sym filed)
-      (laws.by_flight part texts its_log g w.net i r.log x.outs at was own.0.owner.end own.1 (flights r before)) in
-      record {
-        known = serves_known g its_log w.net v.net at goes t.books u.books i.filed j.filed known line laws.owners r.log s.log was up seen then_seen
-            then_own.0.owner.end.seq kept.filed (λ flies low. kept.flown (seen.flying ∙ flies)) more on;
-        tells = tells_serving its_log r.log i.filed j.filed more on
-            (once r.log.flight (subst (λ (y : Option FlightState). IfSome y (λ x. IsCopies x.segment)) (served_last g _ w.net at.run r.log was) kind)) tells;
-        kind = writes_kind s after up;
-      }
+      inr (inl (record {
+        before = r.log;
+        after = s.log;
+        was = was;
+        up = (subst (log_tie.CleanerAgrees g v) after then_sees).log.owner;
+        seen = seen;
+        then_seen = (subst (CleanerCopies u.books) after then_held).seen;
+        end = (subst (owner.CleanerAgrees part j texts) after then_agrees).phase.0.owner.end.seq;
+        filed = kept.filed;
+        flown = λ flies low. kept.flown (seen.flying ∙ flies);
+        on = subst (GoesOnByFlight its_log r.log i.filed) (sym filed)
+            (laws.lines.servers_go_on_by_flights part texts its_log g w.net i r.log x.outs at was own.0.owner.end own.1 (flights r before));
+        kind = (subst CleanerWrites after writes).log.flies;
+      }))
 
   -- it serves again
-  reopens : (l : Lasting) (o : openings.Opening) (s : Emptying) → node.phase ≡ Opening l o → x.state ≡ Serves s → After
-  reopens l o s before after = record {
-    known = reopens_known laws.owners laws.follow g its_log w.net v.net ends.settling.chain ends.settling.log r.log e later t.books u.books i.filed j.filed
-        known line books.0 books.1 (subst (LogSeen u.books its_log) back.log (subst (CleanerCopies u.books) after then_held).seen);
-    tells = tells_reopened laws.text laws.tail IsCopies (λ s t same. (laws.alike s t same).copies) (λ s fact. fact.tells)
-        (λ s none. (laws.nothing s none).copies.tells)
-        g its_log w.net v.net ends.settling.chain ends.settling.log r.log e i.filed j.filed more known.line line kind
-        tells;
-    kind = writes_kind s after then_log.owner;
-  }
+  reopens : (l : Lasting) (o : openings.Opening) (s : Emptying) → node.phase ≡ Opening l o → x.state ≡ Serves s → Way
+  reopens l o s before after = inr (inr (record {
+    trusted = trusted;
+    apart = apart;
+    calm = calm;
+    opening = o;
+    opened = r;
+    ends = ends;
+    count = books.0;
+    books = books.1;
+    seen = subst (LogSeen u.books its_log) back.log (subst (CleanerCopies u.books) after then_held).seen;
+    after = s.log;
+    up = then_log.owner;
+    kind = (subst CleanerWrites after writes).log.flies;
+  }))
     where
       back : CleanerBack l o s
       back = cleaner_back node what l o s before after
@@ -274,16 +245,12 @@ module _ (laws : AfterLaws) (part : ℕ) (texts : Texts) (g : Setting) (trusted 
       r : Opened
       r = back.opened
 
-      ends_so : EndsSo g its_log o (progress.Opened r)
-      ends_so = ⊎_elim (λ k. subst (EndsSo g its_log o) k.1 ((laws.ends g its_log o l.questions).0 k.0))
-          (λ fact. subst (EndsSo g its_log o) fact (laws.ends g its_log o l.questions).1)
-          back.comes
-
       then_log : SeesLog g its_log v s.log
       then_log = (subst (log_tie.CleanerAgrees g v) after then_sees).log
 
       ends : EndsByOne g w v goes o r
-      ends = ends_so w v l.questions.last goes (subst (log_tie.CleanerAgrees g w) before sees).sees (subst (SeesLog g its_log v) back.log then_log) straight
+      ends = comes_by_one laws.logs.openings_end_by_one g its_log o l.questions r back.comes w v l.questions.last goes
+          (subst (log_tie.CleanerAgrees g w) before sees).sees (subst (SeesLog g its_log v) back.log then_log) straight
 
       e : Reopens g w.net v.net ends.settling.chain ends.settling.log r.log
       e = reopens_by g trusted apart w v at goes calm o r ends
@@ -301,7 +268,7 @@ module _ (laws : AfterLaws) (part : ℕ) (texts : Texts) (g : Setting) (trusted 
   not_then : (q : Phase) → x.state ≡ q → IsAway part texts g v j q → is_serving v.net.owner ≡ false
   not_then q after gone = cleaner_away part texts g v j q (subst (log_tie.CleanerAgrees g v) after then_sees) gone
 
-  by_phases : (p q : Phase) → node.phase ≡ p → x.state ≡ q → After
+  by_phases : (p q : Phase) → node.phase ≡ p → x.state ≡ q → Way
   by_phases (Down k) (Down l) before after = away (not_then (Down l) after tt) (goes_as (Down k) (Down l) before after)
   by_phases (Opening k o) (Down l) before after = away (not_then (Down l) after tt) (goes_as (Opening k o) (Down l) before after)
   by_phases (Serves r) (Down l) before after = away (not_then (Down l) after tt) (goes_as (Serves r) (Down l) before after)
@@ -313,5 +280,7 @@ module _ (laws : AfterLaws) (part : ℕ) (texts : Texts) (g : Setting) (trusted 
   by_phases (Serves r) (Serves s) before after = serves r s before after
 
   -- the cleaner's log after its event
-  pub cleaner_after : After
-  cleaner_after = by_phases node.phase x.state refl refl
+  pub cleaner_after : OwnAfter IsCopies its_log (moment_then at goes) u.books j.filed
+  cleaner_after = own_after laws IsCopies (λ s fact. fact.tells) (λ s t same. (laws.lines.attempts_are_alike s t same).copies)
+      (λ s none. (laws.lines.nothing_is_any_kind s none).copies) its_log g w v at goes straight t.books u.books i.filed j.filed more known line tells kind
+      (by_phases node.phase x.state refl refl)

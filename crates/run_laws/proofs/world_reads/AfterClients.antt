@@ -1,5 +1,5 @@
 -- A client's own event: the small worlds know the same of its log then as they did, what is filed of it tells of each block once, and its fall is told.
-use Rattle.std.proofs.Common.{◌≡◌, ⊎_elim, ◌++◌, ℕ, suc, true, false, List, Option, Some, None, refl, sym, ap, subst, ◌∙◌, arith}
+use Rattle.std.proofs.Common.{◌≡◌, ⊎_elim, inl, inr, ◌++◌, ℕ, suc, true, false, List, refl, sym, ap, subst, ◌∙◌, arith}
 use Rattle.std.specs.Prelude.{IfSome}
 use Rattle.act_tie.specs.BlockActs.{is_adopted}
 use Rattle.client_log.specs.LogState.{LogState}
@@ -12,19 +12,15 @@ use Rattle.client_node.specs.declared.phase.Phase.{Phase}
 use Rattle.client_node.specs.Phases.{Went_to, lasting_of, takes}
 use Rattle.client_serving.specs.declared.lasting.Lasting.{Lasting}
 use Rattle.client_serving.specs.declared.serving.Serving as serving
-use Rattle.index_tie.specs.Filed.{Filed}
 use Rattle.index_tie.specs.Growth.{IsMore}
 use Rattle.index_tie.specs.Net as index
-use Rattle.log_flight.specs.Flights.{FlightState}
 use Rattle.log_law.specs.Ends.{IsFlight}
 use Rattle.log_law.specs.Events.{Runs}
 use Rattle.log_law.specs.Laws.{Moment}
-use Rattle.log_law.specs.Net.{Net}
 use Rattle.log_law.specs.Net.Owner.{Serving}
 use Rattle.log_law.specs.Restarts.{IsSureRun, is_serving, last_flight}
 use Rattle.log_law.specs.Tails.{then_on}
 use Rattle.log_owner.specs.declared.opened.Opened.{Opened}
-use Rattle.log_owner.specs.declared.opened.Progress.TheVariants as progress
 use Rattle.log_owner.specs.declared.opening.Opening as openings
 use Rattle.log_owner.specs.declared.opening.Stage as stages
 use Rattle.log_owner.specs.declared.opening.Stage.TheVariants as stage
@@ -36,16 +32,14 @@ use Rattle.node_base.specs.Effects.{acts_of}
 use Rattle.node_slots.specs.node_index_tie.Sight.{Texts}
 use Rattle.node_slots.specs.node_tie.ClientEvents as tokens
 use Rattle.node_slots.specs.node_tie.LogRows.{LogSeen}
-use Rattle.node_slots.specs.node_tie.Sight.{SameLog}
 use Rattle.node_slots.specs.owner_index_tie.ClientEvents as owner
 use Rattle.node_slots.specs.owner_index_tie.Filing.{filed_after}
 use Rattle.run_laws.specs.reopening_law.Falls.{FallKnown, FallTells, FellWith}
-use Rattle.run_laws.specs.reopening_law.Openings.{EndsByOne, EndsSo}
+use Rattle.run_laws.specs.reopening_law.Openings.{EndsByOne}
 use Rattle.run_laws.specs.reopening_law.Reopens.{Reopens, TellsApart, has_flight}
-use Rattle.segment_format.specs.declared.segment.Segment.{Segment}
 use Rattle.run_laws.specs.segment_tie.Clients.{ClientWrites}
-use Rattle.run_laws.specs.segment_tie.Segments.{IsOriginal, TellsOnce}
-use Rattle.token_law.specs.Books.{Books, reopened, with_empty}
+use Rattle.run_laws.specs.segment_tie.Segments.{IsOriginal}
+use Rattle.token_law.specs.Books.{reopened, with_empty}
 use Rattle.token_law.specs.Net as token
 use Rattle.token_law.specs.Owed.{adopts}
 use Rattle.token_protocol.specs.Basics as basics
@@ -60,16 +54,12 @@ use Rattle.run_laws.specs.world_logs.Lines.{moment_then}
 use Rattle.xfs_base.specs.declared.node.NodeId.TheVariants.{Client}
 use Rattle.xfs_base.specs.declared.segment.SegName.{SegName}
 use Rattle.run_laws.proofs.world_reads.AfterBack.{CameBack, came_back}
-use Rattle.run_laws.proofs.world_reads.AfterLaws.{AfterLaws}
-use Rattle.run_laws.proofs.world_reads.AfterLogs.{KnownLog, flight_stays, reopens_by, reopens_known, served_last, serves_known, stays_known}
-use Rattle.run_laws.proofs.world_reads.AfterOwners.{line_goes_on, never_files, same_filed}
-use Rattle.run_laws.proofs.world_reads.AfterTells.{AllTell, tells_reopened, tells_same, tells_serving}
-
--- what is known of the log then, and what it tells
-pub record OwnAfter (Kind : Segment → Type 0) (l : ℕ) {g : Setting} {n : Net} (at : Moment g n) (k : Books) (f : Filed) : Type 0 where
-  pub known : KnownLog l at k f
-  pub tells : AllTell l f
-  pub kind : IfSome (last_flight at.run) (λ x. Kind x.segment)
+use Rattle.run_laws.proofs.world_reads.AfterLogs.{KnownLog, flight_stays, reopens_by}
+use Rattle.run_laws.proofs.world_reads.AfterOwn as after_own
+use Rattle.run_laws.proofs.world_reads.AfterOwn.{OwnAfter, comes_by_one, none_serves, one_log, own_after}
+use Rattle.run_laws.proofs.world_reads.AfterOwners.{line_goes_on}
+use Rattle.run_laws.proofs.world_reads.AfterTells.{AllTell}
+use Rattle.run_laws.specs.world_reads.Below.{Below}
 
 -- ---- the end of the log
 
@@ -83,21 +73,15 @@ module _ (part : ℕ) (texts : Texts) (g : Setting) (c : ℕ) (v : Scene) (n : i
   client_away (Opening l o) sees away = not_up o.known l.questions.last o.stage sees.1
   client_away (Serves s) sees away = absurd away
 
-  one_log : (s t : LogState) → Serving s ≡ Serving t → s ≡ t
-  one_log s t fact = cc
-
-  none_serves : (s : LogState) → is_serving v.net.owner ≡ false → v.net.owner ≡ Serving s → ⊥
-  none_serves s none fact = (let e : true ≡ false = sym (ap is_serving fact) ∙ none in absurd cc)
-
   pub client_end : (p : Phase) → log_tie.ClientAgrees g c v p → owner.ClientAgrees part texts n c p → (s : LogState) → v.net.owner ≡ Serving s
       → s.end.seq ≡ n.filed.head c
-  client_end (Down l) sees agrees s fact = absurd (none_serves s (client_away (Down l) sees tt) fact)
-  client_end (Opening l o) sees agrees s fact = absurd (none_serves s (client_away (Opening l o) sees tt) fact)
+  client_end (Down l) sees agrees s fact = absurd (none_serves v.net.owner s (client_away (Down l) sees tt) fact)
+  client_end (Opening l o) sees agrees s fact = absurd (none_serves v.net.owner s (client_away (Opening l o) sees tt) fact)
   client_end (Serves t) sees agrees s fact = ap (λ (x : LogState). x.end.seq) (one_log s t.log (sym fact ∙ sees.1.owner)) ∙ agrees.0.end.seq
 
 -- ---- the event
 
-module _ (laws : AfterLaws) (part : ℕ) (texts : Texts) (c : ℕ) (g : Setting) (trusted : g.doubts ≡ false) (apart : TellsApart g) (w v : Scene)
+module _ (laws : Below) (part : ℕ) (texts : Texts) (c : ℕ) (g : Setting) (trusted : g.doubts ≡ false) (apart : TellsApart g) (w v : Scene)
     (at : Moment g w.net) (goes : Runs g w.net v.net)
     (straight : ServesStraight goes) (sure : IsSure texts c g v.net) (calm : IsSureRun (then_on at.run goes))
     (node : ClientNode) (what : Do)
@@ -114,71 +98,58 @@ module _ (laws : AfterLaws) (part : ℕ) (texts : Texts) (c : ℕ) (g : Setting)
   abbrev x : Went_to
   x = takes node what
 
-  abbrev later : Moment g v.net
-  later = moment_then at goes
-
-  abbrev After : Type 0
-  After = OwnAfter IsOriginal c later u.books j.filed
-
   line : IsLine c v.net j.filed
-  line = line_goes_on laws.on laws.unfiled texts c g w.net v.net i.filed j.filed x.outs at goes straight.never sure acts filed
+  line = line_goes_on laws.lines.lines_go_on laws.logs.nothing_filed_opening texts c g w.net v.net i.filed j.filed x.outs at goes straight.never sure acts filed
       (client_end part texts g c v j x.state then_sees then_agrees) known.line
 
-  once : (s : Option FlightState) → IfSome s (λ x. IsOriginal x.segment) → IfSome s (λ x. TellsOnce x.segment)
-  once None h = tt
-  once (Some f) h = h.tells
+  abbrev Way : Type 0
+  Way = after_own.Way IsOriginal c g w v at goes t.books u.books i.filed j.filed
+
+  goes_as : (p q : Phase) → node.phase ≡ p → x.state ≡ q → tokens.LogGoes t u.books c x.outs p q
+  goes_as p q before after =
+      subst (λ y. tokens.LogGoes t u.books c x.outs p y) after (subst (λ y. tokens.LogGoes t u.books c x.outs y x.state) before log)
 
   -- it doesn't serve then
-  away : is_serving v.net.owner ≡ false → u.books ≡ t.books → After
-  away none same =
-      let never = straight.never none in
-      let flight : last_flight (then_on at.run goes) ≡ last_flight at.run = flight_stays g _ w.net v.net at.run goes never in
-      let of = same_filed c w.net v.net i.filed j.filed (never_files laws.unfiled g w.net v.net at goes never) more known.line line in
-      let books : SameLog t.books u.books c =
-      record { end = ap (λ (k : Books). k.end c) same; flying = ap (λ (k : Books). k.flying c) same; rows = ap (λ (k : Books). k.rows c) same } in
-      record {
-        known = stays_known g c w.net v.net at goes t.books u.books i.filed j.filed known line flight books of;
-        tells = tells_same c i.filed j.filed of tells;
-        kind = subst (λ (y : Option FlightState). IfSome y (λ x. IsOriginal x.segment)) (sym flight) kind;
-      }
-
-  writes_kind : (s : serving.Serving) → x.state ≡ Serves s → v.net.owner ≡ Serving s.log
-      → IfSome (last_flight (then_on at.run goes)) (λ y. IsOriginal y.segment)
-  writes_kind s after up =
-      subst (λ (y : Option FlightState). IfSome y (λ x. IsOriginal x.segment)) (sym (served_last g _ v.net (then_on at.run goes) s.log up))
-      (subst ClientWrites after writes).flies
+  away : is_serving v.net.owner ≡ false → u.books ≡ t.books → Way
+  away none same = inl (record { none = none; books = same })
 
   -- it serves on
-  serves : (r s : serving.Serving) → node.phase ≡ Serves r → x.state ≡ Serves s → After
+  serves : (r s : serving.Serving) → node.phase ≡ Serves r → x.state ≡ Serves s → Way
   serves r s before after =
-      let kept = subst (λ q. tokens.LogGoes t u.books c x.outs (Serves r) q) after (subst (λ p. tokens.LogGoes t u.books c x.outs p x.state) before log) in
+      let kept = goes_as (Serves r) (Serves s) before after in
       let was = (subst (log_tie.ClientAgrees g c w) before sees).1.owner in
-      let up = (subst (log_tie.ClientAgrees g c v) after then_sees).1.owner in
-      let seen = (subst (tokens.ClientAgrees true part c t) before held).logged.seen in
-      let then_seen = (subst (tokens.ClientAgrees true part c u) after then_held).logged.seen in
       let own = subst (owner.ClientAgrees part texts i c) before agrees in
-      let then_own = subst (owner.ClientAgrees part texts j c) after then_agrees in
-      let on = subst (GoesOnByFlight c r.log i.filed) (sym filed)
-      (laws.by_flight part texts c g w.net i r.log x.outs at was own.0.end own.1 (flights r before)) in
-      record {
-        known = serves_known g c w.net v.net at goes t.books u.books i.filed j.filed known line laws.owners r.log s.log was up seen then_seen then_own.0.end.seq
-            (λ q low. kept.rows q (let a = kept.rises in omega arith)) (λ flies low. kept.rows (suc (t.books.end c)) low) more on;
-        tells = tells_serving c r.log i.filed j.filed more on
-            (once r.log.flight (subst (λ (y : Option FlightState). IfSome y (λ x. IsOriginal x.segment)) (served_last g _ w.net at.run r.log was) kind)) tells;
-        kind = writes_kind s after up;
-      }
+      inr (inl (record {
+        before = r.log;
+        after = s.log;
+        was = was;
+        up = (subst (log_tie.ClientAgrees g c v) after then_sees).1.owner;
+        seen = (subst (tokens.ClientAgrees true part c t) before held).logged.seen;
+        then_seen = (subst (tokens.ClientAgrees true part c u) after then_held).logged.seen;
+        end = (subst (owner.ClientAgrees part texts j c) after then_agrees).0.end.seq;
+        filed = λ q low. kept.rows q (let a = kept.rises in omega arith);
+        flown = λ flies low. kept.rows (suc (t.books.end c)) low;
+        on = subst (GoesOnByFlight c r.log i.filed) (sym filed)
+            (laws.lines.servers_go_on_by_flights part texts c g w.net i r.log x.outs at was own.0.end own.1 (flights r before));
+        kind = (subst ClientWrites after writes).flies;
+      }))
 
   -- it serves again
-  reopens : (l : Lasting) (o : openings.Opening) (s : serving.Serving) → node.phase ≡ Opening l o → x.state ≡ Serves s → After
-  reopens l o s before after = record {
-    known = reopens_known laws.owners laws.follow g c w.net v.net ends.settling.chain ends.settling.log r.log e later t.books u.books i.filed j.filed known line
-        books.1 (books.3 ∙ ap (λ b. with_empty books.1 (reopened t.books c b) c) adopted)
-        (subst (LogSeen u.books c) back.log (subst (tokens.ClientAgrees true part c u) after then_held).logged.seen);
-    tells = tells_reopened laws.text laws.tail IsOriginal (λ s t same. (laws.alike s t same).original) (λ s fact. fact.tells)
-        (λ s none. (laws.nothing s none).original.tells)
-        g c w.net v.net ends.settling.chain ends.settling.log r.log e i.filed j.filed more known.line line kind tells;
-    kind = writes_kind s after then_log.owner;
-  }
+  reopens : (l : Lasting) (o : openings.Opening) (s : serving.Serving) → node.phase ≡ Opening l o → x.state ≡ Serves s → Way
+  reopens l o s before after = inr (inr (record {
+    trusted = trusted;
+    apart = apart;
+    calm = calm;
+    opening = o;
+    opened = r;
+    ends = ends;
+    count = books.1;
+    books = books.3 ∙ ap (λ b. with_empty books.1 (reopened t.books c b) c) adopted;
+    seen = subst (LogSeen u.books c) back.log (subst (tokens.ClientAgrees true part c u) after then_held).logged.seen;
+    after = s.log;
+    up = then_log.owner;
+    kind = (subst ClientWrites after writes).flies;
+  }))
     where
       back : CameBack l o x s
       back = came_back node what l o s before after
@@ -186,22 +157,19 @@ module _ (laws : AfterLaws) (part : ℕ) (texts : Texts) (c : ℕ) (g : Setting)
       r : Opened
       r = back.opened
 
-      ends_so : EndsSo g c o (progress.Opened r)
-      ends_so = ⊎_elim (λ k. subst (EndsSo g c o) k.1 ((laws.ends g c o l.questions).0 k.0)) (λ fact. subst (EndsSo g c o) fact (laws.ends g c o l.questions).1)
-          back.comes
-
       then_log : log_tie.SeesLog g c v s.log
       then_log = (subst (log_tie.ClientAgrees g c v) after then_sees).1
 
       ends : EndsByOne g w v goes o r
-      ends = ends_so w v l.questions.last goes (subst (log_tie.ClientAgrees g c w) before sees).1 (subst (log_tie.SeesLog g c v) back.log then_log) straight
+      ends = comes_by_one laws.logs.openings_end_by_one g c o l.questions r back.comes w v l.questions.last goes
+          (subst (log_tie.ClientAgrees g c w) before sees).1 (subst (log_tie.SeesLog g c v) back.log then_log) straight
 
       e : Reopens g w.net v.net ends.settling.chain ends.settling.log r.log
       e = reopens_by g trusted apart w v at goes calm o r ends
 
       books : (chain : List SegName) × (count : ℕ) × basics.In (Does (act.Back c chain)) x.outs
           × (u.books ≡ with_empty count (reopened t.books c (adopts t.acts c chain)) c)
-      books = subst (λ q. tokens.LogGoes t u.books c x.outs (Opening l o) q) after (subst (λ p. tokens.LogGoes t u.books c x.outs p x.state) before log)
+      books = goes_as (Opening l o) (Serves s) before after
 
       with_it : FellWith t.acts c (last_flight at.run)
       with_it = subst (FallKnown t.acts c (last_flight at.run)) before fell
@@ -214,14 +182,10 @@ module _ (laws : AfterLaws) (part : ℕ) (texts : Texts) (c : ℕ) (g : Setting)
 
   -- ---- its phases
 
-  goes_as : (p q : Phase) → node.phase ≡ p → x.state ≡ q → tokens.LogGoes t u.books c x.outs p q
-  goes_as p q before after =
-      subst (λ y. tokens.LogGoes t u.books c x.outs p y) after (subst (λ y. tokens.LogGoes t u.books c x.outs y x.state) before log)
-
   not_then : (q : Phase) → x.state ≡ q → tokens.IsAway q → is_serving v.net.owner ≡ false
   not_then q after gone = client_away part texts g c v j q (subst (log_tie.ClientAgrees g c v) after then_sees) gone
 
-  by_phases : (p q : Phase) → node.phase ≡ p → x.state ≡ q → After
+  by_phases : (p q : Phase) → node.phase ≡ p → x.state ≡ q → Way
   by_phases (Down k) (Down l) before after = away (not_then (Down l) after tt) (goes_as (Down k) (Down l) before after)
   by_phases (Opening k o) (Down l) before after = away (not_then (Down l) after tt) (goes_as (Opening k o) (Down l) before after)
   by_phases (Serves r) (Down l) before after = away (not_then (Down l) after tt) (goes_as (Serves r) (Down l) before after)
@@ -233,13 +197,15 @@ module _ (laws : AfterLaws) (part : ℕ) (texts : Texts) (c : ℕ) (g : Setting)
   by_phases (Serves r) (Serves s) before after = serves r s before after
 
   -- the client's log after its event
-  pub client_after : After
-  client_after = by_phases node.phase x.state refl refl
+  pub client_after : OwnAfter IsOriginal c (moment_then at goes) u.books j.filed
+  client_after = own_after laws IsOriginal (λ s fact. fact.tells) (λ s t same. (laws.lines.attempts_are_alike s t same).original)
+      (λ s none. (laws.lines.nothing_is_any_kind s none).original) c g w v at goes straight t.books u.books i.filed j.filed more known line tells kind
+      (by_phases node.phase x.state refl refl)
 
   -- and its fall
   pub fell_after : (lasting_of node.phase).number ≡ c → tokens.IsAway x.state
       → FallKnown (t.acts ++ acts_of (Client c) x.outs) c (last_flight (then_on at.run goes)) x.state
-  fell_after its gone = by x.state refl (laws.falls t.acts c (last_flight at.run) node what its fell)
+  fell_after its gone = by x.state refl (laws.logs.falls_go_on t.acts c (last_flight at.run) node what its fell)
     where
       same : is_serving v.net.owner ≡ false → last_flight at.run ≡ last_flight (then_on at.run goes)
       same none = sym (flight_stays g _ w.net v.net at.run goes (straight.never none))

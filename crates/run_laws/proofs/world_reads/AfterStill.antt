@@ -16,9 +16,9 @@ use Rattle.node_slots.specs.owner_index_tie.Filing.{IsSameLog}
 use Rattle.token_law.specs.Books.{Books}
 use Rattle.run_laws.specs.world_lines.Lines.{IsSure}
 use Rattle.run_laws.specs.world_logs.Lines.{moment_then}
-use Rattle.run_laws.proofs.world_reads.AfterLaws.{AfterLaws}
 use Rattle.run_laws.proofs.world_reads.AfterLogs.{KnownLog, flight_stays, served_last, stays_known}
 use Rattle.run_laws.proofs.world_reads.AfterOwners.{line_goes_on}
+use Rattle.run_laws.specs.world_reads.Below.{Below}
 
 pub same_log : (k : Books) (l : ℕ) → SameLog k k l
 same_log k l = record { end = refl; flying = refl; rows = refl }
@@ -38,8 +38,9 @@ module _ (g : Setting) (n o : Net) (at : Moment g n) (goes : Runs g n o) (straig
   serving_flight s was up = served_last g _ o (then_on at.run goes) s up ∙ sym (served_last g _ n at.run s was)
 
   -- and so is what is known of the log
-  pub still_known : (laws : AfterLaws) (texts : Texts) (l : ℕ) → IsSure texts l g o → (k : Books) (f : Filed) → KnownLog l at k f
+  pub still_known : (laws : Below) (texts : Texts) (l : ℕ) → IsSure texts l g o → (k : Books) (f : Filed) → KnownLog l at k f
       → ((s : LogState) → o.owner ≡ Serving s → s.end.seq ≡ f.head l) → SameFlight → KnownLog l (moment_then at goes) k f
   still_known laws texts l sure k f known end flight =
       stays_known g l n o at goes k k f f known
-      (line_goes_on laws.on laws.unfiled texts l g n o f f [] at goes straight.never sure tt refl end known.line) flight (same_log k l) (same_filing f l)
+      (line_goes_on laws.lines.lines_go_on laws.logs.nothing_filed_opening texts l g n o f f [] at goes straight.never sure tt refl end known.line) flight
+          (same_log k l) (same_filing f l)

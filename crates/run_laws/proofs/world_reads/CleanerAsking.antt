@@ -12,7 +12,6 @@ use Rattle.cleaner_node.specs.declared.cleaner.Phase.TheVariants.{Down, Opening,
 use Rattle.cleaner_job.specs.declared.job.Job.{Job}
 use Rattle.core_world.specs.declared.any_node.AnyNode.{AnyNode}
 use Rattle.core_world.specs.declared.any_node.AnyNode.TheVariants as any
-use Rattle.run_laws.specs.epoch_law.Polls.{HorizonsStay}
 use Rattle.index_tie.proofs.Runs.{good_in}
 use Rattle.index_tie.specs.Cleaning.{is_filed_name, IsWithin, ReadFor}
 use Rattle.index_tie.specs.Filed.{IsFiled, row_at}
@@ -29,7 +28,6 @@ use Rattle.node_slots.specs.node_index_tie.Sight.{held_in}
 use Rattle.node_logs.specs.node_log_tie.CleanerEvents.{JobPhaseSeen}
 use Rattle.node_slots.specs.owner_index_tie.CleanerEvents.{EffectOwed, ReadGets, SaysOwed}
 use Rattle.run_laws.proofs.place_law.Lying.{one_of_nine}
-use Rattle.run_laws.specs.place_law.Copies.{ChecksAreOfRows}
 use Rattle.run_laws.specs.place_law.Hands.{AnswerReads}
 use Rattle.run_laws.specs.reading_law.Readings.{ReadingsCame}
 use Rattle.node_tellings.specs.reading_tie.CleanerMeets.{JobMet, PhaseMet, listed_in}
@@ -62,7 +60,7 @@ use Rattle.run_laws.specs.world_logs.Roles.{Role}
 use Rattle.run_laws.proofs.world_reads.CleanerChecked.{BodyMay, BodyReadsMay, DoReadsMay, EffectMay, InputAt, JobMay, PhaseMay, ToldMay, event_asks}
 use Rattle.run_laws.proofs.world_reads.CleanerChecks as phases
 use Rattle.run_laws.proofs.world_reads.CleanerChecks.{CheckMay, FoundMay, May}
-use Rattle.run_laws.proofs.world_reads.CleanerGets.{AreReached, GetsBelow, answer_reads, has_job, its_about}
+use Rattle.run_laws.proofs.world_reads.CleanerGets.{AreReached, answer_reads, has_job, its_about}
 use Rattle.run_laws.proofs.world_reads.CleanerLow.{least_promised}
 use Rattle.run_laws.proofs.world_reads.CleanerMoment.{IsHere}
 use Rattle.run_laws.proofs.world_reads.CleanerNames.{all_named}
@@ -78,6 +76,7 @@ use Rattle.xfs_base.specs.declared.segment.SegName.{SegName}
 use Rattle.xfs_base.specs.declared.segment.SegRef.{SegRef}
 use Rattle.xfs_base.specs.Steps.{still}
 use Rattle.xfs_base.proofs.Alls.{all_weaker}
+use Rattle.run_laws.specs.world_reads.Below.{Below}
 
 -- what is so of each where a test passes is so of each, where it passes
 each_where : {X : Type 0} (t : Bool) (P : X → Type 0) (xs : List X) → (t ≡ true → AllByRecursion P xs) → AllByRecursion (λ x. t ≡ true → P x) xs
@@ -104,15 +103,10 @@ then_checks c j segment s reads named some =
     }).state) some)
 
 -- the law of places, and how long horizons stay
-pub record AsksBelow : Type 0 where
-  pub gets : GetsBelow
-  pub rows : ChecksAreOfRows
-  pub stay : HorizonsStay
-
-module _ (law : AsksBelow) (base : Setting) (e : Estate AnyNode) (lines : HasLines base e) (texts : Texts base e lines) (part : ℕ)
+module _ (law : Below) (base : Setting) (e : Estate AnyNode) (lines : HasLines base e) (texts : Texts base e lines) (part : ℕ)
     (first : ℕ → ℕ → Segment) (count : ℕ) (joint : Joint base e lines texts part first count) (node : CleanerNode)
     (here : IsHere base e lines texts part first count node) (of_eight : part < 8) (ours : ListsOurs base e lines texts part first count)
-    (reached : AreReached law.gets base e lines texts part first count joint node here) (came : ReadingsCame e.world (moment e count))
+    (reached : AreReached law base e lines texts part first count joint node here) (came : ReadingsCame e.world (moment e count))
     (named : node_named (moment e count) Cleaner ≡ Some (any.Cleaner node)) where
   abbrev sent : List Packet
   sent = (moment e count).sent
@@ -140,10 +134,11 @@ module _ (law : AsksBelow) (base : Setting) (e : Estate AnyNode) (lines : HasLin
 
   -- ---- the segment that the job is about
 
-  module _ (seg : SegRef) (f : Flew base e lines texts part first count seg) (drop : MayBeDropped base e lines texts part first count law.gets.flew ours
-      law.gets.written joint reached seg.name) where
+  module _ (seg : SegRef) (f : Flew base e lines texts part first count seg) (drop : MayBeDropped base e lines texts part first count
+      law.logs.what_is_listed_flew ours
+      law.logs.what_flew_is_written joint reached seg.name) where
     its_within : IsWithin n.filed seg.name
-    its_within = within base e lines texts part first count law.gets.flew ours law.gets.written joint reached seg f drop
+    its_within = within base e lines texts part first count law.logs.what_is_listed_flew ours law.logs.what_flew_is_written joint reached seg f drop
 
     its_nine : (0 < seg.name.log.0) × (seg.name.log.0 ≤ 9)
     its_nine = one_of_nine n.filed filed seg.name.log.0 seg.name.seq its_within.some its_within.filed
@@ -153,10 +148,11 @@ module _ (law : AsksBelow) (base : Setting) (e : Estate AnyNode) (lines : HasLin
         → (is_filed_name n.filed seg.name ≡ true → (row_at n.filed b seg.name.log.0 seg.name.seq).place ≡ Some (place_in seg item))
         → IsAskable b (place_in seg item)
     askable b item lies =
-        let p = least_promised law.stay part (held_in part texts.text) first n of_eight runs joint.idx.registry joint.index_stands.registry seg.name.log.0
+        let p = least_promised law.tokens.horizons_stay part (held_in part texts.text) first n of_eight runs joint.idx.registry joint.index_stands.registry
+            seg.name.log.0
         its_nine.0 its_nine.1 in
         let low : seg.name.seq < least_horizon seg.name.log.0 (all_news joint.idx.registry.board) =
-        below base e lines texts part first count law.gets.flew ours law.gets.written joint reached seg f drop in
+        below base e lines texts part first count law.logs.what_is_listed_flew ours law.logs.what_flew_is_written joint reached seg f drop in
         let up = p.above in
         record { epoch = p.epoch; promised = p.promised; within = its_within; below = omega arith; lies = lies }
 
@@ -165,7 +161,7 @@ module _ (law : AsksBelow) (base : Setting) (e : Estate AnyNode) (lines : HasLin
     grouped premise =
         let there : Segment = n.filed.segment seg.name.log.0 seg.name.seq in
         let name : seg.name ≡ there.name = tells_apart seg_cmp_exact seg.name there.name premise in
-        its_group base e lines texts part first count law.gets.flew ours seg f
+        its_group base e lines texts part first count law.logs.what_is_listed_flew ours seg f
         ∙ (ap (λ (x : SegName). (texts.text x).group) name
         ∙ ap (λ (s : Segment). s.group) (sym (joint.index_stands.texts_of seg.name.log.0 seg.name.seq its_within.some its_within.filed)))
 
@@ -185,7 +181,8 @@ module _ (law : AsksBelow) (base : Setting) (e : Estate AnyNode) (lines : HasLin
     checked_may : (j : JobState) (checks : List Check) → n.job.phase ≡ Checking j seg checks → AllByRecursion (CheckMay may seg) checks
     checked_may j checks premise =
         all_may checks
-        (λ there. law.rows part (held_in part texts.text) first n j seg checks runs (λ l q low high some limit. (joint.tells l q some limit).plain)
+        (λ there. law.reads.checks_are_of_rows part (held_in part texts.text) first n j seg checks runs (λ l q low high some limit. (joint.tells l q some
+            limit).plain)
         (all_named n.filed joint.tells) premise there (grouped there))
 
     -- and what it reads
@@ -203,7 +200,8 @@ module _ (law : AsksBelow) (base : Setting) (e : Estate AnyNode) (lines : HasLin
         by true dead = none_dead (CheckMay may seg) 0 s.items dead
         by false alive =
             all_may (checks_from 0 s.items)
-            (λ there. law.rows part (held_in part texts.text) first (with_job n (transition n.job (input.Read (Some s)))) j seg (checks_from 0 s.items)
+            (λ there. law.reads.checks_are_of_rows part (held_in part texts.text) first (with_job n (transition n.job (input.Read (Some s)))) j seg
+                (checks_from 0 s.items)
             (On runs (JobReads (Some s) owed)) (λ l q low high some limit. (joint.tells l q some limit).plain) (all_named n.filed joint.tells)
             (then_checks n.job j seg s premise passes alive) there (grouped there))
 
@@ -212,16 +210,17 @@ module _ (law : AsksBelow) (base : Setting) (e : Estate AnyNode) (lines : HasLin
   module _ (v : Emptying) (serves : node.phase ≡ Serving v) (job : Job) (has : v.job ≡ Some job) where
     same_phase : n.job.phase ≡ job.cleaning.phase
     same_phase = ap (λ (s : CleaningState). s.phase)
-        (has_job law.gets base e lines texts part first count joint node here ours reached came named v serves job has)
+        (has_job law base e lines texts part first count joint node here ours reached came named v serves job has)
 
     about : JobMet (listed_in sent Cleaner) job.cleaning.phase job.hand
-    about = its_about law.gets base e lines texts part first count joint node here ours reached came named v serves job has
+    about = its_about law base e lines texts part first count joint node here ours reached came named v serves job has
 
     drops : (p : Phase) → job.cleaning.phase ≡ p → (r : Role) (there : There base e lines texts part first r)
         → JobPhaseSeen (setting base e r) (log_at base e lines texts part first r there count) p
     drops p premise r there =
         subst (JobPhaseSeen (setting base e r) (log_at base e lines texts part first r there count)) premise
-        (job_seen base e lines texts part first count law.gets.flew ours law.gets.written joint reached node here v serves job has r there)
+        (job_seen base e lines texts part first count law.logs.what_is_listed_flew ours law.logs.what_flew_is_written joint reached node here v serves job
+            has r there)
 
     met : (p : Phase) → job.cleaning.phase ≡ p → PhaseMet (listed_in sent Cleaner) p
     met p premise = subst (PhaseMet (listed_in sent Cleaner)) premise about.about
@@ -229,7 +228,7 @@ module _ (law : AsksBelow) (base : Setting) (e : Estate AnyNode) (lines : HasLin
     -- what it checks
     phase_may : (p : Phase) → job.cleaning.phase ≡ p → phases.PhaseMay may p
     phase_may (Checking j seg checks) premise =
-        checked_may seg (flew_so base e lines texts part first count law.gets.flew ours seg (met (Checking j seg checks) premise).here)
+        checked_may seg (flew_so base e lines texts part first count law.logs.what_is_listed_flew ours seg (met (Checking j seg checks) premise).here)
         (λ r there. (drops (Checking j seg checks) premise r there).1) j checks (same_phase ∙ premise)
     phase_may Greeting premise = tt
     phase_may (Listing l) premise = tt
@@ -241,7 +240,7 @@ module _ (law : AsksBelow) (base : Setting) (e : Estate AnyNode) (lines : HasLin
     -- and what it reads
     found_may : (s : Segment) → ReadFor n.filed (Some s) n.job.phase → (p : Phase) → job.cleaning.phase ≡ p → FoundMay may s p
     found_may s owed (Reading j seg) premise =
-        read_may seg (flew_so base e lines texts part first count law.gets.flew ours seg (met (Reading j seg) premise).here)
+        read_may seg (flew_so base e lines texts part first count law.logs.what_is_listed_flew ours seg (met (Reading j seg) premise).here)
         (λ r there. (drops (Reading j seg) premise r there).1) j s (same_phase ∙ premise) owed
     found_may s owed Greeting premise = tt
     found_may s owed (Listing l) premise = tt
@@ -267,11 +266,11 @@ module _ (law : AsksBelow) (base : Setting) (e : Estate AnyNode) (lines : HasLin
     body_may p among own (body.Fragment m) premise =
         told_may (server_in p.from) m.ask (Held m.fragment)
         (subst (AnswerReads part n v p.from) premise
-        (answer_reads law.gets base e lines texts part first count joint node here ours reached came named v serves p among own))
+        (answer_reads law base e lines texts part first count joint node here ours reached came named v serves p among own))
     body_may p among own (body.Missing m) premise =
         told_may (server_in p.from) m.ask (Missing m.generation)
         (subst (AnswerReads part n v p.from) premise
-        (answer_reads law.gets base e lines texts part first count joint node here ours reached came named v serves p among own))
+        (answer_reads law base e lines texts part first count joint node here ours reached came named v serves p among own))
     body_may p among own _ premise = tt
 
   -- ---- the event

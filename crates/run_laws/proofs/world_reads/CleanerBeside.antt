@@ -7,12 +7,10 @@ use Rattle.cleaner_node.specs.declared.cleaner.Cleaner.{Cleaner as CleanerNode}
 use Rattle.core_world.specs.AnyNode.{any_start, any_step}
 use Rattle.core_world.specs.declared.any_node.AnyNode.{AnyNode}
 use Rattle.core_world.specs.declared.any_node.AnyNode.TheVariants as any
-use Rattle.run_laws.specs.epoch_law.Polls.{CleanerPollsAreLow}
 use Rattle.log_flight.specs.Flights.{FlightState}
 use Rattle.log_tie.specs.Setting.{Setting}
 use Rattle.node_base.specs.Setups.{IsSetup}
 use Rattle.node_slots.specs.owner_index_tie.CleanerMoves.{ItemMoves}
-use Rattle.run_laws.specs.reading_law.Readings.{RunsReadWhatCame}
 use Rattle.run_laws.specs.reopening_law.Reopens.{TellsApart}
 use Rattle.segment_format.specs.declared.segment.Segment.{Segment}
 use Rattle.token_protocol.specs.Basics.{In}
@@ -31,8 +29,7 @@ use Rattle.world_base.specs.Runs.{IsRun, MayHappen}
 use Rattle.run_laws.proofs.world_law.ManagerTurns.{delivered}
 use Rattle.run_laws.proofs.world_law.Sent.{was_sent}
 use Rattle.run_laws.specs.world_law.Owners.{moment, node_in, node_named}
-use Rattle.run_laws.specs.world_logs.Horizons.{IsOpened, RunsReachHorizons, board_of}
-use Rattle.run_laws.specs.world_logs.Listing.{RunsListTheirLogs}
+use Rattle.run_laws.specs.world_logs.Horizons.{IsOpened, board_of}
 use Rattle.run_laws.specs.world_logs.Lines.{HasLines, Texts, cluster}
 use Rattle.run_laws.specs.world_logs.Roles.{Role, log_by, renews}
 use Rattle.run_laws.specs.world_logs.Roles.Role.{OfClient, OfCleaner, OfManager}
@@ -40,18 +37,12 @@ use Rattle.run_laws.proofs.world_reads.CleanerFront.{Takes, cleaner_steps, its_c
 use Rattle.run_laws.proofs.world_reads.CleanerGets.{AreReached, PollsAreLow}
 use Rattle.run_laws.proofs.world_reads.CleanerMoment.{IsHere, Steps, in_tokens, its_line}
 use Rattle.run_laws.proofs.world_reads.CleanerMoving.{Moved}
-use Rattle.run_laws.proofs.world_reads.CleanerOwed.{Beside, OwedBelow}
+use Rattle.run_laws.proofs.world_reads.CleanerOwed.{Beside}
 use Rattle.run_laws.proofs.world_reads.CleanerReading.{ListsOurs}
 use Rattle.run_laws.proofs.world_reads.Taking.{Took, took_it}
 use Rattle.run_laws.specs.world_reads.Joint.{IsSureUpto, Joint, There, flew_at}
 use Rattle.xfs_base.specs.declared.node.NodeId.TheVariants.{Cleaner, Registry}
-
--- the laws of runs
-pub record RunLaws : Type 0 where
-  pub reached : RunsReachHorizons
-  pub came : RunsReadWhatCame
-  pub lists : RunsListTheirLogs
-  pub polls : CleanerPollsAreLow
+use Rattle.run_laws.specs.world_reads.Below.{Below}
 
 -- a packet that is delivered was sent
 delivered_was : (w : World AnyNode) (event : Event) → MayHappen w event → (q : Packet) → what_of event ≡ Deliver q → In q w.sent × (q.to ≡ node_of event)
@@ -61,7 +52,7 @@ delivered_was w (events.Deliver packet) may q gets =
     let fact : packet ≡ q = delivered packet q gets in
     (was_sent w.sent q (subst (λ x. MayHappen w (events.Deliver x)) fact may), ap (λ (x : Packet). x.to) (sym fact))
 
-module _ (runs : RunLaws) (law : OwedBelow) (base : Setting) (e : Estate AnyNode) (ok : IsSetup e.script.setup)
+module _ (law : Below) (base : Setting) (e : Estate AnyNode) (ok : IsSetup e.script.setup)
     (run : IsRun any_step any_start e.script e.events e.world) (lines : HasLines base e) (texts : Texts base e lines) (part : ℕ) (first : ℕ → ℕ → Segment)
     (count : ℕ) (joint : Joint base e lines texts part first count) (event : Event) (node : CleanerNode) where
   abbrev what : Do
@@ -80,7 +71,8 @@ module _ (runs : RunLaws) (law : OwedBelow) (base : Setting) (e : Estate AnyNode
 
   -- each fragment that a server listed is of a log of the run
   ours : ListsOurs base e lines texts part first count
-  ours p m among fact meta held = (let o = runs.lists e ok run count p m among fact meta held in record { role = o.role; there = o.there; own = o.own })
+  ours p m among fact meta held = (let o = law.logs.runs_list_their_logs e ok run count p m among fact meta held in record { role = o.role; there = o.there;
+      own = o.own })
 
   module _ (x : CleanerEvent) where
     here : IsHere base e lines texts part first count node
@@ -112,13 +104,14 @@ module _ (runs : RunLaws) (law : OwedBelow) (base : Setting) (e : Estate AnyNode
     opened OfCleaner there keeps = inr refl
     opened (OfManager j) there keeps = absurd cc
 
-    reached : AreReached law.asks.gets base e lines texts part first count joint node steps.before
+    reached : AreReached law base e lines texts part first count joint node steps.before
     reached r there keeps =
-        runs.reached e ok run count (log_by r) (opened r there keeps) joint.idx.registry.board (ap board_of registry_named)
+        law.logs.runs_reach_horizons e ok run count (log_by r) (opened r there keeps) joint.idx.registry.board (ap board_of registry_named)
 
-    low : PollsAreLow law.asks.gets base e lines texts part first count joint node steps.before
+    low : PollsAreLow law base e lines texts part first count joint node steps.before
     low v p m serves among fact of late =
-        runs.polls true (cluster base e) part texts.text first (moment e count).nodes (moment e count).sent (moment e count).acts joint.tok
+        law.tokens.cleaner_polls_are_low true (cluster base e) part texts.text first (moment e count).nodes (moment e count).sent (moment e count).acts
+            joint.tok
         joint.idx v m x.few (record { tokens = joint.tokens_stand; index = joint.index_stands; same = joint.slots })
         (ap (λ (n : CleanerNode). n.phase) (in_tokens base e lines texts part first count joint node steps.before) ∙ serves)
         (record { packet = p; among = among; bears = fact; of = of })
@@ -138,7 +131,7 @@ module _ (runs : RunLaws) (law : OwedBelow) (base : Setting) (e : Estate AnyNode
       brought = λ q gets.
           let d = delivered_was (moment e count) event (may_happen e count event x.happens run) q gets in (d.0, d.1 ∙ x.own);
       named = its_name;
-      came = runs.came e ok run count;
+      came = law.reads.runs_read_what_came e ok run count;
       ours = ours;
       reached = reached;
       low = low;

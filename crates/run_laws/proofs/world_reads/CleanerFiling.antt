@@ -16,10 +16,9 @@ use Rattle.core_world.specs.declared.any_node.AnyNode.{AnyNode}
 use Rattle.index_tie.specs.Filed.{Filed}
 use Rattle.log_flight.specs.Flights.{FlightState}
 use Rattle.log_law.specs.Events.Runs.{On}
-use Rattle.log_law.specs.Held.{OwnerFlew, WhatIsHeldFlew}
+use Rattle.log_law.specs.Held.{OwnerFlew}
 use Rattle.log_law.specs.Net.Owner.{Serving as LogServes}
 use Rattle.log_law.specs.Restarts.{EndsRestart, IsSureRun, is_serving, is_writing, last_flight}
-use Rattle.log_law.specs.Tails.{ARestartFilesTheTail}
 use Rattle.log_owner.specs.declared.opening.Opening as openings
 use Rattle.log_protocol.specs.Tables.{In}
 use Rattle.log_tie.specs.Setting.{Setting}
@@ -36,39 +35,27 @@ use Rattle.run_laws.specs.segment_tie.Segments.{IsCopies}
 use Rattle.version_model.specs.declared.act.Act.TheVariants.{Filed as ActsFiled}
 use Rattle.wire_msg.specs.declared.packet.Do.{Do}
 use Rattle.world_base.specs.declared.estate.Estate.{Estate}
-use Rattle.run_laws.specs.world_lines.Filing.{CleanerFilesItsFlights, FlightSays, OpeningsFileWhatFlew, WhatIsFiledFlew}
-use Rattle.run_laws.specs.world_lines.Lines.{LinesGive, SaysBlocks}
-use Rattle.run_laws.specs.world_lines.Owners.{ActsAreDone, CleanerFilesShort, HasFlown}
-use Rattle.run_laws.specs.world_lines.Turns.{AllSo, CleanersFilesAreOwed}
+use Rattle.run_laws.specs.world_lines.Filing.{FlightSays}
+use Rattle.run_laws.specs.world_lines.Lines.{SaysBlocks}
+use Rattle.run_laws.specs.world_lines.Owners.{HasFlown}
+use Rattle.run_laws.specs.world_lines.Turns.{AllSo}
 use Rattle.run_laws.specs.world_logs.Lines.{HasLines, Texts}
 use Rattle.run_laws.specs.world_logs.Roles.Role.{OfCleaner}
 use Rattle.run_laws.proofs.world_reads.AfterLogs.{served_last}
 use Rattle.run_laws.proofs.world_reads.CleanerFiles.{adopted_moves, all_new}
 use Rattle.run_laws.proofs.world_reads.CleanerMoment.{Steps, agrees, its_line, its_moment, its_scene, its_setting, owns, sure_at, upto_before}
-use Rattle.run_laws.proofs.world_reads.CleanerReopening.{ReopensBelow, calm, came, one}
+use Rattle.run_laws.proofs.world_reads.CleanerReopening.{calm, came, one}
 use Rattle.run_laws.proofs.world_reads.CleanerSaying.{adopted_says, filed_says, says_once}
 use Rattle.run_laws.specs.world_reads.Joint.{IsSureUpto, Joint}
 use Rattle.xfs_base.specs.declared.node.NodeId.TheVariants.{Cleaner}
 use Rattle.xfs_base.specs.declared.segment.SegName.{SegName}
+use Rattle.run_laws.specs.world_reads.Below.{Below}
 
 in_right : {X : Type 0} (xs ys : List X) (x : X) → In x ys → In x (xs ++ ys)
 in_right [] ys x fact = fact
 in_right (y ∷ xs) ys x fact = inr (in_right xs ys x fact)
 
--- the laws of the crates below
-pub record FilesBelow : Type 0 where
-  pub reopens : ReopensBelow
-  pub owed : CleanersFilesAreOwed
-  pub short : CleanerFilesShort
-  pub flights : CleanerFilesItsFlights
-  pub done : ActsAreDone
-  pub still : WhatIsFiledFlew
-  pub opened : OpeningsFileWhatFlew
-  pub only : ARestartFilesTheTail
-  pub lines : LinesGive
-  pub held : WhatIsHeldFlew
-
-module _ (below : FilesBelow) (base : Setting) (e : Estate AnyNode) (lines : HasLines base e) (texts : Texts base e lines) (part : ℕ)
+module _ (below : Below) (base : Setting) (e : Estate AnyNode) (lines : HasLines base e) (texts : Texts base e lines) (part : ℕ)
     (first : ℕ → ℕ → Segment) (count : ℕ) (joint : Joint base e lines texts part first count) (node : CleanerNode) (what : Do)
     (steps : Steps base e lines texts part first count node what) (sure : IsSureUpto base e lines texts part first (suc count)) where
   abbrev g : Setting
@@ -85,19 +72,19 @@ module _ (below : FilesBelow) (base : Setting) (e : Estate AnyNode) (lines : Has
 
   -- it is filed after the event
   acts_filed : AllSo (λ name. In name x.net.filed) outs
-  acts_filed = below.done x.net Cleaner outs
+  acts_filed = below.lines.acts_are_done x.net Cleaner outs
       (λ name fact. ((its_line base e lines texts part first).stands (suc count)).filed name
       (subst (In (ActsFiled name)) (sym steps.did) (in_right _ _ (ActsFiled name) fact)))
 
   short : AllSo (HasFlown w.net) outs → AllSo (λ name. has_next name.seq ≡ true) outs
-  short = below.short g w node what (owns base e lines texts part first count node steps.before).agrees
+  short = below.lines.cleaner_files_short g w node what (owns base e lines texts part first count node steps.before).agrees
       (owns base e lines texts part first count node steps.before).room
 
   -- what was filed of its log says of blocks
   filed_before : (name : SegName) → In name w.net.filed → SaysBlocks (texts.text name)
   filed_before =
       filed_says texts.text 9 w.net joint.idx.net.filed (joint.lined OfCleaner tt refl)
-      (below.lines texts.text 9 g w.net joint.idx.net.filed
+      (below.lines.lines_give texts.text 9 g w.net joint.idx.net.filed
       (sure_at base e lines texts part first count (upto_before base e lines texts part first count sure)) (joint.lined OfCleaner tt refl))
       joint.index_stands.texts_of (λ q some limit. joint.tells 9 q some limit)
 
@@ -112,7 +99,8 @@ module _ (below : FilesBelow) (base : Setting) (e : Estate AnyNode) (lines : Has
       → NewFor part texts.text joint.idx.net node.phase f (texts.text name))
       → FilesOwed (NewFor part texts.text joint.idx.net node.phase) texts.text 9 joint.idx.net.filed outs
   owed room says new =
-      below.owed part texts.text joint.idx.net node.phase g x.net joint.idx.net.filed outs (sure_at base e lines texts part first (suc count) sure)
+      below.lines.cleaners_files_are_owed part texts.text joint.idx.net node.phase g x.net joint.idx.net.filed outs (sure_at base e lines texts part first
+          (suc count) sure)
       (record { filed = acts_filed; short = room }) says
       (all_new (NewFor part texts.text joint.idx.net node.phase) texts.text 9 (joint.idx.net.filed.head 9) (λ name. In name x.net.filed) new joint.idx.net.filed
       outs (omega arith) acts_filed)
@@ -133,7 +121,7 @@ module _ (below : FilesBelow) (base : Setting) (e : Estate AnyNode) (lines : Has
     flight_text f fact =
         texts.flown OfCleaner tt count f.segment
         (subst (λ o. IfSome o (λ (y : FlightState). In y.segment w.net.flown)) fact
-        (subst (OwnerFlew w.net.flown) its_owner (below.held g w.net (its_moment base e lines texts part first count))))
+        (subst (OwnerFlew w.net.flown) its_owner (below.logs.what_is_held_flew g w.net (its_moment base e lines texts part first count))))
 
     named_says : (name : SegName) → IsFlight v.log name → SaysBlocks (texts.text name)
     named_says name f =
@@ -144,7 +132,7 @@ module _ (below : FilesBelow) (base : Setting) (e : Estate AnyNode) (lines : Has
     pub serving_files : part < 8 → EventGets part joint.idx.net node.phase what → AllByRecursion (EffectOwed part joint.idx.net) outs
         → FilesOwed (NewFor part texts.text joint.idx.net node.phase) texts.text 9 joint.idx.net.filed outs
     serving_files of_eight gets asks =
-        let flights = below.flights part texts.text g w joint.idx.net node what v of_eight
+        let flights = below.lines.cleaner_files_its_flights part texts.text g w joint.idx.net node what v of_eight
         (sure_at base e lines texts part first count (upto_before base e lines texts part first count sure))
         (owns base e lines texts part first count node steps.before).room flight_says (owns base e lines texts part first count node steps.before).agrees serves
         (agrees base e lines texts part first count joint node steps.before) gets asks in
@@ -155,7 +143,7 @@ module _ (below : FilesBelow) (base : Setting) (e : Estate AnyNode) (lines : Has
   flew_before : x.net.filed ≡ w.net.filed → AllSo (HasFlown w.net) outs
   flew_before same =
       all_then (λ name. In name x.net.filed) (HasFlown w.net)
-      (λ name filed. below.still g w.net x.net (its_moment base e lines texts part first count) same name filed) outs acts_filed
+      (λ name filed. below.lines.what_is_filed_flew g w.net x.net (its_moment base e lines texts part first count) same name filed) outs acts_filed
 
   pub still_files : x.net.filed ≡ w.net.filed → FilesOwed (NewFor part texts.text joint.idx.net node.phase) texts.text 9 joint.idx.net.filed outs
   still_files same =
@@ -171,11 +159,11 @@ module _ (below : FilesBelow) (base : Setting) (e : Estate AnyNode) (lines : Has
       (moved : (f : FlightState) → last_flight (its_moment base e lines texts part first count).run ≡ Some f
       → AllByRecursion (ItemMoves part joint.idx.net.sent) f.segment.items) where
     abbrev ends : EndsByOne g w x ((its_line base e lines texts part first).goes count) o
-        (came below.reopens base e lines texts part first count joint node what steps straight apart sure l o v opens serves).opened
-    ends = one below.reopens base e lines texts part first count joint node what steps straight apart sure l o v opens serves
+        (came below base e lines texts part first count joint node what steps straight apart sure l o v opens serves).opened
+    ends = one below base e lines texts part first count joint node what steps straight apart sure l o v opens serves
 
     calm_so : IsSureRun (On (its_moment base e lines texts part first count).run ends.happens)
-    calm_so = calm below.reopens base e lines texts part first count joint node what steps straight apart sure l o v opens serves
+    calm_so = calm below base e lines texts part first count joint node what steps straight apart sure l o v opens serves
 
     restarts : EndsRestart w.net x.net
     restarts = (ap is_writing ends.writes, ap is_serving ends.serves)
@@ -185,13 +173,14 @@ module _ (below : FilesBelow) (base : Setting) (e : Estate AnyNode) (lines : Has
         owed
         (short
         (all_then (λ name. In name x.net.filed) (HasFlown w.net)
-        (λ name filed. below.opened g w.net x.net
+        (λ name filed. below.lines.openings_file_what_flew g w.net x.net
         (its_moment base e lines texts part first count) ends.settling.chain ends.settling.log ends.writes ends.happens
         name filed) outs acts_filed))
         (all_then (λ name. In name x.net.filed) (λ name. SaysBlocks (texts.text name))
-        (adopted_says below.only texts.text g w.net x.net refl apart (its_moment base e lines texts part first count) ends.happens calm_so restarts
+        (adopted_says below.logs.a_restart_files_the_tail texts.text g w.net x.net refl apart (its_moment base e lines texts part first count) ends.happens
+            calm_so restarts
         (texts.flown OfCleaner tt (suc count)) flew_says filed_before) outs acts_filed)
         (λ f name filed beyond. subst (λ (p : cleaning.Phase). NewFor part texts.text joint.idx.net p f (texts.text name)) (sym opens)
-        (adopted_moves below.only texts.text part joint.idx.net.sent g w.net x.net refl apart
+        (adopted_moves below.logs.a_restart_files_the_tail texts.text part joint.idx.net.sent g w.net x.net refl apart
         (its_moment base e lines texts part first count) ends.happens calm_so
         restarts (texts.flown OfCleaner tt (suc count)) joint.idx.net.filed (joint.lined OfCleaner tt refl) moved name filed beyond))

@@ -10,15 +10,13 @@ use Rattle.cleaner_job.specs.Jobs.{hand_of}
 use Rattle.core_world.specs.declared.any_node.AnyNode.{AnyNode}
 use Rattle.core_world.specs.declared.any_node.AnyNode.TheVariants as any
 use Rattle.index_tie.specs.Takeovers.{of_log}
-use Rattle.log_law.specs.Held.{WhatIsListedFlew}
-use Rattle.log_law.specs.Written.{WhatFlewIsWritten}
 use Rattle.log_owner.specs.Promised.{epoch_of}
 use Rattle.log_owner.specs.Sending.{server_in}
 use Rattle.log_scan.specs.Transition.{least_horizon}
 use Rattle.log_tie.specs.Setting.{Setting}
 use Rattle.node_slots.specs.owner_index_tie.CleanerEvents.{EmptyingSeen, JobAgrees, PhaseAgrees, PollGets, ReadGets}
 use Rattle.run_laws.specs.place_law.Copies.{HasJob}
-use Rattle.run_laws.specs.place_law.Hands.{AnswerReads, HandsReadTexts}
+use Rattle.run_laws.specs.place_law.Hands.{AnswerReads}
 use Rattle.run_laws.specs.reading_law.Readings.{ReadingsCame, cuts_at}
 use Rattle.node_tellings.specs.reading_tie.Arrivals.{answered_in, cut_by}
 use Rattle.node_tellings.specs.reading_tie.CleanerMeets.{AnyJobMet, HandMet, JobMet, NodeMet, PhaseMet, listed_in}
@@ -39,7 +37,7 @@ use Rattle.wire_msg.specs.declared.packet.Packet.{Packet}
 use Rattle.world_base.specs.declared.estate.Estate.{Estate}
 use Rattle.run_laws.specs.world_index.Owes.{CleanerBodyOwed, CleanerDoOwed, CleanerPacketOwed}
 use Rattle.run_laws.specs.world_law.Owners.{moment, node_named}
-use Rattle.run_laws.specs.world_lines.Lines.{LineGives, LinesGive}
+use Rattle.run_laws.specs.world_lines.Lines.{LineGives}
 use Rattle.run_laws.specs.world_logs.Doings.{did}
 use Rattle.run_laws.specs.world_logs.Horizons.{Reached}
 use Rattle.run_laws.specs.world_logs.Lines.{HasLines, Texts}
@@ -51,15 +49,9 @@ use Rattle.run_laws.proofs.world_reads.KnownLogs.{filed_known}
 use Rattle.run_laws.specs.world_reads.Joint.{IsSureUpto, Joint, There}
 use Rattle.xfs_base.specs.declared.node.NodeId.{NodeId}
 use Rattle.xfs_base.specs.declared.node.NodeId.TheVariants.{Cleaner, Registry}
+use Rattle.run_laws.specs.world_reads.Below.{Below}
 
--- the laws of the crates below
-pub record GetsBelow : Type 0 where
-  pub lines : LinesGive
-  pub written : WhatFlewIsWritten
-  pub flew : WhatIsListedFlew
-  pub hands : HandsReadTexts
-
-module _ (below : GetsBelow) (base : Setting) (e : Estate AnyNode) (lines : HasLines base e) (texts : Texts base e lines) (part : ℕ)
+module _ (below : Below) (base : Setting) (e : Estate AnyNode) (lines : HasLines base e) (texts : Texts base e lines) (part : ℕ)
     (first : ℕ → ℕ → Segment) (count : ℕ) (joint : Joint base e lines texts part first count) (node : CleanerNode)
     (here : IsHere base e lines texts part first count node) where
   abbrev sent : List Packet
@@ -78,7 +70,8 @@ module _ (below : GetsBelow) (base : Setting) (e : Estate AnyNode) (lines : HasL
 
   module _ (sure : IsSureUpto base e lines texts part first count) (low : PollsAreLow) where
     gives : LineGives 9 (its_scene base e lines texts part first count).net joint.idx.net.filed
-    gives = below.lines texts.text 9 (its_setting base e lines texts part first) (its_scene base e lines texts part first count).net joint.idx.net.filed
+    gives = below.lines.lines_give texts.text 9 (its_setting base e lines texts part first) (its_scene base e lines texts part first count).net
+        joint.idx.net.filed
         (sure_at base e lines texts part first count sure) (joint.lined OfCleaner tt refl)
 
     low_is : (its_scene base e lines texts part first count).net.low ≡ least_horizon 9 (all_news joint.idx.registry.board)
@@ -118,14 +111,15 @@ module _ (below : GetsBelow) (base : Setting) (e : Estate AnyNode) (lines : HasL
     reads job has p among own =
         let its = its_about job has in
         let phase : joint.idx.net.job.phase ≡ job.cleaning.phase = ap (λ (s : CleaningState). s.phase) (has_job job has) in
-        below.hands part texts.text sent (cuts_at e.world) joint.idx.net v p
+        below.reads.hands_read_texts part texts.text sent (cuts_at e.world) joint.idx.net v p
         (filed_known base e lines texts part first count joint)
         (record {
           job = has_job;
           came = its_reading;
-          within = reads_within base e lines texts part first count below.flew ours below.written joint reached node here v serves job has
+          within = reads_within base e lines texts part first count below.logs.what_is_listed_flew ours below.logs.what_flew_is_written joint reached node
+              here v serves job has
               joint.idx.net.job.phase phase (subst (PhaseMet (listed_in sent Cleaner)) (sym phase) its.about);
-          refers = refers base e lines texts part first count below.flew ours (hand_of v.job)
+          refers = refers base e lines texts part first count below.logs.what_is_listed_flew ours (hand_of v.job)
               (subst (HandMet (listed_in sent Cleaner)) (sym (ap hand_of has)) its.hand);
         })
         among own

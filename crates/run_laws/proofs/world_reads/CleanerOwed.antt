@@ -16,7 +16,6 @@ use Rattle.core_world.specs.declared.any_node.AnyNode.{AnyNode}
 use Rattle.core_world.specs.declared.any_node.AnyNode.TheVariants as any
 use Rattle.index_tie.proofs.Tables.{second_of}
 use Rattle.log_flight.specs.Flights.{FlightState}
-use Rattle.log_law.specs.Openings.{NothingFiledOpening}
 use Rattle.log_law.specs.Restarts.{is_serving, is_writing}
 use Rattle.log_owner.specs.declared.opening.Opening as openings
 use Rattle.log_owner.specs.declared.opening.Stage as stages
@@ -24,7 +23,7 @@ use Rattle.log_owner.specs.declared.opening.Stage.TheVariants as stage
 use Rattle.log_tie.specs.Setting.{Setting}
 use Rattle.node_base.specs.declared.effects.Effect.{Effect}
 use Rattle.node_base.specs.Room.{has_room}
-use Rattle.node_slots.specs.node_tie.CleanerEvents.{CleanerGoes, CleanerTakes}
+use Rattle.node_slots.specs.node_tie.CleanerEvents.{CleanerGoes}
 use Rattle.node_slots.specs.node_tie.CleanerEvents as token
 use Rattle.node_slots.specs.owner_index_tie.CleanerEvents.{EffectOwed, EventGets, NewFor, ReopensOn}
 use Rattle.node_slots.specs.owner_index_tie.CleanerMoves.{ItemMoves}
@@ -44,12 +43,11 @@ use Rattle.run_laws.specs.world_index.Standing.{SentBy}
 use Rattle.run_laws.proofs.world_law.Gets as token_gets
 use Rattle.run_laws.specs.world_law.Standing as tokens
 use Rattle.run_laws.specs.world_law.Owners.{moment, node_named}
-use Rattle.run_laws.specs.world_lines.Flights.{CleanerWritesTexts}
 use Rattle.run_laws.specs.world_logs.Lines.{HasLines, Texts, cluster}
 use Rattle.run_laws.specs.world_logs.Roles.Role.{OfCleaner}
 use Rattle.run_laws.proofs.world_reads.AfterOwners.{never_files}
-use Rattle.run_laws.proofs.world_reads.CleanerAsking.{AsksBelow, asks}
-use Rattle.run_laws.proofs.world_reads.CleanerFiling.{FilesBelow, restart_files, serving_files, still_files}
+use Rattle.run_laws.proofs.world_reads.CleanerAsking.{asks}
+use Rattle.run_laws.proofs.world_reads.CleanerFiling.{restart_files, serving_files, still_files}
 use Rattle.run_laws.proofs.world_reads.CleanerGets.{AreReached, PollsAreLow, cleaner_gets}
 use Rattle.run_laws.proofs.world_reads.CleanerMoment as sight
 use Rattle.run_laws.proofs.world_reads.CleanerMoment.{IsHere, Steps, agrees, in_tokens, its_line, its_moment, its_scene, its_setting, owns, upto_before}
@@ -62,6 +60,7 @@ use Rattle.xfs_base.proofs.Booleans.{and_first, and_second, contrary}
 use Rattle.xfs_base.specs.declared.node.NodeId.TheVariants.{Cleaner}
 use Rattle.xfs_base.specs.Limits.{counter_room, u32_end}
 use Rattle.xfs_base.specs.Steps.{still}
+use Rattle.run_laws.specs.world_reads.Below.{Below}
 
 -- ---- counters
 
@@ -79,15 +78,7 @@ room_below (Serving v) h = lasting_below v.lasting (and_first (lasting_room v.la
 
 -- ---- the event
 
--- the laws of the crates below
-pub record OwedBelow : Type 0 where
-  pub files : FilesBelow
-  pub asks : AsksBelow
-  pub writes : CleanerWritesTexts
-  pub unfiled : NothingFiledOpening
-  pub takes : CleanerTakes
-
-module _ (law : OwedBelow) (base : Setting) (e : Estate AnyNode) (lines : HasLines base e) (texts : Texts base e lines) (part : ℕ)
+module _ (law : Below) (base : Setting) (e : Estate AnyNode) (lines : HasLines base e) (texts : Texts base e lines) (part : ℕ)
     (first : ℕ → ℕ → Segment) (count : ℕ) (joint : Joint base e lines texts part first count) (node : CleanerNode) (what : Do) where
   -- What stands beside the event: the cleaner takes it; what comes to it was sent to it; and what the laws of one run say of its log, of horizons, of Polls, of
   -- readers and of lists.
@@ -101,8 +92,8 @@ module _ (law : OwedBelow) (base : Setting) (e : Estate AnyNode) (lines : HasLin
     pub named : node_named (moment e count) Cleaner ≡ Some (any.Cleaner node)
     pub came : ReadingsCame e.world (moment e count)
     pub ours : ListsOurs base e lines texts part first count
-    pub reached : AreReached law.asks.gets base e lines texts part first count joint node steps.before
-    pub low : PollsAreLow law.asks.gets base e lines texts part first count joint node steps.before
+    pub reached : AreReached law base e lines texts part first count joint node steps.before
+    pub low : PollsAreLow law base e lines texts part first count joint node steps.before
     -- what it had in flight when it served last is moved; and the index knows of no later promise than tokens
     pub moved : (f : FlightState) → flew_at base e lines texts part first OfCleaner tt count ≡ Some f
         → AllByRecursion (ItemMoves part joint.idx.net.sent) f.segment.items
@@ -152,7 +143,8 @@ module _ (law : OwedBelow) (base : Setting) (e : Estate AnyNode) (lines : HasLin
     -- where it serves no more nothing is filed
     away_then : (r : cleaning.Phase) → q ≡ r → is_serving x.net.owner ≡ false → x.net.filed ≡ w.net.filed
     away_then r fact away =
-        never_files law.unfiled g w.net x.net (its_moment base e lines texts part first count) ((its_line base e lines texts part first).goes count)
+        never_files law.logs.nothing_filed_opening g w.net x.net (its_moment base e lines texts part first count) ((its_line base e lines texts part
+            first).goes count)
         (beside.straight.never away)
 
     still_down : (l : Lasting) → q ≡ Down l → x.net.filed ≡ w.net.filed
@@ -173,11 +165,11 @@ module _ (law : OwedBelow) (base : Setting) (e : Estate AnyNode) (lines : HasLin
     -- ---- what it asks and gets
 
     asked : AllByRecursion (EffectOwed part joint.idx.net) outs
-    asked = asks law.asks base e lines texts part first count joint node before beside.of_eight beside.ours beside.reached beside.came beside.named what
+    asked = asks law base e lines texts part first count joint node before beside.of_eight beside.ours beside.reached beside.came beside.named what
         beside.brought
 
     gets_so : CleanerDoOwed part texts.text joint.idx.net p what
-    gets_so = cleaner_gets law.asks.gets base e lines texts part first count joint node before
+    gets_so = cleaner_gets law base e lines texts part first count joint node before
         (upto_before base e lines texts part first count beside.sure) beside.low beside.ours
         beside.reached beside.came beside.named what beside.brought
 
@@ -204,16 +196,16 @@ module _ (law : OwedBelow) (base : Setting) (e : Estate AnyNode) (lines : HasLin
     serving_so : (v : Emptying) → p ≡ Serving v → FilesOwed (NewFor part texts.text joint.idx.net p) texts.text 9 joint.idx.net.filed outs
     serving_so v fact =
         nothing (phase_room p) refl
-        (λ room. serving_files law.files base e lines texts part first count joint node what beside.steps beside.sure v fact beside.of_eight
+        (λ room. serving_files law base e lines texts part first count joint node what beside.steps beside.sure v fact beside.of_eight
         (event_gets (room_below p room)) asked)
 
     still_so : x.net.filed ≡ w.net.filed → FilesOwed (NewFor part texts.text joint.idx.net p) texts.text 9 joint.idx.net.filed outs
-    still_so same = still_files law.files base e lines texts part first count joint node what beside.steps beside.sure same
+    still_so same = still_files law base e lines texts part first count joint node what beside.steps beside.sure same
 
     restart_so : (l : Lasting) (o : openings.Opening) (v : Emptying) → p ≡ Opening l o → q ≡ Serving v
         → FilesOwed (NewFor part texts.text joint.idx.net p) texts.text 9 joint.idx.net.filed outs
     restart_so l o v opens serves =
-        restart_files law.files base e lines texts part first count joint node what beside.steps beside.sure beside.straight beside.apart l o v opens
+        restart_files law base e lines texts part first count joint node what beside.steps beside.sure beside.straight beside.apart l o v opens
         serves beside.moved
 
     files_so : (r : cleaning.Phase) → p ≡ r → (s : cleaning.Phase) → q ≡ s
@@ -232,7 +224,8 @@ module _ (law : OwedBelow) (base : Setting) (e : Estate AnyNode) (lines : HasLin
     token_goes : CleanerGoes part joint.tok.net.promised (tokens.epoch_now (cluster base e) part joint.tok) p q outs
     token_goes =
         let st = joint.tokens_stand in
-        let goes = law.takes false (tokens.members (cluster base e) part) part joint.tok.net.promised (tokens.epoch_now (cluster base e) part joint.tok)
+        let goes = law.tokens.nodes.cleaner false (tokens.members (cluster base e) part) part joint.tok.net.promised (tokens.epoch_now (cluster base e) part
+            joint.tok)
         joint.tok.net beside.of_eight st.cleaner.0 tt false joint.tok.cleaner what st.cleaner.1 (owed what refl) tt tt in
         subst (λ (c : CleanerNode). CleanerGoes part joint.tok.net.promised (tokens.epoch_now (cluster base e) part joint.tok) c.phase
         (takes c.peers c.phase what).state (takes c.peers c.phase what).outs)
@@ -252,7 +245,7 @@ module _ (law : OwedBelow) (base : Setting) (e : Estate AnyNode) (lines : HasLin
 
     reopens_so : (r : cleaning.Phase) → p ≡ r → (s : cleaning.Phase) → q ≡ s → ReopensOn part texts.text joint.idx.net p q
     reopens_so (Opening l o) fact (Serving v) then_is =
-        reopens_on law.files.reopens base e lines texts part first count joint node what beside.steps beside.straight beside.apart beside.sure
+        reopens_on law base e lines texts part first count joint node what beside.steps beside.straight beside.apart beside.sure
         l o v fact then_is (tokens.epoch_now (cluster base e) part joint.tok) token_goes
         beside.promised
     reopens_so (Opening l o) fact (Down m) then_is = at_both (Opening l o) (Down m) fact then_is tt
@@ -268,7 +261,7 @@ module _ (law : OwedBelow) (base : Setting) (e : Estate AnyNode) (lines : HasLin
       asks = asked;
       reopens = reopens_so p refl q refl;
       gets = gets_so;
-      writes = writes_texts law.writes base e lines texts part first count node what beside.steps joint.idx.net;
+      writes = writes_texts law.lines.cleaner_writes_texts base e lines texts part first count node what beside.steps joint.idx.net;
     }
 
     -- what its event is owed

@@ -21,7 +21,6 @@ use Rattle.log_law.specs.Laws.{Moment}
 use Rattle.log_law.specs.Net.Owner.{Writing}
 use Rattle.log_law.specs.Restarts.{IsSureRun, last_flight}
 use Rattle.log_law.specs.Tails.{then_on}
-use Rattle.log_law.specs.Written.{WhatFlewIsWritten}
 use Rattle.log_owner.specs.declared.opening.Opening as openings
 use Rattle.log_owner.specs.Opened.{names_in}
 use Rattle.log_owner.specs.Promised.{epoch_of}
@@ -31,8 +30,8 @@ use Rattle.node_slots.specs.node_tie.CleanerEvents.{CleanerGoes, CleanerStands, 
 use Rattle.node_slots.specs.node_tie.CleanerLogs.{ReopensAt}
 use Rattle.node_slots.specs.owner_index_tie.CleanerEvents.{ReopensOn}
 use Rattle.node_slots.specs.owner_index_tie.Owners.{EndOwed, ReadBack}
-use Rattle.run_laws.specs.reopening_law.Openings.{EndsByOne, EndsSo, OpeningsEndByOne, comes_to}
-use Rattle.run_laws.specs.reopening_law.Reopens.{AreTextsThere, BooksThen, FiledOf, Reopens, ReopeningsReadBack, TellsApart, TheCleanerReopensSo, has_flight}
+use Rattle.run_laws.specs.reopening_law.Openings.{EndsByOne, EndsSo, comes_to}
+use Rattle.run_laws.specs.reopening_law.Reopens.{AreTextsThere, BooksThen, FiledOf, Reopens, TellsApart, has_flight}
 use Rattle.segment_format.specs.declared.segment.Segment.{Segment}
 use Rattle.segment_format.specs.declared.segment.Item.{Item}
 use Rattle.segment_format.specs.declared.segment.Item.TheVariants.{Block, Delta, Part}
@@ -48,6 +47,7 @@ use Rattle.run_laws.specs.world_logs.Roles.Role.{OfCleaner}
 use Rattle.run_laws.proofs.world_reads.CleanerMoment.{Steps, its_line, its_moment, its_scene, its_setting, owns}
 use Rattle.run_laws.proofs.world_reads.CleanerReopens.{ComesBack, comes_back}
 use Rattle.run_laws.specs.world_reads.Joint.{IsSureUpto, Joint}
+use Rattle.run_laws.specs.world_reads.Below.{Below}
 
 -- what a segment that has a text says of blocks fits its types
 items_fit : (s : Segment) (items : List Item) → AllByRecursion FitsItem items → RowsFit (filter_map (row_of s) items)
@@ -59,14 +59,7 @@ items_fit s (Part slot rows ∷ items) all = items_fit s items all.1
 rows_fit : (s : Segment) → Fits s → RowsFit (rows_of s)
 rows_fit s fits = items_fit s s.items fits.items
 
--- the laws of the crates below
-pub record ReopensBelow : Type 0 where
-  pub ends : OpeningsEndByOne
-  pub back : ReopeningsReadBack
-  pub so : TheCleanerReopensSo
-  pub written : WhatFlewIsWritten
-
-module _ (below : ReopensBelow) (base : Setting) (e : Estate AnyNode) (lines : HasLines base e) (texts : Texts base e lines) (part : ℕ)
+module _ (below : Below) (base : Setting) (e : Estate AnyNode) (lines : HasLines base e) (texts : Texts base e lines) (part : ℕ)
     (first : ℕ → ℕ → Segment) (count : ℕ) (joint : Joint base e lines texts part first count) (node : CleanerNode) (what : Do)
     (steps : Steps base e lines texts part first count node what) (straight : ServesStraight ((its_line base e lines texts part first).goes count))
     (apart : TellsApart (its_setting base e lines texts part first)) (sure : IsSureUpto base e lines texts part first (suc count))
@@ -96,8 +89,8 @@ module _ (below : ReopensBelow) (base : Setting) (e : Estate AnyNode) (lines : H
   after = subst (cleaner_log.CleanerAgrees g x) serves (owns base e lines texts part first (suc count) _ steps.after).agrees
 
   ends_so : (d : Do) → EndsSo g cleaner_log.its_number o (comes_to o l.questions d)
-  ends_so (Deliver p) = (below.ends g cleaner_log.its_number o l.questions).0 p
-  ends_so Tick = (below.ends g cleaner_log.its_number o l.questions).1
+  ends_so (Deliver p) = (below.logs.openings_end_by_one g cleaner_log.its_number o l.questions).0 p
+  ends_so Tick = (below.logs.openings_end_by_one g cleaner_log.its_number o l.questions).1
   ends_so Begin = tt
 
   pub one : EndsByOne g w x runs o came.opened
@@ -131,12 +124,13 @@ module _ (below : ReopensBelow) (base : Setting) (e : Estate AnyNode) (lines : H
   there : AreTextsThere texts.text w.net
   there = record {
     texts_are = texts.flown OfCleaner tt count;
-    fit = λ t fact. rows_fit t (below.written g w.net at t fact).written.fits;
+    fit = λ t fact. rows_fit t (below.logs.what_flew_is_written g w.net at t fact).written.fits;
   }
 
   read_back : ReadBack texts.text 9 joint.idx.net.filed one.settling.low one.settling.log.end.seq one.settling.chain
   read_back =
-      below.back g w.net x.net one.settling.chain one.settling.log came.opened.log reopens texts.text 9 joint.idx.net.filed one.settling.low there filed_of
+      below.logs.reopenings_read_back g w.net x.net one.settling.chain one.settling.log came.opened.log reopens texts.text 9 joint.idx.net.filed
+          one.settling.low there filed_of
       one.reads
 
   -- what was read back is what was filed and adopted
@@ -156,7 +150,8 @@ module _ (below : ReopensBelow) (base : Setting) (e : Estate AnyNode) (lines : H
   }
 
   pub reopens_at : ReopensAt joint.tok.net.books (has_flight reopens) came.opened
-  reopens_at = below.so g w.net x.net one.settling.chain one.settling.log came.opened.log reopens joint.tok.net.books joint.idx.net.filed books_then
+  reopens_at = below.logs.the_cleaner_reopens_so g w.net x.net one.settling.chain one.settling.log came.opened.log reopens joint.tok.net.books
+      joint.idx.net.filed books_then
       came.opened one.opened
 
   -- with what was in flight just where the chain that was read back has that

@@ -22,7 +22,7 @@ use Rattle.node_base.specs.Shape.{is_well_formed}
 use Rattle.node_slots.specs.node_index_tie.Sight.{held_in}
 use Rattle.node_slots.proofs.node_tie.SmallWorld.{with_promise}
 use Rattle.node_slots.specs.node_tie.CleanerLogs.{LiveTold, ReopensAt}
-use Rattle.run_laws.specs.place_law.Copies.{AreExact, AsksOfHand, HasJob, LivesAnswer, LivesTellCopies}
+use Rattle.run_laws.specs.place_law.Copies.{AreExact, AsksOfHand, HasJob, LivesAnswer}
 use Rattle.run_laws.specs.index_reads.Ties.{Tied}
 use Rattle.run_laws.specs.reopening_law.Openings.{comes_to}
 use Rattle.run_laws.specs.reopening_law.Reopens.{TellsApart}
@@ -38,10 +38,11 @@ use Rattle.run_laws.specs.world_law.Standing as owners
 use Rattle.run_laws.specs.world_law.Owners.{moment}
 use Rattle.run_laws.specs.world_logs.Lines.{HasLines, Texts, cluster}
 use Rattle.run_laws.proofs.world_reads.CleanerMoment.{Steps, its_line, its_setting}
-use Rattle.run_laws.proofs.world_reads.CleanerReopening.{ReopensBelow, came, reopens_at}
+use Rattle.run_laws.proofs.world_reads.CleanerReopening.{came, reopens_at}
 use Rattle.run_laws.proofs.world_reads.Tying.{slot_tied}
 use Rattle.run_laws.specs.world_reads.Joint.{IsSureUpto, Joint}
 use Rattle.xfs_base.specs.Steps.{still}
+use Rattle.run_laws.specs.world_reads.Below.{Below}
 
 -- ---- the node
 
@@ -77,7 +78,7 @@ module _ (l : Lasting) (o : openings.Opening) (peers : Peers) (r : Opened) where
 
 -- ---- beside one run
 
-module _ (below : ReopensBelow) (copies : LivesTellCopies) (base : Setting) (e : Estate AnyNode) (lines : HasLines base e) (texts : Texts base e lines)
+module _ (below : Below) (base : Setting) (e : Estate AnyNode) (lines : HasLines base e) (texts : Texts base e lines)
     (part : ℕ) (first : ℕ → ℕ → Segment) (count : ℕ) (joint : Joint base e lines texts part first count) (node : CleanerNode) (what : Do) where
   abbrev sent : List Packet
   sent = (moment e count).sent
@@ -108,5 +109,6 @@ module _ (below : ReopensBelow) (copies : LivesTellCopies) (base : Setting) (e :
 
     pub live_told : (p : Packet) (m : Live) → In p sent → p.body ≡ body.Live m → LiveTold joint.tok.net.books v m
     live_told p m among fact =
-        copies (owners.members (cluster base e) part) part (held_in part texts.text) (with_promise 1 joint.tok.net) joint.idx.net sent v p m tied exact has
+        below.reads.lives_tell_copies (owners.members (cluster base e) part) part (held_in part texts.text) (with_promise 1 joint.tok.net) joint.idx.net
+            sent v p m tied exact has
         answers asks among fact (subst (entries.BodyTold (entries.told_by_rows (rows_at joint.idx.net.filed))) fact (joint.entries.packets p among))

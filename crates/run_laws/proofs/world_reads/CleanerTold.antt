@@ -23,8 +23,6 @@ use Rattle.log_tie.specs.Setting.{Setting}
 use Rattle.node_base.specs.Setups.{IsSetup}
 use Rattle.node_slots.specs.node_tie.CleanerEvents as token
 use Rattle.node_slots.specs.node_tie.CleanerLogs.{CleanerTold, EndsAt, PacketTold, ReopensAt, ServingTold}
-use Rattle.run_laws.specs.place_law.Answers.{RunsAnswer}
-use Rattle.run_laws.specs.place_law.Copies.{LivesTellCopies}
 use Rattle.run_laws.specs.reopening_law.Openings.{comes_to}
 use Rattle.run_laws.specs.reopening_law.Reopens.{has_flight}
 use Rattle.segment_format.specs.declared.segment.Segment.{Segment}
@@ -36,30 +34,23 @@ use Rattle.wire_msg.specs.declared.packet.Do.TheVariants.{Begin, Deliver, Tick}
 use Rattle.wire_msg.specs.declared.packet.Packet.{Packet}
 use Rattle.world_base.specs.declared.estate.Estate.{Estate}
 use Rattle.world_base.specs.Runs.{IsRun}
-use Rattle.run_laws.proofs.world_law.Laws as laws
 use Rattle.run_laws.specs.world_law.Owes.{TurnOwes}
 use Rattle.run_laws.specs.world_logs.Lines.{HasLines, Texts}
 use Rattle.run_laws.proofs.world_reads.CleanerGets.{has_job}
 use Rattle.run_laws.proofs.world_reads.CleanerHand.{asks_of_hand}
 use Rattle.run_laws.proofs.world_reads.CleanerMoment.{its_moment, its_scene}
 use Rattle.run_laws.proofs.world_reads.CleanerNames.{all_exact}
-use Rattle.run_laws.proofs.world_reads.CleanerOwed.{Beside, OwedBelow}
+use Rattle.run_laws.proofs.world_reads.CleanerOwed.{Beside}
 use Rattle.run_laws.proofs.world_reads.CleanerReopening.{adopts, came, reopens, reopens_at}
 use Rattle.run_laws.proofs.world_reads.CleanerTelling.{IsTaken, live_told, serves_then}
 use Rattle.run_laws.specs.world_reads.Joint.{Joint}
 use Rattle.xfs_base.specs.declared.node.NodeId.TheVariants.{Cleaner}
+use Rattle.run_laws.specs.world_reads.Below.{Below}
 
--- the laws of the crates below
-pub record ToldBelow : Type 0 where
-  pub owed : OwedBelow
-  pub copies : LivesTellCopies
-  pub answers : RunsAnswer
-  pub tokens : laws.NodeLaws
-
-module _ (law : ToldBelow) (base : Setting) (e : Estate AnyNode) (ok : IsSetup e.script.setup) (run : IsRun any_step any_start e.script e.events e.world)
+module _ (law : Below) (base : Setting) (e : Estate AnyNode) (ok : IsSetup e.script.setup) (run : IsRun any_step any_start e.script e.events e.world)
     (lines : HasLines base e) (texts : Texts base e lines) (part : ℕ) (first : ℕ → ℕ → Segment) (count : ℕ)
     (joint : Joint base e lines texts part first count) (node : CleanerNode) (what : Do)
-    (beside : Beside law.owed base e lines texts part first count joint node what) where
+    (beside : Beside law base e lines texts part first count joint node what) where
   abbrev p : cleaning.Phase
   p = node.phase
 
@@ -71,7 +62,7 @@ module _ (law : ToldBelow) (base : Setting) (e : Estate AnyNode) (ok : IsSetup e
   -- whether it adopts what was in flight; where it doesn't end nothing is said
   adopted_by : (r : cleaning.Phase) → p ≡ r → (s : cleaning.Phase) → q ≡ s → Bool
   adopted_by (Opening l o) fact (Serving v) then_is =
-      has_flight (reopens law.owed.files.reopens base e lines texts part first count joint node what beside.steps beside.straight beside.apart beside.sure
+      has_flight (reopens law base e lines texts part first count joint node what beside.steps beside.straight beside.apart beside.sure
       l o v fact then_is)
   adopted_by (Opening l o) fact (Down m) then_is = false
   adopted_by (Opening l o) fact (Opening m z) then_is = false
@@ -91,7 +82,7 @@ module _ (law : ToldBelow) (base : Setting) (e : Estate AnyNode) (ok : IsSetup e
       by : (r : cleaning.Phase) (fact : p ≡ r) (t : cleaning.Phase) (then_is : q ≡ t) → r ≡ Opening l o → t ≡ Serving v
           → adopted_by r fact t then_is ≡ holds_flight (names_in chain) (flight_of (last_flight (its_moment base e lines texts part first count).run))
       by (Opening a z) fact (Serving u) then_is opens serves =
-          adopts law.owed.files.reopens base e lines texts part first count joint node what beside.steps beside.straight beside.apart beside.sure a z u fact
+          adopts law base e lines texts part first count joint node what beside.steps beside.straight beside.apart beside.sure a z u fact
           then_is chain s writes
       by (Opening a z) fact (Down m) then_is opens serves = absurd (cc)
       by (Opening a z) fact (Opening m y) then_is opens serves = absurd (cc)
@@ -125,10 +116,10 @@ module _ (law : ToldBelow) (base : Setting) (e : Estate AnyNode) (ok : IsSetup e
     ends_so l o fact s then_is (progress.Opening z) comes = tt
     ends_so l o fact s then_is (progress.Lost seg) comes = tt
     ends_so l o fact (Serving v) then_is (progress.Opened r) comes =
-        let c = came law.owed.files.reopens base e lines texts part first count joint node what beside.steps beside.straight beside.apart beside.sure
+        let c = came law base e lines texts part first count joint node what beside.steps beside.straight beside.apart beside.sure
         l o v fact then_is in
         subst (ReopensAt joint.tok.net.books (adopted_by (Opening l o) fact (Serving v) then_is)) (one_opened c.opened r (sym c.comes ∙ comes))
-        (reopens_at law.owed.files.reopens base e lines texts part first count joint node what beside.steps beside.straight beside.apart beside.sure
+        (reopens_at law base e lines texts part first count joint node what beside.steps beside.straight beside.apart beside.sure
         l o v fact then_is)
     ends_so l o fact (Down m) then_is (progress.Opened r) comes =
         (let u = up_then l o r fact comes in absurd (down_is m u.0 (sym then_is ∙ u.1)))
@@ -139,11 +130,11 @@ module _ (law : ToldBelow) (base : Setting) (e : Estate AnyNode) (ok : IsSetup e
 
     serving_told : (v : Emptying) → p ≡ Serving v → (k : Packet) → what ≡ Deliver k → (m : Body) → k.body ≡ m → ServingTold joint.tok.net.books v m
     serving_told v fact k brings (body.Live m) bears =
-        live_told law.owed.files.reopens law.copies base e lines texts part first count joint node what beside.of_eight
-        (all_exact joint.idx.net.filed joint.tells) (law.answers e count ok run) v
-        (has_job law.owed.asks.gets base e lines texts part first count joint node
+        live_told law base e lines texts part first count joint node what beside.of_eight
+        (all_exact joint.idx.net.filed joint.tells) (law.reads.runs_answer e count ok run) v
+        (has_job law base e lines texts part first count joint node
         beside.steps.before beside.ours beside.reached beside.came beside.named v fact)
-        (asks_of_hand law.tokens e ok run count node beside.steps.before v fact taken.room) k m (beside.brought k brings).0 bears
+        (asks_of_hand law.tokens.nodes e ok run count node beside.steps.before v fact taken.room) k m (beside.brought k brings).0 bears
     serving_told v fact k brings _ bears = tt
 
     -- ---- the event

@@ -54,12 +54,13 @@ use Rattle.run_laws.specs.world_logs.Lines.{HasLines, Texts}
 use Rattle.run_laws.specs.world_logs.Roles.Role.{OfClient}
 use Rattle.run_laws.specs.world_logs.Standing.{OwnerSeen}
 use Rattle.run_laws.proofs.world_reads.ClientLog as log
-use Rattle.run_laws.proofs.world_reads.ClientLog.{ClientEvent, ClientLaws}
+use Rattle.run_laws.proofs.world_reads.ClientLog.{ClientEvent}
 use Rattle.run_laws.proofs.world_reads.Stepping.{comes, served_last}
 use Rattle.run_laws.specs.world_reads.Joint.{There, k}
 use Rattle.xfs_base.proofs.Booleans.{by_test}
 use Rattle.xfs_base.specs.declared.segment.SegName.{SegName}
 use Rattle.xfs_base.specs.Logs.{cleaners_number}
+use Rattle.run_laws.specs.world_reads.Below.{Below}
 
 -- ---- what is new, in what is filed on the way
 
@@ -108,7 +109,7 @@ module _ (nothing : NothingIsNewer) (part : ℕ) (texts : Named) (l : ℕ) (f : 
 -- ---- an event of a client
 
 module _ (base : Setting) (e : Estate AnyNode) (lines : HasLines base e) (texts : Texts base e lines) (part : ℕ) (first : ℕ → ℕ → Segment) (count c : ℕ)
-    (there : There base e lines texts part first (OfClient c)) (laws : ClientLaws) (event : Event) (node : ClientNode)
+    (there : There base e lines texts part first (OfClient c)) (laws : Below) (event : Event) (node : ClientNode)
     (x : ClientEvent base e lines texts part first count c there event node) where
   abbrev g : Setting
   g = log.g base e lines texts part first count c there
@@ -191,7 +192,8 @@ module _ (base : Setting) (e : Estate AnyNode) (lines : HasLines base e) (texts 
       → IsNewerAtSlot part filed t
   flight_news flight fact t flown same =
       let z = log.original base e lines texts part first count c there laws event node x t flown in
-      laws.news (index.members (k base e lines texts part first)) part (held_in part texts.text) (with_promise 1 x.joint.tok.net) i.net c t tied
+      laws.index.flights_are_news (index.members (k base e lines texts part first)) part (held_in part texts.text) (with_promise 1 x.joint.tok.net) i.net c
+          t tied
       (record { some = there.0; within = member })
       (record {
         rows = (flight_next flight fact).1 ∙ ap rows_told (sym same);
@@ -211,7 +213,7 @@ module _ (base : Setting) (e : Estate AnyNode) (lines : HasLines base e) (texts 
   flight_says : (s : ServingClient) → node.phase ≡ clients.Serving s → FlightSays s.log
   flight_says s fact =
       by s.log.flight
-      (subst (OwnerFlew w.net.flown) (subst (client_log.ClientAgrees g c w) fact sees.agrees).1.owner (laws.held g w.net at))
+      (subst (OwnerFlew w.net.flown) (subst (client_log.ClientAgrees g c w) fact sees.agrees).1.owner (laws.logs.what_is_held_flew g w.net at))
     where
       by : (o : Option FlightState) → IfSome o (λ f. In f.segment w.net.flown) → IfSome o (λ f. SaysBlocks f.segment)
       by None flown = tt
@@ -219,11 +221,11 @@ module _ (base : Setting) (e : Estate AnyNode) (lines : HasLines base e) (texts 
 
   named_says : (name : SegName) → In name v.net.filed → SaysBlocks (texts.text name)
   named_says name filed =
-      let t = (laws.whole g v.net (log.then base e lines texts part first count c there laws event node x)).flown name filed in
+      let t = (laws.logs.logs_stay_whole g v.net (log.then base e lines texts part first count c there laws event node x)).flown name filed in
       subst SaysBlocks (sym (ap texts.text (sym t.2) ∙ texts.flown (OfClient c) there (suc count) t.0 t.1)) (says_so t.0 t.1)
 
   abbrev Known : SegName → Type 0
-  Known name = IsKnown laws.nothing part texts.text c filed name
+  Known name = IsKnown laws.index.nothing_is_news part texts.text c filed name
 
   text_is : (t : Segment) → In t v.net.flown → texts.text t.name ≡ t
   text_is t flown = texts.flown (OfClient c) there (suc count) t flown
@@ -233,7 +235,7 @@ module _ (base : Setting) (e : Estate AnyNode) (lines : HasLines base e) (texts 
   serving_known s serves name f =
       let fact : last_flight at.run ≡ Some f.0 = served_last g _ w.net at.run s serves ∙ f.1 in
       let held = subst (λ (o : Option FlightState). IfSome o (λ y. In y.segment w.net.flown)) f.1
-      (subst (OwnerFlew w.net.flown) serves (laws.held g w.net at)) in
+      (subst (OwnerFlew w.net.flown) serves (laws.logs.what_is_held_flew g w.net at)) in
       let flown = log.flown_then base e lines texts part first count c there laws event node x f.0.segment held in
       let text : texts.text name ≡ f.0.segment = ap texts.text (sym f.2) ∙ text_is f.0.segment flown in
       inr (inr (
@@ -262,16 +264,17 @@ module _ (base : Setting) (e : Estate AnyNode) (lines : HasLines base e) (texts 
       before was = inl (line.all name was).1
 
       by : (t : Bool) → is_serving v.net.owner ≡ t → Known name
-      by false none = before (subst (In name) (laws.still g w.net v.net at goes straight none) fact)
+      by false none = before (subst (In name) (laws.lines.straight_files_still g w.net v.net at goes straight none) fact)
       by true serves =
           let z = comes g refl w.net v.net goes straight away serves in
           let calm = subst (λ (r : Runs g w.net v.net). IsSureRun (then_on at.run r)) z.one
           (log.goes_sure base e lines texts part first count c there laws event node x) in
-          ⊎_elim before (tail_known name) (laws.tail g w.net v.net refl at z.happens calm (z.writes, serves) name fact)
+          ⊎_elim before (tail_known name) (laws.logs.a_restart_files_the_tail g w.net v.net refl at z.happens calm (z.writes, serves) name fact)
 
   module _ (gets : EventGets part texts.text i.net c node.phase (what_of event)) where
     pub acts_file : ActsFile v.net outs
-    acts_file = laws.acts part texts.text g c w v i.net node (what_of event) there.0 below sure sees.room flight_says sees.agrees agrees gets goes straight
+    acts_file = laws.lines.clients_acts_file part texts.text g c w v i.net node (what_of event) there.0 below sure sees.room flight_says sees.agrees agrees
+        gets goes straight
         (log.acts_filed base e lines texts part first count c there laws event node x)
 
     known : AllSo Known outs
@@ -294,12 +297,13 @@ module _ (base : Setting) (e : Estate AnyNode) (lines : HasLines base e) (texts 
         by (clients.Opening l o) fact = resting (stage_rests o.known l.questions.last o.stage (seen (clients.Opening l o) fact).1)
         by (clients.Serving s) fact =
             all_then (IsFlight s.log) Known (serving_known s.log (seen (clients.Serving s) fact).1.owner) outs
-            (laws.flights part texts.text g c w i.net node (what_of event) s there.0 below sure sees.room
+            (laws.lines.clients_file_their_flights part texts.text g c w i.net node (what_of event) s there.0 below sure sees.room
             (flight_says s fact) sees.agrees fact agrees gets).flights
 
     -- it is owed
     pub files_owed : FilesOwed (IsNewerAtSlot part) texts.text c filed outs
-    files_owed = laws.owed part texts.text c g v.net filed outs (log.is_sure_then base e lines texts part first count c there laws event node x) acts_file
+    files_owed = laws.lines.clients_files_are_owed part texts.text c g v.net filed outs (log.is_sure_then base e lines texts part first count c there laws
+        event node x) acts_file
         (all_then (λ name. In name v.net.filed) (λ name. SaysBlocks (texts.text name)) named_says outs
         (log.acts_filed base e lines texts part first count c there laws event node x))
-        (all_new laws.nothing part texts.text c filed outs known)
+        (all_new laws.index.nothing_is_news part texts.text c filed outs known)

@@ -7,18 +7,14 @@ use Rattle.client_node.specs.Phases.{Went_to, client_step, lasting_of, takes}
 use Rattle.core_world.specs.AnyNode.{any_step}
 use Rattle.core_world.specs.declared.any_node.AnyNode.{AnyNode}
 use Rattle.core_world.specs.declared.any_node.AnyNode.TheVariants as any
-use Rattle.run_laws.specs.index_reads.Clients.{FlightsAreNews, NothingIsNewer}
 use Rattle.index_tie.specs.Filed.{Filed}
-use Rattle.log_law.specs.Held.{WhatIsHeldFlew}
-use Rattle.log_law.specs.Laws.{LogsStayWhole, Moment}
+use Rattle.log_law.specs.Laws.{Moment}
 use Rattle.log_law.specs.Restarts.{IsSureRun}
-use Rattle.log_law.specs.Tails.{ARestartFilesTheTail, then_on}
-use Rattle.log_law.specs.Written.{WhatFlewIsWritten}
+use Rattle.log_law.specs.Tails.{then_on}
 use Rattle.log_protocol.specs.Tables.{In}
 use Rattle.log_tie.specs.Setting.{Setting}
-use Rattle.run_laws.specs.reopening_law.Reopens.{ReopeningsReadBack, TellsApart}
+use Rattle.run_laws.specs.reopening_law.Reopens.{TellsApart}
 use Rattle.segment_format.specs.declared.segment.Segment.{Segment}
-use Rattle.run_laws.specs.segment_law.Flown.{ClientsFlewOriginals}
 use Rattle.run_laws.specs.segment_tie.Segments.{IsOriginal}
 use Rattle.version_model.specs.declared.act.Act.TheVariants.{Filed as ActsFiled}
 use Rattle.wire_msg.specs.declared.packet.Do.{Do}
@@ -29,11 +25,8 @@ use Rattle.world_base.specs.declared.world.World.{World}
 use Rattle.world_base.specs.Events.{node_of, what_of}
 use Rattle.world_base.specs.NextWorld.{next_world}
 use Rattle.run_laws.specs.world_law.Owners.{moment, node_in}
-use Rattle.run_laws.specs.world_lines.Flights.{ClientsWriteTexts}
-use Rattle.run_laws.specs.world_lines.Lines.{IsSure, LinesGive}
-use Rattle.run_laws.specs.world_lines.Filing.{ClientsActsFile, ClientsFileTheirFlights}
-use Rattle.run_laws.specs.world_lines.Owners.{ActsAreDone, StraightFilesStill}
-use Rattle.run_laws.specs.world_lines.Turns.{AllSo, ClientsFilesAreOwed}
+use Rattle.run_laws.specs.world_lines.Lines.{IsSure}
+use Rattle.run_laws.specs.world_lines.Turns.{AllSo}
 use Rattle.run_laws.proofs.world_logs.Line.{grows}
 use Rattle.run_laws.specs.world_logs.Doings.{owns}
 use Rattle.run_laws.specs.world_logs.Lines.{HasLines, Line, Texts, setting}
@@ -45,24 +38,7 @@ use Rattle.run_laws.specs.world_reads.Joint.{IsSureUpto, Joint, There}
 use Rattle.xfs_base.specs.declared.node.NodeId.TheVariants.{Client}
 use Rattle.xfs_base.proofs.Booleans.{equal_itself}
 use Rattle.xfs_base.specs.Limits.{slot_count}
-
--- the laws of the crates below on which it stands
-pub record ClientLaws : Type 0 where
-  pub give : LinesGive
-  pub writes : ClientsWriteTexts
-  pub owed : ClientsFilesAreOwed
-  pub done : ActsAreDone
-  pub acts : ClientsActsFile
-  pub flights : ClientsFileTheirFlights
-  pub still : StraightFilesStill
-  pub originals : ClientsFlewOriginals
-  pub whole : LogsStayWhole
-  pub held : WhatIsHeldFlew
-  pub written : WhatFlewIsWritten
-  pub tail : ARestartFilesTheTail
-  pub news : FlightsAreNews
-  pub nothing : NothingIsNewer
-  pub read_back : ReopeningsReadBack
+use Rattle.run_laws.specs.world_reads.Below.{Below}
 
 module _ (base : Setting) (e : Estate AnyNode) (lines : HasLines base e) (texts : Texts base e lines) (part : ℕ) (first : ℕ → ℕ → Segment) (count c : ℕ)
     (there : There base e lines texts part first (OfClient c)) where
@@ -91,7 +67,7 @@ module _ (base : Setting) (e : Estate AnyNode) (lines : HasLines base e) (texts 
     pub joint : Joint base e lines texts part first count
     pub sure : IsSureUpto base e lines texts part first (suc count)
 
-  module _ (laws : ClientLaws) (event : Event) (node : ClientNode) (x : ClientEvent event node) where
+  module _ (laws : Below) (event : Event) (node : ClientNode) (x : ClientEvent event node) where
     abbrev pub at : Moment g before.net
     at = (line.stands count).moment
 
@@ -138,7 +114,7 @@ module _ (base : Setting) (e : Estate AnyNode) (lines : HasLines base e) (texts 
 
     -- all that was in flight in it tells of blocks at first hand
     pub original : (s : Segment) → In s after.net.flown → IsOriginal s
-    original s fact = (laws.originals base e c line (suc count)).flew s fact
+    original s fact = (laws.lines.clients_flew_originals base e c line (suc count)).flew s fact
 
     pub flown_then : (s : Segment) → In s before.net.flown → In s after.net.flown
     flown_then s fact = (grows base e (OfClient c) line count (suc count) (omega arith)).flown s fact
@@ -164,6 +140,6 @@ module _ (base : Setting) (e : Estate AnyNode) (lines : HasLines base e) (texts 
     -- ---- what it acts to be filed is filed
 
     pub acts_filed : AllSo (λ name. In name after.net.filed) went.outs
-    acts_filed = laws.done after.net (Client (lasting_of node.phase).number) went.outs
+    acts_filed = laws.lines.acts_are_done after.net (Client (lasting_of node.phase).number) went.outs
         (λ name among. (line.stands (suc count)).filed name
         (did_then e c count event (any.Client node) x.happens (ap (owns c) x.own ∙ equal_itself c) x.took (ActsFiled name) among))

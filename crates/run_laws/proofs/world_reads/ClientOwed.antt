@@ -55,10 +55,11 @@ use Rattle.run_laws.specs.world_logs.Roles.Role.{OfClient}
 use Rattle.run_laws.specs.world_logs.Standing.{OwnerSeen}
 use Rattle.run_laws.proofs.world_reads.ClientFiles as files
 use Rattle.run_laws.proofs.world_reads.ClientLog as log
-use Rattle.run_laws.proofs.world_reads.ClientLog.{ClientEvent, ClientLaws}
+use Rattle.run_laws.proofs.world_reads.ClientLog.{ClientEvent}
 use Rattle.run_laws.proofs.world_reads.Stepping.{comes}
 use Rattle.run_laws.specs.world_reads.Joint.{There}
 use Rattle.xfs_base.specs.declared.node.NodeId.TheVariants.{Registry}
+use Rattle.run_laws.specs.world_reads.Below.{Below}
 
 -- what a segment that has a text says of blocks fits its types
 items_fit : (s : Segment) (items : List Item) → AllByRecursion FitsItem items → RowsFit (filter_map (row_of s) items)
@@ -68,7 +69,7 @@ items_fit s (Delta block ver hop item ∷ items) all = (all.0.0.1, items_fit s i
 items_fit s (Part slot rows ∷ items) all = items_fit s items all.1
 
 module _ (base : Setting) (e : Estate AnyNode) (lines : HasLines base e) (texts : Texts base e lines) (part : ℕ) (first : ℕ → ℕ → Segment) (count c : ℕ)
-    (there : There base e lines texts part first (OfClient c)) (laws : ClientLaws) (event : Event) (node : ClientNode)
+    (there : There base e lines texts part first (OfClient c)) (laws : Below) (event : Event) (node : ClientNode)
     (x : ClientEvent base e lines texts part first count c there event node) where
   abbrev g : Setting
   g = log.g base e lines texts part first count c there
@@ -120,7 +121,7 @@ module _ (base : Setting) (e : Estate AnyNode) (lines : HasLines base e) (texts 
       → PollGets part texts.text i.net c s.tokens m
   poll_gets low packet m s fact bears serves of late some =
       let least = low packet m s fact bears of serves late in
-      (laws.give texts.text c g w.net filed (log.is_sure base e lines texts part first count c there laws event node x)
+      (laws.lines.lines_give texts.text c g w.net filed (log.is_sure base e lines texts part first count c there laws event node x)
       (files.line base e lines texts part first count c there laws event node x)).linked (of_log (i.net.horizon m.epoch) c) (filed.head c) some
       (let r = registry.low in omega arith) (omega arith)
 
@@ -145,7 +146,7 @@ module _ (base : Setting) (e : Estate AnyNode) (lines : HasLines base e) (texts 
   -- ---- what it has in flight
 
   pub writes : WritesTexts part texts.text i.net c went.state
-  writes = laws.writes texts.text g c v went.state part i.net (log.then base e lines texts part first count c there laws event node x)
+  writes = laws.lines.clients_write_texts texts.text g c v went.state part i.net (log.then base e lines texts part first count c there laws event node x)
       (λ s fact. texts.flown (OfClient c) there (suc count) s fact) sees_then.agrees
 
   -- ---- a reopening
@@ -199,10 +200,10 @@ module _ (base : Setting) (e : Estate AnyNode) (lines : HasLines base e) (texts 
     end_owed (stage.Scanning a) fact = tt
     end_owed (stage.Settling a) fact =
         let here = subst (client_log.SeesStage g c w o.known l.questions.last) fact stage_sees in
-        laws.read_back g w.net v.net a.chain a.log s.log (ends a fact).reopens texts.text c filed a.low
+        laws.logs.reopenings_read_back g w.net v.net a.chain a.log s.log (ends a fact).reopens texts.text c filed a.low
         (record {
           texts_are = λ t fact. texts.flown (OfClient c) there count t fact;
-          fit = λ t fact. items_fit t t.items (laws.written g w.net at t fact).written.fits.items;
+          fit = λ t fact. items_fit t t.items (laws.logs.what_flew_is_written g w.net at t fact).written.fits.items;
         }) filed_of here.reads
 
   pub reopens : ReopensOn part texts.text i.net c node.phase went.state

@@ -25,7 +25,7 @@ use Rattle.log_protocol.specs.Tables.{In}
 use Rattle.log_tie.specs.Setting.{Setting}
 use Rattle.node_slots.specs.node_tie.ClientEvents.{EndsInTime, ReadsSo}
 use Rattle.node_slots.specs.node_tie.ClientLogs.{EndsSo, ReopensSo}
-use Rattle.run_laws.specs.place_law.Fetches.{FetchesReadThere, PhaseReadsItsFetch}
+use Rattle.run_laws.specs.place_law.Fetches.{PhaseReadsItsFetch}
 use Rattle.run_laws.specs.place_law.Reads.{FiledKnown}
 use Rattle.run_laws.specs.reading_law.Readings.{cuts_at}
 use Rattle.node_tellings.specs.reading_tie.Arrivals.{answered_in, cut_by}
@@ -33,8 +33,7 @@ use Rattle.node_tellings.specs.reading_tie.ClientReads as readers
 use Rattle.run_laws.specs.reopening_law.Falls.{FallKnown, FellWith}
 use Rattle.run_laws.specs.reopening_law.Flights.{LastFlew}
 use Rattle.run_laws.specs.reopening_law.Openings as reopening
-use Rattle.run_laws.specs.reopening_law.Openings.{ClientsComeBack, ComesBack, EndsAreReopenings, EndsByOne, OpeningsEndByOne, comes_to}
-use Rattle.run_laws.specs.reopening_law.Reopens.{ClientsReopenSo}
+use Rattle.run_laws.specs.reopening_law.Openings.{ComesBack, EndsByOne, comes_to}
 use Rattle.segment_format.specs.declared.segment.Segment.{Segment}
 use Rattle.version_model.specs.declared.act.Act.{Act}
 use Rattle.wire_msg.specs.declared.packet.Do.{Do}
@@ -50,23 +49,16 @@ use Rattle.run_laws.specs.world_logs.Lines.{HasLines, Texts}
 use Rattle.run_laws.specs.world_logs.Roles.Role.{OfClient}
 use Rattle.run_laws.proofs.world_reads.ClientFiles as files
 use Rattle.run_laws.proofs.world_reads.ClientLog as log
-use Rattle.run_laws.proofs.world_reads.ClientLog.{ClientEvent, ClientLaws}
+use Rattle.run_laws.proofs.world_reads.ClientLog.{ClientEvent}
 use Rattle.run_laws.proofs.world_reads.ClientOwed as owed
 use Rattle.run_laws.specs.world_reads.Joint.{There}
 use Rattle.xfs_base.specs.declared.node.NodeId.TheVariants.{Client}
 use Rattle.xfs_base.specs.Limits.{block_logs}
-
--- the laws of the crates below on which it stands besides
-pub record TokenLaws : Type 0 where
-  pub fetches : FetchesReadThere
-  pub ends : OpeningsEndByOne
-  pub are : EndsAreReopenings
-  pub back : ClientsComeBack
-  pub reopen : ClientsReopenSo
+use Rattle.run_laws.specs.world_reads.Below.{Below}
 
 module _ (base : Setting) (e : Estate AnyNode) (lines : HasLines base e) (texts : Texts base e lines) (part : ℕ) (first : ℕ → ℕ → Segment) (count c : ℕ)
-    (there : There base e lines texts part first (OfClient c)) (laws : ClientLaws) (event : Event) (node : ClientNode)
-    (x : ClientEvent base e lines texts part first count c there event node) (more : TokenLaws) where
+    (there : There base e lines texts part first (OfClient c)) (laws : Below) (event : Event) (node : ClientNode)
+    (x : ClientEvent base e lines texts part first count c there event node) where
   abbrev g : Setting
   g = log.g base e lines texts part first count c there
 
@@ -120,12 +112,12 @@ module _ (base : Setting) (e : Estate AnyNode) (lines : HasLines base e) (texts 
 
   module _ (l : Lasting) (o : Opening) (opening : node.phase ≡ clients.Opening l o) (s : ServingClient) (serving : went.state ≡ clients.Serving s) where
     pub back : ComesBack c (comes_to o l.questions what) s went.outs
-    back = more.back c node what l o s opening serving
+    back = laws.logs.clients_come_back c node what l o s opening serving
 
     ends_by_do : (d : Do) (p : Progress) → comes_to o l.questions d ≡ p → (r : Opened) → p ≡ progress.Opened r → reopening.EndsSo g c o (progress.Opened r)
     ends_by_do Begin p fact r opened = (let clash : progress.Opening o ≡ progress.Opened r = fact ∙ opened in absurd cc)
-    ends_by_do (Deliver packet) p fact r opened = subst (reopening.EndsSo g c o) (fact ∙ opened) ((more.ends g c o l.questions).0 packet)
-    ends_by_do Tick p fact r opened = subst (reopening.EndsSo g c o) (fact ∙ opened) (more.ends g c o l.questions).1
+    ends_by_do (Deliver packet) p fact r opened = subst (reopening.EndsSo g c o) (fact ∙ opened) ((laws.logs.openings_end_by_one g c o l.questions).0 packet)
+    ends_by_do Tick p fact r opened = subst (reopening.EndsSo g c o) (fact ∙ opened) (laws.logs.openings_end_by_one g c o l.questions).1
 
     by_one : EndsByOne g w v goes o back.opened
     by_one =
@@ -136,8 +128,9 @@ module _ (base : Setting) (e : Estate AnyNode) (lines : HasLines base e) (texts 
 
     pub reopens_so : ReopensSo t.net.books t.net.acts c back.opened
     reopens_so =
-        let re = more.are g w v goes o back.opened by_one refl x.apart at (log.goes_sure base e lines texts part first count c there laws event node x) in
-        more.reopen g w.net v.net by_one.settling.chain by_one.settling.log back.opened.log re.0 t.net.books c filed
+        let re = laws.logs.ends_are_reopenings g w v goes o back.opened by_one refl x.apart at (log.goes_sure base e lines texts part first count c there
+            laws event node x) in
+        laws.logs.clients_reopen_so g w.net v.net by_one.settling.chain by_one.settling.log back.opened.log re.0 t.net.books c filed
         (record {
           filed = owed.filed_of base e lines texts part first count c there laws event node x;
           books = record {
@@ -180,7 +173,7 @@ module _ (base : Setting) (e : Estate AnyNode) (lines : HasLines base e) (texts 
   reads_so heeds r limit packet fact (clients.Opening l o) phase =
       ends_so heeds l o phase (comes_to o l.questions (Deliver packet)) (ap (comes_to o l.questions) fact)
   reads_so heeds r limit packet fact (clients.Serving s) phase =
-      more.fetches texts.text (moment e count).sent (Client c) (cuts_at e.world) filed s packet part limit c t.net r.known x.joint.books
+      laws.reads.fetches_read_there texts.text (moment e count).sent (Client c) (cuts_at e.world) filed s packet part limit c t.net r.known x.joint.books
       (λ l q some upto from limit. (x.joint.tells l q from limit).plain)
       (record {
         told = subst (entries.PhaseHolds (told_by_rows (rows_at filed))) phase r.told;

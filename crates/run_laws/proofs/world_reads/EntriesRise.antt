@@ -6,10 +6,6 @@ use Rattle.core_world.specs.AnyNode.{any_start}
 use Rattle.core_world.specs.declared.any_node.AnyNode.{AnyNode}
 use Rattle.core_world.specs.declared.any_node.AnyNode.TheVariants as any
 use Rattle.node_tellings.proofs.entry_tie.Rising.{rows_rise, told_more}
-use Rattle.node_tellings.specs.entry_tie.CleanerTells.{CleanerHoldsRise, CleanerStartsTold, CleanerTellsTold}
-use Rattle.node_tellings.specs.entry_tie.ClientTells.{ClientHoldsRise, ClientStartsTold, ClientsTellTold}
-use Rattle.node_tellings.specs.entry_tie.ManagerTells.{ManagerHoldsRise, ManagerStartsTold, ManagersTellTold}
-use Rattle.node_tellings.specs.entry_tie.OtherTells.{RegistryTellsNone, ServersTellNone}
 use Rattle.node_tellings.specs.entry_tie.Told.{AreMore, BodyTold, FiledRows, told_by_rows}
 use Rattle.index_tie.proofs.Rows.{by_filed}
 use Rattle.index_tie.proofs.Tables.{first_of}
@@ -28,6 +24,7 @@ use Rattle.world_base.specs.declared.estate.Estate.{Estate}
 use Rattle.world_base.specs.Items.{items_of}
 use Rattle.world_base.specs.NextWorld.{first_node, start_world}
 use Rattle.run_laws.specs.world_law.Owners.{moment}
+use Rattle.run_laws.specs.world_reads.Below.{EntryKinds}
 use Rattle.run_laws.specs.world_reads.Entries.{AnyTold, EntriesStand}
 use Rattle.xfs_base.proofs.Members.{contains_nothing}
 use Rattle.xfs_base.specs.declared.block.BlockId.{BlockId}
@@ -35,20 +32,6 @@ use Rattle.xfs_base.specs.declared.entry.Entry.{Entry}
 use Rattle.xfs_base.specs.declared.node.NodeId.{NodeId}
 use Rattle.xfs_base.specs.declared.node.NodeId.TheVariants as nodes
 use Rattle.xfs_base.specs.declared.setup.Setup.{Setup}
-
--- the laws of nodes, each of its kind
-pub record EntryKinds : Type 0 where
-  pub client_starts : ClientStartsTold
-  pub client_rises : ClientHoldsRise
-  pub client : ClientsTellTold
-  pub manager_starts : ManagerStartsTold
-  pub manager_rises : ManagerHoldsRise
-  pub manager : ManagersTellTold
-  pub cleaner_starts : CleanerStartsTold
-  pub cleaner_rises : CleanerHoldsRise
-  pub cleaner : CleanerTellsTold
-  pub server : ServersTellNone
-  pub registry : RegistryTellsNone
 
 -- ---- more is filed
 

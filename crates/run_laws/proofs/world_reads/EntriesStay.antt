@@ -23,7 +23,7 @@ use Rattle.world_base.specs.declared.world.World.{World}
 use Rattle.world_base.specs.Events.{node_of, what_of}
 use Rattle.world_base.specs.NextWorld.{next_world, sent_at}
 use Rattle.run_laws.proofs.world_law.Turning.{next_keeps}
-use Rattle.run_laws.proofs.world_reads.EntriesRise.{EntryKinds}
+use Rattle.run_laws.specs.world_reads.Below.{EntryKinds}
 use Rattle.run_laws.proofs.world_reads.Taking.{Took}
 use Rattle.run_laws.specs.world_reads.Entries.{AnyTold, EntriesStand}
 

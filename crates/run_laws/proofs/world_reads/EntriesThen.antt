@@ -26,7 +26,7 @@ use Rattle.index_tie.proofs.Runs.{good_in}
 use Rattle.index_tie.specs.Filed.{Filed, rows_at}
 use Rattle.index_tie.specs.Growth.{IsMore}
 use Rattle.log_flight.specs.Flights.{FlightState}
-use Rattle.log_law.specs.Held.{OwnerFlew, WhatFlewIsOfTheLog, WhatIsHeldFlew}
+use Rattle.log_law.specs.Held.{OwnerFlew}
 use Rattle.log_protocol.specs.Tables as tables
 use Rattle.log_owner.specs.declared.known.Known.{Known as KnownMaps}
 use Rattle.log_owner.specs.declared.opening.Stage.{Stage}
@@ -64,7 +64,7 @@ use Rattle.run_laws.proofs.world_law.Places.{Behind, behind}
 use Rattle.run_laws.proofs.world_law.Sent.{was_sent}
 use Rattle.run_laws.proofs.world_law.Turns.{one_node}
 use Rattle.run_laws.specs.world_law.Owners.{moment, node_in}
-use Rattle.run_laws.specs.world_lines.Lines.{IsLine, LinesGive}
+use Rattle.run_laws.specs.world_lines.Lines.{IsLine}
 use Rattle.run_laws.proofs.world_logs.Line.{grows}
 use Rattle.run_laws.specs.world_logs.Doings.{did, owns}
 use Rattle.run_laws.specs.world_logs.Lines.{HasLines, Line, Texts, setting}
@@ -76,7 +76,7 @@ use Rattle.run_laws.proofs.world_reads.EntriesManagers.{SlotKnown, manager_owed}
 use Rattle.run_laws.proofs.world_reads.EntriesNames.{AnyFlies, names_rise, names_stay, taken_known}
 use Rattle.run_laws.proofs.world_reads.EntriesOwners.{OwnsEvent, chain_told, flight_told}
 use Rattle.run_laws.proofs.world_reads.EntriesParts.{among_nodes, in_contained, part_later, part_more}
-use Rattle.run_laws.proofs.world_reads.EntriesRise.{EntryKinds, entries_rise, rows_more}
+use Rattle.run_laws.proofs.world_reads.EntriesRise.{entries_rise, rows_more}
 use Rattle.run_laws.proofs.world_reads.EntriesSame.{same_rows, sure_log}
 use Rattle.run_laws.proofs.world_reads.EntriesStay.{AnyOwed, entries_stay}
 use Rattle.run_laws.proofs.world_reads.Taking.{Took, did_then, moment_next}
@@ -89,13 +89,7 @@ use Rattle.xfs_base.specs.declared.segment.SegName.{SegName}
 use Rattle.xfs_base.proofs.Booleans.{equal_itself}
 use Rattle.xfs_base.specs.Limits.{slot_count}
 use Rattle.xfs_base.specs.Logs.{cleaners_number}
-
--- the laws of the crates below on which it stands
-pub record EntryLaws : Type 0 where
-  pub kinds : EntryKinds
-  pub give : LinesGive
-  pub held : WhatIsHeldFlew
-  pub of_log : WhatFlewIsOfTheLog
+use Rattle.run_laws.specs.world_reads.Below.{Below}
 
 module _ (base : Setting) (e : Estate AnyNode) (lines : HasLines base e) (texts : Texts base e lines) (part : ℕ) (first : ℕ → ℕ → Segment) (count : ℕ) where
   -- An event of a run, after which so much is filed: the moment before it stands to the small worlds of each slot of the map, up to the one after it all
@@ -117,7 +111,7 @@ module _ (base : Setting) (e : Estate AnyNode) (lines : HasLines base e) (texts 
     pub reads : (j : ℕ) → node_of event ≡ Manager j → (manager : ManagerNode) → Took (moment e count) event (any.Manager manager) → (slot : ℕ) (less : slot < slot_count)
         → DoReads slot texts.text (joints slot less).idx.asked j (joints slot less).idx.net manager.phase (what_of event)
 
-  module _ (laws : EntryLaws) (event : Event) (h : Filed) (x : EntryEvent event h) where
+  module _ (laws : Below) (event : Event) (h : Filed) (x : EntryEvent event h) where
     abbrev k : Cluster
     k = cluster_of e.script.setup
 
@@ -138,7 +132,7 @@ module _ (base : Setting) (e : Estate AnyNode) (lines : HasLines base e) (texts 
     more = rows_more joint.idx.net.filed h x.more
 
     stand : EntriesStand (rows_at h) w.nodes w.sent
-    stand = entries_rise (rows_at joint.idx.net.filed) (rows_at h) more laws.kinds w.nodes w.sent joint.entries
+    stand = entries_rise (rows_at joint.idx.net.filed) (rows_at h) more laws.reads.kinds w.nodes w.sent joint.entries
 
     named_more : PartsNamed (PartKnown base e lines count (rows_at h)) w.nodes w.sent
     named_more =
@@ -158,20 +152,23 @@ module _ (base : Setting) (e : Estate AnyNode) (lines : HasLines base e) (texts 
       stage_owed : (c : ℕ) (known : KnownMaps) (last : ℕ) (st : Stage) → SeesStage (setting base e r) c scene known last st → StageOwed told acts st
       stage_owed c known last (stage.Scanning s) sees = tt
       stage_owed c known last (stage.Settling s) sees =
-          chain_told base e lines texts part first count r there laws.give laws.held laws.of_log event node h owned s.chain s.log sees.owner
+          chain_told base e lines texts part first count r there laws.lines.lines_give laws.logs.what_is_held_flew laws.logs.what_flew_is_of_the_log event
+              node h owned s.chain s.log sees.owner
 
       client_phase : (c : ℕ) → c ≡ log_by r → (p : clients.Phase) → client_log.ClientAgrees (setting base e r) c scene p → client_entries.PhaseOwed told acts p
       client_phase c its (client.Down l) agrees = tt
       client_phase c its (client.Opening l o) agrees = stage_owed c o.known l.questions.last o.stage agrees.1
       client_phase c its (client.Serving s) agrees =
-          flight_told base e lines texts part first count r there laws.give laws.held laws.of_log event node h owned (record { 0 = s.lasting.number })
+          flight_told base e lines texts part first count r there laws.lines.lines_give laws.logs.what_is_held_flew laws.logs.what_flew_is_of_the_log event
+              node h owned (record { 0 = s.lasting.number })
           (ap (λ (n : ℕ). record { 0 = n }) (agrees.0.number ∙ its)) s.log agrees.1.owner
 
       cleaner_phase : log_by r ≡ cleaners_number → (p : cleaners.Phase) → cleaner_log.CleanerAgrees (setting base e r) scene p → cleaner_entries.PhaseOwed told acts p
       cleaner_phase its (cleaning.Down l) agrees = tt
       cleaner_phase its (cleaning.Opening l o) agrees = stage_owed cleaners_number o.known l.questions.last o.stage agrees.sees
       cleaner_phase its (cleaning.Serving s) agrees =
-          flight_told base e lines texts part first count r there laws.give laws.held laws.of_log event node h owned (record { 0 = 9 })
+          flight_told base e lines texts part first count r there laws.lines.lines_give laws.logs.what_is_held_flew laws.logs.what_flew_is_of_the_log event
+              node h owned (record { 0 = 9 })
           (ap (λ (n : ℕ). record { 0 = n }) (sym its)) s.log agrees.log.owner
 
     -- ---- the node that takes it
@@ -192,7 +189,7 @@ module _ (base : Setting) (e : Estate AnyNode) (lines : HasLines base e) (texts 
         happens = x.happens;
         own = own;
         took = took;
-        sure = sure_log base e lines texts part first laws.give (suc count) x.sure r there keeps;
+        sure = sure_log base e lines texts part first laws.lines.lines_give (suc count) x.sure r there keeps;
         lined = x.lined r there keeps;
       }
 
@@ -265,7 +262,8 @@ module _ (base : Setting) (e : Estate AnyNode) (lines : HasLines base e) (texts 
                 net = its.idx.net;
                 asked = its.idx.asked;
                 more = λ block entry fact. rows_more joint.idx.net.filed h x.more block entry
-                    (same_rows base e lines texts part first laws.give count (upto_before base e lines texts part first count x.sure) joint slot its block
+                    (same_rows base e lines texts part first laws.lines.lines_give count (upto_before base e lines texts part first count x.sure) joint slot
+                        its block
                     entry fact);
                 filed = (good_in slot (held_in slot texts.text) first its.idx.net its.index_stands.runs).filed;
                 are_texts = its.index_stands.texts_of;
@@ -333,7 +331,7 @@ module _ (base : Setting) (e : Estate AnyNode) (lines : HasLines base e) (texts 
               let flew : tables.In flight.segment (line.scene count).net.flown =
               subst (λ (o : Option FlightState). IfSome o (λ (f : FlightState). tables.In f.segment (line.scene count).net.flown)) flies
               (subst (OwnerFlew (line.scene count).net.flown) its.log.owner
-              (laws.held (setting base e (OfManager j)) (line.scene count).net (line.stands count).moment)) in
+              (laws.logs.what_is_held_flew (setting base e (OfManager j)) (line.scene count).net (line.stands count).moment)) in
               record {
                 manager = j;
                 there = (b.some, b.within);
@@ -396,7 +394,7 @@ module _ (base : Setting) (e : Estate AnyNode) (lines : HasLines base e) (texts 
     pub entries_then : EntriesStand (rows_at h) (moment e (suc count)).nodes (moment e (suc count)).sent
     entries_then =
         subst (λ (v : World AnyNode). EntriesStand (rows_at h) v.nodes v.sent) (sym (moment_next e count event x.happens))
-        (entries_stay (rows_at h) laws.kinds w event stand
+        (entries_stay (rows_at h) laws.reads.kinds w event stand
         (came event (may_happen e count event x.happens x.run)) any_owed)
 
     -- and what is named as a part of a checkpoint is still a segment of a manager's log, which tells what is told

@@ -22,7 +22,6 @@ use Rattle.run_laws.proofs.world_reads.LegalJoints.{acts_are_legal}
 use Rattle.run_laws.proofs.world_reads.OwnTable.{is_own_table}
 use Rattle.run_laws.proofs.world_reads.TurnRun.{moment_cluster}
 use Rattle.run_laws.proofs.world_reads.TurnWhole.{whole_at}
-use Rattle.run_laws.proofs.world_reads.WholeLaws.{index_nodes, token_nodes, whole_below}
 use Rattle.run_laws.specs.world_reads.Below.{Below}
 use Rattle.run_laws.specs.world_reads.Holders.{EveryRunsHoldersAreNewest}
 use Rattle.run_laws.specs.world_reads.Indexes.{EveryRunKeepsItsIndexes, EveryRunsIndexesAreItsOwn, KeepsItsIndexes}
@@ -36,7 +35,7 @@ module _ (below : Below) where
       (none : NoDoubtfulRestart e count) where
     stands : MomentStands base e lines texts count
     stands =
-        let w = whole_at (whole_below below) base e lines texts (first_of base e lines texts) apart setup run count
+        let w = whole_at below base e lines texts (first_of base e lines texts) apart setup run count
         (λ r there keeps. below.lines.undoubted_runs_are_sure base e lines count none r there keeps) in
         record { joints = w.joints; references = w.references; named = w.named; comes = w.comes }
 
@@ -54,12 +53,12 @@ module _ (below : Below) where
         record {
           filed = joint.idx.net.filed;
           own = is_own_table below.lines.lines_give below.logs.logs_stay_whole below.logs.one_name_one_text below.logs.what_flew_is_of_the_log
-              (token_nodes below) below.index.server_event_goes base e setup run lines texts part (first_of base e lines texts) count (sure part) joint;
+              below.tokens.nodes below.index.nodes.server base e setup run lines texts part (first_of base e lines texts) count (sure part) joint;
           named = joint.index_stands.texts_of;
-          keeps = keeps (index_nodes below) (token_nodes below) (cluster_of e.script.setup) part of_eight texts.text (first_of base e lines texts)
+          keeps = keeps below.index.nodes below.tokens.nodes (cluster_of e.script.setup) part of_eight texts.text (first_of base e lines texts)
               below.index.each_index_is_the_join below.index.managers_cover_their_horizon below.index.newest_is_never_deleted (moment e count)
               (moment_cluster e count) joint.idx joint.index_stands;
-          leads = dirty_blocks_lead below.tokens.dirty_blocks_lead (token_nodes below) base e lines texts part of_eight (first_of base e lines texts) count
+          leads = dirty_blocks_lead below.tokens.dirty_blocks_lead below.tokens.nodes base e lines texts part of_eight (first_of base e lines texts) count
               joint;
         }
 
@@ -82,7 +81,7 @@ module _ (below : Below) where
       let apart = below.lines.telling_setting.1 in
       let lines = below.logs.runs_have_lines base e setup run in
       let texts = below.logs.lines_have_texts base e setup lines in
-      holders_are_newest below.tokens.acts_are_legal below.tokens.blocks_make_legal (token_nodes below) base e lines texts (first_of base e lines texts) count
+      holders_are_newest below.tokens.acts_are_legal below.tokens.blocks_make_legal below.tokens.nodes base e lines texts (first_of base e lines texts) count
       (below.tokens.every_run_has_falls_apart e setup run count) (stands base apart e setup run lines texts count none).joints
 
   pub every_runs_indexes_are_its_own : EveryRunsIndexesAreItsOwn

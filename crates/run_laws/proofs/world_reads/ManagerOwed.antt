@@ -37,10 +37,9 @@ use Rattle.run_laws.specs.world_logs.Roles.Role.{OfManager}
 use Rattle.run_laws.proofs.world_reads.ManagerMoment as manager
 use Rattle.run_laws.proofs.world_reads.ManagerMoment.{Coming, ManagerEvent}
 use Rattle.run_laws.proofs.world_reads.ManagerReading as reading
-use Rattle.run_laws.proofs.world_reads.ManagerReading.{ManagerLaws, SourcesFlew, at_slot}
+use Rattle.run_laws.proofs.world_reads.ManagerReading.{SourcesFlew, at_slot}
 use Rattle.run_laws.proofs.world_reads.ManagerSources.{sources_flew}
 use Rattle.run_laws.proofs.world_reads.ManagerTelling as telling
-use Rattle.run_laws.proofs.world_reads.ManagerTelling.{TellingLaws}
 use Rattle.run_laws.proofs.world_reads.Taking.{Took, took_it}
 use Rattle.run_laws.specs.world_reads.Joint.{There}
 use Rattle.run_laws.specs.world_reads.References.{EndFlew, Flew, ReferencesStand, ReportFlew, its}
@@ -50,12 +49,13 @@ use Rattle.xfs_base.specs.declared.segment.End.{End}
 use Rattle.xfs_base.specs.declared.segment.SegRef.{SegRef}
 use Rattle.xfs_base.specs.Logs.{block_writer, cleaners_number}
 use Rattle.xfs_base.specs.Limits.{slot_count}
+use Rattle.run_laws.specs.world_reads.Below.{Below}
 
-one_contained : {X : Type 0} (P : X → Type 0) (xs : List X) (x : X) → AllByRecursion P xs → Contains xs x → P x
+pub one_contained : {X : Type 0} (P : X → Type 0) (xs : List X) (x : X) → AllByRecursion P xs → Contains xs x → P x
 one_contained P [] x all fact = absurd (contains_nothing x fact)
 one_contained P (y ∷ xs) x all fact = ⊎_elim (λ same. subst P same all.0) (λ later. one_contained P xs x all.1 later) (contains_cases y x xs fact)
 
-one_among : {X : Type 0} (P : X → Type 0) (xs : List X) (x : X) → AllByRecursion P xs → In x xs → P x
+pub one_among : {X : Type 0} (P : X → Type 0) (xs : List X) (x : X) → AllByRecursion P xs → In x xs → P x
 one_among P [] x all fact = absurd fact
 one_among P (y ∷ xs) x all (inl fact) = subst P (sym fact) all.0
 one_among P (y ∷ xs) x all (inr later) = one_among P xs x all.1 later
@@ -74,7 +74,7 @@ module _ (base : Setting) (e : Estate AnyNode) (lines : HasLines base e) (texts 
       by false fact k = k
 
   module _ (t : Taking) (refers : TakeRefers r t.take) where
-    parts_flew : (ref : SegRef) → Contains t.take.news.parts ref → Flew base e lines texts part first count ref
+    pub parts_flew : (ref : SegRef) → Contains t.take.news.parts ref → Flew base e lines texts part first count ref
     parts_flew ref fact = one_contained (Flew base e lines texts part first count) t.take.news.parts ref refers.parts_refer fact
 
     -- the text of the name of an end that flew is of the group that it bears
@@ -84,7 +84,7 @@ module _ (base : Setting) (e : Estate AnyNode) (lines : HasLines base e) (texts 
     its_group l end some (inr f) =
         f.grouped ∙ ap (λ (s : Segment). s.group) (sym (ap texts.text f.named ∙ texts.flown f.of.role f.of.there count f.segment f.among))
 
-    ends_bear : (l : ℕ) (x : Heard) → In x t.take.reports → x.from ≡ block_writer l → 0 < x.end.seq
+    pub ends_bear : (l : ℕ) (x : Heard) → In x t.take.reports → x.from ≡ block_writer l → 0 < x.end.seq
         → x.end.group ≡ (texts.text (record { log = record { 0 = l }; seq = x.end.seq; pass = x.end.pass })).group
     ends_bear l x among from some =
         its_group l x.end some (of_writer l x.end (subst (λ node. ReportFlew base e lines texts part first count node x.end) from
@@ -115,17 +115,17 @@ module _ (base : Setting) (e : Estate AnyNode) (lines : HasLines base e) (texts 
         by (Waiting kept hello) serves t fact = absurd (never 0 t fact)
         by (Down kept) serves t fact = absurd (never 0 t fact)
 
-    pub index_owed : ManagerLaws → IndexOwes part texts.text x.coming.joint.idx.asked x.coming.joint.idx.net (node_of event) (any.Manager node) (what_of event)
+    pub index_owed : Below → IndexOwes part texts.text x.coming.joint.idx.asked x.coming.joint.idx.net (node_of event) (any.Manager node) (what_of event)
     index_owed laws = reading.manager_owed base e lines texts part first count j there laws event node x flew
 
-    pub turn_owed : ManagerLaws → TellingLaws → (adopted : Bool) (limit : ℕ)
+    pub turn_owed : Below → (adopted : Bool) (limit : ℕ)
         → TurnOwes true adopted (tokens.members (cluster base e) part) part limit x.coming.joint.tok.net (node_of event) (any.Manager node) (what_of event)
-    turn_owed laws more adopted limit = telling.turn_owed base e lines texts part first count j there more event node x laws flew adopted limit
+    turn_owed laws adopted limit = telling.turn_owed base e lines texts part first count j there laws event node x flew adopted limit
 
 -- ---- all of it, of an event that a manager takes
 
 module _ (base : Setting) (e : Estate AnyNode) (lines : HasLines base e) (texts : Texts base e lines) (part : ℕ) (first : ℕ → ℕ → Segment) (count : ℕ)
-    (laws : ManagerLaws) (more : TellingLaws) (few : part < slot_count) (event : Event) (fact : slice_get e.events count ≡ Some event)
+    (laws : Below) (few : part < slot_count) (event : Event) (fact : slice_get e.events count ≡ Some event)
     (coming : Coming base e lines texts part first count event) (came : ReadingsCame e.world (moment e count))
     (stands : ReferencesStand base e lines texts part first count) where
   abbrev k : Cluster
@@ -154,7 +154,7 @@ module _ (base : Setting) (e : Estate AnyNode) (lines : HasLines base e) (texts 
       record { few = few; happens = fact; coming = coming; own = own; took = took; came = came } in
       record {
         index = index_owed base e lines texts part first count j there event node x stands laws;
-        turn = λ adopted limit. turn_owed base e lines texts part first count j there event node x stands laws more adopted limit;
-        given = manager.tokens_given base e lines texts part first count event coming more.given (any.Manager node)
+        turn = λ adopted limit. turn_owed base e lines texts part first count j there event node x stands laws adopted limit;
+        given = manager.tokens_given base e lines texts part first count event coming laws.tokens.tokens_are_given (any.Manager node)
             (took_it k (moment e count) coming.cluster event (any.Manager node) took);
       }

@@ -5,9 +5,6 @@ use Rattle.std.specs.Prelude.{Contains}
 use Rattle.std.specs.List.{AllByRecursion}
 use Rattle.core_world.specs.declared.any_node.AnyNode.{AnyNode}
 use Rattle.core_world.specs.declared.any_node.AnyNode.TheVariants as any
-use Rattle.log_law.specs.Groups.{PriorsNameGroups}
-use Rattle.log_law.specs.Laws.{OneNameOneText}
-use Rattle.log_law.specs.Places.{APlaceNamesOneContent}
 use Rattle.log_owner.specs.Sending.{server_in}
 use Rattle.log_tie.specs.Setting.{Setting}
 use Rattle.manager_node.specs.declared.manager.Manager.{Manager as ManagerNode}
@@ -21,12 +18,11 @@ use Rattle.manager_serving.specs.declared.serving.Serving.{Serving}
 use Rattle.node_slots.specs.node_index_tie.ManagerEvents.{AbsentGets, FoundGets, completes_at, completes_in}
 use Rattle.node_slots.specs.node_index_tie.Sight.{IsRead}
 use Rattle.node_slots.specs.node_tie.ManagerEvents.{phase_at, slot_in}
-use Rattle.run_laws.specs.place_law.Reads.{TakeoversReadTexts}
 use Rattle.run_laws.specs.reading_law.Readings.{cuts_at}
 use Rattle.node_tellings.specs.reading_tie.Arrivals.{AnsweredIn, Tells, answered_in, cut_by}
 use Rattle.node_tellings.specs.reading_tie.Came.{ReadsJoined}
 use Rattle.node_tellings.specs.reading_tie.ManagerReads.{PhaseHolds, SlotHolds}
-use Rattle.node_tellings.specs.reading_tie.TakeoverReads.{PresentHolds, StandsBy, TakeHolds, TakeoversReadWhatCame, to_any}
+use Rattle.node_tellings.specs.reading_tie.TakeoverReads.{PresentHolds, StandsBy, TakeHolds, to_any}
 use Rattle.segment_format.specs.declared.segment.Segment.{Segment}
 use Rattle.segment_reading.specs.Reading.{ReadingState}
 use Rattle.stripe_code.specs.declared.round.Told.{Told}
@@ -47,7 +43,6 @@ use Rattle.world_base.specs.declared.event.Event.{Event}
 use Rattle.world_base.specs.Events.{node_of, what_of}
 use Rattle.run_laws.specs.world_index.Owes.{BodyReads, DoReads, IndexOwes, ManagerTold, PacketReads}
 use Rattle.run_laws.specs.world_law.Owners.{moment}
-use Rattle.run_laws.specs.world_lines.Flights.{ManagersWriteTexts}
 use Rattle.run_laws.specs.world_logs.Lines.{HasLines, Texts}
 use Rattle.run_laws.specs.world_logs.Roles.Role.{OfManager}
 use Rattle.run_laws.proofs.world_reads.ManagerChains.{Refers, known, names_its_group, refers_down}
@@ -57,15 +52,7 @@ use Rattle.run_laws.specs.world_reads.Joint.{There}
 use Rattle.run_laws.specs.world_reads.References.{Flew}
 use Rattle.xfs_base.specs.declared.node.NodeId.{NodeId}
 use Rattle.xfs_base.specs.declared.node.NodeId.TheVariants.{Client, Manager, Server, Cleaner, Registry}
-
--- the laws of the crates below on which it stands; of those `priors` is to be one of log_law
-pub record ManagerLaws : Type 0 where
-  pub one : OneNameOneText
-  pub place : APlaceNamesOneContent
-  pub priors : PriorsNameGroups
-  pub came : TakeoversReadWhatCame
-  pub reads : TakeoversReadTexts
-  pub writes : ManagersWriteTexts
+use Rattle.run_laws.specs.world_reads.Below.{Below}
 
 -- what holds of each phase of a table, and of one that is away, holds of the slot of this number
 pub at_slot : (P : SlotPhase → Type 0) (table : List SlotPhase) (slot : ℕ) → AllByRecursion P table → P (phase.Away 0) → P (phase_at table slot)
@@ -83,7 +70,7 @@ module _ (base : Setting) (e : Estate AnyNode) (lines : HasLines base e) (texts 
   SourcesFlew p = (t : Taking) → p ≡ phase.Taking t → (source : Source) → Contains (sources_of t.take.news t.take.reports) source
       → Flew base e lines texts part first count source.seg
 
-  module _ (laws : ManagerLaws) where
+  module _ (laws : Below) where
     -- what an answer completes that came to the manager's takeover
     module _ (t : Taking) (holds : TakeHolds (answered_in sent (Manager j)) (cut_by (cuts_at e.world)) t.take)
         (flew : (source : Source) → Contains (sources_of t.take.news t.take.reports) source → Flew base e lines texts part first count source.seg)
@@ -93,17 +80,19 @@ module _ (base : Setting) (e : Estate AnyNode) (lines : HasLines base e) (texts 
       of_present p at stands done = by p.reading refl (subst (λ o. completes_at t.take o own server answer ≡ Some s) at done)
         where
           refers : Refers base e lines texts part first count (Manager j) p.source.seg
-          refers = refers_down base e lines texts part first count (Manager j) laws.one laws.place laws.priors (sources_of t.take.news t.take.reports) flew
+          refers = refers_down base e lines texts part first count (Manager j) laws.logs.one_name_one_text laws.logs.a_place_names_one_content
+              laws.logs.priors_name_groups (sources_of t.take.news t.take.reports) flew
               p.source stands.leads
 
           by : (o : Option ReadingState) → p.reading ≡ o → completes_in t.take o own server answer ≡ Some s → IsRead part texts.text s
           by None fact h = absurd cc
           by (Some r) fact h =
               let reads : ReadsJoined (to_any (answered_in sent (Manager j))) (cut_by (cuts_at e.world)) p.source.seg s =
-              laws.came sent (Manager j) (cuts_at e.world) t.take p r ask own server answer s holds at fact answered h in
-              laws.reads part texts.text sent (Manager j) (cuts_at e.world) t.take p ask own server answer s holds at answered
+              laws.reads.takeovers_read_what_came sent (Manager j) (cuts_at e.world) t.take p r ask own server answer s holds at fact answered h in
+              laws.reads.takeovers_read_texts part texts.text sent (Manager j) (cuts_at e.world) t.take p ask own server answer s holds at answered
               (known base e lines texts part first count (Manager j) p.source.seg.name refers.of)
-              (names_its_group base e lines texts part first count (Manager j) laws.one laws.place p.source.seg refers s reads) done
+              (names_its_group base e lines texts part first count (Manager j) laws.logs.one_name_one_text laws.logs.a_place_names_one_content p.source.seg
+                  refers s reads) done
 
       pub is_read : completes_at t.take t.take.present own server answer ≡ Some s → IsRead part texts.text s
       is_read done = by t.take.present refl holds.stands
@@ -190,7 +179,8 @@ module _ (base : Setting) (e : Estate AnyNode) (lines : HasLines base e) (texts 
 
       pub manager_told : SourcesFlew (slot_in part node.phase)
           → ManagerTold part texts.text x.coming.joint.idx.asked j x.coming.joint.idx.net node.phase what (happens node what).state
-      manager_told flew = record { reads = reads flew; writes = manager.writes base e lines texts part first count j there event node x laws.writes }
+      manager_told flew = record { reads = reads flew; writes = manager.writes base e lines texts part first count j there event node x
+          laws.lines.managers_write_texts }
 
       pub manager_owed : SourcesFlew (slot_in part node.phase)
           → IndexOwes part texts.text x.coming.joint.idx.asked x.coming.joint.idx.net (node_of event) (any.Manager node) what

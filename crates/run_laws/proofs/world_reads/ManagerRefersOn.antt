@@ -1,6 +1,6 @@
 -- Whatever happens in a run, what nodes refer to flew in its logs, over the groups with which it is referred to: a part of a checkpoint was in flight in the
 -- log of its manager, and an end that is reported is that of the log of who reports it.
-use Rattle.std.proofs.Common.{◌≡◌, ◌⊎◌, ◌+◌, inl, inr, ⊎_elim, ℕ, zero, suc, All, List, [], ◌∷◌, map, Option, None, Some, slice_get, slice_set, refl, sym, ap, subst, ◌∙◌, arith}
+use Rattle.std.proofs.Common.{◌≡◌, ◌⊎◌, ◌+◌, false, inl, inr, ⊎_elim, ℕ, zero, suc, All, List, [], ◌∷◌, map, Option, None, Some, slice_get, slice_set, refl, sym, ap, subst, ◌∙◌, arith}
 use Rattle.std.specs.Prelude.{IfSome}
 use Rattle.std.specs.List.{AllByRecursion}
 use Rattle.checkpoint.specs.Transition.{part_at}
@@ -22,10 +22,7 @@ use Rattle.core_world.specs.AnyNode.{any_step}
 use Rattle.core_world.specs.declared.any_node.AnyNode.{AnyNode}
 use Rattle.core_world.specs.declared.any_node.AnyNode.TheVariants as any
 use Rattle.log_flight.specs.Flights.{FlightState}
-use Rattle.log_law.specs.Groups.{EndsNameGroups}
-use Rattle.log_law.specs.Ends.{EndsAreLast}
-use Rattle.log_law.specs.Held.{OwnerFlew, WhatIsHeldFlew}
-use Rattle.log_law.specs.Laws.{LogsStayWhole}
+use Rattle.log_law.specs.Held.{OwnerFlew}
 use Rattle.log_law.specs.Net.{no_end}
 use Rattle.log_protocol.specs.Tables as tables
 use Rattle.log_tie.specs.Setting.{Setting}
@@ -38,7 +35,7 @@ use Rattle.node_base.specs.declared.effects.Effect.{Effect}
 use Rattle.node_base.specs.declared.effects.Effect.TheVariants.{Send, Answer, Lose, Does}
 use Rattle.node_base.specs.Effects.{packets_of}
 use Rattle.node_slots.specs.node_index_tie.ManagerEvents as places
-use Rattle.node_slots.specs.owner_index_tie.ServerEvents.{DoesNothing, SaysNothing, ServerEventGoes}
+use Rattle.node_slots.specs.owner_index_tie.ServerEvents.{DoesNothing, SaysNothing}
 use Rattle.node_tellings.proofs.reference_tie.Cleaners.{cleaner_reports}
 use Rattle.node_tellings.proofs.reference_tie.Clients.{clients_report}
 use Rattle.node_tellings.proofs.reference_tie.Managers.{managers_keep}
@@ -67,6 +64,7 @@ use Rattle.run_laws.proofs.world_law.Turning.{next_keeps}
 use Rattle.run_laws.proofs.world_law.Turns.{one_node}
 use Rattle.run_laws.specs.world_law.Owners.{moment, node_in}
 use Rattle.run_laws.specs.world_logs.Lines.{HasLines, Texts, cluster, setting}
+use Rattle.run_laws.specs.world_logs.Roles.{Role, log_by, renews}
 use Rattle.run_laws.specs.world_logs.Roles.Role.{OfClient, OfCleaner, OfManager}
 use Rattle.run_laws.proofs.world_reads.ManagerMoment.{Coming, brought_by}
 use Rattle.run_laws.proofs.world_reads.ManagerReferences.{all_rise, weaker_then}
@@ -78,14 +76,7 @@ use Rattle.xfs_base.specs.declared.node.NodeId.TheVariants.{Client, Manager, Ser
 use Rattle.xfs_base.specs.declared.segment.End.{End}
 use Rattle.xfs_base.specs.declared.segment.LogId.{LogId}
 use Rattle.xfs_base.specs.Logs.{cleaners_number}
-
--- the laws of the crates below on which it stands; of those `ends` is to be one of log_law
-pub record ReferenceLaws : Type 0 where
-  pub ends : EndsNameGroups
-  pub last : EndsAreLast
-  pub whole : LogsStayWhole
-  pub held : WhatIsHeldFlew
-  pub servers : ServerEventGoes
+use Rattle.run_laws.specs.world_reads.Below.{Below}
 
 -- ---- lists
 
@@ -136,7 +127,7 @@ module _ (r : References) (v : ℕ) where
   server_refers (Does act ∷ outs) all = server_refers outs (λ i d less. all (suc i) d (omega arith))
 
 module _ (base : Setting) (e : Estate AnyNode) (lines : HasLines base e) (texts : Texts base e lines) (part : ℕ) (first : ℕ → ℕ → Segment) (count : ℕ)
-    (laws : ReferenceLaws) (joint : Joint base e lines texts part first count) (sure : IsSureUpto base e lines texts part first count) where
+    (laws : Below) (joint : Joint base e lines texts part first count) (sure : IsSureUpto base e lines texts part first count) where
   abbrev k : Cluster
   k = cluster base e
 
@@ -145,52 +136,47 @@ module _ (base : Setting) (e : Estate AnyNode) (lines : HasLines base e) (texts 
 
   -- ---- the end of a log that is served
 
-  -- it is none, or flew
-  client_end : (c : ℕ) (there : There base e lines texts part first (OfClient c)) (s : LogState)
-      → SeesLog (setting base e (OfClient c)) c ((lines (OfClient c) there).scene count) s → EndFlew base e lines texts part first count c s.end
-  client_end c there s sees = by s.end.seq refl
+  -- of a log that goes on where its owner restarts, it is none, or flew
+  end_flew : (role : Role) (there : There base e lines texts part first role) → renews role ≡ false → (n : ℕ) (s : LogState)
+      → SeesLog (setting base e role) n ((lines role there).scene count) s → EndFlew base e lines texts part first count (log_by role) s.end
+  end_flew role there goes_on n s sees = by s.end.seq refl
     where
-      g : Setting
-      g = setting base e (OfClient c)
-
-      by : (q : ℕ) → s.end.seq ≡ q → EndFlew base e lines texts part first count c s.end
+      by : (q : ℕ) → s.end.seq ≡ q → EndFlew base e lines texts part first count (log_by role) s.end
       by zero fact = inl fact
       by (suc q) fact =
-          let at = ((lines (OfClient c) there).stands count).moment in
-          let net = ((lines (OfClient c) there).scene count).net in
-          let last = laws.last (setting base e (OfClient c)) net refl at (sure (OfClient c) there refl) s sees.owner in
-          let f = (laws.whole (setting base e (OfClient c)) net at).flown (record { log = s.log; seq = s.end.seq; pass = s.end.pass })
+          let at = ((lines role there).stands count).moment in
+          let net = ((lines role there).scene count).net in
+          let last = laws.logs.ends_are_last (setting base e role) net goes_on at (sure role there goes_on) s sees.owner in
+          let f = (laws.logs.logs_stay_whole (setting base e role) net at).flown (record { log = s.log; seq = s.end.seq; pass = s.end.pass })
           (last.filed (omega arith)) in
-          let named : f.0.name ≡ record { log = record { 0 = c }; seq = s.end.seq; pass = s.end.pass } =
+          let named : f.0.name ≡ record { log = record { 0 = log_by role }; seq = s.end.seq; pass = s.end.pass } =
           f.2 ∙ ap (λ (l : LogId). record { log = l; seq = s.end.seq; pass = s.end.pass }) sees.own.log in
           inr (record {
-            of = record { role = OfClient c; there = there; own = refl };
+            of = record { role = role; there = there; own = refl };
             segment = f.0;
             among = f.1;
             named = sym named;
-            grouped = sym (laws.ends (setting base e (OfClient c)) net at s sees.owner f.0 f.1 named);
+            grouped = sym (laws.logs.ends_name_groups (setting base e role) net at s sees.owner f.0 f.1 named);
           })
 
-  cleaner_end : (s : LogState) → SeesLog (setting base e OfCleaner) cleaners_number ((lines OfCleaner tt).scene count) s → EndFlew base e lines texts part first count cleaners_number s.end
-  cleaner_end s sees = by s.end.seq refl
-    where
-      by : (q : ℕ) → s.end.seq ≡ q → EndFlew base e lines texts part first count cleaners_number s.end
-      by zero fact = inl fact
-      by (suc q) fact =
-          let at = ((lines OfCleaner tt).stands count).moment in
-          let net = ((lines OfCleaner tt).scene count).net in
-          let last = laws.last (setting base e OfCleaner) net refl at (sure OfCleaner tt refl) s sees.owner in
-          let f = (laws.whole (setting base e OfCleaner) net at).flown (record { log = s.log; seq = s.end.seq; pass = s.end.pass })
-          (last.filed (omega arith)) in
-          let named : f.0.name ≡ record { log = record { 0 = 9 }; seq = s.end.seq; pass = s.end.pass } =
-          f.2 ∙ ap (λ (l : LogId). record { log = l; seq = s.end.seq; pass = s.end.pass }) sees.own.log in
-          inr (record {
-            of = record { role = OfCleaner; there = tt; own = refl };
-            segment = f.0;
-            among = f.1;
-            named = sym named;
-            grouped = sym (laws.ends (setting base e OfCleaner) net at s sees.owner f.0 f.1 named);
-          })
+  -- an owner in this phase, which serves log l where it serves
+  module _ {P S : Type 0} (serving : S → P) (its_log : S → LogState) (one : (a b : S) → serving a ≡ serving b → a ≡ b) (phase : P) (l : ℕ) where
+    -- an end that whichever Report bears
+    pub record Reported : Type 0 where
+      end : End
+      is_end : (s : S) → phase ≡ serving s → (its_log s).end ≡ end
+      flew : EndFlew base e lines texts part first count l end
+
+    -- while it doesn't serve any will do
+    none_reported : ((s : S) → phase ≡ serving s → ⊥) → Reported
+    none_reported never = record { end = no_end; is_end = λ s serves. absurd (never s serves); flew = inl refl }
+
+    log_reported : (s : S) → phase ≡ serving s → EndFlew base e lines texts part first count l (its_log s).end → Reported
+    log_reported s fact flew = record {
+      end = (its_log s).end;
+      is_end = λ t serves. ap (λ x. (its_log x).end) (one t s (sym serves ∙ fact));
+      flew = flew;
+    }
 
   -- ---- one node takes its step
 
@@ -218,29 +204,17 @@ module _ (base : Setting) (e : Estate AnyNode) (lines : HasLines base e) (texts 
         by (clients.Opening l o) h = h.0.number
         by (clients.Serving s) h = h.0.number
 
-    -- an end that whichever Report bears
-    record Reported : Type 0 where
-      end : End
-      is_end : (s : ServingClient) → node.phase ≡ clients.Serving s → s.log.end ≡ end
-      flew : EndFlew base e lines texts part first count c end
+    one_serving : (a b : ServingClient) → clients.Serving a ≡ clients.Serving b → a ≡ b
+    one_serving a b h = cc
 
-    reported : Reported
+    reported : Reported clients.Serving (λ s. s.log) one_serving node.phase c
     reported = by node.phase refl
       where
-        one : (a b : ServingClient) → clients.Serving a ≡ clients.Serving b → a ≡ b
-        one a b h = cc
-
-        none : (p : client_phase.Phase) → node.phase ≡ p → ((s : ServingClient) → p ≡ clients.Serving s → ⊥) → Reported
-        none p fact never = record { end = no_end; is_end = λ s serves. absurd (never s (sym fact ∙ serves)); flew = inl refl }
-
-        by : (p : client_phase.Phase) → node.phase ≡ p → Reported
-        by (clients.Down l) fact = none (clients.Down l) fact (λ s h. absurd cc)
-        by (clients.Opening l o) fact = none (clients.Opening l o) fact (λ s h. absurd cc)
-        by (clients.Serving s) fact = record {
-          end = s.log.end;
-          is_end = λ t serves. ap (λ (x : ServingClient). x.log.end) (one t s (sym serves ∙ fact));
-          flew = client_end c there s.log (subst (client_log.ClientAgrees g c w) fact agrees).1;
-        }
+        by : (p : client_phase.Phase) → node.phase ≡ p → Reported clients.Serving (λ s. s.log) one_serving node.phase c
+        by (clients.Down l) fact = none_reported clients.Serving (λ s. s.log) one_serving node.phase c (λ s h. absurd cc)
+        by (clients.Opening l o) fact = none_reported clients.Serving (λ s. s.log) one_serving node.phase c (λ s h. absurd cc)
+        by (clients.Serving s) fact = log_reported clients.Serving (λ s. s.log) one_serving node.phase c s fact
+            (end_flew (OfClient c) there refl c s.log (subst (client_log.ClientAgrees g c w) fact agrees).1)
 
     pub client_step_refers : StepRefers (any.Client node) what
     client_step_refers = record {
@@ -254,28 +228,18 @@ module _ (base : Setting) (e : Estate AnyNode) (lines : HasLines base e) (texts 
     cleaner_agrees : cleaner_log.CleanerAgrees (setting base e OfCleaner) ((lines OfCleaner tt).scene count) node.phase
     cleaner_agrees = (((lines OfCleaner tt).stands count).seen Cleaner (any.Cleaner node) here).agrees
 
-    record CleanerReported : Type 0 where
-      end : End
-      is_end : (s : Emptying) → node.phase ≡ cleaning.Serving s → s.log.end ≡ end
-      flew : EndFlew base e lines texts part first count cleaners_number end
+    one_emptying : (a b : Emptying) → cleaning.Serving a ≡ cleaning.Serving b → a ≡ b
+    one_emptying a b h = cc
 
-    cleaner_reported : CleanerReported
+    cleaner_reported : Reported cleaning.Serving (λ s. s.log) one_emptying node.phase cleaners_number
     cleaner_reported = by node.phase refl
       where
-        one : (a b : Emptying) → cleaning.Serving a ≡ cleaning.Serving b → a ≡ b
-        one a b h = cc
-
-        none : (p : cleaning_phase.Phase) → node.phase ≡ p → ((s : Emptying) → p ≡ cleaning.Serving s → ⊥) → CleanerReported
-        none p fact never = record { end = no_end; is_end = λ s serves. absurd (never s (sym fact ∙ serves)); flew = inl refl }
-
-        by : (p : cleaning_phase.Phase) → node.phase ≡ p → CleanerReported
-        by (cleaning.Down l) fact = none (cleaning.Down l) fact (λ s h. absurd cc)
-        by (cleaning.Opening l o) fact = none (cleaning.Opening l o) fact (λ s h. absurd cc)
-        by (cleaning.Serving s) fact = record {
-          end = s.log.end;
-          is_end = λ t serves. ap (λ (x : Emptying). x.log.end) (one t s (sym serves ∙ fact));
-          flew = cleaner_end s.log (subst (cleaner_log.CleanerAgrees (setting base e OfCleaner) ((lines OfCleaner tt).scene count)) fact cleaner_agrees).log;
-        }
+        by : (p : cleaning_phase.Phase) → node.phase ≡ p → Reported cleaning.Serving (λ s. s.log) one_emptying node.phase cleaners_number
+        by (cleaning.Down l) fact = none_reported cleaning.Serving (λ s. s.log) one_emptying node.phase cleaners_number (λ s h. absurd cc)
+        by (cleaning.Opening l o) fact = none_reported cleaning.Serving (λ s. s.log) one_emptying node.phase cleaners_number (λ s h. absurd cc)
+        by (cleaning.Serving s) fact = log_reported cleaning.Serving (λ s. s.log) one_emptying node.phase cleaners_number s fact
+            (end_flew OfCleaner tt refl cleaners_number s.log
+            (subst (cleaner_log.CleanerAgrees (setting base e OfCleaner) ((lines OfCleaner tt).scene count)) fact cleaner_agrees).log)
 
     pub cleaner_step_refers : StepRefers (any.Cleaner node) what
     cleaner_step_refers = record {
@@ -308,7 +272,7 @@ module _ (base : Setting) (e : Estate AnyNode) (lines : HasLines base e) (texts 
     flies_by s sees at = by s.log.flight refl sees.log.own.flight held
       where
         held : IfSome s.log.flight (λ (f : FlightState). tables.In f.segment wm.net.flown)
-        held = subst (OwnerFlew wm.net.flown) sees.log.owner (laws.held gm wm.net ((lines (OfManager j) there).stands count).moment)
+        held = subst (OwnerFlew wm.net.flown) sees.log.owner (laws.logs.what_is_held_flew gm wm.net ((lines (OfManager j) there).stands count).moment)
 
         same : s.writer.log ≡ gm.log
         same = sym at.writer.same_log ∙ sees.log.own.log
@@ -364,7 +328,7 @@ module _ (base : Setting) (e : Estate AnyNode) (lines : HasLines base e) (texts 
           let server = joint.tokens_stand.placed.servers v b.some b.within in
           subst (λ x. StepRefers x what) (is_that (Server v) at (any.Server server.0) server.1) (record {
             node_refers = tt;
-            packets = server_refers r server.0.number (takes server.0 what).outs (laws.servers server.0 what);
+            packets = server_refers r server.0.number (takes server.0 what).outs (laws.index.nodes.server server.0 what);
           })
       steps_refer Cleaner at =
           let there = joint.tokens_stand.placed.cleaner in

@@ -3,9 +3,7 @@
 use Rattle.std.proofs.Common.{◌≡◌, ℕ, true, Bool, None, Some, refl, sym, ap, subst, ◌∙◌, arith}
 use Rattle.core_world.specs.declared.any_node.AnyNode.{AnyNode}
 use Rattle.core_world.specs.declared.any_node.AnyNode.TheVariants as any
-use Rattle.run_laws.specs.epoch_law.Managers.{TokensAreGiven}
 use Rattle.run_laws.proofs.index_reads.Gathers.{completes}
-use Rattle.run_laws.specs.index_reads.Managers.{DeltasAreCovered}
 use Rattle.run_laws.specs.index_reads.Ties.{Tied}
 use Rattle.log_tie.specs.Setting.{Setting}
 use Rattle.manager_node.specs.declared.manager.Manager.{Manager as ManagerNode}
@@ -57,21 +55,17 @@ use Rattle.run_laws.specs.world_logs.Roles.Role.{OfManager}
 use Rattle.run_laws.proofs.world_reads.ManagerMoment as manager
 use Rattle.run_laws.proofs.world_reads.ManagerMoment.{ManagerEvent}
 use Rattle.run_laws.proofs.world_reads.ManagerReading as reading
-use Rattle.run_laws.proofs.world_reads.ManagerReading.{ManagerLaws, SourcesFlew}
+use Rattle.run_laws.proofs.world_reads.ManagerReading.{SourcesFlew}
 use Rattle.run_laws.specs.world_reads.Joint.{There}
 use Rattle.xfs_base.specs.declared.node.NodeId.{NodeId}
 use Rattle.xfs_base.specs.declared.node.NodeId.TheVariants.{Client, Manager, Server, Cleaner, Registry}
-
--- the laws of the crates below on which it stands besides
-pub record TellingLaws : Type 0 where
-  pub given : TokensAreGiven
-  pub deltas : DeltasAreCovered
+use Rattle.run_laws.specs.world_reads.Below.{Below}
 
 none_some : {X : Type 0} (x : X) → None ≡ Some x → ⊥
 none_some x h = absurd cc
 
 module _ (base : Setting) (e : Estate AnyNode) (lines : HasLines base e) (texts : Texts base e lines) (part : ℕ) (first : ℕ → ℕ → Segment) (count j : ℕ)
-    (there : There base e lines texts part first (OfManager j)) (more : TellingLaws) (event : Event) (node : ManagerNode)
+    (there : There base e lines texts part first (OfManager j)) (laws : Below) (event : Event) (node : ManagerNode)
     (x : ManagerEvent base e lines texts part first count j there event node) where
   abbrev what : Do
   what = what_of event
@@ -125,7 +119,8 @@ module _ (base : Setting) (e : Estate AnyNode) (lines : HasLines base e) (texts 
 
     deltas_by : (d : Desk) (y : SlotPhase) → owners.PhaseAgrees members part t y → places.PhaseAgrees part texts.text i.net d y → (from : NodeId) (m : Deltas)
         → places.DeltasGets part texts.text i.asked j i.net from m → owners.DeltasGets true members part t y from m
-    deltas_by d (phase.Active a) own at from m gets = same from (more.deltas members part j texts.text i.asked run_to i.net (phase.Active a) from m (record {
+    deltas_by d (phase.Active a) own at from m gets = same from (laws.index.deltas_are_covered members part j texts.text i.asked run_to i.net (phase.Active
+        a) from m (record {
       tied = tied;
       filed = x.coming.joint.index_stands.texts_of;
       tokens_see = active_sees a own;
@@ -229,11 +224,11 @@ module _ (base : Setting) (e : Estate AnyNode) (lines : HasLines base e) (texts 
   serving_told (Down kept) serves q gets = tt
 
   -- where it is owed what it is owed to the small world of the index
-  module _ (laws : ManagerLaws) (flew : SourcesFlew base e lines texts part first count j there (slot_in part node.phase)) where
+  module _ (flew : SourcesFlew base e lines texts part first count j there (slot_in part node.phase)) where
     given : ManagerGiven part j i.net (manager.k base e lines texts part first count).managers (index.holder part i) node.phase what
     given = subst
         (λ name. TokensGive part (manager.k base e lines texts part first count).managers (index.holder part i) i.net name (any.Manager node) what) x.own
-        (manager.tokens_given base e lines texts part first count event x.coming more.given (any.Manager node)
+        (manager.tokens_given base e lines texts part first count event x.coming laws.tokens.tokens_are_given (any.Manager node)
         (subst (λ name. node_in (moment e count).nodes (place_of (manager.k base e lines texts part first count) name) ≡ Some (any.Manager node)) (sym x.own)
         (manager.here base e lines texts part first count j there event node x)))
 

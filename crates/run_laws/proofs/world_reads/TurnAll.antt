@@ -22,7 +22,6 @@ use Rattle.run_laws.proofs.world_law.RegistryTurns.{slot_below}
 use Rattle.run_laws.specs.world_law.Owners.{moment}
 use Rattle.run_laws.specs.world_logs.Lines.{HasLines, Texts}
 use Rattle.run_laws.proofs.world_reads.TurnBoth.{Both}
-use Rattle.run_laws.proofs.world_reads.TurnLaws.{StepsBelow}
 use Rattle.run_laws.proofs.world_reads.TurnLives.{lives_lie}
 use Rattle.run_laws.proofs.world_reads.TurnNext.{Grows}
 use Rattle.run_laws.proofs.world_reads.TurnRun.{Step, both_then, joint_then}
@@ -31,12 +30,13 @@ use Rattle.xfs_base.specs.Blocks.{slot_of}
 use Rattle.xfs_base.specs.declared.node.NodeId.{NodeId}
 use Rattle.xfs_base.specs.declared.node.NodeId.TheVariants.{Client, Manager, Server, Cleaner, Registry}
 use Rattle.xfs_base.specs.Limits.{slot_count}
+use Rattle.run_laws.specs.world_reads.Below.{Below}
 
 all_from : {X : Type 0} (P : X → Type 0) (xs : List X) → ((x : X) → In x xs → P x) → AllByRecursion P xs
 all_from P [] each = tt
 all_from P (x ∷ xs) each = (each x (inl refl), all_from P xs (λ y among. each y (inr among)))
 
-module _ (laws : StepsBelow) (base : Setting) (e : Estate AnyNode) (lines : HasLines base e) (texts : Texts base e lines) (first : ℕ → ℕ → Segment) where
+module _ (laws : Below) (base : Setting) (e : Estate AnyNode) (lines : HasLines base e) (texts : Texts base e lines) (first : ℕ → ℕ → Segment) where
   -- ---- what managers told of blocks that live
 
   module _ (count : ℕ) (both : (part : ℕ) → part < slot_count → Both base e lines texts part first count) where
@@ -44,7 +44,7 @@ module _ (laws : StepsBelow) (base : Setting) (e : Estate AnyNode) (lines : HasL
         → IsSentBy from (body.Live m)
         → SentBy part b.idx.net b.idx.asked from (body.Live m) → 0 < m.entry.ver
     live_tells part b m inside (Manager j) kind told =
-        lives_lie laws.joins part (held_in part texts.text) first b.idx.net b.index_stands.runs m.block m.entry inside (told inside)
+        lives_lie laws.index.each_index_is_the_join part (held_in part texts.text) first b.idx.net b.index_stands.runs m.block m.entry inside (told inside)
     live_tells part b m inside (Client c) kind told = absurd kind
     live_tells part b m inside (Server v) kind told = absurd kind
     live_tells part b m inside Cleaner kind told = absurd kind

@@ -44,18 +44,19 @@ use Rattle.run_laws.specs.world_law.Owners.{moment, node_in}
 use Rattle.run_laws.specs.world_logs.Lines.{HasLines, Texts}
 use Rattle.run_laws.proofs.world_reads.AfterFalls.{all_aside, client_aside}
 use Rattle.run_laws.proofs.world_reads.Taking.{Took, took_it}
-use Rattle.run_laws.proofs.world_reads.TurnBoth.{Both, TurnLaws, delivered_to, sent_before}
+use Rattle.run_laws.proofs.world_reads.TurnBoth.{Both, delivered_to, sent_before}
 use Rattle.run_laws.specs.world_reads.Joint.{k}
 use Rattle.xfs_base.specs.declared.node.NodeId.{NodeId}
 use Rattle.xfs_base.specs.declared.node.NodeId.TheVariants.{Client, Manager, Server, Cleaner, Registry}
 use Rattle.xfs_base.specs.Limits.{slot_count}
+use Rattle.run_laws.specs.world_reads.Below.{Below}
 
 client_number : (logs : Bool) (part c : ℕ) (n : Net) (p : Phase) → ClientAgrees logs part c n p → (lasting_of p).number ≡ c
 client_number logs part c n (Down l) h = h.number
 client_number logs part c n (Opening l o) h = h.number
 client_number logs part c n (Serves s) h = h.number
 
-module _ (laws : TurnLaws) (base : Setting) (e : Estate AnyNode) (lines : HasLines base e) (texts : Texts base e lines) (part : ℕ)
+module _ (laws : Below) (base : Setting) (e : Estate AnyNode) (lines : HasLines base e) (texts : Texts base e lines) (part : ℕ)
     (first : ℕ → ℕ → Segment) (of_eight : part < slot_count) (count : ℕ) (event : Event) (cluster : (moment e count).cluster ≡ k base e lines texts part first)
     (may : MayHappen (moment e count) event) (b : Both base e lines texts part first count) (c : ℕ) (down : b.tok.net.up c ≡ false)
     (away : Client c ≡ node_of event → ⊥) (node : AnyNode) (took : Took (moment e count) event node) (adopted : Bool)
@@ -115,7 +116,7 @@ module _ (laws : TurnLaws) (base : Setting) (e : Estate AnyNode) (lines : HasLin
       goes : Owed (Client d) (any.Client (s.client d))
           → ClientGoes true (members cl part) part (epoch_now cl part s) d s.net (s.client d).phase (takes (s.client d) what).state
           (takes (s.client d) what).outs
-      goes told = laws.tokens.client true (members cl part) part (epoch_now cl part s) d of_eight i.some less s.net (s.client d) what agreed.0 agreed.1
+      goes told = laws.tokens.nodes.client true (members cl part) part (epoch_now cl part s) d of_eight i.some less s.net (s.client d) what agreed.0 agreed.1
           (λ taken. gets what refl (told taken))
 
       other : d ≡ c → ⊥
@@ -148,7 +149,7 @@ module _ (laws : TurnLaws) (base : Setting) (e : Estate AnyNode) (lines : HasLin
 
       quiet : Owed (Manager j) (any.Manager (s.manager j)) → IsQuiet (any.Manager (s.manager j))
       quiet told =
-          let go = laws.tokens.manager true (members cl part) part (epoch_now cl part s) j s.net (s.manager j) what of_eight
+          let go = laws.tokens.nodes.manager true (members cl part) part (epoch_now cl part s) j s.net (s.manager j) what of_eight
           (sym (b.tokens_stand.peers j i.some i.within)) sees.agrees sees.within (gets what refl told) in
           let after = happens (s.manager j) what in
           let name = Manager (managers.lasting_of (s.manager j).phase).number in
@@ -162,7 +163,7 @@ module _ (laws : TurnLaws) (base : Setting) (e : Estate AnyNode) (lines : HasLin
   server_quiet : (v : ℕ) → node_of event ≡ Server v → IsQuiet node
   server_quiet v own = of_node (Server v) own (any.Server there.0) there.1
       (λ told. all_aside c (server_step there.0 what).acts
-      (recursion_from_All IsNeutral (server_step there.0 what).acts (laws.tokens.server there.0 what).1))
+      (recursion_from_All IsNeutral (server_step there.0 what).acts (laws.tokens.nodes.server there.0 what).1))
     where
       i : Behind (cl.clients + cl.managers) cl.servers v took.place
       i = behind (cl.clients + cl.managers) cl.servers v took.place (at (Server v) own)
@@ -183,7 +184,7 @@ module _ (laws : TurnLaws) (base : Setting) (e : Estate AnyNode) (lines : HasLin
 
       quiet : Owed Cleaner (any.Cleaner s.cleaner) → IsQuiet (any.Cleaner s.cleaner)
       quiet told =
-          let go = laws.tokens.cleaner true (members cl part) part s.net.promised (epoch_now cl part s) s.net of_eight b.tokens_stand.cleaner.0
+          let go = laws.tokens.nodes.cleaner true (members cl part) part s.net.promised (epoch_now cl part s) s.net of_eight b.tokens_stand.cleaner.0
           b.tokens_stand.few adopted s.cleaner what b.tokens_stand.cleaner.1 (gets what refl) b.tokens_stand.copies told in
           all_aside c (acts_of Cleaner went.outs)
           (recursion_from_All IsNeutral (acts_of Cleaner went.outs)
@@ -193,7 +194,7 @@ module _ (laws : TurnLaws) (base : Setting) (e : Estate AnyNode) (lines : HasLin
   registry_quiet : node_of event ≡ Registry → IsQuiet node
   registry_quiet own = of_node Registry own (any.Registry s.registry) b.tokens_stand.placed.registry
       (λ told. all_aside c (registry_step s.registry what).acts
-      (recursion_from_All IsNeutral (registry_step s.registry what).acts (laws.tokens.registry part of_eight s.registry b.tokens_stand.sound what).acts))
+      (recursion_from_All IsNeutral (registry_step s.registry what).acts (laws.tokens.nodes.registry part of_eight s.registry b.tokens_stand.sound what).acts))
 
   -- so it is in each event of another node
   pub others_quiet : AllByRecursion (IsAside c) (any_step node what).acts

@@ -7,8 +7,7 @@ use Rattle.cleaner_serving.specs.declared.emptying.Emptying.{Emptying}
 use Rattle.cleaner_node.specs.CleanerEvents as cleaners
 use Rattle.cleaner_node.specs.declared.cleaner.Phase.TheVariants.{Opening, Serving}
 use Rattle.cleaner_job.specs.declared.lasting.Lasting.{Lasting}
-use Rattle.run_laws.specs.epoch_law.Managers.{TokensAreGiven}
-use Rattle.run_laws.specs.epoch_law.Slots.{BothStand, SameSlots, SlotsStaySame}
+use Rattle.run_laws.specs.epoch_law.Slots.{BothStand, SameSlots}
 use Rattle.log_owner.specs.declared.opening.Opening as openings
 use Rattle.log_tie.specs.Setting.{Setting}
 use Rattle.node_slots.specs.node_tie.RegistryEvents.{RegistrySound}
@@ -48,13 +47,7 @@ use Rattle.run_laws.specs.world_reads.Joint.{Joint, k}
 use Rattle.xfs_base.specs.declared.node.NodeId.{NodeId}
 use Rattle.xfs_base.specs.declared.node.NodeId.TheVariants.{Cleaner}
 use Rattle.xfs_base.specs.Limits.{slot_count}
-
--- the laws of the crates below
-pub record TurnLaws : Type 0 where
-  pub tokens : token_turns.NodeLaws
-  pub index : index_turns.NodeLaws
-  pub given : TokensAreGiven
-  pub slots : SlotsStaySame
+use Rattle.run_laws.specs.world_reads.Below.{Below}
 
 -- what is delivered was sent
 pub sent_before : (w : World AnyNode) (event : Event) → MayHappen w event → (q : Packet) → what_of event ≡ Deliver q → In q w.sent
@@ -132,7 +125,7 @@ module _ (base : Setting) (e : Estate AnyNode) (lines : HasLines base e) (texts 
     abbrev pub Goes : ((node : AnyNode) → Took now event node → IsOwed node) → Type 0
     Goes owed = NothingHappens now event ⊎ ((node : AnyNode) × (took : Took now event node) × Turned node (owed node took))
 
-    pub goes : TurnLaws → part < slot_count → now.cluster ≡ c → slice_get e.events count ≡ Some event → MayHappen now event
+    pub goes : Below → part < slot_count → now.cluster ≡ c → slice_get e.events count ≡ Some event → MayHappen now event
         → (owed : (node : AnyNode) → Took now event node → IsOwed node) → Goes owed
     goes laws of_eight cluster at may owed =
         next_keeps any_step Which now event (λ nodes sent acts. inl (record { nodes = nodes; sent = sent; acts = acts })) turned refl refl refl
@@ -172,7 +165,7 @@ module _ (base : Setting) (e : Estate AnyNode) (lines : HasLines base e) (texts 
               idx = i.next;
               index_stands = same_moment (λ n s a. index.Stands c part texts.text first n s RegistrySound i.next) _ later.nodes _ later.sent _ later.acts
                   to_nodes to_sent to_acts i.stands;
-              slots = laws.slots true c part texts.text now.nodes place what _ _ name node b.tok t.next b.idx.net i.next.net b.slots
+              slots = laws.tokens.slots_stay_same true c part texts.text now.nodes place what _ _ name node b.tok t.next b.idx.net i.next.net b.slots
                   (record { placed = at_c; stands = premise; tokens = t.stands; leaves = t.stay; index = i.makes });
               entered =
                   entered_stays true c part now.nodes _ now.sent _ now.acts _ b.tok t.next b.tokens_stand t.stands t.since
@@ -198,17 +191,19 @@ module _ (base : Setting) (e : Estate AnyNode) (lines : HasLines base e) (texts 
             both : BothStand true c part texts.text first now.nodes now.sent now.acts b.tok b.idx
             both = record { tokens = b.tokens_stand; index = b.index_stands; same = b.slots }
 
-            t : token_turns.Turned laws.tokens true c part of_eight now.nodes now.sent now.acts b.tok b.tokens_stand place clock what (owed node took).adopted
+            t : token_turns.Turned laws.tokens.nodes true c part of_eight now.nodes now.sent now.acts b.tok b.tokens_stand place clock what (owed node
+                took).adopted
                 name node
-            t = token_turns.turns laws.tokens true c part of_eight now.nodes now.sent now.acts b.tok b.tokens_stand place clock what (owed node took).adopted
+            t = token_turns.turns laws.tokens.nodes true c part of_eight now.nodes now.sent now.acts b.tok b.tokens_stand place clock what (owed node
+                took).adopted
                 name fact at_c node premise (owed node took).tokens
 
-            i : index_turns.Turned laws.index c part of_eight texts.text first now.nodes now.sent b.idx b.index_stands place clock what name node
+            i : index_turns.Turned laws.index.nodes c part of_eight texts.text first now.nodes now.sent b.idx b.index_stands place clock what name node
             i =
-                index_turns.turns laws.index c part of_eight texts.text first
+                index_turns.turns laws.index.nodes c part of_eight texts.text first
                 now.nodes now.sent b.idx b.index_stands place clock what name known at_c node premise
                 (owed node took).index
-                (laws.given true c part texts.text first now.nodes now.sent now.acts b.tok b.idx name node what both there fact)
+                (laws.tokens.tokens_are_given true c part texts.text first now.nodes now.sent now.acts b.tok b.idx name node what both there fact)
 
             to_nodes : slice_set now.nodes place (any_step node what).node ≡ later.nodes
             to_nodes = sym (ap (λ (w : World AnyNode). w.nodes) is_later ∙ nodes)

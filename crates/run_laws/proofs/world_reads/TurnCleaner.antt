@@ -59,14 +59,13 @@ use Rattle.run_laws.specs.world_logs.Lines.{HasLines, Line, Texts, setting}
 use Rattle.run_laws.specs.world_logs.Roles.Role.{OfCleaner}
 use Rattle.run_laws.proofs.world_reads.After.{AllKnown, KnownAt}
 use Rattle.run_laws.proofs.world_reads.AfterCleaner as after
-use Rattle.run_laws.proofs.world_reads.AfterClients.{OwnAfter}
+use Rattle.run_laws.proofs.world_reads.AfterOwn.{OwnAfter}
 use Rattle.run_laws.proofs.world_reads.AfterLogs.{served_last}
 use Rattle.run_laws.proofs.world_reads.CleanerMoment.{sure_at, upto_before}
 use Rattle.run_laws.proofs.world_reads.CleanerPromises.{promised_then}
 use Rattle.run_laws.proofs.world_reads.CleanerSaying.{says_once}
 use Rattle.run_laws.proofs.world_reads.Taking.{Took, did_then, moment_next, node_then, took_it}
 use Rattle.run_laws.proofs.world_reads.TurnBoth.{AdoptsThere, Both, IsOwed, Turned, sent_before}
-use Rattle.run_laws.proofs.world_reads.TurnLaws.{StepsBelow}
 use Rattle.run_laws.proofs.world_reads.TurnMoment as now
 use Rattle.run_laws.proofs.world_reads.TurnMoment.{same_cleaner}
 use Rattle.run_laws.specs.world_reads.Joint.{IsSureUpto, k}
@@ -74,6 +73,7 @@ use Rattle.xfs_base.specs.declared.node.NodeId.TheVariants.{Cleaner}
 use Rattle.xfs_base.specs.Limits.{counter_room, u32_end, slot_count}
 use Rattle.xfs_base.specs.Steps.{still}
 use Rattle.xfs_base.proofs.Booleans.{and_first, and_second}
+use Rattle.run_laws.specs.world_reads.Below.{Below}
 
 -- ---- counters
 
@@ -88,7 +88,7 @@ room_below (Down l) h = lasting_below l h
 room_below (Opening l o) h = lasting_below l (and_first (lasting_room l) _ h)
 room_below (Serves e) h = lasting_below e.lasting (and_first (lasting_room e.lasting) _ h)
 
-module _ (laws : StepsBelow) (base : Setting) (e : Estate AnyNode) (lines : HasLines base e) (texts : Texts base e lines) (part : ℕ)
+module _ (laws : Below) (base : Setting) (e : Estate AnyNode) (lines : HasLines base e) (texts : Texts base e lines) (part : ℕ)
     (first : ℕ → ℕ → Segment) (of_eight : part < slot_count) (apart : TellsApart base) (count : ℕ) (event : Event) (at_event : slice_get e.events count ≡ Some event)
     (cluster : (moment e count).cluster ≡ k base e lines texts part first) (may : MayHappen (moment e count) event)
     (b : Both base e lines texts part first count) (sure : IsSureUpto base e lines texts part first (suc count))
@@ -187,7 +187,7 @@ module _ (laws : StepsBelow) (base : Setting) (e : Estate AnyNode) (lines : HasL
   calm = subst (λ (m : Moment g v.net). IsSureRun m.run) (line.joined count) (sure OfCleaner tt refl)
 
   acts_filed : AllSo (λ name. In name v.net.filed) outs
-  acts_filed = laws.done v.net Cleaner outs
+  acts_filed = laws.lines.acts_are_done v.net Cleaner outs
       (λ name among. (line.stands (suc count)).filed name
       (did_then e its_log count event (any.Cleaner x) at_event (ap (owns its_log) own) took (ActsFiled name) among))
 
@@ -211,7 +211,7 @@ module _ (laws : StepsBelow) (base : Setting) (e : Estate AnyNode) (lines : HasL
       flies = served_last g _ w.net at.run v.log (subst (log_tie.CleanerAgrees g w) fact sees).log.owner
 
       by : (t : Bool) → phase_room x.phase ≡ t → AllSo (IsFlight v.log) outs
-      by true room = (laws.cleaner_flights part texts.text g w b.idx.net x what v of_eight sure_before
+      by true room = (laws.lines.cleaner_files_its_flights part texts.text g w b.idx.net x what v of_eight sure_before
           (now.cleaner_owns base e lines texts part first count b).room
           (subst (λ (o : Option FlightState). IfSome o (λ f. SaysBlocks f.segment)) flies (says (last_flight at.run) kind)) sees fact indexed
           (cleaner_gets part texts.text b.idx.asked b.idx.net x.phase what indexed.phase asks (room_below x.phase room) known index_owed.gets)
@@ -233,7 +233,7 @@ module _ (laws : StepsBelow) (base : Setting) (e : Estate AnyNode) (lines : HasL
   cleaner_known writes all =
       let its : KnownAt base e lines texts part first count b.tok.net.books b.idx.net.filed OfCleaner tt = all OfCleaner tt refl in
       subst (λ (m : Moment g v.net). OwnAfter IsCopies its_log m d.tok.net.books d.idx.net.filed) (sym (line.joined count))
-      (after.cleaner_after laws.after part texts.text g refl apart w v at goes straight sure_then calm x what sees then_sees b.tok.net d.tok.net held then_held
+      (after.cleaner_after laws part texts.text g refl apart w v at goes straight sure_then calm x what sees then_sees b.tok.net d.tok.net held then_held
       owed.adopted books.own adopts b.idx.net d.idx.net indexed then_indexed makes.filed turned.grown.filed acts_filed (flights its.kind)
       (subst (λ (a : CleanerNode). CleanerWrites a.phase) is_then writes) its.known its.tells its.kind)
 

@@ -16,19 +16,20 @@ use Rattle.world_base.specs.Runs.{IsRun}
 use Rattle.run_laws.specs.world_law.Standing.{epoch_now, members}
 use Rattle.run_laws.specs.world_law.Owners.{moment}
 use Rattle.run_laws.specs.world_logs.Lines.{HasLines, Texts}
-use Rattle.run_laws.proofs.world_reads.CleanerBeside.{CleanerEvent, RunLaws, beside}
+use Rattle.run_laws.proofs.world_reads.CleanerBeside.{CleanerEvent, beside}
 use Rattle.run_laws.proofs.world_reads.CleanerOwed as owed
 use Rattle.run_laws.proofs.world_reads.CleanerOwed.{Beside}
 use Rattle.run_laws.proofs.world_reads.CleanerTold as told
-use Rattle.run_laws.proofs.world_reads.CleanerTold.{ToldBelow, adopted, adopts_flight}
+use Rattle.run_laws.proofs.world_reads.CleanerTold.{adopted, adopts_flight}
 use Rattle.run_laws.proofs.world_reads.Taking.{Took}
 use Rattle.run_laws.proofs.world_reads.TurnBoth.{both_of}
 use Rattle.run_laws.proofs.world_reads.TurnOwed.{CleanerOwed, IndexOwed}
 use Rattle.run_laws.specs.world_reads.Joint.{IsSureUpto, Joint, k}
 use Rattle.xfs_base.specs.declared.node.NodeId.TheVariants.{Cleaner}
 use Rattle.xfs_base.specs.Limits.{slot_count}
+use Rattle.run_laws.specs.world_reads.Below.{Below}
 
-module _ (runs : RunLaws) (law : ToldBelow) (base : Setting) (e : Estate AnyNode) (lines : HasLines base e) (texts : Texts base e lines) (part : ℕ)
+module _ (law : Below) (base : Setting) (e : Estate AnyNode) (lines : HasLines base e) (texts : Texts base e lines) (part : ℕ)
     (first : ℕ → ℕ → Segment) (of_eight : part < slot_count) (apart : TellsApart base) (setup : IsSetup e.script.setup)
     (run : IsRun any_step any_start e.script e.events e.world) (count : ℕ)
     (joint : Joint base e lines texts part first count)
@@ -38,7 +39,7 @@ module _ (runs : RunLaws) (law : ToldBelow) (base : Setting) (e : Estate AnyNode
   abbrev cl : Cluster
   cl = k base e lines texts part first
 
-  abbrev x : CleanerEvent runs law.owed base e setup run lines texts part first count joint event node
+  abbrev x : CleanerEvent law base e setup run lines texts part first count joint event node
   x = record {
     few = of_eight;
     apart = apart;
@@ -50,12 +51,12 @@ module _ (runs : RunLaws) (law : ToldBelow) (base : Setting) (e : Estate AnyNode
     promised = joint.promised;
   }
 
-  it : Beside law.owed base e lines texts part first count joint node (what_of event)
-  it = beside runs law.owed base e setup run lines texts part first count joint event node x
+  it : Beside law base e lines texts part first count joint node (what_of event)
+  it = beside law base e setup run lines texts part first count joint event node x
 
   -- what the small world of the index is owed
   pub cleaner_owed : IndexOwed base e lines texts part first count event (both_of base e lines texts part first count joint) Cleaner (any.Cleaner node)
-  cleaner_owed = owed.cleaner_owed law.owed base e lines texts part first count joint node (what_of event) it
+  cleaner_owed = owed.cleaner_owed law base e lines texts part first count joint node (what_of event) it
 
   -- and what that of tokens is
   pub cleaner_told : CleanerOwed base e lines texts part first count event (both_of base e lines texts part first count joint) node

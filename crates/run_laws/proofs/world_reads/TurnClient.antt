@@ -49,20 +49,20 @@ use Rattle.run_laws.specs.world_logs.Lines.{HasLines, Line, Texts, setting}
 use Rattle.run_laws.specs.world_logs.Roles.Role.{OfClient}
 use Rattle.run_laws.proofs.world_reads.After.{AllKnown, KnownAt}
 use Rattle.run_laws.proofs.world_reads.AfterClients as after
-use Rattle.run_laws.proofs.world_reads.AfterClients.{OwnAfter}
+use Rattle.run_laws.proofs.world_reads.AfterOwn.{OwnAfter}
 use Rattle.run_laws.proofs.world_reads.AfterLogs.{served_last}
 use Rattle.run_laws.proofs.world_reads.CleanerMoment.{upto_before}
 use Rattle.run_laws.proofs.world_reads.CleanerSaying.{says_once}
 use Rattle.run_laws.proofs.world_reads.Taking.{Took, did_then, moment_next, node_then, took_it}
 use Rattle.run_laws.proofs.world_reads.TurnBoth.{Both, IsOwed, Turned}
-use Rattle.run_laws.proofs.world_reads.TurnLaws.{StepsBelow}
 use Rattle.run_laws.proofs.world_reads.TurnMoment as now
 use Rattle.run_laws.proofs.world_reads.TurnMoment.{same_client}
 use Rattle.run_laws.specs.world_reads.Joint.{IsSureUpto, There, flew_at, k}
 use Rattle.xfs_base.specs.declared.node.NodeId.TheVariants.{Client}
 use Rattle.xfs_base.proofs.Booleans.{equal_itself}
+use Rattle.run_laws.specs.world_reads.Below.{Below}
 
-module _ (laws : StepsBelow) (base : Setting) (e : Estate AnyNode) (lines : HasLines base e) (texts : Texts base e lines) (part : ℕ)
+module _ (laws : Below) (base : Setting) (e : Estate AnyNode) (lines : HasLines base e) (texts : Texts base e lines) (part : ℕ)
     (first : ℕ → ℕ → Segment) (apart : TellsApart base) (count : ℕ) (event : Event) (at_event : slice_get e.events count ≡ Some event)
     (cluster : (moment e count).cluster ≡ k base e lines texts part first) (b : Both base e lines texts part first count)
     (sure : IsSureUpto base e lines texts part first (suc count)) (c : ℕ) (there : There base e lines texts part first (OfClient c))
@@ -157,7 +157,7 @@ module _ (laws : StepsBelow) (base : Setting) (e : Estate AnyNode) (lines : HasL
   calm = subst (λ (m : Moment g v.net). IsSureRun m.run) (line.joined count) (sure (OfClient c) there refl)
 
   acts_filed : AllSo (λ name. In name v.net.filed) outs
-  acts_filed = laws.done v.net (Client (lasting_of x.phase).number) outs
+  acts_filed = laws.lines.acts_are_done v.net (Client (lasting_of x.phase).number) outs
       (λ name among. (line.stands (suc count)).filed name
       (did_then e c count event (any.Client x) at_event (ap (owns c) own ∙ equal_itself c) took (ActsFiled name) among))
 
@@ -172,7 +172,8 @@ module _ (laws : StepsBelow) (base : Setting) (e : Estate AnyNode) (lines : HasL
   flights : IfSome (last_flight at.run) (λ f. IsOriginal f.segment) → (s : serving.Serving) → x.phase ≡ Serves s → AllSo (IsFlight s.log) outs
   flights kind s fact =
       let flies = served_last g _ w.net at.run s.log (subst (log_tie.ClientAgrees g c w) fact sees).1.owner in
-      (laws.client_flights part texts.text g c w b.idx.net x what s there.0 (now.below base e lines texts part first count b c there) sure_before
+      (laws.lines.clients_file_their_flights part texts.text g c w b.idx.net x what s there.0 (now.below base e lines texts part first count b c there)
+          sure_before
       (now.client_sees base e lines texts part first count b c there).room
       (subst (λ (o : Option FlightState). IfSome o (λ f. SaysBlocks f.segment)) flies
       (says (last_flight at.run) kind)) sees fact indexed index_owed.gets).flights
@@ -199,7 +200,7 @@ module _ (laws : StepsBelow) (base : Setting) (e : Estate AnyNode) (lines : HasL
     pub client_known : KnownAt base e lines texts part first (suc count) d.tok.net.books d.idx.net.filed (OfClient c) there
     client_known =
         subst (λ (m : Moment g v.net). OwnAfter IsOriginal c m d.tok.net.books d.idx.net.filed) (sym (line.joined count))
-        (after.client_after laws.after part texts.text c g refl apart w v at goes straight sure_then calm x what sees then_sees b.tok.net d.tok.net held
+        (after.client_after laws part texts.text c g refl apart w v at goes straight sure_then calm x what sees then_sees b.tok.net d.tok.net held
         then_held books.own b.idx.net d.idx.net indexed then_indexed (ap (λ (n : index.Net). n.filed) makes) turned.grown.filed acts_filed (flights its.kind)
         writes_then its.known its.tells
         its.kind fall)
@@ -221,7 +222,7 @@ module _ (laws : StepsBelow) (base : Setting) (e : Estate AnyNode) (lines : HasL
         (sym is_then)
         (subst (λ (m : Moment g v.net). FallKnown (moment e (suc count)).acts c (last_flight m.run) (takes x what).state) (sym (line.joined count))
         (subst (λ (acts : List Act). FallKnown acts c (last_flight (then_on at.run goes)) (takes x what).state) acts_then
-        (after.fell_after laws.after part texts.text c g refl apart w v at goes straight sure_then calm x what sees then_sees b.tok.net d.tok.net held
+        (after.fell_after laws part texts.text c g refl apart w v at goes straight sure_then calm x what sees then_sees b.tok.net d.tok.net held
         then_held books.own b.idx.net d.idx.net indexed then_indexed (ap (λ (n : index.Net). n.filed) makes) turned.grown.filed acts_filed (flights its.kind)
         writes_then its.known its.tells
         its.kind fall number (subst (λ (a : ClientNode). tokens.IsAway a.phase) is_then gone))))

@@ -9,7 +9,6 @@ use Rattle.client_serving.specs.declared.serving.Serving.{Serving}
 use Rattle.core_world.specs.AnyNode.{any_start, any_step}
 use Rattle.core_world.specs.declared.any_node.AnyNode.{AnyNode}
 use Rattle.core_world.specs.declared.any_node.AnyNode.TheVariants as any
-use Rattle.run_laws.specs.epoch_law.Polls.{ClientPollsAreLow}
 use Rattle.log_owner.specs.declared.opened.Opened.{Opened}
 use Rattle.log_owner.specs.declared.opened.Progress.{Progress}
 use Rattle.log_owner.specs.declared.opened.Progress.TheVariants as progress
@@ -18,8 +17,6 @@ use Rattle.log_owner.specs.Opening as opening
 use Rattle.log_tie.specs.Setting.{Setting}
 use Rattle.node_base.specs.Setups.{IsSetup}
 use Rattle.node_slots.specs.node_tie.ClientEvents.{IsTaken}
-use Rattle.run_laws.specs.place_law.Fetches.{RunsReadTheirFetches}
-use Rattle.run_laws.specs.reading_law.Readings.{RunsReadWhatCame}
 use Rattle.run_laws.specs.reopening_law.Openings.{comes_to}
 use Rattle.run_laws.specs.reopening_law.Reopens.{TellsApart}
 use Rattle.segment_format.specs.declared.segment.Segment.{Segment}
@@ -38,10 +35,9 @@ use Rattle.run_laws.specs.world_law.Standing.{epoch_now}
 use Rattle.run_laws.specs.world_law.Owners.{moment, node_in, node_named}
 use Rattle.run_laws.specs.world_logs.Lines.{HasLines, Texts}
 use Rattle.run_laws.specs.world_logs.Roles.Role.{OfClient}
-use Rattle.run_laws.proofs.world_reads.ClientLog.{ClientEvent, ClientLaws}
+use Rattle.run_laws.proofs.world_reads.ClientLog.{ClientEvent}
 use Rattle.run_laws.proofs.world_reads.ClientOwed as owed
 use Rattle.run_laws.proofs.world_reads.ClientTold as told
-use Rattle.run_laws.proofs.world_reads.ClientTold.{TokenLaws}
 use Rattle.run_laws.proofs.world_reads.KnownLogs.{filed_known}
 use Rattle.run_laws.proofs.world_reads.Taking.{Took, took_it}
 use Rattle.run_laws.proofs.world_reads.TurnBoth.{both_of, delivered_to, sent_before}
@@ -53,14 +49,7 @@ use Rattle.run_laws.specs.world_reads.Joint.{IsSureUpto, Joint, There, k}
 use Rattle.xfs_base.specs.declared.node.NodeId.TheVariants.{Client}
 use Rattle.xfs_base.specs.Steps.{still}
 use Rattle.xfs_base.specs.Limits.{slot_count}
-
--- the laws of the crates below on which it stands
-pub record ClientsBelow : Type 0 where
-  pub log : ClientLaws
-  pub told : TokenLaws
-  pub polls : ClientPollsAreLow
-  pub came : RunsReadWhatCame
-  pub fetches : RunsReadTheirFetches
+use Rattle.run_laws.specs.world_reads.Below.{Below}
 
 -- ---- where the opening of its log ends the client serves then
 
@@ -102,7 +91,7 @@ module _ (node : ClientNode) (l : Lasting) (o : Opening) (opens : node.phase ≡
 
 -- ---- beside one run
 
-module _ (below : ClientsBelow) (base : Setting) (e : Estate AnyNode) (lines : HasLines base e) (texts : Texts base e lines) (part : ℕ)
+module _ (below : Below) (base : Setting) (e : Estate AnyNode) (lines : HasLines base e) (texts : Texts base e lines) (part : ℕ)
     (first : ℕ → ℕ → Segment) (of_eight : part < slot_count) (apart : TellsApart base) (setup : IsSetup e.script.setup)
     (run : IsRun any_step any_start e.script e.events e.world) (count : ℕ) (joint : Joint base e lines texts part first count)
     (sure : IsSureUpto base e lines texts part first (suc count)) (event : Event) (at : slice_get e.events count ≡ Some event)
@@ -143,9 +132,10 @@ module _ (below : ClientsBelow) (base : Setting) (e : Estate AnyNode) (lines : H
 
   -- ---- Polls
 
-  low : owed.PollsAreLow base e lines texts part first count c there below.log event node x
+  low : owed.PollsAreLow base e lines texts part first count c there below event node x
   low packet m s fact bears inside serves late =
-      below.polls true cl part texts.text first (moment e count).nodes (moment e count).sent (moment e count).acts joint.tok joint.idx c s m of_eight
+      below.tokens.client_polls_are_low true cl part texts.text first (moment e count).nodes (moment e count).sent (moment e count).acts joint.tok joint.idx
+          c s m of_eight
       (record { tokens = joint.tokens_stand; index = joint.index_stands; same = joint.slots }) there.0
       (now.member base e lines texts part first count (both_of base e lines texts part first count joint) c there)
       (ap (λ (a : ClientNode). a.phase) is_node ∙ serves)
@@ -154,16 +144,16 @@ module _ (below : ClientsBelow) (base : Setting) (e : Estate AnyNode) (lines : H
 
   -- what the small world of the index is owed
   pub client_owed : IndexOwed base e lines texts part first count event (both_of base e lines texts part first count joint) (Client c) (any.Client node)
-  client_owed = owed.client_owed base e lines texts part first count c there below.log event node x low
+  client_owed = owed.client_owed base e lines texts part first count c there below event node x low
 
   -- ---- what it reads
 
-  reading : told.Reading base e lines texts part first count c there below.log event node x below.told
+  reading : told.Reading base e lines texts part first count c there below event node x
   reading = record {
     known = filed_known base e lines texts part first count joint;
     told = joint.entries.holds (any.Client node) (in_list (moment e count).nodes took.place (any.Client node) took.stands);
-    came = (below.came e setup run count).nodes (Client c) (any.Client node) named;
-    its = below.fetches e count c node named;
+    came = (below.reads.runs_read_what_came e setup run count).nodes (Client c) (any.Client node) named;
+    its = below.reads.runs_read_their_fetches e count c node named;
     brought = λ p fact. (sent_before (moment e count) event may p fact, delivered_to event p fact ∙ own);
   }
 
@@ -172,5 +162,5 @@ module _ (below : ClientsBelow) (base : Setting) (e : Estate AnyNode) (lines : H
       → TokensOwed base e lines texts part first count event (both_of base e lines texts part first count joint) adopted (Client c)
       (any.Client node)
   client_told adopted taken =
-      told.client_told base e lines texts part first count c there below.log event node x below.told
+      told.client_told base e lines texts part first count c there below event node x
       (λ l o r opens ends. serves_then node l o opens r (what_of event) taken ends) reading (epoch_now cl part joint.tok)

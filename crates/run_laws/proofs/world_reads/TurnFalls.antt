@@ -38,13 +38,13 @@ use Rattle.run_laws.proofs.world_reads.Taking.{Took, moment_next, took_it}
 use Rattle.run_laws.proofs.world_reads.TurnAside.{others_quiet}
 use Rattle.run_laws.proofs.world_reads.TurnBoth.{Both, IsOwed, Turned}
 use Rattle.run_laws.proofs.world_reads.TurnClient.{client_fell}
-use Rattle.run_laws.proofs.world_reads.TurnLaws.{StepsBelow}
 use Rattle.run_laws.proofs.world_reads.TurnLogs.{LogsKnown, client_or_not}
 use Rattle.run_laws.proofs.world_reads.TurnMoment as now
 use Rattle.run_laws.proofs.world_reads.TurnMoment.{same_client}
 use Rattle.run_laws.specs.world_reads.Joint.{IsSureUpto, There, flew_at, k}
 use Rattle.xfs_base.specs.declared.node.NodeId.TheVariants.{Client}
 use Rattle.xfs_base.specs.Limits.{slot_count}
+use Rattle.run_laws.specs.world_reads.Below.{Below}
 
 module _ (base : Setting) (e : Estate AnyNode) (lines : HasLines base e) (texts : Texts base e lines) (part : ℕ) (first : ℕ → ℕ → Segment) where
   abbrev cl : Cluster
@@ -68,7 +68,7 @@ module _ (base : Setting) (e : Estate AnyNode) (lines : HasLines base e) (texts 
         (now.client_sees base e lines texts part first count b c there).agrees).1.owner,
   )
 
-  module _ (laws : StepsBelow) (of_eight : part < slot_count) (apart : TellsApart base) (count : ℕ) (event : Event)
+  module _ (laws : Below) (of_eight : part < slot_count) (apart : TellsApart base) (count : ℕ) (event : Event)
       (at_event : slice_get e.events count ≡ Some event) (cluster : (moment e count).cluster ≡ cl) (may : MayHappen (moment e count) event)
       (b : Both base e lines texts part first count) (sure : IsSureUpto base e lines texts part first (suc count)) (node : AnyNode)
       (took : Took (moment e count) event node) (owed : IsOwed base e lines texts part first count event b node)
@@ -129,7 +129,7 @@ module _ (base : Setting) (e : Estate AnyNode) (lines : HasLines base e) (texts 
         flight =
             ap (λ (m : Moment (setting base e (OfClient c)) ((lines (OfClient c) there).scene (suc count)).net). last_flight m.run)
             ((lines (OfClient c) there).joined count)
-            ∙ left_flight base e lines texts part first laws.after count (OfClient c) there ((lines (OfClient c) there).others count event at_event away)
+            ∙ left_flight base e lines texts part first laws count (OfClient c) there ((lines (OfClient c) there).others count event at_event away)
 
         acts : (moment e (suc count)).acts ≡ (moment e count).acts ++ (any_step node (what_of event)).acts
         acts = ap (λ (w : World AnyNode). w.acts) (moment_next e count event at_event) ∙ took.acts
@@ -141,8 +141,8 @@ module _ (base : Setting) (e : Estate AnyNode) (lines : HasLines base e) (texts 
         stays down was =
             subst (λ (xs : List Act). FellWith xs c (flew_at base e lines texts part first (OfClient c) there (suc count))) (sym acts)
             (subst (FellWith ((moment e count).acts ++ (any_step node (what_of event)).acts) c) (sym flight)
-            (laws.falls (moment e count).acts (any_step node (what_of event)).acts c (flew_at base e lines texts part first (OfClient c) there count)
-            (others_quiet laws.turns base e lines texts part first of_eight count event cluster may b c down away node took owed.adopted owed.tokens) was))
+            (laws.logs.falls_stay (moment e count).acts (any_step node (what_of event)).acts c (flew_at base e lines texts part first (OfClient c) there count)
+            (others_quiet laws base e lines texts part first of_eight count event cluster may b c down away node took owed.adopted owed.tokens) was))
 
         by_other : (p : Phase) → (b.tok.client c).phase ≡ p → After p
         by_other (Serves s) fact = serving s (ap (λ (x : ClientNode). x.phase) same ∙ fact)

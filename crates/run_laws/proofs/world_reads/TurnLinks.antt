@@ -32,7 +32,6 @@ use Rattle.run_laws.specs.world_logs.Lines.{HasLines, Texts, setting}
 use Rattle.run_laws.specs.world_logs.Roles.Role.{OfClient, OfCleaner}
 use Rattle.run_laws.proofs.world_reads.CleanerMoment.{sure_at}
 use Rattle.run_laws.proofs.world_reads.TurnBoth.{Both}
-use Rattle.run_laws.proofs.world_reads.TurnLaws.{StepsBelow}
 use Rattle.run_laws.proofs.world_reads.TurnLogs.{LogsKnown}
 use Rattle.run_laws.proofs.world_reads.TurnMoment as now
 use Rattle.run_laws.specs.world_reads.Joint.{IsSureUpto, There, k}
@@ -40,11 +39,12 @@ use Rattle.xfs_base.specs.declared.block.BlockId.{BlockId}
 use Rattle.xfs_base.proofs.Booleans.{equal_itself}
 use Rattle.xfs_base.specs.Limits.{slot_count, block_logs}
 use Rattle.xfs_base.specs.Logs.{cleaners_number}
+use Rattle.run_laws.specs.world_reads.Below.{Below}
 
 difference : (a b : ℕ) → a < b → a + (b - a) ≡ b
 difference a b less = omega arith
 
-module _ (laws : StepsBelow) (base : Setting) (e : Estate AnyNode) (lines : HasLines base e) (texts : Texts base e lines) (part : ℕ)
+module _ (laws : Below) (base : Setting) (e : Estate AnyNode) (lines : HasLines base e) (texts : Texts base e lines) (part : ℕ)
     (first : ℕ → ℕ → Segment) (of_eight : part < slot_count) (count : ℕ) (b : Both base e lines texts part first count) where
   abbrev cl : Cluster
   cl = k base e lines texts part first
@@ -69,7 +69,8 @@ module _ (laws : StepsBelow) (base : Setting) (e : Estate AnyNode) (lines : HasL
         plus a = omega arith
     same_horizon x (suc more) above within =
         ap n.horizon (plus x more)
-        ∙ (laws.horizons part (held_in part texts.text) first n of_eight b.index_stands.runs (x + more) (omega arith) (nobody (suc (x + more)) (omega arith))
+        ∙ (laws.tokens.horizons_stay part (held_in part texts.text) first n of_eight b.index_stands.runs (x + more) (omega arith) (nobody (suc (x + more))
+            (omega arith))
         ∙ same_horizon x more above (omega arith))
       where
         plus : (a b : ℕ) → a + suc b ≡ suc (a + b)
@@ -80,7 +81,7 @@ module _ (laws : StepsBelow) (base : Setting) (e : Estate AnyNode) (lines : HasL
     linked_from l g m pos limit sure line seen x above some = by (nat_le n.epoch x) refl
       where
         present : LinkedSince l n.epoch n.horizon n.filed
-        present = laws.present part texts.text l g m n b.idx.registry of_eight pos limit sure line seen b.index_stands.registry
+        present = laws.lines.present_is_linked part texts.text l g m n b.idx.registry of_eight pos limit sure line seen b.index_stands.registry
 
         by : (t : Bool) → nat_le n.epoch x ≡ t → Linked n.filed l (of_log (n.horizon x) l) (n.filed.head l)
         by true fact = present x (leb-true n.epoch x fact) some
@@ -105,7 +106,8 @@ module _ (laws : StepsBelow) (base : Setting) (e : Estate AnyNode) (lines : HasL
   of_client c there s fact x z at =
       let agreed = subst (ClientAgrees true part c b.tok.net) fact (now.client_held base e lines texts part first count b c there) in
       subst (λ (y : TokensState). x ≤ epoch_of y.epochs part) agreed.tokens
-      (laws.promised true (members cl part) part (with_promise 1 b.tok.net) some_block (record { run = b.tokens_stand.runs; inside = of_slot }) x z at c
+      (laws.tokens.active_epochs_promised true (members cl part) part (with_promise 1 b.tok.net) some_block (record { run = b.tokens_stand.runs; inside =
+          of_slot }) x z at c
       (record { some = there.0; within = now.member base e lines texts part first count b c there }))
 
   of_cleaner : (v : Emptying) → b.tok.cleaner.phase ≡ cleaners.Serving v → (x : ℕ) (z : SlotState) → b.tok.net.slots x ≡ Some z

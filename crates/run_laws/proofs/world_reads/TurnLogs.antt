@@ -27,7 +27,6 @@ use Rattle.run_laws.proofs.world_reads.TurnBooks.{IsOther, books_left, filed_lef
 use Rattle.run_laws.proofs.world_reads.TurnBoth.{Both, IsOwed, Turned, both_of}
 use Rattle.run_laws.proofs.world_reads.TurnCleaner.{cleaner_known}
 use Rattle.run_laws.proofs.world_reads.TurnClient.{client_known}
-use Rattle.run_laws.proofs.world_reads.TurnLaws.{StepsBelow}
 use Rattle.run_laws.proofs.world_reads.TurnMoment as now
 use Rattle.run_laws.specs.world_reads.Joint.{IsSureUpto, Joint, There, flew_at, k}
 use Rattle.xfs_base.proofs.Booleans.{contrary}
@@ -35,6 +34,7 @@ use Rattle.xfs_base.specs.declared.node.NodeId.{NodeId}
 use Rattle.xfs_base.specs.declared.node.NodeId.TheVariants.{Client, Manager, Server, Cleaner, Registry}
 use Rattle.xfs_base.specs.Limits.{slot_count, block_logs}
 use Rattle.xfs_base.specs.Logs.{cleaners_number}
+use Rattle.run_laws.specs.world_reads.Below.{Below}
 
 -- ---- names
 
@@ -120,7 +120,7 @@ module _ (base : Setting) (e : Estate AnyNode) (lines : HasLines base e) (texts 
 
   -- ---- a node takes the event
 
-  module _ (laws : StepsBelow) (of_eight : part < slot_count) (apart : TellsApart base) (count : ℕ) (event : Event)
+  module _ (laws : Below) (of_eight : part < slot_count) (apart : TellsApart base) (count : ℕ) (event : Event)
       (at_event : slice_get e.events count ≡ Some event) (cluster : (moment e count).cluster ≡ cl) (may : MayHappen (moment e count) event)
       (b : Both base e lines texts part first count)
       (sure : IsSureUpto base e lines texts part first (suc count)) (node : AnyNode)
@@ -142,7 +142,7 @@ module _ (base : Setting) (e : Estate AnyNode) (lines : HasLines base e) (texts 
     left : (r : Role) (there : There base e lines texts part first r) → renews r ≡ false → (owner_by r ≡ node_of event → ⊥) → IsOther (node_of event) (log_by r)
         → LogsKnown count b → KnownAt base e lines texts part first (suc count) d.tok.net.books d.idx.net.filed r there
     left r there keeps away other known =
-        left_after base e lines texts part first laws.after count b.tok.net.books d.tok.net.books b.idx.net.filed d.idx.net.filed r there
+        left_after base e lines texts part first laws count b.tok.net.books d.tok.net.books b.idx.net.filed d.idx.net.filed r there
         ((lines r there).others count event at_event away)
         (books_left true owed.adopted b.tok.net d.tok.net (what_of event) (node_of event) node turned.books (log_by r) other)
         (filed_left part texts.text b.idx.net d.idx.net (what_of event) (node_of event) node turned.makes (log_by r) other)

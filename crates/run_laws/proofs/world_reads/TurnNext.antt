@@ -38,7 +38,6 @@ use Rattle.run_laws.proofs.world_reads.TurnBoth.{Both, IsOwed, Turned, both_of}
 use Rattle.run_laws.proofs.world_reads.TurnCleaner.{promised_after}
 use Rattle.run_laws.proofs.world_reads.TurnFalls.{FallsKnown, fell_then}
 use Rattle.run_laws.proofs.world_reads.TurnFollows.{follows_itself, follows_turn}
-use Rattle.run_laws.proofs.world_reads.TurnLaws.{StepsBelow}
 use Rattle.run_laws.proofs.world_reads.TurnLinks.{cleaner_linked, clients_linked}
 use Rattle.run_laws.proofs.world_reads.TurnLogs.{LogsKnown, cleaner_or_not, known_then, logs_known}
 use Rattle.run_laws.proofs.world_reads.TurnMoment as now
@@ -48,6 +47,7 @@ use Rattle.run_laws.specs.world_reads.Entries.{EntriesStand}
 use Rattle.run_laws.specs.world_reads.Joint.{IsSureUpto, Joint, LinesActed, There, flew_at, k}
 use Rattle.xfs_base.specs.declared.node.NodeId.TheVariants.{Cleaner}
 use Rattle.xfs_base.specs.Limits.{slot_count}
+use Rattle.run_laws.specs.world_reads.Below.{Below}
 
 -- The moment after one that stands to all small worlds: it stands so and follows that one, and no less is filed than was.
 pub record Grows (base : Setting) (e : Estate AnyNode) (lines : HasLines base e) (texts : Texts base e lines) (part : ℕ) (first : ℕ → ℕ → Segment)
@@ -57,7 +57,7 @@ pub record Grows (base : Setting) (e : Estate AnyNode) (lines : HasLines base e)
   pub more : IsMore before.idx.net.filed joint.idx.net.filed
   pub follows : Follows (k base e lines texts part first) part before.tok before.idx.net joint.tok joint.idx.net
 
-module _ (laws : StepsBelow) (base : Setting) (e : Estate AnyNode) (lines : HasLines base e) (texts : Texts base e lines) (part : ℕ)
+module _ (laws : Below) (base : Setting) (e : Estate AnyNode) (lines : HasLines base e) (texts : Texts base e lines) (part : ℕ)
     (first : ℕ → ℕ → Segment) (of_eight : part < slot_count) (apart : TellsApart base) (run : IsRun any_step any_start e.script e.events e.world)
     (clusters : (count : ℕ) → (moment e count).cluster ≡ k base e lines texts part first) where
   abbrev cl : Cluster
@@ -89,12 +89,12 @@ module _ (laws : StepsBelow) (base : Setting) (e : Estate AnyNode) (lines : HasL
   clients_write : (count : ℕ) (b : Both base e lines texts part first count) (c : ℕ) → 0 < c → c ≤ e.script.setup.clients
       → ClientWrites (b.tok.client c).phase
   clients_write count b c some limit =
-      clients_write_then e run cl count (clusters count) laws.write_originals c (b.tok.client c)
+      clients_write_then e run cl count (clusters count) laws.lines.runs_write_originals c (b.tok.client c)
       (now.client_here base e lines texts part first count b c (some, limit))
 
   cleaner_writes : (count : ℕ) (b : Both base e lines texts part first count) → LivesTell count → CleanerWrites b.tok.cleaner.phase
   cleaner_writes count b lives =
-      cleaner_writes_then e run cl count (clusters count) laws.write_copies lives b.tok.cleaner
+      cleaner_writes_then e run cl count (clusters count) laws.lines.runs_write_copies lives b.tok.cleaner
       (now.cleaner_here base e lines texts part first count b)
 
   pub joint_of : (count : ℕ) (b : Both base e lines texts part first count) → IsSureUpto base e lines texts part first count → LivesTell count
@@ -186,7 +186,7 @@ module _ (laws : StepsBelow) (base : Setting) (e : Estate AnyNode) (lines : HasL
           known.falls (clients_write (suc count) d) (cleaner_writes (suc count) d lives)
 
       moved : FlightMoves (suc count) d
-      moved = moved_then base e lines texts part first count joint.idx.net d.idx.net turned.grown.sent laws.after.leave event at d.tok.cleaner
+      moved = moved_then base e lines texts part first count joint.idx.net d.idx.net turned.grown.sent laws.logs.others_leave_flights event at d.tok.cleaner
           (now.cleaner_here base e lines texts part first (suc count) d) (now.cleaner_indexed base e lines texts part first (suc count) d) joint.moved
 
       cleaner_at : node_of event ≡ Cleaner → (x : AnyNode) → Took (moment e count) event x → Some x ≡ Some (any.Cleaner b.tok.cleaner)

@@ -22,7 +22,6 @@ use Rattle.run_laws.specs.world_logs.Roles.{Role, renews}
 use Rattle.run_laws.specs.world_logs.Roles.Role.{OfClient, OfCleaner, OfManager}
 use Rattle.run_laws.proofs.world_reads.Taking.{NothingHappens, Took, moment_next}
 use Rattle.run_laws.proofs.world_reads.TurnBoth.{Both, Turned, both_of, goes}
-use Rattle.run_laws.proofs.world_reads.TurnLaws.{StepsBelow}
 use Rattle.run_laws.proofs.world_reads.TurnLogs.{LogsKnown, cleaner_or_not, client_or_not}
 use Rattle.run_laws.proofs.world_reads.TurnNext.{Grows, LivesTell, TellsEntries, stays, taken}
 use Rattle.run_laws.proofs.world_reads.TurnOwed.{AllOwed, is_owed}
@@ -30,6 +29,7 @@ use Rattle.run_laws.proofs.world_reads.TurnStill.{IsStill, Rests, rested}
 use Rattle.run_laws.specs.world_reads.Joint.{IsSureUpto, Joint, There, k}
 use Rattle.xfs_base.proofs.Booleans.{contrary}
 use Rattle.xfs_base.specs.Limits.{slot_count}
+use Rattle.run_laws.specs.world_reads.Below.{Below}
 
 -- ---- counts
 
@@ -57,7 +57,7 @@ past_end [] (suc count) none = refl
 past_end (x ∷ events) zero none = absurd cc
 past_end (x ∷ events) (suc count) none = ap (λ more. x ∷ more) (past_end events count none)
 
-module _ (laws : StepsBelow) (base : Setting) (e : Estate AnyNode) (lines : HasLines base e) (texts : Texts base e lines) (part : ℕ)
+module _ (laws : Below) (base : Setting) (e : Estate AnyNode) (lines : HasLines base e) (texts : Texts base e lines) (part : ℕ)
     (first : ℕ → ℕ → Segment) (of_eight : part < slot_count) (apart : TellsApart base) (run : IsRun any_step any_start e.script e.events e.world) where
   abbrev cl : Cluster
   cl = k base e lines texts part first
@@ -133,7 +133,7 @@ module _ (laws : StepsBelow) (base : Setting) (e : Estate AnyNode) (lines : HasL
             × Turned base e lines texts part first count event b node (is_owed base e lines texts part first count event b step.owed node took))
 
         which : Which
-        which = goes base e lines texts part first count event b laws.turns of_eight (clusters count) at (may_be event at)
+        which = goes base e lines texts part first count event b laws of_eight (clusters count) at (may_be event at)
             (is_owed base e lines texts part first count event b step.owed)
 
         both_by : Which → Both base e lines texts part first (suc count)

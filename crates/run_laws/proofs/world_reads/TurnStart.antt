@@ -37,16 +37,16 @@ use Rattle.run_laws.specs.world_lines.Turns.{LinesBegin}
 use Rattle.run_laws.specs.world_logs.Lines.{HasLines, IsBegun, Texts, setting}
 use Rattle.run_laws.specs.world_logs.Roles.{log_by}
 use Rattle.run_laws.specs.world_logs.Roles.Role.{OfCleaner}
-use Rattle.run_laws.proofs.world_reads.AfterClients.{OwnAfter}
+use Rattle.run_laws.proofs.world_reads.AfterOwn.{OwnAfter}
 use Rattle.run_laws.proofs.world_reads.TurnActed.{nothing_filed}
 use Rattle.run_laws.proofs.world_reads.TurnBoth.{Both}
 use Rattle.run_laws.proofs.world_reads.TurnFalls.{FallsKnown, fell_serving}
-use Rattle.run_laws.proofs.world_reads.TurnLaws.{StepsBelow}
 use Rattle.run_laws.proofs.world_reads.TurnLogs.{LogsKnown}
 use Rattle.run_laws.proofs.world_reads.TurnNext.{IsKnown, joint_of}
 use Rattle.run_laws.proofs.world_reads.TurnRun.{moment_cluster}
 use Rattle.run_laws.specs.world_reads.Entries.{EntriesStand}
 use Rattle.run_laws.specs.world_reads.Joint.{IsSureUpto, Joint, WritesKind, flew_at, k}
+use Rattle.run_laws.specs.world_reads.Below.{Below}
 
 -- of a log that has just begun nothing is known to be filed, and nothing was in flight
 module _ (begin : LinesBegin) (first : ℕ → ℕ → Segment) (l : ℕ) (Kind : Segment → Type 0) where
@@ -75,7 +75,7 @@ module _ (begin : LinesBegin) (first : ℕ → ℕ → Segment) (l : ℕ) (Kind 
         kind = subst (λ (o : Option FlightState). IfSome o (λ x. Kind x.segment)) (sym none) tt;
       }
 
-module _ (laws : StepsBelow) (base : Setting) (e : Estate AnyNode) (lines : HasLines base e) (texts : Texts base e lines) (part : ℕ)
+module _ (laws : Below) (base : Setting) (e : Estate AnyNode) (lines : HasLines base e) (texts : Texts base e lines) (part : ℕ)
     (first : ℕ → ℕ → Segment) (of_eight : part < slot_count) (setup : IsSetup e.script.setup) where
   abbrev cl : Cluster
   cl = k base e lines texts part first
@@ -83,27 +83,27 @@ module _ (laws : StepsBelow) (base : Setting) (e : Estate AnyNode) (lines : HasL
   pub start_both : Both base e lines texts part first 0
   unfolding start_world
   start_both = record {
-    tok = token_start.start_scene true laws.turns.tokens.starts_asking laws.turns.tokens.first_manager laws.turns.tokens.cleaner_starts
-        laws.turns.tokens.begins e.script setup.clients.1 setup.managers.0 part of_eight;
+    tok = token_start.start_scene true laws.tokens.nodes.starts_asking laws.tokens.nodes.first_manager laws.tokens.nodes.cleaner_starts
+        laws.tokens.nodes.begins e.script setup.clients.1 setup.managers.0 part of_eight;
     tokens_stand = tokens_start;
-    idx = index_start.start_scene laws.turns.index.client_starts laws.turns.index.manager_starts laws.turns.index.cleaner_starts
-        laws.turns.index.registry_starts laws.turns.index.begins e.script setup.clients.1 part of_eight texts.text first;
-    index_stands = index_start.start_stands laws.turns.index.client_starts laws.turns.index.manager_starts laws.turns.index.cleaner_starts
-        laws.turns.index.registry_starts laws.turns.index.begins e.script setup.clients.1 part of_eight texts.text first;
-    slots = laws.slots_start first;
+    idx = index_start.start_scene laws.index.nodes.client_starts laws.index.nodes.manager_starts laws.index.nodes.cleaner_starts
+        laws.index.nodes.registry_starts laws.index.nodes.begins e.script setup.clients.1 part of_eight texts.text first;
+    index_stands = index_start.start_stands laws.index.nodes.client_starts laws.index.nodes.manager_starts laws.index.nodes.cleaner_starts
+        laws.index.nodes.registry_starts laws.index.nodes.begins e.script setup.clients.1 part of_eight texts.text first;
+    slots = laws.tokens.slots_start_same first;
     entered = entered_starts true cl part (first_nodes any_start e.script cl) [] [] _ tokens_start _ refl first;
   }
     where
       tokens_start : tokens.Stands true cl part (first_nodes any_start e.script cl) [] [] RegistrySound
-          (token_start.start_scene true laws.turns.tokens.starts_asking laws.turns.tokens.first_manager laws.turns.tokens.cleaner_starts
-          laws.turns.tokens.begins e.script setup.clients.1 setup.managers.0 part of_eight)
-      tokens_start = token_start.start_stands true laws.turns.tokens.starts_asking laws.turns.tokens.first_manager laws.turns.tokens.cleaner_starts
-          laws.turns.tokens.begins e.script setup.clients.1 setup.managers.0 part of_eight
+          (token_start.start_scene true laws.tokens.nodes.starts_asking laws.tokens.nodes.first_manager laws.tokens.nodes.cleaner_starts
+          laws.tokens.nodes.begins e.script setup.clients.1 setup.managers.0 part of_eight)
+      tokens_start = token_start.start_stands true laws.tokens.nodes.starts_asking laws.tokens.nodes.first_manager laws.tokens.nodes.cleaner_starts
+          laws.tokens.nodes.begins e.script setup.clients.1 setup.managers.0 part of_eight
 
   start_logs : LogsKnown base e lines texts part first 0 start_both
   unfolding start_both
   start_logs = record {
-    all = λ r there keeps. begun_known laws.lines_begin first (log_by r) (WritesKind r) _ _ ((lines r there).stands 0).moment (lines r there).begins;
+    all = λ r there keeps. begun_known laws.lines.lines_begin first (log_by r) (WritesKind r) _ _ ((lines r there).stands 0).moment (lines r there).begins;
     none = record { head = λ l free. refl; end = λ l some limit free. refl };
   }
 
@@ -115,14 +115,15 @@ module _ (laws : StepsBelow) (base : Setting) (e : Estate AnyNode) (lines : HasL
   start_flight : flew_at base e lines texts part first OfCleaner tt 0 ≡ None
   start_flight =
       let at = ((lines OfCleaner tt).stands 0).moment in
-      begun_flight laws.lines_begin first cleaners_number (WritesKind OfCleaner) (setting base e OfCleaner) (log.opening (setting base e OfCleaner) at.map)
+      begun_flight laws.lines.lines_begin first cleaners_number (WritesKind OfCleaner) (setting base e OfCleaner) (log.opening (setting base e OfCleaner)
+          at.map)
       ((lines OfCleaner tt).scene 0).net
       at.run (lines OfCleaner tt).begins
 
   -- no restart has ended yet
   pub start_sure : IsSureUpto base e lines texts part first 0
   start_sure r there keeps =
-      begun_sure laws.lines_begin first (log_by r) (WritesKind r) (setting base e r) _ _ ((lines r there).stands 0).moment.run (lines r there).begins
+      begun_sure laws.lines.lines_begin first (log_by r) (WritesKind r) (setting base e r) _ _ ((lines r there).stands 0).moment.run (lines r there).begins
 
   module _ (apart : TellsApart base) (run : IsRun any_step any_start e.script e.events e.world)
       (entries : EntriesStand (rows_at (index.opening first).filed) (moment e 0).nodes (moment e 0).sent) where

@@ -30,16 +30,17 @@ use Rattle.run_laws.specs.world_logs.Roles.{Role, log_by, renews}
 use Rattle.run_laws.specs.world_logs.Roles.Role.{OfClient, OfCleaner, OfManager}
 use Rattle.run_laws.proofs.world_reads.After.{AllKnown, KnownAt, left_after, left_flight}
 use Rattle.run_laws.proofs.world_reads.AfterCleaner.{cleaner_away, cleaner_end}
-use Rattle.run_laws.proofs.world_reads.AfterClients.{OwnAfter, client_away, client_end}
+use Rattle.run_laws.proofs.world_reads.AfterOwn.{OwnAfter}
+use Rattle.run_laws.proofs.world_reads.AfterClients.{client_away, client_end}
 use Rattle.run_laws.proofs.world_reads.AfterStill as still
 use Rattle.run_laws.proofs.world_reads.AfterStill.{same_filing, same_log}
 use Rattle.run_laws.proofs.world_reads.CleanerMoment.{sure_at}
 use Rattle.run_laws.proofs.world_reads.TurnBoth.{Both, same_moment}
-use Rattle.run_laws.proofs.world_reads.TurnLaws.{StepsBelow}
 use Rattle.run_laws.proofs.world_reads.TurnLogs.{LogsKnown}
 use Rattle.run_laws.proofs.world_reads.TurnMoment as now
 use Rattle.run_laws.specs.world_reads.Joint.{IsSureUpto, There, WritesKind, flew_at, k}
 use Rattle.xfs_base.proofs.Booleans.{contrary}
+use Rattle.run_laws.specs.world_reads.Below.{Below}
 
 module _ (base : Setting) (e : Estate AnyNode) (lines : HasLines base e) (texts : Texts base e lines) (part : ℕ) (first : ℕ → ℕ → Segment) (count : ℕ) where
   abbrev cl : Cluster
@@ -78,7 +79,7 @@ module _ (base : Setting) (e : Estate AnyNode) (lines : HasLines base e) (texts 
     abbrev SameFlight : (r : Role) → There base e lines texts part first r → Type 0
     SameFlight r there = last_flight (then_on (at r there).run (goes r there)) ≡ last_flight (at r there).run
 
-    module _ (laws : StepsBelow) (stays : (r : Role) (there : There base e lines texts part first r) → renews r ≡ false → IsStill r there) where
+    module _ (laws : Below) (stays : (r : Role) (there : There base e lines texts part first r) → renews r ≡ false → IsStill r there) where
       -- ---- what was in flight
 
       client_flight : (c : ℕ) (there : There base e lines texts part first (OfClient c)) → ServesStraight (goes (OfClient c) there)
@@ -115,9 +116,9 @@ module _ (base : Setting) (e : Estate AnyNode) (lines : HasLines base e) (texts 
               (cleaner_away part texts.text (setting base e OfCleaner) ((lines OfCleaner tt).scene (suc count)) b.idx.net (cleaners.Opening l o) up tt)
 
       same_flight : (r : Role) (there : There base e lines texts part first r) → renews r ≡ false → SameFlight r there
-      same_flight (OfClient c) there keeps = ⊎_elim (λ left. left_flight base e lines texts part first laws.after count (OfClient c) there left)
+      same_flight (OfClient c) there keeps = ⊎_elim (λ left. left_flight base e lines texts part first laws count (OfClient c) there left)
           (λ straight. client_flight c there straight) (stays (OfClient c) there keeps)
-      same_flight OfCleaner there keeps = ⊎_elim (λ left. left_flight base e lines texts part first laws.after count OfCleaner tt left)
+      same_flight OfCleaner there keeps = ⊎_elim (λ left. left_flight base e lines texts part first laws count OfCleaner tt left)
           (λ straight. cleaner_flight straight) (stays OfCleaner tt keeps)
       same_flight (OfManager j) there keeps = contrary (sym keeps)
 
@@ -135,7 +136,7 @@ module _ (base : Setting) (e : Estate AnyNode) (lines : HasLines base e) (texts 
             → IsLeft ((lines r there).scene count).net ((lines r there).scene (suc count)).net
             → KnownAt base e lines texts part first (suc count) b.tok.net.books b.idx.net.filed r there
         left r there keeps fact =
-            left_after base e lines texts part first laws.after count b.tok.net.books b.tok.net.books b.idx.net.filed b.idx.net.filed r there fact
+            left_after base e lines texts part first laws count b.tok.net.books b.tok.net.books b.idx.net.filed b.idx.net.filed r there fact
             (same_log b.tok.net.books (log_by r)) (same_filing b.idx.net.filed (log_by r)) (known.all r there keeps)
 
         own : (r : Role) (there : There base e lines texts part first r) → renews r ≡ false → ServesStraight (goes r there)
@@ -146,7 +147,7 @@ module _ (base : Setting) (e : Estate AnyNode) (lines : HasLines base e) (texts 
             let its = known.all r there keeps in
             subst (λ (m : Moment (setting base e r) ((lines r there).scene (suc count)).net). OwnAfter (WritesKind r) (log_by r) m b.tok.net.books
             b.idx.net.filed) (sym ((lines r there).joined count)) (record {
-              known = still.still_known (setting base e r) _ _ (at r there) (goes r there) straight laws.after texts.text (log_by r) is_sure b.tok.net.books
+              known = still.still_known (setting base e r) _ _ (at r there) (goes r there) straight laws texts.text (log_by r) is_sure b.tok.net.books
                   b.idx.net.filed its.known end (same_flight r there keeps);
               tells = its.tells;
               kind = subst (λ (y : Option FlightState). IfSome y (λ x. WritesKind r x.segment)) (sym (same_flight r there keeps)) its.kind;

@@ -29,26 +29,20 @@ use Rattle.run_laws.specs.world_law.Owners.{moment}
 use Rattle.run_laws.specs.world_lines.Lines.{IsLine}
 use Rattle.run_laws.specs.world_logs.Lines.{HasLines, Texts}
 use Rattle.run_laws.specs.world_logs.Roles.{Role, log_by, renews}
-use Rattle.run_laws.proofs.world_reads.CleanerBeside.{RunLaws}
 use Rattle.run_laws.proofs.world_reads.CleanerMoment.{upto_before}
-use Rattle.run_laws.proofs.world_reads.CleanerTold.{ToldBelow}
 use Rattle.run_laws.proofs.world_reads.EntriesNames.{names_begin, names_rise}
 use Rattle.run_laws.proofs.world_reads.EntriesParts.{part_later}
 use Rattle.run_laws.proofs.world_reads.EntriesRise.{entries_begin, rows_more}
-use Rattle.run_laws.proofs.world_reads.EntriesThen.{EntryEvent, EntryLaws, entries_then, named_then}
+use Rattle.run_laws.proofs.world_reads.EntriesThen.{EntryEvent, entries_then, named_then}
 use Rattle.run_laws.proofs.world_reads.ManagerMoment.{Coming}
 use Rattle.run_laws.proofs.world_reads.ManagerOwed.{ManagerOwes, manager_owes}
-use Rattle.run_laws.proofs.world_reads.ManagerReading.{ManagerLaws}
 use Rattle.run_laws.proofs.world_reads.ManagerReferences.{references_begin}
-use Rattle.run_laws.proofs.world_reads.ManagerRefersOn.{ReferenceLaws, references_go_on, references_stay}
-use Rattle.run_laws.proofs.world_reads.ManagerTelling.{TellingLaws}
+use Rattle.run_laws.proofs.world_reads.ManagerRefersOn.{references_go_on, references_stay}
 use Rattle.run_laws.proofs.world_reads.Taking.{Took}
 use Rattle.run_laws.proofs.world_reads.TurnAll.{IsSure, Joints, Steps, next_all}
 use Rattle.run_laws.proofs.world_reads.TurnBoth.{Turned, both_of}
 use Rattle.run_laws.proofs.world_reads.TurnCleanerOwed as cleaner
 use Rattle.run_laws.proofs.world_reads.TurnClientOwed as client
-use Rattle.run_laws.proofs.world_reads.TurnClientOwed.{ClientsBelow}
-use Rattle.run_laws.proofs.world_reads.TurnLaws.{StepsBelow}
 use Rattle.run_laws.proofs.world_reads.TurnLogs.{LogsKnown}
 use Rattle.run_laws.proofs.world_reads.TurnNext.{Grows}
 use Rattle.run_laws.proofs.world_reads.TurnOwed.{AllOwed, IndexOwed, TokensOwed, is_owed}
@@ -60,25 +54,15 @@ use Rattle.run_laws.specs.world_reads.Joint.{Joint, There, k, log_at}
 use Rattle.run_laws.specs.world_reads.References.{ReferencesStand}
 use Rattle.xfs_base.specs.declared.node.NodeId.TheVariants.{Manager}
 use Rattle.xfs_base.specs.Limits.{slot_count}
+use Rattle.run_laws.specs.world_reads.Below.{Below}
 
--- the laws of the crates below on which it stands
-pub record WholeBelow : Type 0 where
-  pub steps : StepsBelow
-  pub clients : ClientsBelow
-  pub runs : RunLaws
-  pub cleaner : ToldBelow
-  pub managers : ManagerLaws
-  pub telling : TellingLaws
-  pub references : ReferenceLaws
-  pub entries : EntryLaws
-
-module _ (laws : WholeBelow) (base : Setting) (e : Estate AnyNode) (lines : HasLines base e) (texts : Texts base e lines) (first : ℕ → ℕ → Segment)
+module _ (laws : Below) (base : Setting) (e : Estate AnyNode) (lines : HasLines base e) (texts : Texts base e lines) (first : ℕ → ℕ → Segment)
     (apart : TellsApart base) (setup : IsSetup e.script.setup) (run : IsRun any_step any_start e.script e.events e.world) where
   abbrev Sure : ℕ → Type 0
-  Sure count = IsSure laws.steps base e lines texts first count
+  Sure count = IsSure laws base e lines texts first count
 
   abbrev All : ℕ → Type 0
-  All count = Joints laws.steps base e lines texts first count
+  All count = Joints laws base e lines texts first count
 
   -- what is named as a part of a checkpoint is a segment of a manager's log, which tells what these filed segments say
   abbrev Named : ℕ → Filed → Type 0
@@ -103,11 +87,11 @@ module _ (laws : WholeBelow) (base : Setting) (e : Estate AnyNode) (lines : HasL
 
     module _ (part : ℕ) (of_eight : part < slot_count) where
       manager : (j : ℕ) (node : ManagerNode) → node_of event ≡ Manager j → Took (moment e count) event (any.Manager node)
-          → ManagerOwes base e lines texts part first count laws.managers laws.telling of_eight event at (comes part of_eight)
-          (laws.runs.came e setup run count) (whole.references part of_eight) node
+          → ManagerOwes base e lines texts part first count laws of_eight event at (comes part of_eight)
+          (laws.reads.runs_read_what_came e setup run count) (whole.references part of_eight) node
       manager j node own took =
-          manager_owes base e lines texts part first count laws.managers laws.telling of_eight event at (comes part of_eight)
-          (laws.runs.came e setup run count) (whole.references part of_eight) j node own took
+          manager_owes base e lines texts part first count laws of_eight event at (comes part of_eight)
+          (laws.reads.runs_read_what_came e setup run count) (whole.references part of_eight) j node own took
 
       manager_owed : (j : ℕ) (node : ManagerNode) → node_of event ≡ Manager j → Took (moment e count) event (any.Manager node)
           → IndexOwed base e lines texts part first count event (both_of base e lines texts part first count (joint part of_eight)) (Manager j)
@@ -118,18 +102,18 @@ module _ (laws : WholeBelow) (base : Setting) (e : Estate AnyNode) (lines : HasL
 
       owed : AllOwed base e lines texts part first count event (both_of base e lines texts part first count (joint part of_eight))
       owed = record {
-        client_owed = λ c node own took. client.client_owed laws.clients base e lines texts part first of_eight apart setup run count (joint part of_eight) sure
+        client_owed = λ c node own took. client.client_owed laws base e lines texts part first of_eight apart setup run count (joint part of_eight) sure
             event at may c node own took;
-        client_told = λ c node own took. client.client_told laws.clients base e lines texts part first of_eight apart setup run count (joint part of_eight) sure
+        client_told = λ c node own took. client.client_told laws base e lines texts part first of_eight apart setup run count (joint part of_eight) sure
             event at may c node own took false;
         manager_owed = manager_owed;
         manager_told = λ j node own took.
             subst (λ name. TokensOwed base e lines texts part first count event (both_of base e lines texts part first count (joint part of_eight)) false name
             (any.Manager node)) own
             ((manager j node own took).turn false (epoch_now (k base e lines texts part first) part (joint part of_eight).tok));
-        cleaner_owed = λ node own took. cleaner.cleaner_owed laws.runs laws.cleaner base e lines texts part first of_eight apart setup run count
+        cleaner_owed = λ node own took. cleaner.cleaner_owed laws base e lines texts part first of_eight apart setup run count
             (joint part of_eight) sure event at node own took;
-        cleaner_told = λ node own took. cleaner.cleaner_told laws.runs laws.cleaner base e lines texts part first of_eight apart setup run count
+        cleaner_told = λ node own took. cleaner.cleaner_told laws base e lines texts part first of_eight apart setup run count
             (joint part of_eight) sure event at node own took;
       }
 
@@ -164,36 +148,36 @@ module _ (laws : WholeBelow) (base : Setting) (e : Estate AnyNode) (lines : HasL
         → LogsKnown base e lines texts part first (suc count) turned.then
         → EntriesStand (rows_at turned.then.idx.net.filed) (moment e (suc count)).nodes (moment e (suc count)).sent
     tells part of_eight node took turned logs =
-        entries_then base e lines texts part first count laws.entries event turned.then.idx.net.filed
+        entries_then base e lines texts part first count laws event turned.then.idx.net.filed
         (entry part of_eight turned.then.idx.net.filed turned.grown.filed (λ r there keeps. (logs.all r there keeps).known.line)
         (λ p among. kinds_of_tokens (k base e lines texts part first) part turned.then.tok p (turned.then.tokens_stand.facts p among)))
 
     -- each event gets what it is owed
     pub step : (part : ℕ) (of_eight : part < slot_count)
-        → StepIsOwed laws.steps base e lines texts part first of_eight apart run count (joint part of_eight) sure event at may
+        → StepIsOwed laws base e lines texts part first of_eight apart run count (joint part of_eight) sure event at may
     step part of_eight = record { owed = owed part of_eight; tells = tells part of_eight }
 
     -- what is named then, and what is referred to
     named_so : (part : ℕ) (of_eight : part < slot_count) (next : Grows base e lines texts part first count (joint part of_eight))
         → Named (suc count) next.joint.idx.net.filed
     named_so part of_eight next =
-        named_then base e lines texts part first count laws.entries event next.joint.idx.net.filed
+        named_then base e lines texts part first count laws event next.joint.idx.net.filed
         (entry part of_eight next.joint.idx.net.filed next.more next.joint.lined
         (λ p among. kinds_of_tokens (k base e lines texts part first) part next.joint.tok p (next.joint.tokens_stand.facts p among)))
 
     references_so : (part : ℕ) → part < slot_count → ReferencesStand base e lines texts part first (suc count)
     references_so part of_eight =
-        references_go_on base e lines texts part first count laws.references (joint part of_eight) (upto_before base e lines texts part first count sure) event
+        references_go_on base e lines texts part first count laws (joint part of_eight) (upto_before base e lines texts part first count sure) event
         at (comes part of_eight) (whole.references part of_eight)
 
   -- ---- the next moment
 
   module _ (count : ℕ) (whole : Whole count) (sure : Sure (suc count)) where
-    steps : Steps laws.steps base e lines texts first apart run count whole.joints sure
+    steps : Steps laws base e lines texts first apart run count whole.joints sure
     steps part of_eight event at may = step count whole sure event at may part of_eight
 
     next : (part : ℕ) (of_eight : part < slot_count) → Grows base e lines texts part first count (whole.joints part of_eight)
-    next = next_all laws.steps base e lines texts first apart run count whole.joints sure steps
+    next = next_all laws base e lines texts first apart run count whole.joints sure steps
 
     same_end : slice_get e.events count ≡ None → moment e (suc count) ≡ moment e count
     same_end none = ap (fold (next_world any_step) (start_world any_start e.script)) (past_end e.events count none)
@@ -221,7 +205,7 @@ module _ (laws : WholeBelow) (base : Setting) (e : Estate AnyNode) (lines : HasL
       where
         by : (o : Option Event) → slice_get e.events count ≡ o → ReferencesStand base e lines texts part first (suc count)
         by None none =
-            references_stay base e lines texts part first count laws.references (whole.joints part of_eight)
+            references_stay base e lines texts part first count laws (whole.joints part of_eight)
             (upto_before base e lines texts part first count sure) (same_end none) (whole.references part of_eight)
         by (Some event) at =
             references_so count whole sure event at (may_at e.events count event (start_world any_start e.script) e.world run at) part of_eight
@@ -238,8 +222,8 @@ module _ (laws : WholeBelow) (base : Setting) (e : Estate AnyNode) (lines : HasL
 
   whole_begins : Whole 0
   whole_begins = record {
-    joints = λ part of_eight. start_joint laws.steps base e lines texts part first of_eight setup apart run
-        (entries_begin laws.entries.kinds (rows_at (index.opening first).filed) e);
+    joints = λ part of_eight. start_joint laws base e lines texts part first of_eight setup apart run
+        (entries_begin laws.reads.kinds (rows_at (index.opening first).filed) e);
     references = λ part of_eight. references_begin base e lines texts part first;
     named = λ part of_eight. names_begin _ e;
     comes = λ part of_eight. tt;

@@ -11,7 +11,7 @@ use Rattle.run_laws.specs.epoch_law.Polls.{CleanerPollsAreLow, ClientPollsAreLow
 use Rattle.run_laws.specs.epoch_law.Slots.{SlotsStartSame, SlotsStaySame}
 use Rattle.run_laws.specs.index_reads.Clients.{FlightsAreNews, NothingIsNewer}
 use Rattle.run_laws.specs.index_reads.Managers.{DeltasAreCovered}
-use Rattle.index_tie.specs.NetLaws.{CheckpointsHaveManagers, EachIndexIsTheJoin, ManagersCoverTheirHorizon, NewestIsNeverDeleted}
+use Rattle.index_tie.specs.NetLaws.{EachIndexIsTheJoin, ManagersCoverTheirHorizon, NewestIsNeverDeleted}
 use Rattle.log_law.specs.Ends.{EndsAreLast}
 use Rattle.log_law.specs.Groups.{EndsNameGroups, PriorsNameGroups}
 use Rattle.log_law.specs.Held.{WhatFlewIsOfTheLog, WhatIsHeldFlew, WhatIsListedFlew}
@@ -20,12 +20,6 @@ use Rattle.log_law.specs.Openings.{NothingFiledOpening}
 use Rattle.log_law.specs.Places.{APlaceNamesOneContent}
 use Rattle.log_law.specs.Tails.{ARestartFilesTheTail}
 use Rattle.log_law.specs.Written.{WhatFlewIsWritten}
-use Rattle.node_slots.specs.node_index_tie.ManagerEvents as managers
-use Rattle.node_slots.specs.node_index_tie.ManagerEvents.{ManagersStay}
-use Rattle.node_slots.specs.node_index_tie.RegistryEvents as registries
-use Rattle.node_slots.specs.owner_index_tie.CleanerEvents.{CleanerEventGoes, CleanerStartAgrees, CleanerStays}
-use Rattle.node_slots.specs.owner_index_tie.ClientEvents.{ClientEventGoes, ClientsStay, FirstClientAgrees}
-use Rattle.node_slots.specs.owner_index_tie.ServerEvents.{ServerEventGoes}
 use Rattle.run_laws.specs.place_law.Answers.{RunsAnswer}
 use Rattle.run_laws.specs.place_law.Copies.{ChecksAreOfRows, LivesTellCopies}
 use Rattle.run_laws.specs.place_law.Fetches.{FetchesReadThere, RunsReadTheirFetches}
@@ -46,6 +40,7 @@ use Rattle.token_law.specs.Laws.{ActiveEpochsPromised, ActsAreLegal, DirtyBlocks
 use Rattle.token_protocol.specs.Acts.{LegalActs}
 use Rattle.version_model.specs.Legal.{AreLegal}
 use Rattle.version_model.specs.declared.act.Act.{Act}
+use Rattle.run_laws.specs.world_index.NodeLaws as index
 use Rattle.run_laws.specs.world_law.Fallen.{EveryRunHasFallsApart}
 use Rattle.run_laws.specs.world_law.NodeLaws.{NodeLaws}
 use Rattle.run_laws.specs.world_lines.Filing.{CleanerFilesItsFlights, ClientsActsFile, ClientsFileTheirFlights, OpeningsFileWhatFlew, WhatIsFiledFlew}
@@ -80,39 +75,31 @@ pub record TokensBelow : Type 0 where
 
 -- what nodes do is seen in the small world of a slot's index, and the laws of that
 pub record IndexBelow : Type 0 where
-  pub server_event_goes : ServerEventGoes
-  pub first_client_agrees : FirstClientAgrees
-  pub client_event_goes : ClientEventGoes
-  pub clients_stay : ClientsStay
-  pub cleaner_start_agrees : CleanerStartAgrees
-  pub cleaner_event_goes : CleanerEventGoes
-  pub cleaner_stays : CleanerStays
-  pub first_manager_agrees : managers.FirstManagerAgrees
-  pub manager_event_goes : managers.ManagerEventGoes
-  pub managers_stay : ManagersStay
-  pub registry_starts : registries.RegistryStarts
-  pub registry_event_goes : registries.RegistryEventGoes
+  pub nodes : index.NodeLaws
   pub each_index_is_the_join : EachIndexIsTheJoin
   pub managers_cover_their_horizon : ManagersCoverTheirHorizon
   pub newest_is_never_deleted : NewestIsNeverDeleted
-  pub checkpoints_have_managers : CheckpointsHaveManagers
   pub flights_are_news : FlightsAreNews
   pub nothing_is_news : NothingIsNewer
   pub deltas_are_covered : DeltasAreCovered
 
+-- what each kind of node tells of where blocks lie
+pub record EntryKinds : Type 0 where
+  pub client_starts : ClientStartsTold
+  pub client_rises : ClientHoldsRise
+  pub client : ClientsTellTold
+  pub manager_starts : ManagerStartsTold
+  pub manager_rises : ManagerHoldsRise
+  pub manager : ManagersTellTold
+  pub cleaner_starts : CleanerStartsTold
+  pub cleaner_rises : CleanerHoldsRise
+  pub cleaner : CleanerTellsTold
+  pub server : ServersTellNone
+  pub registry : RegistryTellsNone
+
 -- what nodes tell of where blocks lie, and what they read
 pub record ReadsBelow : Type 0 where
-  pub client_starts_told : ClientStartsTold
-  pub client_holds_rise : ClientHoldsRise
-  pub clients_tell_told : ClientsTellTold
-  pub manager_starts_told : ManagerStartsTold
-  pub manager_holds_rise : ManagerHoldsRise
-  pub managers_tell_told : ManagersTellTold
-  pub cleaner_starts_told : CleanerStartsTold
-  pub cleaner_holds_rise : CleanerHoldsRise
-  pub cleaner_tells_told : CleanerTellsTold
-  pub servers_tell_none : ServersTellNone
-  pub registry_tells_none : RegistryTellsNone
+  pub kinds : EntryKinds
   pub takeovers_read_what_came : TakeoversReadWhatCame
   pub runs_read_what_came : RunsReadWhatCame
   pub takeovers_read_texts : TakeoversReadTexts

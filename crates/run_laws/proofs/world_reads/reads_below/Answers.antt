@@ -2,17 +2,19 @@ use Rattle.run_laws.proofs.world_reads.reads_below.Goals as goal
 
 pub returns : goal.returns
 returns c = record {
-  client_starts_told = c.clients_tell_told_entries.ensures.start;
-  client_holds_rise = c.clients_tell_told_entries.ensures.rises;
-  clients_tell_told = c.clients_tell_told_entries.ensures.events;
-  manager_starts_told = c.managers_tell_told_entries.ensures.start;
-  manager_holds_rise = c.managers_tell_told_entries.ensures.rises;
-  managers_tell_told = c.managers_tell_told_entries.ensures.events;
-  cleaner_starts_told = c.cleaner_tells_told_entries.ensures.start;
-  cleaner_holds_rise = c.cleaner_tells_told_entries.ensures.rises;
-  cleaner_tells_told = c.cleaner_tells_told_entries.ensures.events;
-  servers_tell_none = c.servers_tell_no_entries.ensures.events;
-  registry_tells_none = c.registry_tells_no_entries.ensures.events;
+  kinds = record {
+    client_starts = c.clients_tell_told_entries.ensures.start;
+    client_rises = c.clients_tell_told_entries.ensures.rises;
+    client = c.clients_tell_told_entries.ensures.events;
+    manager_starts = c.managers_tell_told_entries.ensures.start;
+    manager_rises = c.managers_tell_told_entries.ensures.rises;
+    manager = c.managers_tell_told_entries.ensures.events;
+    cleaner_starts = c.cleaner_tells_told_entries.ensures.start;
+    cleaner_rises = c.cleaner_tells_told_entries.ensures.rises;
+    cleaner = c.cleaner_tells_told_entries.ensures.events;
+    server = c.servers_tell_no_entries.ensures.events;
+    registry = c.registry_tells_no_entries.ensures.events;
+  };
   takeovers_read_what_came = c.managers_read_what_came.ensures.reads;
   runs_read_what_came = c.readers_hold_what_came.ensures.runs;
   takeovers_read_texts = c.what_is_read_is_the_text.ensures.takeovers;
