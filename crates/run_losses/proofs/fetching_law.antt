@@ -1,5 +1,5 @@
 mod Wants
-mod Quiet
+pub mod Quiet
 mod Working
 mod Turning
 mod Granting

@@ -1,8 +1,7 @@
 -- What a takeover reads at a moment that stands to the small worlds had been filed, and is stored, unless it was deleted.
-use Rattle.std.proofs.Common.{◌≡◌, ⊎_elim, ℕ, zero, suc, ◌+◌, ◌==◌, ◌<◌, ◌≤◌, Bool, true, false, cond, length, List, [], ◌∷◌, Option, Some, None, inl, inr, refl, sym, ap, subst, ◌∙◌, arith}
+use Rattle.std.proofs.Common.{◌≡◌, ⊎_elim, ℕ, zero, suc, ◌+◌, ◌==◌, ◌<◌, ◌≤◌, false, length, List, [], ◌∷◌, Option, Some, None, refl, sym, ap, subst, ◌∙◌, arith}
 use Rattle.std.specs.List.{AllByRecursion}
 use Rattle.std.specs.Prelude.{Contains}
-use Rattle.std.proofs.lemmas.Bool.{eqb-true}
 use native.Mathlib.Bridge.{le_prop}
 use Rattle.core_world.specs.AnyNode.{any_start, any_step}
 use Rattle.core_world.specs.declared.any_node.AnyNode.{AnyNode}
@@ -33,11 +32,10 @@ use Rattle.node_tellings.specs.reading_tie.Arrivals.{answered_in, cut_by}
 use Rattle.node_tellings.specs.reading_tie.Came.{Came, Striped}
 use Rattle.node_tellings.specs.reading_tie.ManagerReads.{PhaseHolds, SlotHolds}
 use Rattle.node_tellings.specs.reading_tie.TakeoverReads.{PresentHolds, StandsBy, TakeHolds}
-use Rattle.node_tellings.specs.reference_tie.Managers.{PhaseRefers, ReportRefers, SlotRefers, TakeRefers}
+use Rattle.node_tellings.specs.reference_tie.Managers.{PhaseRefers, SlotRefers, TakeRefers}
 use Rattle.node_tellings.specs.reference_tie.References.{References}
 use Rattle.segment_format.specs.declared.segment.Segment.{Segment}
 use Rattle.run_losses.specs.source_law.Sources.{WasFiled}
-use Rattle.takeover.specs.declared.report.Report.{Report as Heard}
 use Rattle.takeover.specs.declared.source.Source.{Source}
 use Rattle.takeover.specs.Sources.{sources_of}
 use Rattle.run_losses.specs.taking_law.Takings.{Reads, slot_at, slot_of}
@@ -58,28 +56,18 @@ use Rattle.run_laws.specs.world_logs.Roles.Role.{OfClient, OfCleaner, OfManager}
 use Rattle.run_laws.proofs.world_reads.EntriesSources.{ReadsFiled, ReadsPart, ReadsThere, reads_there}
 use Rattle.run_laws.proofs.world_reads.KnownLogs.{HasLog, filed_known, filed_log}
 use Rattle.run_laws.proofs.world_reads.ManagerChains.{Refers, refers_down}
+use Rattle.run_laws.proofs.world_reads.ManagerOwed.{ends_bear, one_among, parts_flew}
 use Rattle.run_laws.proofs.world_reads.ManagerSources.{sources_flew}
 use Rattle.run_laws.proofs.world_reads.TurnRun.{moment_cluster}
 use Rattle.run_laws.specs.world_reads.Entries.{PartKnown, PartsNamed}
 use Rattle.run_laws.specs.world_reads.Joint.{Joint}
-use Rattle.run_laws.specs.world_reads.References.{EndFlew, Flew, ReferencesStand, ReportFlew, its}
-use Rattle.xfs_base.proofs.Members.{contains_cases, contains_nothing}
-use Rattle.xfs_base.specs.declared.node.NodeId.TheVariants.{Client, Cleaner, Manager}
-use Rattle.xfs_base.specs.declared.segment.End.{End}
+use Rattle.run_laws.specs.world_reads.References.{Flew, ReferencesStand, its}
+use Rattle.xfs_base.specs.declared.node.NodeId.TheVariants.{Manager}
 use Rattle.xfs_base.specs.declared.segment.LogId.{LogId}
 use Rattle.xfs_base.specs.declared.segment.SegName.{SegName}
 use Rattle.xfs_base.specs.declared.segment.SegRef.{SegRef}
-use Rattle.xfs_base.specs.Logs.{block_writer, cleaners_number}
+use Rattle.xfs_base.specs.Logs.{cleaners_number}
 use Rattle.xfs_base.specs.Limits.{slot_count, block_logs}
-
-one_contained : {X : Type 0} (P : X → Type 0) (xs : List X) (x : X) → AllByRecursion P xs → Contains xs x → P x
-one_contained P [] x all fact = absurd (contains_nothing x fact)
-one_contained P (y ∷ xs) x all fact = ⊎_elim (λ same. subst P same all.0) (λ later. one_contained P xs x all.1 later) (contains_cases y x xs fact)
-
-one_among : {X : Type 0} (P : X → Type 0) (xs : List X) (x : X) → AllByRecursion P xs → In x xs → P x
-one_among P [] x all fact = absurd fact
-one_among P (y ∷ xs) x all (inl fact) = subst P (sym fact) all.0
-one_among P (y ∷ xs) x all (inr later) = one_among P xs x all.1 later
 
 -- ---- one log has one owner
 
@@ -171,32 +159,6 @@ module _ (laws : Laws) (base : Setting) (e : Estate AnyNode) (run : IsRun any_st
   abbrev filed : Filed
   filed = joint.idx.net.filed
 
-  -- ---- what its sources refer to
-
-  of_writer : (l : ℕ) (end : End) → ReportFlew base e lines texts slot first count (block_writer l) end → EndFlew base e lines texts slot first count l end
-  of_writer l end h = by (l == cleaners_number) refl h
-    where
-      by : (t : Bool) → (l == cleaners_number) ≡ t → ReportFlew base e lines texts slot first count (cond t Cleaner (Client l)) end
-          → EndFlew base e lines texts slot first count l end
-      by true fact k = subst (λ x. EndFlew base e lines texts slot first count x end) (sym (eqb-true l cleaners_number fact)) k
-      by false fact k = k
-
-  module _ (t : Taking) (refers : TakeRefers r t.take) where
-    parts_flew : (ref : SegRef) → Contains t.take.news.parts ref → Flew base e lines texts slot first count ref
-    parts_flew ref fact = one_contained (Flew base e lines texts slot first count) t.take.news.parts ref refers.parts_refer fact
-
-    its_group : (l : ℕ) (end : End) → 0 < end.seq → EndFlew base e lines texts slot first count l end
-        → end.group ≡ (texts.text (record { log = record { 0 = l }; seq = end.seq; pass = end.pass })).group
-    its_group l end some (inl none) = absurd (omega arith)
-    its_group l end some (inr f) =
-        f.grouped ∙ ap (λ (s : Segment). s.group) (sym (ap texts.text f.named ∙ texts.flown f.of.role f.of.there count f.segment f.among))
-
-    ends_bear : (l : ℕ) → 0 < l → l ≤ block_logs → (x : Heard) → In x t.take.reports → x.from ≡ block_writer l → 0 < x.end.seq
-        → x.end.group ≡ (texts.text (record { log = record { 0 = l }; seq = x.end.seq; pass = x.end.pass })).group
-    ends_bear l low high x among from some =
-        its_group l x.end some (of_writer l x.end (subst (λ node. ReportFlew base e lines texts slot first count node x.end) from
-        (one_among (ReportRefers r) t.take.reports x refers.reported among)))
-
   -- ---- what it reads
 
   module _ (t : Taking) (fact : slot_at e j slot count ≡ phase.Taking t) (source : Source) (reading : _)
@@ -246,7 +208,8 @@ module _ (laws : Laws) (base : Setting) (e : Estate AnyNode) (run : IsRun any_st
         (subst (PhaseRefers r) serving.serves (stand.each_node (any.Manager its_node.node) in_nodes)).slots serving.takes
 
     flew : (x : Source) → Contains (sources_of t.take.news t.take.reports) x → Flew base e lines texts slot first count x.seg
-    flew = sources_flew base e lines texts slot first count joint t agrees (parts_flew t take_refers) (ends_bear t take_refers)
+    flew = sources_flew base e lines texts slot first count joint t agrees (parts_flew base e lines texts slot first count t take_refers)
+        (λ l low high x among from some. ends_bear base e lines texts slot first count t take_refers l x among from some)
 
     holds : TakeHolds (answered_in (moment e count).sent (Manager j)) (cut_by (cuts_at e.world)) t.take
     holds =

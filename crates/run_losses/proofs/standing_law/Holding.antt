@@ -1,5 +1,5 @@
 -- At a moment that stands to the small worlds: what is known of a manager that takes a slot over, of the parts that its news name, and of a client that serves.
-use Rattle.std.proofs.Common.{◌≡◌, ◌⊎◌, ⊎_elim, ℕ, zero, suc, ◌<◌, ◌≤◌, List, [], ◌∷◌, Option, None, Some, inl, inr, refl, sym, ap, subst, ◌∙◌, arith}
+use Rattle.std.proofs.Common.{◌≡◌, ◌⊎◌, ⊎_elim, ℕ, zero, suc, ◌<◌, ◌≤◌, List, [], ◌∷◌, Option, None, Some, refl, sym, ap, subst, ◌∙◌, arith}
 use Rattle.std.specs.List.{AllByRecursion}
 use Rattle.client_node.specs.declared.phase.Phase.{Phase as ClientPhase}
 use Rattle.client_node.specs.declared.phase.Phase.TheVariants as clients
@@ -37,16 +37,12 @@ use Rattle.run_laws.specs.world_logs.Roles.{IsThere}
 use Rattle.run_laws.specs.world_logs.Roles.Role.{OfManager}
 use Rattle.run_laws.proofs.world_reads.EntriesSources.{ReadsFiled, ReadsPart, reads_there}
 use Rattle.run_laws.proofs.world_reads.KnownLogs.{filed_known}
+use Rattle.run_laws.proofs.world_reads.ManagerOwed.{one_among}
 use Rattle.run_laws.specs.world_reads.Entries.{PartsNamed}
 use Rattle.run_laws.specs.world_reads.Joint.{Joint, k}
 use Rattle.xfs_base.specs.declared.node.NodeId.TheVariants.{Client, Manager}
 use Rattle.xfs_base.specs.declared.segment.SegRef.{SegRef}
 use Rattle.run_losses.proofs.standing_law.Lowest.{IsLow, part_or_low}
-
-one_among : {X : Type 0} (P : X → Type 0) (xs : List X) (x : X) → AllByRecursion P xs → In x xs → P x
-one_among P [] x all fact = absurd fact
-one_among P (y ∷ xs) x all (inl fact) = subst P (sym fact) all.0
-one_among P (y ∷ xs) x all (inr later) = one_among P xs x all.1 later
 
 -- ---- what is there
 

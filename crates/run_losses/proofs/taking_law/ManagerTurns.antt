@@ -45,7 +45,7 @@ use Rattle.xfs_base.specs.declared.setup.Setup.{Setup}
 use Rattle.xfs_base.specs.Limits.{u32_end}
 use Rattle.xfs_base.specs.Steps.{still}
 use Rattle.xfs_base.proofs.Alls.{all_append, all_weaker}
-use Rattle.run_losses.proofs.taking_law.Quiet.{AllQuiet, IsQuiet, NotLost, QuietBody, answers_quiet}
+use Rattle.run_losses.proofs.taking_law.Quiet.{AllQuiet, IsQuiet, NotLost, NoFetch, answers_quiet}
 use Rattle.run_losses.proofs.taking_law.ServingTurns.{BodyBrought, Fine, ServesSo, begins, checkpoint_goes, from_start, news_go, packet_goes, quiet_goes, tick_goes}
 use Rattle.run_losses.proofs.taking_law.SlotReads.{LostFrom, PresentFrom, TakingFrom}
 use Rattle.run_losses.proofs.taking_law.SlotTurns.{FetchFor, TakingFine}
@@ -251,7 +251,7 @@ module _ (Named : ℕ → Group → Type 0) (Came : ℕ → ℕ → Told → Typ
     quiet_done : (last : ℕ) (q : Phase) (e : Effect) → IsQuiet e → EffectDone p last q e
     quiet_done last q (Send to said) h = by said h
       where
-        by : (b : Body) → QuietBody b → SaidSo last q b
+        by : (b : Body) → NoFetch b → SaidSo last q b
         by (body.Fetch m) h = absurd h
         by _ h = tt
     quiet_done last q (Answers item a) h = tt

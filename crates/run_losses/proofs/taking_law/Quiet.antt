@@ -1,7 +1,7 @@
 -- What leaves the takeovers of a manager alone: what it does for clients and the cleaner in its slots, its checkpoints and its log. It asks for no fragment
 -- then, and says of nothing that it is lost.
 use Rattle.std.proofs.Common.{◌≡◌, ℕ, ◌==◌, ◌<◌, Bool, true, false, List, [], ◌∷◌, length, Option, Some, None, refl, sym, ap, subst, ◌∙◌, arith}
-use Rattle.std.specs.List.{AllByRecursion, slice_get, slice_set}
+use Rattle.std.specs.List.{slice_get, slice_set}
 use Rattle.std.specs.Prelude.{unwrap_or}
 use Rattle.std.proofs.lemmas.Bool.{eqb-true}
 use Rattle.std.proofs.lemmas.Bool.Decides.{nat_tests}
@@ -14,7 +14,6 @@ use Rattle.manager_slots.specs.SlotTable.{Table, all_slots, at_slot, changed_in,
 use Rattle.manager_slots.specs.Tokens as tokens
 use Rattle.node_base.specs.Beginning.{answers_unanswered}
 use Rattle.node_base.specs.declared.effects.Effect.{Effect}
-use Rattle.node_base.specs.declared.effects.Effect.TheVariants.{Send, Answer as Answers, Lose, Does as Acts}
 use Rattle.node_slots.proofs.node_tie.ManagerTables.{set_here, set_there}
 use Rattle.node_slots.specs.node_tie.ManagerEvents.{phase_at}
 use Rattle.token_manager.specs.declared.input.In.{In as SlotIn}
@@ -22,11 +21,7 @@ use Rattle.token_manager.specs.declared.input.In.TheVariants as slot_in
 use Rattle.token_manager.specs.declared.output.Out.{Out as SlotOut}
 use Rattle.token_manager.specs.declared.output.Out.TheVariants as slot_out
 use Rattle.token_manager.specs.Transition.{transition}
-use Rattle.version_model.specs.declared.act.Act.{Act}
-use Rattle.version_model.specs.declared.act.Act.TheVariants as act
 use Rattle.version_model.specs.declared.answer.Answer.{Answer}
-use Rattle.wire_msg.specs.declared.body.Body.{Body}
-use Rattle.wire_msg.specs.declared.body.Body.TheVariants as body
 use Rattle.wire_msg.specs.declared.cleaning.Check.{Check}
 use Rattle.wire_msg.specs.declared.cleaning.UsageAsk.{UsageAsk}
 use Rattle.wire_msg.specs.declared.deltas.Deltas.{Deltas}
@@ -38,26 +33,9 @@ use Rattle.xfs_base.specs.declared.segment.LogId.{LogId}
 use Rattle.xfs_base.specs.declared.segment.SegRef.{SegRef}
 use Rattle.xfs_base.specs.Steps.{Stepped, steps, still}
 use Rattle.xfs_base.proofs.Alls.{all_append, all_flat_map}
+pub use Rattle.run_losses.proofs.fetching_law.Quiet.{AllQuiet, IsQuiet, NoFetch, NotLost}
 
 -- ---- what is done
-
-abbrev pub QuietBody : Body → Type 0
-QuietBody (body.Fetch m) = ⊥
-QuietBody _ = Unit {0}
-
--- no act but that of a takeover says that a segment is lost
-abbrev pub NotLost : Act → Type 0
-NotLost (act.Lost node name) = ⊥
-NotLost _ = Unit {0}
-
-abbrev pub IsQuiet : Effect → Type 0
-IsQuiet (Send to said) = QuietBody said
-IsQuiet (Answers item answer) = Unit {0}
-IsQuiet (Lose name) = ⊥
-IsQuiet (Acts a) = NotLost a
-
-abbrev pub AllQuiet : List Effect → Type 0
-AllQuiet outs = AllByRecursion IsQuiet outs
 
 pub answers_quiet : (o : Option ℕ) (a : Answer) → AllQuiet (answers_unanswered o a)
 answers_quiet None a = tt

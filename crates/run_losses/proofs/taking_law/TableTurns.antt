@@ -31,7 +31,7 @@ use Rattle.xfs_base.specs.declared.node.NodeId.{NodeId}
 use Rattle.xfs_base.specs.Limits.{u32_end}
 use Rattle.xfs_base.specs.Steps.{steps}
 use Rattle.xfs_base.proofs.Alls.{all_append, all_weaker}
-use Rattle.run_losses.proofs.taking_law.Quiet.{Alike, IsQuiet, NotLost, QuietBody}
+use Rattle.run_losses.proofs.taking_law.Quiet.{Alike, IsQuiet, NotLost, NoFetch}
 use Rattle.run_losses.proofs.taking_law.SlotReads.{LostFrom, TakingFrom}
 use Rattle.run_losses.proofs.taking_law.SlotSteps.{SlotSo, SlotStep, StepBody, StepEffect, StepFetch, asks_step, hears_rests, hears_step, report_step, takes_step}
 use Rattle.run_losses.proofs.taking_law.SlotTurns.{FetchFor, TakingFine, unread}
@@ -336,7 +336,7 @@ module _ (Named : ℕ → Group → Type 0) (Came : ℕ → ℕ → Told → Typ
     quiet_so : (e : Effect) → IsQuiet e → DoneSo u later e
     quiet_so (Send to said) h = by said h
       where
-        by : (b : Body) → QuietBody b → BodySo u later b
+        by : (b : Body) → NoFetch b → BodySo u later b
         by (body.Fetch m) h = absurd h
         by _ h = tt
     quiet_so (Answer item answer) h = tt
