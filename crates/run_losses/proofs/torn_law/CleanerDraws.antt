@@ -243,8 +243,8 @@ module _ (first : Cleaner) (what : Do) (h : PhaseUp first.phase) where
   restarted servers l number = record { up = last_up l.questions.last; serves = tt; does = (tt, tt) }
 
   opened : (l : Lasting) (o : openings.Opening) (x : Went) → first.phase ≡ Opening l o → OpenedBy what l o x → WentUp l.questions.last x
-  opened l o x same (PacketCame packet comes) = packet_up l.questions o (subst PhaseUp same h) packet
-  opened l o x same (TimeWent comes) = tick_up l.questions o (subst PhaseUp same h)
+  opened l o x same (PacketCame packet comes) = packet_up o l.questions packet (subst PhaseUp same h)
+  opened l o x same (TimeWent comes) = tick_up o l.questions (subst PhaseUp same h)
 
   came_so : (l : Lasting) (x : Went) (p : Progress) → WentUp l.questions.last x
       → Draws l.questions.last (record { state = came_to (record l { questions = x.questions }) p; outs = x.effects })

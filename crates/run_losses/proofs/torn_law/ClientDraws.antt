@@ -169,13 +169,13 @@ begin_up servers p h = item_up servers p (next_item (lasting_of p).items) h
 deliver_up : (capacity : ℕ) (p : Phase) (packet : Packet) → PhaseUp p → Draws (lasting_of p).questions.last (on_deliver capacity p packet)
 unfolding on_deliver
 deliver_up capacity (Down l) packet h = still_up (Down l) h
-deliver_up capacity (Opening l o) packet h = opened_up l capacity (opening.on_packet o l.questions packet) (packet_up l.questions o h packet)
+deliver_up capacity (Opening l o) packet h = opened_up l capacity (opening.on_packet o l.questions packet) (packet_up o l.questions packet h)
 deliver_up capacity (Serves s) packet h = serving_up (last_in s) _ (packet_so s packet h)
 
 on_time_up : (capacity : ℕ) (p : Phase) → PhaseUp p → Draws (lasting_of p).questions.last (on_time capacity p)
 unfolding on_time
 on_time_up capacity (Down l) h = still_up (Down l) h
-on_time_up capacity (Opening l o) h = opened_up l capacity (opening.on_tick o l.questions) (tick_up l.questions o h)
+on_time_up capacity (Opening l o) h = opened_up l capacity (opening.on_tick o l.questions) (tick_up o l.questions h)
 on_time_up capacity (Serves s) h = serving_up (last_in s) _ (time_so s h)
 
 happens_up : (client : Client) (what : Do) → PhaseUp client.phase → Draws (lasting_of client.phase).questions.last (happens client what)
