@@ -43,7 +43,7 @@ use Rattle.serving_moves.proofs.item_moves.Openings.{behaves_plain}
 use Rattle.node_base.specs.declared.items.Items.{Items}
 use Rattle.serving_moves.proofs.item_moves.Emptying as emptied
 use Rattle.serving_moves.proofs.item_moves.Keeping.{all_plain_more, all_pushed_plain, moves_stay, one_number}
-use Rattle.serving_moves.specs.item_moves.Moves.{Begun, IsBusy, IsCount, Moves}
+use Rattle.serving_moves.specs.item_moves.Moves.{Begun, Falls, IsBusy, IsCount, Moves}
 use Rattle.serving_moves.specs.item_moves.Moves.Begun.{AtOnce, Waits}
 use Rattle.serving_moves.specs.item_moves.Moves.Losses.{Silent, Answering}
 use Rattle.run_answers.proofs.act_law.Filing as filing
@@ -51,7 +51,7 @@ use Rattle.run_answers.proofs.act_law.Filing.{Owns, SaysFiled, StageOwn, WentSo}
 use Rattle.run_answers.proofs.act_law.Telling.{DoneIn, Foundation, Founded, Grows, acted, acted_before, acted_by, founded_then, moves_founded, open_founded, plain_founded}
 use Rattle.run_answers.proofs.once_law.Items.{begun_open, begun_works}
 use Rattle.run_answers.proofs.once_law.Ledger.{AllPlain}
-use Rattle.run_answers.specs.act_law.Founded.{IsCleaners, IsCrash, IsReopened}
+use Rattle.run_answers.specs.act_law.Founded.{IsCleaners, IsReopened}
 use Rattle.run_answers.specs.act_law.Works.{asked_at}
 use Rattle.run_answers.specs.once_law.Ledgers.{IsOpen}
 
@@ -165,12 +165,12 @@ module _ (Is : ℕ → Type 0) (works : List Work) where
         done : (said : List Act) → IsReopened Is (asked_at works number) said
         done said = subst (λ w. IsReopened Is w said) (sym asked) tt
 
-        crash : IsCrash (asked_at works number)
-        crash = subst IsCrash (sym asked) tt
+        falls : Falls (asked_at works number)
+        falls = subst Falls (sym asked) tt
 
         by : (o : Option ℕ) → Founded ACleaner Its [] (answers_unanswered o answer.Cut ++ Answers number answer.Done ∷ [])
         by None = (done [], tt)
-        by (Some item) = ((number, (crash, inl refl)), (done _, tt))
+        by (Some item) = ((number, (falls, inl refl)), (done _, tt))
 
     restart_so : (servers : ℕ) (node : NodeId) → asked_at works number ≡ Some (work.Restart node) → Turned (restarts servers l number)
     unfolding restarts

@@ -41,13 +41,13 @@ use Rattle.xfs_base.specs.Steps.{saying, still}
 use Rattle.serving_moves.proofs.item_moves.Openings.{behaves_plain}
 use Rattle.serving_moves.proofs.item_moves.ClientServing.{Goes, packet_goes, tick_goes}
 use Rattle.serving_moves.proofs.item_moves.Keeping.{all_pushed_plain, no_item, one_number}
+use Rattle.serving_moves.specs.item_moves.Moves.{Falls}
 use Rattle.serving_moves.specs.item_moves.Moves.Losses.{Answering}
 use Rattle.run_answers.proofs.act_law.Calling.{CallFits, Holds, IsNoRestart, Runs, all_run, fits_on, goes_run, more_holds, opens_run, then_runs as runs_behind}
 use Rattle.run_answers.proofs.act_law.Foundations.{Its, ItsOf, its_grow}
 use Rattle.run_answers.proofs.act_law.Telling.{DoneIn, Foundation, Founded, Grows, acted, acted_before, founded_then, in_behind, open_founded, plain_founded}
 use Rattle.run_answers.proofs.once_law.Items.{begun_open, begun_works}
 use Rattle.run_answers.proofs.once_law.Ledger.{AllPlain}
-use Rattle.run_answers.specs.act_law.Founded.{IsCrash}
 use Rattle.run_answers.specs.act_law.Works.{asked_at}
 use Rattle.run_answers.specs.once_law.Ledgers.{IsOpen}
 
@@ -147,12 +147,12 @@ module _ (Began : ℕ → List Act → Type 0) (client : ℕ) (works : List Work
       done : (acts : List Act) → F number acts (DoneIn []) answer.Done
       done acts = subst (λ w. For w number acts (DoneIn []) answer.Done) (sym asked) (tt, tt)
 
-      crash : IsCrash (asked_at works number)
-      crash = subst IsCrash (sym asked) tt
+      falls : Falls (asked_at works number)
+      falls = subst Falls (sym asked) tt
 
       by : (p : Option ℕ) → Founded me F said (answers_unanswered p answer.Cut ++ Answers number answer.Done ∷ [])
       by None = (done said, tt)
-      by (Some item) = (((number, (crash, inl refl)), tt), (done (said ++ act.Answered me item answer.Cut ∷ []), tt))
+      by (Some item) = (((number, (falls, inl refl)), tt), (done (said ++ act.Answered me item answer.Cut ∷ []), tt))
 
   module _ (l : Lasting) (number : ℕ) (numbered : l.number ≡ client) (its : l.items.works ≡ works) where
     abbrev m : Lasting

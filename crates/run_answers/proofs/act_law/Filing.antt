@@ -17,36 +17,31 @@ use Rattle.log_owner.specs.declared.opening.Scanning.{Scanning}
 use Rattle.log_owner.specs.declared.opening.Settling.{Settling}
 use Rattle.log_owner.specs.declared.opening.Stage.{Stage}
 use Rattle.log_owner.specs.declared.opening.Stage.TheVariants as stage
-use Rattle.log_owner.specs.Opening.{Moved, Went, answers, at_scan, behind, by_server, drops, fenced_by, follows, found_by, is_fenced, is_meant, logged, missing_by, on_body, on_fenced, on_found, on_missing, on_news, on_packet, on_stored, on_tick, on_welcome, opens, own_in, regrouped, said, scanned, scans, scans_at, scans_on, settles_over, welcomed, welcomed_as, welcomed_with, writes, written, wrote_one}
+use Rattle.log_owner.specs.Opening.{Moved, Went, at_scan, behind, follows, logged, on_packet, on_tick, opens, said, scanned, scans_on, settles_over, welcomed, welcomed_with, writes, written, wrote_one}
 use Rattle.log_owner.specs.Opened.{filed}
-use Rattle.log_owner.specs.Sending.{name_of, server_in}
+use Rattle.log_owner.specs.Sending.{name_of}
 use Rattle.log_scan.specs.declared.input.In.{In as ScanIn}
 use Rattle.log_scan.specs.declared.input.In.TheVariants as input
 use Rattle.log_scan.specs.declared.output.Out.{Out}
 use Rattle.log_scan.specs.declared.output.Out.TheVariants as out
 use Rattle.log_scan.specs.Transition as scan
-use Rattle.node_base.specs.Asking.{asked_as, drawn_for, own_of}
+use Rattle.node_base.specs.Asking.{asked_as, drawn_for}
 use Rattle.node_base.specs.declared.effects.Effect.{Effect}
 use Rattle.node_base.specs.declared.effects.Effect.TheVariants.{Does}
 use Rattle.node_base.specs.declared.questions.Asked.{Asked}
 use Rattle.node_base.specs.declared.questions.Questions.{Questions}
-use Rattle.node_base.specs.Known.{names_known}
-use Rattle.node_base.specs.Maps.{fits, is_older, taken}
+use Rattle.node_base.specs.Maps.{taken}
 use Rattle.node_base.specs.Shape.{is_log}
 use Rattle.token_protocol.specs.Basics.{In}
 use Rattle.version_model.specs.declared.act.Act.TheVariants as act
-use Rattle.wire_msg.specs.declared.body.Body.{Body}
-use Rattle.wire_msg.specs.declared.body.Body.TheVariants as body
 use Rattle.wire_msg.specs.declared.packet.Packet.{Packet}
 use Rattle.wire_msg.specs.declared.registry.News.{News}
-use Rattle.wire_msg.specs.declared.registry.Welcome.{Welcome}
-use Rattle.wire_msg.specs.declared.storage.Fenced.{Fenced}
-use Rattle.wire_msg.specs.declared.storage.Stored.{Stored}
 use Rattle.xfs_base.proofs.Booleans.{by_test}
-use Rattle.xfs_base.specs.declared.node.NodeId.{NodeId}
 use Rattle.xfs_base.specs.declared.segment.End.{End}
 use Rattle.xfs_base.specs.Steps.{saying, steps, still}
-use Rattle.run_answers.proofs.act_law.Incarnations.{EndsIn, IsOpening, IsOwn, Keeps, takes_keep}
+use Rattle.serving_moves.proofs.item_moves.OpeningWalk as walks
+use Rattle.serving_moves.proofs.item_moves.OpeningWalk.{IsOpening, Walk}
+use Rattle.run_answers.proofs.act_law.Incarnations.{EndsIn, IsOwn, Keeps, takes_keep}
 use Rattle.run_answers.proofs.act_law.Telling.{effect_behind}
 
 -- ---- it acts what is filed
@@ -96,7 +91,7 @@ logged_so k s r keeps =
     said_after k.owner (written r.outs).outs (opens k (record s { log = r.state }) (written r.outs).state)
     (opens_so k (record s { log = r.state }) (written r.outs).state keeps.own (written_end k.owner.inc None r.outs tt keeps.ends))
 
-writes_so : (k : Known) (s : Settling) (i : LogIn) → IsOpening k.owner.inc i → IsOwn k.owner.inc s.log → MovedSo k.owner (writes k s i)
+writes_so : (k : Known) (s : Settling) (i : LogIn) → IsOpening i → IsOwn k.owner.inc s.log → MovedSo k.owner (writes k s i)
 unfolding writes
 writes_so k s i opening own = logged_so k s (log.transition s.log i) (takes_keep k.owner.inc s.log i opening own)
 
@@ -129,90 +124,35 @@ scans_on_so k q s i =
     let next : Scanning = record { scan = d.state; asked = r.state.asked } in
     said_after k.owner r.outs (follows k next r.state.ended) (ended_so k.owner d.state.opening.low s.asked q None d.outs none_ended k next)
 
-scans_at_so : (k : Known) (q : Questions) (i : ScanIn) (at : Stage) → StageOwn k.owner.inc at → WentSo k.owner (scans_at k q i at)
-scans_at_so k q i (stage.Scanning s) own = scans_on_so k q s i
-scans_at_so k q i (stage.Settling s) own = own
-
 -- ---- the events
 
 with_so : (k : Known) (q : Questions) (s : Scanning) (news : News) (own : ℕ) (groups : Option GroupMapState) → WentSo k.owner (welcomed_with k q s news own groups)
 with_so k q s news own None = tt
 with_so k q s news own (Some groups) = scans_on_so _ q _ (input.Welcome own news.slots groups)
 
-as_so : (k : Known) (q : Questions) (s : Scanning) (news : News) (own : Option ℕ) → WentSo k.owner (welcomed_as k q s news own)
+welcomed_so : (k : Known) (q : Questions) (s : Scanning) (news : News) (own : ℕ) → WentSo k.owner (welcomed k q s news own)
 unfolding welcomed
-as_so k q s news None = tt
-as_so k q s news (Some own) = with_so (record k { maps = taken k.maps news }) q s news own (taken k.maps news).groups
+welcomed_so k q s news own = with_so (record k { maps = taken k.maps news }) q s news own (taken k.maps news).groups
 
 -- what an opening has of its stage
 abbrev pub Owns : Opening → Type 0
 Owns o = StageOwn o.known.owner.inc o.stage
 
-welcome_so : (o : Opening) (q : Questions) (w : Welcome) → Owns o → WentSo o.known.owner (on_welcome o q w)
-unfolding on_welcome
-welcome_so o q w = by_stage o.stage
-  where
-    by_stage : (at : Stage) → StageOwn o.known.owner.inc at → WentSo o.known.owner (on_welcome (record o { stage = at }) q w)
-    by_stage (stage.Scanning s) own =
-        by_test (WentSo o.known.owner) (is_meant o.known w) (welcomed_as o.known q s w.news (own_of s.asked w.ask))
-        (record { progress = at_scan o.known s; questions = q; effects = [] }) (λ _. as_so o.known q s w.news (own_of s.asked w.ask)) (λ _. tt)
-    by_stage (stage.Settling s) own = own
+abbrev Holds : Known → Questions → Stage → Went → Type 0
+Holds k q at w = StageOwn k.owner.inc at → WentSo k.owner w
 
-regrouped_so : (k : Known) (q : Questions) (groups : GroupMapState) (at : Stage) → StageOwn k.owner.inc at → WentSo k.owner (regrouped k q groups at)
-regrouped_so k q groups (stage.Scanning s) own = scans_on_so k q s (input.Maps groups)
-regrouped_so k q groups (stage.Settling s) own = writes_so k s (log_in.Maps groups) tt own
-
-news_so : (o : Opening) (q : Questions) (news : News) → Owns o → WentSo o.known.owner (on_news o q news)
-unfolding on_news
-news_so o q news own =
-    let newer : Known = record o.known { maps = taken o.known.maps news } in
-    by_test (WentSo o.known.owner) (fits o.known.maps news && is_older o.known.maps news) (regrouped newer q news.groups o.stage) (drops o q)
-    (λ _. regrouped_so newer q news.groups o.stage own) (λ _. own)
-
-by_server_so : (o : Opening) (q : Questions) (f : ℕ → Went) (server : Option ℕ) → Owns o → ((n : ℕ) → WentSo o.known.owner (f n))
-    → WentSo o.known.owner (by_server o q f server)
-by_server_so o q f None own each = own
-by_server_so o q f (Some server) own each = each server
-
-answers_so : (o : Opening) (q : Questions) (f : ℕ → ScanIn) (asked : Option ℕ) → Owns o → WentSo o.known.owner (answers o q f asked)
-answers_so o q f None own = own
-answers_so o q f (Some asked) own = scans_at_so o.known q (f asked) o.stage own
-
-fenced_so : (o : Opening) (q : Questions) (f : Fenced) (server : ℕ) → Owns o → WentSo o.known.owner (fenced_by o q f server)
-fenced_so o q f server own =
-    by_test (WentSo o.known.owner) (is_fenced o f) (scans o q (input.Fenced server f.generation f.held)) (drops o q)
-    (λ _. scans_at_so o.known q (input.Fenced server f.generation f.held) o.stage own) (λ _. own)
-
-stored_so : (o : Opening) (q : Questions) (s : Stored) → Owns o → WentSo o.known.owner (on_stored o q s)
-unfolding on_stored
-stored_so o q s = by_stage o.stage
-  where
-    by_stage : (at : Stage) → StageOwn o.known.owner.inc at → WentSo o.known.owner (on_stored (record o { stage = at }) q s)
-    by_stage (stage.Scanning scanning) own = tt
-    by_stage (stage.Settling settling) own = writes_so o.known settling (log_in.Acked s.name s.index s.generation) tt own
+walk : Walk Holds
+walk = record {
+  rests = λ o q own. own;
+  asks = λ o q own. own;
+  scan = λ k q s i own. scans_on_so k q s i;
+  log = λ k q s i opening own. writes_so k s i opening own;
+  welcome = λ k q s news asked own. welcomed_so k q s news asked;
+  newer = λ k news q at w fact. fact;
+}
 
 pub tick_so : (o : Opening) (q : Questions) → Owns o → WentSo o.known.owner (on_tick o q)
-unfolding on_tick
-tick_so o q = by_stage o.stage
-  where
-    by_stage : (at : Stage) → StageOwn o.known.owner.inc at → WentSo o.known.owner (on_tick (record o { stage = at }) q)
-    by_stage (stage.Scanning s) own = scans_on_so o.known q s input.Tick
-    by_stage (stage.Settling s) own = writes_so o.known s log_in.Tick tt own
-
-body_so : (o : Opening) (q : Questions) (from : NodeId) (b : Body) → Owns o → WentSo o.known.owner (on_body o q from b)
-unfolding on_body on_fenced on_found on_missing
-body_so o q from (body.Welcome w) own = welcome_so o q w own
-body_so o q from (body.MapNews news) own = news_so o q news own
-body_so o q from (body.Fenced f) own = by_server_so o q (fenced_by o q f) (server_in from) own (λ n. fenced_so o q f n own)
-body_so o q from (body.Fragment f) own =
-    by_server_so o q (found_by o q f) (server_in from) own
-    (λ n. answers_so o q (λ asked. input.Got asked n f.generation f.fragment) (own_in o.stage f.ask) own)
-body_so o q from (body.Missing m) own =
-    by_server_so o q (missing_by o q m) (server_in from) own (λ n. answers_so o q (λ asked. input.Missing asked n m.generation) (own_in o.stage m.ask) own)
-body_so o q from (body.Stored s) own = stored_so o q s own
-body_so o q from _ own = own
+tick_so o q = walks.tick_so Holds walk o q
 
 pub packet_so : (o : Opening) (q : Questions) (p : Packet) → Owns o → WentSo o.known.owner (on_packet o q p)
-unfolding on_packet
-packet_so o q p own =
-    by_test (WentSo o.known.owner) (names_known o.known.maps p.body) (on_body o q p.from p.body) _ (λ _. body_so o q p.from p.body own) (λ _. own)
+packet_so o q p = walks.packet_so Holds walk o q p

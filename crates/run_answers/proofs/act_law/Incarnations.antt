@@ -21,6 +21,7 @@ use Rattle.xfs_base.specs.declared.segment.Prior.{Prior}
 use Rattle.xfs_base.specs.declared.segment.SegName.{SegName}
 use Rattle.xfs_base.specs.Limits.{segment_blocks}
 use Rattle.xfs_base.specs.Steps.{still}
+use Rattle.serving_moves.proofs.item_moves.OpeningWalk.{IsOpening}
 use Rattle.run_answers.proofs.act_law.Writing.{IsSend, all_sent}
 
 module _ (inc : ℕ) where
@@ -116,14 +117,6 @@ module _ (inc : ℕ) where
         | None ↦ still_keeps s h
         | Some f ↦ record { own = h; ends = sent_ends (all_sends f) (all_sent f) }
       ]
-
-  -- what an owner has its log take while it opens it
-  abbrev pub IsOpening : Input → Type 0
-  IsOpening (Parts items) = Unit {0}
-  IsOpening (Acked name index generation) = Unit {0}
-  IsOpening (Maps groups) = Unit {0}
-  IsOpening Tick = Unit {0}
-  IsOpening _ = ⊥
 
   pub takes_keep : (s : LogState) (i : Input) → IsOpening i → IsOwn s → Keeps (transition s i)
   takes_keep s (Parts items) opens h = parts_keep s items h

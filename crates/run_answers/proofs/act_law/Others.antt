@@ -3,7 +3,7 @@ use Rattle.std.proofs.Common.{◌≡◌, ℕ, List, [], ◌∷◌, ◌++◌, Opt
 use Rattle.manager_node.specs.declared.manager.Manager.{Manager}
 use Rattle.manager_node.specs.Events as manager
 use Rattle.manager_node.specs.Phases.{lasting_of}
-use Rattle.node_base.specs.Beginning.{answers_unanswered, begun, waiting, work_at}
+use Rattle.node_base.specs.Beginning.{answers_unanswered, begun, waiting}
 use Rattle.node_base.specs.declared.effects.Effect.{Effect}
 use Rattle.node_base.specs.declared.effects.Effect.TheVariants.{Answer as Answers}
 use Rattle.registry_node.specs.declared.node.RegistryNode.{RegistryNode}
@@ -14,7 +14,6 @@ use Rattle.version_model.specs.declared.act.Act.{Act}
 use Rattle.version_model.specs.declared.answer.Answer.{Answer}
 use Rattle.version_model.specs.declared.answer.Answer.TheVariants as answer
 use Rattle.version_model.specs.declared.work.Work.{Work}
-use Rattle.version_model.specs.declared.work.Work.TheVariants as work
 use Rattle.wire_msg.specs.declared.packet.Do.{Do}
 use Rattle.xfs_base.specs.declared.node.NodeId.{NodeId}
 use Rattle.node_base.specs.declared.items.Items.{Items}
@@ -30,7 +29,7 @@ use Rattle.serving_moves.specs.item_moves.Moves.Losses.{Silent, Telling}
 use Rattle.run_answers.proofs.act_law.Telling.{DoneIn, Foundation, Founded, Grows, acted, founded_then, moves_founded, plain_founded}
 use Rattle.run_answers.proofs.once_law.Items.{begun_works}
 use Rattle.run_answers.proofs.once_law.Ledger.{AllPlain}
-use Rattle.run_answers.specs.act_law.Founded.{IsCrash, IsCut}
+use Rattle.run_answers.specs.act_law.Founded.{IsCut}
 use Rattle.run_answers.specs.act_law.Works.{asked_at}
 
 -- An answer of a manager, a server or the registry is founded so: what they cut they cut as they crash.
@@ -52,18 +51,13 @@ module _ (me : NodeId) (works : List Work) where
   prompt_founded item said done _ so = tt
 
   -- the open item is cut, and the item by which the node falls is done
-  cuts_founded : (said : List Act) (o : Option ℕ) (number : ℕ) → IsCrash (asked_at works number) → (more : List Effect) → AllPlain more
+  cuts_founded : (said : List Act) (o : Option ℕ) (number : ℕ) → Falls (asked_at works number) → (more : List Effect) → AllPlain more
       → Founded me Its said (answers_unanswered o answer.Cut ++ Answers number answer.Done ∷ more)
-  cuts_founded said o number crash more plain = by o
+  cuts_founded said o number falls more plain = by o
     where
       by : (p : Option ℕ) → Founded me Its said (answers_unanswered p answer.Cut ++ Answers number answer.Done ∷ more)
       by None = (tt, plain_founded me Its its_grow _ more plain)
-      by (Some item) = ((number, (crash, inl refl)), (tt, plain_founded me Its its_grow _ more plain))
-
-  falls_crash : (asked : Option Work) → Falls asked → IsCrash asked
-  falls_crash (Some (work.Crash node)) falls = tt
-  falls_crash (Some (work.Lose server)) falls = tt
-  falls_crash _ falls = absurd falls
+      by (Some item) = ((number, (falls, inl refl)), (tt, plain_founded me Its its_grow _ more plain))
 
   asked_is : (ws : List Work) (number : ℕ) → ws ≡ works → asked_at works number ≡ asked_at ws number
   asked_is ws number same = sym (ap (λ (xs : List Work). asked_at xs number) same)
@@ -93,7 +87,7 @@ module _ (me : NodeId) (works : List Work) where
     event_so before after what outs its (Cuts number first more is next falls plain rest) =
         behind first (answers_unanswered (begun before).unanswered answer.Cut ++ Answers number answer.Done ∷ more) plain
         (cuts_founded (acted me [] first) (begun before).unanswered number
-        (subst IsCrash (sym (asked_is (begun before).works number (begun_works before ∙ its))) (falls_crash (work_at (begun before) number) falls)) more
+        (subst Falls (sym (asked_is (begun before).works number (begun_works before ∙ its))) falls) more
         (all_plain_more losses more rest))
 
   count_prompt : (a : Answer) → IsCount a → IsPrompt a

@@ -12,21 +12,16 @@ use Rattle.xfs_base.specs.declared.segment.End.{End}
 use Rattle.xfs_base.specs.declared.segment.SegName.{SegName}
 use Rattle.xfs_base.specs.Logs.{cleaner_log}
 use Rattle.run_answers.specs.act_law.Works.{asked_at}
+use Rattle.serving_moves.specs.item_moves.Moves.{Falls}
 
 -- a call on files is asked for
 abbrev pub IsFileCall : Option Work → Type 0
 IsFileCall (Some (work.File c call)) = Unit {0}
 IsFileCall _ = ⊥
 
--- a crash is asked for, or the loss of a disk
-abbrev pub IsCrash : Option Work → Type 0
-IsCrash (Some (work.Crash node)) = Unit {0}
-IsCrash (Some (work.Lose server)) = Unit {0}
-IsCrash _ = ⊥
-
--- it crashes: the item by which it does is answered behind
+-- it falls: the item by which it does is answered behind
 abbrev pub IsCut : List Work → (ℕ → Type 0) → Type 0
-IsCut works done = (item : ℕ) × (IsCrash (asked_at works item) × done item)
+IsCut works done = (item : ℕ) × (Falls (asked_at works item) × done item)
 
 module _ (client : ℕ) where
   -- it read this version of the block that it was asked for, and this value
