@@ -1,13 +1,13 @@
 -- What a manager does as it writes checkpoints is seen in the small world of its log.
-use Rattle.std.proofs.Common.{◌≡◌, ℕ, zero, suc, ◌+◌, ◌==◌, ◌||◌, not, List, [], ◌∷◌, ◌++◌, length, is_some, take, drop, Option, Some, None, true, refl, sym, ap, subst, ◌∙◌, inl, inr}
-use Rattle.std.specs.Prelude.{IfSome, fold, nat_lt}
+use Rattle.std.proofs.Common.{◌≡◌, ℕ, zero, suc, ◌==◌, List, [], ◌∷◌, length, is_some, take, drop, Option, Some, None, true, refl, sym, ap, subst, ◌∙◌, inl, inr}
+use Rattle.std.specs.Prelude.{IfSome, fold}
 use Rattle.std.specs.List.{AllByRecursion, flat_map}
 use Rattle.checkpoint.specs.declared.input.In.{In as WriterIn}
 use Rattle.checkpoint.specs.declared.input.In.TheVariants as writer_in
 use Rattle.checkpoint.specs.declared.output.Out.{Out}
 use Rattle.checkpoint.specs.declared.output.Out.TheVariants as out
 use Rattle.checkpoint.specs.Transition as writer
-use Rattle.checkpoint.specs.WriterState.{Rows, WorkState, WriterState, items_of}
+use Rattle.checkpoint.specs.WriterState.{Rows, WriterState, items_of}
 use Rattle.client_log.specs.declared.input.In.{In as LogIn}
 use Rattle.client_log.specs.declared.input.In.TheVariants as log_in
 use Rattle.client_log.specs.declared.output.Out.{Out as LogOut}
@@ -31,13 +31,13 @@ use Rattle.xfs_base.specs.declared.segment.End.{End}
 use Rattle.xfs_base.specs.declared.segment.LogId.{LogId}
 use Rattle.xfs_base.specs.declared.segment.SegName.{SegName}
 use Rattle.xfs_base.specs.Steps.{Stepped, still, steps}
-use Rattle.xfs_base.proofs.Leaving.{Leaves}
 use Rattle.log_protocol.specs.Tables.{In}
 use Rattle.log_tie.specs.Seen.{log_filed}
 use Rattle.log_tie.specs.Setting.{Setting}
 use Rattle.log_tie.specs.Shelves.{is_of_log}
 use Rattle.log_law.specs.Net.{Packet, log_packets}
 use Rattle.log_law.specs.Net.Packet.{StoredSent, MapSent}
+use Rattle.node_moves.proofs.manager_walk.Writers.{WriterLaw, GivenSo, OutSo, writer_goes}
 use Rattle.node_logs.proofs.node_log_tie.OwnLogs.{SendsOwn}
 use Rattle.node_logs.specs.client_log_tie.Owner.{Scene}
 use Rattle.node_logs.specs.client_log_tie.Texts.{MapFits}
@@ -49,16 +49,6 @@ use Rattle.node_logs.proofs.manager_log_tie.SlotPhases.{answers_aside}
 use Rattle.node_logs.proofs.manager_log_tie.Tables.{WriterInFits, begin_fits, table_cleaned, table_named}
 
 -- ---- the writer of checkpoints
-
--- the parts that it gives out fit
-OutFits : Out → Type 0
-OutFits (out.Parts items) = AllByRecursion PartFits items
-OutFits (out.Done slot epoch parts horizon) = Unit {0}
-OutFits out.Kept = Unit {0}
-OutFits (out.Stale epoch) = Unit {0}
-
-Writes : Stepped WriterState Out → Type 0
-Writes d = Leaves WriterFits OutFits d
 
 first_fit : (count : ℕ) (pages : List Rows) → PagesFit pages → PagesFit (take count pages)
 first_fit zero pages all = tt
@@ -74,46 +64,31 @@ items_fit : (slot : ℕ) (pages : List Rows) → PagesFit pages → AllByRecursi
 items_fit slot [] all = tt
 items_fit slot (p ∷ pages) all = (all.0, items_fit slot pages all.1)
 
-writer_goes_on : (s : WriterState) (w : WorkState) → PagesFit w.left → Writes (writer.go_on s w)
-unfolding Writes OutFits
-writer_goes_on s w h =
-    by_test Writes (length w.left == 0) (writer.finished s w) (writer.gives s w) (λ t. record { state = tt; outs = (tt, tt) })
-    (λ t. record { state = rest_fit 24 w.left h; outs = (items_fit w.slot (take 24 w.left) (first_fit 24 w.left h), tt) })
+-- the parts that it gives out fit, since the pages do that it is given
+abbrev law : WriterLaw
+law = record {
+  Work = λ it. PagesFit it.left;
+  Items = λ items. AllByRecursion PartFits items;
+  Done = λ slot epoch parts horizon. Unit {0};
+  Settles = λ l end. Unit {0};
+  gives = λ it h. items_fit it.slot (take 24 it.left) (first_fit 24 it.left h);
+  left = λ it h. rest_fit 24 it.left h;
+  done = λ it h. tt;
+  parted = λ l it end fact h. h;
+}
 
-writer_begins : (s : WriterState) (w : WorkState) → WriterFits s → PagesFit w.left → Writes (writer.begun s w)
-unfolding Writes
-writer_begins s w before h =
-    by_test Writes (writer.is_idle s) (writer.go_on (record s { number = s.number + 1 }) w) (still s)
-    (λ t. writer_goes_on (record s { number = s.number + 1 }) w h)
-    (λ t. record { state = before; outs = tt })
+-- what is made of the writer, and what it gives out
+record WriterGoes (r : Stepped WriterState Out) : Type 0 where
+  state : WriterFits r.state
+  outs : AllByRecursion (OutSo law) r.outs
 
-writer_settles : (s : WriterState) (end : End) → WriterFits s → Writes (writer.on_settled s end)
-unfolding Writes
-writer_settles s end before = by s.work before
+writer_fits : (s : WriterState) (given : WriterIn) → WriterFits s → WriterInFits given → WriterGoes (writer.transition s given)
+writer_fits s given before fits = let d = writer_goes law s.log s given (before, refl) (by given fits) in record { state = d.state.0; outs = d.outs }
   where
-    by : (work : Option WorkState) → IfSome work (λ w. PagesFit w.left) → Writes (writer.settled s work end)
-    by None h = record { state = before; outs = tt }
-    by (Some w) h = writer_goes_on s (record w { parts = w.parts ++ writer.part_at s.log end ∷ [] }) h
-
-writer_hears : (s : WriterState) (epoch number : ℕ) → WriterFits s → Writes (writer.on_ack s epoch number)
-unfolding Writes OutFits
-writer_hears s epoch number before = by s.asked
-  where
-    answer_fits : (own : ℕ) → AllByRecursion OutFits (writer.answer own epoch ∷ [])
-    answer_fits own = (by_test OutFits (epoch == own) out.Kept (out.Stale epoch) (λ t. tt) (λ t. tt), tt)
-
-    by : (awaited : Option ℕ) → Writes (writer.acked s awaited epoch number)
-    by None = record { state = before; outs = tt }
-    by (Some own) =
-        by_test Writes (not (number == s.number) || nat_lt epoch own) (still s)
-        (record { state = record s { asked = None }; outs = writer.answer own epoch ∷ [] })
-        (λ t. record { state = before; outs = tt }) (λ t. record { state = before; outs = answer_fits own })
-
-writer_goes : (s : WriterState) (given : WriterIn) → WriterFits s → WriterInFits given → Writes (writer.transition s given)
-writer_goes s (writer_in.Begin slot epoch pages parts horizon) before fits =
-    writer_begins s (record { slot = slot; epoch = epoch; left = pages; parts = parts; horizon = horizon }) before fits
-writer_goes s (writer_in.Settled end) before fits = writer_settles s end before
-writer_goes s (writer_in.Ack epoch number) before fits = writer_hears s epoch number before
+    by : (given : WriterIn) → WriterInFits given → GivenSo law s.log given
+    by (writer_in.Begin slot epoch pages parts horizon) fits = fits
+    by (writer_in.Settled end) fits = tt
+    by (writer_in.Ack epoch number) fits = tt
 
 module _ (g : Setting) (j : ℕ) (fact : g.log ≡ log_of j) where
   -- ---- the log
@@ -156,8 +131,8 @@ module _ (g : Setting) (j : ℕ) (fact : g.log ≡ log_of j) where
     index = h.index;
   }
 
-  says_so : (w : Scene) (s : Serving) (o : Out) → Stands g j w s → OutFits o → Goes g j w (says s o)
-  unfolding says OutFits
+  says_so : (w : Scene) (s : Serving) (o : Out) → Stands g j w s → OutSo law o → Goes g j w (says s o)
+  unfolding says
   says_so w s (out.Parts items) h fits = parts_so w s items h fits
   says_so w s (out.Done slot epoch parts horizon) h fits = registers_so w (asked s) _ (asked_so w s h)
   says_so w s out.Kept h fits = stays g j w s h
@@ -167,10 +142,10 @@ module _ (g : Setting) (j : ℕ) (fact : g.log ≡ log_of j) where
   with_writer w s t h fits = record { lasts = h.lasts; inc = h.inc; log = h.log; written = h.written; writer = fits; index = h.index }
 
   writer_so : (w : Scene) (s : Serving) (given : WriterIn) → Stands g j w s → WriterInFits given → Goes g j w (writer_takes s given)
-  unfolding writer_takes says_each Writes
+  unfolding writer_takes says_each
   writer_so w s given h fits =
-      let d : Leaves WriterFits OutFits (writer.transition s.writer given) = writer_goes s.writer given h.writer fits in
-      goes_each g j OutFits says says_so w (record s { writer = (writer.transition s.writer given).state }) (writer.transition s.writer given).outs
+      let d = writer_fits s.writer given h.writer fits in
+      goes_each g j (OutSo law) says says_so w (record s { writer = (writer.transition s.writer given).state }) (writer.transition s.writer given).outs
       (with_writer w s (writer.transition s.writer given).state h d.state) d.outs
 
   -- ---- the log took an input
@@ -268,10 +243,10 @@ module _ (g : Setting) (j : ℕ) (fact : g.log ≡ log_of j) where
       }))
 
   pub acked_so : (w : Scene) (s : Serving) (ack : CkptAck) → Stands g j w s → Goes g j w (on_ckpt_ack s ack)
-  unfolding on_ckpt_ack Writes
+  unfolding on_ckpt_ack
   acked_so w s ack h =
       let r : Stepped WriterState Out = writer.transition s.writer (writer_in.Ack ack.epoch s.dones) in
-      let d : Leaves WriterFits OutFits r = writer_goes s.writer (writer_in.Ack ack.epoch s.dones) h.writer tt in
+      let d = writer_fits s.writer (writer_in.Ack ack.epoch s.dones) h.writer tt in
       by_test (λ (d : Done). Goes g j w d) (awaits s.checkpoint ack.ask) (answered_by s r) (still s)
       (λ t. by_test (λ (d : Done). Goes g j w d) (length r.outs == 0) (still (record s { writer = r.state }))
       (next_slot (record s { writer = r.state; checkpoint = fold counted s.checkpoint r.outs }))
