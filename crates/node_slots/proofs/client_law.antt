@@ -10,6 +10,7 @@ mod Packets
 mod Calls
 pub mod Happening
 mod Writing
+mod Puts
 mod Giving
 mod Orders
 mod Caching

@@ -1,36 +1,27 @@
 -- A block that isn't held, and of which a want is open, comes to be held by an answer alone: nothing else that a client does has a block held
 -- that isn't, and what was read is taken only where nothing is wanted.
-use Rattle.std.proofs.Common.{◌≡◌, ◌⊎◌, inl, inr, ℕ, true, false, ◌&&◌, not, List, [], ◌∷◌, Option, Some, None, is_some, is_none, refl, sym, ap, subst, ◌∙◌}
-use Rattle.std.specs.Prelude.{fold}
-use Rattle.client_log.specs.declared.input.In as log_in
-use Rattle.client_log.specs.declared.input.In.TheVariants as log_ins
+use Rattle.std.proofs.Common.{◌≡◌, ◌⊎◌, inl, inr, true, false, Option, Some, None, is_some, is_none, refl, sym, ap, subst, ◌∙◌}
 use Rattle.client_node.specs.declared.client.Client.{Client}
 use Rattle.client_node.specs.declared.phase.Phase.TheVariants.{Serving as Serves}
 use Rattle.client_node.specs.declared.phase.Phase.{Phase}
 use Rattle.client_node.specs.Phases.{takes}
 use Rattle.client_node.specs.Starting.{first_client}
-use Rattle.client_running.specs.Blocks.{changes, wrote}
 use Rattle.client_serving.specs.declared.serving.Serving.{Serving}
-use Rattle.client_serving.specs.Flights.{feeds, gives_if_clean, gives_up, held_at, keeps_clean, notes_settled, settled_rows, settles, writes}
-use Rattle.client_serving.specs.Follow.{notes_clean}
+use Rattle.client_serving.specs.Flights.{held_at, settles, writes}
 use Rattle.client_serving.specs.Sends as client
-use Rattle.token_client.specs.declared.held.Giving.{Giving}
 use Rattle.token_client.specs.declared.held.Held.{Held}
-use Rattle.token_client.specs.Held.{is_dirty, is_settled_by, let_go, may_end_fetch, may_evict, may_write, version_settled, written}
-use Rattle.token_client.specs.State.{TokensState, dirty_in, held_of, with_held}
-use Rattle.token_client.specs.Transition.{Done, on_evict, on_settled, on_wrote}
+use Rattle.token_client.specs.Held.{let_go, may_end_fetch, version_settled, written}
+use Rattle.token_client.specs.State.{TokensState, held_of, with_held}
 use Rattle.wire_msg.specs.declared.body.Body.{Body}
 use Rattle.wire_msg.specs.declared.body.Body.TheVariants as body
 use Rattle.wire_msg.specs.declared.packet.Do.{Do}
 use Rattle.wire_msg.specs.declared.packet.Do.TheVariants.{Begin, Deliver, Tick}
 use Rattle.xfs_base.specs.Blocks.{same_block}
 use Rattle.xfs_base.specs.declared.block.BlockId.{BlockId}
-use Rattle.xfs_base.specs.declared.entry.Entry.{Entry}
-use Rattle.xfs_base.specs.declared.segment.End.{End}
 use Rattle.xfs_base.specs.Modes.{is_held}
-use Rattle.xfs_base.specs.Steps.{steps, still}
+use Rattle.xfs_base.specs.Steps.{still}
 use Rattle.xfs_base.proofs.BlockOrder.{same_block_exact, same_block_itself}
-use Rattle.xfs_base.proofs.Booleans.{and_second, by_test, contrary}
+use Rattle.xfs_base.proofs.Booleans.{and_second, contrary}
 use Rattle.node_slots.specs.node_tie.AskingEvents.{PhaseAsks}
 use Rattle.node_slots.proofs.node_tie.AsksEvents.{first_asks}
 use Rattle.node_slots.specs.client_law.Events.{after_events}
@@ -39,10 +30,10 @@ use Rattle.node_slots.proofs.client_law.Asking.{after-asks}
 use Rattle.node_slots.proofs.client_law.Caching.{put_cases}
 use Rattle.node_slots.proofs.client_law.Giving.{AnyLog, AnyOpening, any_reopens}
 use Rattle.node_slots.proofs.client_law.Happening.{AnyMap, ArrivesTo, PhaseHolds, Starts, brings_any, takes-so}
-use Rattle.node_slots.proofs.client_law.Keeping.{Fact, Keeps, TakesKeep, takes_back-keeps}
+use Rattle.node_slots.proofs.client_law.Keeping.{Fact, Keeps, TakesKeep}
 use Rattle.node_slots.proofs.client_law.Orders.{either}
 use Rattle.node_slots.proofs.client_law.Packets.{Arrives}
-use Rattle.node_slots.proofs.client_law.Writing.{notes_clean-tokens, notes_gone-tokens, writes-tokens}
+use Rattle.node_slots.proofs.client_law.Puts.{PutsKeep, changes-tokens, cleaned-tokens, gone-tokens, logs-tokens}
 
 module _ (block : BlockId) where
   -- the block isn't held
@@ -67,27 +58,6 @@ module _ (block : BlockId) where
   unheld_same : (t : TokensState) → Unheld t → (b : BlockId) (g : Held) → g.mode ≡ (held_of t.blocks b).mode → Unheld (with_held t b g)
   unheld_same t p b g same = unheld_put t p b g (λ fact. ap is_held same ∙ here t b p fact)
 
-  evict-unheld : (t : TokensState) (b : BlockId) → Unheld t → Unheld (on_evict t b).state
-  unfolding on_evict
-  evict-unheld t b p =
-      let h : Held = held_of t.blocks b in
-      by_test (λ (d : Done). Unheld d.state) (may_evict h) (still (with_held t b (let_go h))) (still t) (λ x. unheld_put t p b (let_go h) (λ fact. refl))
-      (λ x. p)
-
-  settled-unheld : (t : TokensState) (b : BlockId) (ver : ℕ) → Unheld t → Unheld (on_settled t b ver).state
-  unfolding on_settled
-  settled-unheld t b ver p =
-      let h : Held = held_of t.blocks b in
-      by_test (λ (d : Done). Unheld d.state) (is_settled_by h ver) (still (with_held t b (version_settled h ver))) (still t)
-      (λ x. unheld_same t p b (version_settled h ver) refl) (λ x. p)
-
-  wrote-unheld : (t : TokensState) (b : BlockId) (value : Option (List ℕ)) → Unheld t → Unheld (on_wrote t b value).state
-  unfolding on_wrote
-  wrote-unheld t b value p =
-      let h : Held = held_of t.blocks b in
-      by_test (λ (d : Done). Unheld d.state) (may_write h) (still (with_held t b (written h value))) (still t) (λ x. unheld_same t p b (written h value) refl)
-      (λ x. p)
-
   takes-unheld : TakesKeep U
   takes-unheld = record {
     quiet = λ t u l c q p. ap is_held (q block).mode ∙ p;
@@ -98,50 +68,13 @@ module _ (block : BlockId) where
     seals = λ t l c p. p;
   }
 
-  -- ---- a segment is settled
-
-  rows_settled : (s : Serving) (rows : List (BlockId × Entry)) → Unheld s.tokens → Unheld (fold notes_settled s rows).tokens
-  unfolding notes_settled
-  rows_settled s [] p = p
-  rows_settled s (row ∷ rows) p = rows_settled (notes_settled s row) rows (settled-unheld s.tokens row.0 row.1.ver p)
-
-  keeps_clean-unheld : (s : Serving) (row : BlockId × Entry) → Unheld s.tokens → Unheld (keeps_clean s row).tokens
-  unfolding keeps_clean
-  keeps_clean-unheld s row p =
-      by_test (λ (t : Serving). Unheld t.tokens) (not (is_dirty (held_at s row.0)) && is_held (held_at s row.0).mode) (notes_clean s row.0) s
-      (λ x. notes_clean-tokens Unheld evict-unheld s row.0 p) (λ x. p)
-
-  rows_clean : (s : Serving) (rows : List (BlockId × Entry)) → Unheld s.tokens → Unheld (fold keeps_clean s rows).tokens
-  rows_clean s [] p = p
-  rows_clean s (row ∷ rows) p = rows_clean (keeps_clean s row) rows (keeps_clean-unheld s row p)
-
-  gives_up-unheld : (s : Serving) (b : BlockId) (g : Option Giving) → Unheld s.tokens → Unheld (gives_up s b g).state.tokens
-  gives_up-unheld s b None p = p
-  gives_up-unheld s b (Some g) p = takes_back-keeps U takes-unheld s p b g.stamp g.keep
-
-  gives_if_clean-unheld : (s : Serving) (b : BlockId) → Unheld s.tokens → Unheld (gives_if_clean s b).state.tokens
-  unfolding gives_if_clean
-  gives_if_clean-unheld s b p =
-      by_test (λ (d : client.Done). Unheld d.state.tokens) (is_dirty (held_at s b)) (still s) (gives_up s b (held_at s b).giving) (λ x. p)
-      (λ x. gives_up-unheld s b (held_at s b).giving p)
-
-  all_given : (s : Serving) (xs : List BlockId) → Unheld s.tokens → Unheld (steps gives_if_clean s xs).state.tokens
-  all_given s [] p = p
-  all_given s (x ∷ xs) p = all_given (gives_if_clean s x).state xs (gives_if_clean-unheld s x p)
-
-  settles-unheld : (s : Serving) (end : End) (rows : List (BlockId × Entry)) → Unheld s.tokens → Unheld (settles s end rows).state.tokens
-  unfolding settles
-  settles-unheld s end rows p =
-      all_given (feeds (settled_rows s rows) end rows) (dirty_in s.tokens.blocks) (rows_clean (fold notes_settled s rows) rows (rows_settled s rows p))
-
-  logs-unheld : (s : Serving) (i : log_in.In) → Unheld s.tokens → Unheld (writes s i).state.tokens
-  logs-unheld s i p = writes-tokens Unheld settles-unheld s i p
-
-  changes-unheld : (s : Serving) (b : BlockId) (value : Option (List ℕ)) → Unheld s.tokens → Unheld (changes s b value).done.state.tokens
-  unfolding changes
-  changes-unheld s b value p =
-      let w : Serving = wrote s b value in
-      logs-unheld w (log_ins.Put b (record { ver = (held_at w b).ver; hop = 0; place = None }) value) (wrote-unheld s.tokens b value p)
+  puts-unheld : PutsKeep Unheld
+  puts-unheld = record {
+    takes = takes-unheld;
+    lets_go = λ t b p. unheld_put t p b (let_go (held_of t.blocks b)) (λ fact. refl);
+    settles = λ t b ver p. unheld_same t p b (version_settled (held_of t.blocks b) ver) refl;
+    writes = λ t b value p. unheld_same t p b (written (held_of t.blocks b) value) refl;
+  }
 
   -- where another block arrives, if any, this one isn't held still
   keeps-unheld : Keeps IsOther AnyMap U (λ n. U) (λ b. U)
@@ -152,12 +85,12 @@ module _ (block : BlockId) where
     takes = λ n. takes-unheld;
     touches = λ t l c b p. p;
     copies = λ s b g other sound fact p.
-        notes_clean-tokens Unheld evict-unheld (record s { tokens = with_held s.tokens b g }) b (unheld_put s.tokens p b g (λ same. absurd (other same)));
+        cleaned-tokens Unheld puts-unheld (record s { tokens = with_held s.tokens b g }) b (unheld_put s.tokens p b g (λ same. absurd (other same)));
     owns = λ t l c b g other sound fact p. unheld_put t p b g (λ same. absurd (other same));
-    logs = λ s i outer sound p. logs-unheld s i p;
-    puts = λ s b value sound may p. changes-unheld s b value p;
-    puts_owned = λ s b value sound may p. changes-unheld s b value p;
-    lets_owned = λ s b sound p. notes_gone-tokens Unheld (record s { tokens = (on_evict s.tokens b).state }) b (evict-unheld s.tokens b p);
+    logs = λ s i outer sound p. logs-tokens Unheld puts-unheld s i p;
+    puts = λ s b value sound may p. changes-tokens Unheld puts-unheld s b value p;
+    puts_owned = λ s b value sound may p. changes-tokens Unheld puts-unheld s b value p;
+    lets_owned = λ s b sound p. gone-tokens Unheld puts-unheld s b p;
   }
 
   starts-unheld : Starts U AnyLog

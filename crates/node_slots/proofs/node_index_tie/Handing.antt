@@ -33,7 +33,7 @@ use Rattle.manager_slots.specs.declared.slot_phase.SlotPhase.{SlotPhase}
 use Rattle.manager_slots.specs.declared.slot_phase.SlotPhase.TheVariants as phase
 use Rattle.manager_slots.specs.declared.slot_phase.Taking.{Taking}
 use Rattle.node_base.specs.declared.questions.Questions.{Questions as Numbers}
-use Rattle.node_slots.specs.node_tie.ManagerEvents.{HeldAt}
+use Rattle.node_slots.specs.node_tie.ManagerEvents.{HeldAt, ManagedAt}
 use Rattle.node_slots.proofs.node_tie.ManagerTakes.{Hands, Brings, took, all_heard}
 use Rattle.segment_format.specs.declared.segment.Segment.{Segment}
 use Rattle.slot_beliefs.specs.Index.{nothing_indexed, pages_of, indexed_all}
@@ -52,7 +52,7 @@ use Rattle.token_manager.specs.SlotState.{SlotState}
 use Rattle.token_manager.specs.Transition.{started as slot_started}
 use Rattle.token_protocol.specs.Basics.{In as Among}
 use Rattle.wire_msg.specs.declared.deltas.Report.{Report}
-use Rattle.node_slots.specs.node_index_tie.ManagerEvents.{ManagedAt, TakingAgrees, PhaseAgrees, completes}
+use Rattle.node_slots.specs.node_index_tie.ManagerEvents.{TakingAgrees, PhaseAgrees, completes}
 use Rattle.node_slots.specs.node_index_tie.Sight.{Texts, Questions, held_in, RowsFit, IsRead, AreTexts, EndKnown, ReportKnown, NewsKnown}
 use Rattle.node_slots.proofs.node_index_tie.Active.{Event, event_same}
 use Rattle.node_slots.proofs.node_index_tie.Moves.{Brought, AllDone, put_here, grows_slot, sees_quiet, sees_slot}

@@ -49,7 +49,7 @@ use Rattle.xfs_base.specs.Limits.{slot_count}
 use Rattle.xfs_base.specs.Logs.{cleaner_log}
 use Rattle.node_slots.proofs.node_index_tie.Agreeing.{writer_on, done_seen}
 use Rattle.node_slots.proofs.node_index_tie.Handing.{OwesAt}
-use Rattle.node_slots.proofs.node_index_tie.Moves.{Brought, nothing, Grows, Sees, held_is, news_on, sees_quiet, sees_as, sees_then, sees_named}
+use Rattle.node_slots.proofs.node_index_tie.Moves.{Brought, nothing, Grows, Sees, held_is, news_on, sees_quiet, sees_so, sees_as, sees_then, sees_named}
 use Rattle.node_slots.proofs.node_index_tie.Serving.{Of, still_of, ack_serves, tells_serves}
 use Rattle.node_slots.proofs.node_index_tie.Settling.{writes_serves}
 use Rattle.node_slots.proofs.node_index_tie.Tables.{TableAgrees, TableEvent, table_wants, table_gaves, table_deltas, table_checks, table_usage, table_takes, table_reports, table_recalls_all, table_asks_all, table_regroups, table_hears_all}
@@ -294,24 +294,14 @@ module _ (part : ℕ) (texts : Texts) (questions : Questions) (exists : part < s
         let h = by_asker (nothing brought.ends) n s agrees (table.regroups_all groups (asker_of s))
         (table_regroups part texts questions exists (nothing brought.ends) (desk_of s agrees.given) n groups (asker_of s)
         (table_of (nothing brought.ends) n s agrees filed)) in
-        sees_named part texts questions brought n p (phase_at d.state.slots part) d.outs (λ m. Owed m d.state (epoch_of p) slots) (record {
-          next = h.next;
-          runs = h.runs;
-          grows = h.grows;
-          slots = h.slots;
-          came = h.came;
-          enters = h.enters;
-          stays = h.stays;
-          held = h.held;
-          rises = h.rises;
-          does = h.does;
-          agrees = record {
-            agrees = h.agrees;
-            gets = λ news there of ours above. news_on part n h.next h.grows news
-                (h.slots news.epoch (λ at. let e = held_is p news.epoch at in absurd (omega arith)) (λ none. none)) (gets news there of ours above);
-            low = h.rises;
-          };
-        })
+        sees_named part texts questions brought n p (phase_at d.state.slots part) d.outs (λ m. Owed m d.state (epoch_of p) slots)
+        (sees_so part texts questions (nothing brought.ends) n p (phase_at d.state.slots part) d.outs (λ m. ServingAgrees part texts m d.state)
+        (λ m. Owed m d.state (epoch_of p) slots) h (record {
+          agrees = h.agrees;
+          gets = λ news there of ours above. news_on part n h.next h.grows news
+              (h.slots news.epoch (λ at. let e = held_is p news.epoch at in absurd (omega arith)) (λ none. none)) (gets news there of ours above);
+          low = h.rises;
+        }))
 
     same_number : (s : Serving) (groups : GroupMapState) → (serving.regroups s groups).state.lasting.number ≡ s.lasting.number
     unfolding serving.regroups

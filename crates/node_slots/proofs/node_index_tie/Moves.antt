@@ -17,11 +17,11 @@ use Rattle.manager_slots.specs.declared.slot_phase.SlotPhase.{SlotPhase}
 use Rattle.manager_slots.specs.declared.slot_phase.SlotPhase.TheVariants as phase
 use Rattle.node_base.specs.declared.effects.Effect.{Effect}
 use Rattle.node_base.specs.declared.effects.Effect.TheVariants.{Send, Answer, Lose, Does}
-use Rattle.node_slots.specs.node_tie.ManagerEvents.{HeldAt}
+use Rattle.node_slots.specs.node_tie.ManagerEvents.{HeldAt, ManagedAt}
 use Rattle.token_manager.specs.SlotState.{SlotState}
 use Rattle.wire_msg.specs.declared.body.Body.{Body}
 use Rattle.wire_msg.specs.declared.body.Body.TheVariants as body
-use Rattle.node_slots.specs.node_index_tie.ManagerEvents.{ManagedAt, rest}
+use Rattle.node_slots.specs.node_index_tie.ManagerEvents.{rest}
 use Rattle.node_slots.specs.node_index_tie.Sight.{Texts, Questions, held_in, EndKnown, ReportKnown, NewsKnown, ManagerSends, ManagerDoes}
 
 -- ---- lists
@@ -253,9 +253,10 @@ module _ (part : ℕ) (texts : Texts) (asked : Questions) where
           agrees = k.agrees;
         }
 
-    pub sees_as : (n : Net) (p q : SlotPhase) (outs : List Effect) (At Bt : Net → Type 0) → ((m : Net) → Grows n m → At m → Bt m) → Sees brought n p q outs At
+    -- what agrees then agrees so, too
+    pub sees_so : (n : Net) (p q : SlotPhase) (outs : List Effect) (At Bt : Net → Type 0) (h : Sees brought n p q outs At) → Bt h.next
         → Sees brought n p q outs Bt
-    sees_as n p q outs At Bt f h = record {
+    sees_so n p q outs At Bt h agrees = record {
       next = h.next;
       runs = h.runs;
       grows = h.grows;
@@ -266,8 +267,12 @@ module _ (part : ℕ) (texts : Texts) (asked : Questions) where
       held = h.held;
       rises = h.rises;
       does = h.does;
-      agrees = f h.next h.grows h.agrees;
+      agrees = agrees;
     }
+
+    pub sees_as : (n : Net) (p q : SlotPhase) (outs : List Effect) (At Bt : Net → Type 0) → ((m : Net) → Grows n m → At m → Bt m) → Sees brought n p q outs At
+        → Sees brought n p q outs Bt
+    sees_as n p q outs At Bt f h = sees_so n p q outs At Bt h (f h.next h.grows h.agrees)
 
     -- where nothing is named, the more so
     pub sees_named : (n : Net) (p q : SlotPhase) (outs : List Effect) (At : Net → Type 0) → Sees (nothing brought.ends) n p q outs At

@@ -29,12 +29,12 @@ use Rattle.manager_slots.specs.declared.slot_phase.SlotPhase.{SlotPhase}
 use Rattle.manager_slots.specs.declared.slot_phase.SlotPhase.TheVariants as phase
 use Rattle.manager_serving.specs.Checkpoints as node
 use Rattle.manager_serving.specs.declared.serving.Serving.{Serving}
-use Rattle.node_slots.specs.node_tie.ManagerEvents.{phase_at, HeldAt}
+use Rattle.node_slots.specs.node_tie.ManagerEvents.{phase_at, HeldAt, ManagedAt}
 use Rattle.slot_beliefs.specs.Index.{Indexed, pages_of, cleaned_index}
 use Rattle.slot_beliefs.specs.Recalls.{applied_of}
 use Rattle.token_manager.specs.SlotState.{SlotState}
 use Rattle.token_manager.specs.Transition as slot
-use Rattle.node_slots.specs.node_index_tie.ManagerEvents.{ManagedAt, ActiveAgrees, PhaseAgrees, ServingAgrees}
+use Rattle.node_slots.specs.node_index_tie.ManagerEvents.{ActiveAgrees, PhaseAgrees, ServingAgrees}
 use Rattle.node_slots.specs.node_index_tie.Pages.{checkpointed, desk_of, IsWork, Paged, WorkSeen, WriterAgrees}
 use Rattle.node_slots.specs.node_index_tie.Pages.Paged.{Covered, Written, Ended}
 use Rattle.node_slots.specs.node_index_tie.Sight.{Texts, Questions, held_in}

@@ -24,7 +24,7 @@ use Rattle.manager_slots.specs.Takeovers.{Asker, asker, Done, fetches, says, say
 use Rattle.manager_slots.specs.declared.slot_phase.SlotPhase.{SlotPhase}
 use Rattle.manager_slots.specs.declared.slot_phase.SlotPhase.TheVariants as phase
 use Rattle.node_base.specs.declared.questions.Questions.{Questions as Numbers}
-use Rattle.node_slots.specs.node_tie.ManagerEvents.{HeldAt}
+use Rattle.node_slots.specs.node_tie.ManagerEvents.{HeldAt, ManagedAt}
 use Rattle.node_slots.proofs.node_tie.ManagerTakes.{IsPlain, ArePlain, fetches_plain, tick_said, kept_plain}
 use Rattle.group_map.specs.GroupMapState.{GroupMapState}
 use Rattle.group_map.specs.Groups.{group_of}
@@ -39,7 +39,7 @@ use Rattle.takeover.specs.declared.input.In.TheVariants as input
 use Rattle.takeover.specs.declared.output.Out.{Out}
 use Rattle.takeover.specs.declared.output.Out.TheVariants as out
 use Rattle.wire_msg.specs.declared.deltas.Report.{Report}
-use Rattle.node_slots.specs.node_index_tie.ManagerEvents.{ManagedAt, PhaseAgrees}
+use Rattle.node_slots.specs.node_index_tie.ManagerEvents.{PhaseAgrees}
 use Rattle.node_slots.specs.node_index_tie.Sight.{Texts, Questions, RowsFit}
 use Rattle.node_slots.proofs.node_index_tie.Moves.{DoesAt, AllDone}
 

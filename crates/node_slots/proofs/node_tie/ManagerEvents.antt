@@ -45,7 +45,7 @@ use Rattle.manager_serving.specs.Checkpoints.{Done, on_checkpoint}
 use Rattle.manager_serving.specs.Serving.{again, on_news, hears, on_tick}
 use Rattle.manager_serving.specs.declared.serving.Serving.{Serving}
 use Rattle.node_slots.specs.node_tie.Sight.{ManagerDoes}
-use Rattle.node_slots.specs.node_tie.ManagerEvents.{phase_at, TakingAt, HeldAt, PhaseAgrees, OtherAgrees, TableAgrees, ManagerAgrees, epoch_in, AllNewsGets, WaitingGets, EventGets, NamedBy, Names, is_waiting, ManagerGoes, ManagerEventGoes}
+use Rattle.node_slots.specs.node_tie.ManagerEvents.{phase_at, TakingAt, HeldAt, PhaseAgrees, OtherAgrees, TableAgrees, ManagerAgrees, slot_in, epoch_in, AllNewsGets, WaitingGets, EventGets, NamedBy, Names, is_serving, is_waiting, ManagerGoes, ManagerEventGoes}
 use Rattle.node_slots.proofs.node_tie.SlotTables.{unknown_at}
 use Rattle.node_slots.proofs.node_tie.ManagerActive.{some_none}
 use Rattle.node_slots.proofs.node_tie.ManagerCheckpoints.{answers_done, quiet_checkpoint}
@@ -85,13 +85,16 @@ module _ (logs : Bool) (members part limit j : ℕ) (n : Net) where
   done_acts : (m : Net) (outs : List Effect) → m.acts ≡ n.acts → (done m outs).acts ≡ n.acts ++ acts_of (Manager j) outs
   done_acts m outs same = ap (λ acts. acts ++ acts_of (Manager j) outs) same
 
-  -- it is down
-  to_down : (p : Phase) (what : Do) (kept : Kept) (outs : List Effect) → kept.number ≡ j → kept.inc ≡ (lasting_of p).inc
-      → AllDone logs members part limit kept.inc n outs → ManagerGoes logs members part limit j n p what (record { state = Down kept; outs = outs })
-  to_down p what kept outs number lives does = record {
+  -- it doesn't serve then: it has nothing of the slot
+  to_rest : (p q : Phase) (what : Do) (outs : List Effect) → ManagerAgrees members part (done n outs) j q → slot_in part q ≡ phase.Away 0
+      → is_serving q ≡ false → (lasting_of p).inc ≤ (lasting_of q).inc
+      → (is_waiting q ≡ true → is_waiting p ≡ false → (lasting_of p).inc < (lasting_of q).inc)
+      → ((lasting_of q).inc ≡ (lasting_of p).inc) ⊎ (is_waiting q ≡ true) → AllDone logs members part limit (lasting_of q).inc n outs
+      → ManagerGoes logs members part limit j n p what (record { state = q; outs = outs })
+  to_rest p q what outs agrees away rests later restarts lives does = record {
     next = done n outs;
-    runs = done_runs kept.inc n outs Begun does;
-    agrees = number;
+    runs = done_runs (lasting_of q).inc n outs Begun does;
+    agrees = agrees;
     tokens = refl;
     up = refl;
     books = refl;
@@ -99,42 +102,29 @@ module _ (logs : Bool) (members part limit j : ℕ) (n : Net) where
     slots = λ e other. refl;
     changed = λ e. inl refl;
     entered = λ e z some none. nothing_enters n e z some none;
-    taken = λ e h. absurd h;
-    rises = λ _ fact. contrary fact;
-    within = omega arith;
+    taken = λ e h. absurd (subst (λ (s : SlotPhase). HeldAt s e) away h);
+    rises = λ _ fact. contrary (sym rests ∙ fact);
+    within = subst (λ (s : SlotPhase). epoch_of s ≤ limit) (sym away) (omega arith);
     grows = λ x fact. fact;
-    does = all_of kept.inc outs does;
-    later = omega arith;
-    restarts = λ fact. contrary fact;
-    opens = λ fact. contrary fact;
-    lives = inl lives;
+    does = all_of (lasting_of q).inc outs does;
+    later = later;
+    restarts = restarts;
+    opens = λ fact. contrary (sym rests ∙ fact);
+    lives = lives;
   }
+
+  -- it is down
+  to_down : (p : Phase) (what : Do) (kept : Kept) (outs : List Effect) → kept.number ≡ j → kept.inc ≡ (lasting_of p).inc
+      → AllDone logs members part limit kept.inc n outs → ManagerGoes logs members part limit j n p what (record { state = Down kept; outs = outs })
+  to_down p what kept outs number lives does =
+      to_rest p (Down kept) what outs number refl refl (omega arith) (λ fact. contrary fact) (inl lives) does
 
   -- it awaits its Welcome
   to_waiting : (p : Phase) (what : Do) (kept : Kept) (hello : ℕ) (outs : List Effect) → kept.number ≡ j → (lasting_of p).inc ≤ kept.inc
       → (is_waiting p ≡ false → (lasting_of p).inc < kept.inc) → AllDone logs members part limit kept.inc n outs
       → ManagerGoes logs members part limit j n p what (record { state = Waiting kept hello; outs = outs })
-  to_waiting p what kept hello outs number later new does = record {
-    next = done n outs;
-    runs = done_runs kept.inc n outs Begun does;
-    agrees = number;
-    tokens = refl;
-    up = refl;
-    books = refl;
-    acts = refl;
-    slots = λ e other. refl;
-    changed = λ e. inl refl;
-    entered = λ e z some none. nothing_enters n e z some none;
-    taken = λ e h. absurd h;
-    rises = λ _ fact. contrary fact;
-    within = omega arith;
-    grows = λ x fact. fact;
-    does = all_of kept.inc outs does;
-    later = later;
-    restarts = λ _ h. new h;
-    opens = λ fact. contrary fact;
-    lives = inr refl;
-  }
+  to_waiting p what kept hello outs number later new does =
+      to_rest p (Waiting kept hello) what outs number refl refl later (λ _. new) (inr refl) does
 
 module _ (logs : Bool) (members part limit j : ℕ) (exists : part < slot_count) (n : Net) where
   -- it serves on

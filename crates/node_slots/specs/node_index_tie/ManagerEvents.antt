@@ -17,7 +17,7 @@ use Rattle.manager_slots.specs.declared.slot_phase.SlotPhase.TheVariants as phas
 use Rattle.manager_slots.specs.declared.slot_phase.Taking.{Taking}
 use Rattle.manager_slots.specs.Slots.{fetch_of}
 use Rattle.manager_serving.specs.declared.serving.Serving.{Serving}
-use Rattle.node_slots.specs.node_tie.ManagerEvents.{phase_at, HeldAt, Names, slot_in, epoch_in, is_serving}
+use Rattle.node_slots.specs.node_tie.ManagerEvents.{phase_at, HeldAt, ManagedAt, OfServer, Names, slot_in, epoch_in, is_serving}
 use Rattle.segment_format.specs.declared.segment.Segment.{Segment}
 use Rattle.segment_reading.specs.Reading.{ReadingState, on_answer}
 use Rattle.slot_beliefs.specs.Index.{pages_of}
@@ -147,18 +147,10 @@ module _ (part : ℕ) (texts : Texts) (asked : Questions) (j : ℕ) (n : Net) wh
       → IsRead part texts s
 
   abbrev pub FoundGets : SlotPhase → NodeId → Found → Type 0
-  FoundGets p (Server v) m = AnswerGets p m.ask (λ own. Got own v m.generation m.fragment)
-  FoundGets p (Client c) m = Unit {0}
-  FoundGets p (Manager c) m = Unit {0}
-  FoundGets p Cleaner m = Unit {0}
-  FoundGets p Registry m = Unit {0}
+  FoundGets p from m = OfServer from (λ v. AnswerGets p m.ask (λ own. Got own v m.generation m.fragment))
 
   abbrev pub AbsentGets : SlotPhase → NodeId → Absent → Type 0
-  AbsentGets p (Server v) m = AnswerGets p m.ask (λ own. Missing own v m.generation)
-  AbsentGets p (Client c) m = Unit {0}
-  AbsentGets p (Manager c) m = Unit {0}
-  AbsentGets p Cleaner m = Unit {0}
-  AbsentGets p Registry m = Unit {0}
+  AbsentGets p from m = OfServer from (λ v. AnswerGets p m.ask (λ own. Missing own v m.generation))
 
   abbrev pub ServingGets : ℕ → ℕ → SlotPhase → NodeId → Body → Type 0
   ServingGets life known p from (body.Deltas m) = DeltasGets from m
@@ -198,13 +190,6 @@ module _ (part : ℕ) (texts : Texts) (asked : Questions) (j : ℕ) (n : Net) wh
     pub writes : WritesTexts q
 
 -- ---- what an event is
-
--- the slot is managed at this epoch
-abbrev pub ManagedAt : SlotPhase → ℕ → Type 0
-ManagedAt (phase.Active a) e = a.slot.epoch ≡ e
-ManagedAt (phase.Taking t) e = ⊥
-ManagedAt (phase.Away epoch) e = ⊥
-ManagedAt (phase.Broken epoch seg) e = ⊥
 
 -- the small world, but for slots and packets
 abbrev pub rest : Net → Net

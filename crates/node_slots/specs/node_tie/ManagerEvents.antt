@@ -173,20 +173,27 @@ epoch_in part p = epoch_of (slot_in part p)
 
 -- ---- what the world owes a packet
 
+-- this of the client that a packet is from, or of the server, and nothing where it is from another node
+abbrev pub OfClient : NodeId → (ℕ → Type 0) → Type 0
+OfClient (Client c) So = So c
+OfClient (Manager c) So = Unit {0}
+OfClient (Server c) So = Unit {0}
+OfClient Cleaner So = Unit {0}
+OfClient Registry So = Unit {0}
+
+abbrev pub OfServer : NodeId → (ℕ → Type 0) → Type 0
+OfServer (Server v) So = So v
+OfServer (Client c) So = Unit {0}
+OfServer (Manager c) So = Unit {0}
+OfServer Cleaner So = Unit {0}
+OfServer Registry So = Unit {0}
+
 module _ (part : ℕ) (n : Net) where
   abbrev pub WantGets : NodeId → Want → Type 0
-  WantGets (Client c) m = WantSeen part n.sent c m
-  WantGets (Manager c) m = Unit {0}
-  WantGets (Server c) m = Unit {0}
-  WantGets Cleaner m = Unit {0}
-  WantGets Registry m = Unit {0}
+  WantGets from m = OfClient from (λ c. WantSeen part n.sent c m)
 
   abbrev pub GaveGets : NodeId → Gave → Type 0
-  GaveGets (Client c) m = GaveSeen part n.sent c m
-  GaveGets (Manager c) m = Unit {0}
-  GaveGets (Server c) m = Unit {0}
-  GaveGets Cleaner m = Unit {0}
-  GaveGets Registry m = Unit {0}
+  GaveGets from m = OfClient from (λ c. GaveSeen part n.sent c m)
 
   -- a report is of one of the clients, or the cleaner has promised its epoch
   abbrev pub ReportGets : ℕ → NodeId → Report → Type 0
@@ -243,18 +250,10 @@ module _ (logs : Bool) (members part : ℕ) (n : Net) where
   AnswerGets p ask given = (own : ℕ) → fetch_of p ask ≡ Some own → TakeoverGets p (given own)
 
   abbrev pub FoundGets : SlotPhase → NodeId → Found → Type 0
-  FoundGets p (Server v) m = AnswerGets p m.ask (λ own. Got own v m.generation m.fragment)
-  FoundGets p (Client c) m = Unit {0}
-  FoundGets p (Manager c) m = Unit {0}
-  FoundGets p Cleaner m = Unit {0}
-  FoundGets p Registry m = Unit {0}
+  FoundGets p from m = OfServer from (λ v. AnswerGets p m.ask (λ own. Got own v m.generation m.fragment))
 
   abbrev pub AbsentGets : SlotPhase → NodeId → Absent → Type 0
-  AbsentGets p (Server v) m = AnswerGets p m.ask (λ own. Missing own v m.generation)
-  AbsentGets p (Client c) m = Unit {0}
-  AbsentGets p (Manager c) m = Unit {0}
-  AbsentGets p Cleaner m = Unit {0}
-  AbsentGets p Registry m = Unit {0}
+  AbsentGets p from m = OfServer from (λ v. AnswerGets p m.ask (λ own. Missing own v m.generation))
 
 module _ (part last_epoch j : ℕ) (n : Net) where
   -- news of a slot: an epoch that is new to the manager that gets it is new to the small world

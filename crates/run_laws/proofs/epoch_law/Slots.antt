@@ -11,9 +11,8 @@ use Rattle.manager_node.specs.Events.{happens}
 use Rattle.manager_slots.specs.declared.slot_phase.SlotPhase.{SlotPhase}
 use Rattle.manager_slots.specs.declared.slot_phase.SlotPhase.TheVariants as phase
 use Rattle.node_slots.proofs.node_index_tie.Moves.{some_none}
-use Rattle.node_slots.specs.node_index_tie.ManagerEvents.{ManagedAt}
 use Rattle.node_slots.specs.node_index_tie.Sight.{Texts}
-use Rattle.node_slots.specs.node_tie.ManagerEvents.{ManagerAgrees, PhaseAgrees, phase_at, slot_in}
+use Rattle.node_slots.specs.node_tie.ManagerEvents.{ManagedAt, ManagerAgrees, PhaseAgrees, phase_at, slot_in}
 use Rattle.token_law.specs.Net as tokens
 use Rattle.token_manager.specs.SlotState.{SlotState}
 use Rattle.token_manager.specs.Transition as slot

@@ -7,9 +7,8 @@ use Rattle.index_tie.specs.Net.{Net}
 use Rattle.log_tie.specs.Setting.{Setting}
 use Rattle.manager_node.specs.declared.manager.Manager.{Manager as ManagerNode}
 use Rattle.manager_node.specs.Events.{happens, manager_step}
-use Rattle.node_slots.specs.node_index_tie.ManagerEvents.{ManagedAt}
 use Rattle.node_slots.specs.node_index_tie.Sight.{Texts as AllTexts}
-use Rattle.node_slots.specs.node_tie.ManagerEvents.{slot_in}
+use Rattle.node_slots.specs.node_tie.ManagerEvents.{ManagedAt, slot_in}
 use Rattle.node_slots.specs.node_tie.RegistryEvents.{RegistrySound}
 use Rattle.segment_format.specs.declared.segment.Segment.{Segment}
 use Rattle.token_manager.specs.SlotState.{SlotState}

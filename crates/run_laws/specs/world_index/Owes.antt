@@ -19,10 +19,10 @@ use Rattle.manager_node.specs.declared.phase.Phase.TheVariants as managing
 use Rattle.manager_node.specs.Events.{happens}
 use Rattle.manager_node.specs.Phases as managers
 use Rattle.manager_slots.specs.declared.slot_phase.SlotPhase.{SlotPhase}
-use Rattle.node_slots.specs.node_index_tie.ManagerEvents.{FoundGets, AbsentGets, ManagedAt, rest}
+use Rattle.node_slots.specs.node_index_tie.ManagerEvents.{FoundGets, AbsentGets, rest}
 use Rattle.node_slots.specs.node_index_tie.ManagerEvents as managed
 use Rattle.node_slots.specs.node_index_tie.Sight.{Texts, Questions}
-use Rattle.node_slots.specs.node_tie.ManagerEvents.{HeldAt, Names, epoch_in, phase_at, slot_in}
+use Rattle.node_slots.specs.node_tie.ManagerEvents.{HeldAt, ManagedAt, Names, epoch_in, phase_at, slot_in}
 use Rattle.node_slots.specs.owner_index_tie.CleanerEvents.{EffectOwed, IsAway, NewFor, PollGets, ReadGets, ReopensOn, WritesTexts}
 use Rattle.node_slots.specs.owner_index_tie.ClientEvents.{ClientOwed}
 use Rattle.node_slots.specs.owner_index_tie.Filing.{FilesOwed, filed_after, filing}

@@ -3,8 +3,7 @@ use Rattle.std.specs.Prelude.{◌≡◌, ◌<◌, ◌≤◌, ℕ, zero, suc, Non
 use Rattle.core_world.specs.declared.any_node.AnyNode.{AnyNode}
 use Rattle.index_tie.specs.Net.{Net}
 use Rattle.log_tie.specs.Setting.{Setting}
-use Rattle.node_slots.specs.node_index_tie.ManagerEvents.{ManagedAt}
-use Rattle.node_slots.specs.node_tie.ManagerEvents.{slot_in}
+use Rattle.node_slots.specs.node_tie.ManagerEvents.{ManagedAt, slot_in}
 use Rattle.segment_format.specs.declared.segment.Segment.{Segment}
 use Rattle.token_manager.specs.SlotState.{SlotState}
 use Rattle.world_base.specs.declared.cluster.Cluster.{Cluster}

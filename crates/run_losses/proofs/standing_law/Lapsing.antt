@@ -14,9 +14,8 @@ use Rattle.manager_node.specs.Events.{happens, manager_step}
 use Rattle.manager_node.specs.Phases.{Went_to, lasting_of}
 use Rattle.manager_slots.specs.declared.slot_phase.SlotPhase.{SlotPhase}
 use Rattle.manager_slots.specs.declared.slot_phase.SlotPhase.TheVariants as phase
-use Rattle.node_slots.specs.node_index_tie.ManagerEvents.{ManagedAt}
 use Rattle.node_logs.proofs.node_log_tie.Others.{same_or_other}
-use Rattle.node_slots.specs.node_tie.ManagerEvents.{EventGets, HeldAt, ManagerEventGoes, ManagerGoes, epoch_in, is_serving, is_waiting, slot_in}
+use Rattle.node_slots.specs.node_tie.ManagerEvents.{EventGets, HeldAt, ManagedAt, ManagerEventGoes, ManagerGoes, epoch_in, is_serving, is_waiting, slot_in}
 use Rattle.segment_format.specs.declared.segment.Segment.{Segment}
 use Rattle.run_losses.specs.taking_law.Takings.{slot_at, slot_of}
 use Rattle.token_law.specs.Net.{Net}
