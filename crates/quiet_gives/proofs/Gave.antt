@@ -7,7 +7,7 @@ use Rattle.std.specs.BTreeMap.{insert_entry}
 use Rattle.std.specs.Ordering.{is_eq, match_ordering}
 use Rattle.std.proofs.lemmas.Cmp.{tied_itself}
 use Rattle.manager_node.specs.declared.phase.Phase.TheVariants as managing
-use Rattle.manager_node.specs.Events.{happens, manager_step, on_deliver, seen}
+use Rattle.manager_node.specs.Events.{manager_step, on_deliver}
 use Rattle.manager_node.specs.Phases.{phase_has_room, serves}
 use Rattle.manager_slots.specs.Slots.{managed}
 use Rattle.manager_slots.specs.SlotTable as table
@@ -45,7 +45,7 @@ use Rattle.xfs_base.specs.Modes.{is_own}
 use Rattle.xfs_base.specs.Steps.{Stepped, still}
 use Rattle.quiet_gives.specs.Recalls.{waiting_slot}
 use Rattle.quiet_nodes.specs.Scene.{manager_at, manager_of_slot, managing_at, put_number}
-use Rattle.quiet_nodes.proofs.Managing.{slot_turns}
+use Rattle.quiet_nodes.proofs.Managing.{slot_comes}
 
 -- ---- the slot
 
@@ -132,9 +132,5 @@ module _ (setup : Setup) (works : NodeId → List Work) (j c clock : ℕ) (slots
       packets = packets_of (Manager j) (flat_map (said i (slots i).epoch) outs);
       acts = acts_of (Manager j) (flat_map (said i (slots i).epoch) outs);
     }
-    unfolding happens
     gave_comes =
-        ap (seen (manager_at setup works j slots))
-        (ap (λ t. cond t (on_deliver (peers_of setup) (managing.Serving serves_now) packet) (still (managing.Serving serves_now))) has_room
-        ∙ deliver_is
-        ∙ ap serves (slot_turns setup works j i slots within own (λ p. tokens.on_gave p c m) z (flat_map (said i (slots i).epoch) outs) slot_is))
+        slot_comes setup works j i slots within own packet (λ p. tokens.on_gave p c m) z (flat_map (said i (slots i).epoch) outs) has_room deliver_is slot_is

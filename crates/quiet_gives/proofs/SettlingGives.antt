@@ -7,21 +7,18 @@ use Rattle.std.specs.Map.{keys_of, lookup}
 use Rattle.std.specs.BTreeMap.{is_at}
 use Rattle.std.specs.Ordering.{eq_by_cmp}
 use Rattle.std.proofs.lemmas.Map.Views.{tells_apart}
-use Rattle.client_log.specs.declared.output.Out.TheVariants.{Settled}
 use Rattle.client_log.specs.Transition as log
 use Rattle.client_node.specs.declared.client.Client.{Client as ClientNode}
 use Rattle.client_node.specs.Phases.{client_step, on_deliver}
 use Rattle.client_node.specs.Serving.{cached_upto}
 use Rattle.client_serving.specs.declared.serving.Serving.{Serving}
-use Rattle.client_serving.specs.Flights as flights
-use Rattle.client_serving.specs.Flights.{feeds, gives_if_clean, gives_up, seals_again, settled_rows, settles, writes_one}
+use Rattle.client_serving.specs.Flights.{feeds, gives_if_clean, gives_up, settles}
 use Rattle.client_serving.specs.Packets.{on_packet}
 use Rattle.client_serving.specs.Sends.{Done}
 use Rattle.log_flight.specs.Fate.{fate_of}
 use Rattle.log_flight.specs.declared.flight.Fate.TheVariants.{Settle}
 use Rattle.log_flight.specs.Flights.{FlightState, is_of, noting}
 use Rattle.log_owner.specs.Promised.{first_managers}
-use Rattle.log_owner.specs.Sealing.{is_settling}
 use Rattle.log_owner.specs.Sending.{name_of, pushes_all}
 use Rattle.node_base.specs.declared.effects.Effect.{Effect}
 use Rattle.node_base.specs.declared.effects.Effect.TheVariants.{Does}
@@ -52,10 +49,10 @@ use Rattle.xfs_base.specs.declared.token.Stamp.{Stamp}
 use Rattle.xfs_base.specs.Steps.{saying, steps, still}
 use Rattle.quiet_law.proofs.Settled.{field_stays}
 use Rattle.quiet_law.proofs.Waiting.{not_the_block, other_held}
-use Rattle.quiet_nodes.specs.Scene.{ClientPart, client_at, its_groups, log_at, serving_at}
+use Rattle.quiet_nodes.specs.Scene.{ClientPart, client_at, its_groups, serving_at}
 use Rattle.quiet_nodes.proofs.Begins.{HasRoom, room}
 use Rattle.quiet_nodes.proofs.Running.{runs_none}
-use Rattle.quiet_nodes.proofs.Settling.{Known, NoneGiving, all_settled, none_given, none_sealed, rows_settle, with_known}
+use Rattle.quiet_nodes.proofs.Settling.{Known, NoneGiving, all_settled, none_given, rows_settle, stored_settles, with_known}
 use Rattle.quiet_nodes.proofs.Wanting.{feed_at}
 use Rattle.quiet_gives.proofs.GivingUp.{CanGive, gave_told, gone, gone_is, gone_part, takes_so}
 
@@ -217,30 +214,14 @@ module _ (setup : Setup) (works : NodeId → List Work) (o v index generation : 
       (empty : p.dirty ≡ []) (newer : nat_lt p.fed f.segment.name.seq ≡ true) (can : CanGive setup works o fed_then b st keep)
       (dirty : is_dirty (held_of p.blocks b) ≡ true) (giving : (held_of p.blocks b).giving ≡ Some (record { stamp = st; keep = keep }))
       (only : (x : BlockId) → (x ≡ b → ⊥) → (held_of p.blocks x).giving ≡ None) where
-    log_settles : log.on_acked (log_at setup works o p) name index generation
-        ≡ record { state = log_at setup works o landed_part; outs = Settled its_end (rows_of f.segment) ∷ [] }
-    unfolding log.on_acked log.looked_at log.settled log.if_full
-    log_settles = rw (flies, its, lands, empty) refl
-
     abbrev packet : Packet
     packet = record { from = Server v; to = Client o; clock = 0; body = body.Stored (record { name = name; index = index; generation = generation }) }
 
-    abbrev following : log.Done → Done
-    following r =
-        (let d = steps writes_one (record (serving_at setup works o p) { log = r.state }) r.outs in
-        saying d.outs (seals_again d.state (list_any is_settling r.outs)))
-
-    abbrev sealing : Done → Done
-    sealing d = saying (d.outs ++ []) (seals_again d.state true)
-
     packet_settles : on_packet (serving_at setup works o p) packet ≡ record { state = serving_at setup works o then_part; outs = its_told }
-    unfolding on_packet flights.writes writes_one
     packet_settles =
-        ap following log_settles
-        ∙ ap sealing (settles_so setup works o landed_part its_end (rows_of f.segment) b st keep newer can dirty giving only)
-        ∙ ap (saying (its_told ++ []))
-        (none_sealed setup works o then_part (none_giving setup works o landed_part its_end (rows_of f.segment) b st keep newer can dirty giving only))
-        ∙ ap (λ outs. record { state = serving_at setup works o then_part; outs = outs }) (append-nil (its_told ++ []) ∙ append-nil its_told)
+        stored_settles setup works o v index generation name p f flies its lands empty then_part its_told
+        (settles_so setup works o landed_part its_end (rows_of f.segment) b st keep newer can dirty giving only)
+        (none_giving setup works o landed_part its_end (rows_of f.segment) b st keep newer can dirty giving only)
 
     abbrev with_outs : List Effect → NodeStep ClientNode
     with_outs outs = record { node = client_at setup works o then_part; packets = packets_of (Client o) outs; acts = acts_of (Client o) outs }

@@ -54,7 +54,7 @@ module _ (setup : Setup) (works : NodeId → List Work) (j i : ℕ) (slots : ℕ
   its_table = map (phase_at setup works slots j) all_slots
 
   -- what a slot makes of an input, its manager does
-  pub slot_turns : (event : SlotPhase → Stepped SlotPhase Effect) (z : SlotState) (outs : List Effect)
+  slot_turns : (event : SlotPhase → Stepped SlotPhase Effect) (z : SlotState) (outs : List Effect)
       → event (managed (slots i)) ≡ record { state = managed z; outs = outs }
       → with_slots (managing_at setup works j slots) (at_slot its_table i event)
       ≡ record { state = managing_at setup works j (put_number slots i z); outs = outs }
@@ -62,6 +62,22 @@ module _ (setup : Setup) (works : NodeId → List Work) (j i : ℕ) (slots : ℕ
       ap (λ o. with_slots (managing_at setup works j slots) (table.in_slot its_table i event o)) (managed_phase setup works j slots i within own)
       ∙ ap (λ d. with_slots (managing_at setup works j slots) (table.put_at its_table i d)) is
       ∙ ap (λ t. with_slots (managing_at setup works j slots) (record { state = t; outs = outs })) (set_phase setup works j slots z i within own)
+
+  -- a packet that it takes for the slot
+  pub slot_comes : (packet : Packet) (event : SlotPhase → Stepped SlotPhase Effect) (z : SlotState) (outs : List Effect)
+      → phase_has_room (manager_at setup works j slots).phase ≡ true
+      → on_deliver (peers_of setup) (managing.Serving (managing_at setup works j slots)) packet
+      ≡ serves (with_slots (managing_at setup works j slots) (at_slot its_table i event))
+      → event (managed (slots i)) ≡ record { state = managed z; outs = outs }
+      → manager_step (manager_at setup works j slots) (Deliver packet)
+      ≡ record { node = manager_at setup works j (put_number slots i z); packets = packets_of (Manager j) outs; acts = acts_of (Manager j) outs }
+  unfolding happens
+  slot_comes packet event z outs room delivers is =
+      let serves_now : Serving = managing_at setup works j slots in
+      ap (seen (manager_at setup works j slots))
+      (ap (λ t. cond t (on_deliver (peers_of setup) (managing.Serving serves_now) packet) (still (managing.Serving serves_now))) room
+      ∙ delivers
+      ∙ ap serves (slot_turns event z outs is))
 
 module _ (setup : Setup) (works : NodeId → List Work) (j c clock : ℕ) (slots : ℕ → SlotState) (want : Want) (within : slot_of want.block.ino.0 < 8)
     (own : (manager_of_slot setup works (slot_of want.block.ino.0) == j) ≡ true) (room : phase_has_room (manager_at setup works j slots).phase ≡ true)
@@ -96,9 +112,5 @@ module _ (setup : Setup) (works : NodeId → List Work) (j c clock : ℕ) (slots
       packets = packets_of (Manager j) (flat_map (said i (slots i).epoch) outs);
       acts = acts_of (Manager j) (flat_map (said i (slots i).epoch) outs);
     }
-    unfolding happens
     want_comes =
-        ap (seen (manager_at setup works j slots))
-        (ap (λ t. cond t (on_deliver (peers_of setup) (managing.Serving serves_now) packet) (still (managing.Serving serves_now))) room
-        ∙ deliver_is
-        ∙ ap serves (slot_turns setup works j i slots within own (λ p. tokens.on_want p c want) z (flat_map (said i (slots i).epoch) outs) slot_is))
+        slot_comes setup works j i slots within own packet (λ p. tokens.on_want p c want) z (flat_map (said i (slots i).epoch) outs) room deliver_is slot_is

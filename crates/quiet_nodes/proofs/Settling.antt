@@ -220,7 +220,7 @@ module _ (setup : Setup) (works : NodeId → List Work) (c : ℕ) (q : ClientPar
   none_given [] = refl
   none_given (b ∷ bs) = ap (λ (d : Done). saying d.outs (steps gives_if_clean d.state bs)) (gives_none b) ∙ none_given bs
 
-  pub none_sealed : seals_again here true ≡ still here
+  none_sealed : seals_again here true ≡ still here
   none_sealed = ap (λ t. cond t (seals here) (still here)) (none_to_give (tokens_at setup works q) none (dirty_in q.blocks))
 
 -- ---- the segment settles
@@ -262,6 +262,39 @@ module _ (setup : Setup) (works : NodeId → List Work) (c : ℕ) (p : ClientPar
 
 -- ---- the last Stored
 
+-- whoever holds its blocks: what is in flight lands, and what is made of that is what the packet makes
+module _ (setup : Setup) (works : NodeId → List Work) (c v index generation : ℕ) (name : SegName) (p : ClientPart) (f : FlightState)
+    (flies : p.flight ≡ Some f) (its : is_of f name index generation ≡ true) (lands : fate_of (its_groups setup works) (noting f index) ≡ Settle)
+    (empty : p.dirty ≡ []) where
+  abbrev landing : ClientPart
+  landing = record p { end = log.end_from f.segment; flight = None }
+
+  log_settles : log.on_acked (log_at setup works c p) name index generation
+      ≡ record { state = log_at setup works c landing; outs = Settled (log.end_from f.segment) (rows_of f.segment) ∷ [] }
+  unfolding log.on_acked log.looked_at log.settled log.if_full
+  log_settles = rw (flies, its, lands, empty) refl
+
+  abbrev last_stored : Packet
+  last_stored = record { from = Server v; to = Client c; clock = 0; body = body.Stored (record { name = name; index = index; generation = generation }) }
+
+  abbrev following : log.Done → Done
+  following r =
+      (let d = steps writes_one (record (serving_at setup works c p) { log = r.state }) r.outs in
+      saying d.outs (seals_again d.state (list_any is_settling r.outs)))
+
+  abbrev sealing : Done → Done
+  sealing d = saying (d.outs ++ []) (seals_again d.state true)
+
+  pub stored_settles : (q : ClientPart) (tells : List Effect)
+      → settles (serving_at setup works c landing) (log.end_from f.segment) (rows_of f.segment) ≡ record { state = serving_at setup works c q; outs = tells }
+      → NoneGiving q.blocks → on_packet (serving_at setup works c p) last_stored ≡ record { state = serving_at setup works c q; outs = tells }
+  unfolding on_packet flights.writes writes_one
+  stored_settles q tells settled none =
+      ap following log_settles
+      ∙ ap sealing settled
+      ∙ ap (saying (tells ++ [])) (none_sealed setup works c q none)
+      ∙ ap (λ outs. record { state = serving_at setup works c q; outs = outs }) (append-nil (tells ++ []) ∙ append-nil tells)
+
 module _ (setup : Setup) (works : NodeId → List Work) (c v clock index generation item : ℕ) (name : SegName) (p : ClientPart) (f : FlightState)
     (flies : p.flight ≡ Some f) (its : is_of f name index generation ≡ true) (lands : fate_of (its_groups setup works) (noting f index) ≡ Settle)
     (empty : p.dirty ≡ []) (newer : nat_lt p.fed f.segment.name.seq ≡ true) (none : NoneGiving p.blocks) where
@@ -277,30 +310,14 @@ module _ (setup : Setup) (works : NodeId → List Work) (c v clock index generat
   abbrev pub its_told : List Effect
   its_told = told setup works c landed_part its_end (rows_of f.segment) newer none
 
-  log_settles : log.on_acked (log_at setup works c p) name index generation
-      ≡ record { state = log_at setup works c landed_part; outs = Settled its_end (rows_of f.segment) ∷ [] }
-  unfolding log.on_acked log.looked_at log.settled log.if_full
-  log_settles = rw (flies, its, lands, empty) refl
-
   abbrev packet : Packet
   packet = record { from = Server v; to = Client c; clock = clock; body = body.Stored (record { name = name; index = index; generation = generation }) }
 
-  abbrev following : log.Done → Done
-  following r =
-      (let d = steps writes_one (record (serving_at setup works c p) { log = r.state }) r.outs in
-      saying d.outs (seals_again d.state (list_any is_settling r.outs)))
-
-  abbrev sealing : Done → Done
-  sealing d = saying (d.outs ++ []) (seals_again d.state true)
-
   packet_settles : on_packet (serving_at setup works c p) packet ≡ record { state = serving_at setup works c settled_part; outs = its_told }
-  unfolding on_packet flights.writes writes_one
   packet_settles =
-      ap following log_settles
-      ∙ ap sealing (settles_so setup works c landed_part its_end (rows_of f.segment) newer none)
-      ∙ ap (saying (its_told ++ []))
-      (none_sealed setup works c settled_part (none_then setup works c landed_part its_end (rows_of f.segment) newer none))
-      ∙ ap (λ outs. record { state = serving_at setup works c settled_part; outs = outs }) (append-nil (its_told ++ []) ∙ append-nil its_told)
+      stored_settles setup works c v index generation name p f flies its lands empty settled_part its_told
+      (settles_so setup works c landed_part its_end (rows_of f.segment) newer none)
+      (none_then setup works c landed_part its_end (rows_of f.segment) newer none)
 
   module _ (h : HasRoom setup works c p) (there : has_node (peers_of setup) (Server v) ≡ true) (named : is_name name ≡ true)
       (syncing : p.call ≡ Some (call_for One Sync)) (its_item : p.item ≡ Some item) where

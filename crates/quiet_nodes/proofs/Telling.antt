@@ -4,7 +4,7 @@ use Rattle.std.specs.Prelude.{flat_map, slice_index}
 use Rattle.client_node.specs.Phases.{client_step, on_deliver as client_delivers}
 use Rattle.client_serving.specs.Packets.{on_ack, on_packet}
 use Rattle.manager_node.specs.declared.phase.Phase.TheVariants as managing
-use Rattle.manager_node.specs.Events.{happens, manager_step, on_deliver, seen}
+use Rattle.manager_node.specs.Events.{manager_step, on_deliver}
 use Rattle.manager_node.specs.Phases.{phase_has_room, serves}
 use Rattle.manager_slots.specs.Slots.{managed}
 use Rattle.manager_slots.specs.SlotTable as table
@@ -40,7 +40,7 @@ use Rattle.xfs_base.specs.declared.setup.Setup.{Setup}
 use Rattle.xfs_base.specs.Steps.{Stepped, still}
 use Rattle.quiet_nodes.specs.Scene.{ClientPart, client_at, its_groups, manager_at, manager_of_slot, managing_at, put_number, serving_at}
 use Rattle.quiet_nodes.proofs.Begins.{HasRoom, room}
-use Rattle.quiet_nodes.proofs.Managing.{slot_turns}
+use Rattle.quiet_nodes.proofs.Managing.{slot_comes}
 use Rattle.quiet_nodes.proofs.Running.{runs_none}
 
 -- deltas that join on are merged, and acknowledged
@@ -79,13 +79,9 @@ module _ (setup : Setup) (works : NodeId → List Work) (j c clock : ℕ) (slots
         packets = packets_of (Manager j) (flat_map (said m.slot (slots m.slot).epoch) outs);
         acts = acts_of (Manager j) (flat_map (said m.slot (slots m.slot).epoch) outs);
       }
-      unfolding happens
       deltas_come =
-          ap (seen (manager_at setup works j slots))
-          (ap (λ t. cond t (on_deliver (peers_of setup) (managing.Serving serves_now) packet) (still (managing.Serving serves_now))) has_room
-          ∙ deliver_is
-          ∙ ap serves
-          (slot_turns setup works j m.slot slots within own (λ p. tokens.on_deltas p (record { 0 = c }) m) z (flat_map (said m.slot (slots m.slot).epoch) outs) slot_is))
+          slot_comes setup works j m.slot slots within own packet (λ p. tokens.on_deltas p (record { 0 = c }) m) z
+          (flat_map (said m.slot (slots m.slot).epoch) outs) has_room deliver_is slot_is
 
 -- a client with no open call hears what is applied
 module _ (setup : Setup) (works : NodeId → List Work) (c j clock i applied : ℕ) (p : ClientPart) (h : HasRoom setup works c p) (idle : p.call ≡ None)
