@@ -1,5 +1,5 @@
 -- A play begins each item of a node that isn't the registry once, at its line.
-use Rattle.std.proofs.Common.{◌≡◌, ◌⊎◌, refl, ap, sym, ◌∙◌, inl, inr, ℕ, zero, suc, ◌-◌, ◌&&◌, nat_lt, nat_le, Bool, true, false, cond, not, drop, length, List, [], ◌∷◌, ◌++◌, filter, Option, Some, None, fold, slice_get, append_assoc, append-nil}
+use Rattle.std.proofs.Common.{◌≡◌, ◌⊎◌, refl, ap, sym, ◌∙◌, inl, inr, ℕ, ◌-◌, ◌&&◌, nat_lt, nat_le, Bool, true, false, cond, not, drop, length, List, [], ◌∷◌, ◌++◌, filter, Option, Some, None, fold, slice_get, append_assoc, append-nil}
 use Rattle.std.specs.List.{cons_option}
 use Rattle.script_text.specs.declared.script.Line.{Line}
 use Rattle.script_text.specs.declared.script.Script.{Script}
@@ -15,15 +15,13 @@ use Rattle.xfs_base.specs.Nodes.{same_node}
 use Rattle.xfs_base.proofs.NodeOrder.{same_node_is}
 use Rattle.world_base.specs.declared.event.Event.{Event}
 use Rattle.world_base.specs.declared.event.Event.TheVariants.{Begin, Tick}
-use Rattle.world_base.specs.declared.schedule.Next.{Next}
-use Rattle.world_base.specs.declared.schedule.Next.TheVariants.{Deliver, Round, Done}
-use Rattle.world_base.specs.Cluster.{nodes_of}
 use Rattle.world_base.specs.Events.{event_of}
 use Rattle.world_base.specs.Items.{actor_of, items_of}
 use Rattle.world_base.specs.Runs.{begins_of, begun_in}
-use Rattle.world_base.specs.Schedule.{goes, left}
+use Rattle.play.specs.Manner.{plays_line}
 use Rattle.play.specs.Plays.{actors_of}
 use Rattle.play.proofs.EachBegun.{for_each, more_begun}
+use Rattle.play.proofs.Manners.{line_good}
 use Rattle.board.specs.declared.command.Command.{Command}
 use Rattle.board.specs.declared.input.In.{In}
 use Rattle.board.specs.declared.input.In.TheVariants as inputs
@@ -41,7 +39,7 @@ use Rattle.board_play.specs.declared.sent.Sender.{Sender}
 use Rattle.board_play.specs.declared.sent.Sender.TheVariants as senders
 use Rattle.board_play.specs.declared.sent.Sent.{Sent}
 use Rattle.board_play.specs.Begun.{far_of}
-use Rattle.board_play.specs.Plays.{beats, beats_all, begins, begins_at, board_event, comes, coming, delivered, delivery, event_at, goes_by, goes_on, goes_out, happens, happens_where, least_up, mailing, offer_to, offers, opens, opens_by, opens_for, played, plays_line, rounded, starts, ticks, together, with_offer, with_one_more, with_schedule}
+use Rattle.board_play.specs.Plays.{beats, beats_all, begins, begins_at, board_event, coming, delivered, delivery, event_at, happens, happens_where, least_up, mailing, manner_of, offer_to, offers, opens, opens_by, opens_for, played, starts, ticks, together, with_offer, with_one_more}
 use Rattle.board_play.specs.Plays as plays
 use Rattle.board_play.proofs.BoardLines.{AsksBoard, board_line}
 
@@ -189,22 +187,9 @@ module _ {N : Type 0} (step : N → Do → NodeStep N) where
         | false ↦ quiet_begins p (Far (Tick node)) refl
       ]
 
-  ticks_begin : (p : Player N) (nodes : List NodeId) → begun (fold (ticks step) p nodes) ≡ begun p
-  ticks_begin p [] = refl
-  ticks_begin p (n ∷ nodes) = ticks_begin (ticks step p n) nodes ∙ tick_begins p n
-
-  comes_begins : (p : Player N) (next : Next) → begun (comes step p next) ≡ begun p
-  unfolding delivered rounded
-  comes_begins p (Deliver number) = delivers_begins p number (slice_get p.sent number)
-  comes_begins p Round = ticks_begin p (nodes_of p.world.cluster)
-  comes_begins p Done = refl
-
-  goes_on_begins : (count : ℕ) (p : Player N) → begun (goes_on step count p) ≡ begun p
-  unfolding goes_on
-  goes_on_begins zero p = refl
-  goes_on_begins (suc count) p =
-      let going = goes p.unanswered p.schedule in
-      goes_on_begins count (goes_by step p going) ∙ comes_begins (with_schedule p going.state) going.next
+  delivery_begins : (p : Player N) (number : ℕ) → begun (delivered step p number) ≡ begun p
+  unfolding delivered
+  delivery_begins p number = delivers_begins p number (slice_get p.sent number)
 
   -- ---- a line begins the item that it is
 
@@ -247,20 +232,22 @@ module _ {N : Type 0} (step : N → Do → NodeStep N) where
       by_event (inl is) = turn_begins p work (Stop a.board) is refl a.no_item
       by_event (inr is) = turn_begins p work (Start a.board) is refl a.no_item
 
-  line_begins : (p : Player N) (line : Line) → begun (plays_line step p line) ≡ begun p ++ actor_in (actor_of line.work)
-  unfolding plays_line opens goes_out
+  line_begins : (p : Player N) (line : Line) → begun (plays_line (manner_of step) p line) ≡ begun p ++ actor_in (actor_of line.work)
+  unfolding opens
   line_begins p line =
       let q = opens_by step p line.work (board_event line.work) in
-      goes_on_begins (left q.schedule) q ∙ open_begins p line.work (board_line line.work)
+      line_good (manner_of step) (λ r. begun r ≡ begun q) (λ r s same. same) (λ r number same. delivery_begins r number ∙ same)
+      (λ r node same. tick_begins r node ∙ same) p line refl
+      ∙ open_begins p line.work (board_line line.work)
 
   first_actor : (actor : Option NodeId) (actors : List NodeId) → actor_in actor ++ far_of actors ≡ far_of (cons_option actor actors)
   first_actor None actors = refl
   first_actor (Some node) actors = sym (far_more (node ∷ []) actors)
 
-  lines_begin : (p : Player N) (lines : List Line) → begun (fold (plays_line step) p lines) ≡ begun p ++ far_of (actors_of lines)
+  lines_begin : (p : Player N) (lines : List Line) → begun (fold (plays_line (manner_of step)) p lines) ≡ begun p ++ far_of (actors_of lines)
   lines_begin p [] = sym (append-nil (begun p))
   lines_begin p (l ∷ lines) =
-      lines_begin (plays_line step p l) lines
+      lines_begin (plays_line (manner_of step) p l) lines
       ∙ ap (λ nodes. nodes ++ far_of (actors_of lines)) (line_begins p l)
       ∙ append_assoc (begun p) (actor_in (actor_of l.work)) (far_of (actors_of lines))
       ∙ ap (λ nodes. begun p ++ nodes) (first_actor (actor_of l.work) (actors_of lines))

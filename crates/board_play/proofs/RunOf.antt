@@ -1,5 +1,5 @@
 -- What happens in a play is a run of its script with boards.
-use Rattle.std.proofs.Common.{◌≡◌, refl, subst, sym, ap, ◌∙◌, ℕ, zero, suc, ◌+◌, min, Bool, true, false, cond, true≢false, List, [], ◌∷◌, ◌++◌, Option, Some, None, fold, slice_get, append_assoc, append-nil}
+use Rattle.std.proofs.Common.{◌≡◌, refl, subst, sym, ap, ◌∙◌, ℕ, ◌+◌, min, Bool, true, false, cond, true≢false, List, [], ◌∷◌, ◌++◌, Option, Some, None, slice_get, append_assoc, append-nil}
 use Rattle.script_text.specs.declared.script.Line.{Line}
 use Rattle.script_text.specs.declared.script.Script.{Script}
 use Rattle.version_model.specs.declared.work.Work.{Work}
@@ -17,13 +17,9 @@ use Rattle.xfs_base.proofs.NodeOrder.{same_node_is, same_node_itself}
 use Rattle.xfs_base.proofs.StepLoops.{steps_both}
 use Rattle.world_base.specs.declared.event.Event.{Event}
 use Rattle.world_base.specs.declared.event.Event.TheVariants.{Begin, Tick}
-use Rattle.world_base.specs.declared.schedule.Next.{Next}
-use Rattle.world_base.specs.declared.schedule.Next.TheVariants.{Deliver, Round, Done}
-use Rattle.world_base.specs.Cluster.{nodes_of}
 use Rattle.world_base.specs.Events.{event_of}
 use Rattle.world_base.specs.Items.{actor_of}
 use Rattle.world_base.specs.Runs.{WasSent}
-use Rattle.world_base.specs.Schedule.{goes, left}
 use Rattle.board.specs.declared.packet.BoardPacket.{BoardPacket}
 use Rattle.board_world.specs.declared.board_event.BoardEvent.{BoardEvent}
 use Rattle.board_world.specs.declared.board_event.BoardEvent.TheVariants.{Far, Offer, Mail, Beat, Stop, Start}
@@ -33,7 +29,9 @@ use Rattle.board_play.specs.declared.player.Player.{Player}
 use Rattle.board_play.specs.declared.sent.Sender.{Sender}
 use Rattle.board_play.specs.declared.sent.Sender.TheVariants as senders
 use Rattle.board_play.specs.declared.sent.Sent.{Sent}
-use Rattle.board_play.specs.Plays.{beats, beats_all, begins, begins_at, board_event, comes, coming, delivered, delivery, event_at, goes_by, goes_on, goes_out, happens, happens_where, least_up, mailing, offer_to, offers, opens, opens_by, opens_for, played, plays_line, rounded, starts, ticks, together, with_offer, with_one_more, with_schedule}
+use Rattle.play.specs.Manner.{plays_line}
+use Rattle.play.proofs.Manners.{all_keep, line_good}
+use Rattle.board_play.specs.Plays.{beats, beats_all, begins, begins_at, board_event, coming, delivered, delivery, event_at, happens, happens_where, least_up, mailing, manner_of, offer_to, offers, opens, opens_by, opens_for, played, starts, ticks, together, with_offer, with_one_more}
 use Rattle.board_play.specs.Plays as plays
 
 not_registry : (node : NodeId) → same_node node Registry ≡ false → node ≡ Registry → ⊥
@@ -160,23 +158,9 @@ module _ {N : Type 0} (step : N → Do → NodeStep N) (first : NodeId → Setup
           | false ↦ λ e. happens_runs p (Far (Tick node)) (tt, not_registry node e) run
         ] refl
 
-    ticks_run : (p : Player N) (nodes : List NodeId) → HasRun p → HasRun (fold (ticks step) p nodes)
-    ticks_run p [] run = run
-    ticks_run p (n ∷ nodes) run = ticks_run (ticks step p n) nodes (tick_runs p n run)
-
-    comes_runs : (p : Player N) (next : Next) → HasRun p → HasRun (comes step p next)
-    unfolding delivered rounded
-    comes_runs p (Deliver number) run = delivers_runs p number (slice_get p.sent number) run
-    comes_runs p Round run = ticks_run p (nodes_of p.world.cluster) run
-    comes_runs p Done run = run
-
-    goes_on_runs : (count : ℕ) (p : Player N) → HasRun p → HasRun (goes_on step count p)
-    unfolding goes_on
-    goes_on_runs zero p run = run
-    goes_on_runs (suc count) p run =
-        let going = goes p.unanswered p.schedule in
-        goes_on_runs count (goes_by step p going)
-        (comes_runs (with_schedule p going.state) going.next (record { leads = run.leads; boards = run.boards; events = run.events }))
+    delivery_runs : (p : Player N) (number : ℕ) → HasRun p → HasRun (delivered step p number)
+    unfolding delivered
+    delivery_runs p number run = delivers_runs p number (slice_get p.sent number) run
 
     opens_for_runs : (p : Player N) (work : Work) (actor : Option NodeId) → HasRun p → HasRun (opens_for step p work actor)
     opens_for_runs p work None run = record { leads = run.leads; boards = run.boards; events = run.events }
@@ -193,16 +177,12 @@ module _ {N : Type 0} (step : N → Do → NodeStep N) (first : NodeId → Setup
     may_turn t (works.BoardStart board) = tt
     may_turn t work = tt
 
-    line_runs : (p : Player N) (line : Line) → HasRun p → HasRun (plays_line step p line)
-    unfolding plays_line opens goes_out
+    line_runs : (p : Player N) (line : Line) → HasRun p → HasRun (plays_line (manner_of step) p line)
+    unfolding opens
     line_runs p line run =
-        let q = opens_by step p line.work (board_event line.work) in
-        goes_on_runs (left q.schedule) q (opens_runs p line.work (board_event line.work) (may_turn (together p) line.work) run)
-
-    lines_run : (p : Player N) (lines : List Line) → HasRun p → HasRun (fold (plays_line step) p lines)
-    lines_run p [] run = run
-    lines_run p (l ∷ lines) run = lines_run (plays_line step p l) lines (line_runs p l run)
+        let opened = opens_runs p line.work (board_event line.work) (may_turn (together p) line.work) run in
+        line_good (manner_of step) HasRun (λ q s led. record { leads = led.leads; boards = led.boards; events = led.events }) delivery_runs tick_runs p line opened
 
     pub play_runs : HasRun (played step first script)
     unfolding played
-    play_runs = lines_run (starts first script) script.lines (record { leads = refl; boards = refl; events = refl })
+    play_runs = all_keep (plays_line (manner_of step)) HasRun line_runs (starts first script) script.lines (record { leads = refl; boards = refl; events = refl })

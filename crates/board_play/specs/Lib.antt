@@ -1,3 +1,4 @@
 pub mod Begun
+pub mod Lawful
 pub mod Played
 pub mod Plays

@@ -1,8 +1,7 @@
 -- The play of a script with three boards in the registry's place: a function of the script. It goes by the schedule by which `run` plays: each item is
 -- begun at its line, and the schedule says what happens after it.
-use Rattle.std.specs.Prelude.{ℕ, zero, suc, ◌+◌, ◌-◌, min, Bool, true, false, if◌then◌else◌, List, [], ◌∷◌, ◌++◌, length, drop, fold, map, slice_get, Option, Some, None}
+use Rattle.std.specs.Prelude.{ℕ, ◌+◌, ◌-◌, min, Bool, true, false, if◌then◌else◌, List, [], ◌∷◌, ◌++◌, length, drop, fold, map, slice_get, Option, Some, None}
 use Rattle.std.specs.List.{range_with_len}
-use Rattle.script_text.specs.declared.script.Line.{Line}
 use Rattle.script_text.specs.declared.script.Script.{Script}
 use Rattle.version_model.specs.declared.work.Work.{Work}
 use Rattle.version_model.specs.declared.work.Work.TheVariants as works
@@ -17,13 +16,11 @@ use Rattle.xfs_base.specs.Limits.{u32_end}
 use Rattle.xfs_base.specs.Nodes.{same_node}
 use Rattle.world_base.specs.declared.estate.Estate.{Estate}
 use Rattle.world_base.specs.declared.event.Event.TheVariants.{Begin, Tick}
-use Rattle.world_base.specs.declared.schedule.Next.{Next}
-use Rattle.world_base.specs.declared.schedule.Next.TheVariants as next
-use Rattle.world_base.specs.Cluster.{nodes_of}
 use Rattle.world_base.specs.Events.{event_of}
 use Rattle.world_base.specs.Items.{actor_of}
 use Rattle.world_base.specs.NextWorld.{start_world}
-use Rattle.world_base.specs.Schedule.{Going, ScheduleState, goes, item_begun, left, repeated, started, told}
+use Rattle.world_base.specs.Schedule.{ScheduleState, item_begun, repeated, started, told}
+use Rattle.play.specs.Manner.{Manner, plays_line}
 use Rattle.play.specs.Plays.{answers, sent_since}
 use Rattle.board.specs.declared.packet.BoardPacket.{BoardPacket}
 use Rattle.board_world.specs.declared.board_event.BoardEvent.{BoardEvent}
@@ -207,28 +204,6 @@ module _ {N : Type 0} (step : N → Do → NodeStep N) where
   unfoldable pub ticks : Player N → NodeId → Player N
   ticks p node = if same_node node Registry then beats_all p else happens p (Far (Tick node))
 
-  -- time passes at every node, in their order
-  unfoldable pub rounded : Player N → Player N
-  rounded p = fold ticks p (nodes_of p.world.cluster)
-
-  -- what comes next happens
-  abbrev pub comes : Player N → Next → Player N
-  comes p (next.Deliver number) = delivered p number
-  comes p next.Round = rounded p
-  comes p next.Done = p
-
-  abbrev pub goes_by : Player N → Going → Player N
-  goes_by p going = comes (with_schedule p going.state) going.next
-
-  -- what the schedule says comes next happens, so many times; once the line is done nothing more does
-  unfoldable pub goes_on : ℕ → Player N → Player N
-  goes_on zero p = p
-  goes_on (suc count) p = goes_on count (goes_by p (goes p.unanswered p.schedule))
-
-  -- all that the schedule says happens for the line in hand
-  unfoldable pub goes_out : Player N → Player N
-  goes_out p = goes_on (left p.schedule) p
-
   abbrev pub opens_for : Player N → Work → Option NodeId → Player N
   opens_for p work None = told_of p work
   opens_for p work (Some node) = begins p node
@@ -241,8 +216,17 @@ module _ {N : Type 0} (step : N → Do → NodeStep N) where
   unfoldable pub opens : Player N → Work → Player N
   opens p work = opens_by p work (board_event work)
 
-  unfoldable pub plays_line : Player N → Line → Player N
-  plays_line p line = goes_out (opens p line.work)
+  -- how it goes by the schedule
+  abbrev pub manner_of : Manner (Player N)
+  manner_of = record {
+    schedule = λ p. p.schedule;
+    with_schedule = with_schedule;
+    unanswered = λ p. p.unanswered;
+    cluster = λ p. p.world.cluster;
+    delivered = delivered;
+    ticks = ticks;
+    opens = opens;
+  }
 
 -- the play before the first line
 abbrev pub starts : {N : Type 0} → (NodeId → Setup → List Work → N) → Script → Player N
@@ -259,7 +243,7 @@ starts first script = record {
 
 -- the play of a script, line by line
 unfoldable pub played : {N : Type 0} → (N → Do → NodeStep N) → (NodeId → Setup → List Work → N) → Script → Player N
-played step first script = fold (plays_line step) (starts first script) script.lines
+played step first script = fold (plays_line (manner_of step)) (starts first script) script.lines
 
 -- the estate that a play leaves, of the run that it stands for, and what happened to nodes and boards
 abbrev pub left_by : {N : Type 0} → Script → Player N → BoardEstate N

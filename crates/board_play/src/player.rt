@@ -3,18 +3,18 @@ ghost use Rattle.std.specs.Prelude.{◌≡◌, ◌+◌, ◌<◌, ◌≤◌, ◌^
 ghost use Rattle.node_base.specs.Setups.{IsSetup};
 ghost use Rattle.world_base.specs.Items.{actor_of as actor_in};
 ghost use Rattle.world_base.specs.NextWorld.{next_world};
-ghost use Rattle.board_play.specs.Plays.{beats, beats_all, begins, begins_at, comes, delivered, goes_out, happens, happens_where, left_by, offers, opens, opens_by, opens_for, plays_line, rounded, starts, ticks, told_of, played};
+ghost use Rattle.board_play.specs.Plays.{beats, beats_all, begins, begins_at, happens, happens_where, left_by, offers, opens_for, starts, told_of, played};
 
 use crate::BoardEstate;
 use crate::coming::{board_event, coming, least_up, offer_to};
 use crate::sent::{Sender, Sent, send_by, send_far};
 use board_world::{BoardEvent, Boards};
-use play::{answers_since, send_since};
-use script_text::{Line, Script};
+use play::{Playing, answers_since, play_lines, send_since};
+use script_text::Script;
 use std::alloc::Global;
 use version_model::Work;
 use wire_msg::Do;
-use world_base::{Estate, Event, Member, Next, Schedule, World, actor_of};
+use world_base::{Cluster, Estate, Event, Member, Next, Schedule, World, actor_of};
 use xfs_base::{List, Mem, NodeId};
 
 /// A play in progress.
@@ -201,20 +201,6 @@ impl<N: Member> Player<N> {
         Ok(())
     }
 
-    /// The packet of this number is delivered.
-    #[tactic(auto, unfolding(crate::specs::Plays::delivered))]
-    fn deliver(&mut self, alloc: Global, number: usize) -> Mem<()>
-        ensures exact { OnOk result (self.new ≡ delivered N.transition self.old number) }
-        ensures no_more { OnOk result (self.new.unanswered ≤ self.old.unanswered) }
-    {
-        let Some(sent) = self.sent.get(number) else {
-            return Ok(());
-        };
-        let event = coming(alloc, &self.boards, &self.world, *sent)?;
-        self.happen_where(alloc, event)?;
-        self.schedule.delivered(number)
-    }
-
     /// Time passes at a board that is up.
     #[tactic(auto, unfolding(crate::specs::Plays::beats))]
     fn beat(&mut self, alloc: Global, board: u8) -> Mem<()>
@@ -235,59 +221,6 @@ impl<N: Member> Player<N> {
         self.beat(alloc, 1)?;
         self.beat(alloc, 2)?;
         self.beat(alloc, 3)
-    }
-
-    /// Time passes at a node; in the registry's place at each board.
-    #[tactic(auto, unfolding(crate::specs::Plays::ticks))]
-    fn tick(&mut self, alloc: Global, node: NodeId) -> Mem<()>
-        ensures exact { OnOk result (self.new ≡ ticks N.transition self.old node) }
-        ensures no_more { OnOk result (self.new.unanswered ≤ self.old.unanswered) }
-    {
-        if node == NodeId::Registry {
-            self.beat_all(alloc)
-        } else {
-            self.happen(alloc, BoardEvent::Far(Event::Tick(node)))
-        }
-    }
-
-    /// Time passes at every node, in their order.
-    #[tactic(auto, unfolding(crate::specs::Plays::rounded))]
-    fn round(&mut self, alloc: Global) -> Mem<()>
-        ensures exact { OnOk result (self.new ≡ rounded N.transition self.old) }
-        ensures no_more { OnOk result (self.new.unanswered ≤ self.old.unanswered) }
-    {
-        let cluster = self.world.cluster;
-        for place in 0..cluster.count() {
-            self.tick(alloc, cluster.node_at(place))?;
-        }
-        Ok(())
-    }
-
-    /// What comes next happens.
-    fn come(&mut self, alloc: Global, next: Next) -> Mem<()>
-        ensures exact { OnOk result (self.new ≡ comes N.transition self.old next) }
-        ensures no_more { OnOk result (self.new.unanswered ≤ self.old.unanswered) }
-    {
-        match next {
-            Next::Deliver(number) => self.deliver(alloc, number),
-            Next::Round => self.round(alloc),
-            Next::Done => Ok(()),
-        }
-    }
-
-    /// All that the schedule says happens for the line in hand.
-    #[tactic(auto, unfolding(crate::specs::Plays::goes_out))]
-    fn go(&mut self, alloc: Global) -> Mem<()>
-        ensures exact { OnOk result (self.new ≡ goes_out N.transition self.old) }
-        ensures no_more { OnOk result (self.new.unanswered ≤ self.old.unanswered) }
-    {
-        loop {
-            let next = self.schedule.next(self.unanswered);
-            if next.is_done() {
-                return Ok(());
-            }
-            self.come(alloc, next)?;
-        }
     }
 
     /// The schedule is told of a line that is no item.
@@ -322,30 +255,6 @@ impl<N: Member> Player<N> {
         }
     }
 
-    /// Begins what a line asks for, stops or starts a board, or tells the schedule of the line.
-    #[tactic(auto, unfolding(crate::specs::Plays::opens))]
-    fn open(&mut self, alloc: Global, work: &Work) -> Mem<()>
-        requires { self.old.unanswered + 1 < 2 ^ 64 }
-        ensures exact { OnOk result (self.new ≡ opens N.transition self.old work.now) }
-        ensures one_more { OnOk result (self.new.unanswered ≤ self.old.unanswered + 1) }
-    {
-        match board_event(work) {
-            None => self.open_for(alloc, work),
-            Some(event) => self.turn_board(alloc, event, work),
-        }
-    }
-
-    /// Plays a line.
-    #[tactic(auto, unfolding(crate::specs::Plays::plays_line))]
-    fn line(&mut self, alloc: Global, line: &Line) -> Mem<()>
-        requires { self.old.unanswered + 1 < 2 ^ 64 }
-        ensures exact { OnOk result (self.new ≡ plays_line N.transition self.old line.now) }
-        ensures one_more { OnOk result (self.new.unanswered ≤ self.old.unanswered + 1) }
-    {
-        self.open(alloc, &line.work)?;
-        self.go(alloc)
-    }
-
     /// Plays all lines of a script.
     #[tactic(auto, unfolding(crate::specs::Plays::played))]
     pub fn play(alloc: Global, script: &Script) -> Mem<Player<N>>
@@ -353,9 +262,53 @@ impl<N: Member> Player<N> {
         ensures { IfOk result (λ player. player ≡ played N.transition N.first script.now) }
     {
         let mut player = Player::start(alloc, script)?;
-        for line in script.lines.as_slice() {
-            player.line(alloc, line)?;
-        }
+        play_lines(alloc, &mut player, script)?;
         Ok(player)
     }
+}
+
+impl<N: Member> Playing for Player<N> {
+    ghost use Rattle.board_play.specs.Lawful.{lawful as player_lawful};
+    ghost use Rattle.board_play.specs.Plays.{manner_of};
+
+    ghost manner = { manner_of N.transition };
+
+    fn cluster(&self) -> Cluster {
+        self.world.cluster
+    }
+
+    fn what_next(&mut self) -> Next {
+        self.schedule.next(self.unanswered)
+    }
+
+    #[tactic(auto, unfolding(crate::specs::Plays::delivered))]
+    fn deliver(&mut self, alloc: Global, number: usize) -> Mem<()> {
+        let Some(sent) = self.sent.get(number) else {
+            return Ok(());
+        };
+        let event = coming(alloc, &self.boards, &self.world, *sent)?;
+        self.happen_where(alloc, event)?;
+        self.schedule.delivered(number)
+    }
+
+    /// Time passes at a node; in the registry's place at each board.
+    #[tactic(auto, unfolding(crate::specs::Plays::ticks))]
+    fn tick(&mut self, alloc: Global, node: NodeId) -> Mem<()> {
+        if node == NodeId::Registry {
+            self.beat_all(alloc)
+        } else {
+            self.happen(alloc, BoardEvent::Far(Event::Tick(node)))
+        }
+    }
+
+    /// Begins what a line asks for, stops or starts a board, or tells the schedule of the line.
+    #[tactic(auto, unfolding(crate::specs::Plays::opens))]
+    fn open(&mut self, alloc: Global, work: &Work) -> Mem<()> {
+        match board_event(work) {
+            None => self.open_for(alloc, work),
+            Some(event) => self.turn_board(alloc, event, work),
+        }
+    }
+
+    ghost lawful = { player_lawful N.transition };
 }

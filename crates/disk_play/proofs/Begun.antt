@@ -1,10 +1,12 @@
 -- The items of a play with servers that stop are begun in the order of their lines, each once.
-use Rattle.std.proofs.Common.{◌≡◌, refl, sym, ap, ◌∙◌, ℕ, zero, suc, true, false, List, [], ◌∷◌, ◌++◌, length, filter, Option, Some, None, append-nil, append_assoc, fold, slice_get}
+use Rattle.std.proofs.Common.{◌≡◌, refl, sym, ap, ◌∙◌, ℕ, true, false, List, [], ◌∷◌, ◌++◌, length, filter, Option, Some, None, append-nil, append_assoc, fold, slice_get}
 use Rattle.std.specs.List.{cons_option}
 use Rattle.fragment_store.specs.ShelfState.{ShelfState}
 use Rattle.play.proofs.EachBegun.{for_each, more_begun}
+use Rattle.play.proofs.Manners.{line_good}
 use Rattle.play.specs.declared.player.Player.{Player}
-use Rattle.play.specs.Plays.{actors_of, happens, with_schedule}
+use Rattle.play.specs.Manner.{plays_line}
+use Rattle.play.specs.Plays.{actors_of, happens}
 use Rattle.script_text.specs.declared.script.Line.{Line}
 use Rattle.script_text.specs.declared.script.Script.{Script}
 use Rattle.version_model.specs.declared.work.Work.{Work}
@@ -13,17 +15,13 @@ use Rattle.wire_msg.specs.declared.packet.Do.{Do}
 use Rattle.wire_msg.specs.declared.packet.Do.TheVariants as whats
 use Rattle.wire_msg.specs.declared.packet.Packet.{Packet}
 use Rattle.wire_msg.specs.NodeStep.{NodeStep}
-use Rattle.world_base.specs.Cluster.{nodes_of}
 use Rattle.world_base.specs.declared.event.Event.{Event}
 use Rattle.world_base.specs.declared.event.Event.TheVariants.{Begin, Deliver, Tick}
-use Rattle.world_base.specs.declared.schedule.Next.{Next}
-use Rattle.world_base.specs.declared.schedule.Next.TheVariants as next
 use Rattle.world_base.specs.declared.world.World.{World}
 use Rattle.world_base.specs.Events.{node_of}
 use Rattle.world_base.specs.Items.{actor_of}
 use Rattle.world_base.specs.NextWorld.{next_world}
 use Rattle.world_base.specs.Runs.{BeginsAll, begun_in}
-use Rattle.world_base.specs.Schedule.{goes, left}
 use Rattle.xfs_base.proofs.Booleans.{by_test, contrary}
 use Rattle.xfs_base.specs.declared.node.NodeId.{NodeId}
 use Rattle.xfs_base.specs.declared.node.NodeId.TheVariants as nodes
@@ -34,7 +32,7 @@ use Rattle.disk_play.specs.declared.course.Seat.{Seat}
 use Rattle.disk_play.specs.declared.stop.Fate.{Fate}
 use Rattle.disk_play.specs.declared.stop.Fate.TheVariants.{Answered, Unanswered, Lost}
 use Rattle.disk_play.specs.declared.stop.Stop.{Stop}
-use Rattle.disk_play.specs.Courses.{Deck, asked_of, begins_on, comes_on, delivered_on, delivers_on, fate_for, goes_on_by, goes_on_for, goes_out_on, happens_at, happens_on, happens_to, on_course, one_more, opens_on, opens_on_for, played_on, player_by, plays_line_on, rounded_on, running, seat_of, shelf_at, started_at, starts_on, stops_at, tells, ticks_on, unanswered_of, with_player, with_stop, woken, woken_at}
+use Rattle.disk_play.specs.Courses.{Deck, asked_of, begins_on, delivered_on, delivers_on, fate_for, happens_at, happens_on, happens_to, manner_on, on_course, one_more, opens_on, opens_on_for, played_on, player_by, running, seat_of, shelf_at, started_at, starts_on, stops_at, tells, ticks_on, unanswered_of, with_player, with_stop, woken, woken_at}
 use Rattle.disk_play.proofs.Places.{get_set_same}
 use Rattle.disk_play.proofs.Seating.{seat_is, seated}
 use Rattle.shelved_nodes.specs.Asking.{only_where}
@@ -132,28 +130,17 @@ module _ {N : Type 0} (step : N → Do → NodeStep N) (shelf_of : N → Option 
       begin_begins (on_course (λ c. one_more (woken c node)) d) node (woken_runs d.course node)
       ∙ ap (λ p. begun_in p.events ++ node ∷ []) (woken_events d.course node)
 
-  ticks_begin : (d : Deck N) (nodes : List NodeId) → begun_of (fold (ticks_on step shelf_of) d nodes).course ≡ begun_of d.course
+  tick_begins : (d : Deck N) (node : NodeId) → begun_of (ticks_on step shelf_of d node).course ≡ begun_of d.course
   unfolding ticks_on
-  ticks_begin d [] = refl
-  ticks_begin d (n ∷ nodes) = ticks_begin (ticks_on step shelf_of d n) nodes ∙ happens_begins d (Tick n) refl
+  tick_begins d node = happens_begins d (Tick node) refl
 
   delivers_begins : (d : Deck N) (number : ℕ) (packet : Option Packet) → begun_of (delivers_on step shelf_of d number packet).course ≡ begun_of d.course
   delivers_begins d number None = refl
   delivers_begins d number (Some packet) = happens_begins d (Deliver packet) refl
 
-  comes_begins : (d : Deck N) (coming : Next) → begun_of (comes_on step shelf_of d coming).course ≡ begun_of d.course
-  unfolding delivered_on rounded_on
-  comes_begins d (next.Deliver number) = delivers_begins d number (slice_get d.course.player.world.sent number)
-  comes_begins d next.Round = ticks_begin d (nodes_of d.course.player.world.cluster)
-  comes_begins d next.Done = refl
-
-  goes_on_begins : (count : ℕ) (d : Deck N) → begun_of (goes_on_for step shelf_of count d).course ≡ begun_of d.course
-  unfolding goes_on_for
-  goes_on_begins zero d = refl
-  goes_on_begins (suc count) d =
-      let going = goes d.course.player.unanswered d.course.player.schedule in
-      goes_on_begins count (goes_on_by step shelf_of d going)
-      ∙ comes_begins (on_course (λ c. with_player c (with_schedule c.player going.state)) d) going.next
+  delivery_begins : (d : Deck N) (number : ℕ) → begun_of (delivered_on step shelf_of d number).course ≡ begun_of d.course
+  unfolding delivered_on
+  delivery_begins d number = delivers_begins d number (slice_get d.course.player.world.sent number)
 
   -- a line that is no item begins none
   stops_begin : (c : Course N) (node : NodeId) (passes : ℕ) (o : Option Seat) → begun_of (stops_at c node passes o) ≡ begun_of c
@@ -179,15 +166,17 @@ module _ {N : Type 0} (step : N → Do → NodeStep N) (shelf_of : N → Option 
   opens_begins d work (Some node) rest = ap (λ nodes. nodes ++ rest) (begins_begins d node) ∙ append_assoc (begun_of d.course) (node ∷ []) rest
 
   line_begins : (d : Deck N) (line : Line) (rest : List NodeId)
-      → begun_of (plays_line_on step shelf_of d line).course ++ rest ≡ begun_of d.course ++ cons_option (actor_of line.work) rest
-  unfolding plays_line_on opens_on goes_out_on
+      → begun_of (plays_line (manner_on step shelf_of) d line).course ++ rest ≡ begun_of d.course ++ cons_option (actor_of line.work) rest
+  unfolding opens_on
   line_begins d line rest =
       let e = opens_on_for step shelf_of d line.work (actor_of line.work) in
-      ap (λ nodes. nodes ++ rest) (goes_on_begins (left e.course.player.schedule) e) ∙ opens_begins d line.work (actor_of line.work) rest
+      let played = line_good (manner_on step shelf_of) (λ x. begun_of x.course ≡ begun_of e.course) (λ x s same. same)
+      (λ x number same. delivery_begins x number ∙ same) (λ x node same. tick_begins x node ∙ same) d line refl in
+      ap (λ nodes. nodes ++ rest) played ∙ opens_begins d line.work (actor_of line.work) rest
 
-  lines_begin : (d : Deck N) (lines : List Line) → begun_of (fold (plays_line_on step shelf_of) d lines).course ≡ begun_of d.course ++ actors_of lines
+  lines_begin : (d : Deck N) (lines : List Line) → begun_of (fold (plays_line (manner_on step shelf_of)) d lines).course ≡ begun_of d.course ++ actors_of lines
   lines_begin d [] = sym (append-nil (begun_of d.course))
-  lines_begin d (l ∷ lines) = lines_begin (plays_line_on step shelf_of d l) lines ∙ line_begins d l (actors_of lines)
+  lines_begin d (l ∷ lines) = lines_begin (plays_line (manner_on step shelf_of) d l) lines ∙ line_begins d l (actors_of lines)
 
   module _ (first : NodeId → Setup → List Work → N) (script : Script) where
     pub play_begins : begun_in (played_on step shelf_of first script).course.player.events ≡ actors_of script.lines

@@ -1,7 +1,7 @@
 pub mod Begun
 pub mod Closing
 pub mod Happening
-pub mod Left
+pub mod Lawful
 pub mod Making
 pub mod Passing
 pub mod Places

@@ -1,6 +1,6 @@
 -- The play of a script with servers that stop and keep their disk: a function of the script. It is played as by one thread, but that a server may stop
 -- within a change of its shelf, and takes no event then until it is started; and each change of a shelf is made on the disk of its server too.
-use Rattle.std.specs.Prelude.{ℕ, zero, suc, ◌-◌, nat_lt, Bool, true, false, not, ◌||◌, ◌==◌, if◌then◌else◌, List, [], ◌∷◌, ◌++◌, drop, length, fold, replicate, slice_get, slice_set, Option, Some, None}
+use Rattle.std.specs.Prelude.{ℕ, ◌-◌, nat_lt, Bool, true, false, not, ◌||◌, ◌==◌, if◌then◌else◌, List, [], ◌∷◌, ◌++◌, drop, length, fold, replicate, slice_get, slice_set, Option, Some, None}
 use Rattle.std.specs.List.{count_by}
 use Rattle.disk_shelf.specs.declared.ask.Ask.{Ask}
 use Rattle.disk_shelf.specs.declared.ask.Ask.TheVariants as asks
@@ -9,8 +9,8 @@ use Rattle.disk_shelf.specs.MemDisk.{MemState}
 use Rattle.disk_shelf.specs.Stops.{is_answered, is_there, passes_after}
 use Rattle.fragment_store.specs.ShelfState.{ShelfState}
 use Rattle.play.specs.declared.player.Player.{Player}
+use Rattle.play.specs.Manner.{Manner, plays_line}
 use Rattle.play.specs.Plays.{answers, delivery_told, happens, sent_since, starts, told_of, with_event, with_one_more, with_schedule}
-use Rattle.script_text.specs.declared.script.Line.{Line}
 use Rattle.script_text.specs.declared.script.Script.{Script}
 use Rattle.shelved_nodes.specs.Asking.{asked}
 use Rattle.version_model.specs.declared.act.Act.{Act}
@@ -23,14 +23,12 @@ use Rattle.wire_msg.specs.NodeStep.{NodeStep}
 use Rattle.world_base.specs.declared.event.Event.{Event}
 use Rattle.world_base.specs.declared.event.Event.TheVariants.{Begin, Deliver, Tick}
 use Rattle.world_base.specs.declared.estate.Estate.{Estate}
-use Rattle.world_base.specs.declared.schedule.Next.{Next}
-use Rattle.world_base.specs.declared.schedule.Next.TheVariants as next
 use Rattle.world_base.specs.declared.world.World.{World}
-use Rattle.world_base.specs.Cluster.{nodes_of, place_of}
+use Rattle.world_base.specs.Cluster.{place_of}
 use Rattle.world_base.specs.Events.{node_of, what_of}
 use Rattle.world_base.specs.Items.{actor_of}
 use Rattle.world_base.specs.NextWorld.{next_world, start_world}
-use Rattle.world_base.specs.Schedule.{Going, goes, item_begun, left}
+use Rattle.world_base.specs.Schedule.{item_begun}
 use Rattle.xfs_base.specs.declared.node.NodeId.{NodeId}
 use Rattle.xfs_base.specs.declared.node.NodeId.TheVariants as nodes
 use Rattle.xfs_base.specs.declared.setup.Setup.{Setup}
@@ -271,29 +269,9 @@ module _ {N : Type 0} (step : N → Do → NodeStep N) (shelf_of : N → Option 
   unfoldable pub delivered_on : Deck N → ℕ → Deck N
   delivered_on d number = delivers_on d number (slice_get d.course.player.world.sent number)
 
-  -- time passes at every node that isn't stopped, in their order
+  -- time passes at a node that isn't stopped
   unfoldable pub ticks_on : Deck N → NodeId → Deck N
   ticks_on d node = happens_on d (Tick node)
-
-  unfoldable pub rounded_on : Deck N → Deck N
-  rounded_on d = fold ticks_on d (nodes_of d.course.player.world.cluster)
-
-  -- what comes next happens
-  abbrev pub comes_on : Deck N → Next → Deck N
-  comes_on d (next.Deliver number) = delivered_on d number
-  comes_on d next.Round = rounded_on d
-  comes_on d next.Done = d
-
-  abbrev pub goes_on_by : Deck N → Going → Deck N
-  goes_on_by d going = comes_on (on_course (λ c. with_player c (with_schedule c.player going.state)) d) going.next
-
-  -- so many times; once the line is done nothing more does
-  unfoldable pub goes_on_for : ℕ → Deck N → Deck N
-  goes_on_for zero d = d
-  goes_on_for (suc count) d = goes_on_for count (goes_on_by d (goes d.course.player.unanswered d.course.player.schedule))
-
-  unfoldable pub goes_out_on : Deck N → Deck N
-  goes_out_on d = goes_on_for (left d.course.player.schedule) d
 
   abbrev pub opens_on_for : Deck N → Work → Option NodeId → Deck N
   opens_on_for d work None = on_course (λ c. tells c work) d
@@ -303,12 +281,21 @@ module _ {N : Type 0} (step : N → Do → NodeStep N) (shelf_of : N → Option 
   unfoldable pub opens_on : Deck N → Work → Deck N
   opens_on d work = opens_on_for d work (actor_of work)
 
-  unfoldable pub plays_line_on : Deck N → Line → Deck N
-  plays_line_on d line = goes_out_on (opens_on d line.work)
+  -- how it goes by the schedule
+  abbrev pub manner_on : Manner (Deck N)
+  manner_on = record {
+    schedule = λ d. d.course.player.schedule;
+    with_schedule = λ d schedule. on_course (λ c. with_player c (with_schedule c.player schedule)) d;
+    unanswered = λ d. d.course.player.unanswered;
+    cluster = λ d. d.course.player.world.cluster;
+    delivered = delivered_on;
+    ticks = ticks_on;
+    opens = opens_on;
+  }
 
   -- the play of a script, line by line
   unfoldable pub played_on : (NodeId → Setup → List Work → N) → Script → Deck N
-  played_on first script = fold plays_line_on (starts_on first script) script.lines
+  played_on first script = fold (plays_line manner_on) (starts_on first script) script.lines
 
   -- the run that a script determines, with servers that stop, and the world in which it ends
   abbrev pub disk_estate_of : (NodeId → Setup → List Work → N) → Script → Estate N

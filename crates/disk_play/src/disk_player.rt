@@ -1,10 +1,11 @@
 //! Playing a script with servers that stop and keep their disk.
 ghost use Rattle.std.specs.Prelude.{◌≡◌, ◌+◌, ◌<◌, ◌≤◌, ◌^◌, IfOk, MatchOption, OnOk, None, Some};
 ghost use Rattle.node_base.specs.Setups.{IsSetup};
+ghost use Rattle.play.specs.Manner.{comes, goes_out, plays_line, rounded};
 ghost use Rattle.play.specs.Plays.{actors_of};
 ghost use Rattle.world_base.specs.Events.{node_of};
 ghost use Rattle.world_base.specs.Runs.{BeginsAll, MayHappen, begun_in};
-ghost use Rattle.disk_play.specs.Courses.{asked_of, begins_on, comes_on, deck_of, delivered_on, goes_out_on, happens_at, happens_on, opens_on, plays_line_on, played_on, rounded_on, seat_of, shelf_at, starts_on};
+ghost use Rattle.disk_play.specs.Courses.{asked_of, begins_on, deck_of, delivered_on, happens_at, happens_on, manner_on, opens_on, played_on, seat_of, shelf_at, starts_on};
 ghost use Rattle.disk_play.specs.Standing.{GivesOf, Stands};
 
 use crate::Course;
@@ -155,11 +156,11 @@ impl<N: Shelved> DiskPlayer<N> {
     }
 
     /// Time passes at every node that isn't stopped, in their order.
-    #[tactic(auto, unfolding(crate::specs::Courses::rounded_on))]
+    #[tactic(auto, unfolding(play::specs::Manner::rounded))]
     fn round(&mut self, alloc: Global, script: &Script) -> Mem<()>
         requires setup { IsSetup script.now.setup }
         requires stands { Stands N.transition N.first N.shelf_of script.now self.old.course self.old.shelves.items }
-        ensures exact { OnOk result (deck_of self.new.course self.new.shelves.items ≡ rounded_on N.transition N.shelf_of (deck_of self.old.course self.old.shelves.items)) }
+        ensures exact { OnOk result (deck_of self.new.course self.new.shelves.items ≡ rounded (manner_on N.transition N.shelf_of) (deck_of self.old.course self.old.shelves.items)) }
         ensures stands { OnOk result (Stands N.transition N.first N.shelf_of script.now self.new.course self.new.shelves.items) }
         ensures no_more { OnOk result (self.new.course.player.unanswered ≤ self.old.course.player.unanswered) }
     {
@@ -174,7 +175,7 @@ impl<N: Shelved> DiskPlayer<N> {
     fn come(&mut self, alloc: Global, script: &Script, next: Next) -> Mem<()>
         requires setup { IsSetup script.now.setup }
         requires stands { Stands N.transition N.first N.shelf_of script.now self.old.course self.old.shelves.items }
-        ensures exact { OnOk result (deck_of self.new.course self.new.shelves.items ≡ comes_on N.transition N.shelf_of (deck_of self.old.course self.old.shelves.items) next) }
+        ensures exact { OnOk result (deck_of self.new.course self.new.shelves.items ≡ comes (manner_on N.transition N.shelf_of) (deck_of self.old.course self.old.shelves.items) next) }
         ensures stands { OnOk result (Stands N.transition N.first N.shelf_of script.now self.new.course self.new.shelves.items) }
         ensures no_more { OnOk result (self.new.course.player.unanswered ≤ self.old.course.player.unanswered) }
     {
@@ -186,11 +187,11 @@ impl<N: Shelved> DiskPlayer<N> {
     }
 
     /// All that the schedule says happens for the line in hand.
-    #[tactic(auto, unfolding(crate::specs::Courses::goes_out_on))]
+    #[tactic(auto, unfolding(play::specs::Manner::goes_out))]
     fn go(&mut self, alloc: Global, script: &Script) -> Mem<()>
         requires setup { IsSetup script.now.setup }
         requires stands { Stands N.transition N.first N.shelf_of script.now self.old.course self.old.shelves.items }
-        ensures exact { OnOk result (deck_of self.new.course self.new.shelves.items ≡ goes_out_on N.transition N.shelf_of (deck_of self.old.course self.old.shelves.items)) }
+        ensures exact { OnOk result (deck_of self.new.course self.new.shelves.items ≡ goes_out (manner_on N.transition N.shelf_of) (deck_of self.old.course self.old.shelves.items)) }
         ensures stands { OnOk result (Stands N.transition N.first N.shelf_of script.now self.new.course self.new.shelves.items) }
         ensures no_more { OnOk result (self.new.course.player.unanswered ≤ self.old.course.player.unanswered) }
     {
@@ -227,12 +228,12 @@ impl<N: Shelved> DiskPlayer<N> {
     }
 
     /// Plays a line.
-    #[tactic(auto, unfolding(crate::specs::Courses::plays_line_on))]
+    #[tactic(auto, unfolding(play::specs::Manner::plays_line))]
     fn line(&mut self, alloc: Global, script: &Script, line: &Line) -> Mem<()>
         requires setup { IsSetup script.now.setup }
         requires stands { Stands N.transition N.first N.shelf_of script.now self.old.course self.old.shelves.items }
         requires room { self.old.course.player.unanswered + 1 < 2 ^ 64 }
-        ensures exact { OnOk result (deck_of self.new.course self.new.shelves.items ≡ plays_line_on N.transition N.shelf_of (deck_of self.old.course self.old.shelves.items) line.now) }
+        ensures exact { OnOk result (deck_of self.new.course self.new.shelves.items ≡ plays_line (manner_on N.transition N.shelf_of) (deck_of self.old.course self.old.shelves.items) line.now) }
         ensures stands { OnOk result (Stands N.transition N.first N.shelf_of script.now self.new.course self.new.shelves.items) }
         ensures one_more { OnOk result (self.new.course.player.unanswered ≤ self.old.course.player.unanswered + 1) }
     {

@@ -1,5 +1,5 @@
 -- A play begins each item once, at its line, and leaves none out.
-use Rattle.std.proofs.Common.{◌≡◌, refl, ap, sym, ◌∙◌, ℕ, zero, suc, ◌+◌, true, false, cond, List, [], ◌∷◌, ◌++◌, length, filter, Option, Some, None, fold, slice_get, append_assoc, append-nil, arith}
+use Rattle.std.proofs.Common.{◌≡◌, refl, ap, sym, ◌∙◌, ℕ, ◌+◌, true, false, cond, List, [], ◌∷◌, ◌++◌, length, filter, Option, Some, None, fold, slice_get, append_assoc, append-nil, arith}
 use Rattle.std.specs.List.{cons_option}
 use Rattle.script_text.specs.declared.script.Line.{Line}
 use Rattle.script_text.specs.declared.script.Script.{Script}
@@ -12,15 +12,12 @@ use Rattle.xfs_base.specs.declared.setup.Setup.{Setup}
 use Rattle.xfs_base.specs.Nodes.{same_node}
 use Rattle.world_base.specs.declared.event.Event.{Event}
 use Rattle.world_base.specs.declared.event.Event.TheVariants as events
-use Rattle.world_base.specs.declared.schedule.Next.{Next}
-use Rattle.world_base.specs.declared.schedule.Next.TheVariants.{Deliver, Round, Done}
-use Rattle.world_base.specs.Cluster.{nodes_of}
 use Rattle.world_base.specs.Items.{actor_of, is_for, is_for_actor, items_of, works_of}
 use Rattle.world_base.specs.Runs.{BeginsAll, begun_in}
-use Rattle.world_base.specs.Schedule.{goes, left}
 use Rattle.play.specs.declared.player.Player.{Player}
-use Rattle.play.specs.Plays.{actors_of, begins, comes, delivered, goes_by, goes_on, goes_out, happens, opens, opens_for, played, plays_line, rounded, starts, ticks, with_one_more, with_schedule}
+use Rattle.play.specs.Plays.{actors_of, begins, delivered, happens, manner_of, opens, opens_for, played, plays_line, starts, ticks, with_one_more}
 use Rattle.play.specs.Plays as plays
+use Rattle.play.proofs.Manners.{line_good}
 
 pub more_begun : (es fs : List Event) → begun_in (es ++ fs) ≡ begun_in es ++ begun_in fs
 more_begun [] fs = refl
@@ -41,26 +38,13 @@ module _ {N : Type 0} (step : N → Do → NodeStep N) where
   unfolding ticks
   tick_begins p node = happens_begins p (events.Tick node) ∙ append-nil (begun_by p)
 
-  ticks_begin : (p : Player N) (nodes : List NodeId) → begun_by (fold (ticks step) p nodes) ≡ begun_by p
-  ticks_begin p [] = refl
-  ticks_begin p (n ∷ nodes) = ticks_begin (ticks step p n) nodes ∙ tick_begins p n
-
   delivers_begins : (p : Player N) (number : ℕ) (packet : Option Packet) → begun_by (plays.delivers step p number packet) ≡ begun_by p
   delivers_begins p number None = refl
   delivers_begins p number (Some packet) = happens_begins p (events.Deliver packet) ∙ append-nil (begun_by p)
 
-  comes_begins : (p : Player N) (next : Next) → begun_by (comes step p next) ≡ begun_by p
-  unfolding delivered rounded
-  comes_begins p (Deliver number) = delivers_begins p number (slice_get p.world.sent number)
-  comes_begins p Round = ticks_begin p (nodes_of p.world.cluster)
-  comes_begins p Done = refl
-
-  goes_on_begins : (count : ℕ) (p : Player N) → begun_by (goes_on step count p) ≡ begun_by p
-  unfolding goes_on
-  goes_on_begins zero p = refl
-  goes_on_begins (suc count) p =
-      let going = goes p.unanswered p.schedule in
-      goes_on_begins count (goes_by step p going) ∙ comes_begins (with_schedule p going.state) going.next
+  delivery_begins : (p : Player N) (number : ℕ) → begun_by (delivered step p number) ≡ begun_by p
+  unfolding delivered
+  delivery_begins p number = delivers_begins p number (slice_get p.world.sent number)
 
   -- a line begins the item that it is
   opens_begins : (p : Player N) (work : Work) (actor : Option NodeId) (rest : List NodeId)
@@ -72,10 +56,12 @@ module _ {N : Type 0} (step : N → Do → NodeStep N) where
 
   line_begins : (p : Player N) (line : Line) (rest : List NodeId)
       → begun_by (plays_line step p line) ++ rest ≡ begun_by p ++ cons_option (actor_of line.work) rest
-  unfolding plays_line opens goes_out
+  unfolding opens
   line_begins p line rest =
       let q = opens_for step p line.work (actor_of line.work) in
-      ap (λ nodes. nodes ++ rest) (goes_on_begins (left q.schedule) q) ∙ opens_begins p line.work (actor_of line.work) rest
+      let played = line_good (manner_of step) (λ r. begun_by r ≡ begun_by q) (λ r s same. same) (λ r number same. delivery_begins r number ∙ same)
+      (λ r node same. tick_begins r node ∙ same) p line refl in
+      ap (λ nodes. nodes ++ rest) played ∙ opens_begins p line.work (actor_of line.work) rest
 
   lines_begin : (p : Player N) (lines : List Line) → begun_by (fold (plays_line step) p lines) ≡ begun_by p ++ actors_of lines
   lines_begin p [] = sym (append-nil (begun_by p))

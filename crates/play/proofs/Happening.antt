@@ -10,7 +10,7 @@ use Rattle.world_base.specs.Events.{event_of, node_of, what_of}
 use Rattle.world_base.specs.NextWorld.{next_world}
 use Rattle.world_base.specs.Schedule.{ScheduleState}
 use Rattle.play.specs.declared.player.Player.{Player}
-use Rattle.play.specs.Plays.{answers, happens, sent_since, ticks}
+use Rattle.play.specs.Plays.{answers, happens, sent_since}
 
 pub same_event : (event : Event) → event_of (node_of event) (what_of event) ≡ event
 same_event (Begin node) = refl
@@ -26,7 +26,3 @@ module _ {N : Type 0} (step : N → Do → NodeStep N) where
       → ◌≡◌ {A = Player N} (record { world = world; events = events; schedule = schedule; unanswered = unanswered }) (happens step p event)
   unfolding happens
   happens_is p event world events schedule unanswered w e s u = rw (e, s, u, w) refl
-
-  pub ticks_is : (p : Player N) (node : NodeId) → happens step p (Tick node) ≡ ticks step p node
-  unfolding ticks
-  ticks_is p node = refl

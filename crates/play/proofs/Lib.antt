@@ -1,4 +1,5 @@
 pub mod EachBegun
 pub mod Happening
 pub mod Left
+pub mod Manners
 pub mod RunOf

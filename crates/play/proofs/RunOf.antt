@@ -1,5 +1,5 @@
 -- The events of a play are a run of its script.
-use Rattle.std.proofs.Common.{◌≡◌, refl, subst, sym, ap, ℕ, zero, suc, List, [], ◌∷◌, ◌++◌, Option, Some, None, fold, slice_get}
+use Rattle.std.proofs.Common.{◌≡◌, refl, subst, sym, ap, ℕ, List, [], ◌∷◌, ◌++◌, Option, Some, None, slice_get}
 use Rattle.script_text.specs.declared.script.Line.{Line}
 use Rattle.script_text.specs.declared.script.Script.{Script}
 use Rattle.version_model.specs.declared.work.Work.{Work}
@@ -10,17 +10,14 @@ use Rattle.xfs_base.specs.declared.node.NodeId.{NodeId}
 use Rattle.xfs_base.specs.declared.setup.Setup.{Setup}
 use Rattle.world_base.specs.declared.event.Event.{Event}
 use Rattle.world_base.specs.declared.event.Event.TheVariants as events
-use Rattle.world_base.specs.declared.schedule.Next.{Next}
-use Rattle.world_base.specs.declared.schedule.Next.TheVariants.{Deliver, Round, Done}
 use Rattle.world_base.specs.declared.world.World.{World}
-use Rattle.world_base.specs.Cluster.{nodes_of}
 use Rattle.world_base.specs.Items.{actor_of}
 use Rattle.world_base.specs.NextWorld.{next_world, start_world}
 use Rattle.world_base.specs.Runs.{IsRun, Leads, MayHappen}
-use Rattle.world_base.specs.Schedule.{goes, left}
 use Rattle.play.specs.declared.player.Player.{Player}
-use Rattle.play.specs.Plays.{begins, comes, delivered, goes_by, goes_on, goes_out, happens, opens, opens_for, played, plays_line, rounded, starts, ticks, with_one_more, with_schedule}
+use Rattle.play.specs.Plays.{begins, delivered, happens, manner_of, opens, opens_for, played, plays_line, starts, ticks, with_one_more}
 use Rattle.play.specs.Plays as plays
+use Rattle.play.proofs.Manners.{all_keep, line_good}
 
 module _ {N : Type 0} (step : N → Do → NodeStep N) (first : World N) where
   -- the events so far lead from the first world to the one that stands
@@ -44,43 +41,29 @@ module _ {N : Type 0} (step : N → Do → NodeStep N) (first : World N) where
   unfolding ticks
   tick_runs p node run = happens_runs p (events.Tick node) tt run
 
-  ticks_run : (p : Player N) (nodes : List NodeId) → HasRun p → HasRun (fold (ticks step) p nodes)
-  ticks_run p [] run = run
-  ticks_run p (n ∷ nodes) run = ticks_run (ticks step p n) nodes (tick_runs p n run)
-
   delivers_runs : (p : Player N) (number : ℕ) (packet : Option Packet) → slice_get p.world.sent number ≡ packet → HasRun p
       → HasRun (plays.delivers step p number packet)
   delivers_runs p number None got run = run
   delivers_runs p number (Some packet) got run = happens_runs p (events.Deliver packet) (number, got) run
 
-  comes_runs : (p : Player N) (next : Next) → HasRun p → HasRun (comes step p next)
-  unfolding delivered rounded
-  comes_runs p (Deliver number) run = delivers_runs p number (slice_get p.world.sent number) refl run
-  comes_runs p Round run = ticks_run p (nodes_of p.world.cluster) run
-  comes_runs p Done run = run
+  delivery_runs : (p : Player N) (number : ℕ) → HasRun p → HasRun (delivered step p number)
+  unfolding delivered
+  delivery_runs p number run = delivers_runs p number (slice_get p.world.sent number) refl run
 
-  goes_on_runs : (count : ℕ) (p : Player N) → HasRun p → HasRun (goes_on step count p)
-  unfolding goes_on
-  goes_on_runs zero p run = run
-  goes_on_runs (suc count) p run =
-      let going = goes p.unanswered p.schedule in
-      goes_on_runs count (goes_by step p going) (comes_runs (with_schedule p going.state) going.next run)
+  opens_for_runs : (p : Player N) (work : Work) (actor : Option NodeId) → HasRun p → HasRun (opens_for step p work actor)
+  opens_for_runs p work None run = run
+  opens_for_runs p work (Some node) run = begins_runs p node run
 
-  opens_runs : (p : Player N) (work : Work) (actor : Option NodeId) → HasRun p → HasRun (opens_for step p work actor)
-  opens_runs p work None run = run
-  opens_runs p work (Some node) run = begins_runs p node run
+  opens_runs : (p : Player N) (work : Work) → HasRun p → HasRun (opens step p work)
+  unfolding opens
+  opens_runs p work run = opens_for_runs p work (actor_of work) run
 
   line_runs : (p : Player N) (line : Line) → HasRun p → HasRun (plays_line step p line)
-  unfolding plays_line opens goes_out
-  line_runs p line run =
-      let q = opens_for step p line.work (actor_of line.work) in
-      goes_on_runs (left q.schedule) q (opens_runs p line.work (actor_of line.work) run)
-
-  lines_run : (p : Player N) (lines : List Line) → HasRun p → HasRun (fold (plays_line step) p lines)
-  lines_run p [] run = run
-  lines_run p (l ∷ lines) run = lines_run (plays_line step p l) lines (line_runs p l run)
+  line_runs p line run = line_good (manner_of step) HasRun (λ q s led. led) delivery_runs tick_runs p line (opens_runs p line.work run)
 
 pub play_runs : {N : Type 0} (step : N → Do → NodeStep N) (first : NodeId → Setup → List Work → N) (script : Script)
     → IsRun step first script (played step first script).events (played step first script).world
 unfolding played
-play_runs step first script = lines_run step (start_world first script) (starts first script) script.lines refl
+play_runs step first script =
+    let start = start_world first script in
+    all_keep (plays_line step) (HasRun step start) (line_runs step start) (starts first script) script.lines refl

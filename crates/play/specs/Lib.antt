@@ -1,1 +1,3 @@
+pub mod Lawful
+pub mod Manner
 pub mod Plays

@@ -1,6 +1,6 @@
 -- The play of a script on one thread: a function of the script. Each item is begun at its line, and the schedule says what
 -- happens after it. How a node takes an event is its transition.
-use Rattle.std.specs.Prelude.{ℕ, zero, suc, ◌+◌, ◌-◌, Bool, true, false, List, [], ◌∷◌, ◌++◌, length, drop, slice_get, Option, Some, None}
+use Rattle.std.specs.Prelude.{ℕ, ◌+◌, ◌-◌, Bool, true, false, List, [], ◌∷◌, ◌++◌, length, drop, slice_get, Option, Some, None}
 use Rattle.std.specs.List.{count_by, filter_map, fold, range_with_len}
 use Rattle.script_text.specs.declared.script.Line.{Line}
 use Rattle.script_text.specs.declared.script.Script.{Script}
@@ -15,14 +15,13 @@ use Rattle.xfs_base.specs.declared.setup.Setup.{Setup}
 use Rattle.world_base.specs.declared.estate.Estate.{Estate}
 use Rattle.world_base.specs.declared.event.Event.{Event}
 use Rattle.world_base.specs.declared.event.Event.TheVariants.{Begin, Deliver, Tick}
-use Rattle.world_base.specs.declared.schedule.Next.{Next}
-use Rattle.world_base.specs.declared.schedule.Next.TheVariants as next
 use Rattle.world_base.specs.declared.world.World.{World}
-use Rattle.world_base.specs.Cluster.{nodes_of}
 use Rattle.world_base.specs.Items.{actor_of}
 use Rattle.world_base.specs.NextWorld.{next_world, start_world}
-use Rattle.world_base.specs.Schedule.{Going, ScheduleState, goes, item_begun, left, repeated, sent, started, told}
+use Rattle.world_base.specs.Schedule.{Going, ScheduleState, item_begun, repeated, sent, started, told}
 use Rattle.play.specs.declared.player.Player.{Player}
+use Rattle.play.specs.Manner.{Manner}
+use Rattle.play.specs.Manner as manners
 
 abbrev pub is_answer : Act → Bool
 is_answer (acts.Answered node item answer) = true
@@ -84,28 +83,6 @@ module _ {N : Type 0} (step : N → Do → NodeStep N) where
   unfoldable pub ticks : Player N → NodeId → Player N
   ticks p node = happens p (Tick node)
 
-  -- time passes at every node, in their order
-  unfoldable pub rounded : Player N → Player N
-  rounded p = fold ticks p (nodes_of p.world.cluster)
-
-  -- what comes next happens
-  abbrev pub comes : Player N → Next → Player N
-  comes p (next.Deliver number) = delivered p number
-  comes p next.Round = rounded p
-  comes p next.Done = p
-
-  abbrev pub goes_by : Player N → Going → Player N
-  goes_by p going = comes (with_schedule p going.state) going.next
-
-  -- what the schedule says comes next happens, so many times; once the line is done nothing more does
-  unfoldable pub goes_on : ℕ → Player N → Player N
-  goes_on zero p = p
-  goes_on (suc count) p = goes_on count (goes_by p (goes p.unanswered p.schedule))
-
-  -- all that the schedule says happens for the line in hand
-  unfoldable pub goes_out : Player N → Player N
-  goes_out p = goes_on (left p.schedule) p
-
   abbrev pub opens_for : Player N → Work → Option NodeId → Player N
   opens_for p work None = told_of p work
   opens_for p work (Some node) = begins p node
@@ -114,8 +91,32 @@ module _ {N : Type 0} (step : N → Do → NodeStep N) where
   unfoldable pub opens : Player N → Work → Player N
   opens p work = opens_for p work (actor_of work)
 
-  unfoldable pub plays_line : Player N → Line → Player N
-  plays_line p line = goes_out (opens p line.work)
+  -- how it goes by the schedule
+  abbrev pub manner_of : Manner (Player N)
+  manner_of = record {
+    schedule = λ p. p.schedule;
+    with_schedule = with_schedule;
+    unanswered = λ p. p.unanswered;
+    cluster = λ p. p.world.cluster;
+    delivered = delivered;
+    ticks = ticks;
+    opens = opens;
+  }
+
+  abbrev pub rounded : Player N → Player N
+  rounded p = manners.rounded manner_of p
+
+  abbrev pub goes_by : Player N → Going → Player N
+  goes_by p going = manners.goes_by manner_of p going
+
+  abbrev pub goes_on : ℕ → Player N → Player N
+  goes_on count p = manners.goes_on manner_of count p
+
+  abbrev pub goes_out : Player N → Player N
+  goes_out p = manners.goes_out manner_of p
+
+  abbrev pub plays_line : Player N → Line → Player N
+  plays_line p line = manners.plays_line manner_of p line
 
 -- the play before the first line
 abbrev pub starts : {N : Type 0} → (NodeId → Setup → List Work → N) → Script → Player N

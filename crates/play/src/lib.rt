@@ -4,6 +4,8 @@
 
 mod one_thread;
 mod player;
+mod playing;
 
 pub use one_thread::play;
 pub use player::{Player, answers_since, send_since};
+pub use playing::{Playing, play_lines};

@@ -2,12 +2,13 @@
 ghost use Rattle.std.specs.Prelude.{◌≡◌, ◌+◌, ◌<◌, ◌≤◌, ◌^◌, drop, IfOk, OnOk};
 ghost use Rattle.world_base.specs.Runs.{BeginsAll, IsRun, begun_in};
 ghost use Rattle.node_base.specs.Setups.{IsSetup};
-ghost use Rattle.play.specs.Plays.{actors_of, answers, is_answer, sent_since, happens, begins, comes, delivered, goes_out, opens, plays_line, rounded, starts, played};
+ghost use Rattle.play.specs.Plays.{actors_of, answers, is_answer, sent_since, happens, begins, starts, played};
 
-use script_text::{Line, Script};
+use crate::playing::{Playing, play_lines};
+use script_text::Script;
 use std::alloc::Global;
 use version_model::{Act, Work};
-use world_base::{Event, Member, Next, Schedule, World, actor_of};
+use world_base::{Cluster, Event, Member, Next, Schedule, World, actor_of};
 use xfs_base::{List, Mem, NodeId};
 
 /// A play in progress.
@@ -140,87 +141,6 @@ impl<N: Member> Player<N> {
         Ok(())
     }
 
-    /// The packet of this number is delivered.
-    #[tactic(auto, unfolding(crate::specs::Plays::delivered))]
-    fn deliver(&mut self, alloc: Global, number: usize) -> Mem<()>
-        ensures exact { OnOk result (self.new ≡ delivered N.transition self.old number) }
-        ensures no_more { OnOk result (self.new.unanswered ≤ self.old.unanswered) }
-    {
-        let packet = match self.world.sent.get(number) {
-            Some(packet) => packet.copy(alloc)?,
-            None => return Ok(()),
-        };
-        self.happen(alloc, Event::Deliver(packet))?;
-        self.schedule.delivered(number)
-    }
-
-    /// Time passes at every node, in their order.
-    #[tactic(auto, unfolding(crate::specs::Plays::rounded))]
-    fn round(&mut self, alloc: Global) -> Mem<()>
-        ensures exact { OnOk result (self.new ≡ rounded N.transition self.old) }
-        ensures no_more { OnOk result (self.new.unanswered ≤ self.old.unanswered) }
-    {
-        let cluster = self.world.cluster;
-        for place in 0..cluster.count() {
-            self.happen(alloc, Event::Tick(cluster.node_at(place)))?;
-        }
-        Ok(())
-    }
-
-    /// What comes next happens.
-    fn come(&mut self, alloc: Global, next: Next) -> Mem<()>
-        ensures exact { OnOk result (self.new ≡ comes N.transition self.old next) }
-        ensures no_more { OnOk result (self.new.unanswered ≤ self.old.unanswered) }
-    {
-        match next {
-            Next::Deliver(number) => self.deliver(alloc, number),
-            Next::Round => self.round(alloc),
-            Next::Done => Ok(()),
-        }
-    }
-
-    /// All that the schedule says happens for the line in hand.
-    #[tactic(auto, unfolding(crate::specs::Plays::goes_out))]
-    fn go(&mut self, alloc: Global) -> Mem<()>
-        ensures exact { OnOk result (self.new ≡ goes_out N.transition self.old) }
-        ensures no_more { OnOk result (self.new.unanswered ≤ self.old.unanswered) }
-    {
-        loop {
-            let next = self.schedule.next(self.unanswered);
-            if next.is_done() {
-                return Ok(());
-            }
-            self.come(alloc, next)?;
-        }
-    }
-
-    /// Begins what a line asks for, or tells the schedule of it.
-    #[tactic(auto, unfolding(crate::specs::Plays::opens))]
-    fn open(&mut self, alloc: Global, work: &Work) -> Mem<()>
-        requires { self.old.unanswered + 1 < 2 ^ 64 }
-        ensures exact { OnOk result (self.new ≡ opens N.transition self.old work.now) }
-        ensures one_more { OnOk result (self.new.unanswered ≤ self.old.unanswered + 1) }
-    {
-        match actor_of(work) {
-            Some(node) => self.begin(alloc, node),
-            None => {
-                self.schedule.take(work, self.unanswered);
-                Ok(())
-            }
-        }
-    }
-
-    /// Plays a line.
-    #[tactic(auto, unfolding(crate::specs::Plays::plays_line))]
-    fn line(&mut self, alloc: Global, line: &Line) -> Mem<()>
-        requires { self.old.unanswered + 1 < 2 ^ 64 }
-        ensures exact { OnOk result (self.new ≡ plays_line N.transition self.old line.now) }
-        ensures one_more { OnOk result (self.new.unanswered ≤ self.old.unanswered + 1) }
-    {
-        self.open(alloc, &line.work)?;
-        self.go(alloc)
-    }
-
     /// Plays all lines of a script.
     #[tactic(auto, unfolding(crate::specs::Plays::played))]
     fn lines(alloc: Global, script: &Script) -> Mem<Player<N>>
@@ -228,9 +148,7 @@ impl<N: Member> Player<N> {
         ensures { IfOk result (λ player. player ≡ played N.transition N.first script.now) }
     {
         let mut player = Player::start(alloc, script)?;
-        for line in script.lines.as_slice() {
-            player.line(alloc, line)?;
-        }
+        play_lines(alloc, &mut player, script)?;
         Ok(player)
     }
 
@@ -245,4 +163,48 @@ impl<N: Member> Player<N> {
         let player = Player::lines(alloc, script)?;
         Ok(player)
     }
+}
+
+impl<N: Member> Playing for Player<N> {
+    ghost use Rattle.play.specs.Plays.{manner_of};
+    ghost use Rattle.play.specs.Lawful.{lawful as player_lawful};
+
+    ghost manner = { manner_of N.transition };
+
+    fn cluster(&self) -> Cluster {
+        self.world.cluster
+    }
+
+    fn what_next(&mut self) -> Next {
+        self.schedule.next(self.unanswered)
+    }
+
+    #[tactic(auto, unfolding(crate::specs::Plays::delivered))]
+    fn deliver(&mut self, alloc: Global, number: usize) -> Mem<()> {
+        let packet = match self.world.sent.get(number) {
+            Some(packet) => packet.copy(alloc)?,
+            None => return Ok(()),
+        };
+        self.happen(alloc, Event::Deliver(packet))?;
+        self.schedule.delivered(number)
+    }
+
+    #[tactic(auto, unfolding(crate::specs::Plays::ticks))]
+    fn tick(&mut self, alloc: Global, node: NodeId) -> Mem<()> {
+        self.happen(alloc, Event::Tick(node))
+    }
+
+    /// Begins what a line asks for, or tells the schedule of it.
+    #[tactic(auto, unfolding(crate::specs::Plays::opens))]
+    fn open(&mut self, alloc: Global, work: &Work) -> Mem<()> {
+        match actor_of(work) {
+            Some(node) => self.begin(alloc, node),
+            None => {
+                self.schedule.take(work, self.unanswered);
+                Ok(())
+            }
+        }
+    }
+
+    ghost lawful = { player_lawful N.transition };
 }

@@ -7,6 +7,7 @@ use Rattle.std.proofs.lemmas.Option.{get_or_from_slice_get, slice_get_within}
 use Rattle.std.proofs.Math.Seq.{drop-append_seam}
 use Rattle.node_base.specs.Nodes.{has_node, peers_of}
 use Rattle.play.specs.declared.player.Player.{Player}
+use Rattle.play.specs.Manner as manner
 use Rattle.play.specs.Plays.{answers, delivered, goes_by, goes_on, sent_since, with_event, with_schedule}
 use Rattle.play.specs.Plays as plays
 use Rattle.version_model.specs.declared.act.Act.{Act}
@@ -150,7 +151,7 @@ module _ {N : Type 0} (step : N → Do → NodeStep N) (is_blind : IsBlind step)
     pub sends : length after.world.sent ≡ length p.world.sent + length (delivers step setup t packet).outs
 
   next_on : (p q : Player N) → goes_by step p (goes p.unanswered p.schedule) ≡ q → (more : ℕ) → goes_on step (suc more) p ≡ goes_on step more q
-  unfolding goes_on
+  unfolding manner.goes_on
   next_on p q is more = ap (goes_on step more) is
 
   module _ (setup : Setup) (p : Player N) (t : Stage N) (packet : Packet) (waiting : List Packet) (shows : Shows setup p t (packet ∷ waiting))

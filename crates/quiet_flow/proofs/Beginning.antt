@@ -1,6 +1,7 @@
 -- A line begins an item of a node: the play shows the stage after the begin, and the schedule lets the packets be delivered.
 use Rattle.std.proofs.Common.{◌≡◌, ℕ, ◌+◌, ◌*◌, ◌^◌, ◌<◌, ◌≤◌, [], ◌∷◌, ◌++◌, length, Some, refl, ap, ◌∙◌, arith}
 use Rattle.play.specs.declared.player.Player.{Player}
+use Rattle.play.specs.Manner as manner
 use Rattle.play.specs.Plays.{begins, goes_out, item_told, opens, plays_line, with_one_more, with_schedule}
 use Rattle.play.specs.Plays as plays
 use Rattle.script_text.specs.declared.script.Line.{Line}
@@ -67,7 +68,7 @@ module _ {N : Type 0} (step : N → Do → NodeStep N) (setup : Setup) (p : Play
     told_is = ap (with_schedule begun) schedule_is
 
     starts_so : plays_line step p line ≡ goes_out step first
-    unfolding plays_line opens begins
+    unfolding manner.plays_line opens begins
     starts_so = ap (λ o. goes_out step (plays.opens_for step p line.work o)) actor ∙ ap (goes_out step) told_is
 
     pub starts_line : Started

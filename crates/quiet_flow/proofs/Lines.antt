@@ -4,9 +4,11 @@ use Rattle.std.proofs.Common.{◌≡◌, ℕ, suc, ◌+◌, ◌^◌, ◌<◌, �
 use Rattle.std.specs.List.{count_by}
 use Rattle.std.proofs.lemmas.List.{length-map}
 use Rattle.std.proofs.lemmas.List.Elements.{filter_map-append}
-use Rattle.play.proofs.Left.{goes_on_done}
+use Rattle.play.proofs.Manners.{goes_on_done}
 use Rattle.play.specs.declared.player.Player.{Player}
-use Rattle.play.specs.Plays.{goes_on, goes_out, plays_line}
+use Rattle.play.specs.Lawful.{lawful}
+use Rattle.play.specs.Manner as manner
+use Rattle.play.specs.Plays.{goes_on, goes_out, manner_of, plays_line}
 use Rattle.script_text.specs.declared.script.Line.{Line}
 use Rattle.wire_msg.specs.declared.packet.Do.{Do}
 use Rattle.wire_msg.specs.declared.packet.Packet.{Packet}
@@ -116,13 +118,13 @@ module _ {N : Type 0} (step : N → Do → NodeStep N) (is_blind : IsBlind step)
       fuel a b c m h = omega arith
 
       goes_is : goes_out step start.first ≡ rest.after
-      unfolding goes_out
+      unfolding manner.goes_out
       goes_is =
           let first = start.first in
           let over_left = rest.after.schedule.deliveries + first.schedule.rounds in
           ap (λ k. goes_on step k first) (fuel rest.after.schedule.deliveries (length rest.packets) first.schedule.deliveries first.schedule.rounds rest.left)
           ∙ rest.goes over_left
-          ∙ goes_on_done step rest.after (over rest.after end rest.shows answered) over_left
+          ∙ goes_on_done (manner_of step) (lawful step) rest.after (over rest.after end rest.shows answered) over_left
 
       pub line_ends : LineEnds step setup p node line n end
       line_ends =
@@ -197,7 +199,7 @@ module _ {N : Type 0} (step : N → Do → NodeStep N) (is_blind : IsBlind step)
           follows step is_blind setup n ticked.after (rounds step setup mid).state (rounds step setup mid).outs end ticked.shows_round again (omega arith) (omega arith)
 
       all_is : goes_out step opening.first ≡ behind.after
-      unfolding goes_out
+      unfolding manner.goes_out
       all_is =
           let first = opening.first in
           let over_left = behind.after.schedule.deliveries + behind.after.schedule.rounds in
@@ -205,7 +207,7 @@ module _ {N : Type 0} (step : N → Do → NodeStep N) (is_blind : IsBlind step)
           ∙ before.goes (suc (length behind.packets + over_left))
           ∙ ticked.goes (length behind.packets + over_left)
           ∙ behind.goes over_left
-          ∙ goes_on_done step behind.after (over behind.after end behind.shows answered) over_left
+          ∙ goes_on_done (manner_of step) (lawful step) behind.after (over behind.after end behind.shows answered) over_left
         where
           fuel_is : opening.first.schedule.deliveries + opening.first.schedule.rounds
               ≡ length before.packets + suc (length behind.packets + (behind.after.schedule.deliveries + behind.after.schedule.rounds))

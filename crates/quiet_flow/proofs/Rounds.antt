@@ -3,6 +3,7 @@ use Rattle.std.proofs.Common.{◌≡◌, ℕ, zero, suc, ◌+◌, ◌-◌, ◌^�
 use Rattle.std.specs.List.{AllByRecursion, range_with_len}
 use Rattle.std.proofs.lemmas.Bool.Decides.{nat_tests}
 use Rattle.play.specs.declared.player.Player.{Player}
+use Rattle.play.specs.Manner as manner
 use Rattle.play.specs.Plays.{goes_by, goes_on, rounded, with_schedule}
 use Rattle.play.specs.Plays as plays
 use Rattle.wire_msg.specs.declared.packet.Do.{Do}
@@ -97,7 +98,7 @@ module _ {N : Type 0} (step : N → Do → NodeStep N) (is_blind : IsBlind step)
         rw (nothing_waits, waits) refl
 
     rounded_is : goes_by step p (goes p.unanswered p.schedule) ≡ fold (plays.ticks step) before everyone
-    unfolding rounded
+    unfolding manner.rounded
     rounded_is = ap (goes_by step p) round_is_next ∙ ap (λ c. fold (plays.ticks step) before (nodes_of c)) shows.cluster
 
     before_shows : Shows setup before t []
@@ -116,7 +117,7 @@ module _ {N : Type 0} (step : N → Do → NodeStep N) (is_blind : IsBlind step)
       pub sends : length after.world.sent ≡ length p.world.sent + length (rounds step setup t).outs
 
     next_on : (q : Player N) → goes_by step p (goes p.unanswered p.schedule) ≡ q → (more : ℕ) → goes_on step (suc more) p ≡ goes_on step more q
-    unfolding goes_on
+    unfolding manner.goes_on
     next_on q is more = ap (goes_on step more) is
 
     pub round_follows : Rounded

@@ -1,9 +1,0 @@
-use Rattle.std.proofs.Common.{◌≡◌, ◌≤◌, fold, drop}
-use Rattle.play.specs.Plays.{plays_line, played}
-use Rattle.play.proofs.player.Player.lines.Given as goal
-
--- the lines so far and those to come are all
-abbrev pub invariant-loop-line : goal.invariant-loop-line
-invariant-loop-line g l =
-    (fold (plays_line g.N.Actor.transition) l.player (drop l.line-index l.script.lines) ≡ played g.N.Actor.transition g.N.Member.first l.script)
-    × (l.player.unanswered ≤ l.line-index)
