@@ -314,6 +314,7 @@ module _ (setup : Setup) (works : NodeId → List Work) (c v clock index generat
   packet = record { from = Server v; to = Client c; clock = clock; body = body.Stored (record { name = name; index = index; generation = generation }) }
 
   packet_settles : on_packet (serving_at setup works c p) packet ≡ record { state = serving_at setup works c settled_part; outs = its_told }
+  unfolding on_packet
   packet_settles =
       stored_settles setup works c v index generation name p f flies its lands empty settled_part its_told
       (settles_so setup works c landed_part its_end (rows_of f.segment) newer none)

@@ -149,7 +149,7 @@ module _ (law : Below) (base : Setting) (e : Estate AnyNode) (lines : HasLines b
         → IsAskable b (place_in seg item)
     askable b item lies =
         let p = least_promised law.tokens.horizons_stay part (held_in part texts.text) first n of_eight runs joint.idx.registry joint.index_stands.registry
-            seg.name.log.0
+        seg.name.log.0
         its_nine.0 its_nine.1 in
         let low : seg.name.seq < least_horizon seg.name.log.0 (all_news joint.idx.registry.board) =
         below base e lines texts part first count law.logs.what_is_listed_flew ours law.logs.what_flew_is_written joint reached seg f drop in
@@ -182,7 +182,7 @@ module _ (law : Below) (base : Setting) (e : Estate AnyNode) (lines : HasLines b
     checked_may j checks premise =
         all_may checks
         (λ there. law.reads.checks_are_of_rows part (held_in part texts.text) first n j seg checks runs (λ l q low high some limit. (joint.tells l q some
-            limit).plain)
+        limit).plain)
         (all_named n.filed joint.tells) premise there (grouped there))
 
     -- and what it reads
@@ -201,7 +201,7 @@ module _ (law : Below) (base : Setting) (e : Estate AnyNode) (lines : HasLines b
         by false alive =
             all_may (checks_from 0 s.items)
             (λ there. law.reads.checks_are_of_rows part (held_in part texts.text) first (with_job n (transition n.job (input.Read (Some s)))) j seg
-                (checks_from 0 s.items)
+            (checks_from 0 s.items)
             (On runs (JobReads (Some s) owed)) (λ l q low high some limit. (joint.tells l q some limit).plain) (all_named n.filed joint.tells)
             (then_checks n.job j seg s premise passes alive) there (grouped there))
 
@@ -220,7 +220,7 @@ module _ (law : Below) (base : Setting) (e : Estate AnyNode) (lines : HasLines b
     drops p premise r there =
         subst (JobPhaseSeen (setting base e r) (log_at base e lines texts part first r there count)) premise
         (job_seen base e lines texts part first count law.logs.what_is_listed_flew ours law.logs.what_flew_is_written joint reached node here v serves job
-            has r there)
+        has r there)
 
     met : (p : Phase) → job.cleaning.phase ≡ p → PhaseMet (listed_in sent Cleaner) p
     met p premise = subst (PhaseMet (listed_in sent Cleaner)) premise about.about

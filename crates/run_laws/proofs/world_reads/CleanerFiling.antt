@@ -100,7 +100,7 @@ module _ (below : Below) (base : Setting) (e : Estate AnyNode) (lines : HasLines
       → FilesOwed (NewFor part texts.text joint.idx.net node.phase) texts.text 9 joint.idx.net.filed outs
   owed room says new =
       below.lines.cleaners_files_are_owed part texts.text joint.idx.net node.phase g x.net joint.idx.net.filed outs (sure_at base e lines texts part first
-          (suc count) sure)
+      (suc count) sure)
       (record { filed = acts_filed; short = room }) says
       (all_new (NewFor part texts.text joint.idx.net node.phase) texts.text 9 (joint.idx.net.filed.head 9) (λ name. In name x.net.filed) new joint.idx.net.filed
       outs (omega arith) acts_filed)
@@ -178,7 +178,7 @@ module _ (below : Below) (base : Setting) (e : Estate AnyNode) (lines : HasLines
         name filed) outs acts_filed))
         (all_then (λ name. In name x.net.filed) (λ name. SaysBlocks (texts.text name))
         (adopted_says below.logs.a_restart_files_the_tail texts.text g w.net x.net refl apart (its_moment base e lines texts part first count) ends.happens
-            calm_so restarts
+        calm_so restarts
         (texts.flown OfCleaner tt (suc count)) flew_says filed_before) outs acts_filed)
         (λ f name filed beyond. subst (λ (p : cleaning.Phase). NewFor part texts.text joint.idx.net p f (texts.text name)) (sym opens)
         (adopted_moves below.logs.a_restart_files_the_tail texts.text part joint.idx.net.sent g w.net x.net refl apart

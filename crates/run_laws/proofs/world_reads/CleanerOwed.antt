@@ -144,7 +144,7 @@ module _ (law : Below) (base : Setting) (e : Estate AnyNode) (lines : HasLines b
     away_then : (r : cleaning.Phase) → q ≡ r → is_serving x.net.owner ≡ false → x.net.filed ≡ w.net.filed
     away_then r fact away =
         never_files law.logs.nothing_filed_opening g w.net x.net (its_moment base e lines texts part first count) ((its_line base e lines texts part
-            first).goes count)
+        first).goes count)
         (beside.straight.never away)
 
     still_down : (l : Lasting) → q ≡ Down l → x.net.filed ≡ w.net.filed
@@ -225,7 +225,7 @@ module _ (law : Below) (base : Setting) (e : Estate AnyNode) (lines : HasLines b
     token_goes =
         let st = joint.tokens_stand in
         let goes = law.tokens.nodes.cleaner false (tokens.members (cluster base e) part) part joint.tok.net.promised (tokens.epoch_now (cluster base e) part
-            joint.tok)
+        joint.tok)
         joint.tok.net beside.of_eight st.cleaner.0 tt false joint.tok.cleaner what st.cleaner.1 (owed what refl) tt tt in
         subst (λ (c : CleanerNode). CleanerGoes part joint.tok.net.promised (tokens.epoch_now (cluster base e) part joint.tok) c.phase
         (takes c.peers c.phase what).state (takes c.peers c.phase what).outs)

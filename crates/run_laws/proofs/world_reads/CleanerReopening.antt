@@ -130,7 +130,7 @@ module _ (below : Below) (base : Setting) (e : Estate AnyNode) (lines : HasLines
   read_back : ReadBack texts.text 9 joint.idx.net.filed one.settling.low one.settling.log.end.seq one.settling.chain
   read_back =
       below.logs.reopenings_read_back g w.net x.net one.settling.chain one.settling.log came.opened.log reopens texts.text 9 joint.idx.net.filed
-          one.settling.low there filed_of
+      one.settling.low there filed_of
       one.reads
 
   -- what was read back is what was filed and adopted

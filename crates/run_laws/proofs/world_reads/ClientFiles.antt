@@ -193,7 +193,7 @@ module _ (base : Setting) (e : Estate AnyNode) (lines : HasLines base e) (texts 
   flight_news flight fact t flown same =
       let z = log.original base e lines texts part first count c there laws event node x t flown in
       laws.index.flights_are_news (index.members (k base e lines texts part first)) part (held_in part texts.text) (with_promise 1 x.joint.tok.net) i.net c
-          t tied
+      t tied
       (record { some = there.0; within = member })
       (record {
         rows = (flight_next flight fact).1 ∙ ap rows_told (sym same);

@@ -129,7 +129,7 @@ module _ (base : Setting) (e : Estate AnyNode) (lines : HasLines base e) (texts 
     pub reopens_so : ReopensSo t.net.books t.net.acts c back.opened
     reopens_so =
         let re = laws.logs.ends_are_reopenings g w v goes o back.opened by_one refl x.apart at (log.goes_sure base e lines texts part first count c there
-            laws event node x) in
+        laws event node x) in
         laws.logs.clients_reopen_so g w.net v.net by_one.settling.chain by_one.settling.log back.opened.log re.0 t.net.books c filed
         (record {
           filed = owed.filed_of base e lines texts part first count c there laws event node x;

@@ -153,14 +153,14 @@ module _ (base : Setting) (e : Estate AnyNode) (lines : HasLines base e) (texts 
       stage_owed c known last (stage.Scanning s) sees = tt
       stage_owed c known last (stage.Settling s) sees =
           chain_told base e lines texts part first count r there laws.lines.lines_give laws.logs.what_is_held_flew laws.logs.what_flew_is_of_the_log event
-              node h owned s.chain s.log sees.owner
+          node h owned s.chain s.log sees.owner
 
       client_phase : (c : ℕ) → c ≡ log_by r → (p : clients.Phase) → client_log.ClientAgrees (setting base e r) c scene p → client_entries.PhaseOwed told acts p
       client_phase c its (client.Down l) agrees = tt
       client_phase c its (client.Opening l o) agrees = stage_owed c o.known l.questions.last o.stage agrees.1
       client_phase c its (client.Serving s) agrees =
           flight_told base e lines texts part first count r there laws.lines.lines_give laws.logs.what_is_held_flew laws.logs.what_flew_is_of_the_log event
-              node h owned (record { 0 = s.lasting.number })
+          node h owned (record { 0 = s.lasting.number })
           (ap (λ (n : ℕ). record { 0 = n }) (agrees.0.number ∙ its)) s.log agrees.1.owner
 
       cleaner_phase : log_by r ≡ cleaners_number → (p : cleaners.Phase) → cleaner_log.CleanerAgrees (setting base e r) scene p → cleaner_entries.PhaseOwed told acts p
@@ -168,7 +168,7 @@ module _ (base : Setting) (e : Estate AnyNode) (lines : HasLines base e) (texts 
       cleaner_phase its (cleaning.Opening l o) agrees = stage_owed cleaners_number o.known l.questions.last o.stage agrees.sees
       cleaner_phase its (cleaning.Serving s) agrees =
           flight_told base e lines texts part first count r there laws.lines.lines_give laws.logs.what_is_held_flew laws.logs.what_flew_is_of_the_log event
-              node h owned (record { 0 = 9 })
+          node h owned (record { 0 = 9 })
           (ap (λ (n : ℕ). record { 0 = n }) (sym its)) s.log agrees.log.owner
 
     -- ---- the node that takes it
@@ -263,7 +263,7 @@ module _ (base : Setting) (e : Estate AnyNode) (lines : HasLines base e) (texts 
                 asked = its.idx.asked;
                 more = λ block entry fact. rows_more joint.idx.net.filed h x.more block entry
                     (same_rows base e lines texts part first laws.lines.lines_give count (upto_before base e lines texts part first count x.sure) joint slot
-                        its block
+                    its block
                     entry fact);
                 filed = (good_in slot (held_in slot texts.text) first its.idx.net its.index_stands.runs).filed;
                 are_texts = its.index_stands.texts_of;

@@ -92,7 +92,7 @@ module _ (base : Setting) (e : Estate AnyNode) (lines : HasLines base e) (texts 
               laws.reads.takeovers_read_texts part texts.text sent (Manager j) (cuts_at e.world) t.take p ask own server answer s holds at answered
               (known base e lines texts part first count (Manager j) p.source.seg.name refers.of)
               (names_its_group base e lines texts part first count (Manager j) laws.logs.one_name_one_text laws.logs.a_place_names_one_content p.source.seg
-                  refers s reads) done
+              refers s reads) done
 
       pub is_read : completes_at t.take t.take.present own server answer ≡ Some s → IsRead part texts.text s
       is_read done = by t.take.present refl holds.stands
@@ -179,8 +179,11 @@ module _ (base : Setting) (e : Estate AnyNode) (lines : HasLines base e) (texts 
 
       pub manager_told : SourcesFlew (slot_in part node.phase)
           → ManagerTold part texts.text x.coming.joint.idx.asked j x.coming.joint.idx.net node.phase what (happens node what).state
-      manager_told flew = record { reads = reads flew; writes = manager.writes base e lines texts part first count j there event node x
-          laws.lines.managers_write_texts }
+      manager_told flew = record {
+        reads = reads flew;
+        writes = manager.writes base e lines texts part first count j there event node x
+            laws.lines.managers_write_texts;
+      }
 
       pub manager_owed : SourcesFlew (slot_in part node.phase)
           → IndexOwes part texts.text x.coming.joint.idx.asked x.coming.joint.idx.net (node_of event) (any.Manager node) what

@@ -121,12 +121,12 @@ module _ (base : Setting) (e : Estate AnyNode) (lines : HasLines base e) (texts 
         → places.DeltasGets part texts.text i.asked j i.net from m → owners.DeltasGets true members part t y from m
     deltas_by d (phase.Active a) own at from m gets = same from (laws.index.deltas_are_covered members part j texts.text i.asked run_to i.net (phase.Active
         a) from m (record {
-      tied = tied;
-      filed = x.coming.joint.index_stands.texts_of;
-      tokens_see = active_sees a own;
-      desk = d;
-      index_sees = at;
-    }) gets)
+          tied = tied;
+          filed = x.coming.joint.index_stands.texts_of;
+          tokens_see = active_sees a own;
+          desk = d;
+          index_sees = at;
+        }) gets)
       where
         same : (from : NodeId) → owners.DeltasGets true members part run_to (phase.Active a) from m
             → owners.DeltasGets true members part t (phase.Active a) from m

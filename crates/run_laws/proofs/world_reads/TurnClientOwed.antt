@@ -135,7 +135,7 @@ module _ (below : Below) (base : Setting) (e : Estate AnyNode) (lines : HasLines
   low : owed.PollsAreLow base e lines texts part first count c there below event node x
   low packet m s fact bears inside serves late =
       below.tokens.client_polls_are_low true cl part texts.text first (moment e count).nodes (moment e count).sent (moment e count).acts joint.tok joint.idx
-          c s m of_eight
+      c s m of_eight
       (record { tokens = joint.tokens_stand; index = joint.index_stands; same = joint.slots }) there.0
       (now.member base e lines texts part first count (both_of base e lines texts part first count joint) c there)
       (ap (λ (a : ClientNode). a.phase) is_node ∙ serves)

@@ -70,7 +70,7 @@ module _ (laws : Below) (base : Setting) (e : Estate AnyNode) (lines : HasLines 
     same_horizon x (suc more) above within =
         ap n.horizon (plus x more)
         ∙ (laws.tokens.horizons_stay part (held_in part texts.text) first n of_eight b.index_stands.runs (x + more) (omega arith) (nobody (suc (x + more))
-            (omega arith))
+        (omega arith))
         ∙ same_horizon x more above (omega arith))
       where
         plus : (a b : ℕ) → a + suc b ≡ suc (a + b)
@@ -106,8 +106,11 @@ module _ (laws : Below) (base : Setting) (e : Estate AnyNode) (lines : HasLines 
   of_client c there s fact x z at =
       let agreed = subst (ClientAgrees true part c b.tok.net) fact (now.client_held base e lines texts part first count b c there) in
       subst (λ (y : TokensState). x ≤ epoch_of y.epochs part) agreed.tokens
-      (laws.tokens.active_epochs_promised true (members cl part) part (with_promise 1 b.tok.net) some_block (record { run = b.tokens_stand.runs; inside =
-          of_slot }) x z at c
+      (laws.tokens.active_epochs_promised true (members cl part) part (with_promise 1 b.tok.net) some_block (record {
+        run = b.tokens_stand.runs;
+        inside =
+            of_slot;
+      }) x z at c
       (record { some = there.0; within = now.member base e lines texts part first count b c there }))
 
   of_cleaner : (v : Emptying) → b.tok.cleaner.phase ≡ cleaners.Serving v → (x : ℕ) (z : SlotState) → b.tok.net.slots x ≡ Some z

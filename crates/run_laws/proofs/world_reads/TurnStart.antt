@@ -116,7 +116,7 @@ module _ (laws : Below) (base : Setting) (e : Estate AnyNode) (lines : HasLines 
   start_flight =
       let at = ((lines OfCleaner tt).stands 0).moment in
       begun_flight laws.lines.lines_begin first cleaners_number (WritesKind OfCleaner) (setting base e OfCleaner) (log.opening (setting base e OfCleaner)
-          at.map)
+      at.map)
       ((lines OfCleaner tt).scene 0).net
       at.run (lines OfCleaner tt).begins
 
