@@ -265,21 +265,29 @@ module _ {N : Type 0} (step : N → Do → NodeStep N) (first : NodeId → Setup
       → Ends step first command r (writing written faults sink sink) o
   ends_unread command r written faults sink o is rose e = inr (inr (is, cannot_read r written faults sink o rose e))
 
-  -- the claim of a command that answers what it read
+  -- the claim of a command that ends so
+  pub claims_ended : (command : Command) (r : Reading) (s : Writing) (o : Outcome N) → Ends step first (Some command) r s o
+      → IfSome o.estate (IsRunBy step first (Some command))
+      → o.boards ≡ boards_of step first (Some command) o.estate
+      → ReadsAtMost r limit → r.faults ≤ r.faults_after → s.faults ≤ s.faults_after
+      → Claim step first (Some command) r s o
+  claims_ended command r s o ends run boards bounded read_later later = record {
+    usage = λ h. cc;
+    ends = ends;
+    run = run;
+    boards = boards;
+    bounded = bounded;
+    later = (read_later, later);
+  }
+
+  -- and of one that answers what it read
   pub claims_read : (command : Command) (r : Reading) (s : Writing) (o : Outcome N) (input : List ℕ) → IsInput (Some command) r input
       → AnswersOrGivesUp step first (Some command) input s o
       → IfSome o.estate (IsRunBy step first (Some command))
       → o.boards ≡ boards_of step first (Some command) o.estate
       → ReadsAtMost r limit → r.faults ≤ r.faults_after → s.faults ≤ s.faults_after
       → Claim step first (Some command) r s o
-  claims_read command r s o input i told run boards bounded read_later later = record {
-    usage = λ h. cc;
-    ends = ends_of (Some command) r s o input i told;
-    run = run;
-    boards = boards;
-    bounded = bounded;
-    later = (read_later, later);
-  }
+  claims_read command r s o input i told = claims_ended command r s o (ends_of (Some command) r s o input i told)
 
   -- of one that leaves no run, and writes nothing
   module _ {K : Type 0} (command : Command) (no_boards : boards_of step first (Some command) None ≡ None) (r : Reading) (bounded : ReadsAtMost r limit)
@@ -288,14 +296,8 @@ module _ {N : Type 0} (step : N → Do → NodeStep N) (first : NodeId → Setup
         → Ends step first (Some command) r (writing written faults sink sink) o → Claim step first (Some command) r (writing written faults sink sink) o
     claims_unmade status e ends =
         let none = ap (λ x. x.estate) e in
-        record {
-          usage = λ h. cc;
-          ends = ends;
-          run = subst (λ y. IfSome y (IsRunBy step first (Some command))) (sym none) tt;
-          boards = ap (λ x. x.boards) e ∙ sym no_boards ∙ ap (boards_of step first (Some command)) (sym none);
-          bounded = bounded;
-          later = (later, omega arith);
-        }
+        claims_ended command r (writing written faults sink sink) o ends (subst (λ y. IfSome y (IsRunBy step first (Some command))) (sym none) tt)
+        (ap (λ x. x.boards) e ∙ sym no_boards ∙ ap (boards_of step first (Some command)) (sym none)) bounded later (omega arith)
 
     -- since a read failed
     pub claims_unread_input : IsTrue (reads (Some command)) → Rose r.faults r.faults_after

@@ -1,12 +1,17 @@
 -- What a call answers beside its run, where there is one: what happened to nodes and boards, the disks, or what applications called and were replied.
-use Rattle.std.specs.Prelude.{ℕ, List, Option, Some, None}
+use Rattle.std.specs.Prelude.{◌≡◌, ℕ, List, Option, Some, None}
 use Rattle.board_world.specs.declared.board_event.BoardEvent.{BoardEvent}
 use Rattle.disk_shelf.specs.MemDisk.{MemState}
 use Rattle.mounts.specs.declared.reply.Reply.{Reply}
 use Rattle.world_base.specs.declared.estate.Estate.{Estate}
 use Rattle.top_call.specs.declared.outcome.Outcome.{Outcome}
+use Rattle.top_call.specs.Mounts.{NoReplies}
 
 module _ {N : Type 0} where
+  -- beside its status and its run an outcome has nothing: no boards, no disks, and no calls and replies
+  abbrev pub IsPlain : Outcome N → Type 0
+  IsPlain o = (o.boards ≡ None) × (o.disks ≡ None) × NoReplies o.calls o.replies
+
   abbrev pub boards_where : Option (Estate N) → List BoardEvent → Option (List BoardEvent)
   boards_where None events = None
   boards_where (Some e) events = Some events

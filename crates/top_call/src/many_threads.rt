@@ -7,6 +7,7 @@ ghost use Rattle.top_call.specs.declared.command.Command.TheVariants as commands
 ghost use Rattle.top_call.specs.Claim.{writing, reading, TellsLive, AnswersOrGivesUp, Ends, Claim, ReadsAtMost};
 ghost use Rattle.top_call.specs.Input.{limit};
 ghost use Rattle.top_call.specs.Mounts.{NoReplies};
+ghost use Rattle.top_call.specs.Told.{IsPlain};
 
 use crate::Outcome;
 use crate::one_thread::{ended, refuse, write_run};
@@ -49,9 +50,7 @@ fn run_script<N: Member + Send, R: Threads + Wait + Sync, K: Sink, G: Gate>(
     requires { IsScript script.now }
     ensures told { TellsLive N.transition N.first script.now (writing K.written K.faults sink.old sink.new) result }
     ensures one_run { IfSome result.estate (λ e. IsLive N.transition N.first e) }
-    ensures no_boards { result.boards ≡ None }
-    ensures no_disks { result.disks ≡ None }
-    ensures no_replies { NoReplies result.calls result.replies }
+    ensures plain { IsPlain result }
     ensures later { K.faults sink.old ≤ K.faults sink.new }
 {
     match lived::<N, R, G>(rt, alloc, script, workers, gate) {
@@ -72,9 +71,7 @@ fn run_input<N: Member + Send, R: Threads + Wait + Sync, K: Sink, G: Gate>(
 ) -> Outcome<N>
     ensures told { AnswersOrGivesUp N.transition N.first (Some (commands.Live workers)) input.now (writing K.written K.faults sink.old sink.new) result }
     ensures one_run { IfSome result.estate (λ e. IsLive N.transition N.first e) }
-    ensures no_boards { result.boards ≡ None }
-    ensures no_disks { result.disks ≡ None }
-    ensures no_replies { NoReplies result.calls result.replies }
+    ensures plain { IsPlain result }
     ensures later { K.faults sink.old ≤ K.faults sink.new }
 {
     match parse(alloc, input, true) {

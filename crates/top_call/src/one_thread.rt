@@ -11,6 +11,7 @@ ghost use Rattle.top_call.specs.Disks.{DisksOf};
 ghost use Rattle.top_call.specs.Input.{limit};
 ghost use Rattle.top_call.specs.Mounts.{NoReplies};
 ghost use Rattle.top_call.specs.Spoken.{refused_text, verdict_text};
+ghost use Rattle.top_call.specs.Told.{IsPlain};
 
 use crate::boards::answer_boards;
 use crate::command::{Command, Drawn, read_words};
@@ -48,9 +49,7 @@ pub(crate) fn ended<N>(status: u8) -> Outcome<N>
 fn tell<N, K: Sink>(sink: &mut K, text: &[u8], status: u8) -> Outcome<N>
     ensures told { Tells (writing K.written K.faults sink.old sink.new) result (line text.now status) }
     ensures no_run { result.estate ≡ None }
-    ensures no_boards { result.boards ≡ None }
-    ensures no_disks { result.disks ≡ None }
-    ensures no_replies { NoReplies result.calls result.replies }
+    ensures plain { IsPlain result }
     ensures later { K.faults sink.old ≤ K.faults sink.new }
 {
     match write_output(sink, text) {
@@ -63,9 +62,7 @@ fn tell<N, K: Sink>(sink: &mut K, text: &[u8], status: u8) -> Outcome<N>
 pub(crate) fn refuse<N, K: Sink>(alloc: Global, number: u32, kind: Kind, sink: &mut K) -> Outcome<N>
     ensures told { TellsOrGivesUp (writing K.written K.faults sink.old sink.new) result (line (refused_text number kind) 3) }
     ensures no_run { result.estate ≡ None }
-    ensures no_boards { result.boards ≡ None }
-    ensures no_disks { result.disks ≡ None }
-    ensures no_replies { NoReplies result.calls result.replies }
+    ensures plain { IsPlain result }
     ensures later { K.faults sink.old ≤ K.faults sink.new }
 {
     match spoken::refused(alloc, number, kind) {
@@ -85,9 +82,7 @@ fn status_of<N>(estate: &Estate<N>) -> u8
 fn hand_out<N, K: Sink>(estate: Estate<N>, text: &Text, sink: &mut K) -> Outcome<N>
     ensures told { Tells (writing K.written K.faults sink.old sink.new) result (run_answer text.now estate) }
     ensures estate { result.estate ≡ Some estate }
-    ensures no_boards { result.boards ≡ None }
-    ensures no_disks { result.disks ≡ None }
-    ensures no_replies { NoReplies result.calls result.replies }
+    ensures plain { IsPlain result }
     ensures later { K.faults sink.old ≤ K.faults sink.new }
 {
     let status = match write_output(sink, text.as_bytes()) {
@@ -122,9 +117,7 @@ pub(crate) fn write_run<N: Drop, K: Sink>(
 ) -> Outcome<N>
     ensures told { TellsOrGivesUp (writing K.written K.faults sink.old sink.new) result (run_answer (text_of estate) estate) }
     ensures estate { IfSome result.estate (λ left. left ≡ estate) }
-    ensures no_boards { result.boards ≡ None }
-    ensures no_disks { result.disks ≡ None }
-    ensures no_replies { NoReplies result.calls result.replies }
+    ensures plain { IsPlain result }
     ensures later { K.faults sink.old ≤ K.faults sink.new }
 {
     match text(alloc, &estate) {
@@ -137,9 +130,7 @@ pub(crate) fn write_run<N: Drop, K: Sink>(
 fn write_brief<N: Drop, K: Sink>(alloc: Global, estate: Estate<N>, sink: &mut K) -> Outcome<N>
     ensures told { TellsOrGivesUp (writing K.written K.faults sink.old sink.new) result (run_answer (brief_of estate) estate) }
     ensures estate { IfSome result.estate (λ left. left ≡ estate) }
-    ensures no_boards { result.boards ≡ None }
-    ensures no_disks { result.disks ≡ None }
-    ensures no_replies { NoReplies result.calls result.replies }
+    ensures plain { IsPlain result }
     ensures later { K.faults sink.old ≤ K.faults sink.new }
 {
     match brief(alloc, &estate) {
@@ -153,9 +144,7 @@ fn play_script<N: Member, K: Sink>(alloc: Global, script: &Script, sink: &mut K)
     requires { IsScript script.now }
     ensures told { TellsOrGivesUp (writing K.written K.faults sink.old sink.new) result (run_wanted N.transition N.first script.now) }
     ensures one_run { IfSome result.estate (λ e. IsPlayed N.transition N.first e) }
-    ensures no_boards { result.boards ≡ None }
-    ensures no_disks { result.disks ≡ None }
-    ensures no_replies { NoReplies result.calls result.replies }
+    ensures plain { IsPlain result }
     ensures later { K.faults sink.old ≤ K.faults sink.new }
 {
     match played::<N>(alloc, script) {
@@ -169,9 +158,7 @@ fn count_script<N: Member, K: Sink>(alloc: Global, script: &Script, sink: &mut K
     requires { IsScript script.now }
     ensures told { TellsOrGivesUp (writing K.written K.faults sink.old sink.new) result (brief_wanted N.transition N.first script.now) }
     ensures one_run { IfSome result.estate (λ e. IsPlayed N.transition N.first e) }
-    ensures no_boards { result.boards ≡ None }
-    ensures no_disks { result.disks ≡ None }
-    ensures no_replies { NoReplies result.calls result.replies }
+    ensures plain { IsPlain result }
     ensures later { K.faults sink.old ≤ K.faults sink.new }
 {
     match played::<N>(alloc, script) {
@@ -185,9 +172,7 @@ fn play_drawn<N: Member, K: Sink>(alloc: Global, drawn: Drawn, sink: &mut K) -> 
     requires { drawn.turns ≤ 2000 }
     ensures told { TellsOrGivesUp (writing K.written K.faults sink.old sink.new) result (brief_wanted N.transition N.first (script_of drawn)) }
     ensures one_run { IfSome result.estate (λ e. IsPlayed N.transition N.first e) }
-    ensures no_boards { result.boards ≡ None }
-    ensures no_disks { result.disks ≡ None }
-    ensures no_replies { NoReplies result.calls result.replies }
+    ensures plain { IsPlain result }
     ensures later { K.faults sink.old ≤ K.faults sink.new }
 {
     match generate(alloc, drawn.number, drawn.turns) {
@@ -200,9 +185,7 @@ fn play_drawn<N: Member, K: Sink>(alloc: Global, drawn: Drawn, sink: &mut K) -> 
 fn write_script<N, K: Sink>(alloc: Global, script: &Script, sink: &mut K) -> Outcome<N>
     ensures told { TellsOrGivesUp (writing K.written K.faults sink.old sink.new) result (line (printed script.now) 0) }
     ensures no_run { result.estate ≡ None }
-    ensures no_boards { result.boards ≡ None }
-    ensures no_disks { result.disks ≡ None }
-    ensures no_replies { NoReplies result.calls result.replies }
+    ensures plain { IsPlain result }
     ensures later { K.faults sink.old ≤ K.faults sink.new }
 {
     match print(alloc, script) {
@@ -216,9 +199,7 @@ fn print_drawn<N, K: Sink>(alloc: Global, drawn: Drawn, sink: &mut K) -> Outcome
     requires { drawn.turns ≤ 2000 }
     ensures told { TellsOrGivesUp (writing K.written K.faults sink.old sink.new) result (line (printed (script_of drawn)) 0) }
     ensures no_run { result.estate ≡ None }
-    ensures no_boards { result.boards ≡ None }
-    ensures no_disks { result.disks ≡ None }
-    ensures no_replies { NoReplies result.calls result.replies }
+    ensures plain { IsPlain result }
     ensures later { K.faults sink.old ≤ K.faults sink.new }
 {
     match generate(alloc, drawn.number, drawn.turns) {
@@ -241,9 +222,7 @@ fn status_of_verdict(verdict: Verdict) -> u8
 fn say<N, K: Sink>(alloc: Global, verdict: Verdict, sink: &mut K) -> Outcome<N>
     ensures told { TellsOrGivesUp (writing K.written K.faults sink.old sink.new) result (line (verdict_text verdict) (verdict_status verdict)) }
     ensures no_run { result.estate ≡ None }
-    ensures no_boards { result.boards ≡ None }
-    ensures no_disks { result.disks ≡ None }
-    ensures no_replies { NoReplies result.calls result.replies }
+    ensures plain { IsPlain result }
     ensures later { K.faults sink.old ≤ K.faults sink.new }
 {
     match spoken::verdict(alloc, verdict) {
@@ -256,9 +235,7 @@ fn say<N, K: Sink>(alloc: Global, verdict: Verdict, sink: &mut K) -> Outcome<N>
 fn run_input<N: Member, K: Sink>(alloc: Global, input: &[u8], sink: &mut K) -> Outcome<N>
     ensures told { AnswersOrGivesUp N.transition N.first (Some commands.Run) input.now (writing K.written K.faults sink.old sink.new) result }
     ensures one_run { IfSome result.estate (λ e. IsPlayed N.transition N.first e) }
-    ensures no_boards { result.boards ≡ None }
-    ensures no_disks { result.disks ≡ None }
-    ensures no_replies { NoReplies result.calls result.replies }
+    ensures plain { IsPlain result }
     ensures later { K.faults sink.old ≤ K.faults sink.new }
 {
     match parse(alloc, input, false) {
@@ -272,9 +249,7 @@ fn run_input<N: Member, K: Sink>(alloc: Global, input: &[u8], sink: &mut K) -> O
 fn audit_input<N: Member, K: Sink>(alloc: Global, input: &[u8], sink: &mut K) -> Outcome<N>
     ensures told { AnswersOrGivesUp N.transition N.first (Some commands.Audit) input.now (writing K.written K.faults sink.old sink.new) result }
     ensures one_run { IfSome result.estate (λ e. IsPlayed N.transition N.first e) }
-    ensures no_boards { result.boards ≡ None }
-    ensures no_disks { result.disks ≡ None }
-    ensures no_replies { NoReplies result.calls result.replies }
+    ensures plain { IsPlain result }
     ensures later { K.faults sink.old ≤ K.faults sink.new }
 {
     match audit(alloc, input) {
@@ -295,9 +270,7 @@ fn answer_run<N: Member, S: Source, K: Sink>(
     ensures bounded { ReadsAtMost (reading S.left S.faults source.old source.new) limit }
     ensures read_later { S.faults source.old ≤ S.faults source.new }
     ensures one_run { IfSome result.estate (λ e. IsPlayed N.transition N.first e) }
-    ensures no_boards { result.boards ≡ None }
-    ensures no_disks { result.disks ≡ None }
-    ensures no_replies { NoReplies result.calls result.replies }
+    ensures plain { IsPlain result }
     ensures later { K.faults sink.old ≤ K.faults sink.new }
 {
     match read_input(alloc, source) {
@@ -318,9 +291,7 @@ fn answer_audit<N: Member, S: Source, K: Sink>(
     ensures bounded { ReadsAtMost (reading S.left S.faults source.old source.new) limit }
     ensures read_later { S.faults source.old ≤ S.faults source.new }
     ensures one_run { IfSome result.estate (λ e. IsPlayed N.transition N.first e) }
-    ensures no_boards { result.boards ≡ None }
-    ensures no_disks { result.disks ≡ None }
-    ensures no_replies { NoReplies result.calls result.replies }
+    ensures plain { IsPlain result }
     ensures later { K.faults sink.old ≤ K.faults sink.new }
 {
     match read_input(alloc, source) {

@@ -30,7 +30,7 @@ returns-in-Err-Bad-clause-one_run g c = none_boarded g.N.Actor.transition g.N.Me
 
 pub returns-in-Err-Bad-clause-boards : goal.returns-in-Err-Bad-clause-boards
 returns-in-Err-Bad-clause-boards g c =
-    none_told g.N.Actor.transition g.N.Member.first c.refuse.result.estate c.refuse.result.boards c.refuse.ensures.no_run c.refuse.ensures.no_boards
+    none_told g.N.Actor.transition g.N.Member.first c.refuse.result.estate c.refuse.result.boards c.refuse.ensures.no_run c.refuse.ensures.plain.0
 
 pub returns-in-Err-Memory-clause-told : goal.returns-in-Err-Memory-clause-told
 returns-in-Err-Memory-clause-told g c = inr (gives_up g.K.Sink.written g.K.Sink.faults c.args.sink.now c.ended.result c.ended.ensures)

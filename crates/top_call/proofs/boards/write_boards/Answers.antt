@@ -24,9 +24,9 @@ returns-clause-boards g c =
     ∙ ap (λ o. boards_where o.estate c.args.played.events) (sym c.with_boards.ensures)
 
 pub returns-clause-no_disks : goal.returns-clause-no_disks
-returns-clause-no_disks g c = ap (λ o. o.disks) c.with_boards.ensures ∙ c.write_run-outcome.ensures.no_disks
+returns-clause-no_disks g c = ap (λ o. o.disks) c.with_boards.ensures ∙ c.write_run-outcome.ensures.plain.1
 
 pub returns-clause-no_replies : goal.returns-clause-no_replies
 returns-clause-no_replies g c =
-    let n = c.write_run-outcome.ensures.no_replies in
+    let n = c.write_run-outcome.ensures.plain.2 in
     (ap (λ o. o.calls) c.with_boards.ensures ∙ n.0, ap (λ o. o.replies) c.with_boards.ensures ∙ n.1)

@@ -27,7 +27,7 @@ returns-in-Err-Bad-clause-one_run g c = none_stopped g.N.Actor.transition g.N.Me
 pub returns-in-Err-Bad-clause-disks : goal.returns-in-Err-Bad-clause-disks
 returns-in-Err-Bad-clause-disks g c =
     let o = c.refuse.result in
-    no_disks g.N.Actor.transition g.N.Member.first g.N.Shelved.shelf_of o.estate o.disks c.refuse.ensures.no_run c.refuse.ensures.no_disks
+    no_disks g.N.Actor.transition g.N.Member.first g.N.Shelved.shelf_of o.estate o.disks c.refuse.ensures.no_run c.refuse.ensures.plain.1
 
 pub returns-in-Err-Memory-clause-told : goal.returns-in-Err-Memory-clause-told
 returns-in-Err-Memory-clause-told g c = inr (gives_up g.K.Sink.written g.K.Sink.faults c.args.sink.now c.ended.result c.ended.ensures)

@@ -24,9 +24,9 @@ returns-clause-disks g c =
     ∙ ap (λ o. disks_where o.estate c.args.played.disks) (sym c.with_disks.ensures)
 
 pub returns-clause-no_boards : goal.returns-clause-no_boards
-returns-clause-no_boards g c = ap (λ o. o.boards) c.with_disks.ensures ∙ c.write_run-outcome.ensures.no_boards
+returns-clause-no_boards g c = ap (λ o. o.boards) c.with_disks.ensures ∙ c.write_run-outcome.ensures.plain.0
 
 pub returns-clause-no_replies : goal.returns-clause-no_replies
 returns-clause-no_replies g c =
-    let n = c.write_run-outcome.ensures.no_replies in
+    let n = c.write_run-outcome.ensures.plain.2 in
     (ap (λ o. o.calls) c.with_disks.ensures ∙ n.0, ap (λ o. o.replies) c.with_disks.ensures ∙ n.1)

@@ -14,7 +14,7 @@ returns-in-Ok-clause-claim g c =
     let o = c.run_input.result in
     let told = subst (λ input. AnswersOrGivesUp step first (Some command) input s o) c.as_bytes.ensures c.run_input.ensures.told in
     claims_read step first command r s o c.in-Ok.input (c.in-Ok.ensures.whole, c.in-Ok.ensures.consumes) told
-    (by_workers step first c.args.workers o.estate c.run_input.ensures.one_run) c.run_input.ensures.no_boards c.read_input.ensures.taken c.read_input.ensures.later
+    (by_workers step first c.args.workers o.estate c.run_input.ensures.one_run) c.run_input.ensures.plain.0 c.read_input.ensures.taken c.read_input.ensures.later
     c.run_input.ensures.later
 
 pub returns-in-Err-Failed-clause-claim : goal.returns-in-Err-Failed-clause-claim

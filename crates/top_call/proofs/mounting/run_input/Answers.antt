@@ -28,7 +28,7 @@ returns-in-Err-Memory-clause-told g c = inr (gives_up g.K.Sink.written g.K.Sink.
 pub returns-in-Err-Bad-clause-mounts : goal.returns-in-Err-Bad-clause-mounts
 returns-in-Err-Bad-clause-mounts g c =
     let o = c.refuse.result in
-    none_mounted g.N.Actor.transition g.N.Member.first o.estate o.calls o.replies c.refuse.ensures.no_run c.refuse.ensures.no_replies.0 c.refuse.ensures.no_replies.1
+    none_mounted g.N.Actor.transition g.N.Member.first o.estate o.calls o.replies c.refuse.ensures.no_run c.refuse.ensures.plain.2.0 c.refuse.ensures.plain.2.1
 
 pub returns-in-Err-Memory-clause-mounts : goal.returns-in-Err-Memory-clause-mounts
 returns-in-Err-Memory-clause-mounts g c =

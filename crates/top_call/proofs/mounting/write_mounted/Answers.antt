@@ -30,7 +30,7 @@ returns-clause-replies g c =
     ∙ ap (λ o. lists_where o.estate c.args.run.replies) (sym c.with_replies.ensures)
 
 pub returns-clause-no_boards : goal.returns-clause-no_boards
-returns-clause-no_boards g c = ap (λ o. o.boards) c.with_replies.ensures ∙ c.write_run-outcome.ensures.no_boards
+returns-clause-no_boards g c = ap (λ o. o.boards) c.with_replies.ensures ∙ c.write_run-outcome.ensures.plain.0
 
 pub returns-clause-no_disks : goal.returns-clause-no_disks
-returns-clause-no_disks g c = ap (λ o. o.disks) c.with_replies.ensures ∙ c.write_run-outcome.ensures.no_disks
+returns-clause-no_disks g c = ap (λ o. o.disks) c.with_replies.ensures ∙ c.write_run-outcome.ensures.plain.1

@@ -17,7 +17,7 @@ returns-in-None-clause-claim g c =
     let answer = answers step first None [] s o (line usage_text 2) refl (inl told) in
     subst (λ command. Claim step first command r s o) c.in-None.ensures.command
     (claims_unread step first g.S.Source.left g.S.Source.faults c.args.source.now None s o refl (λ e. told) answer
-    (by_one step first None refl o.estate (none_played step first o.estate c.tell.ensures.no_run)) c.tell.ensures.no_boards c.tell.ensures.later)
+    (by_one step first None refl o.estate (none_played step first o.estate c.tell.ensures.no_run)) c.tell.ensures.plain.0 c.tell.ensures.later)
 
 pub returns-in-Some-clause-claim : goal.returns-in-Some-clause-claim
 returns-in-Some-clause-claim g c =
@@ -29,7 +29,7 @@ pub returns-in-None-clause-disks : goal.returns-in-None-clause-disks
 returns-in-None-clause-disks g c =
     let o = c.tell.result in
     subst (λ command. DisksOf g.N.Actor.transition g.N.Member.first g.N.Shelved.shelf_of command o.estate o.disks) c.in-None.ensures.command
-    c.tell.ensures.no_disks
+    c.tell.ensures.plain.1
 
 pub returns-in-Some-clause-disks : goal.returns-in-Some-clause-disks
 returns-in-Some-clause-disks g c =
