@@ -14,3 +14,4 @@ pub mod ReadBack
 pub mod BeingRead
 pub mod Groups
 pub mod Boots
+pub mod LogLaws

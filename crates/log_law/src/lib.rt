@@ -10,6 +10,7 @@ ghost use Rattle.log_law.specs.Ends.{EndsAreLast, FilesItsFlight};
 ghost use Rattle.log_law.specs.Groups.{EndsNameGroups, PriorsNameGroups};
 ghost use Rattle.log_law.specs.Held.{WhatFlewIsOfTheLog, WhatIsHeldFlew, WhatIsListedFlew};
 ghost use Rattle.log_law.specs.Laws.{AReopeningAdopts, LogsStayInLine, LogsStayWhole, OneNameOneText, SomeSegmentFiled, TheFeedIsWhole};
+ghost use Rattle.log_law.specs.LogLaws.{LogLaws};
 ghost use Rattle.log_law.specs.Openings.{FliesNext, NothingFiledOpening, OpeningsGoOn};
 ghost use Rattle.log_law.specs.Places.{APlaceNamesOneContent};
 ghost use Rattle.log_law.specs.ReadBack.{OpeningsReadDown, ReopensBehind};
@@ -46,6 +47,14 @@ fn below()
     names_are_new();
     runs_go_on();
     past_stays();
+}
+
+/// All laws of logs together: each is told, and has a contract of its own, below.
+pub fn laws_of_logs()
+    ensures { LogLaws }
+{
+    below();
+    what_is_read_back_is_whole();
 }
 
 /// Logs stay whole: at each moment of every run, whatever is lost, and however the owner falls and opens its log again or, as a manager, begins it anew, each
