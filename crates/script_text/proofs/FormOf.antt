@@ -1,10 +1,11 @@
 -- The form of a line: its first two words tell it.
-use Rattle.std.proofs.Common.{◌≡◌, ℕ, ◌<◌, ◌==◌, Bool, true, false, not, ◌&&◌, List, [], ◌∷◌, length, drop, codes, get_or, refl, sym, ◌∙◌, ap, arith, Option, Some, None, if◌then◌else◌, nat_lt}
+use Rattle.std.proofs.Common.{◌≡◌, ℕ, ◌<◌, ◌==◌, Bool, true, false, not, ◌&&◌, List, [], ◌∷◌, length, codes, get_or, refl, sym, ◌∙◌, ap, arith, Option, Some, None, if◌then◌else◌, nat_lt}
 use Rattle.std.proofs.lemmas.Bool.Decides.{nat_tests}
-use Rattle.std.specs.List.{position, position_or_len, slice_get}
+use Rattle.std.specs.List.{position, position_or_len, slice_get, list_all}
 use Rattle.std.specs.Str.{bytes_eq}
 use Rattle.std.proofs.lemmas.Slice.Eq.{bytes_eq-Decides}
 use Rattle.std.proofs.lemmas.List.Sums.{fails_before_first}
+use Rattle.std.proofs.lemmas.List.Folds.{list_all_at}
 use Rattle.std.proofs.lemmas.Option.{slice_get-get_or}
 use Rattle.std.proofs.lemmas.List.Quantifiers.{position-Some}
 use Rattle.std.proofs.lemmas.Bool.{ltb-false}
@@ -28,40 +29,25 @@ kind_of_word w =
     else if bytes_eq w (codes "reg") then 5
     else 6
 
+-- the kind of node that a part names: 7 where it names none
+abbrev kind_of_part : Part → ℕ
+kind_of_part part.Client = 0
+kind_of_part part.Manager = 1
+kind_of_part part.Server = 2
+kind_of_part part.Board = 3
+kind_of_part part.Cleaner = 4
+kind_of_part part.Registry = 5
+kind_of_part part.Network = 6
+kind_of_part p = 7
+
+-- the kind of node that the first of these parts names
+abbrev kind_of_parts : List Part → ℕ
+kind_of_parts [] = 7
+kind_of_parts (p ∷ ps) = kind_of_part p
+
 -- the kind of node that a form is of
 abbrev kind_of : Form → ℕ
-kind_of Bput = 0
-kind_of Bget = 0
-kind_of Sync = 0
-kind_of Mk = 0
-kind_of Mkdir = 0
-kind_of Put = 0
-kind_of Get = 0
-kind_of Size = 0
-kind_of Ls = 0
-kind_of Rm = 0
-kind_of Mv = 0
-kind_of ClientCrash = 0
-kind_of ClientRestart = 0
-kind_of CleanerCrash = 4
-kind_of CleanerRestart = 4
-kind_of Clean = 4
-kind_of ManagerCrash = 1
-kind_of ManagerRestart = 1
-kind_of Checkpoint = 1
-kind_of Lose = 2
-kind_of Rebuild = 2
-kind_of ServerStop = 2
-kind_of ServerStart = 2
-kind_of Move = 5
-kind_of BoardStop = 3
-kind_of BoardStart = 3
-kind_of NetLose = 6
-kind_of NetAgain = 6
-kind_of NetMix = 6
-kind_of NetHold = 6
-kind_of NetGo = 6
-kind_of NetStep = 6
+kind_of f = kind_of_parts (parts f)
 
 -- a word with one letter before its number has no other
 other_letter : (l m : ℕ) (w : List ℕ) → (l == m) ≡ false → is_numbered l w ≡ true → is_numbered m w ≡ false
@@ -88,6 +74,9 @@ board_kind w e = rw (other_letter 98 99 w refl e, other_letter 98 109 w refl e, 
 fixed_kind : (w t : List ℕ) → bytes_eq w t ≡ true → kind_of_word w ≡ kind_of_word t
 fixed_kind w t e = ap kind_of_word ((bytes_eq-Decides w t).0 e)
 
+true_false : (t : Bool) → t ≡ true → t ≡ false → ⊥
+true_false t e f = let g : true ≡ false = sym e ∙ f in cc
+
 -- the first two words of a line with the words of these parts
 words_verb : (v : List ℕ) (p : Part) (rest : List Part) (ws : List (List ℕ)) → behind_part p ws ≡ behind ws → has_words v (p ∷ part.Verb ∷ rest) ws ≡ true
     → first (behind ws) ≡ v
@@ -103,73 +92,30 @@ words_first v p rest ws e =
     let c = and_first (not (is_end ws) && looks p v (piece_of p ws)) (has_words v rest (behind_part p ws)) e in
     and_second (not (is_end ws)) (looks p v (piece_of p ws)) c
 
-form_verb : (f : Form) (ws : List (List ℕ)) → has_words (verb f) (parts f) ws ≡ true → first (behind ws) ≡ verb f
-form_verb Bput ws e = words_verb (verb Bput) part.Client (drop 2 (parts Bput)) ws refl e
-form_verb Bget ws e = words_verb (verb Bget) part.Client (drop 2 (parts Bget)) ws refl e
-form_verb Sync ws e = words_verb (verb Sync) part.Client (drop 2 (parts Sync)) ws refl e
-form_verb Mk ws e = words_verb (verb Mk) part.Client (drop 2 (parts Mk)) ws refl e
-form_verb Mkdir ws e = words_verb (verb Mkdir) part.Client (drop 2 (parts Mkdir)) ws refl e
-form_verb Put ws e = words_verb (verb Put) part.Client (drop 2 (parts Put)) ws refl e
-form_verb Get ws e = words_verb (verb Get) part.Client (drop 2 (parts Get)) ws refl e
-form_verb Size ws e = words_verb (verb Size) part.Client (drop 2 (parts Size)) ws refl e
-form_verb Ls ws e = words_verb (verb Ls) part.Client (drop 2 (parts Ls)) ws refl e
-form_verb Rm ws e = words_verb (verb Rm) part.Client (drop 2 (parts Rm)) ws refl e
-form_verb Mv ws e = words_verb (verb Mv) part.Client (drop 2 (parts Mv)) ws refl e
-form_verb ClientCrash ws e = words_verb (verb ClientCrash) part.Client (drop 2 (parts ClientCrash)) ws refl e
-form_verb ClientRestart ws e = words_verb (verb ClientRestart) part.Client (drop 2 (parts ClientRestart)) ws refl e
-form_verb CleanerCrash ws e = words_verb (verb CleanerCrash) part.Cleaner (drop 2 (parts CleanerCrash)) ws refl e
-form_verb CleanerRestart ws e = words_verb (verb CleanerRestart) part.Cleaner (drop 2 (parts CleanerRestart)) ws refl e
-form_verb Clean ws e = words_verb (verb Clean) part.Cleaner (drop 2 (parts Clean)) ws refl e
-form_verb ManagerCrash ws e = words_verb (verb ManagerCrash) part.Manager (drop 2 (parts ManagerCrash)) ws refl e
-form_verb ManagerRestart ws e = words_verb (verb ManagerRestart) part.Manager (drop 2 (parts ManagerRestart)) ws refl e
-form_verb Checkpoint ws e = words_verb (verb Checkpoint) part.Manager (drop 2 (parts Checkpoint)) ws refl e
-form_verb Lose ws e = words_verb (verb Lose) part.Server (drop 2 (parts Lose)) ws refl e
-form_verb Rebuild ws e = words_verb (verb Rebuild) part.Server (drop 2 (parts Rebuild)) ws refl e
-form_verb ServerStop ws e = words_verb (verb ServerStop) part.Server (drop 2 (parts ServerStop)) ws refl e
-form_verb ServerStart ws e = words_verb (verb ServerStart) part.Server (drop 2 (parts ServerStart)) ws refl e
-form_verb Move ws e = words_verb (verb Move) part.Registry (drop 2 (parts Move)) ws refl e
-form_verb BoardStop ws e = words_verb (verb BoardStop) part.Board (drop 2 (parts BoardStop)) ws refl e
-form_verb BoardStart ws e = words_verb (verb BoardStart) part.Board (drop 2 (parts BoardStart)) ws refl e
-form_verb NetLose ws e = words_verb (verb NetLose) part.Network (drop 2 (parts NetLose)) ws refl e
-form_verb NetAgain ws e = words_verb (verb NetAgain) part.Network (drop 2 (parts NetAgain)) ws refl e
-form_verb NetMix ws e = words_verb (verb NetMix) part.Network (drop 2 (parts NetMix)) ws refl e
-form_verb NetHold ws e = words_verb (verb NetHold) part.Network (drop 2 (parts NetHold)) ws refl e
-form_verb NetGo ws e = words_verb (verb NetGo) part.Network (drop 2 (parts NetGo)) ws refl e
-form_verb NetStep ws e = words_verb (verb NetStep) part.Network (drop 2 (parts NetStep)) ws refl e
+-- these parts are a node, the word that names what is asked for, and others
+abbrev begins : List Part → Bool
+begins (p ∷ part.Verb ∷ rest) = nat_lt (kind_of_part p) 7
+begins ps = false
 
-form_kind : (f : Form) (ws : List (List ℕ)) → has_words (verb f) (parts f) ws ≡ true → kind_of_word (first ws) ≡ kind_of f
-form_kind Bput ws e = client_kind (first ws) (words_first (verb Bput) part.Client (drop 1 (parts Bput)) ws e)
-form_kind Bget ws e = client_kind (first ws) (words_first (verb Bget) part.Client (drop 1 (parts Bget)) ws e)
-form_kind Sync ws e = client_kind (first ws) (words_first (verb Sync) part.Client (drop 1 (parts Sync)) ws e)
-form_kind Mk ws e = client_kind (first ws) (words_first (verb Mk) part.Client (drop 1 (parts Mk)) ws e)
-form_kind Mkdir ws e = client_kind (first ws) (words_first (verb Mkdir) part.Client (drop 1 (parts Mkdir)) ws e)
-form_kind Put ws e = client_kind (first ws) (words_first (verb Put) part.Client (drop 1 (parts Put)) ws e)
-form_kind Get ws e = client_kind (first ws) (words_first (verb Get) part.Client (drop 1 (parts Get)) ws e)
-form_kind Size ws e = client_kind (first ws) (words_first (verb Size) part.Client (drop 1 (parts Size)) ws e)
-form_kind Ls ws e = client_kind (first ws) (words_first (verb Ls) part.Client (drop 1 (parts Ls)) ws e)
-form_kind Rm ws e = client_kind (first ws) (words_first (verb Rm) part.Client (drop 1 (parts Rm)) ws e)
-form_kind Mv ws e = client_kind (first ws) (words_first (verb Mv) part.Client (drop 1 (parts Mv)) ws e)
-form_kind ClientCrash ws e = client_kind (first ws) (words_first (verb ClientCrash) part.Client (drop 1 (parts ClientCrash)) ws e)
-form_kind ClientRestart ws e = client_kind (first ws) (words_first (verb ClientRestart) part.Client (drop 1 (parts ClientRestart)) ws e)
-form_kind CleanerCrash ws e = fixed_kind (first ws) (codes "cl") (words_first (verb CleanerCrash) part.Cleaner (drop 1 (parts CleanerCrash)) ws e)
-form_kind CleanerRestart ws e = fixed_kind (first ws) (codes "cl") (words_first (verb CleanerRestart) part.Cleaner (drop 1 (parts CleanerRestart)) ws e)
-form_kind Clean ws e = fixed_kind (first ws) (codes "cl") (words_first (verb Clean) part.Cleaner (drop 1 (parts Clean)) ws e)
-form_kind ManagerCrash ws e = manager_kind (first ws) (words_first (verb ManagerCrash) part.Manager (drop 1 (parts ManagerCrash)) ws e)
-form_kind ManagerRestart ws e = manager_kind (first ws) (words_first (verb ManagerRestart) part.Manager (drop 1 (parts ManagerRestart)) ws e)
-form_kind Checkpoint ws e = manager_kind (first ws) (words_first (verb Checkpoint) part.Manager (drop 1 (parts Checkpoint)) ws e)
-form_kind Lose ws e = server_kind (first ws) (words_first (verb Lose) part.Server (drop 1 (parts Lose)) ws e)
-form_kind Rebuild ws e = server_kind (first ws) (words_first (verb Rebuild) part.Server (drop 1 (parts Rebuild)) ws e)
-form_kind ServerStop ws e = server_kind (first ws) (words_first (verb ServerStop) part.Server (drop 1 (parts ServerStop)) ws e)
-form_kind ServerStart ws e = server_kind (first ws) (words_first (verb ServerStart) part.Server (drop 1 (parts ServerStart)) ws e)
-form_kind Move ws e = fixed_kind (first ws) (codes "reg") (words_first (verb Move) part.Registry (drop 1 (parts Move)) ws e)
-form_kind BoardStop ws e = board_kind (first ws) (words_first (verb BoardStop) part.Board (drop 1 (parts BoardStop)) ws e)
-form_kind BoardStart ws e = board_kind (first ws) (words_first (verb BoardStart) part.Board (drop 1 (parts BoardStart)) ws e)
-form_kind NetLose ws e = fixed_kind (first ws) (codes "net") (words_first (verb NetLose) part.Network (drop 1 (parts NetLose)) ws e)
-form_kind NetAgain ws e = fixed_kind (first ws) (codes "net") (words_first (verb NetAgain) part.Network (drop 1 (parts NetAgain)) ws e)
-form_kind NetMix ws e = fixed_kind (first ws) (codes "net") (words_first (verb NetMix) part.Network (drop 1 (parts NetMix)) ws e)
-form_kind NetHold ws e = fixed_kind (first ws) (codes "net") (words_first (verb NetHold) part.Network (drop 1 (parts NetHold)) ws e)
-form_kind NetGo ws e = fixed_kind (first ws) (codes "net") (words_first (verb NetGo) part.Network (drop 1 (parts NetGo)) ws e)
-form_kind NetStep ws e = fixed_kind (first ws) (codes "net") (words_first (verb NetStep) part.Network (drop 1 (parts NetStep)) ws e)
+-- a part that names a node is spelled by the first word, which tells the kind of the node
+at_node : (p : Part) (v : List ℕ) (ws : List (List ℕ)) → nat_lt (kind_of_part p) 7 ≡ true → looks p v (piece_of p ws) ≡ true
+    → (behind_part p ws ≡ behind ws) × (kind_of_word (first ws) ≡ kind_of_part p)
+at_node part.Client v ws n e = (refl, client_kind (first ws) e)
+at_node part.Manager v ws n e = (refl, manager_kind (first ws) e)
+at_node part.Server v ws n e = (refl, server_kind (first ws) e)
+at_node part.Board v ws n e = (refl, board_kind (first ws) e)
+at_node part.Cleaner v ws n e = (refl, fixed_kind (first ws) (codes "cl") e)
+at_node part.Registry v ws n e = (refl, fixed_kind (first ws) (codes "reg") e)
+at_node part.Network v ws n e = (refl, fixed_kind (first ws) (codes "net") e)
+at_node p v ws n e = absurd (true_false false n refl)
+
+-- what the first two words of a line with the words of these parts tell
+first_two : (v : List ℕ) (ps : List Part) (ws : List (List ℕ)) → begins ps ≡ true → has_words v ps ws ≡ true
+    → (first (behind ws) ≡ v) × (kind_of_word (first ws) ≡ kind_of_parts ps)
+first_two v (p ∷ part.Verb ∷ rest) ws n e =
+    let t = at_node p v ws n (words_first v p (part.Verb ∷ rest) ws e) in
+    (words_verb v p rest ws t.0 e, t.1)
+first_two v ps ws n e = absurd (true_false false n refl)
 
 -- the form of a kind and a word
 abbrev form_by : ℕ → List ℕ → Option Form
@@ -209,118 +155,51 @@ form_told NetHold = refl
 form_told NetGo = refl
 form_told NetStep = refl
 
+-- a place in the list of all where a form stands
+record Stands (f : Form) : Type 0 where
+  pub place : ℕ
+  pub below : place < 32
+  pub there : get_or all_forms place f ≡ f
+
+stands_at : (p : Form → Bool) (o : Option ℕ) (f : Form) → position p all_forms ≡ o → form_at o ≡ Some f → Stands f
+stands_at p None f g e = absurd (grind (arith, e))
+stands_at p (Some i) f g e =
+    let s = position-Some p all_forms i f g in
+    let t : slice_get all_forms i ≡ Some (get_or all_forms i f) = slice_get-get_or all_forms i f s.0 in
+    let u : Some (get_or all_forms i f) ≡ Some f = sym t ∙ e in
+    let v : get_or all_forms i f ≡ f = cc in
+    record { place = i; below = s.0; there = v }
+
+-- each form stands in it
+stands : (f : Form) → Stands f
+stands f =
+    let p : Form → Bool = λ g. (kind_of g == kind_of f) && bytes_eq (verb f) (verb g) in
+    stands_at p (position p all_forms) f refl (form_told f)
+
+-- what is so of all in the list is so of each form
+pub each_form : (p : Form → Bool) → list_all p all_forms ≡ true → (f : Form) → p f ≡ true
+each_form p all f = at_test (p f) refl
+  where
+    at_test : (t : Bool) → p f ≡ t → t ≡ true
+    at_test true e = refl
+    at_test false e =
+        let s = stands f in
+        absurd (true_false (list_all p all_forms) all (list_all_at p all_forms s.place f s.below (ap p s.there ∙ e)))
+
+form_begins : (f : Form) → begins (parts f) ≡ true
+form_begins f = each_form (λ g. begins (parts g)) refl f
+
 -- the words are of one form
 pub one_form : (f g : Form) (ws : List (List ℕ)) → has_words (verb f) (parts f) ws ≡ true → has_words (verb g) (parts g) ws ≡ true → f ≡ g
 one_form f g ws e h =
-    let k : kind_of f ≡ kind_of g = sym (form_kind f ws e) ∙ form_kind g ws h in
-    let v : verb f ≡ verb g = sym (form_verb f ws e) ∙ form_verb g ws h in
+    let a = first_two (verb f) (parts f) ws (form_begins f) e in
+    let b = first_two (verb g) (parts g) ws (form_begins g) h in
+    let k : kind_of f ≡ kind_of g = sym a.1 ∙ b.1 in
+    let v : verb f ≡ verb g = sym a.0 ∙ b.0 in
     some_same f g (sym (form_told f) ∙ ap (λ x. form_by x (verb f)) k ∙ ap (λ x. form_by (kind_of g) x) v ∙ form_told g)
   where
     some_same : (a b : Form) → Some a ≡ Some b → a ≡ b
     some_same a b e = cc
-
--- where a form stands in the list of all
-abbrev place_of : Form → ℕ
-place_of Bput = 0
-place_of Bget = 1
-place_of Sync = 2
-place_of Mk = 3
-place_of Mkdir = 4
-place_of Put = 5
-place_of Get = 6
-place_of Size = 7
-place_of Ls = 8
-place_of Rm = 9
-place_of Mv = 10
-place_of ClientCrash = 11
-place_of ClientRestart = 12
-place_of CleanerCrash = 13
-place_of CleanerRestart = 14
-place_of Clean = 15
-place_of ManagerCrash = 16
-place_of ManagerRestart = 17
-place_of Checkpoint = 18
-place_of Lose = 19
-place_of Rebuild = 20
-place_of ServerStop = 21
-place_of ServerStart = 22
-place_of Move = 23
-place_of BoardStop = 24
-place_of BoardStart = 25
-place_of NetLose = 26
-place_of NetAgain = 27
-place_of NetMix = 28
-place_of NetHold = 29
-place_of NetGo = 30
-place_of NetStep = 31
-
-stands : (f d : Form) → get_or all_forms (place_of f) d ≡ f
-stands Bput d = refl
-stands Bget d = refl
-stands Sync d = refl
-stands Mk d = refl
-stands Mkdir d = refl
-stands Put d = refl
-stands Get d = refl
-stands Size d = refl
-stands Ls d = refl
-stands Rm d = refl
-stands Mv d = refl
-stands ClientCrash d = refl
-stands ClientRestart d = refl
-stands CleanerCrash d = refl
-stands CleanerRestart d = refl
-stands Clean d = refl
-stands ManagerCrash d = refl
-stands ManagerRestart d = refl
-stands Checkpoint d = refl
-stands Lose d = refl
-stands Rebuild d = refl
-stands ServerStop d = refl
-stands ServerStart d = refl
-stands Move d = refl
-stands BoardStop d = refl
-stands BoardStart d = refl
-stands NetLose d = refl
-stands NetAgain d = refl
-stands NetMix d = refl
-stands NetHold d = refl
-stands NetGo d = refl
-stands NetStep d = refl
-
-stands_below : (f : Form) → place_of f < 32
-stands_below Bput = omega arith
-stands_below Bget = omega arith
-stands_below Sync = omega arith
-stands_below Mk = omega arith
-stands_below Mkdir = omega arith
-stands_below Put = omega arith
-stands_below Get = omega arith
-stands_below Size = omega arith
-stands_below Ls = omega arith
-stands_below Rm = omega arith
-stands_below Mv = omega arith
-stands_below ClientCrash = omega arith
-stands_below ClientRestart = omega arith
-stands_below CleanerCrash = omega arith
-stands_below CleanerRestart = omega arith
-stands_below Clean = omega arith
-stands_below ManagerCrash = omega arith
-stands_below ManagerRestart = omega arith
-stands_below Checkpoint = omega arith
-stands_below Lose = omega arith
-stands_below Rebuild = omega arith
-stands_below ServerStop = omega arith
-stands_below ServerStart = omega arith
-stands_below Move = omega arith
-stands_below BoardStop = omega arith
-stands_below BoardStart = omega arith
-stands_below NetLose = omega arith
-stands_below NetAgain = omega arith
-stands_below NetMix = omega arith
-stands_below NetHold = omega arith
-stands_below NetGo = omega arith
-stands_below NetStep = omega arith
 
 -- a test that passes nowhere in a list fails at each place
 not_found : (t : Bool) (n : ℕ) → (if t then Some n else None) ≡ None → t ≡ false
@@ -333,16 +212,14 @@ none_at p xs i d e l =
     let m = ltb-false (position_or_len p xs) (length xs) f in
     fails_before_first p xs i d (omega (arith, l, m))
 
-true_false : (t : Bool) → t ≡ true → t ≡ false → ⊥
-true_false t e f = let g : true ≡ false = sym e ∙ f in cc
-
 pub no_form : (ws : List (List ℕ)) → form_of ws ≡ None → (f : Form) → has_words (verb f) (parts f) ws ≡ true → ⊥
 unfolding form_of
 no_form ws e f h =
     let p : Form → Bool = λ g. has_words (verb g) (parts g) ws in
     let n : position p all_forms ≡ None = no_place p (position p all_forms) refl e in
-    let x : p (get_or all_forms (place_of f) f) ≡ false = none_at p all_forms (place_of f) f n (stands_below f) in
-    let y : has_words (verb f) (parts f) ws ≡ false = rw (stands f f) at x in
+    let s = stands f in
+    let x : p (get_or all_forms s.place f) ≡ false = none_at p all_forms s.place f n s.below in
+    let y : has_words (verb f) (parts f) ws ≡ false = sym (ap p s.there) ∙ x in
     true_false (has_words (verb f) (parts f) ws) h y
   where
     no_place : (p : Form → Bool) (o : Option ℕ) → position p all_forms ≡ o → form_at o ≡ None → o ≡ None

@@ -16,10 +16,10 @@ pub fn spells(word: &[u8], text: &[u8]) -> bool
     word == text
 }
 
-/// The number that a word writes in decimal digits, without a sign or a leading zero; none where it
-/// writes no number below 2^32.
-fn decimal_of(word: &[u8]) -> Option<u32>
-    ensures { MatchOption result ((n : _) → n < 2 ^ 32 → word.now ≢ decimal n) (λ n. word.now ≡ decimal n) }
+/// The number below 2^64 that a word writes in decimal digits, without a sign or a leading zero; none
+/// where it writes no such number.
+pub fn decimal_of(word: &[u8]) -> Option<u64>
+    ensures { MatchOption result ((n : _) → n < 2 ^ 64 → word.now ≢ decimal n) (λ n. word.now ≡ decimal n) }
 {
     if word.is_empty() {
         return None;
@@ -31,7 +31,7 @@ fn decimal_of(word: &[u8]) -> Option<u32>
         return if word.len() == 1 { Some(0) } else { None };
     }
     match str::from_utf8(word) {
-        Ok(text) => match text.parse::<u32>() {
+        Ok(text) => match text.parse::<u64>() {
             Ok(number) => Some(number),
             Err(_) => None,
         },
@@ -46,7 +46,13 @@ pub fn number_of(word: &[u8]) -> Option<u32>
 {
     match decimal_of(word) {
         None => None,
-        Some(number) => Some(number),
+        Some(number) => {
+            if number <= u32::MAX as u64 {
+                Some(number as u32)
+            } else {
+                None
+            }
+        }
     }
 }
 
