@@ -10,10 +10,13 @@ use Rattle.xfs_base.specs.declared.node.NodeId.TheVariants as nodes
 use Rattle.xfs_base.specs.Limits.{max_lines, max_bytes}
 use Rattle.version_model.specs.declared.work.Work.{Work}
 use Rattle.version_model.specs.declared.work.Work.TheVariants as works
+use Rattle.script_text.specs.declared.form.Form.{Form}
 use Rattle.script_text.specs.declared.form.Form.TheVariants as form
+use Rattle.script_text.specs.declared.form.Part.TheVariants as part
 use Rattle.script_text.specs.declared.script.Line.{Line}
 use Rattle.script_text.specs.declared.script.Script.{Script}
 use Rattle.script_text.specs.Text.{quoted}
+use Rattle.script_text.specs.Forms.{Meanings, parts, work_of}
 use Rattle.script_text.specs.Spelling.{Context}
 use Rattle.script_text.specs.Script.{IsScriptOf, text_size, item_at}
 use Rattle.script_text.proofs.WordLemmas.{own, wide}
@@ -21,6 +24,7 @@ use Rattle.script_print.specs.declared.draws.Draws.{Draws}
 use Rattle.script_print.specs.Printing.{text_body, work_line, item_text, items_text, setup_lines, ended, printed}
 use Rattle.script_print.specs.Generator.{client_of, manager_of, server_of, block_of, draws_from, fall_of, turn_works, works_from, numbered, generated, generated_setup}
 use Rattle.script_print.proofs.Bytes.{AreBytes, text_spelled, decimal_short, body_short}
+use Rattle.script_print.proofs.LineReads.{AllFit}
 use Rattle.script_print.proofs.ItemLines.{IsAsked}
 use Rattle.script_print.proofs.Extracts.{IsSetup, AreAsked, Whole}
 use Rattle.script_print.proofs.Printings.{whole_spelled}
@@ -219,95 +223,50 @@ order_long letter k verb h l =
     let e : length (decimal k ++ 32 ∷ verb) ≤ 21 = two_long k verb h l in
     omega (arith, e)
 
-sync_drawn : (k : ℕ) → k < 4 → IsDrawn (works.Sync (k + 1))
-sync_drawn k h = record {
-  asked = λ room l. record {
-    form = form.Sync;
-    meanings = (k + 1, (tt, tt));
-    fits = ((99 ∷ decimal (k + 1), ((omega (arith, h), refl), (omega arith, omega (arith, h))), tt), (([], (tt, tt), tt), tt));
-    meant = refl;
-    time = omega arith;
-    alone = λ x. refl;
-  };
-  size = omega arith;
-  short = order_long 99 (k + 1) (codes "sync") (omega (arith, h)) (omega arith);
+-- a node is one of its kind, and nothing else is asked of it than the verb says
+client_fits : (k : ℕ) → k < 4 → (room : ℕ) → AllFit (Room room) (part.Client ∷ part.Verb ∷ []) (k + 1, (tt, tt))
+client_fits k h room = ((99 ∷ decimal (k + 1), ((omega (arith, h), refl), (omega arith, omega (arith, h))), tt), (([], (tt, tt), tt), tt))
+
+manager_fits : (k : ℕ) → k < 2 → (room : ℕ) → AllFit (Room room) (part.Manager ∷ part.Verb ∷ []) (k + 1, (tt, tt))
+manager_fits k h room = ((109 ∷ decimal (k + 1), ((omega (arith, h), refl), (omega arith, omega (arith, h))), tt), (([], (tt, tt), tt), tt))
+
+server_fits : (k : ℕ) → k < 6 → (room : ℕ) → AllFit (Room room) (part.Server ∷ part.Verb ∷ []) (k + 1, (tt, tt))
+server_fits k h room = ((115 ∷ decimal (k + 1), ((omega (arith, h), refl), (omega arith, omega (arith, h))), tt), (([], (tt, tt), tt), tt))
+
+-- a work without a text, asked for by a form whose parts fit wherever it stands
+order_drawn : (w : Work) (f : Form) (v : Meanings (parts f)) → w ≡ work_of f v → ((room : ℕ) → AllFit (Room room) (parts f) v) → text_size w ≤ 10
+    → length (work_line w) ≤ 100 → IsDrawn w
+order_drawn w f v meant fits size short = record {
+  asked = λ room l. record { form = f; meanings = v; fits = fits room; meant = meant; time = omega arith; alone = λ x. refl };
+  size = size;
+  short = short;
 }
+
+sync_drawn : (k : ℕ) → k < 4 → IsDrawn (works.Sync (k + 1))
+sync_drawn k h =
+    order_drawn (works.Sync (k + 1)) form.Sync (k + 1, (tt, tt)) refl (client_fits k h) (omega arith)
+    (order_long 99 (k + 1) (codes "sync") (omega (arith, h)) (omega arith))
 
 client_fall : (k : ℕ) → k < 4 → AreDrawn (fall_of (nodes.Client (k + 1)))
-client_fall k h = (
-  record {
-    asked = λ room l. record {
-      form = form.ClientCrash;
-      meanings = (k + 1, (tt, tt));
-      fits = ((99 ∷ decimal (k + 1), ((omega (arith, h), refl), (omega arith, omega (arith, h))), tt), (([], (tt, tt), tt), tt));
-      meant = refl;
-      time = omega arith;
-      alone = λ x. refl;
-    };
-    size = omega arith;
-    short = order_long 99 (k + 1) (codes "crash") (omega (arith, h)) (omega arith);
-  },
-  (
-    record {
-      asked = λ room l. record {
-        form = form.ClientRestart;
-        meanings = (k + 1, (tt, tt));
-        fits = ((99 ∷ decimal (k + 1), ((omega (arith, h), refl), (omega arith, omega (arith, h))), tt), (([], (tt, tt), tt), tt));
-        meant = refl;
-        time = omega arith;
-        alone = λ x. refl;
-      };
-      size = omega arith;
-      short = order_long 99 (k + 1) (codes "restart") (omega (arith, h)) (omega arith);
-    },
-    tt,
-  ),
-)
+client_fall k h =
+    let crash = order_long 99 (k + 1) (codes "crash") (omega (arith, h)) (omega arith) in
+    let restart = order_long 99 (k + 1) (codes "restart") (omega (arith, h)) (omega arith) in (
+      order_drawn (works.Crash (nodes.Client (k + 1))) form.ClientCrash (k + 1, (tt, tt)) refl (client_fits k h) (omega arith) crash,
+      (order_drawn (works.Restart (nodes.Client (k + 1))) form.ClientRestart (k + 1, (tt, tt)) refl (client_fits k h) (omega arith) restart, tt),
+    )
 
 manager_fall : (k : ℕ) → k < 2 → AreDrawn (fall_of (nodes.Manager (k + 1)))
-manager_fall k h = (
-  record {
-    asked = λ room l. record {
-      form = form.ManagerCrash;
-      meanings = (k + 1, (tt, tt));
-      fits = ((109 ∷ decimal (k + 1), ((omega (arith, h), refl), (omega arith, omega (arith, h))), tt), (([], (tt, tt), tt), tt));
-      meant = refl;
-      time = omega arith;
-      alone = λ x. refl;
-    };
-    size = omega arith;
-    short = order_long 109 (k + 1) (codes "crash") (omega (arith, h)) (omega arith);
-  },
-  (
-    record {
-      asked = λ room l. record {
-        form = form.ManagerRestart;
-        meanings = (k + 1, (tt, tt));
-        fits = ((109 ∷ decimal (k + 1), ((omega (arith, h), refl), (omega arith, omega (arith, h))), tt), (([], (tt, tt), tt), tt));
-        meant = refl;
-        time = omega arith;
-        alone = λ x. refl;
-      };
-      size = omega arith;
-      short = order_long 109 (k + 1) (codes "restart") (omega (arith, h)) (omega arith);
-    },
-    tt,
-  ),
-)
+manager_fall k h =
+    let crash = order_long 109 (k + 1) (codes "crash") (omega (arith, h)) (omega arith) in
+    let restart = order_long 109 (k + 1) (codes "restart") (omega (arith, h)) (omega arith) in (
+      order_drawn (works.Crash (nodes.Manager (k + 1))) form.ManagerCrash (k + 1, (tt, tt)) refl (manager_fits k h) (omega arith) crash,
+      (order_drawn (works.Restart (nodes.Manager (k + 1))) form.ManagerRestart (k + 1, (tt, tt)) refl (manager_fits k h) (omega arith) restart, tt),
+    )
 
 check_drawn : (k : ℕ) → k < 2 → IsDrawn (works.Checkpoint (k + 1))
-check_drawn k h = record {
-  asked = λ room l. record {
-    form = form.Checkpoint;
-    meanings = (k + 1, (tt, tt));
-    fits = ((109 ∷ decimal (k + 1), ((omega (arith, h), refl), (omega arith, omega (arith, h))), tt), (([], (tt, tt), tt), tt));
-    meant = refl;
-    time = omega arith;
-    alone = λ x. refl;
-  };
-  size = omega arith;
-  short = order_long 109 (k + 1) (codes "checkpoint") (omega (arith, h)) (omega arith);
-}
+check_drawn k h =
+    order_drawn (works.Checkpoint (k + 1)) form.Checkpoint (k + 1, (tt, tt)) refl (manager_fits k h) (omega arith)
+    (order_long 109 (k + 1) (codes "checkpoint") (omega (arith, h)) (omega arith))
 
 clean_drawn : IsDrawn (works.Clean 2)
 clean_drawn =
@@ -326,35 +285,12 @@ clean_drawn =
     }
 
 lose_drawn : (k : ℕ) → k < 6 → AreDrawn (works.Lose (k + 1) ∷ works.Rebuild (k + 1) ∷ [])
-lose_drawn k h = (
-  record {
-    asked = λ room l. record {
-      form = form.Lose;
-      meanings = (k + 1, (tt, tt));
-      fits = ((115 ∷ decimal (k + 1), ((omega (arith, h), refl), (omega arith, omega (arith, h))), tt), (([], (tt, tt), tt), tt));
-      meant = refl;
-      time = omega arith;
-      alone = λ x. refl;
-    };
-    size = omega arith;
-    short = order_long 115 (k + 1) (codes "lose") (omega (arith, h)) (omega arith);
-  },
-  (
-    record {
-      asked = λ room l. record {
-        form = form.Rebuild;
-        meanings = (k + 1, (tt, tt));
-        fits = ((115 ∷ decimal (k + 1), ((omega (arith, h), refl), (omega arith, omega (arith, h))), tt), (([], (tt, tt), tt), tt));
-        meant = refl;
-        time = omega arith;
-        alone = λ x. refl;
-      };
-      size = omega arith;
-      short = order_long 115 (k + 1) (codes "rebuild") (omega (arith, h)) (omega arith);
-    },
-    tt,
-  ),
-)
+lose_drawn k h =
+    let lose = order_long 115 (k + 1) (codes "lose") (omega (arith, h)) (omega arith) in
+    let rebuild = order_long 115 (k + 1) (codes "rebuild") (omega (arith, h)) (omega arith) in (
+      order_drawn (works.Lose (k + 1)) form.Lose (k + 1, (tt, tt)) refl (server_fits k h) (omega arith) lose,
+      (order_drawn (works.Rebuild (k + 1)) form.Rebuild (k + 1, (tt, tt)) refl (server_fits k h) (omega arith) rebuild, tt),
+    )
 
 turn_drawn : (turn : ℕ) (d : Draws) → turn < 2 ^ 32 → AreDrawn (turn_works turn d)
 turn_drawn turn d t =

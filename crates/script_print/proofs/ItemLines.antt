@@ -12,6 +12,7 @@ use Rattle.script_text.specs.Words.{Lacks, words, first, behind, or_empty}
 use Rattle.script_text.specs.Forms.{Meanings, verb, parts, is_net, work_of, has_words}
 use Rattle.script_text.specs.Spelling.{Context, Means, Mean}
 use Rattle.script_text.specs.Script.{is_timed, untimed, a_time, IsItem, is_silent, is_setup_word}
+use Rattle.script_text.proofs.FormOf.{each_form}
 use Rattle.script_text.proofs.Parts.{parted_cut, not_empty_parts}
 use Rattle.script_print.specs.Printing.{by, asked, asked_line, form_line, work_line, after_text}
 use Rattle.script_print.proofs.Bytes.{lacks_test, lacks_join, decimal_lacks}
@@ -25,38 +26,7 @@ is_regular f =
     (length (parts f))
 
 regular : (f : Form) → is_regular f ≡ true
-regular Bput = refl
-regular Bget = refl
-regular Sync = refl
-regular Mk = refl
-regular Mkdir = refl
-regular Put = refl
-regular Get = refl
-regular Size = refl
-regular Ls = refl
-regular Rm = refl
-regular Mv = refl
-regular ClientCrash = refl
-regular ClientRestart = refl
-regular CleanerCrash = refl
-regular CleanerRestart = refl
-regular Clean = refl
-regular ManagerCrash = refl
-regular ManagerRestart = refl
-regular Checkpoint = refl
-regular Lose = refl
-regular Rebuild = refl
-regular ServerStop = refl
-regular ServerStart = refl
-regular Move = refl
-regular BoardStop = refl
-regular BoardStart = refl
-regular NetLose = refl
-regular NetAgain = refl
-regular NetMix = refl
-regular NetHold = refl
-regular NetGo = refl
-regular NetStep = refl
+regular f = each_form is_regular refl f
 
 -- the line that asks for the work of a form
 asked_of : (f : Form) (v : Meanings (parts f)) → asked (work_of f v) ≡ by f v
