@@ -1,16 +1,11 @@
 -- What a client puts fits the format of a segment, by the test that it puts by.
-use Rattle.std.proofs.Common.{◌≡◌, ◌<◌, ℕ, ◌+◌, ◌^◌, ◌&&◌, Bool, true, List, [], ◌∷◌, length, Option, Some, None, nat_lt, nat_le, cond, refl, sym, ap, subst, ◌∙◌, arith}
-use Rattle.std.specs.Prelude.{IfSome}
-use Rattle.std.specs.List.{list_all}
-use Rattle.std.proofs.lemmas.List.Elements.{All-nil, All-cons}
-use Rattle.std.proofs.lemmas.Bool.{leb-true, ltb-true}
-use Rattle.client_call.specs.Fitting.{block_fits, is_byte, value_fits, put_fits}
+use Rattle.std.proofs.Common.{◌≡◌, ◌<◌, ℕ, ◌+◌, ◌^◌, ◌&&◌, Bool, true, List, length, Option, None, nat_lt, cond, refl, sym, ap, subst, ◌∙◌, arith}
+use Rattle.std.proofs.lemmas.Bool.{ltb-true}
+use Rattle.client_call.proofs.Fits.{block_is_fit, value_has_bytes, value_has_length}
+use Rattle.client_call.specs.Fitting.{block_fits, value_fits, put_fits}
 use Rattle.client_running.specs.Blocks.{wrote}
 use Rattle.client_serving.specs.declared.serving.Serving.{Serving}
 use Rattle.client_serving.specs.Flights.{held_at}
-use Rattle.segment_format.specs.Format.{second_version, IsLength, is_length}
-use Rattle.segment_format.specs.Ranges.{FitsBlock}
-use Rattle.stripe_code.specs.Stripe.{IsBytes}
 use Rattle.token_client.proofs.Tables.{held_of-put_itself}
 use Rattle.token_client.specs.declared.held.Held.{Held}
 use Rattle.token_client.specs.Held.{may_write, written}
@@ -20,33 +15,9 @@ use Rattle.xfs_base.proofs.Booleans.{and_first, and_second}
 use Rattle.xfs_base.specs.declared.block.BlockId.{BlockId}
 use Rattle.xfs_base.specs.declared.entry.Entry.{Entry}
 use Rattle.xfs_base.specs.Steps.{still}
-use Rattle.xfs_base.specs.Limits.{max_value}
 use Rattle.client_log.specs.declared.input.In.TheVariants.{Put}
 use Rattle.node_logs.specs.client_log_tie.Puts.{PutsOwn}
 use Rattle.node_logs.specs.client_log_tie.Texts.{PutFits}
-
-block_is_fit : (block : BlockId) → block_fits block ≡ true → FitsBlock block
-block_is_fit block h = (
-  ltb-true block.ino.0 (2 ^ 32) (and_first (nat_lt block.ino.0 (2 ^ 32)) (nat_lt block.blk (2 ^ 32)) h),
-  ltb-true block.blk (2 ^ 32) (and_second (nat_lt block.ino.0 (2 ^ 32)) (nat_lt block.blk (2 ^ 32)) h),
-)
-
-length_is_fit : (n : ℕ) → is_length second_version n ≡ true → IsLength second_version n
-length_is_fit n h = (leb-true 1 n (and_first (nat_le 1 n) (nat_le n max_value) h), leb-true n max_value (and_second (nat_le 1 n) (nat_le n max_value) h))
-
-are_bytes : (bytes : List ℕ) → list_all is_byte bytes ≡ true → IsBytes bytes
-are_bytes [] h = All-nil (λ byte. byte < 256)
-are_bytes (b ∷ bytes) h =
-    All-cons (λ byte. byte < 256) b bytes (ltb-true b 256 (and_first (is_byte b) (list_all is_byte bytes) h))
-    (are_bytes bytes (and_second (is_byte b) (list_all is_byte bytes) h))
-
-value_has_length : (value : Option (List ℕ)) → value_fits value ≡ true → IfSome value (λ bytes. IsLength second_version (length bytes))
-value_has_length None h = tt
-value_has_length (Some bytes) h = length_is_fit (length bytes) (and_first (is_length second_version (length bytes)) (list_all is_byte bytes) h)
-
-value_has_bytes : (value : Option (List ℕ)) → value_fits value ≡ true → IfSome value IsBytes
-value_has_bytes None h = tt
-value_has_bytes (Some bytes) h = are_bytes bytes (and_second (is_length second_version (length bytes)) (list_all is_byte bytes) h)
 
 -- what is written to the log of a block that is put
 abbrev pub written_as : Serving → BlockId → Option (List ℕ) → Entry
