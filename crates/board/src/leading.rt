@@ -4,7 +4,7 @@ ghost use Rattle.std.specs.List.{flat_map};
 ghost use Rattle.xfs_base.specs.Limits.{u32_end};
 ghost use Rattle.board.specs.declared.output.Out.TheVariants.{Apply as Applies};
 ghost use Rattle.board.specs.Lengths.{length_of};
-ghost use Rattle.board.specs.Transition.{boards, send, send_other, send_others, is_whole, extend, extend_by, extend_waiting, on_offer, send_lacking, send_again, tick, extend_or_tick, keep_going, on_leader_beat, would_lead, unheard, prepare, on_beat, may_lead, is_better, lead_with, lead, on_promised, settled, apply_done, on_accepted, has_all_room};
+ghost use Rattle.board.specs.Transition.{boards, send, send_other, send_others, is_whole, extend, extend_by, extend_waiting, on_offer, send_lacking, send_again, tick, keep_going, on_leader_beat, would_lead, unheard, prepare, on_beat, may_lead, is_better, lead_with, lead, on_promised, settled, apply_done, on_accepted, has_all_room};
 
 use crate::ballots::{next_ballot, owner_of};
 use crate::board::Board;
@@ -188,22 +188,6 @@ impl Board {
         Ok(())
     }
 
-    fn extend_or_tick(
-        &mut self,
-        alloc: Global,
-        outs: &mut List<Out>,
-        command: Option<Command>,
-    ) -> Mem<()>
-        requires { length self.old.list < u32_end }
-        ensures state { OnOk result (self.new ≡ (extend_or_tick self.old command).state) }
-        ensures outs { OnOk result (outs.new ≡ outs.old ++ (extend_or_tick self.old command).outs) }
-    {
-        match command {
-            None => self.extend(alloc, outs, tick()),
-            Some(command) => self.extend(alloc, outs, command),
-        }
-    }
-
     #[tactic(auto, unfolding(crate::specs::Transition::keep_going))]
     fn keep_going(&mut self, alloc: Global, outs: &mut List<Out>) -> Mem<()>
         requires { length self.old.list < u32_end }
@@ -213,8 +197,10 @@ impl Board {
         if !self.is_whole() {
             return Ok(());
         }
-        let next = first_outside(alloc, self.list.as_slice(), self.waiting.as_slice())?;
-        self.extend_or_tick(alloc, outs, next)
+        match first_outside(alloc, self.list.as_slice(), self.waiting.as_slice())? {
+            None => self.extend(alloc, outs, tick()),
+            Some(command) => self.extend(alloc, outs, command),
+        }
     }
 
     #[tactic(auto, unfolding(crate::specs::Transition::on_leader_beat))]
