@@ -1,16 +1,14 @@
 //! Reading the parts of a line of an act.
-ghost use Rattle.std.specs.Prelude.{◌≡◌, ◌≢◌, ◌<◌, ◌≤◌, ◌^◌, MatchOption, IfOk, drop};
-ghost use Rattle.std.specs.Fmt.{decimal};
+ghost use Rattle.std.specs.Prelude.{◌≡◌, ◌<◌, ◌≤◌, IfOk, drop};
 ghost use Rattle.script_text.specs.Outcome.{Answers};
 ghost use Rattle.audit.specs.Shapes.{front, back};
 ghost use Rattle.audit.specs.Acts.{read_number, read_counted, long_of, read_long, read_node, read_client, first_is, read_writer, read_block, read_version, value_of, read_value, read_flight, read_fall, IsFew, read_segment};
 
 use crate::shape::parts_at;
 use script_text::text::quoted_text;
-use script_text::word::{number_of, spells};
+use script_text::word::{decimal_of, number_of, spells};
 use script_text::{Kind, LineError};
 use std::alloc::Global;
-use std::str;
 use version_model::Fall;
 use xfs_base::limits::{MAX_VALUE, MOST_CLIENTS, MOST_MANAGERS};
 use xfs_base::{BlockId, Ino, NodeId, Pass, SegName, Text, Value, ValueError};
@@ -40,28 +38,6 @@ fn read_counted(word: &[u8]) -> Result<u32, LineError>
         return Err(LineError::Bad(Kind::BadNumber));
     }
     Ok(number)
-}
-
-/// The number below 2^64 that a word writes in decimal digits, without a sign or a leading zero.
-fn decimal_of(word: &[u8]) -> Option<u64>
-    ensures { MatchOption result ((n : _) → n < 2 ^ 64 → word.now ≢ decimal n) (λ n. word.now ≡ decimal n) }
-{
-    if word.is_empty() {
-        return None;
-    }
-    if word[0] == b'+' {
-        return None;
-    }
-    if word[0] == b'0' {
-        return if word.len() == 1 { Some(0) } else { None };
-    }
-    match str::from_utf8(word) {
-        Ok(text) => match text.parse::<u64>() {
-            Ok(number) => Some(number),
-            Err(_) => None,
-        },
-        Err(_) => None,
-    }
 }
 
 /// The number below 2^64 of a word.
