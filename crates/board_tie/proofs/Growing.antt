@@ -18,7 +18,7 @@ use Rattle.board_tie.specs.Follows.{Follows}
 use Rattle.board_tie.specs.Shown.{Shows, flag, owner}
 use Rattle.board_tie.proofs.Lists.{outside}
 use Rattle.board_tie.proofs.Moves.{stays, changes, goes_on, others_sent, others_quiet, quiet}
-use Rattle.board_tie.proofs.Showing.{grown_shows}
+use Rattle.board_tie.proofs.Showing.{grown_shows, offered_shows}
 
 abbrev pub append_of : ℕ → ℕ → Command → packets.Append Command
 append_of ballot place command = record { ballot = ballot; place = place; command = command }
@@ -83,20 +83,7 @@ module _ (w : World Command) (place : ℕ) (s : BoardState) (shows : Shows place
       let more = record s { waiting = s.waiting ++ (c ∷ []) } in
       let offered : Follows w place (still more) =
       changes w place (offers w place c) (record x { waiting = x.waiting ++ (c ∷ []) }) (still more) (Offers place c (is_up w place s shows up)) refl
-      (record {
-        number = shows.number;
-        up = shows.up;
-        promised = shows.promised;
-        ballot = shows.ballot;
-        list = shows.list;
-        waiting = ap (λ waiting. waiting ++ (c ∷ [])) shows.waiting;
-        leads = shows.leads;
-        first = shows.first;
-        second = shows.second;
-        third = shows.third;
-        done = shows.done;
-        applied = shows.applied;
-      })
+      (offered_shows place x s shows c)
       (quiet x.applied [] refl) tt
       in
       goes_on w place reached (still more) (extend_waiting more) offered (waiting_follows offered.world place more offered.shows up)
