@@ -1,4 +1,7 @@
+pub mod LogWalk
 pub mod client_walk
 pub mod manager_walk
+pub mod OpeningSays
+pub mod OpeningWalk
 pub mod OpeningMaps
 pub mod Effects

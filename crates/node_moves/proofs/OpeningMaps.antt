@@ -1,5 +1,5 @@
 -- Of the maps that the opening of a log knows the same is known, whatever is told to it, as long as it is so of the maps that are said to it.
-use Rattle.std.proofs.Common.{ℕ, ◌&&◌, List, [], ◌∷◌, Option, Some, None}
+use Rattle.std.proofs.Common.{ℕ, List, [], Option, Some, None}
 use Rattle.client_log.specs.declared.input.In.{In as LogIn}
 use Rattle.client_log.specs.declared.input.In.TheVariants as log_in
 use Rattle.client_log.specs.Transition as log_steps
@@ -11,21 +11,14 @@ use Rattle.log_owner.specs.declared.opening.Opening.{Opening}
 use Rattle.log_owner.specs.declared.opening.Scanning.{Scanning}
 use Rattle.log_owner.specs.declared.opening.Settling.{Settling}
 use Rattle.log_owner.specs.declared.opening.Stage.{Stage}
-use Rattle.log_owner.specs.declared.opening.Stage.TheVariants as stage
-use Rattle.log_owner.specs.Opening.{Went, Moved, stays, drops, at_scan, behind, writes, opens, settles_over, follows, said, scanned, scans_on, scans_at, scans, welcomed_with, welcomed, welcomed_as, is_meant, welcomed_in, on_welcome, regrouped, on_news, is_fenced, fenced_by, on_fenced, by_server, own_in, answers, found_by, missing_by, on_found, on_missing, on_stored, on_tick, on_body, on_packet, went, written, nothing_asked}
+use Rattle.log_owner.specs.Opening.{Went, Moved, at_scan, behind, writes, opens, settles_over, scanned, scans_on, welcomed_with, welcomed, on_tick, on_packet, written, nothing_asked}
 use Rattle.log_owner.specs.Promised.{promised_in}
-use Rattle.log_owner.specs.Sending.{hello, server_in}
 use Rattle.log_scan.specs.declared.input.In.{In}
 use Rattle.log_scan.specs.declared.input.In.TheVariants as input
-use Rattle.log_scan.specs.declared.output.Out.{Out}
-use Rattle.log_scan.specs.declared.output.Out.TheVariants as out
 use Rattle.log_scan.specs.Transition as scan
-use Rattle.node_base.specs.Asking.{next_ask, drawn, drawn_for, asked_as, own_of}
-use Rattle.node_base.specs.declared.questions.Asked.{Asked}
 use Rattle.node_base.specs.declared.maps.Maps.{Maps}
 use Rattle.node_base.specs.declared.questions.Questions.{Questions}
-use Rattle.node_base.specs.Known.{names_known}
-use Rattle.node_base.specs.Maps.{fits, is_older, taken}
+use Rattle.node_base.specs.Maps.{taken}
 use Rattle.node_base.specs.Shape.{is_log}
 use Rattle.segment_format.specs.declared.segment.Segment.{Segment}
 use Rattle.wire_msg.specs.declared.body.Body.{Body}
@@ -33,11 +26,13 @@ use Rattle.wire_msg.specs.declared.body.Body.TheVariants as body
 use Rattle.wire_msg.specs.declared.packet.Packet.{Packet}
 use Rattle.wire_msg.specs.declared.registry.News.{News}
 use Rattle.wire_msg.specs.declared.registry.Welcome.{Welcome}
-use Rattle.wire_msg.specs.declared.storage.Stored.{Stored}
 use Rattle.xfs_base.proofs.Booleans.{by_test}
 use Rattle.xfs_base.specs.declared.node.NodeId.{NodeId}
 use Rattle.xfs_base.specs.declared.segment.End.{End}
-use Rattle.xfs_base.specs.Steps.{still, steps}
+use Rattle.xfs_base.specs.Steps.{still}
+use Rattle.node_moves.proofs.OpeningSays.{follows_so}
+use Rattle.node_moves.proofs.OpeningWalk as walked
+use Rattle.node_moves.proofs.OpeningWalk.{Walk}
 
 pub record MapLaw : Type 1 where
   -- what is known of the maps of a node, if it has some, of the maps that are said, and of a body that comes from a node
@@ -80,117 +75,46 @@ module _ (w : MapLaw) where
         by_test Goes (is_log k.owner.log.0) (writes k (behind k (record { segments = segments; end = end; low = low }) groups) (log_in.Parts []))
         (still (at_scan k s)) (λ _. writes_so (behind k (record { segments = segments; end = end; low = low }) groups) (log_in.Parts [])) (λ _. h)
 
-    none_ends : (s : Scanning) → Goes (follows k s None)
-    unfolding follows
-    none_ends s = h
-
-    -- whatever the scan tells, what is next behind it leaves the maps so
-    scanned_ends : (low : ℕ) (a : Asked) (q : Questions) (e : _) (outs : List Out) → ((s : Scanning) → Goes (follows k s e)) → (s : Scanning)
-        → Goes (follows k s (steps (said k.owner low) (record { asked = a; questions = q; ended = e }) outs).state.ended)
-    unfolding follows said
-    scanned_ends low a q e [] ends = ends
-    scanned_ends low a q e (out.Hello own ∷ outs) ends = scanned_ends low (asked_as a q own) (drawn_for a q own) e outs ends
-    scanned_ends low a q e (out.Fence server ∷ outs) ends = scanned_ends low a q e outs ends
-    scanned_ends low a q e (out.Fetch server name own ∷ outs) ends = scanned_ends low (asked_as a q own) (drawn_for a q own) e outs ends
-    scanned_ends low a q e (out.Chain segments end prior ∷ outs) ends =
-        scanned_ends low a q _ outs (λ s. settles_so s segments end low k.maps.groups)
-    scanned_ends low a q e (out.Lost name ∷ outs) ends = scanned_ends low a q _ outs (λ s. tt)
-
     scans_so : (q : Questions) (s : Scanning) (i : In) → WentSo (scans_on k q s i)
     unfolding scans_on
     scans_so q s i =
         let r : scan.Done = scan.transition s.scan i in
-        let e = scanned k.owner r.state.opening.low s.asked q r.outs in
-        scanned_ends r.state.opening.low s.asked q None r.outs none_ends (record { scan = r.state; asked = e.state.asked })
-
-    scans_at_so : (q : Questions) (i : In) (at : Stage) → WentSo (scans_at k q i at)
-    scans_at_so q i (stage.Scanning s) = scans_so q s i
-    scans_at_so q i (stage.Settling s) = h
-
-    regrouped_so : (q : Questions) (groups : GroupMapState) (at : Stage) → WentSo (regrouped k q groups at)
-    regrouped_so q groups (stage.Scanning s) = scans_so q s (input.Maps groups)
-    regrouped_so q groups (stage.Settling s) = writes_so s (log_in.Maps groups)
-
-    stored_so : (at : Stage) (q : Questions) (m : Stored) → WentSo (on_stored (record { known = k; stage = at }) q m)
-    unfolding on_stored
-    stored_so (stage.Scanning s) q m = h
-    stored_so (stage.Settling s) q m = writes_so s (log_in.Acked m.name m.index m.generation)
-
-    tick_so : (at : Stage) (q : Questions) → WentSo (on_tick (record { known = k; stage = at }) q)
-    unfolding on_tick
-    tick_so (stage.Scanning s) q = scans_so q s input.Tick
-    tick_so (stage.Settling s) q = writes_so s log_in.Tick
-
-    answers_so : (at : Stage) (q : Questions) (f : ℕ → In) (own : Option ℕ) → WentSo (answers (record { known = k; stage = at }) q f own)
-    answers_so at q f None = h
-    answers_so at q f (Some own) = scans_at_so q (f own) at
-
-    by_server_so : (at : Stage) (q : Questions) (f : ℕ → Went) → ((server : ℕ) → WentSo (f server)) → (server : Option ℕ)
-        → WentSo (by_server (record { known = k; stage = at }) q f server)
-    by_server_so at q f each None = h
-    by_server_so at q f each (Some server) = each server
+        let low : ℕ = r.state.opening.low in
+        let e = scanned k.owner low s.asked q r.outs in
+        follows_so Goes k low (λ _. h) (λ next segments end. settles_so next segments end low k.maps.groups) (λ name. tt) s.asked q r.outs
+        (record { scan = r.state; asked = e.state.asked })
 
   -- ---- a Welcome
 
-  module _ (k : Known) (h : w.Knows k.maps.groups) (q : Questions) (s : Scanning) where
-    with_groups : (maps : Maps) (news : News) (own : ℕ) (groups : Option GroupMapState) → w.Knows maps.groups
-        → WentSo (welcomed_with (record k { maps = maps }) q s news own groups)
-    with_groups maps news own None fact = fact
-    with_groups maps news own (Some groups) fact =
-        scans_so (record k { maps = maps; promised = promised_in news.slots }) fact q (record s { asked = nothing_asked }) (input.Welcome own news.slots groups)
+  with_groups : (k : Known) (q : Questions) (s : Scanning) (maps : Maps) (news : News) (own : ℕ) (groups : Option GroupMapState) → w.Knows maps.groups
+      → WentSo (welcomed_with (record k { maps = maps }) q s news own groups)
+  with_groups k q s maps news own None fact = fact
+  with_groups k q s maps news own (Some groups) fact =
+      scans_so (record k { maps = maps; promised = promised_in news.slots }) fact q (record s { asked = nothing_asked }) (input.Welcome own news.slots groups)
 
-    welcomed_as_so : (news : News) (own : Option ℕ) → w.Said news.groups → WentSo (welcomed_as k q s news own)
-    unfolding welcomed
-    welcomed_as_so news None fact = h
-    welcomed_as_so news (Some own) fact = with_groups (taken k.maps news) news own (taken k.maps news).groups (w.takes k.maps news h fact)
+  welcomed_so : (k : Known) (q : Questions) (s : Scanning) (news : News) (own : ℕ) → w.Said news.groups → w.Knows k.maps.groups
+      → WentSo (welcomed k q s news own)
+  unfolding welcomed
+  welcomed_so k q s news own fact h = with_groups k q s (taken k.maps news) news own (taken k.maps news).groups (w.takes k.maps news h fact)
 
-    welcomed_in_so : (m : Welcome) → w.Said m.news.groups → WentSo (welcomed_in k q s m)
-    welcomed_in_so m fact =
-        by_test WentSo (is_meant k m) (welcomed_as k q s m.news (own_of s.asked m.ask)) (stays (at_scan k s) q)
-        (λ _. welcomed_as_so m.news (own_of s.asked m.ask) fact) (λ _. h)
+  -- ---- the events
 
-  -- ---- packets
+  abbrev Holds : Known → Questions → Stage → Went → Type 0
+  Holds k q at x = w.Knows k.maps.groups → WentSo x
 
-  module _ (k : Known) (h : w.Knows k.maps.groups) (q : Questions) where
-    welcome_so : (at : Stage) (m : Welcome) → w.Said m.news.groups → WentSo (on_welcome (record { known = k; stage = at }) q m)
-    unfolding on_welcome
-    welcome_so (stage.Scanning s) m fact = welcomed_in_so k h q s m fact
-    welcome_so (stage.Settling s) m fact = h
-
-    news_so : (at : Stage) (news : News) → w.Said news.groups → WentSo (on_news (record { known = k; stage = at }) q news)
-    unfolding on_news
-    news_so at news fact =
-        by_test WentSo (fits k.maps news && is_older k.maps news) (regrouped (record k { maps = taken k.maps news }) q news.groups at)
-        (drops (record { known = k; stage = at }) q)
-        (λ _. regrouped_so (record k { maps = taken k.maps news }) (w.takes k.maps news h fact) q news.groups at) (λ _. h)
-
-    body_so : (at : Stage) (from : NodeId) (b : Body) → w.Says from b → WentSo (on_body (record { known = k; stage = at }) q from b)
-    unfolding on_body on_fenced on_found on_missing
-    body_so at from (body.Welcome m) fact = welcome_so at m (w.welcomes from m fact)
-    body_so at from (body.MapNews m) fact = news_so at m (w.brings from m fact)
-    body_so at from (body.Fenced m) fact =
-        let o : Opening = record { known = k; stage = at } in
-        by_server_so k h at q (fenced_by o q m)
-        (λ server. by_test WentSo (is_fenced o m) (scans o q (input.Fenced server m.generation m.held)) (drops o q)
-        (λ _. scans_at_so k h q (input.Fenced server m.generation m.held) at) (λ _. h)) (server_in from)
-    body_so at from (body.Fragment m) fact =
-        let o : Opening = record { known = k; stage = at } in
-        by_server_so k h at q (found_by o q m) (λ server. answers_so k h at q (λ own. input.Got own server m.generation m.fragment) (own_in at m.ask))
-        (server_in from)
-    body_so at from (body.Missing m) fact =
-        let o : Opening = record { known = k; stage = at } in
-        by_server_so k h at q (missing_by o q m) (λ server. answers_so k h at q (λ own. input.Missing own server m.generation) (own_in at m.ask))
-        (server_in from)
-    body_so at from (body.Stored m) fact = stored_so k h at q m
-    body_so at from _ fact = h
+  walk : Walk w.Says Holds
+  walk = record {
+    rests = λ o q h. h;
+    asks = λ o q h. h;
+    scan = λ k q s i comes h. scans_so k h q s i;
+    log = λ k q s i heard h. writes_so k h s i;
+    welcome = λ from k q s m own fact h. welcomed_so k q s m.news own (w.welcomes from m fact) h;
+    newer = λ from k news q at x fact goes h. goes (w.takes k.maps news h (w.brings from news fact));
+  }
 
   pub packet_so : (o : Opening) (q : Questions) (p : Packet) → w.Says p.from p.body → w.Knows o.known.maps.groups
       → ProgressSo (on_packet o q p).progress
-  unfolding on_packet
-  packet_so o q p fact h =
-      by_test WentSo (names_known o.known.maps p.body) (on_body o q p.from p.body)
-      (went (progress.Opening o) (drawn q) (hello o.known.owner.inc (next_ask q) ∷ []))
-      (λ _. body_so o.known h q o.stage p.from p.body fact) (λ _. h)
+  packet_so o q p fact h = walked.packet_so w.Says Holds walk o q p fact h
 
   pub time_so : (o : Opening) (q : Questions) → w.Knows o.known.maps.groups → ProgressSo (on_tick o q).progress
-  time_so o q h = tick_so o.known h o.stage q
+  time_so o q h = walked.tick_so w.Says Holds walk o q h

@@ -1,4 +1,3 @@
-pub mod Effects
 pub mod ManagerWalk
 pub mod Managers
 pub mod Registries

@@ -6,7 +6,6 @@ pub mod ManagerServing
 pub mod Managers
 pub mod Servers
 pub mod Registries
-pub mod OpeningWalk
 pub mod Settling
 pub mod Openings
 pub mod Plans

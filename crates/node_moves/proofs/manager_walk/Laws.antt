@@ -8,7 +8,6 @@ use Rattle.checkpoint.specs.declared.input.In.TheVariants as writer_in
 use Rattle.checkpoint.specs.Transition as writer
 use Rattle.checkpoint.specs.WriterState.{WorkState, items_of}
 use Rattle.client_log.specs.declared.input.In.{In as LogIn}
-use Rattle.client_log.specs.declared.input.In.TheVariants as log_in
 use Rattle.client_log.specs.LogState.{LogState}
 use Rattle.client_log.specs.Transition as log
 use Rattle.client_log.specs.Transition.{end_from}
@@ -50,6 +49,7 @@ use Rattle.xfs_base.specs.declared.segment.LogId.{LogId}
 use Rattle.xfs_base.specs.declared.segment.SegRef.{SegRef}
 use Rattle.xfs_base.specs.declared.token.Mode.{Mode}
 use Rattle.node_moves.proofs.Effects as effects
+use Rattle.node_moves.proofs.LogWalk.{IsHeard}
 
 abbrev pub Rows : Type 0
 Rows = List (BlockId × Entry)
@@ -81,13 +81,6 @@ Begins work (writer_in.Begin slot epoch pages parts horizon) =
     work (record { slot = slot; epoch = epoch; left = pages; parts = parts; horizon = horizon })
 Begins work (writer_in.Settled end) = ⊥
 Begins work (writer_in.Ack epoch number) = Unit {0}
-
--- a log hears so much: that a fragment is held, of newer groups, and that time passes
-abbrev pub IsHeard : LogIn → Type 0
-IsHeard (log_in.Acked name index generation) = Unit {0}
-IsHeard (log_in.Maps groups) = Unit {0}
-IsHeard log_in.Tick = Unit {0}
-IsHeard _ = ⊥
 
 -- bodies that tell neither of entries nor of checkpoints
 abbrev pub IsPlain : Body → Type 0

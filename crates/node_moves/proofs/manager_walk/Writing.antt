@@ -35,7 +35,8 @@ use Rattle.xfs_base.proofs.Leaving.{Leaves, goes_after, leaves_each}
 use Rattle.node_base.specs.Beginning.{answers_unanswered}
 use Rattle.version_model.specs.declared.answer.Answer.{Answer}
 use Rattle.node_moves.proofs.Effects as effects
-use Rattle.node_moves.proofs.manager_walk.Laws.{AllSay, Begins, DoneSo, IsHeard, JobSo, Says, ServingSo, Walk}
+use Rattle.node_moves.proofs.LogWalk.{IsHeard}
+use Rattle.node_moves.proofs.manager_walk.Laws.{AllSay, Begins, DoneSo, JobSo, Says, ServingSo, Walk}
 use Rattle.node_moves.proofs.manager_walk.Writers.{WriterLaw, GivenSo, OutSo, acked_on, writer_goes}
 use Rattle.node_moves.proofs.manager_walk.Tables.{begin_so, table_cleaned, table_named}
 

@@ -22,15 +22,12 @@ use Rattle.log_flight.specs.Texts.{has_text}
 use Rattle.client_log.specs.declared.input.In.{In}
 use Rattle.client_log.specs.declared.input.In.TheVariants.{Put, Parts, Seal, Acked, Maps, Tick}
 use Rattle.client_log.specs.declared.output.Out.{Out}
-use Rattle.client_log.specs.declared.output.Out.TheVariants.{Send, Settled}
+use Rattle.client_log.specs.declared.output.Out.TheVariants.{Settled}
 use Rattle.client_log.specs.LogState.{LogState}
 use Rattle.client_log.specs.Transition.{Done, send_at, sends, all_sends, launched, writes, has_next, is_idle, is_full, sealed, if_full, on_parts, restriped, end_from, landed, settled, can_follow, followed, looked_at, on_acked, on_maps, on_tick, transition}
+use Rattle.node_moves.proofs.client_walk.LogTurns.{IsSend}
+use Rattle.node_moves.proofs.LogWalk.{IsHeard}
 use Rattle.node_slots.proofs.node_index_tie.Moves.{some_none}
-
--- a fragment is sent
-abbrev pub IsSend : Out → Type 0
-IsSend (Send fragment member) = Unit {0}
-IsSend (Settled end rows) = ⊥
 
 sends_send : (f : FlightState) (ms : List Member) (place : ℕ) → AllByRecursion IsSend (sends f ms place)
 sends_send f [] place = tt
@@ -160,15 +157,7 @@ module _ (s : LogState) where
       by (Some f) = stays s refl refl refl (all_sends f) (all_send f)
 
   -- what is not a write of anything new
-  abbrev pub IsNoWrite : In → Type 0
-  IsNoWrite (Put block entry value) = ⊥
-  IsNoWrite (Parts items) = ⊥
-  IsNoWrite Seal = ⊥
-  IsNoWrite (Acked name index generation) = Unit {0}
-  IsNoWrite (Maps groups) = Unit {0}
-  IsNoWrite Tick = Unit {0}
-
-  pub log_went : s.dirty ≡ [] → (i : In) → IsNoWrite i → Went (transition s i)
+  pub log_went : s.dirty ≡ [] → (i : In) → IsHeard i → Went (transition s i)
   log_went none (Put block entry value) bars = absurd bars
   log_went none (Parts items) bars = absurd bars
   log_went none Seal bars = absurd bars

@@ -29,7 +29,9 @@ use Rattle.takeover.specs.Rows.{told_of}
 use Rattle.node_slots.specs.node_index_tie.ManagerEvents.{ServingAgrees}
 use Rattle.node_slots.specs.node_index_tie.Pages.{Desk, desk_of, IsWork, FlightIsText}
 use Rattle.node_slots.specs.node_index_tie.Sight.{Texts, Questions, held_in}
-use Rattle.node_slots.proofs.node_index_tie.Flights.{IsSend, GoesOn, Lands, IsNoWrite, log_went}
+use Rattle.node_moves.proofs.client_walk.LogTurns.{IsSend}
+use Rattle.node_moves.proofs.LogWalk.{IsHeard}
+use Rattle.node_slots.proofs.node_index_tie.Flights.{GoesOn, Lands, log_went}
 use Rattle.node_slots.proofs.node_index_tie.Moves.{Brought, some_none, sees_then}
 use Rattle.node_slots.proofs.node_index_tie.Turning.{some_is, Forth, Turn, seen_turn, phase_turn}
 use Rattle.node_slots.proofs.node_index_tie.Writing.{items_rows, Serves, serves_same, serves_one, serves_then, goes_on}
@@ -202,7 +204,7 @@ module _ (part : ℕ) (texts : Texts) (questions : Questions) (exists : part < s
 
   -- ---- any input that writes nothing new
 
-  pub writes_serves : (n : Net) (s : Serving) (given : LogIn) → IsNoWrite s.log given → ServingAgrees part texts n s → FlightIsText texts s.log
+  pub writes_serves : (n : Net) (s : Serving) (given : LogIn) → IsHeard given → ServingAgrees part texts n s → FlightIsText texts s.log
       → Serves part texts questions exists brought n s (node.writes s given)
   unfolding node.writes node.log_says_each
   writes_serves n s given bars agrees text =

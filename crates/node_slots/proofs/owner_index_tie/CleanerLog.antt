@@ -26,7 +26,7 @@ use Rattle.log_owner.specs.Promised.{epoch_of}
 use Rattle.log_owner.specs.Sending.{name_of, range, store, pushes_all}
 use Rattle.node_slots.specs.node_index_tie.OwnerEvents as owners
 use Rattle.node_slots.specs.node_index_tie.Sight.{Texts, Questions, RowsFit}
-use Rattle.node_slots.proofs.node_index_tie.Flights.{IsSend}
+use Rattle.node_moves.proofs.client_walk.LogTurns.{IsSend}
 use Rattle.node_slots.proofs.node_index_tie.Owners.{owners_tell}
 use Rattle.segment_format.specs.Rows.{rows_of}
 use Rattle.segment_format.specs.declared.segment.Segment.{Segment}

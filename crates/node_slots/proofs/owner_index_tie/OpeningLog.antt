@@ -4,13 +4,12 @@ use Rattle.std.proofs.Common.{⊎_elim, ◌≡◌, ◌≤◌, ℕ, suc, ◌-◌,
 use Rattle.std.specs.List.{AllByRecursion}
 use Rattle.xfs_base.proofs.Booleans.{by_test}
 use Rattle.xfs_base.specs.declared.segment.End.{End}
-use Rattle.xfs_base.specs.Steps.{Stepped, still, steps}
+use Rattle.xfs_base.specs.Steps.{Stepped, still}
 use Rattle.segment_format.specs.declared.segment.Segment.{Segment}
 use Rattle.group_map.specs.GroupMapState.{GroupMapState}
 use Rattle.client_log.specs.declared.input.In.{In as LogIn}
 use Rattle.client_log.specs.declared.input.In.TheVariants as log_in
 use Rattle.client_log.specs.declared.output.Out.{Out as LogOut}
-use Rattle.client_log.specs.declared.output.Out.TheVariants as log_out
 use Rattle.client_log.specs.Transition as log_steps
 use Rattle.log_owner.specs.declared.known.Known.{Known}
 use Rattle.log_owner.specs.declared.opened.Progress.{Progress}
@@ -20,15 +19,11 @@ use Rattle.log_owner.specs.declared.opening.Scanning.{Scanning}
 use Rattle.log_owner.specs.declared.opening.Settling.{Settling}
 use Rattle.log_owner.specs.declared.opening.Stage.{Stage}
 use Rattle.log_owner.specs.declared.opening.Stage.TheVariants as stage
-use Rattle.log_owner.specs.Opening.{Went, Moved, stays, drops, at_scan, at_log, said, scanned, wrote_one, written, opens, logged, writes, behind, starts_log, settles_over, follows, stepped, scans_on, scans_at, opened, went}
+use Rattle.log_owner.specs.Opening.{Went, Moved, stays, drops, at_scan, at_log, scanned, wrote_one, written, opens, logged, writes, behind, starts_log, settles_over, follows, stepped, scans_on, opened, went}
 use Rattle.log_scan.specs.declared.input.In.{In}
-use Rattle.log_scan.specs.declared.output.Out.{Out}
-use Rattle.log_scan.specs.declared.output.Out.TheVariants as out
 use Rattle.log_scan.specs.Transition as scan
 use Rattle.node_base.specs.declared.effects.Effect.{Effect}
 use Rattle.node_base.specs.declared.effects.Effect.TheVariants.{Lose}
-use Rattle.node_base.specs.Asking.{asked_as, drawn_for}
-use Rattle.node_base.specs.declared.questions.Asked.{Asked}
 use Rattle.node_base.specs.declared.questions.Questions.{Questions}
 use Rattle.node_base.specs.Shape.{is_log}
 use Rattle.delta_feed.specs.FeedState.{started}
@@ -42,7 +37,9 @@ use Rattle.log_owner.specs.Sending.{name_of}
 use Rattle.node_base.specs.declared.effects.Effect.TheVariants.{Does}
 use Rattle.node_slots.specs.node_index_tie.Pages.{FlightIsText}
 use Rattle.node_slots.specs.node_index_tie.Sight.{Texts, RowsFit}
-use Rattle.node_slots.proofs.node_index_tie.Flights.{IsSend, IsNoWrite, GoesOn, Went as LogWent, log_went, parts_went}
+use Rattle.node_moves.proofs.client_walk.LogTurns.{IsSend}
+use Rattle.node_moves.proofs.LogWalk.{IsHeard}
+use Rattle.node_slots.proofs.node_index_tie.Flights.{GoesOn, Went as LogWent, log_went, parts_went}
 use Rattle.node_slots.proofs.node_index_tie.Flights as flights
 use Rattle.segment_format.specs.Rows.{row_of, rows_of}
 use Rattle.std.specs.List.{filter_map}
@@ -50,9 +47,10 @@ use Rattle.version_model.specs.declared.act.Act.TheVariants.{Filed as ActsFiled}
 use Rattle.xfs_base.specs.declared.segment.LogId.{LogId}
 use Rattle.xfs_base.specs.declared.segment.SegName.{SegName}
 use Rattle.xfs_base.proofs.Alls.{all_append, all_map}
+use Rattle.node_moves.proofs.OpeningSays.{follows_so, log_says, scan_says, sends_end}
 use Rattle.node_slots.specs.owner_index_tie.Acting.{AllSo, EffectSo}
 use Rattle.node_slots.specs.owner_index_tie.Filing.{filing, with_name, filed_after, FilesOwed}
-use Rattle.node_slots.specs.owner_index_tie.Owners.{LogNext, LogFits, SettlingSeen, StageSeen, OpeningSeen, ReadBack, EndOwed, OwnerDoes}
+use Rattle.node_slots.specs.owner_index_tie.Owners.{LogNext, LogFits, SettlingSeen, OpeningSeen, ReadBack, EndOwed, OwnerDoes}
 use Rattle.node_slots.proofs.owner_index_tie.Frames as frames
 use Rattle.node_slots.proofs.owner_index_tie.Growing.{grown, next_files}
 use Rattle.node_slots.proofs.owner_index_tie.Reopening.{reopened}
@@ -117,22 +115,13 @@ module _ (New : Filed → Segment → Type 0) (part : ℕ) (texts : Texts) (n : 
     at_log_so : (s : Settling) → SettlingSeen l s → Seen f (at_log k s)
     at_log_so s h = (sized, record { own = own; stage = h })
 
-    written_sends : (before : Option End) (outs : List LogOut) → AllByRecursion IsSend outs → (steps wrote_one before outs).state ≡ before
-    unfolding wrote_one
-    written_sends before [] all = refl
-    written_sends before (log_out.Send fragment member ∷ outs) all = written_sends before outs all.1
-    written_sends before (log_out.Settled end rows ∷ outs) all = absurd all.0
-
-    pub written_plain : (before : Option End) (outs : List LogOut) → AllPlain (steps wrote_one before outs).outs
-    unfolding wrote_one
-    written_plain before [] = tt
-    written_plain before (log_out.Send fragment member ∷ outs) = (tt, written_plain before outs)
-    written_plain before (log_out.Settled end rows ∷ outs) = written_plain (Some end) outs
+    pub written_plain : (outs : List LogOut) → AllPlain (written outs).outs
+    written_plain outs = log_says (frames.Plain part n l since f) (λ fragment member. tt) None outs
 
     landed_at : (s : log_state.LogState) (r : log_steps.Done) (a : Lands s r) → (written r.outs).state ≡ Some (log_steps.end_from a.old.segment)
     unfolding wrote_one
     landed_at s r a = subst (λ outs. (written outs).state ≡ Some (log_steps.end_from a.old.segment)) (sym a.outs)
-        (written_sends (Some (log_steps.end_from a.old.segment)) a.rest a.sends)
+        (sends_end (Some (log_steps.end_from a.old.segment)) a.rest a.sends)
 
     -- the log is open: what was read back is filed, and the opening segment
     module _ (s : Settling) (h : SettlingSeen l s) (text : FlightIsText texts s.log) (r : log_steps.Done) (next : LogNext l r.state) (a : Lands s.log r)
@@ -202,8 +191,8 @@ module _ (New : Filed → Segment → Type 0) (part : ℕ) (texts : Texts) (n : 
     rests_so : (s : Settling) (r : log_steps.Done) → Rests s.log r → SettlingSeen l (record s { log = r.state }) → Moves (logged k s r)
     rests_so s r rests h =
         let t : Settling = record s { log = r.state } in
-        frames.goes_behind New part texts n l since Seen f (written r.outs).outs (opens k t (written r.outs).state) (written_plain None r.outs)
-        (subst (λ o. Moves (opens k t o)) (sym (written_sends None r.outs rests.sends)) (plain_so (at_log k t) [] (at_log_so t h) tt))
+        frames.goes_behind New part texts n l since Seen f (written r.outs).outs (opens k t (written r.outs).state) (written_plain r.outs)
+        (subst (λ o. Moves (opens k t o)) (sym (sends_end None r.outs rests.sends)) (plain_so (at_log k t) [] (at_log_so t h) tt))
 
     seen_on : (s : Settling) (r : log_steps.Done) → SettlingSeen l s → LogNext l r.state → Rests s.log r → LogWent s.log r
         → SettlingSeen l (record s { log = r.state })
@@ -225,12 +214,12 @@ module _ (New : Filed → Segment → Type 0) (part : ℕ) (texts : Texts) (n : 
         ⊎_elim
         (λ (rests : Rests s.log r). rests_so s r rests (seen_on s r h turns.next rests went))
         (λ (lands : Lands s.log r). frames.goes_behind New part texts n l since Seen f (written r.outs).outs (opens k t (written r.outs).state)
-        (written_plain None r.outs)
+        (written_plain r.outs)
         (subst (λ o. Moves (opens k t o)) (sym (landed_at s.log r lands))
         (opened_goes s h text r turns.next lands (back (subst (λ o. EndGets texts l f at (opens k t o).state) (landed_at s.log r lands) gets)))))
         turns.went
 
-    pub writes_so : (s : Settling) (i : LogIn) → IsNoWrite s.log i → SettlingSeen l s → FlightIsText texts s.log
+    pub writes_so : (s : Settling) (i : LogIn) → IsHeard i → SettlingSeen l s → FlightIsText texts s.log
         → (EndOwed texts l f at → ReadBack texts l f s.low s.log.end.seq s.chain) → EndGets texts l f at (writes k s i).state → Moves (writes k s i)
     unfolding writes
     writes_so s i bars h text back = logged_so s (log_steps.transition s.log i) h text (log_turns l s.log h.log i) (log_went s.log h.nothing_waits i bars) back
@@ -254,42 +243,16 @@ module _ (New : Filed → Segment → Type 0) (part : ℕ) (texts : Texts) (n : 
     settles_so s segments end low None = plain_so (at_scan k s) [] (at_scan_so s) tt
     settles_so s segments end low (Some groups) = starts_so s segments end low groups
 
-    -- whatever the scan tells, what is next behind it goes so
-    scanned_ends : (low : ℕ) (a : Asked) (q : Questions) (e : _) (outs : List Out) → ((s : Scanning) → Moves (follows k s e)) → (s : Scanning)
-        → Moves (follows k s (steps (said k.owner low) (record { asked = a; questions = q; ended = e }) outs).state.ended)
-    unfolding follows said
-    scanned_ends low a q e [] ends = ends
-    scanned_ends low a q e (out.Hello own ∷ outs) ends = scanned_ends low (asked_as a q own) (drawn_for a q own) e outs ends
-    scanned_ends low a q e (out.Fence server ∷ outs) ends = scanned_ends low a q e outs ends
-    scanned_ends low a q e (out.Fetch server name own ∷ outs) ends = scanned_ends low (asked_as a q own) (drawn_for a q own) e outs ends
-    scanned_ends low a q e (out.Chain segments end prior ∷ outs) ends = scanned_ends low a q _ outs (λ s. settles_so s segments end low k.maps.groups)
-    scanned_ends low a q e (out.Lost name ∷ outs) ends = scanned_ends low a q _ outs (λ s. plain_so (progress.Lost name) (Lose name ∷ []) sized (tt, tt))
-
-    none_ends : (s : Scanning) → Moves (follows k s None)
-    unfolding follows
-    none_ends s = plain_so (at_scan k s) [] (at_scan_so s) tt
-
-    one_plain : (low : ℕ) (st : _) (o : Out) → AllPlain (said k.owner low st o).outs
-    unfolding said
-    one_plain low st (out.Hello own) = (tt, tt)
-    one_plain low st (out.Fence server) = (tt, tt)
-    one_plain low st (out.Fetch server name own) = (tt, tt)
-    one_plain low st (out.Chain segments end prior) = tt
-    one_plain low st (out.Lost name) = tt
-
-    scanned_plain : (low : ℕ) (st : _) (outs : List Out) → AllPlain (steps (said k.owner low) st outs).outs
-    scanned_plain low st [] = tt
-    scanned_plain low st (o ∷ outs) =
-        all_append (frames.Plain part n l since f) (said k.owner low st o).outs (steps (said k.owner low) (said k.owner low st o).state outs).outs
-        (one_plain low st o) (scanned_plain low (said k.owner low st o).state outs)
-
     stepped_so : (q : Questions) (s : Scanning) (r : scan.Done) → So (stepped k q s r)
     stepped_so q s r gets =
         let low : ℕ = r.state.opening.low in
         let e = scanned k.owner low s.asked q r.outs in
         let next : Scanning = record { scan = r.state; asked = e.state.asked } in
         frames.goes_behind New part texts n l since Seen f e.outs (follows k next e.state.ended)
-        (scanned_plain low (record { asked = s.asked; questions = q; ended = None }) r.outs) (scanned_ends low s.asked q None r.outs none_ends next)
+        (scan_says (frames.Plain part n l since f) k.owner (λ ask. tt) (λ server. tt) (λ name ask server. tt) low
+        (record { asked = s.asked; questions = q; ended = None }) r.outs)
+        (follows_so Moves k low (λ t. plain_so (at_scan k t) [] (at_scan_so t) tt) (λ t segments end. settles_so t segments end low k.maps.groups)
+        (λ name. plain_so (progress.Lost name) (Lose name ∷ []) sized (tt, tt)) s.asked q r.outs next)
 
     pub scans_so : (q : Questions) (s : Scanning) (i : In) → So (scans_on k q s i)
     unfolding scans_on
@@ -300,7 +263,3 @@ module _ (New : Filed → Segment → Type 0) (part : ℕ) (texts : Texts) (n : 
 
     pub log_rests : (q : Questions) (s : Settling) → SettlingSeen l s → So (stays (at_log k s) q)
     log_rests q s h gets = plain_so (at_log k s) [] (at_log_so s h) tt
-
-    pub scans_at_so : (q : Questions) (i : In) (x : Stage) → StageSeen l x → So (scans_at k q i x)
-    scans_at_so q i (stage.Scanning s) h = scans_so q s i
-    scans_at_so q i (stage.Settling s) h = log_rests q s h

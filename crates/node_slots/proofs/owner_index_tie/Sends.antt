@@ -4,7 +4,7 @@ use Rattle.std.specs.List.{AllByRecursion}
 use Rattle.client_log.specs.Transition.{send_at, sends, all_sends}
 use Rattle.group_map.specs.declared.group.Member.{Member}
 use Rattle.log_flight.specs.Flights.{FlightState, is_noted}
-use Rattle.node_slots.proofs.node_index_tie.Flights.{IsSend}
+use Rattle.node_moves.proofs.client_walk.LogTurns.{IsSend}
 use Rattle.xfs_base.proofs.Booleans.{by_test}
 use Rattle.xfs_base.proofs.Alls.{all_append}
 

@@ -17,7 +17,7 @@ use Rattle.log_flight.specs.Fate.{fate_of}
 use Rattle.log_flight.specs.Flights.{FlightState, flown, group_for, is_of, noting}
 use Rattle.log_flight.specs.Items.{items_of}
 use Rattle.log_flight.specs.Texts.{has_text}
-use Rattle.node_slots.proofs.node_index_tie.Flights.{IsSend}
+use Rattle.node_moves.proofs.client_walk.LogTurns.{IsSend}
 use Rattle.node_slots.proofs.node_index_tie.Moves.{some_none}
 use Rattle.segment_format.specs.declared.segment.Item.{Item}
 use Rattle.xfs_base.specs.declared.segment.Prior.{Prior}

@@ -15,6 +15,7 @@ use Rattle.cleaner_serving.specs.declared.emptying.Emptying.{Emptying}
 use Rattle.cleaner_serving.specs.EmptyingEvents.{fed, settles, writes, writes_one}
 use Rattle.cleaner_serving.specs.Jobs.{Done, cleans, puts}
 use Rattle.client_log.specs.declared.input.In.{In as LogIn}
+use Rattle.client_log.specs.declared.input.In.TheVariants as log_in
 use Rattle.client_log.specs.declared.output.Out.{Out as LogOut}
 use Rattle.client_log.specs.declared.output.Out.TheVariants as log_out
 use Rattle.client_log.specs.LogState.{LogState}
@@ -66,7 +67,7 @@ use Rattle.node_tellings.specs.entry_tie.Told.{BodyTold, DoTold, RowsTold, Tells
 use Rattle.node_tellings.proofs.entry_tie.Feeds.{acknowledged_told, pushes_all_say, renewed_told, settled_told}
 use Rattle.node_tellings.proofs.entry_tie.Frames as frames
 use Rattle.node_tellings.proofs.entry_tie.Frames.{contains_all}
-use Rattle.node_tellings.proofs.entry_tie.LogMoves.{acked_moves, empty_moves, maps_move, put_moves, seal_moves, tick_moves}
+use Rattle.node_tellings.proofs.entry_tie.LogMoves.{log_moves, moves_heard}
 use Rattle.node_tellings.proofs.entry_tie.Openings as events
 use Rattle.node_tellings.proofs.entry_tie.Rising.{told_more, rows_rise}
 use Rattle.node_tellings.proofs.entry_tie.CleanerChecks.{InputTold, cleaning_so}
@@ -124,10 +125,8 @@ module _ (told : Told) (done : List Act) where
   opening_log : events.KeepsLog (LogMoves told)
   opening_log = record {
     first = λ log inc end groups. record { waits = tt; flight = tt };
-    begins = empty_moves told;
-    acked = acked_moves told;
-    maps = maps_move told;
-    ticks = tick_moves told;
+    begins = λ s h. log_moves told s (log_in.Parts []) tt h;
+    hears = moves_heard told;
   }
 
   kept : (at : Stage) → StageHolds told at → events.StageKeeps told done (LogMoves told) opening_log at
@@ -162,8 +161,8 @@ module _ (told : Told) (done : List Act) where
     one_stored (log_out.Settled end rows) = tt
 
     put_so : (s : LogState) (i : LogIn) → Put (OutMoved told) i → LogMoves told s → LogMoves told (log.transition s i).state
-    put_so s i (BlockPut block entry value moved) h = put_moves told s block (record { entry = entry; value = value }) moved.0 h
-    put_so s i AllPut h = seal_moves told s h
+    put_so s i (BlockPut block entry value moved) h = log_moves told s (log_in.Put block entry value) moved.0 h
+    put_so s i AllPut h = log_moves told s log_in.Seal tt h
 
     puts_so : (e : Emptying) (i : LogIn) → Put (OutMoved told) i → At e → Serves (puts e i)
     unfolding puts
@@ -233,13 +232,13 @@ module _ (told : Told) (done : List Act) where
     unfolding writes
     writes_so e i (AckCame packet m same came) h =
         writes_from e (log.transition e.log i)
-        (record { job = h.job; feed = h.feed; log = acked_moves told e.log m.name m.index m.generation h.log }) (flies_so e e same refl) (log_turns e.log i)
+        (record { job = h.job; feed = h.feed; log = moves_heard told e.log i tt h.log }) (flies_so e e same refl) (log_turns e.log i)
     writes_so e i (GroupsCame before packet news same as_was brought) h =
-        writes_from e (log.transition e.log i) (record { job = h.job; feed = h.feed; log = maps_move told e.log news.groups h.log })
+        writes_from e (log.transition e.log i) (record { job = h.job; feed = h.feed; log = moves_heard told e.log i tt h.log })
         (flies_so e before same as_was) (log_turns e.log i)
     writes_so e i LogTicks h =
         sends_so (record e { log = (log.on_tick e.log).state }) (log.on_tick e.log).outs
-        (record { job = h.job; feed = h.feed; log = tick_moves told e.log h.log }) (tick_rests e.log).sends
+        (record { job = h.job; feed = h.feed; log = moves_heard told e.log i tt h.log }) (tick_rests e.log).sends
 
     -- ---- any event
 

@@ -96,9 +96,7 @@ module _ (told : Told) (done : List Act) where
   any_log = record {
     first = λ log inc end groups. tt;
     begins = λ s h. tt;
-    acked = λ s name index generation h. tt;
-    maps = λ s groups h. tt;
-    ticks = λ s h. tt;
+    hears = λ s i heard h. tt;
   }
 
   any_stage : (at : Stage) → events.StageKeeps told done AnyLog any_log at

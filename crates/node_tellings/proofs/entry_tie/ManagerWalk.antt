@@ -5,10 +5,7 @@ use Rattle.std.specs.List.{AllByRecursion}
 use Rattle.checkpoint.specs.declared.plan.Plan.{Plan}
 use Rattle.checkpoint.specs.Plan.{writes_all, plan_of}
 use Rattle.checkpoint.specs.WriterState.{Rows, items_of}
-use Rattle.client_log.specs.declared.input.In.{In as LogIn}
 use Rattle.client_log.specs.declared.input.In.TheVariants as log_in
-use Rattle.client_log.specs.LogState.{LogState}
-use Rattle.client_log.specs.Transition as log
 use Rattle.index_pages.specs.Pages.{PagesState, all_rows, changed_rows}
 use Rattle.log_owner.specs.Sending.{server_in}
 use Rattle.manager_node.specs.declared.phase.Phase.{Phase}
@@ -18,7 +15,7 @@ use Rattle.manager_serving.specs.declared.serving.Serving.{Serving}
 use Rattle.manager_slots.specs.declared.slot_phase.SlotPhase.{SlotPhase}
 use Rattle.manager_slots.specs.declared.slot_phase.SlotPhase.TheVariants as phase
 use Rattle.node_moves.proofs.manager_walk.Events.{AwaitedSo, DoSo, PacketSo, PhaseFlies, PhaseSo}
-use Rattle.node_moves.proofs.manager_walk.Laws.{IsHeard, IsPlain, JobSo, SlotSo, SlotsSo, Walk}
+use Rattle.node_moves.proofs.manager_walk.Laws.{IsPlain, JobSo, SlotSo, SlotsSo, Walk}
 use Rattle.node_moves.proofs.manager_walk.Serving.{AnswerSo, Asked, Hears}
 use Rattle.slot_beliefs.specs.Index.{pages_of}
 use Rattle.stripe_code.specs.declared.round.Told.{Told as Answered}
@@ -35,7 +32,7 @@ use Rattle.xfs_base.specs.declared.node.NodeId.{NodeId}
 use Rattle.xfs_base.specs.declared.segment.SegRef.{SegRef}
 use Rattle.node_tellings.specs.entry_tie.ManagerTells.{AnswerOwed, BodyOwed, DoOwed, FlightHolds, LogHolds, PacketOwed, PartTold, PhaseHolds, ReadTold, SlotHolds, SlotOwed, TakeOwed, WorkHolds}
 use Rattle.node_tellings.specs.entry_tie.Told.{AllowsNothing, BodyTold, DoTold, PacketTold, RowsTold, Told}
-use Rattle.node_tellings.proofs.entry_tie.LogParts.{acked_holds, maps_hold, parts_hold, tick_holds}
+use Rattle.node_tellings.proofs.entry_tie.LogParts.{holds_heard, log_holds}
 use Rattle.node_tellings.proofs.entry_tie.Rows.{entry_told, joined_told, pages_told}
 use Rattle.node_tellings.proofs.entry_tie.Slots.{slot_goes, started_holds}
 
@@ -61,14 +58,6 @@ module _ (told : Told) (nothing : AllowsNothing told) where
       by_test (λ (plan : Plan). AllByRecursion (RowsTold told) plan.pages) (writes_all (length parts)) (record { pages = all_rows s; parts = [] })
       (record { pages = changed_rows s; parts = parts }) (λ _. pages_told told s.rows s.pages all)
       (λ _. pages_told told s.rows (filter (λ page. page.changed) s.pages) all)
-
-  pub log_hears : (s : LogState) (given : LogIn) → IsHeard given → LogHolds told s → LogHolds told (log.transition s given).state
-  log_hears s (log_in.Acked name index generation) is h = acked_holds told s name index generation h
-  log_hears s (log_in.Maps groups) is h = maps_hold told s groups h
-  log_hears s log_in.Tick is h = tick_holds told s h
-  log_hears s (log_in.Put block entry value) is h = absurd is
-  log_hears s (log_in.Parts items) is h = absurd is
-  log_hears s log_in.Seal is h = absurd is
 
   pub plain_told : (b : Body) → IsPlain b → BodyTold told b
   plain_told (body.Grant m) is = absurd is
@@ -114,8 +103,8 @@ module _ (told : Told) (nothing : AllowsNothing told) where
     done = λ it h. tt;
     parted = λ l it end fact h. h;
     settles = λ l f fact. tt;
-    writes = λ s items fact h. parts_hold told s items fact h;
-    hears = λ s given is h. log_hears s given is h;
+    writes = λ s items fact h. log_holds told s (log_in.Parts items) fact h;
+    hears = λ s given is h. holds_heard told s given is h;
     fresh = λ s clear flight. record { clear = clear; flight = subst (λ o. IfSome o (FlightHolds told)) (sym flight) tt };
     idle = λ l. tt;
     grants = λ m fact. fact;

@@ -1,16 +1,13 @@
 -- What a manager has applied of logs, and what its checkpoints cover, keeps to any bounds that are to hold.
 use Rattle.std.proofs.Common.{ℕ, suc, List, [], ◌∷◌}
-use Rattle.std.specs.List.{AllByRecursion}
 use Rattle.log_owner.specs.Sending.{server_in}
 use Rattle.manager_node.specs.declared.phase.Phase.{Phase}
 use Rattle.manager_node.specs.declared.phase.Phase.TheVariants.{Down, Waiting, Serving as Serves}
 use Rattle.manager_serving.specs.declared.serving.Serving.{Serving}
 use Rattle.manager_slots.specs.declared.slot_phase.SlotPhase.{SlotPhase}
 use Rattle.manager_slots.specs.declared.slot_phase.SlotPhase.TheVariants as phase
-use Rattle.node_base.specs.declared.effects.Effect.{Effect}
-use Rattle.node_base.specs.declared.effects.Effect.TheVariants.{Send, Answer, Lose, Does}
 use Rattle.node_moves.proofs.manager_walk.Events.{AwaitedSo, DoSo, PacketSo, PhaseFlies, PhaseSo}
-use Rattle.node_moves.proofs.manager_walk.Laws.{AllSay, IsPlain, Says, SlotSo, SlotsSo, Walk, said_any}
+use Rattle.node_moves.proofs.manager_walk.Laws.{IsPlain, SlotSo, SlotsSo, Walk, said_any}
 use Rattle.node_moves.proofs.manager_walk.Serving.{Hears, any_answer}
 use Rattle.token_manager.specs.Transition as slot
 use Rattle.wire_msg.specs.declared.body.Body.{Body}
@@ -18,11 +15,11 @@ use Rattle.wire_msg.specs.declared.body.Body.TheVariants as body
 use Rattle.wire_msg.specs.declared.packet.Do.{Do}
 use Rattle.wire_msg.specs.declared.packet.Do.TheVariants.{Begin, Deliver, Tick}
 use Rattle.wire_msg.specs.declared.packet.Packet.{Packet}
-use Rattle.xfs_base.proofs.Alls.{all_append, all_weaker}
+use Rattle.xfs_base.proofs.Alls.{all_append}
 use Rattle.xfs_base.specs.declared.node.NodeId.{NodeId}
 use Rattle.manager_serving.specs.Serving.{fed_log}
 use Rattle.node_tellings.specs.filed_tie.Bounds.{BodyBounded, Bounds, DoBounded, KnownBounded, NewsBounded, PacketBounded, PhaseBounded, ReportBounded, SlotBounded, SlotsBounded, WorkBounded}
-use Rattle.node_tellings.proofs.filed_tie.Bounding.{Bounding, EffectBounded}
+use Rattle.node_tellings.proofs.filed_tie.Bounding.{Bounding}
 use Rattle.node_tellings.proofs.filed_tie.Slots.{slot_goes}
 
 module _ (b : Bounds) (laws : Bounding b) (node : NodeId) where
@@ -119,15 +116,6 @@ module _ (b : Bounds) (laws : Bounding b) (node : NodeId) where
   flies (Down life) = tt
   flies (Waiting life hello) = tt
   flies (Serves s) = tt
-
-  effect_bounded : (e : Effect) → Says walk e → EffectBounded b node e
-  effect_bounded (Send to said) h = h
-  effect_bounded (Answer item a) h = tt
-  effect_bounded (Lose seg) h = tt
-  effect_bounded (Does act) h = tt
-
-  pub all_bounded : (outs : List Effect) → AllSay walk outs → AllByRecursion (EffectBounded b node) outs
-  all_bounded outs all = all_weaker (Says walk) (EffectBounded b node) effect_bounded outs all
 
   -- ---- what is known of what comes
 

@@ -41,4 +41,4 @@ module _ (b : Bounds) (laws : Bounding b) (node : NodeId) where
       let d = events.manager_goes (walked.walk b laws node) m what (walked.stands b laws node m.phase h) (walked.flies b laws node m.phase)
       (walked.known b laws node m.phase what told)
       in
-      record { state = walked.bounded b laws node (happens m what).state d.state; outs = walked.all_bounded b laws node (happens m what).outs d.outs }
+      record { state = walked.bounded b laws node (happens m what).state d.state; outs = d.outs }

@@ -1,12 +1,11 @@
 -- What each event makes of the opening of a log: it holds nothing beyond what was filed, and nor does the log that is open then, with its feed, since the
 -- opening acts the chain that was read back and its opening segment to be filed.
-use Rattle.std.proofs.Common.{⊎_elim, ◌≡◌, ℕ, ◌≤◌, ◌==◌, ◌&&◌, true, List, [], ◌∷◌, map, Option, Some, None, refl, sym, subst, nat_le, arith}
+use Rattle.std.proofs.Common.{⊎_elim, ◌≡◌, ℕ, ◌≤◌, ◌==◌, true, List, [], ◌∷◌, map, Option, Some, None, refl, sym, subst, nat_le, arith}
 use Rattle.std.specs.Prelude.{length}
 use Rattle.std.specs.List.{AllByRecursion}
 use Rattle.std.proofs.lemmas.Bool.Decides.{nat_tests}
 use Rattle.xfs_base.proofs.Booleans.{by_test, and_first}
 use Rattle.xfs_base.specs.declared.node.NodeId.{NodeId}
-use Rattle.xfs_base.specs.declared.node.NodeId.TheVariants.{Client, Manager, Server, Cleaner, Registry}
 use Rattle.xfs_base.specs.declared.segment.End.{End}
 use Rattle.xfs_base.specs.Steps.{still, steps}
 use Rattle.xfs_base.proofs.Alls.{all_append, all_map}
@@ -16,7 +15,6 @@ use Rattle.group_map.specs.GroupMapState.{GroupMapState}
 use Rattle.client_log.specs.declared.input.In.{In as LogIn}
 use Rattle.client_log.specs.declared.input.In.TheVariants as log_in
 use Rattle.client_log.specs.declared.output.Out.{Out as LogOut}
-use Rattle.client_log.specs.declared.output.Out.TheVariants as log_out
 use Rattle.client_log.specs.Transition as log_steps
 use Rattle.log_owner.specs.declared.ended.Owner.{Owner}
 use Rattle.log_owner.specs.declared.known.Known.{Known}
@@ -26,9 +24,8 @@ use Rattle.log_owner.specs.declared.opening.Opening.{Opening}
 use Rattle.log_owner.specs.declared.opening.Scanning.{Scanning}
 use Rattle.log_owner.specs.declared.opening.Settling.{Settling}
 use Rattle.log_owner.specs.declared.opening.Stage.{Stage}
-use Rattle.log_owner.specs.declared.opening.Stage.TheVariants as stage
 use Rattle.log_owner.specs.Opened.{filed}
-use Rattle.log_owner.specs.Opening.{Went, Moved, stays, drops, at_scan, at_log, said, scanned, wrote_one, written, opens, logged, writes, behind, starts_log, settles_over, follows, stepped, scans_on, scans_at, scans, at_first, welcomed_with, welcomed, welcomed_as, is_meant, welcomed_in, on_welcome, regrouped, on_news, is_fenced, fenced_by, on_fenced, own_in, answers, on_found, on_missing, on_stored, on_tick, on_body, on_packet, went, nothing_asked}
+use Rattle.log_owner.specs.Opening.{Went, Moved, drops, at_scan, at_log, said, scanned, wrote_one, written, opens, logged, writes, behind, starts_log, settles_over, follows, stepped, scans_on, at_first, welcomed_with, welcomed, on_tick, on_packet, nothing_asked}
 use Rattle.log_owner.specs.Promised.{promised_in}
 use Rattle.log_owner.specs.Sending.{hello}
 use Rattle.log_scan.specs.declared.input.In.{In}
@@ -36,31 +33,27 @@ use Rattle.log_scan.specs.declared.input.In.TheVariants as input
 use Rattle.log_scan.specs.declared.output.Out.{Out}
 use Rattle.log_scan.specs.declared.output.Out.TheVariants as out
 use Rattle.log_scan.specs.Transition as scan
-use Rattle.node_base.specs.Asking.{next_ask, drawn, own_of, asked_as, drawn_for}
+use Rattle.node_base.specs.Asking.{next_ask, asked_as, drawn_for}
 use Rattle.node_base.specs.declared.effects.Effect.{Effect}
 use Rattle.node_base.specs.declared.effects.Effect.TheVariants.{Lose}
 use Rattle.node_base.specs.declared.maps.Maps.{Maps}
 use Rattle.node_base.specs.declared.questions.Asked.{Asked}
 use Rattle.node_base.specs.declared.questions.Questions.{Questions}
-use Rattle.node_base.specs.Known.{names_known}
-use Rattle.node_base.specs.Maps.{fits, is_older, taken}
+use Rattle.node_base.specs.Maps.{taken}
 use Rattle.node_base.specs.Shape.{is_log, has_logs, is_news}
 use Rattle.wire_msg.specs.declared.body.Body.{Body}
-use Rattle.wire_msg.specs.declared.body.Body.TheVariants as body
 use Rattle.wire_msg.specs.declared.packet.Packet.{Packet}
 use Rattle.wire_msg.specs.declared.registry.News.{News}
 use Rattle.wire_msg.specs.declared.registry.Welcome.{Welcome}
-use Rattle.wire_msg.specs.declared.storage.Fenced.{Fenced}
-use Rattle.wire_msg.specs.declared.storage.Found.{Found}
-use Rattle.wire_msg.specs.declared.storage.Missing.{Missing}
-use Rattle.wire_msg.specs.declared.storage.Stored.{Stored}
 use Rattle.client_log.specs.LogState.{LogState}
 use Rattle.log_flight.specs.Flights.{FlightState}
 use Rattle.node_tellings.specs.filed_tie.OpeningReach.{AreOfLog, ScanReaches, SettlingReaches, StageReaches, OpeningReaches}
 use Rattle.node_tellings.specs.filed_tie.Reach.{Reach, BodyTells}
 use Rattle.node_tellings.proofs.filed_tie.Feeds.{opened_end}
 use Rattle.node_tellings.proofs.filed_tie.Frames as frames
-use Rattle.node_moves.proofs.client_walk.LogTurns.{IsSend, Rests, Lands, Turns, as_end, log_turns}
+use Rattle.node_moves.proofs.OpeningSays.{log_says, scan_says, sends_end}
+use Rattle.node_moves.proofs.OpeningWalk.{Comes, Walk, packet_so, tick_so}
+use Rattle.node_moves.proofs.client_walk.LogTurns.{Rests, Lands, Turns, as_end, log_turns}
 use Rattle.node_tellings.proofs.filed_tie.Scans.{ChainTells, NewsReach, InputTells, ScanKeeps, scan_keeps}
 
 -- maps in a packet of the right shape are of some slots
@@ -121,30 +114,21 @@ module _ (reach : Reach) (node : NodeId) (log : ℕ) where
           all_append (frames.Says reach node) (map filed s.chain) _ (filed_said s.chain) (tt, tt),
         )
 
-    written_sends : (before : Option End) (outs : List LogOut) → AllByRecursion IsSend outs → (steps wrote_one before outs).state ≡ before
-    unfolding wrote_one
-    written_sends before [] all = refl
-    written_sends before (log_out.Send fragment member ∷ outs) all = written_sends before outs all.1
-    written_sends before (log_out.Settled end rows ∷ outs) all = absurd all.0
-
-    written_says : (before : Option End) (outs : List LogOut) → AllSay (steps wrote_one before outs).outs
-    unfolding wrote_one
-    written_says before [] = tt
-    written_says before (log_out.Send fragment member ∷ outs) = (tt, written_says before outs)
-    written_says before (log_out.Settled end rows ∷ outs) = written_says (Some end) outs
+    written_says : (outs : List LogOut) → AllSay (written outs).outs
+    written_says outs = log_says (frames.Says reach node) (λ fragment member. tt) None outs
 
     landed_at : (was : Option FlightState) (r : log_steps.Done) → Lands was r → (written r.outs).state ≡ Some r.state.end
     unfolding wrote_one
     landed_at was r l =
-        subst (λ outs. (written outs).state ≡ Some r.state.end) (sym (as_end was r l)) (written_sends (Some r.state.end) l.rest l.sends)
+        subst (λ outs. (written outs).state ≡ Some r.state.end) (sym (as_end was r l)) (sends_end (Some r.state.end) l.rest l.sends)
 
     logged_so : (s : Settling) (was : LogState) (r : log_steps.Done) → SettlingReaches reach log s → Turns was r → Goes (logged k s r)
     logged_so s was r h turns =
         let then_is : Settling = record s { log = r.state } in
         let g : SettlingReaches reach log then_is = record { low = h.low; chain = h.chain } in
-        frames.goes_after reach node ProgressReaches (written r.outs).outs (opens k then_is (written r.outs).state) (written_says None r.outs)
+        frames.goes_after reach node ProgressReaches (written r.outs).outs (opens k then_is (written r.outs).state) (written_says r.outs)
         (⊎_elim
-        (λ (rests : Rests was.end r). subst (λ o. Goes (opens k then_is o)) (sym (written_sends None r.outs rests.sends))
+        (λ (rests : Rests was.end r). subst (λ o. Goes (opens k then_is o)) (sym (sends_end None r.outs rests.sends))
         (frames.goes_still reach node ProgressReaches (at_log k then_is) (at_log_so then_is g)))
         (λ (lands : Lands was.flight r). subst (λ o. Goes (opens k then_is o)) (sym (landed_at was.flight r lands)) (opened_so then_is g)) turns)
 
@@ -192,37 +176,19 @@ module _ (reach : Reach) (node : NodeId) (log : ℕ) where
       unfolding follows
       none_ends s h fact = frames.goes_still reach node ProgressReaches (at_scan k s) (at_scan_so s h)
 
-      one_said : (st : _) (o : Out) → AllSay (said k.owner low st o).outs
-      unfolding said
-      one_said st (out.Hello own) = (tt, tt)
-      one_said st (out.Fence server) = (tt, tt)
-      one_said st (out.Fetch server name own) = (tt, tt)
-      one_said st (out.Chain segments end prior) = tt
-      one_said st (out.Lost name) = tt
-
-      scanned_says : (st : _) (outs : List Out) → AllSay (steps (said k.owner low) st outs).outs
-      scanned_says st [] = tt
-      scanned_says st (o ∷ outs) =
-          all_append (frames.Says reach node) (said k.owner low st o).outs (steps (said k.owner low) (said k.owner low st o).state outs).outs
-          (one_said st o)
-          (scanned_says (said k.owner low st o).state outs)
-
     stepped_so : (q : Questions) (s : Scanning) (r : scan.Done) → ScanKeeps reach log r → WentSo (stepped k q s r)
     stepped_so q s r kept =
         let low : ℕ = r.state.opening.low in
         let e = scanned k.owner low s.asked q r.outs in
         let next : Scanning = record { scan = r.state; asked = e.state.asked } in
         frames.goes_after reach node ProgressReaches e.outs (follows k next e.state.ended)
-        (scanned_says low (record { asked = s.asked; questions = q; ended = None }) r.outs)
+        (scan_says (frames.Says reach node) k.owner (λ ask. tt) (λ server. tt) (λ name ask server. tt) low
+        (record { asked = s.asked; questions = q; ended = None }) r.outs)
         (scanned_ends low s.asked q None r.outs kept.outs (none_ends low) next kept.state refl)
 
     scans_so : (q : Questions) (s : Scanning) (i : In) → ScanReaches reach log s.scan → InputTells reach log i → WentSo (scans_on k q s i)
     unfolding scans_on
     scans_so q s i h tells = stepped_so q s (scan.transition s.scan i) (scan_keeps reach log s.scan i h tells)
-
-    scans_at_so : (q : Questions) (i : In) (at : Stage) → StageReaches reach log at → InputTells reach log i → WentSo (scans_at k q i at)
-    scans_at_so q i (stage.Scanning s) h tells = scans_so q s i h tells
-    scans_at_so q i (stage.Settling s) h tells = frames.goes_still reach node ProgressReaches (at_log k s) (at_log_so s h)
 
   -- ---- the events
 
@@ -230,127 +196,43 @@ module _ (reach : Reach) (node : NodeId) (log : ℕ) where
   pub first_so : (owner : Owner) (servers : ℕ) (q : Questions) → owner.log.0 ≡ log → OpeningReaches reach log (at_first owner servers q)
   first_so owner servers q own = record { own = own; stage = record { own = own; low = λ some. omega arith; chain = tt } }
 
-  module _ (o : Opening) (q : Questions) (h : OpeningReaches reach log o) where
-    dropped : WentSo (drops o q)
-    dropped = opening_so o q h
+  welcomed_with_so : (k : Known) (q : Questions) (s : Scanning) → k.owner.log.0 ≡ log → ScanReaches reach log s.scan → (maps : Maps) (news : News) (asked : ℕ)
+      (groups : Option GroupMapState) → NewsReach reach log news.slots → WentSo (welcomed_with (record k { maps = maps }) q s news asked groups)
+  welcomed_with_so k q s own h maps news asked None tells =
+      frames.goes_still reach node ProgressReaches (at_scan (record k { maps = maps }) s) (at_scan_so (record k { maps = maps }) own s h)
+  welcomed_with_so k q s own h maps news asked (Some groups) tells =
+      scans_so (record k { maps = maps; promised = promised_in news.slots }) own q (record s { asked = nothing_asked })
+      (input.Welcome asked news.slots groups) h tells
 
-    -- ---- answers of servers
+  welcomed_so : (k : Known) (q : Questions) (s : Scanning) (news : News) (asked : ℕ) → k.owner.log.0 ≡ log → ScanReaches reach log s.scan
+      → NewsReach reach log news.slots → WentSo (welcomed k q s news asked)
+  unfolding welcomed
+  welcomed_so k q s news asked own h tells = (let maps : Maps = taken k.maps news in welcomed_with_so k q s own h maps news asked maps.groups tells)
 
-    by_scan : (i : In) → InputTells reach log i → WentSo (scans o q i)
-    by_scan i tells = scans_at_so o.known h.own q i o.stage h.stage tells
+  tells_nothing : (i : In) → Comes i → InputTells reach log i
+  tells_nothing (input.Welcome own slots groups) comes = absurd comes
+  tells_nothing _ comes = tt
 
-    fenced_by_so : (f : Fenced) (server : ℕ) → WentSo (fenced_by o q f server)
-    fenced_by_so f server =
-        by_test (λ (w : Went). WentSo w) (is_fenced o f) (scans o q (input.Fenced server f.generation f.held)) (drops o q)
-        (λ t. by_scan (input.Fenced server f.generation f.held) tt) (λ t. dropped)
+  abbrev Said : NodeId → Body → Type 0
+  Said from b = (has_logs b ≡ true) × BodyTells reach from b
 
-    fenced_so : (from : NodeId) (f : Fenced) → WentSo (on_fenced o q from f)
-    unfolding on_fenced
-    fenced_so (Server v) f = fenced_by_so f v
-    fenced_so (Client v) f = dropped
-    fenced_so (Manager v) f = dropped
-    fenced_so Cleaner f = dropped
-    fenced_so Registry f = dropped
+  abbrev Holds : Known → Questions → Stage → Went → Type 0
+  Holds k q at w = k.owner.log.0 ≡ log → StageReaches reach log at → WentSo w
 
-    answers_so : (f : ℕ → In) → ((own : ℕ) → InputTells reach log (f own)) → (own : Option ℕ) → WentSo (answers o q f own)
-    answers_so f tells None = dropped
-    answers_so f tells (Some own) = by_scan (f own) (tells own)
-
-    found_so : (from : NodeId) (f : Found) → WentSo (on_found o q from f)
-    unfolding on_found
-    found_so (Server v) f = answers_so (λ own. input.Got own v f.generation f.fragment) (λ own. tt) (own_in o.stage f.ask)
-    found_so (Client v) f = dropped
-    found_so (Manager v) f = dropped
-    found_so Cleaner f = dropped
-    found_so Registry f = dropped
-
-    missing_so : (from : NodeId) (m : Missing) → WentSo (on_missing o q from m)
-    unfolding on_missing
-    missing_so (Server v) m = answers_so (λ own. input.Missing own v m.generation) (λ own. tt) (own_in o.stage m.ask)
-    missing_so (Client v) m = dropped
-    missing_so (Manager v) m = dropped
-    missing_so Cleaner m = dropped
-    missing_so Registry m = dropped
-
-  -- ---- the log, and time
-
-  stored_so : (k : Known) (at : Stage) (q : Questions) (m : Stored) → k.owner.log.0 ≡ log → StageReaches reach log at
-      → WentSo (on_stored (record { known = k; stage = at }) q m)
-  unfolding on_stored
-  stored_so k (stage.Scanning s) q m own h = frames.goes_still reach node ProgressReaches (at_scan k s) (at_scan_so k own s h)
-  stored_so k (stage.Settling s) q m own h = writes_so k own s (log_in.Acked m.name m.index m.generation) h
-
-  tick_so : (k : Known) (at : Stage) (q : Questions) → k.owner.log.0 ≡ log → StageReaches reach log at → WentSo (on_tick (record { known = k; stage = at }) q)
-  unfolding on_tick
-  tick_so k (stage.Scanning s) q own h = scans_so k own q s input.Tick h tt
-  tick_so k (stage.Settling s) q own h = writes_so k own s log_in.Tick h
-
-  -- ---- maps
-
-  regrouped_so : (k : Known) (q : Questions) (groups : GroupMapState) (at : Stage) → k.owner.log.0 ≡ log → StageReaches reach log at
-      → WentSo (regrouped k q groups at)
-  regrouped_so k q groups (stage.Scanning s) own h = scans_so k own q s (input.Maps groups) h tt
-  regrouped_so k q groups (stage.Settling s) own h = writes_so k own s (log_in.Maps groups) h
-
-  news_so : (o : Opening) (q : Questions) (news : News) → OpeningReaches reach log o → WentSo (on_news o q news)
-  unfolding on_news
-  news_so o q news h =
-      by_test (λ (w : Went). WentSo w) (fits o.known.maps news && is_older o.known.maps news)
-      (regrouped (record o.known { maps = taken o.known.maps news }) q news.groups o.stage) (drops o q)
-      (λ t. regrouped_so (record o.known { maps = taken o.known.maps news }) q news.groups o.stage h.own h.stage) (λ t. opening_so o q h)
-
-  module _ (k : Known) (own : k.owner.log.0 ≡ log) (q : Questions) (s : Scanning) (h : ScanReaches reach log s.scan) where
-    rests : WentSo (stays (at_scan k s) q)
-    rests = frames.goes_still reach node ProgressReaches (at_scan k s) (at_scan_so k own s h)
-
-    welcomed_with_so : (maps : Maps) (news : News) (asked : ℕ) (groups : Option GroupMapState) → NewsReach reach log news.slots
-        → WentSo (welcomed_with (record k { maps = maps }) q s news asked groups)
-    welcomed_with_so maps news asked None tells =
-        frames.goes_still reach node ProgressReaches (at_scan (record k { maps = maps }) s) (at_scan_so (record k { maps = maps }) own s h)
-    welcomed_with_so maps news asked (Some groups) tells =
-        scans_so (record k { maps = maps; promised = promised_in news.slots }) own q (record s { asked = nothing_asked })
-        (input.Welcome asked news.slots groups) h tells
-
-    welcomed_so : (news : News) (asked : ℕ) → NewsReach reach log news.slots → WentSo (welcomed k q s news asked)
-    unfolding welcomed
-    welcomed_so news asked tells = (let maps : Maps = taken k.maps news in welcomed_with_so maps news asked maps.groups tells)
-
-    welcomed_as_so : (news : News) (asked : Option ℕ) → NewsReach reach log news.slots → WentSo (welcomed_as k q s news asked)
-    welcomed_as_so news None tells = rests
-    welcomed_as_so news (Some asked) tells = welcomed_so news asked tells
-
-    welcomed_in_so : (m : Welcome) → NewsReach reach log m.news.slots → WentSo (welcomed_in k q s m)
-    welcomed_in_so m tells =
-        by_test (λ (w : Went). WentSo w) (is_meant k m) (welcomed_as k q s m.news (own_of s.asked m.ask)) (stays (at_scan k s) q)
-        (λ t. welcomed_as_so m.news (own_of s.asked m.ask) tells) (λ t. rests)
-
-  welcome_so : (k : Known) (at : Stage) (q : Questions) (m : Welcome) → k.owner.log.0 ≡ log → StageReaches reach log at → NewsReach reach log m.news.slots
-      → WentSo (on_welcome (record { known = k; stage = at }) q m)
-  unfolding on_welcome
-  welcome_so k (stage.Scanning s) q m own h tells = welcomed_in_so k own q s h m tells
-  welcome_so k (stage.Settling s) q m own h tells = frames.goes_still reach node ProgressReaches (at_log k s) (at_log_so k own s h)
-
-  -- ---- a packet
-
-  body_so : (o : Opening) (q : Questions) (from : NodeId) (b : Body) → OpeningReaches reach log o → has_logs b ≡ true → BodyTells reach from b
-      → WentSo (on_body o q from b)
-  unfolding on_body
-  body_so o q from (body.Welcome m) h shape tells = welcome_so o.known o.stage q m h.own h.stage (some_slots m.news shape, tells)
-  body_so o q from (body.MapNews m) h shape tells = news_so o q m h
-  body_so o q from (body.Fenced m) h shape tells = fenced_so o q h from m
-  body_so o q from (body.Fragment m) h shape tells = found_so o q h from m
-  body_so o q from (body.Missing m) h shape tells = missing_so o q h from m
-  body_so o q from (body.Stored m) h shape tells = stored_so o.known o.stage q m h.own h.stage
-  body_so o q from _ h shape tells = opening_so o q h
+  walk : Walk Said Holds
+  walk = record {
+    rests = λ o q own h. opening_so o q (record { own = own; stage = h });
+    asks = λ o q own h.
+        frames.goes_plain reach node ProgressReaches (progress.Opening o) (hello o.known.owner.inc (next_ask q) ∷ []) (record { own = own; stage = h }) (tt, tt);
+    scan = λ k q s i comes own h. scans_so k own q s i h (tells_nothing i comes);
+    log = λ k q s i heard own h. writes_so k own s i h;
+    welcome = λ from k q s m asked said own h. welcomed_so k q s m.news asked own h (some_slots m.news said.0, said.1);
+    newer = λ from k news q at w said goes. goes;
+  }
 
   pub packet_goes : (o : Opening) (q : Questions) (p : Packet) → OpeningReaches reach log o → has_logs p.body ≡ true → BodyTells reach p.from p.body
       → WentSo (on_packet o q p)
-  unfolding on_packet
-  packet_goes o q p h shape tells =
-      by_test (λ (w : Went). WentSo w) (names_known o.known.maps p.body) (on_body o q p.from p.body)
-      (went (progress.Opening o) (drawn q) (hello o.known.owner.inc (next_ask q) ∷ []))
-      (λ t. body_so o q p.from p.body h shape tells)
-      (λ t. frames.goes_plain reach node ProgressReaches (progress.Opening o) (hello o.known.owner.inc (next_ask q) ∷ []) h (tt, tt))
+  packet_goes o q p h shape tells = packet_so Said Holds walk o q p (shape, tells) h.own h.stage
 
   pub tick_goes : (o : Opening) (q : Questions) → OpeningReaches reach log o → WentSo (on_tick o q)
-  tick_goes o q h = tick_so o.known o.stage q h.own h.stage
+  tick_goes o q h = tick_so Said Holds walk o q h.own h.stage

@@ -14,13 +14,13 @@ use Rattle.wire_msg.specs.declared.packet.Do.{Do}
 use Rattle.xfs_base.specs.declared.node.NodeId.TheVariants.{Registry}
 use Rattle.xfs_base.specs.declared.segment.SegRef.{SegRef}
 use Rattle.xfs_base.specs.declared.setup.Setup.{Setup}
+use Rattle.node_moves.proofs.Effects.{Says, packets_so}
 use Rattle.node_moves.proofs.registry_moves.Keeping.{Keeps, event_keeps}
 use Rattle.node_moves.specs.registry_moves.Moves.{Said}
 use Rattle.node_moves.specs.registry_moves.Moves.Said.{TellsMaps, Welcomes}
 use Rattle.node_tellings.specs.reference_tie.Managers.{RefersThen}
 use Rattle.node_tellings.specs.reference_tie.Registries.{RegistryRefers}
-use Rattle.node_tellings.specs.reference_tie.References.{BodyRefers, DoRefers, NewsRefer, PartsRefer, References}
-use Rattle.node_tellings.proofs.reference_tie.Effects.{EffectRefers, packets_refer}
+use Rattle.node_tellings.specs.reference_tie.References.{BodyRefers, DoRefers, NewsRefer, PacketRefers, PartsRefer, References}
 
 -- what holds of each slot's parts goes on to where one slot has another checkpoint
 one_put : (P : List SegRef → Type 0) (kept_ : List Checkpoint) (slot : ℕ) (new : Checkpoint) → P new.parts
@@ -36,7 +36,7 @@ module _ (refs : References) where
   BoardRefers s = (slot : ℕ) → PartsRefer refs (parts_at s.checkpoints slot)
 
   abbrev Tells : BoardState → Effect → Type 0
-  Tells now e = EffectRefers refs Registry e
+  Tells now e = Says (λ said. BodyRefers refs Registry said) e
 
   news_refer : (s : BoardState) → BoardRefers s → AllByRecursion (NewsRefer refs) (all_news s)
   news_refer s h = (h 0, (h 1, (h 2, (h 3, (h 4, (h 5, (h 6, (h 7, tt))))))))
@@ -80,4 +80,4 @@ pub registry_keeps : (r : References) (node : RegistryNode) (what : Do) → Regi
     → RefersThen RegistryRefers r (registry_step node what)
 registry_keeps r node what h told =
     let d = event_keeps node what (BoardRefers r) (Tells r) (keeps r node what told) h in
-    record { node = d.state; packets = packets_refer r Registry (takes node what).outs d.outs }
+    record { node = d.state; packets = packets_so (λ said. BodyRefers r Registry said) (PacketRefers r) Registry (λ to said tells. tells) (takes node what).outs d.outs }

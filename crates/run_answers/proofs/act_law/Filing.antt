@@ -39,8 +39,8 @@ use Rattle.wire_msg.specs.declared.registry.News.{News}
 use Rattle.xfs_base.proofs.Booleans.{by_test}
 use Rattle.xfs_base.specs.declared.segment.End.{End}
 use Rattle.xfs_base.specs.Steps.{saying, steps, still}
-use Rattle.serving_moves.proofs.item_moves.OpeningWalk as walks
-use Rattle.serving_moves.proofs.item_moves.OpeningWalk.{IsOpening, Walk}
+use Rattle.node_moves.proofs.OpeningWalk as walks
+use Rattle.node_moves.proofs.OpeningWalk.{Any, IsOpening, Walk, heard_opens}
 use Rattle.run_answers.proofs.act_law.Incarnations.{EndsIn, IsOwn, Keeps, takes_keep}
 use Rattle.run_answers.proofs.act_law.Telling.{effect_behind}
 
@@ -141,18 +141,18 @@ Owns o = StageOwn o.known.owner.inc o.stage
 abbrev Holds : Known → Questions → Stage → Went → Type 0
 Holds k q at w = StageOwn k.owner.inc at → WentSo k.owner w
 
-walk : Walk Holds
+walk : Walk Any Holds
 walk = record {
   rests = λ o q own. own;
   asks = λ o q own. own;
-  scan = λ k q s i own. scans_on_so k q s i;
-  log = λ k q s i opening own. writes_so k s i opening own;
-  welcome = λ k q s news asked own. welcomed_so k q s news asked;
-  newer = λ k news q at w fact. fact;
+  scan = λ k q s i comes own. scans_on_so k q s i;
+  log = λ k q s i heard own. writes_so k s i (heard_opens i heard) own;
+  welcome = λ from k q s m asked said own. welcomed_so k q s m.news asked;
+  newer = λ from k news q at w said fact. fact;
 }
 
 pub tick_so : (o : Opening) (q : Questions) → Owns o → WentSo o.known.owner (on_tick o q)
-tick_so o q = walks.tick_so Holds walk o q
+tick_so o q = walks.tick_so Any Holds walk o q
 
 pub packet_so : (o : Opening) (q : Questions) (p : Packet) → Owns o → WentSo o.known.owner (on_packet o q p)
-packet_so o q p = walks.packet_so Holds walk o q p
+packet_so o q p = walks.packet_so Any Holds walk o q p tt

@@ -21,7 +21,7 @@ use Rattle.xfs_base.specs.declared.segment.Prior.{Prior}
 use Rattle.xfs_base.specs.declared.segment.SegName.{SegName}
 use Rattle.xfs_base.specs.Limits.{segment_blocks}
 use Rattle.xfs_base.specs.Steps.{still}
-use Rattle.serving_moves.proofs.item_moves.OpeningWalk.{IsOpening}
+use Rattle.node_moves.proofs.OpeningWalk.{IsOpening}
 use Rattle.run_answers.proofs.act_law.Writing.{IsSend, all_sent}
 
 module _ (inc : ℕ) where

@@ -94,9 +94,9 @@ module _ (g : Setting) (n : Net) (h : IsOriginalLog n) where
   writes_so chain s (Parts items) came now = absurd came
   writes_so chain s Seal came now = absurd came
   writes_so chain s (Acked name index generation) came now =
-      flight_so chain s (Acked name index generation) (openings.acked_so s name index generation now) _ refl
-  writes_so chain s (Maps m) came now = flight_so chain s (Maps m) (openings.maps_so s m now) _ refl
-  writes_so chain s Tick came now = flight_so chain s Tick (openings.tick_so s now) _ refl
+      flight_so chain s (Acked name index generation) (openings.log_so s (Acked name index generation) tt now) _ refl
+  writes_so chain s (Maps m) came now = flight_so chain s (Maps m) (openings.log_so s (Maps m) tt now) _ refl
+  writes_so chain s Tick came now = flight_so chain s Tick (openings.log_so s Tick tt now) _ refl
 
   -- the log starts behind what was read back, with a segment without items
   told_so : (s : ScanState) (d : scan.Done) (t : Option Told) (groups : Option GroupMapState) → IsOriginalLog (after_told g n s d t groups)
@@ -104,7 +104,7 @@ module _ (g : Setting) (n : Net) (h : IsOriginalLog n) where
   told_so s d (Some t) None = record { owner = tt; flew = h.flew }
   told_so s d (Some t) (Some m) =
       let first : WritesNothing (first_write g n.inc t.end m).state =
-      openings.begun_so (started g.log n.inc t.end m) (record { clear = refl; flies = tt }) in
+      openings.log_so (started g.log n.inc t.end m) (Parts []) refl (record { clear = refl; flies = tt }) in
       record {
         owner = first;
         flew = flies_so (first_write g n.inc t.end m).state.flight n.flown (empty_flies (first_write g n.inc t.end m).state.flight first.flies) h.flew;

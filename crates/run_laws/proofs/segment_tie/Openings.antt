@@ -1,21 +1,20 @@
 -- The log of an opening: nothing waits, and its opening segment has no items, until it is settled.
-use Rattle.std.proofs.Common.{◌≡◌, ℕ, ◌&&◌, cond, List, [], Option, Some, None, refl, sym, ap, subst}
+use Rattle.std.proofs.Common.{◌≡◌, ℕ, List, [], Option, Some, None, refl, sym, ap, subst}
 use Rattle.std.specs.Prelude.{drop, take, IfSome}
 use Rattle.client_log.specs.LogState.{LogState}
-use Rattle.client_log.specs.Transition.{Done, launched, writes, has_next, is_idle, is_full, sealed, if_full, on_parts, restriped, landed, settled, can_follow, followed, looked_at, on_acked, on_maps, on_tick, all_sends}
+use Rattle.client_log.specs.Transition.{transition}
+use Rattle.client_log.specs.declared.input.In.{In}
+use Rattle.client_log.specs.declared.input.In.TheVariants.{Parts}
+use Rattle.node_moves.proofs.LogWalk as log_walk
+use Rattle.node_moves.proofs.LogWalk.{Walk}
 use Rattle.node_tellings.specs.entry_tie.ClientTells as tells
 use Rattle.node_tellings.specs.entry_tie.Told.{Told, RowsTold}
 use Rattle.node_tellings.proofs.entry_tie.Frames as frames
 use Rattle.node_tellings.proofs.entry_tie.Frames.{contains_all}
 use Rattle.node_tellings.proofs.entry_tie.Openings as events
-use Rattle.group_map.specs.GroupMapState.{GroupMapState}
 use Rattle.log_flight.specs.declared.dirty.Change.{Change}
-use Rattle.log_flight.specs.declared.flight.Fate.{Fate}
-use Rattle.log_flight.specs.declared.flight.Fate.TheVariants.{Restripe, Settle, Wait}
-use Rattle.log_flight.specs.Fate.{fate_of}
-use Rattle.log_flight.specs.Flights.{FlightState, is_of, noting}
+use Rattle.log_flight.specs.Flights.{FlightState}
 use Rattle.log_flight.specs.Items.{items_of}
-use Rattle.log_flight.specs.Texts.{has_text}
 use Rattle.log_owner.specs.declared.opened.Progress.{Progress}
 use Rattle.log_owner.specs.declared.opened.Progress.TheVariants as progress
 use Rattle.log_owner.specs.declared.opening.Opening.{Opening}
@@ -29,13 +28,10 @@ use Rattle.segment_format.specs.declared.segment.Segment.{Segment}
 use Rattle.segment_format.specs.Rows.{rows_of}
 use Rattle.version_model.specs.declared.act.Act.{Act}
 use Rattle.wire_msg.specs.declared.packet.Packet.{Packet}
-use Rattle.xfs_base.proofs.Booleans.{by_test}
 use Rattle.xfs_base.specs.declared.block.BlockId.{BlockId}
 use Rattle.xfs_base.specs.declared.entry.Entry.{Entry}
 use Rattle.xfs_base.specs.declared.node.NodeId.TheVariants.{Cleaner}
-use Rattle.xfs_base.specs.declared.segment.SegName.{SegName}
 use Rattle.xfs_base.specs.Limits.{segment_blocks}
-use Rattle.xfs_base.specs.Steps.{still}
 use Rattle.xfs_base.proofs.Alls.{all_each}
 use Rattle.run_laws.specs.segment_tie.Clients.{StageWrites}
 use Rattle.run_laws.specs.segment_tie.Segments.{IsOriginal, IsCopies, IsFirstHand, IsMoved, WritesSo, WritesOnly, WritesNothing, WritesOriginals, WritesCopies}
@@ -44,73 +40,34 @@ use Rattle.run_laws.proofs.segment_tie.Items.{nothing_is}
 abbrev pub Empty : Segment → Type 0
 Empty s = s.items ≡ []
 
-abbrev pub Keeps : Done → Type 0
-Keeps d = WritesNothing d.state
-
 -- ---- the log
 
-sealed_so : (s : LogState) → s.dirty ≡ [] → Keeps (sealed s)
-unfolding sealed launched
-sealed_so s clear = record {
-  clear = ap (λ (d : List (BlockId × Change)). drop segment_blocks d) clear;
-  flies = ap (λ (d : List (BlockId × Change)). items_of 0 (take segment_blocks d)) clear;
+abbrev pub walk : Walk
+walk = record {
+  Waits = λ log dirty. dirty ≡ [];
+  Flies = λ name items. items ≡ [];
+  Says = λ out. Unit {0};
+  Puts = λ block change. ⊥;
+  Writes = λ items. items ≡ [];
+  puts = λ s block change new clear. absurd new;
+  leaves = λ s clear. ap (λ (d : List (BlockId × Change)). drop segment_blocks d) clear;
+  seals = λ s clear. ap (λ (d : List (BlockId × Change)). items_of 0 (take segment_blocks d)) clear;
+  writes = λ s items fact clear. fact;
+  again = λ name items fact. fact;
+  sends = λ f place member fact. tt;
+  settles = λ f fact. tt;
 }
 
-if_full_so : (s : LogState) → WritesNothing s → Keeps (if_full s)
-unfolding if_full
-if_full_so s h = by_test Keeps (is_full s) (sealed s) (still s) (λ t. sealed_so s h.clear) (λ t. h)
-
-pub begun_so : (s : LogState) → WritesNothing s → Keeps (on_parts s [])
-unfolding on_parts launched
-begun_so s h =
-    by_test Keeps (is_idle s && has_next s.end.seq && has_text []) (writes s []) (still s) (λ t. record { clear = h.clear; flies = refl }) (λ t. h)
-
-follows_so : (s : LogState) (f : FlightState) (fate : Fate) → s.dirty ≡ [] → Empty f.segment → Keeps (followed s f fate)
-unfolding restriped launched settled
-follows_so s f Restripe clear fact = record { clear = clear; flies = fact }
-follows_so s f Settle clear fact = if_full_so (landed s f) (record { clear = clear; flies = tt })
-follows_so s f Wait clear fact = record { clear = clear; flies = fact }
-
-looks_so : (before s : LogState) (f : FlightState) → WritesNothing before → s.dirty ≡ [] → Empty f.segment → Keeps (looked_at before s f)
-unfolding looked_at
-looks_so before s f was clear fact =
-    by_test Keeps (can_follow s f (fate_of s.groups f)) (followed s f (fate_of s.groups f)) (still before)
-    (λ t. follows_so s f (fate_of s.groups f) clear fact) (λ t. was)
-
-pub acked_so : (s : LogState) (name : SegName) (index generation : ℕ) → WritesNothing s → Keeps (on_acked s name index generation)
-unfolding on_acked
-acked_so s name index generation h = by s.flight h.flies
-  where
-    by : (o : Option FlightState) → IfSome o (λ f. Empty f.segment)
-        → Keeps (elim o [ None ↦ still s | Some f ↦ cond (is_of f name index generation) (looked_at s s (noting f index)) (still s) ])
-    by None fact = h
-    by (Some f) fact =
-        by_test Keeps (is_of f name index generation) (looked_at s s (noting f index)) (still s) (λ t. looks_so s s (noting f index) h h.clear fact) (λ t. h)
-
-pub maps_so : (s : LogState) (groups : GroupMapState) → WritesNothing s → Keeps (on_maps s groups)
-unfolding on_maps
-maps_so s groups h = by s.flight h.flies
-  where
-    by : (o : Option FlightState) → IfSome o (λ f. Empty f.segment)
-        → Keeps (elim o [ None ↦ still (record s { groups = groups }) | Some f ↦ looked_at s (record s { groups = groups }) f ])
-    by None fact = record { clear = h.clear; flies = h.flies }
-    by (Some f) fact = looks_so s (record s { groups = groups }) f h h.clear fact
-
-pub tick_so : (s : LogState) → WritesNothing s → Keeps (on_tick s)
-unfolding on_tick
-tick_so s h = by s.flight
-  where
-    by : (o : Option FlightState) → Keeps (elim o [ None ↦ still s | Some f ↦ record { state = s; outs = all_sends f } ])
-    by None = h
-    by (Some f) = h
+pub log_so : (s : LogState) (i : In) → log_walk.Given walk i → WritesNothing s → WritesNothing (transition s i).state
+log_so s i given h =
+    let d = log_walk.log_goes walk s i given (record { waits = h.clear; flies = h.flies }) in
+    record { clear = d.holds.waits; flies = d.holds.flies }
 
 opening_log : events.KeepsLog WritesNothing
 opening_log = record {
   first = λ log inc end groups. record { clear = refl; flies = tt };
-  begins = begun_so;
-  acked = acked_so;
-  maps = maps_so;
-  ticks = tick_so;
+  begins = λ s h. log_so s (Parts []) refl h;
+  hears = λ s i heard h. log_so s i (log_walk.heard walk i heard) h;
 }
 
 -- ---- the opening

@@ -32,7 +32,7 @@ use Rattle.wire_msg.specs.declared.body.Body.{Body}
 use Rattle.wire_msg.specs.declared.body.Body.TheVariants as body
 use Rattle.wire_msg.specs.declared.packet.Packet.{Packet}
 use Rattle.wire_msg.specs.declared.registry.News.{News}
-use Rattle.serving_moves.proofs.item_moves.OpeningWalk.{Walk, packet_so, tick_so}
+use Rattle.node_moves.proofs.OpeningWalk.{Any, Walk, packet_so, tick_so}
 use Rattle.run_losses.proofs.torn_law.ClientFetches.{AllUpTo, UpTo, last_up}
 use Rattle.run_losses.proofs.torn_law.OpeningTurns.{NotFetch, ended_so, none_ended, writes_so}
 
@@ -123,18 +123,18 @@ welcomed_up k q s news own = with_up (record k { maps = taken k.maps news }) q s
 abbrev Holds : Known → Questions → Stage → Went → Type 0
 Holds k q at w = StageUp q.last at → WentUp q.last w
 
-walk : Walk Holds
+walk : Walk Any Holds
 walk = record {
   rests = λ o q small. stays_up q (progress.Opening o);
   asks = λ o q small. record { up = last_up q.last; does = (tt, tt) };
-  scan = λ k q s i small. scan_up k q s i small;
-  log = λ k q s i opening small. writes_up k q s i;
-  welcome = λ k q s news own small. welcomed_up k q s news own;
-  newer = λ k news q at w fact. fact;
+  scan = λ k q s i comes small. scan_up k q s i small;
+  log = λ k q s i heard small. writes_up k q s i;
+  welcome = λ from k q s m own said small. welcomed_up k q s m.news own;
+  newer = λ from k news q at w said fact. fact;
 }
 
 pub packet_up : (o : Opening) (q : Questions) (packet : Packet) → StageUp q.last o.stage → WentUp q.last (on_packet o q packet)
-packet_up o q packet = packet_so Holds walk o q packet
+packet_up o q packet = packet_so Any Holds walk o q packet tt
 
 pub tick_up : (o : Opening) (q : Questions) → StageUp q.last o.stage → WentUp q.last (on_tick o q)
-tick_up o q = tick_so Holds walk o q
+tick_up o q = tick_so Any Holds walk o q

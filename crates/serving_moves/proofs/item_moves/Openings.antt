@@ -43,7 +43,7 @@ use Rattle.version_model.specs.declared.answer.Answer.TheVariants as answer
 use Rattle.xfs_base.proofs.Alls.{all_weaker}
 use Rattle.xfs_base.specs.declared.segment.SegName.{SegName}
 use Rattle.serving_moves.proofs.item_moves.Keeping.{in_behind, no_loss_told, same}
-use Rattle.serving_moves.proofs.item_moves.OpeningWalk.{Walk, packet_so, tick_so}
+use Rattle.node_moves.proofs.OpeningWalk.{Any, Walk, packet_so, tick_so}
 use Rattle.serving_moves.proofs.item_moves.Settling.{packet_settles, stage_plain, tick_settles}
 use Rattle.serving_moves.specs.item_moves.Events.{log_losses}
 use Rattle.serving_moves.specs.item_moves.Moves.{AllPlain, IsPlain, IsSilent, MayAnswer, Moves, Losses}
@@ -141,14 +141,14 @@ welcomed_so : (k : Known) (q : Questions) (s : Scanning) (news : News) (own : �
 unfolding welcomed
 welcomed_so k q s news own = with_so (record k { maps = taken k.maps news }) q s news own (taken k.maps news).groups
 
-walk : Walk (λ k q at w. WentSo w)
+walk : Walk Any (λ k q at w. WentSo w)
 walk = record {
   rests = λ o q. tt;
   asks = λ o q. tt;
-  scan = scans_on_so;
-  log = λ k q s i opening. writes_so k s i;
-  welcome = welcomed_so;
-  newer = λ k news q at w fact. fact;
+  scan = λ k q s i comes. scans_on_so k q s i;
+  log = λ k q s i heard. writes_so k s i;
+  welcome = λ from k q s m own said. welcomed_so k q s m.news own;
+  newer = λ from k news q at w said fact. fact;
 }
 
 -- ---- what it makes of the items of its node
@@ -161,13 +161,13 @@ pub record Goes (o : Opening) (w : Went) : Type 0 where
 pub packet_goes : (o : Opening) (q : Questions) (p : Packet) → Goes o (on_packet o q p)
 packet_goes o q p = record {
   plain = stage_plain o.stage (on_packet o q p).effects (behaves_plain o.known.owner (on_packet o q p) (behaving.packet_so o q p)) (packet_settles o q p);
-  says = packet_so (λ k q at w. WentSo w) walk o q p;
+  says = packet_so Any (λ k q at w. WentSo w) walk o q p tt;
 }
 
 pub tick_goes : (o : Opening) (q : Questions) → Goes o (on_tick o q)
 tick_goes o q = record {
   plain = stage_plain o.stage (on_tick o q).effects (behaves_plain o.known.owner (on_tick o q) (behaving.tick_so o q)) (tick_settles o q);
-  says = tick_so (λ k q at w. WentSo w) walk o q;
+  says = tick_so Any (λ k q at w. WentSo w) walk o q;
 }
 
 -- only one that scans its log says so

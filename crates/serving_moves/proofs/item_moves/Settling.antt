@@ -20,7 +20,7 @@ use Rattle.wire_msg.specs.declared.packet.Packet.{Packet}
 use Rattle.xfs_base.specs.declared.segment.End.{End}
 use Rattle.xfs_base.proofs.Alls.{all_append, all_map}
 use Rattle.serving_moves.proofs.item_moves.Keeping.{all_steps}
-use Rattle.serving_moves.proofs.item_moves.OpeningWalk.{Walk, packet_so, tick_so}
+use Rattle.node_moves.proofs.OpeningWalk.{Any, Walk, packet_so, tick_so}
 use Rattle.serving_moves.specs.item_moves.Events.{log_losses}
 use Rattle.serving_moves.specs.item_moves.Moves.{AllPlain}
 use Rattle.serving_moves.specs.item_moves.Moves.Losses.{Silent, Answering}
@@ -83,18 +83,18 @@ writes_none k s i = logged_none k s (log.transition s.log i)
 abbrev So : Stage → Went → Type 0
 So at w = UnlessScans at w.effects
 
-walk : Walk (λ k q at w. So at w)
+walk : Walk Any (λ k q at w. So at w)
 walk = record {
   rests = λ o q. unless_scans o.stage [] tt;
   asks = λ o q. unless_scans o.stage _ (tt, tt);
-  scan = λ k q s i. tt;
-  log = λ k q s i opening. writes_none k s i;
-  welcome = λ k q s news own. tt;
-  newer = λ k news q at w fact. fact;
+  scan = λ k q s i comes. tt;
+  log = λ k q s i heard. writes_none k s i;
+  welcome = λ from k q s m own said. tt;
+  newer = λ from k news q at w said fact. fact;
 }
 
 pub tick_settles : (o : Opening) (q : Questions) → UnlessScans o.stage (on_tick o q).effects
-tick_settles o q = tick_so (λ k q at w. So at w) walk o q
+tick_settles o q = tick_so Any (λ k q at w. So at w) walk o q
 
 pub packet_settles : (o : Opening) (q : Questions) (p : Packet) → UnlessScans o.stage (on_packet o q p).effects
-packet_settles o q p = packet_so (λ k q at w. So at w) walk o q p
+packet_settles o q p = packet_so Any (λ k q at w. So at w) walk o q p tt

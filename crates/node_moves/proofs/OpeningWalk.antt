@@ -28,6 +28,7 @@ use Rattle.wire_msg.specs.declared.storage.Fenced.{Fenced}
 use Rattle.wire_msg.specs.declared.storage.Stored.{Stored}
 use Rattle.xfs_base.proofs.Booleans.{by_test}
 use Rattle.xfs_base.specs.declared.node.NodeId.{NodeId}
+use Rattle.node_moves.proofs.LogWalk.{IsHeard}
 
 -- what an owner has its log take while it opens it
 abbrev pub IsOpening : LogIn → Type 0
@@ -37,59 +38,81 @@ IsOpening (log_in.Maps groups) = Unit {0}
 IsOpening log_in.Tick = Unit {0}
 IsOpening _ = ⊥
 
--- So it is of what is made of an opening, with what it knows, these questions, and at this stage; that its maps are newer ones changes nothing of it.
-pub record Walk (Holds : Known → Questions → Stage → Went → Type 0) : Type 0 where
+-- what its scan takes beside the Welcome that it awaits
+abbrev pub Comes : ScanIn → Type 0
+Comes (input.Welcome own slots groups) = ⊥
+Comes _ = Unit {0}
+
+-- nothing is known of what comes
+abbrev pub Any : NodeId → Body → Type 0
+Any from said = Unit {0}
+
+pub heard_opens : (i : LogIn) → IsHeard i → IsOpening i
+heard_opens (log_in.Acked name index generation) heard = tt
+heard_opens (log_in.Maps groups) heard = tt
+heard_opens log_in.Tick heard = tt
+heard_opens (log_in.Put block entry value) heard = absurd heard
+heard_opens (log_in.Parts items) heard = absurd heard
+heard_opens log_in.Seal heard = absurd heard
+
+-- So it is of what is made of an opening, with what it knows, these questions, and at this stage, where so much is known of a body that comes from a node; that its
+-- maps are newer ones changes nothing of it.
+pub record Walk (Said : NodeId → Body → Type 0) (Holds : Known → Questions → Stage → Went → Type 0) : Type 0 where
   pub rests : (o : Opening) (q : Questions) → Holds o.known q o.stage (drops o q)
   pub asks : (o : Opening) (q : Questions)
       → Holds o.known q o.stage (went (progress.Opening o) (drawn q) (hello o.known.owner.inc (next_ask q) ∷ []))
-  pub scan : (k : Known) (q : Questions) (s : Scanning) (i : ScanIn) → Holds k q (stage.Scanning s) (scans_on k q s i)
-  pub log : (k : Known) (q : Questions) (s : Settling) (i : LogIn) → IsOpening i → Holds k q (stage.Settling s) (asking q (writes k s i))
-  pub welcome : (k : Known) (q : Questions) (s : Scanning) (news : News) (own : ℕ) → Holds k q (stage.Scanning s) (welcomed k q s news own)
-  pub newer : (k : Known) (news : News) (q : Questions) (at : Stage) (w : Went) → Holds (record k { maps = taken k.maps news }) q at w → Holds k q at w
+  pub scan : (k : Known) (q : Questions) (s : Scanning) (i : ScanIn) → Comes i → Holds k q (stage.Scanning s) (scans_on k q s i)
+  pub log : (k : Known) (q : Questions) (s : Settling) (i : LogIn) → IsHeard i → Holds k q (stage.Settling s) (asking q (writes k s i))
+  pub welcome : (from : NodeId) (k : Known) (q : Questions) (s : Scanning) (m : Welcome) (own : ℕ) → Said from (body.Welcome m)
+      → Holds k q (stage.Scanning s) (welcomed k q s m.news own)
+  pub newer : (from : NodeId) (k : Known) (news : News) (q : Questions) (at : Stage) (w : Went) → Said from (body.MapNews news)
+      → Holds (record k { maps = taken k.maps news }) q at w → Holds k q at w
 
-module _ (Holds : Known → Questions → Stage → Went → Type 0) (walk : Walk Holds) where
-  at_so : (k : Known) (q : Questions) (i : ScanIn) (at : Stage) → Holds k q at (scans_at k q i at)
-  at_so k q i (stage.Scanning s) = walk.scan k q s i
-  at_so k q i (stage.Settling s) = walk.rests (record { known = k; stage = stage.Settling s }) q
+module _ (Said : NodeId → Body → Type 0) (Holds : Known → Questions → Stage → Went → Type 0) (walk : Walk Said Holds) where
+  at_so : (k : Known) (q : Questions) (i : ScanIn) (at : Stage) → Comes i → Holds k q at (scans_at k q i at)
+  at_so k q i (stage.Scanning s) comes = walk.scan k q s i comes
+  at_so k q i (stage.Settling s) comes = walk.rests (record { known = k; stage = stage.Settling s }) q
 
-  as_so : (k : Known) (q : Questions) (s : Scanning) (news : News) (own : Option ℕ) → Holds k q (stage.Scanning s) (welcomed_as k q s news own)
-  as_so k q s news None = walk.rests (record { known = k; stage = stage.Scanning s }) q
-  as_so k q s news (Some own) = walk.welcome k q s news own
+  as_so : (from : NodeId) (k : Known) (q : Questions) (s : Scanning) (w : Welcome) (own : Option ℕ) → Said from (body.Welcome w)
+      → Holds k q (stage.Scanning s) (welcomed_as k q s w.news own)
+  as_so from k q s w None said = walk.rests (record { known = k; stage = stage.Scanning s }) q
+  as_so from k q s w (Some own) said = walk.welcome from k q s w own said
 
-  welcome_so : (o : Opening) (q : Questions) (w : Welcome) → Holds o.known q o.stage (on_welcome o q w)
+  welcome_so : (o : Opening) (q : Questions) (from : NodeId) (w : Welcome) → Said from (body.Welcome w) → Holds o.known q o.stage (on_welcome o q w)
   unfolding on_welcome
-  welcome_so o q w = by_stage o.stage
+  welcome_so o q from w said = by_stage o.stage
     where
       by_stage : (at : Stage) → Holds o.known q at (on_welcome (record o { stage = at }) q w)
       by_stage (stage.Scanning s) =
           by_test (Holds o.known q (stage.Scanning s)) (is_meant o.known w) (welcomed_as o.known q s w.news (own_of s.asked w.ask)) (stays (at_scan o.known s) q)
-          (λ _. as_so o.known q s w.news (own_of s.asked w.ask)) (λ _. walk.rests (record o { stage = stage.Scanning s }) q)
+          (λ _. as_so from o.known q s w (own_of s.asked w.ask) said) (λ _. walk.rests (record o { stage = stage.Scanning s }) q)
       by_stage (stage.Settling s) = walk.rests (record o { stage = stage.Settling s }) q
 
   regrouped_so : (k : Known) (q : Questions) (groups : GroupMapState) (at : Stage) → Holds k q at (regrouped k q groups at)
-  regrouped_so k q groups (stage.Scanning s) = walk.scan k q s (input.Maps groups)
+  regrouped_so k q groups (stage.Scanning s) = walk.scan k q s (input.Maps groups) tt
   regrouped_so k q groups (stage.Settling s) = walk.log k q s (log_in.Maps groups) tt
 
-  news_so : (o : Opening) (q : Questions) (news : News) → Holds o.known q o.stage (on_news o q news)
+  news_so : (o : Opening) (q : Questions) (from : NodeId) (news : News) → Said from (body.MapNews news) → Holds o.known q o.stage (on_news o q news)
   unfolding on_news
-  news_so o q news =
+  news_so o q from news said =
       let newer : Known = record o.known { maps = taken o.known.maps news } in
       by_test (Holds o.known q o.stage) (fits o.known.maps news && is_older o.known.maps news) (regrouped newer q news.groups o.stage) (drops o q)
-      (λ _. walk.newer o.known news q o.stage (regrouped newer q news.groups o.stage) (regrouped_so newer q news.groups o.stage)) (λ _. walk.rests o q)
+      (λ _. walk.newer from o.known news q o.stage (regrouped newer q news.groups o.stage) said (regrouped_so newer q news.groups o.stage)) (λ _. walk.rests o q)
 
   by_server_so : (o : Opening) (q : Questions) (f : ℕ → Went) (server : Option ℕ) → ((n : ℕ) → Holds o.known q o.stage (f n))
       → Holds o.known q o.stage (by_server o q f server)
   by_server_so o q f None each = walk.rests o q
   by_server_so o q f (Some server) each = each server
 
-  answers_so : (o : Opening) (q : Questions) (f : ℕ → ScanIn) (own : Option ℕ) → Holds o.known q o.stage (answers o q f own)
-  answers_so o q f None = walk.rests o q
-  answers_so o q f (Some own) = at_so o.known q (f own) o.stage
+  answers_so : (o : Opening) (q : Questions) (f : ℕ → ScanIn) (own : Option ℕ) → ((number : ℕ) → Comes (f number))
+      → Holds o.known q o.stage (answers o q f own)
+  answers_so o q f None comes = walk.rests o q
+  answers_so o q f (Some own) comes = at_so o.known q (f own) o.stage (comes own)
 
   fenced_so : (o : Opening) (q : Questions) (f : Fenced) (server : ℕ) → Holds o.known q o.stage (fenced_by o q f server)
   fenced_so o q f server =
       by_test (Holds o.known q o.stage) (is_fenced o f) (scans o q (input.Fenced server f.generation f.held)) (drops o q)
-      (λ _. at_so o.known q (input.Fenced server f.generation f.held) o.stage) (λ _. walk.rests o q)
+      (λ _. at_so o.known q (input.Fenced server f.generation f.held) o.stage tt) (λ _. walk.rests o q)
 
   stored_so : (o : Opening) (q : Questions) (s : Stored) → Holds o.known q o.stage (on_stored o q s)
   unfolding on_stored
@@ -104,22 +127,23 @@ module _ (Holds : Known → Questions → Stage → Went → Type 0) (walk : Wal
   tick_so o q = by_stage o.stage
     where
       by_stage : (at : Stage) → Holds o.known q at (on_tick (record o { stage = at }) q)
-      by_stage (stage.Scanning s) = walk.scan o.known q s input.Tick
+      by_stage (stage.Scanning s) = walk.scan o.known q s input.Tick tt
       by_stage (stage.Settling s) = walk.log o.known q s log_in.Tick tt
 
-  body_so : (o : Opening) (q : Questions) (from : NodeId) (b : Body) → Holds o.known q o.stage (on_body o q from b)
+  body_so : (o : Opening) (q : Questions) (from : NodeId) (b : Body) → Said from b → Holds o.known q o.stage (on_body o q from b)
   unfolding on_body on_fenced on_found on_missing
-  body_so o q from (body.Welcome w) = welcome_so o q w
-  body_so o q from (body.MapNews news) = news_so o q news
-  body_so o q from (body.Fenced f) = by_server_so o q (fenced_by o q f) (server_in from) (fenced_so o q f)
-  body_so o q from (body.Fragment f) =
-      by_server_so o q (found_by o q f) (server_in from) (λ n. answers_so o q (λ own. input.Got own n f.generation f.fragment) (own_in o.stage f.ask))
-  body_so o q from (body.Missing m) =
-      by_server_so o q (missing_by o q m) (server_in from) (λ n. answers_so o q (λ own. input.Missing own n m.generation) (own_in o.stage m.ask))
-  body_so o q from (body.Stored s) = stored_so o q s
-  body_so o q from _ = walk.rests o q
+  body_so o q from (body.Welcome w) said = welcome_so o q from w said
+  body_so o q from (body.MapNews news) said = news_so o q from news said
+  body_so o q from (body.Fenced f) said = by_server_so o q (fenced_by o q f) (server_in from) (fenced_so o q f)
+  body_so o q from (body.Fragment f) said =
+      by_server_so o q (found_by o q f) (server_in from) (λ n. answers_so o q (λ own. input.Got own n f.generation f.fragment) (own_in o.stage f.ask) (λ own. tt))
+  body_so o q from (body.Missing m) said =
+      by_server_so o q (missing_by o q m) (server_in from) (λ n. answers_so o q (λ own. input.Missing own n m.generation) (own_in o.stage m.ask) (λ own. tt))
+  body_so o q from (body.Stored s) said = stored_so o q s
+  body_so o q from _ said = walk.rests o q
 
-  pub packet_so : (o : Opening) (q : Questions) (p : Packet) → Holds o.known q o.stage (on_packet o q p)
+  pub packet_so : (o : Opening) (q : Questions) (p : Packet) → Said p.from p.body → Holds o.known q o.stage (on_packet o q p)
   unfolding on_packet
-  packet_so o q p =
-      by_test (Holds o.known q o.stage) (names_known o.known.maps p.body) (on_body o q p.from p.body) _ (λ _. body_so o q p.from p.body) (λ _. walk.asks o q)
+  packet_so o q p said =
+      by_test (Holds o.known q o.stage) (names_known o.known.maps p.body) (on_body o q p.from p.body) _ (λ _. body_so o q p.from p.body said)
+      (λ _. walk.asks o q)
