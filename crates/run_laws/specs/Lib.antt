@@ -1,3 +1,4 @@
+pub mod Kinds
 pub mod world_law
 pub mod filed_law
 pub mod world_logs

@@ -1,3 +1,4 @@
 pub mod Slots
 pub mod Managers
 pub mod Polls
+pub mod EpochLaws

@@ -3,3 +3,4 @@ pub mod Ties
 pub mod Places
 pub mod Clients
 pub mod Managers
+pub mod IndexLaws

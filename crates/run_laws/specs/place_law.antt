@@ -3,3 +3,4 @@ pub mod Fetches
 pub mod Copies
 pub mod Answers
 pub mod Hands
+pub mod PlaceLaws

@@ -2,3 +2,4 @@ pub mod Restarts
 pub mod Sure
 pub mod Below
 pub mod Unlost
+pub mod RunLines

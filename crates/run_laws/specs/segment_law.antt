@@ -1,1 +1,2 @@
 pub mod Flown
+pub mod WritingLaws

@@ -4,3 +4,4 @@ pub mod Clients
 pub mod Cleaners
 pub mod Managers
 pub mod Runs
+pub mod ItemLaws

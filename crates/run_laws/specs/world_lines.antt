@@ -4,3 +4,5 @@ pub mod Flights
 pub mod Polls
 pub mod Owners
 pub mod Filing
+pub mod LineLaws
+pub mod FilingLaws

@@ -7,3 +7,4 @@ pub mod Settings
 pub mod Standing
 pub mod Lines
 pub mod Listing
+pub mod NodeLaws

@@ -9,3 +9,5 @@ pub mod Legal
 pub mod Holders
 pub mod Dirty
 pub mod Indexes
+pub mod TokensBelow
+pub mod Readings

@@ -2,6 +2,7 @@
 //! the same epochs have managers in both, no manager holds an epoch of another, and a Poll that the owner of a log answers is of an epoch whose horizon is the
 //! registry's. It has no code of the product: its functions call the laws that they stand on, and their contracts are laws.
 
+ghost use Rattle.run_laws.specs.epoch_law.EpochLaws.{EpochLaws};
 ghost use Rattle.run_laws.specs.epoch_law.Managers.{TokensAreGiven};
 ghost use Rattle.run_laws.specs.epoch_law.Polls.{CleanerPollsAreLow, ClientPollsAreLow, HorizonsStay};
 ghost use Rattle.run_laws.specs.epoch_law.Slots.{SlotsStartSame, SlotsStaySame};
@@ -37,4 +38,13 @@ pub fn polls_are_low()
 {
     tokens_keep_their_word();
     cleaning_loses_nothing();
+}
+
+/// All of that together.
+pub fn epoch_laws()
+    ensures { EpochLaws }
+{
+    polls_are_low();
+    slots_are_the_same();
+    tokens_are_given();
 }

@@ -1,11 +1,15 @@
 //! What the two small worlds of one slot of the map give each other at a moment of both: that of tokens, which knows who may hold and write a block, and that
-//! of the index, which knows where its versions lie. `specs/index_reads/Ties.antt` says how they tell of the same logs. It has no code: each function below
-//! has an empty body, and its contract is a law.
+//! of the index, which knows where its versions lie. `specs/index_reads/Ties.antt` says how they tell of the same logs. It has no code: the
+//! contract of each function below is a law.
 
 ghost use Rattle.run_laws.specs.index_reads.Clients.{FlightsAreNews, NothingIsNewer};
+ghost use Rattle.run_laws.specs.index_reads.IndexLaws.{IndexLaws};
 ghost use Rattle.run_laws.specs.index_reads.Managers.{DeltasAreCovered, FoundGather, ManagersAreTold, MissingGather, ReportsGather};
 ghost use Rattle.run_laws.specs.index_reads.Places.{PlacesAreKept};
 ghost use Rattle.run_laws.specs.index_reads.Rows.{DeltasAreSaid, RowsAreEntries};
+
+use crate::world_index::index_events_are_seen;
+use index_tie::cleaning_loses_nothing;
 
 /// What a segment says of a block to the one small world, a version and its value, it says to the other, a version and where it lies.
 ///
@@ -40,3 +44,13 @@ pub fn managers_are_told()
     ensures missing { MissingGather }
     ensures events { ManagersAreTold }
 {}
+
+/// What nodes do is seen in the small world of a slot's index, and what stands of that.
+pub fn index_laws()
+    ensures { IndexLaws }
+{
+    index_events_are_seen();
+    cleaning_loses_nothing();
+    flights_are_news();
+    managers_are_told();
+}

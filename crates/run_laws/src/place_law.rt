@@ -5,10 +5,11 @@ ghost use Rattle.run_laws.specs.place_law.Answers.{ManagersAnswer, RunsAnswer};
 ghost use Rattle.run_laws.specs.place_law.Copies.{ChecksAreOfRows, JobsChecksLie, LivesTellCopies};
 ghost use Rattle.run_laws.specs.place_law.Fetches.{ClientsKeepSo, ClientsStartSo, FetchesReadThere, RunsReadTheirFetches};
 ghost use Rattle.run_laws.specs.place_law.Hands.{HandsReadTexts};
+ghost use Rattle.run_laws.specs.place_law.PlaceLaws.{PlaceLaws};
 ghost use Rattle.run_laws.specs.place_law.Reads.{TakeoversReadTexts, WhatIsReadIsTheText};
 
 use crate::world_law::nodes_are_seen;
-use log_law::{a_place_names_one_content, one_name_one_text};
+use log_law::laws_of_logs;
 use node_logs::manager_log_tie::what_is_told_is_in_range;
 use node_tellings::reading_tie::{
     cleaner_reads_what_came, clients_read_what_came, managers_read_what_came,
@@ -24,8 +25,7 @@ pub fn what_is_read_is_the_text()
     ensures takeovers { TakeoversReadTexts }
     ensures hands { HandsReadTexts }
 {
-    one_name_one_text();
-    a_place_names_one_content();
+    laws_of_logs();
     what_is_told_is_in_range();
     managers_read_what_came();
     cleaner_reads_what_came();
@@ -45,8 +45,7 @@ pub fn a_fetch_reads_there()
     ensures runs { RunsReadTheirFetches }
     ensures there { FetchesReadThere }
 {
-    one_name_one_text();
-    a_place_names_one_content();
+    laws_of_logs();
     clients_read_what_came();
 }
 
@@ -75,4 +74,14 @@ pub fn lives_answer_checks()
     ensures runs { RunsAnswer }
 {
     nodes_are_seen();
+}
+
+/// What is read of a place, and told of it, on which the laws of runs stand.
+pub fn place_laws()
+    ensures { PlaceLaws }
+{
+    what_is_read_is_the_text();
+    a_fetch_reads_there();
+    a_live_tells_a_copy();
+    lives_answer_checks();
 }

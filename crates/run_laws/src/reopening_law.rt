@@ -7,25 +7,17 @@ ghost use Rattle.run_laws.specs.reopening_law.Below.{Below};
 ghost use Rattle.run_laws.specs.reopening_law.Falls.{FallsGoOn, FallsStay};
 ghost use Rattle.run_laws.specs.reopening_law.Flights.{FlightsOfOwners, FlightsStay, OthersLeaveFlights};
 ghost use Rattle.run_laws.specs.reopening_law.Openings.{ClientsComeBack, EndsAreReopenings, OpeningsEndByOne};
+ghost use Rattle.run_laws.specs.reopening_law.ReopeningLaws.{ReopeningLaws};
 ghost use Rattle.run_laws.specs.reopening_law.Reopens.{BooksFollow, ClientsReopenSo, ReopeningsReadBack, TheCleanerReopensSo};
 
 use client_log::laws::settles_what_is_due;
-use log_law::{
-    a_reopening_reads_back, a_tail_is_filed_or_never, ends_are_last, logs_stay_in_line,
-    logs_stay_whole, one_name_one_text, what_is_held_flew,
-};
+use log_law::laws_of_logs;
 
 /// The laws of the crates below, on which each law here stands.
 fn below()
     ensures { Below }
 {
-    logs_stay_in_line();
-    logs_stay_whole();
-    one_name_one_text();
-    ends_are_last();
-    what_is_held_flew();
-    a_reopening_reads_back();
-    a_tail_is_filed_or_never();
+    laws_of_logs();
     settles_what_is_due();
 }
 
@@ -84,3 +76,14 @@ pub fn openings_end_by_one_thing()
     ensures reopens { EndsAreReopenings }
     ensures back { ClientsComeBack }
 {}
+
+/// All of that together, on which the laws of runs stand.
+pub fn reopening_laws()
+    ensures { ReopeningLaws }
+{
+    falls_tell_their_flight();
+    flights_are_in_the_books();
+    openings_end_by_one_thing();
+    logs_reopen_as_the_books_do();
+    what_was_read_back_is_what_was_filed();
+}

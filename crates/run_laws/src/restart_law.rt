@@ -3,28 +3,21 @@
 //! a restart is doubtful.
 
 ghost use Rattle.run_laws.specs.restart_law.Below.{Below};
+ghost use Rattle.run_laws.specs.restart_law.RunLines.{RunLines};
 ghost use Rattle.run_laws.specs.restart_law.Sure.{UndoubtedRunsAreSure};
 ghost use Rattle.run_laws.specs.restart_law.Unlost.{ScriptsWithoutLossesAreUndoubted, WithoutLossesNoRestartIsDoubtful};
 
 use crate::world_lines::owners_lines_go_on;
 use crate::world_logs::runs_keep_logs;
-use log_law::{
-    a_reopening_reads_back, ends_are_last, logs_stay_in_line, logs_stay_whole, one_name_one_text,
-    what_is_held_flew,
-};
+use log_law::laws_of_logs;
 use log_tie::settings_exist;
 use loss_law::fragments_go_with_disks;
 
-/// What the law of logs says of openings and of what is held, and how fragments and lines go on.
+/// The laws of logs, and how fragments and lines go on.
 fn laws_below()
     ensures { Below }
 {
-    logs_stay_in_line();
-    logs_stay_whole();
-    one_name_one_text();
-    ends_are_last();
-    what_is_held_flew();
-    a_reopening_reads_back();
+    laws_of_logs();
     fragments_go_with_disks();
     owners_lines_go_on();
 }
@@ -50,4 +43,12 @@ pub fn without_losses_no_restart_is_doubtful()
     laws_below();
     settings_exist();
     runs_keep_logs();
+}
+
+/// What each run has of its logs: their lines, and what is known of these.
+pub fn run_lines()
+    ensures { RunLines }
+{
+    runs_keep_logs();
+    undoubted_runs_are_sure();
 }

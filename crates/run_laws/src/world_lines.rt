@@ -3,7 +3,9 @@
 //! `specs/world_lines/Lines.antt` says what a line is, `specs/world_lines/Turns.antt` what an event makes of it.
 
 ghost use Rattle.run_laws.specs.world_lines.Filing.{CleanerFilesItsFlights, CleanersActsFile, ClientsActsFile, ClientsFileTheirFlights, OpeningsFileWhatFlew, RestartsFileWhatFlew, WhatIsFiledFlew};
+ghost use Rattle.run_laws.specs.world_lines.FilingLaws.{FilingLaws};
 ghost use Rattle.run_laws.specs.world_lines.Flights.{CleanerWritesTexts, ClientsWriteTexts, ManagersWriteTexts};
+ghost use Rattle.run_laws.specs.world_lines.LineLaws.{LineLaws};
 ghost use Rattle.run_laws.specs.world_lines.Lines.{LinesAreFiled, LinesAreTexts, LinesGive};
 ghost use Rattle.run_laws.specs.world_lines.Owners.{ActsAreDone, CleanerFilesShort, CleanersLineGoesOn, ClientsFileShort, ClientsLinesGoOn, InBootFilesStill, StraightFilesStill};
 ghost use Rattle.run_laws.specs.world_lines.Polls.{CleanersPollsAreOwed, ClientsPollsAreOwed, LinksGoOn, LinksStay, PresentIsLinked, ServersGoOnByFlights};
@@ -11,7 +13,7 @@ ghost use Rattle.run_laws.specs.world_lines.Turns.{CleanersFilesAreOwed, Clients
 
 use client_log::laws::settles_what_is_due;
 use log_law::{
-    ends_are_last, logs_stay_in_line, logs_stay_whole, openings_go_on, what_flew_is_written,
+    ends_are_last, laws_of_logs, logs_stay_in_line, logs_stay_whole, what_flew_is_written,
     what_is_held_flew,
 };
 use node_slots::owner_index_tie::owners_file_their_flights;
@@ -99,9 +101,7 @@ pub fn owners_lines_go_on()
     ensures clients { ClientsLinesGoOn }
     ensures cleaner { CleanersLineGoesOn }
 {
-    logs_stay_whole();
-    ends_are_last();
-    openings_go_on();
+    laws_of_logs();
 }
 
 /// What owners act to be filed flew before the event.
@@ -117,12 +117,9 @@ pub fn what_is_filed_flew()
     ensures clients { ClientsFileTheirFlights }
     ensures cleaner { CleanerFilesItsFlights }
 {
-    logs_stay_whole();
-    what_is_held_flew();
-    what_flew_is_written();
+    laws_of_logs();
     settles_what_is_due();
     owners_file_their_flights();
-    openings_go_on();
 }
 
 /// What a client, or the cleaner, acts to be filed in any of its events is filed after it, and its number has one after it.
@@ -132,4 +129,18 @@ pub fn what_is_acted_is_filed()
 {
     what_is_filed_flew();
     owners_lines_go_on();
+}
+
+/// The lines of what logs filed, and how they go on, and what their owners act to be filed: the laws on which those of runs stand.
+pub fn line_laws()
+    ensures lines { LineLaws }
+    ensures filing { FilingLaws }
+{
+    lines_are_filed();
+    lines_go_on();
+    owners_lines_go_on();
+    logs_are_linked();
+    what_is_filed_is_owed();
+    what_is_filed_flew();
+    what_is_acted_is_filed();
 }

@@ -7,13 +7,12 @@ ghost use Rattle.run_laws.specs.world_logs.Horizons.{RunsReachHorizons};
 ghost use Rattle.run_laws.specs.world_logs.Lines.{LinesHaveTexts, RunsHaveLines};
 ghost use Rattle.run_laws.specs.world_logs.Listing.{RunsListTheirLogs};
 ghost use Rattle.run_laws.specs.world_logs.Logs.{RunsKeepLogs, RunsKeepManagersLogs, RunsKeepTheCleanersLog};
+ghost use Rattle.run_laws.specs.world_logs.NodeLaws.{LogEvents, NodeLaws};
 
 use crate::filed_law::nodes_tell_what_is_filed;
 use crate::world_law::nodes_are_seen;
 use group_map::laws::groups_stay_as_made;
-use log_law::{
-    a_reopening_reads_back, logs_stay_whole, one_name_one_text, openings_go_on, what_is_held_flew,
-};
+use log_law::laws_of_logs;
 use log_tie::settings_exist;
 use node_logs::cleaner_log_tie::cleaner_log_events_are_seen;
 use node_logs::client_log_tie::client_log_events_are_seen;
@@ -24,9 +23,30 @@ use node_logs::manager_log_tie::{
 use node_logs::node_log_tie::{
     cleaner_events_are_seen, registry_events_are_seen, server_events_are_seen,
 };
-use node_tellings::filed_tie::{
-    managers_tell_what_is_filed, registry_tells_what_is_filed, servers_tell_what_is_filed,
-};
+
+/// What each kind of node does in an event is seen in the small world of a log: that of its owner, and of those that have none.
+pub fn log_events_are_seen()
+    ensures { LogEvents }
+{
+    client_log_events_are_seen();
+    server_events_are_seen();
+    registry_events_are_seen();
+    cleaner_events_are_seen();
+    cleaner_log_events_are_seen();
+    manager_log_events_are_seen();
+    what_servers_tell_is_bytes();
+    servers_list_what_was_stored();
+}
+
+/// The laws of the nodes, and of the small world of a log, on which the laws of runs stand.
+pub fn logs_are_seen()
+    ensures { NodeLaws }
+{
+    nodes_are_seen();
+    log_events_are_seen();
+    what_is_told_is_in_range();
+    laws_of_logs();
+}
 
 /// Whatever messages are lost, repeated or reordered, and whichever nodes stop and start again, logs are whole at
 /// each moment of a run (the 1996 paper, on RAID): of each segment that the owner of a log told to be filed, and of
@@ -53,25 +73,8 @@ pub fn runs_keep_logs()
     ensures lists { RunsListTheirLogs }
     ensures texts { LinesHaveTexts }
 {
-    nodes_are_seen();
+    logs_are_seen();
     nodes_tell_what_is_filed();
-    servers_tell_what_is_filed();
-    managers_tell_what_is_filed();
-    registry_tells_what_is_filed();
-    client_log_events_are_seen();
-    server_events_are_seen();
-    registry_events_are_seen();
-    cleaner_events_are_seen();
-    cleaner_log_events_are_seen();
-    manager_log_events_are_seen();
-    what_servers_tell_is_bytes();
-    servers_list_what_was_stored();
-    what_is_told_is_in_range();
-    what_is_held_flew();
     groups_stay_as_made();
     settings_exist();
-    logs_stay_whole();
-    one_name_one_text();
-    openings_go_on();
-    a_reopening_reads_back();
 }

@@ -3,38 +3,26 @@
 //! each slot of the map, that of tokens and that of the index, and those of all logs: each gives the others what they are owed. `specs/world_reads/Joint.antt`
 //! says how a moment of the run stands to all of them.
 
-ghost use Rattle.run_laws.specs.world_reads.Below.{IndexBelow, LinesBelow, LogsBelow, ReadsBelow, TokensBelow};
 ghost use Rattle.run_laws.specs.world_reads.Holders.{EveryRunsHoldersAreNewest};
 ghost use Rattle.run_laws.specs.world_reads.Indexes.{EveryRunKeepsItsIndexes, EveryRunsIndexesAreItsOwn};
 ghost use Rattle.run_laws.specs.world_reads.Legal.{EveryRunWithoutLossesIsLegal, EveryRunsActsAreLegal};
-ghost use Rattle.run_laws.specs.world_reads.Moments.{EveryMomentStands};
+ghost use Rattle.run_laws.specs.world_reads.Moments.{EveryMomentStands, EveryRunStands};
+ghost use Rattle.run_laws.specs.world_reads.Readings.{ReadsBelow};
+ghost use Rattle.run_laws.specs.world_reads.TokensBelow.{TokensBelow};
 
-use crate::epoch_law::{polls_are_low, slots_are_the_same, tokens_are_given};
-use crate::index_reads::{flights_are_news, managers_are_told};
-use crate::place_law::{
-    a_fetch_reads_there, a_live_tells_a_copy, lives_answer_checks, what_is_read_is_the_text,
-};
+use crate::epoch_law::epoch_laws;
+use crate::index_reads::index_laws;
+use crate::place_law::place_laws;
 use crate::reading_law::readers_hold_what_came;
-use crate::reopening_law::{
-    falls_tell_their_flight, flights_are_in_the_books, logs_reopen_as_the_books_do,
-    openings_end_by_one_thing, what_was_read_back_is_what_was_filed,
-};
-use crate::restart_law::{undoubted_runs_are_sure, without_losses_no_restart_is_doubtful};
-use crate::segment_law::clients_flew_originals;
-use crate::segment_tie::{items_say_all, runs_write_so};
-use crate::world_index::index_events_are_seen;
+use crate::reopening_law::reopening_laws;
+use crate::restart_law::{run_lines, without_losses_no_restart_is_doubtful};
+use crate::segment_law::writing_laws;
+use crate::segment_tie::items_say_all;
 use crate::world_law::{nodes_are_seen, what_fell_is_held_by_nobody};
-use crate::world_lines::{
-    lines_are_filed, lines_go_on, logs_are_linked, owners_lines_go_on, what_flies_is_its_text,
-    what_is_acted_is_filed, what_is_filed_flew, what_is_filed_is_owed,
-};
+use crate::world_lines::line_laws;
 use crate::world_logs::runs_keep_logs;
 use act_tie::blocks;
-use index_tie::cleaning_loses_nothing;
-use log_law::{
-    a_place_names_one_content, a_tail_is_filed_or_never, ends_are_last, logs_stay_whole,
-    names_bear_groups, one_name_one_text, openings_go_on, what_flew_is_written, what_is_held_flew,
-};
+use log_law::laws_of_logs;
 use node_tellings::entry_tie::{
     cleaner_tells_told_entries, clients_tell_told_entries, managers_tell_told_entries,
     registry_tells_no_entries, servers_tell_no_entries,
@@ -50,21 +38,9 @@ fn tokens_below()
     tokens_keep_their_word();
     acts_are_legal();
     dirty_blocks_lead();
-    polls_are_low();
-    slots_are_the_same();
-    tokens_are_given();
+    epoch_laws();
     what_fell_is_held_by_nobody();
     blocks();
-}
-
-/// What nodes do is seen in the small world of a slot's index, and what stands of that.
-fn index_below()
-    ensures { IndexBelow }
-{
-    index_events_are_seen();
-    cleaning_loses_nothing();
-    flights_are_news();
-    managers_are_told();
 }
 
 /// What nodes tell of where blocks lie, and what they read.
@@ -76,51 +52,9 @@ fn reads_below()
     cleaner_tells_told_entries();
     servers_tell_no_entries();
     registry_tells_no_entries();
+    place_laws();
     managers_read_what_came();
     readers_hold_what_came();
-    what_is_read_is_the_text();
-    a_fetch_reads_there();
-    a_live_tells_a_copy();
-    lives_answer_checks();
-}
-
-/// What stands of logs, and of how they are opened again.
-fn logs_below()
-    ensures { LogsBelow }
-{
-    a_tail_is_filed_or_never();
-    what_is_held_flew();
-    one_name_one_text();
-    a_place_names_one_content();
-    names_bear_groups();
-    ends_are_last();
-    logs_stay_whole();
-    what_flew_is_written();
-    openings_go_on();
-    falls_tell_their_flight();
-    openings_end_by_one_thing();
-    logs_reopen_as_the_books_do();
-    what_was_read_back_is_what_was_filed();
-    flights_are_in_the_books();
-    runs_keep_logs();
-}
-
-/// What logs filed is one line each; and what their owners write.
-fn lines_below()
-    ensures { LinesBelow }
-{
-    what_is_filed_is_owed();
-    owners_lines_go_on();
-    what_is_filed_flew();
-    lines_are_filed();
-    what_flies_is_its_text();
-    logs_are_linked();
-    lines_go_on();
-    what_is_acted_is_filed();
-    runs_write_so();
-    items_say_all();
-    clients_flew_originals();
-    undoubted_runs_are_sure();
 }
 
 /// In every run, whatever messages are lost, repeated or reordered, whichever nodes stop and start again, and however epochs pass from manager to manager, each
@@ -147,9 +81,22 @@ pub fn every_runs_acts_are_legal()
     ensures moments { EveryMomentStands }
 {
     tokens_below();
-    index_below();
+    index_laws();
     reads_below();
-    logs_below();
-    lines_below();
+    laws_of_logs();
+    reopening_laws();
+    run_lines();
+    line_laws();
+    writing_laws();
     without_losses_no_restart_is_doubtful();
+}
+
+/// What every run stands on: there is a setting in which contents tell items apart, a run has a line of each of its logs, those have one text of each name,
+/// and by these each moment of it stands.
+pub fn every_run_stands()
+    ensures { EveryRunStands }
+{
+    items_say_all();
+    runs_keep_logs();
+    every_runs_acts_are_legal();
 }

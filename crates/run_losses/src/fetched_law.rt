@@ -4,10 +4,8 @@
 ghost use Rattle.run_losses.specs.fetched_law.Reads.{CallsReadWhatIsStored, CallsReadWhatWasFiled};
 
 use crate::fetching_law::fetches_lose_what_is_torn;
-use log_law::{logs_stay_whole, one_name_one_text, what_is_held_flew};
-use run_laws::segment_tie::items_say_all;
-use run_laws::world_logs::runs_keep_logs;
-use run_laws::world_reads::every_runs_acts_are_legal;
+use log_law::laws_of_logs;
+use run_laws::world_reads::every_run_stands;
 
 /// Whatever messages are lost, repeated or reordered, however disks are lost and rebuilt, and whichever nodes stop and start again: at each moment of every run
 /// of a script of whose setup a run can be started, up to which no restart of a client or of the cleaner was doubtful, of what the open call of a client reads:
@@ -20,10 +18,6 @@ pub fn calls_read_what_was_filed()
     ensures stored { CallsReadWhatIsStored }
 {
     fetches_lose_what_is_torn();
-    logs_stay_whole();
-    one_name_one_text();
-    what_is_held_flew();
-    items_say_all();
-    runs_keep_logs();
-    every_runs_acts_are_legal();
+    laws_of_logs();
+    every_run_stands();
 }

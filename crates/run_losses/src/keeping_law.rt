@@ -7,11 +7,9 @@ ghost use Rattle.run_losses.specs.keeping_law.Keeping.{GrantsLeadToWhatStands};
 
 use index_tie::cleaning_loses_nothing;
 use run_laws::restart_law::undoubted_runs_are_sure;
-use run_laws::segment_tie::items_say_all;
 use run_laws::world_law::nodes_are_seen;
 use run_laws::world_lines::lines_are_filed;
-use run_laws::world_logs::runs_keep_logs;
-use run_laws::world_reads::every_runs_acts_are_legal;
+use run_laws::world_reads::every_run_stands;
 use token_law::{grants_tell_the_newest, tokens_keep_their_word};
 
 /// What a Grant tells of where a block lies (the 1996 paper, on cache consistency and on cleaning).
@@ -32,7 +30,5 @@ pub fn grants_lead_to_what_stands()
     cleaning_loses_nothing();
     undoubted_runs_are_sure();
     lines_are_filed();
-    items_say_all();
-    runs_keep_logs();
-    every_runs_acts_are_legal();
+    every_run_stands();
 }

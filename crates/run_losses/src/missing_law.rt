@@ -5,7 +5,7 @@
 ghost use Rattle.run_losses.specs.missing_law.Missed.{AnswersTellOfMisses, WhatIsMissingTwiceWasTorn};
 ghost use Rattle.run_losses.specs.missing_law.Stored.{WhatIsFiledIsStored};
 
-use log_law::{logs_stay_whole, one_name_one_text, what_is_held_flew};
+use log_law::laws_of_logs;
 use log_tie::settings_exist;
 use run_laws::world_logs::runs_keep_logs;
 
@@ -33,7 +33,5 @@ pub fn what_is_filed_is_stored()
 {
     settings_exist();
     runs_keep_logs();
-    logs_stay_whole();
-    one_name_one_text();
-    what_is_held_flew();
+    laws_of_logs();
 }

@@ -5,14 +5,9 @@
 ghost use Rattle.run_losses.specs.source_law.Sources.{TakeoversLoseWhatWasFiled, TakeoversReadWhatIsStored, TakeoversReadWhatWasFiled};
 
 use crate::taking_law::takeovers_lose_what_is_torn;
-use log_law::{
-    a_place_names_one_content, logs_stay_whole, names_bear_groups, one_name_one_text,
-    what_is_held_flew,
-};
+use log_law::laws_of_logs;
 use run_laws::reading_law::readers_hold_what_came;
-use run_laws::segment_tie::items_say_all;
-use run_laws::world_logs::runs_keep_logs;
-use run_laws::world_reads::every_runs_acts_are_legal;
+use run_laws::world_reads::every_run_stands;
 
 /// At each moment of every run up to which no restart of a client or of the cleaner was doubtful, of what a manager reads then while it takes a slot over, a
 /// part of the checkpoint that its news name or a segment of a log (the 1996 paper, on recovery of managers):
@@ -24,15 +19,9 @@ pub fn takeovers_read_what_was_filed()
     ensures filed { TakeoversReadWhatWasFiled }
     ensures stored { TakeoversReadWhatIsStored }
 {
-    items_say_all();
-    runs_keep_logs();
-    every_runs_acts_are_legal();
+    every_run_stands();
     readers_hold_what_came();
-    one_name_one_text();
-    a_place_names_one_content();
-    names_bear_groups();
-    logs_stay_whole();
-    what_is_held_flew();
+    laws_of_logs();
 }
 
 /// Where a manager says that a segment is lost, in an event up to which no restart of a client or of the cleaner was doubtful, it takes a slot over in an epoch

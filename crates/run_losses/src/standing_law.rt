@@ -8,9 +8,7 @@ use crate::source_law::takeovers_read_what_was_filed;
 use index_tie::cleaning_loses_nothing;
 use log_law::what_flew_is_written;
 use node_slots::node_tie::manager_events_are_seen;
-use run_laws::segment_tie::items_say_all;
-use run_laws::world_logs::runs_keep_logs;
-use run_laws::world_reads::every_runs_acts_are_legal;
+use run_laws::world_reads::every_run_stands;
 use token_law::tokens_keep_their_word;
 
 /// Whatever messages are lost, repeated or reordered, however disks are lost and rebuilt, and whichever nodes stop and start again: where a client that
@@ -27,9 +25,7 @@ pub fn what_is_gone_stood()
     tokens_keep_their_word();
     cleaning_loses_nothing();
     what_flew_is_written();
-    items_say_all();
-    runs_keep_logs();
-    every_runs_acts_are_legal();
+    every_run_stands();
     gone_was_lost();
     takeovers_read_what_was_filed();
 }

@@ -4,7 +4,7 @@
 ghost use Rattle.run_losses.specs.whole_law.Whole.{ReopeningsLoseWhatWasWhole, WhatReopeningsReadIsWhole};
 
 use crate::torn_law::reopenings_lose_what_is_torn;
-use log_law::{logs_stay_whole, one_name_one_text, what_is_held_flew, what_is_read_is_whole};
+use log_law::laws_of_logs;
 use log_tie::settings_exist;
 use run_laws::world_logs::runs_keep_logs;
 
@@ -20,9 +20,6 @@ pub fn reopenings_lose_what_was_whole()
 {
     settings_exist();
     runs_keep_logs();
-    logs_stay_whole();
-    one_name_one_text();
-    what_is_held_flew();
-    what_is_read_is_whole();
+    laws_of_logs();
     reopenings_lose_what_is_torn();
 }

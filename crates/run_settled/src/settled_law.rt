@@ -3,14 +3,12 @@
 
 ghost use Rattle.run_settled.specs.settled_law.Settled.{EveryRunsBlocksAreSettled};
 
-use log_law::{logs_stay_whole, one_name_one_text, what_is_held_flew};
+use log_law::laws_of_logs;
 use node_slots::owner_index_tie::server_index_events_are_seen;
 use run_laws::restart_law::undoubted_runs_are_sure;
-use run_laws::segment_tie::items_say_all;
 use run_laws::world_law::nodes_are_seen;
 use run_laws::world_lines::lines_are_filed;
-use run_laws::world_logs::runs_keep_logs;
-use run_laws::world_reads::every_runs_acts_are_legal;
+use run_laws::world_reads::every_run_stands;
 use token_law::dirty_blocks_lead;
 
 /// What is settled of a block, at each moment of every run up to which no restart that ended was doubtful, whatever messages are lost, repeated or reordered and
@@ -20,15 +18,11 @@ use token_law::dirty_blocks_lead;
 pub fn what_is_settled_is_the_join()
     ensures settled { EveryRunsBlocksAreSettled }
 {
-    logs_stay_whole();
-    one_name_one_text();
-    what_is_held_flew();
+    laws_of_logs();
     nodes_are_seen();
     server_index_events_are_seen();
     undoubted_runs_are_sure();
-    items_say_all();
     lines_are_filed();
-    runs_keep_logs();
-    every_runs_acts_are_legal();
+    every_run_stands();
     dirty_blocks_lead();
 }

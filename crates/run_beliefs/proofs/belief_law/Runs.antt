@@ -10,7 +10,7 @@ use Rattle.node_slots.specs.node_tie.Sight.{ForwardSeen, GrantSeen, SupplySeen}
 use Rattle.run_beliefs.proofs.belief_law.Fronts.{Front, HasLast, front_at, same_cluster}
 use Rattle.run_beliefs.proofs.belief_law.Small.{fetches_believed, forwards_believed, reigns_where_promised, supplies_believed}
 use Rattle.run_beliefs.specs.belief_law.Beliefs.{Believes, EveryRunsManagersBelieve, NoneLater, WasLast}
-use Rattle.run_laws.proofs.world_law.Gets.{grant_told}
+use Rattle.run_laws.proofs.world_law.Gets.{forward_told, grant_told, supply_told}
 use Rattle.run_laws.proofs.world_law.Laws.{NodeLaws, ServesThere, serves_there}
 use Rattle.run_laws.proofs.world_law.Sent.{was_sent}
 use Rattle.run_laws.specs.world_law.Owners.{moment, node_in, tokens_at, tokens_of}
@@ -36,28 +36,9 @@ use Rattle.world_base.specs.declared.world.World.{World}
 use Rattle.world_base.specs.Runs.{IsRun, WasSent}
 use Rattle.xfs_base.specs.declared.block.BlockId.{BlockId}
 use Rattle.xfs_base.specs.declared.node.NodeId.{NodeId}
-use Rattle.xfs_base.specs.declared.node.NodeId.TheVariants.{Client, Cleaner, Manager, Registry, Server}
+use Rattle.xfs_base.specs.declared.node.NodeId.TheVariants.{Client}
 use Rattle.xfs_base.specs.declared.token.Mode.TheVariants.{Copy}
 use Rattle.xfs_base.specs.Limits.{slot_count}
-
--- ---- what was sent
-
-module _ (k : Cluster) (part : ℕ) (s : Scene) where
-  -- managers alone send Forwards
-  forward_told : (from to : NodeId) (m : Forward) → SentBy k part s from to (body.Forward m) → ForwardSeen part s.net.sent to m
-  forward_told (Client c) to m h = absurd h.2
-  forward_told (Manager j) to m h = h.2
-  forward_told (Server n) to m h = absurd h
-  forward_told Cleaner to m h = absurd h
-  forward_told Registry to m h = absurd h
-
-  -- and clients alone Supplies
-  supply_told : (from to : NodeId) (m : Supply) → SentBy k part s from to (body.Supply m) → SupplySeen part s.net.sent to m
-  supply_told (Client c) to m h = h.2
-  supply_told (Manager j) to m h = absurd h.2
-  supply_told (Server n) to m h = absurd h
-  supply_told Cleaner to m h = absurd h
-  supply_told Registry to m h = absurd h
 
 -- ---- a moment
 

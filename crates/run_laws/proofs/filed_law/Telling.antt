@@ -55,19 +55,19 @@ module _ {X : Type 0} (P : X → Type 0) where
 
 module _ (laws : NodeLaws) where
   any_starts : (reach : Reach) (node : NodeId) (setup : Setup) (items : List Work) → AnyReaches reach (any_start node setup items)
-  any_starts reach (nodes.Client number) setup items = laws.client_starts reach number setup items
-  any_starts reach (nodes.Manager number) setup items = laws.manager_starts reach number setup items
+  any_starts reach (nodes.Client number) setup items = laws.client.starts reach number setup items
+  any_starts reach (nodes.Manager number) setup items = laws.manager.starts reach number setup items
   any_starts reach (nodes.Server number) setup items = tt
-  any_starts reach nodes.Cleaner setup items = laws.cleaner_starts reach setup items
-  any_starts reach nodes.Registry setup items = laws.registry_starts reach setup items
+  any_starts reach nodes.Cleaner setup items = laws.cleaner.starts reach setup items
+  any_starts reach nodes.Registry setup items = laws.registry.starts reach setup items
 
   module _ (reach later : Reach) (rises : Rises reach later) where
     any_rises : (node : AnyNode) → AnyReaches reach node → AnyReaches later node
-    any_rises (any.Client node) h = laws.client_rises reach later node rises h
-    any_rises (any.Manager node) h = laws.manager_rises reach later node rises h
+    any_rises (any.Client node) h = laws.client.stays reach later node rises h
+    any_rises (any.Manager node) h = laws.manager.stays reach later node rises h
     any_rises (any.Server node) h = tt
-    any_rises (any.Cleaner node) h = laws.cleaner_rises reach later node rises h
-    any_rises (any.Registry node) h = laws.registry_rises reach later node rises h
+    any_rises (any.Cleaner node) h = laws.cleaner.stays reach later node rises h
+    any_rises (any.Registry node) h = laws.registry.stays reach later node rises h
 
     pub nodes_rise : (xs : List AnyNode) → AllByRecursion (AnyReaches reach) xs → AllByRecursion (AnyReaches later) xs
     nodes_rise [] all = tt
@@ -80,15 +80,15 @@ module _ (laws : NodeLaws) where
     any_tells : (node : AnyNode) (what : Do) → AnyReaches reach node → DoTells reach what → ActsReach later (any_step node what).acts
         → TellsFiled AnyReaches later (any_step node what)
     any_tells (any.Client node) what h tells acts =
-        (let t = laws.client reach later node what rises h tells acts in record { node = t.node; packets = t.packets })
+        (let t = laws.client.events reach later node what rises h tells acts in record { node = t.node; packets = t.packets })
     any_tells (any.Manager node) what h tells acts =
-        (let t = laws.manager reach later node what rises h tells acts in record { node = t.node; packets = t.packets })
+        (let t = laws.manager.events reach later node what rises h tells acts in record { node = t.node; packets = t.packets })
     any_tells (any.Server node) what h tells acts =
         (let t = laws.server reach later node what rises h tells acts in record { node = t.node; packets = t.packets })
     any_tells (any.Cleaner node) what h tells acts =
-        (let t = laws.cleaner reach later node what rises h tells acts in record { node = t.node; packets = t.packets })
+        (let t = laws.cleaner.events reach later node what rises h tells acts in record { node = t.node; packets = t.packets })
     any_tells (any.Registry node) what h tells acts =
-        (let t = laws.registry reach later node what rises h tells acts in record { node = t.node; packets = t.packets })
+        (let t = laws.registry.events reach later node what rises h tells acts in record { node = t.node; packets = t.packets })
 
   -- ---- an event
 

@@ -30,6 +30,7 @@ use Rattle.run_laws.specs.world_logs.Shelves.{groups_of}
 use Rattle.xfs_base.specs.declared.node.NodeId.{NodeId}
 use Rattle.xfs_base.specs.declared.node.NodeId.TheVariants as nodes
 use Rattle.xfs_base.specs.declared.setup.Setup.{Setup}
+use Rattle.run_laws.specs.Kinds.{OfKind}
 use Rattle.run_laws.specs.reading_law.Readings.{AnyHolds}
 use Rattle.run_laws.proofs.reading_law.Maps.{KindOf, kind_stays, new_maps}
 use Rattle.node_tellings.specs.reading_tie.Arrivals.{Cuts, cut_by, BodyMaps, DoSent}
@@ -41,36 +42,28 @@ use Rattle.node_tellings.specs.reading_tie.ManagerReads.{ManagerStarts, ManagerH
 
 -- the laws of the nodes, each of its kind
 pub record NodeLaws : Type 0 where
-  pub client_starts : ClientStarts
-  pub client_rises : ClientHoldsRise
-  pub client : ClientEventsKeep
-  pub manager_starts : ManagerStarts
-  pub manager_rises : ManagerHoldsRise
-  pub manager : ManagerEventsKeep
-  pub cleaner_starts : CleanerStarts
-  pub cleaner_rises : CleanerHoldsRise
-  pub cleaner : CleanerEventsKeep
-  pub met_starts : CleanerStartsMet
-  pub met_rises : CleanerMeetsRise
-  pub met : CleanerEventsMeet
+  pub client : OfKind ClientStarts ClientHoldsRise ClientEventsKeep
+  pub manager : OfKind ManagerStarts ManagerHoldsRise ManagerEventsKeep
+  pub cleaner : OfKind CleanerStarts CleanerHoldsRise CleanerEventsKeep
+  pub met : OfKind CleanerStartsMet CleanerMeetsRise CleanerEventsMeet
 
 module _ (laws : NodeLaws) (cuts : Cuts) where
   pub any_starts : (name : NodeId) (setup : Setup) (items : List Work) → MapStriped (cut_by cuts) (groups.started setup.servers setup.groups)
       → AnyHolds [] name cuts (any_start name setup items)
-  any_starts (nodes.Client c) setup items fact = laws.client_starts [] (nodes.Client c) cuts c setup items fact
-  any_starts (nodes.Manager j) setup items fact = laws.manager_starts [] (nodes.Manager j) cuts j setup items fact
+  any_starts (nodes.Client c) setup items fact = laws.client.starts [] (nodes.Client c) cuts c setup items fact
+  any_starts (nodes.Manager j) setup items fact = laws.manager.starts [] (nodes.Manager j) cuts j setup items fact
   any_starts (nodes.Server v) setup items fact = tt
   any_starts nodes.Cleaner setup items fact =
-      record { holds = laws.cleaner_starts [] nodes.Cleaner cuts setup items fact; meets = laws.met_starts [] nodes.Cleaner setup items }
+      record { holds = laws.cleaner.starts [] nodes.Cleaner cuts setup items fact; meets = laws.met.starts [] nodes.Cleaner setup items }
   any_starts nodes.Registry setup items fact = tt
 
   any_rises : (sent more : List Packet) (name : NodeId) (x : AnyNode) → ((p : Packet) → In p sent → In p more) → AnyHolds sent name cuts x
       → AnyHolds more name cuts x
-  any_rises sent more name (any.Client node) grows h = laws.client_rises sent more name cuts node grows h
-  any_rises sent more name (any.Manager node) grows h = laws.manager_rises sent more name cuts node grows h
+  any_rises sent more name (any.Client node) grows h = laws.client.stays sent more name cuts node grows h
+  any_rises sent more name (any.Manager node) grows h = laws.manager.stays sent more name cuts node grows h
   any_rises sent more name (any.Server node) grows h = tt
   any_rises sent more name (any.Cleaner node) grows h =
-      record { holds = laws.cleaner_rises sent more name cuts node grows h.holds; meets = laws.met_rises sent more name node grows h.meets }
+      record { holds = laws.cleaner.stays sent more name cuts node grows h.holds; meets = laws.met.stays sent more name node grows h.meets }
   any_rises sent more name (any.Registry node) grows h = tt
 
   only_sent : (sent : List Packet) (name : NodeId) (what : Do) → DoSent sent name cuts what → IsSent sent name what
@@ -80,11 +73,11 @@ module _ (laws : NodeLaws) (cuts : Cuts) where
 
   any_keeps : (sent : List Packet) (name : NodeId) (x : AnyNode) (what : Do) → DoSent sent name cuts what → AnyHolds sent name cuts x
       → AnyHolds sent name cuts (any_step x what).node
-  any_keeps sent name (any.Client node) what fact h = laws.client sent name cuts node what h fact
-  any_keeps sent name (any.Manager node) what fact h = laws.manager sent name cuts node what h fact
+  any_keeps sent name (any.Client node) what fact h = laws.client.events sent name cuts node what h fact
+  any_keeps sent name (any.Manager node) what fact h = laws.manager.events sent name cuts node what h fact
   any_keeps sent name (any.Server node) what fact h = tt
   any_keeps sent name (any.Cleaner node) what fact h =
-      record { holds = laws.cleaner sent name cuts node what h.holds fact; meets = laws.met sent name node what h.meets (only_sent sent name what fact) }
+      record { holds = laws.cleaner.events sent name cuts node what h.holds fact; meets = laws.met.events sent name node what h.meets (only_sent sent name what fact) }
   any_keeps sent name (any.Registry node) what fact h = tt
 
   -- ---- a moment

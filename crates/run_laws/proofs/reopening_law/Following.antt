@@ -140,7 +140,7 @@ module _ (k : Below) (g : Setting) (n o : Net) (chain : List Segment) (s r : Log
 
       -- it tells nothing, or it is an attempt of what was in flight
       tells : (it.items ≡ []) ⊎ ((x : FlightState) × (flight ≡ Some x) × IsAttemptOf g x it)
-      tells = by (k.only g n o e.sure e.moment e.happens e.calm (then.ends k g n o chain s r e) it.name (now.filed q some within))
+      tells = by (k.logs.only g n o e.sure e.moment e.happens e.calm (then.ends k g n o chain s r e) it.name (now.filed q some within))
         where
           same : (t : Segment) → In t o.flown → t.name ≡ it.name → t ≡ it
           same t fact named = (then.text k g n o chain s r e).one t it (then.flown_then k g n o chain s r e t fact) flew named
@@ -184,7 +184,7 @@ module _ (k : Below) (g : Setting) (n o : Net) (chain : List Segment) (s r : Log
 
       -- where it has it, the next segment says what was in flight
       adopted : (x : HasFlight chain flight) → q ≡ suc (f.head l) → it.items ≡ x.it.segment.items
-      adopted x next = ⊎_elim tail never (k.tail g n o e.sure e.moment e.happens e.calm (then.ends k g n o chain s r e) x.it x.flying)
+      adopted x next = ⊎_elim tail never (k.logs.tail g n o e.sure e.moment e.happens e.calm (then.ends k g n o chain s r e) x.it x.flying)
         where
           number : it.name.seq ≡ x.it.segment.name.seq
           number = now.seq q some within ∙ (next ∙ sym (adopts x).seq)

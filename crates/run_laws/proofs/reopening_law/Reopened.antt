@@ -33,16 +33,16 @@ module _ (k : Below) (g : Setting) (n o : Net) (chain : List Segment) (s r : Log
   ends = (ap is_writing e.writes, ap is_serving e.serves)
 
   pub line : OneLine g o
-  line = k.line g o e.sure after e.calm
+  line = k.logs.line g o e.sure after e.calm
 
   pub last : EndIsLast o r
-  last = k.ends g o e.sure after e.calm r e.serves
+  last = k.logs.last g o e.sure after e.calm r e.serves
 
   pub text : OneText g n
-  text = k.text g n e.moment
+  text = k.logs.one_text g n e.moment
 
   flew : ChainFlew n.flown chain s
-  flew = subst (OwnerFlew n.flown) e.writes (k.held g n e.moment)
+  flew = subst (OwnerFlew n.flown) e.writes (k.logs.held g n e.moment)
 
   pub chain_flew : (t : Segment) → In t chain → In t n.flown
   chain_flew t fact = flew.read t fact
@@ -77,6 +77,6 @@ module _ (k : Below) (g : Setting) (n o : Net) (chain : List Segment) (s r : Log
         by_head (suc head) at =
             let some : 0 < f.head l = omega arith in
             let seq = filed.seq (f.head l) some (omega arith) in
-            let b = k.behind g n o e.sure e.moment e.happens e.calm ends chain s e.writes (f.segment l (f.head l)).name
+            let b = k.logs.behind g n o e.sure e.moment e.happens e.calm ends chain s e.writes (f.segment l (f.head l)).name
             (filed.filed (f.head l) some (omega arith)) in
             omega arith

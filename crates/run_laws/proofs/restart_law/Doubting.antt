@@ -128,14 +128,14 @@ module _ (b : Below) (base : Setting) (e : Estate AnyNode) (r : Role) (is_there 
   module _ (count : ℕ) (segment : Segment) (flown : tables.In segment (small count).flown) (group : Group)
       (is_striped : group_at e.world segment.group ≡ Some group) (k : ℕ) (within : k ≤ count) where
     one : OneText g (small k)
-    one = b.text g (small k) (moment_at k)
+    one = b.logs.one_text g (small k) (moment_at k)
 
     one_at_last : (t : Segment) → tables.In t (small k).flown → t.name ≡ segment.name → t ≡ segment
     one_at_last t fact same =
-        (b.text g (small count) (moment_at count)).one t segment ((grows base e r line k count within).flown t fact) flown same
+        (b.logs.one_text g (small count) (moment_at count)).one t segment ((grows base e r line k count within).flown t fact) flown same
 
     its_log : segment.name.log ≡ g.log
-    its_log = b.own g (small count) (moment_at count) segment flown
+    its_log = b.logs.own g (small count) (moment_at count) segment flown
 
     cut_so : (i : ℕ) → fragment_of g segment i ≡ piece segment group i
     cut_so i = ap (λ (s : Stripe). fragment_over segment s i) (ap stripe_by is_striped)
@@ -189,7 +189,7 @@ module _ (b : Below) (base : Setting) (e : Estate AnyNode) (r : Role) (is_there 
     sure_last = sp.sure sure
 
     ends : EndIsLast (small sp.last) its.0
-    ends = b.ends g (small sp.last) keeps (moment_at sp.last) sure_last its.0 its.1
+    ends = b.logs.last g (small sp.last) keeps (moment_at sp.last) sure_last its.0 its.1
 
     filed_last : tables.In d.segment.name (small sp.last).filed
     filed_last = subst (tables.In d.segment.name) sp.filed d.filed
@@ -207,11 +207,11 @@ module _ (b : Below) (base : Setting) (e : Estate AnyNode) (r : Role) (is_there 
         omega arith
 
     named : d.segment.name ≡ newest its.0
-    named = (b.line g (small sp.last) keeps (moment_at sp.last) sure_last).no_two d.segment.name (newest its.0) filed_last end_filed same_seq
+    named = (b.logs.line g (small sp.last) keeps (moment_at sp.last) sure_last).no_two d.segment.name (newest its.0) filed_last end_filed same_seq
 
     abbrev grouped : (group : Group) × (group_at e.world d.segment.group ≡ Some group)
     grouped = striped base e.world e.script.setup.servers (group_at e.world d.segment.group)
-        ((b.whole g (small count) (moment_at count)).striped d.segment d.flown)
+        ((b.logs.whole g (small count) (moment_at count)).striped d.segment d.flown)
 
     lost : (place : ℕ) → place < length grouped.0.members → LackedInSpan (moment_at count).run d.segment.name (server_of grouped.0.members place)
     lost = subst
@@ -219,7 +219,7 @@ module _ (b : Below) (base : Setting) (e : Estate AnyNode) (r : Role) (is_there 
         (ap stripe_by grouped.1) d.lost
 
     own : d.segment.name.log ≡ g.log
-    own = b.own g (small count) (moment_at count) d.segment d.flown
+    own = b.logs.own g (small count) (moment_at count) d.segment d.flown
 
     above : ReadsBackTo e r count d.segment.name.seq
     above =

@@ -178,7 +178,7 @@ module _ (b : Below) (base : Setting) (e : Estate AnyNode) (r : Role) (keeps : r
     own_so : IsOnce (line.goes count) → Picked (suc count)
     own_so once =
         ⊎_elim (λ k. stays count k.inc k.picked (before k.had)) (λ bound. here (suc count) bound)
-        (once_so b.reads (setting base e r) (small count) (line.stands count).moment (small (suc count)) (line.goes count) once has)
+        (once_so b.logs.down (setting base e r) (small count) (line.stands count).moment (small (suc count)) (line.goes count) once has)
 
     event_so : Picked (suc count)
     event_so = by (slice_get e.events count) refl

@@ -199,7 +199,7 @@ module _ (b : Below) (base : Setting) (e : Estate AnyNode) (run : IsRun any_step
   filed_last : tables.In d.segment.name (small d.last).filed
   filed_last =
       subst (λ n. tables.In n (small d.last).filed) (sym d.named)
-      ((b.ends g (small d.last) is_whose.keeps (line.stands d.last).moment sure d.log owner_is).filed d.some)
+      ((b.logs.last g (small d.last) is_whose.keeps (line.stands d.last).moment sure d.log owner_is).filed d.some)
 
   members : IsStripe e.script.setup.servers d.group.parity d.group.members
   members = stripe_so base e run lines d.segment.group d.group d.striped
@@ -222,11 +222,11 @@ module _ (b : Below) (base : Setting) (e : Estate AnyNode) (run : IsRun any_step
       first.kept o.0 (record { name = d.segment.name }) (in_was (moment e when).sent o.0 o.1) o.2 refl)
 
   abbrev flew : (s : Segment) × tables.In s (small when).flown × (s.name ≡ d.segment.name)
-  flew = (b.whole g (small when) (line.stands when).moment).flown d.segment.name filed
+  flew = (b.logs.whole g (small when) (line.stands when).moment).flown d.segment.name filed
 
   abbrev grouped : (group : Group) × (group_at e.world flew.0.group ≡ Some group)
   grouped = striped base e.world e.script.setup.servers (group_at e.world flew.0.group)
-      ((b.whole g (small when) (line.stands when).moment).striped flew.0 flew.1)
+      ((b.logs.whole g (small when) (line.stands when).moment).striped flew.0 flew.1)
 
   -- ---- a member of a group
 
@@ -252,7 +252,7 @@ module _ (b : Below) (base : Setting) (e : Estate AnyNode) (run : IsRun any_step
 
   all_have : (place : ℕ) → place < length grouped.0.members → HasOver (record { members = grouped.0.members; parity = grouped.0.parity }) place
   all_have = subst (λ (s : Stripe). (place : ℕ) → place < length s.members → HasOver s place) (ap stripe_by grouped.1)
-      ((b.whole g (small when) (line.stands when).moment).whole flew.0 flew.1 (subst (λ n. tables.In n (small when).filed) (sym flew.2) filed)
+      ((b.logs.whole g (small when) (line.stands when).moment).whole flew.0 flew.1 (subst (λ n. tables.In n (small when).filed) (sym flew.2) filed)
       (λ fact. undropped (subst (λ n. tables.In n (small when).dropped) flew.2 fact)))
 
   holds : (place : ℕ) → place < length grouped.0.members

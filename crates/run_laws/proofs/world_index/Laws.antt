@@ -190,9 +190,9 @@ every_run_keeps laws token_laws small_joins small_covers small_kept e setup run 
       cluster = refl;
       tokens = _;
       tokens_stand = tokens_start;
-      scene = start_scene laws.client_starts laws.manager_starts laws.cleaner_starts laws.registry_starts laws.begins e.script setup.clients.1 part of_eight
+      scene = start_scene laws.client.starts laws.manager.starts laws.cleaner.starts laws.registry_starts laws.begins e.script setup.clients.1 part of_eight
           texts first;
-      stands = start_stands laws.client_starts laws.manager_starts laws.cleaner_starts laws.registry_starts laws.begins e.script setup.clients.1 part of_eight
+      stands = start_stands laws.client.starts laws.manager.starts laws.cleaner.starts laws.registry_starts laws.begins e.script setup.clients.1 part of_eight
           texts first;
       entered = entered_starts false k part w.nodes w.sent w.acts _ tokens_start _ refl first;
     } in

@@ -106,16 +106,16 @@ module _ (laws : NodeLaws) (k : Cluster) (part : ℕ) (of_eight : part < slot_co
         here = sym (ap (node_in nodes) at) ∙ st.placed.clients c b.some less
 
         turned : Owed (Client c) (any.Client (s.client c)) → Turned (Client c) (any.Client (s.client c))
-        turned owed = went (laws.client part texts s.net c (s.client c) what b.some of_nine (st.clients c b.some less) owed)
+        turned owed = went (laws.client.events part texts s.net c (s.client c) what b.some of_nine (st.clients c b.some less) owed)
           where
             went : ClientGoes part texts s.net c (takes (s.client c) what) → Turned (Client c) (any.Client (s.client c))
             went go = record {
-              next = clients.client_scene laws.clients_stay laws.managers_stay laws.cleaner_stays k part texts first RegistrySound nodes sent s st c place clock
+              next = clients.client_scene laws.client.stays laws.manager.stays laws.cleaner.stays k part texts first RegistrySound nodes sent s st c place clock
                   b.some less at here (takes (s.client c) what) go;
-              stands = clients.client_turn laws.clients_stay laws.managers_stay laws.cleaner_stays k part texts first RegistrySound nodes sent s st c place
+              stands = clients.client_turn laws.client.stays laws.manager.stays laws.cleaner.stays k part texts first RegistrySound nodes sent s st c place
                   clock
                   b.some less at here (takes (s.client c) what) go;
-              grown = clients.grown laws.clients_stay laws.managers_stay laws.cleaner_stays k part texts first RegistrySound nodes sent s st c place clock
+              grown = clients.grown laws.client.stays laws.manager.stays laws.cleaner.stays k part texts first RegistrySound nodes sent s st c place clock
                   b.some less at here (takes (s.client c) what) go;
               makes = go.only_files;
               came = none_came (Client c) _ (ap (λ (x : Net). x.slots) go.only_files);
@@ -135,7 +135,7 @@ module _ (laws : NodeLaws) (k : Cluster) (part : ℕ) (of_eight : part < slot_co
 
         turned : Owed (Manager j) (any.Manager (s.manager j)) → Given (Manager j) (any.Manager (s.manager j)) → Turned (Manager j) (any.Manager (s.manager j))
         turned owed given =
-            went (laws.manager part texts s.asked j s.net (s.manager j) what of_eight given.number (st.managers j b.some b.within)
+            went (laws.manager.events part texts s.asked j s.net (s.manager j) what of_eight given.number (st.managers j b.some b.within)
             (record {
               gets = manager_gets part texts s.asked s.net j (s.manager j).phase what fact owed.reads given.free;
               filed = st.texts_of;
@@ -149,12 +149,12 @@ module _ (laws : NodeLaws) (k : Cluster) (part : ℕ) (of_eight : part < slot_co
 
             went : ManagerGoes part texts s.asked j s.net (s.manager j).phase what (happens (s.manager j) what) → Turned (Manager j) (any.Manager (s.manager j))
             went go = record {
-              next = managers.manager_scene laws.clients_stay laws.managers_stay laws.cleaner_stays k part texts first RegistrySound nodes sent s st j place
+              next = managers.manager_scene laws.client.stays laws.manager.stays laws.cleaner.stays k part texts first RegistrySound nodes sent s st j place
                   clock
                   b.some b.within at here what given.number given.apart (happens (s.manager j) what) go;
-              stands = managers.manager_turn laws.clients_stay laws.managers_stay laws.cleaner_stays k part texts first RegistrySound nodes sent s st j place
+              stands = managers.manager_turn laws.client.stays laws.manager.stays laws.cleaner.stays k part texts first RegistrySound nodes sent s st j place
                   clock b.some b.within at here what given.number given.apart (happens (s.manager j) what) go;
-              grown = managers.grown laws.clients_stay laws.managers_stay laws.cleaner_stays k part texts first RegistrySound nodes sent s st j place clock
+              grown = managers.grown laws.client.stays laws.manager.stays laws.cleaner.stays k part texts first RegistrySound nodes sent s st j place clock
                   b.some b.within at here what given.number given.apart (happens (s.manager j) what) go;
               makes = record { rest = go.rest; slots = go.slots; stay = go.stay; entered = go.entered };
               came = λ e z there none. ⊎_elim (λ free. absurd (some_none z (sym there ∙ free)))
@@ -172,7 +172,7 @@ module _ (laws : NodeLaws) (k : Cluster) (part : ℕ) (of_eight : part < slot_co
     server_after : (v : ℕ) → place_of k (Server v) ≡ Some place → (node : AnyNode) → slice_get nodes place ≡ Some node → Turned (Server v) node
     server_after v at node premise = subst (Turned (Server v)) (one_node (any.Server there.0) node (sym here ∙ premise)) (record {
       next = s;
-      stands = others.server_turn laws.clients_stay laws.managers_stay laws.cleaner_stays k part texts first nodes sent s st place clock what v at there.0 here
+      stands = others.server_turn laws.client.stays laws.manager.stays laws.cleaner.stays k part texts first nodes sent s st place clock what v at there.0 here
           (laws.server there.0 what);
       grown = grown_itself k part texts first nodes sent RegistrySound s st;
       makes = refl;
@@ -199,15 +199,15 @@ module _ (laws : NodeLaws) (k : Cluster) (part : ℕ) (of_eight : part < slot_co
         asks = asks_kept (WasAsked s.asked) s.cleaner.peers s.cleaner.phase what st.asks
 
         turned : Owed Cleaner (any.Cleaner s.cleaner) → Turned Cleaner (any.Cleaner s.cleaner)
-        turned owed = went (cleaner_goes part texts s.asked s.net laws.cleaner of_eight s.cleaner what st.cleaner st.asks fact owed)
+        turned owed = went (cleaner_goes part texts s.asked s.net laws.cleaner.events of_eight s.cleaner what st.cleaner st.asks fact owed)
           where
             went : CleanerGoes part texts s.asked s.net (cleaners.takes s.cleaner.peers s.cleaner.phase what) → Turned Cleaner (any.Cleaner s.cleaner)
             went go = record {
-              next = cleaning.cleaner_scene laws.clients_stay laws.managers_stay k part texts first RegistrySound nodes sent s st place clock at here what
+              next = cleaning.cleaner_scene laws.client.stays laws.manager.stays k part texts first RegistrySound nodes sent s st place clock at here what
                   go asks;
-              stands = cleaning.cleaner_turn laws.clients_stay laws.managers_stay k part texts first RegistrySound nodes sent s st place clock at here what go
+              stands = cleaning.cleaner_turn laws.client.stays laws.manager.stays k part texts first RegistrySound nodes sent s st place clock at here what go
                   asks;
-              grown = cleaning.grown laws.clients_stay laws.managers_stay k part texts first RegistrySound nodes sent s st place clock at here what go asks;
+              grown = cleaning.grown laws.client.stays laws.manager.stays k part texts first RegistrySound nodes sent s st place clock at here what go asks;
               makes = record {
                 filed = go.filed;
                 slots = go.slots;
@@ -234,11 +234,11 @@ module _ (laws : NodeLaws) (k : Cluster) (part : ℕ) (of_eight : part < slot_co
 
         went : RegistryGoes part texts s.net s.registry what → Turned Registry (any.Registry s.registry)
         went go = record {
-          next = others.registry_scene laws.clients_stay laws.managers_stay laws.cleaner_stays k part texts first nodes sent s st place clock what at here
+          next = others.registry_scene laws.client.stays laws.manager.stays laws.cleaner.stays k part texts first nodes sent s st place clock what at here
               go board;
-          stands = others.registry_turn laws.clients_stay laws.managers_stay laws.cleaner_stays k part texts first nodes sent s st place clock what at here go
+          stands = others.registry_turn laws.client.stays laws.manager.stays laws.cleaner.stays k part texts first nodes sent s st place clock what at here go
               board;
-          grown = others.grown laws.clients_stay laws.managers_stay laws.cleaner_stays k part texts first nodes sent s st place clock what at here go board;
+          grown = others.grown laws.client.stays laws.manager.stays laws.cleaner.stays k part texts first nodes sent s st place clock what at here go board;
           makes = record {
             slots = go.slots;
             filed = go.filed;

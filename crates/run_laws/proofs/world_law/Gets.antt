@@ -53,7 +53,7 @@ module _ (k : Cluster) (part : ℕ) (s : Scene) where
   grant_told Cleaner to m h = absurd h
   grant_told Registry to m h = absurd h
 
-  forward_told : (from to : NodeId) (m : Forward) → SentBy k part s from to (body.Forward m) → ForwardSeen part s.net.sent to m
+  pub forward_told : (from to : NodeId) (m : Forward) → SentBy k part s from to (body.Forward m) → ForwardSeen part s.net.sent to m
   forward_told (Client c) to m h = absurd h.2
   forward_told (Manager j) to m h = h.2
   forward_told (Server n) to m h = absurd h
@@ -67,7 +67,7 @@ module _ (k : Cluster) (part : ℕ) (s : Scene) where
   recall_told Cleaner to m h = absurd h
   recall_told Registry to m h = absurd h
 
-  supply_told : (from to : NodeId) (m : Supply) → SentBy k part s from to (body.Supply m) → SupplySeen part s.net.sent to m
+  pub supply_told : (from to : NodeId) (m : Supply) → SentBy k part s from to (body.Supply m) → SupplySeen part s.net.sent to m
   supply_told (Client c) to m h = h.2
   supply_told (Manager j) to m h = absurd h.2
   supply_told (Server n) to m h = absurd h

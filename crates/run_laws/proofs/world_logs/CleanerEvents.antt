@@ -40,7 +40,7 @@ use Rattle.run_laws.specs.world_logs.Standing.{CleanerOwns, Stands}
 use Rattle.run_laws.proofs.world_logs.Turns.{Next, turned}
 use Rattle.run_laws.specs.world_logs.Shelves.{group_at}
 use Rattle.run_laws.proofs.world_logs.Owed.{opening_owed}
-use Rattle.run_laws.proofs.world_logs.Goods.{NodeLaws}
+use Rattle.run_laws.specs.world_logs.NodeLaws.{NodeLaws}
 use Rattle.xfs_base.specs.declared.node.NodeId.TheVariants.{Cleaner}
 use Rattle.xfs_base.specs.declared.setup.Setup.{Setup}
 
@@ -71,7 +71,7 @@ module _ (laws : NodeLaws) (base : Setting) (end : World AnyNode) (setup : Setup
 
     opens : OpeningOwed g l.0 node.phase
     opens = opening_owed g l.0 l.1.moment
-        (λ m sent. names_fit base end setup.servers OfCleaner few m (laws.maps g l.0.net l.1.moment m sent)) laws.goes_on laws.reads_down node.phase seen
+        (λ m sent. names_fit base end setup.servers OfCleaner few m (laws.events.maps g l.0.net l.1.moment m sent)) laws.logs.on laws.logs.down node.phase seen
 
     owed : (x : Do) → what ≡ x → owner_events.CleanerOwed g l.0 node.phase x
     owed Begin same = tt
@@ -79,7 +79,7 @@ module _ (laws : NodeLaws) (base : Setting) (end : World AnyNode) (setup : Setup
     owed (Deliver q) same = (let h = gets q same in record { own = h.1; seen = l.1.facts q h.0; fits = for_cleaner q.to q.body (fits q h.0); opening = opens })
 
     goes : OwnerGoes g l.0 (cleaner_step node what)
-    goes = laws.owner g refl l.0 node what seen.agrees (owed what refl)
+    goes = laws.events.owner.events g refl l.0 node what seen.agrees (owed what refl)
 
     pub cleaner_mine : Next g OfCleaner l.0 l.1.moment Cleaner k (slice_set nodes place (any.Cleaner (cleaner_step node what).node))
         (sent ++ map (sent_at clock) packets) (told ++ acts)
@@ -87,13 +87,13 @@ module _ (laws : NodeLaws) (base : Setting) (end : World AnyNode) (setup : Setup
         turned g OfCleaner l.0 goes.next k nodes sent told l.1 Cleaner place clock at (any.Cleaner node)
         (any.Cleaner (cleaner_step node what).node) fact packets acts
         (cleaner_owner_turn g l.0 (cleaner_step node what) goes
-        (cleaner_leaves_room laws.flies g l.0 l.1.moment node what seen.agrees goes seen.room) acts (λ a h. h))
+        (cleaner_leaves_room laws.logs.flies g l.0 l.1.moment node what seen.agrees goes seen.room) acts (λ a h. h))
 
     -- what it holds then, and tells
     pub cleaner_told : CleanerHolds in_range node → DoFits Cleaner what → TellsTold (CleanerHolds in_range) in_range (cleaner_step node what)
     cleaner_told holds comes =
         any_cleaner_tells in_range node what holds (do_tells Cleaner what comes)
-        (cleaner_owed g l.0 (laws.held g l.0.net l.1.moment) (laws.told g l.0.net l.1.moment) acts node.phase seen.agrees)
+        (cleaner_owed g l.0 (laws.logs.held g l.0.net l.1.moment) (laws.told g l.0.net l.1.moment) acts node.phase seen.agrees)
 
     -- what it stores is bytes
     pub cleaner_stores : All (λ (p : Packet). StoresItsOwn p.body) packets → All (λ (p : Packet). StoresBytes p.to p.body) packets

@@ -23,7 +23,7 @@ use Rattle.world_base.specs.declared.world.World.{World}
 use Rattle.world_base.specs.NextWorld.{sent_at}
 use Rattle.run_laws.specs.world_law.Owners.{node_in}
 use Rattle.run_laws.proofs.world_logs.Fits.{DoFits, PacketFits, StoresBytes, do_tells, for_client, in_range, own_stores, stores_bytes}
-use Rattle.run_laws.proofs.world_logs.Goods.{NodeLaws}
+use Rattle.run_laws.specs.world_logs.NodeLaws.{NodeLaws}
 use Rattle.run_laws.proofs.world_logs.Holding.{client_owed}
 use Rattle.run_laws.specs.world_logs.Lines.{moment_then}
 use Rattle.run_laws.proofs.world_logs.Owed.{in_those, number_is, of_log, phase_owed}
@@ -68,7 +68,7 @@ module _ (laws : NodeLaws) (base : Setting) (end : World AnyNode) (setup : Setup
     scans : PhaseOwed g l.0.net node.phase
     scans = phase_owed g c l.0 l.1.moment
         (λ m sent_so. names_fit base end setup.servers (OfClient c) few m
-        (laws.maps g l.0.net l.1.moment m sent_so)) laws.goes_on laws.reads_down node.phase seen
+        (laws.events.maps g l.0.net l.1.moment m sent_so)) laws.logs.on laws.logs.down node.phase seen
 
     owed : (x : Do) → what ≡ x → ClientOwed g c l.0 node.phase x
     owed Begin same = tt
@@ -77,10 +77,10 @@ module _ (laws : NodeLaws) (base : Setting) (end : World AnyNode) (setup : Setup
         (let h = gets q same in record { own = h.1; seen = l.1.facts q h.0; fits = for_client q.to q.body (fits q h.0); scans = scans })
 
     goes : ClientGoes g c l.0 (client_step node what)
-    goes = laws.client g c refl (log_small c some eight) l.0 node what seen.agrees seen.written (owed what refl)
+    goes = laws.events.client.events g c refl (log_small c some eight) l.0 node what seen.agrees seen.written (owed what refl)
 
     room : IsRoomy goes.next.net
-    room = client_leaves_room laws.flies g c l.0 l.1.moment node what seen.agrees goes seen.room
+    room = client_leaves_room laws.logs.flies g c l.0 l.1.moment node what seen.agrees goes seen.room
 
     pub client_mine : (t : Bool) → Next g (OfClient c) l.0 l.1.moment (Client c) k (slice_set nodes place (any.Client (client_step node what).node))
         (sent ++ map (sent_at clock) packets) (told ++ (if t then acts else []))
@@ -93,7 +93,7 @@ module _ (laws : NodeLaws) (base : Setting) (end : World AnyNode) (setup : Setup
     pub client_told : ClientHolds in_range node → DoFits (Client c) what → TellsTold (ClientHolds in_range) in_range (client_step node what)
     client_told holds comes =
         any_client_tells in_range node what holds (do_tells (Client c) what comes)
-        (client_owed g c l.0 (laws.held g l.0.net l.1.moment) (laws.told g l.0.net l.1.moment) acts node.phase seen.agrees)
+        (client_owed g c l.0 (laws.logs.held g l.0.net l.1.moment) (laws.told g l.0.net l.1.moment) acts node.phase seen.agrees)
 
     -- what it stores is bytes
     pub all_stored : All (λ (p : Packet). StoresBytes p.to p.body) packets

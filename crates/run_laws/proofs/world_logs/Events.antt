@@ -51,7 +51,7 @@ use Rattle.run_laws.proofs.world_logs.CleanerEvents as cleaner_log_events
 use Rattle.run_laws.proofs.world_logs.ClientEvents as client_log_events
 use Rattle.run_laws.proofs.world_logs.Fits.{DoFits, NodeHolds, PacketFits, cleaner_sends, client_sends, do_carries, in_range, registry_sends, server_sends}
 use Rattle.run_laws.proofs.world_logs.Goods as goods
-use Rattle.run_laws.proofs.world_logs.Goods.{NodeLaws}
+use Rattle.run_laws.specs.world_logs.NodeLaws.{NodeLaws}
 use Rattle.run_laws.proofs.world_logs.Listing.{NodeKeeps, cleaner_lists, owner_sends, registry_lists}
 use Rattle.run_laws.proofs.world_logs.Lists.{all_at, all_set}
 use Rattle.run_laws.proofs.world_logs.ManagerEvents as manager_log_events
@@ -205,10 +205,10 @@ module _ (laws : NodeLaws) (base : Setting) (end : World AnyNode) (setup : Setup
         may = all_say (Server node.number) packets (sent_from (Server node.number) (servers.takes node what).outs) known.says
 
         tells : TellsBytes (server_step node what)
-        tells = laws.servers_tell node what (all_at NodeHolds nodes place (any.Server node) good.holds fact) (do_carries v what (comes (Server v) gets))
+        tells = laws.events.tells.events node what (all_at NodeHolds nodes place (any.Server node) good.holds fact) (do_carries v what (comes (Server v) gets))
 
         lists : Lists owned (server_step node what)
-        lists = laws.servers_list owned node what (all_at Keeps nodes place (any.Server node) good.keeps fact)
+        lists = laws.events.lists.events owned node what (all_at Keeps nodes place (any.Server node) good.keeps fact)
             (goods.what_comes laws base end setup ok few nodes sent told good clock what (λ q same. (gets q same).0))
 
         one : (r : Role) → Now (Server v) (any.Server node) r
@@ -225,8 +225,8 @@ module _ (laws : NodeLaws) (base : Setting) (end : World AnyNode) (setup : Setup
             owed (Deliver q) same = (let h_ = gets q same in (h_.1, l.1.facts q h_.0))
 
             go : ServerGoes (g r) (asker_by r l.0) l.0.net v node what
-            go = laws.server (g r) (asker_by r l.0) l.0.net v node what (behind (k.clients + k.managers) k.servers v place at).some (no_server r v)
-                (laws.maps (g r) l.0.net l.1.moment)
+            go = laws.events.server.events (g r) (asker_by r l.0) l.0.net v node what (behind (k.clients + k.managers) k.servers v place at).some (no_server r v)
+                (laws.events.maps (g r) l.0.net l.1.moment)
                 (l.1.seen (Server v) (any.Server node) (named (Server v) _ at fact)) (owed what refl)
 
     -- ---- the cleaner
@@ -251,7 +251,7 @@ module _ (laws : NodeLaws) (base : Setting) (end : World AnyNode) (setup : Setup
         its = sees l.0 node.phase (l.1.seen Cleaner (any.Cleaner node) (named Cleaner _ at fact))
 
         go : CleanerGoes (g r) (asker_by r l.0) l.0.net node what
-        go = laws.cleaner (g r) (asker_by r l.0) l.0.net node what no_log away its (heard what refl)
+        go = laws.events.cleaner.events (g r) (asker_by r l.0) l.0.net node what no_log away its (heard what refl)
 
         cleaner_apart : Next (g r) r l.0 l.1.moment Cleaner k (nodes_at (any.Cleaner node)) (sent_by (any.Cleaner node))
             (told_after Cleaner (any.Cleaner node) (log_by r))
@@ -286,7 +286,7 @@ module _ (laws : NodeLaws) (base : Setting) (end : World AnyNode) (setup : Setup
 
       cleaner_own : All (λ (p : Packet). StoresItsOwn p.body) (cleaner_step node what).packets
       cleaner_own =
-          laws.cleaner_stores (g (OfClient 1)) (asker_by (OfClient 1) first.0) first.0.net node what (λ e. absurd (one_apart e)) (λ e. absurd cc)
+          laws.events.cleaner_stores (g (OfClient 1)) (asker_by (OfClient 1) first.0) first.0.net node what (λ e. absurd (one_apart e)) (λ e. absurd cc)
           (first.1.seen Cleaner (any.Cleaner node) (named Cleaner _ at fact)) (heard_first what refl)
         where
           one_apart : (g (OfClient 1)).log ≡ cleaner_log → ⊥

@@ -38,7 +38,8 @@ use Rattle.run_laws.proofs.world_law.Turning.{next_cluster, next_keeps}
 use Rattle.run_laws.specs.world_law.Owners.{node_in}
 use Rattle.run_laws.proofs.world_logs.Events.{node_after}
 use Rattle.run_laws.proofs.world_logs.Goods as logs
-use Rattle.run_laws.proofs.world_logs.Goods.{Good, Known, NodeLaws}
+use Rattle.run_laws.proofs.world_logs.Goods.{Good, Known}
+use Rattle.run_laws.specs.world_logs.NodeLaws.{NodeLaws}
 use Rattle.run_laws.proofs.world_logs.Groups.{GroupsStay, StayIn, in_run}
 use Rattle.run_laws.proofs.world_logs.Leading.{LeadsOn}
 use Rattle.run_laws.specs.world_logs.Lines.{GrowsBy, IsLeft, moment_then, PutsBy, StraightBy}

@@ -1,24 +1,13 @@
 -- How all logs stand at a moment of a run, and what is known of it besides.
 use Rattle.std.proofs.Common.{◌≡◌, ⊎_elim, ◌^◌, ℕ, ◌≤◌, ◌<◌, Bool, true, false, List, ◌++◌, Some, map, get_or, refl, subst, arith}
 use Rattle.std.specs.Prelude.{All}
-use Rattle.node_logs.specs.cleaner_log_tie.OwnerEvents.{OwnerStarts, OwnerTakes}
-use Rattle.node_logs.specs.client_log_tie.ClientEvents.{ClientStarts, ClientTakes}
 use Rattle.node_logs.specs.client_log_tie.Owner.{Scene}
 use Rattle.core_world.specs.declared.any_node.AnyNode.{AnyNode}
 use Rattle.group_map.specs.declared.group.Group.{Group}
-use Rattle.log_law.specs.Held.{WhatIsHeldFlew}
-use Rattle.log_law.specs.Openings.{FliesNext, OpeningsGoOn}
-use Rattle.log_law.specs.ReadBack.{OpeningsReadDown}
 use Rattle.log_tie.specs.Setting.{Setting}
-use Rattle.node_logs.specs.manager_log_tie.Listing.{CarriesOf, ComesOf, ServersListWhatWasStored, ServersStartBare}
-use Rattle.node_logs.specs.manager_log_tie.OwnerEvents.{ManagerStarts, ManagerTakes}
-use Rattle.node_logs.specs.manager_log_tie.Servers.{ServersStartEmpty, ServersTellBytes}
-use Rattle.node_logs.specs.manager_log_tie.Told.{WhatIsToldIsInRange}
+use Rattle.node_logs.specs.manager_log_tie.Listing.{CarriesOf, ComesOf}
 use Rattle.node_base.specs.Setups.{IsSetup}
-use Rattle.node_logs.specs.node_log_tie.CleanerEvents.{CleanerEventGoes, CleanerStarts}
-use Rattle.node_logs.specs.node_log_tie.CleanerStores.{CleanerStoresItsOwn}
-use Rattle.node_logs.specs.node_log_tie.RegistryEvents.{NamesGroups, RegistryEventGoes, RegistryGoesAbove, RegistryStarts, low_of}
-use Rattle.node_logs.specs.node_log_tie.ServerEvents.{SentMapsName, ServerEventGoes, ServerStarts}
+use Rattle.node_logs.specs.node_log_tie.RegistryEvents.{NamesGroups, low_of}
 use Rattle.registry.specs.BoardState.{BoardState}
 use Rattle.token_protocol.specs.Basics.{In}
 use Rattle.version_model.specs.declared.act.Act.{Act}
@@ -29,7 +18,6 @@ use Rattle.world_base.specs.Cluster.{cluster_of, place_of}
 use Rattle.world_base.specs.declared.cluster.Cluster.{Cluster}
 use Rattle.world_base.specs.declared.world.World.{World}
 use Rattle.world_base.specs.NextWorld.{sent_at}
-use Rattle.run_laws.proofs.world_law.Laws as tokens
 use Rattle.run_laws.proofs.world_law.Sent.{at_clock, in_append, in_get}
 use Rattle.run_laws.specs.world_law.Owners.{node_in}
 use Rattle.run_laws.proofs.world_logs.Fits.{AllHold, DoFits, PacketFits}
@@ -45,41 +33,12 @@ use Rattle.run_laws.proofs.world_logs.Standing.{stands_so}
 use Rattle.run_laws.specs.world_logs.Standing.{Stands}
 use Rattle.run_laws.proofs.world_logs.Turns.{Next, next_so}
 use Rattle.run_laws.specs.world_logs.Horizons.{Reached, board_of}
+use Rattle.run_laws.specs.world_logs.NodeLaws.{NodeLaws}
 use Rattle.run_laws.specs.world_logs.Shelves.{group_at}
 use Rattle.xfs_base.specs.declared.node.NodeId.{NodeId}
 use Rattle.xfs_base.specs.declared.node.NodeId.TheVariants.{Registry}
 use Rattle.xfs_base.specs.declared.segment.LogId.{LogId}
 use Rattle.xfs_base.specs.declared.setup.Setup.{Setup}
-
--- the laws of the nodes, each of its kind
-pub record NodeLaws : Type 0 where
-  pub tokens : tokens.NodeLaws
-  pub client_starts : ClientStarts
-  pub client : ClientTakes
-  pub server_starts : ServerStarts
-  pub server : ServerEventGoes
-  pub maps : SentMapsName
-  pub registry_starts : RegistryStarts
-  pub registry : RegistryEventGoes
-  pub registry_above : RegistryGoesAbove
-  pub cleaner_starts : CleanerStarts
-  pub cleaner : CleanerEventGoes
-  pub cleaner_stores : CleanerStoresItsOwn
-  pub owner_starts : OwnerStarts
-  pub owner : OwnerTakes
-  pub manager_starts : ManagerStarts
-  pub manager : ManagerTakes
-  pub servers_start : ServersStartEmpty
-  pub servers_tell : ServersTellBytes
-  pub servers_bare : ServersStartBare
-  pub servers_list : ServersListWhatWasStored
-  -- of the small world: behind what an opening tells a log goes on, and that goes down to the horizon; what begins to fly is next, what is held flew, and what
-  -- is told is bytes
-  pub goes_on : OpeningsGoOn
-  pub reads_down : OpeningsReadDown
-  pub flies : FliesNext
-  pub held : WhatIsHeldFlew
-  pub told : WhatIsToldIsInRange
 
 module _ (laws : NodeLaws) (base : Setting) (end : World AnyNode) (setup : Setup) (ok : IsSetup setup)
     (few : (id : ℕ) (group : Group) → group_at end id ≡ Some group → id < 2 ^ 32) where

@@ -13,10 +13,7 @@ use Rattle.core_world.specs.declared.any_node.AnyNode.TheVariants as any
 use Rattle.run_laws.proofs.filed_law.Telling as telling
 use Rattle.run_laws.specs.filed_law.Told.{AnyReaches}
 use Rattle.node_tellings.proofs.filed_tie.Rising.{do_rises}
-use Rattle.node_tellings.specs.filed_tie.ManagerReach.{ManagersTellNoMore}
 use Rattle.node_tellings.specs.filed_tie.Reach.{ActsReach, BodyTells, DoTells, PacketTells, Reach, Rises}
-use Rattle.node_tellings.specs.filed_tie.RegistryReach.{RegistryTellsNoMore}
-use Rattle.node_tellings.specs.filed_tie.ServerReach.{ServersTellNoMore}
 use Rattle.manager_node.specs.declared.manager.Manager.{Manager as ManagerNode}
 use Rattle.manager_serving.specs.Serving.{fed_log}
 use Rattle.node_base.specs.declared.effects.Effect.{Effect}
@@ -49,13 +46,6 @@ use Rattle.xfs_base.specs.declared.node.NodeId.{NodeId}
 use Rattle.xfs_base.specs.declared.node.NodeId.TheVariants.{Client, Manager, Server, Cleaner, Registry}
 use Rattle.xfs_base.proofs.Booleans.{equal_itself}
 use Rattle.xfs_base.proofs.Alls.{all_append}
-
--- what nodes tell was filed; and what those tell that tell nothing of a log of their own
-pub record Filing : Type 0 where
-  pub told : telling.NodeLaws
-  pub manager : ManagersTellNoMore
-  pub server : ServersTellNoMore
-  pub registry : RegistryTellsNoMore
 
 -- ---- packets
 
@@ -97,7 +87,7 @@ pub no_acts : (t : Bool) (acts : List Act) → acts ≡ [] → (if t then acts e
 no_acts true acts none = none
 no_acts false acts none = refl
 
-module _ (laws : tokens.NodeLaws) (below : Filing) (k : Cluster) (c : ℕ) where
+module _ (laws : tokens.NodeLaws) (below : telling.NodeLaws) (k : Cluster) (c : ℕ) where
   abbrev pub Tokens : List AnyNode → List Packet → List Act → Type 0
   Tokens nodes sent acts = tokens.Good laws k 0 (omega arith) nodes sent acts
 
@@ -191,7 +181,7 @@ module _ (laws : tokens.NodeLaws) (below : Filing) (k : Cluster) (c : ℕ) where
     manager_goes : (j : ℕ) → name ≡ Manager j → (x : AnyNode) → slice_get nodes place ≡ Some x → Goes x
     manager_goes j e (any.Manager node) fact =
         let x : AnyNode = any.Manager node in
-        let t = below.manager (later x) node what (below.told.manager_rises before (later x) node (rises x) (held x fact)) (heard x) in
+        let t = below.managers_alone (later x) node what (below.manager.stays before (later x) node (rises x) (held x fact)) (heard x) in
         (t.node, clocked (later x) clock (any_step x what).packets t.packets)
     manager_goes j e (any.Client node) fact = absurd (no_manager_there (any.Client node) fact j e (λ n s. absurd cc))
     manager_goes j e (any.Server node) fact = absurd (no_manager_there (any.Server node) fact j e (λ n s. absurd cc))
@@ -201,7 +191,7 @@ module _ (laws : tokens.NodeLaws) (below : Filing) (k : Cluster) (c : ℕ) where
     server_goes : (v : ℕ) → name ≡ Server v → (x : AnyNode) → slice_get nodes place ≡ Some x → Goes x
     server_goes v e (any.Server node) fact =
         let x : AnyNode = any.Server node in
-        let t = below.server (later x) node what tt (heard x) in
+        let t = below.servers_alone (later x) node what tt (heard x) in
         (t.node, clocked (later x) clock (any_step x what).packets t.packets)
     server_goes v e (any.Client node) fact = absurd (no_server_there (any.Client node) fact v e (λ n s. absurd cc))
     server_goes v e (any.Manager node) fact = absurd (no_server_there (any.Manager node) fact v e (λ n s. absurd cc))
@@ -211,7 +201,7 @@ module _ (laws : tokens.NodeLaws) (below : Filing) (k : Cluster) (c : ℕ) where
     registry_goes : name ≡ Registry → (x : AnyNode) → slice_get nodes place ≡ Some x → Goes x
     registry_goes e (any.Registry node) fact =
         let x : AnyNode = any.Registry node in
-        let t = below.registry (later x) node what (below.told.registry_rises before (later x) node (rises x) (held x fact)) (heard x) in
+        let t = below.registry_alone (later x) node what (below.registry.stays before (later x) node (rises x) (held x fact)) (heard x) in
         (t.node, clocked (later x) clock (any_step x what).packets t.packets)
     registry_goes e (any.Client node) fact = absurd (no_registry_there (any.Client node) fact e (λ n s. absurd cc))
     registry_goes e (any.Manager node) fact = absurd (no_registry_there (any.Manager node) fact e (λ n s. absurd cc))
@@ -226,13 +216,13 @@ module _ (laws : tokens.NodeLaws) (below : Filing) (k : Cluster) (c : ℕ) where
           let mine : owns c name ≡ true = ap (λ n. owns c n) named ∙ (ap (λ n. n == c) same ∙ equal_itself c) in
           let those : List Act = (cleaner_step node what).acts in
           let did = subst (λ t. ActsReach (owned c (told ++ (if t then those else [])) (acts ++ those)) those) (sym mine) (own_acts c told acts those) in
-          let t = below.told.cleaner before (later (any.Cleaner node)) node what (rises (any.Cleaner node)) (held (any.Cleaner node) fact) tells did in
+          let t = below.cleaner.events before (later (any.Cleaner node)) node what (rises (any.Cleaner node)) (held (any.Cleaner node) fact) tells did in
           (t.node, clocked (later (any.Cleaner node)) clock (cleaner_step node what).packets t.packets)
 
       cleaner_other : (cleaner_log.0 ≡ c → ⊥) → Goes (any.Cleaner node)
       cleaner_other other =
           let x : AnyNode = any.Cleaner node in
-          let t = below.told.cleaner before (further x) node what (rises_wide x) (held x fact) tells (wide_acts c (told_after x) acts (any_step x what).acts) in
+          let t = below.cleaner.events before (further x) node what (rises_wide x) (held x fact) tells (wide_acts c (told_after x) acts (any_step x what).acts) in
           let less = narrow c (told_after x) (acts ++ (any_step x what).acts) cleaner_log.0 other in (
             cleaner_lower (further x) (later x) cleaner_log.0 less (cleaner_step node what).node.phase refl t.node,
             lowered (further x) (later x) cleaner_log.0 less Cleaner refl clock (any_step x what).packets
@@ -265,7 +255,7 @@ module _ (laws : tokens.NodeLaws) (below : Filing) (k : Cluster) (c : ℕ) where
           let mine : owns c name ≡ true = ap (λ n. owns c n) named ∙ (ap (λ n. n == c) same ∙ equal_itself c) in
           let those : List Act = (client_step node what).acts in
           let did = subst (λ t. ActsReach (owned c (told ++ (if t then those else [])) (acts ++ those)) those) (sym mine) (own_acts c told acts those) in
-          let t = below.told.client before (later (any.Client node)) node what (rises (any.Client node)) (held (any.Client node) fact) tells did in
+          let t = below.client.events before (later (any.Client node)) node what (rises (any.Client node)) (held (any.Client node) fact) tells did in
           (t.node, clocked (later (any.Client node)) clock (client_step node what).packets t.packets)
 
       -- another
@@ -274,7 +264,7 @@ module _ (laws : tokens.NodeLaws) (below : Filing) (k : Cluster) (c : ℕ) where
           let high : Reach = further (any.Client node) in
           let low : Reach = later (any.Client node) in
           let those : List Act = (client_step node what).acts in
-          let t = below.told.client before high node what (rises_wide (any.Client node)) (held (any.Client node) fact) tells
+          let t = below.client.events before high node what (rises_wide (any.Client node)) (held (any.Client node) fact) tells
           (wide_acts c (told_after (any.Client node)) acts those) in
           let less = narrow c (told_after (any.Client node)) (acts ++ those) d other in
           let first : (lasting_of node.phase).number ≡ d = numbered nodes sent acts tok d place at_client node fact in
@@ -318,7 +308,7 @@ module _ (laws : tokens.NodeLaws) (below : Filing) (k : Cluster) (c : ℕ) where
         (sent ++ map (sent_at clock) (any_step x what).packets)
     turn x fact good =
         let g = goes x fact good in (
-          telling.all_set (AnyReaches (later x)) nodes place (any_step x what).node (telling.nodes_rise below.told before (later x) (rises x) nodes now.0) g.0,
+          telling.all_set (AnyReaches (later x)) nodes place (any_step x what).node (telling.nodes_rise below before (later x) (rises x) nodes now.0) g.0,
           all_append (PacketTells (later x)) sent (map (sent_at clock) (any_step x what).packets)
-              (telling.packets_rise below.told before (later x) (rises x) sent now.1) g.1,
+              (telling.packets_rise below before (later x) (rises x) sent now.1) g.1,
         )

@@ -39,12 +39,13 @@ use Rattle.run_laws.proofs.world_logs.OwnFiling.{owned, owned_itself}
 use Rattle.run_laws.specs.world_logs.Doings.{acts_by, acts_of, owns}
 use Rattle.run_laws.specs.world_logs.Horizons.{HorizonsReached, Reached, board_of}
 use Rattle.run_laws.proofs.world_logs.HorizonTurns as turns
-use Rattle.run_laws.proofs.world_logs.HorizonTurns.{Filing, no_acts}
+use Rattle.run_laws.proofs.world_logs.HorizonTurns.{no_acts}
+use Rattle.run_laws.specs.filed_law.NodeLaws as filed
 use Rattle.xfs_base.specs.declared.node.NodeId.{NodeId}
 use Rattle.xfs_base.specs.declared.node.NodeId.TheVariants.{Client, Manager, Server, Cleaner, Registry}
 use Rattle.xfs_base.specs.declared.setup.Setup.{Setup}
 
-module _ (laws : tokens.NodeLaws) (below : Filing) (k : Cluster) (c : ℕ) where
+module _ (laws : tokens.NodeLaws) (below : filed.NodeLaws) (k : Cluster) (c : ℕ) where
   abbrev Tokens : List AnyNode → List Packet → List Act → Type 0
   Tokens nodes sent acts = turns.Tokens laws below k c nodes sent acts
 
@@ -106,11 +107,11 @@ module _ (laws : tokens.NodeLaws) (below : Filing) (k : Cluster) (c : ℕ) where
   -- ---- the start
 
   starts : (id : NodeId) (setup : Setup) (items : List Work) → AnyReaches (owned c [] []) (any_start id setup items)
-  starts (Client number) setup items = below.told.client_starts (owned c [] []) number setup items
-  starts (Manager number) setup items = below.told.manager_starts (owned c [] []) number setup items
+  starts (Client number) setup items = below.client.starts (owned c [] []) number setup items
+  starts (Manager number) setup items = below.manager.starts (owned c [] []) number setup items
   starts (Server number) setup items = tt
-  starts Cleaner setup items = below.told.cleaner_starts (owned c [] []) setup items
-  starts Registry setup items = below.told.registry_starts (owned c [] []) setup items
+  starts Cleaner setup items = below.cleaner.starts (owned c [] []) setup items
+  starts Registry setup items = below.registry.starts (owned c [] []) setup items
 
   first_ones : (script : Script) (ids : List NodeId) → AllByRecursion (AnyReaches (owned c [] [])) (map (first_node any_start script) ids)
   first_ones script [] = tt
@@ -136,7 +137,7 @@ module _ (reach : Reach) (nodes : List AnyNode) (all : AllByRecursion (AnyReache
   at_place None x fact = absurd cc
   at_place (Some place) x fact = telling.all_got (AnyReaches reach) nodes place x all fact
 
-pub horizons_reached : tokens.NodeLaws → Filing → (e : Estate AnyNode) → IsSetup e.script.setup → IsRun any_step any_start e.script e.events e.world
+pub horizons_reached : tokens.NodeLaws → filed.NodeLaws → (e : Estate AnyNode) → IsSetup e.script.setup → IsRun any_step any_start e.script e.events e.world
     → HorizonsReached e
 unfolding start_world
 horizons_reached laws below e ok run count c opened b fact =

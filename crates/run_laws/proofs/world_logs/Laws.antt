@@ -7,7 +7,6 @@ use Rattle.core_world.specs.declared.any_node.AnyNode.TheVariants as any
 use Rattle.fragment_store.specs.ShelfState.{ShelfState}
 use Rattle.group_map.specs.declared.group.Group.{Group}
 use Rattle.group_map.specs.Groups as groups
-use Rattle.log_law.specs.Laws.{LogsStayWhole, OneNameOneText}
 use Rattle.log_tie.specs.Exist.{SomeSetting}
 use Rattle.log_tie.specs.Setting.{Setting, server_of}
 use Rattle.log_protocol.specs.Tables.{In}
@@ -29,7 +28,8 @@ use Rattle.run_laws.proofs.world_law.Laws as tokens
 use Rattle.run_laws.proofs.world_law.Start.{first_stands}
 use Rattle.run_laws.specs.world_law.Owners.{moment, node_in, node_named}
 use Rattle.run_laws.proofs.world_logs.Fronts.{From, Steps, front_good, front_steps, named_so}
-use Rattle.run_laws.proofs.world_logs.Goods.{Good, NodeLaws}
+use Rattle.run_laws.proofs.world_logs.Goods.{Good}
+use Rattle.run_laws.specs.world_logs.NodeLaws.{NodeLaws}
 use Rattle.run_laws.proofs.world_logs.Groups.{GroupsStay, board_has_map, first_map, in_run, map_in_run}
 use Rattle.run_laws.proofs.world_logs.Listing.{listed_of, owner_of, start_keeps}
 use Rattle.run_laws.specs.world_logs.Lines.{IsBegun}
@@ -55,8 +55,6 @@ pub record Below : Type 0 where
   pub nodes : NodeLaws
   pub groups : GroupsStay
   pub setting : SomeSetting
-  pub whole : LogsStayWhole
-  pub text : OneNameOneText
 
 -- events lead to the world at their end
 at_end : (events : List Event) (w end : World AnyNode) → Leads any_step w events end → fold (next_world any_step) w (take (length events) events) ≡ end
@@ -120,13 +118,15 @@ module _ (laws : NodeLaws) (stay : GroupsStay) (base : Setting) (e : Estate AnyN
   unfolding start_world
   first_good = record {
     fits = λ q h. absurd h;
-    holds = start_holds laws.servers_start e.script;
+    holds = start_holds laws.events.tells.starts e.script;
     ours = λ q h. absurd h;
-    keeps = start_keeps setup.clients setup.managers laws.servers_bare e.script;
+    keeps = start_keeps setup.clients setup.managers laws.events.lists.starts e.script;
     logs = λ r there. (
-      first_scene laws.client_starts laws.owner_starts laws.manager_starts laws.server_starts laws.cleaner_starts laws.registry_starts e.script ok
+      first_scene laws.events.client.starts laws.events.owner.starts laws.events.manager.starts laws.events.server.starts laws.events.cleaner.starts
+          laws.events.registry.starts e.script ok
           (g r) r (refl, refl) refl there (first_named r),
-      start_stands laws.client_starts laws.owner_starts laws.manager_starts laws.server_starts laws.cleaner_starts laws.registry_starts e.script ok
+      start_stands laws.events.client.starts laws.events.owner.starts laws.events.manager.starts laws.events.server.starts laws.events.cleaner.starts
+          laws.events.registry.starts e.script ok
           (g r) r (refl, refl) refl there (first_named r),
     );
   }
@@ -134,7 +134,8 @@ module _ (laws : NodeLaws) (stay : GroupsStay) (base : Setting) (e : Estate AnyN
   first_begins : (r : Role) (there : There r) → IsBegun (first_good.logs r there).1.moment.run
   unfolding first_good
   first_begins r there =
-      start_begins laws.client_starts laws.owner_starts laws.manager_starts laws.server_starts laws.cleaner_starts laws.registry_starts e.script ok
+      start_begins laws.events.client.starts laws.events.owner.starts laws.events.manager.starts laws.events.server.starts laws.events.cleaner.starts
+      laws.events.registry.starts e.script ok
       (g r) r (refl, refl) refl there (first_named r)
 
   abbrev good_at : (count : ℕ) → Good laws base e.world setup ok few (moment e count).nodes (moment e count).sent (λ c. did e c count)
@@ -212,9 +213,9 @@ module _ (below : Below) (e : Estate AnyNode) (ok : IsSetup e.script.setup) (run
       record {
         whole = λ name fact kept.
             is_whole base_of e.world (moment e count) setup_of.servers r k_of f.0 (l.scene count) (did e (log_by r) count) (l.stands count)
-            below.whole below.text (exist count) name fact kept;
+            below.nodes.logs.whole below.nodes.logs.one_text (exist count) name fact kept;
         one_text = λ name of. has_text base_of e.world (moment e count) setup_of.servers r k_of f.0 (l.scene count) (did e (log_by r) count) (l.stands count)
-            below.text name of;
+            below.nodes.logs.one_text name of;
       }
 
   pub logs_stand : LogsStand e

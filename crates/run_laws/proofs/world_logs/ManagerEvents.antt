@@ -24,7 +24,7 @@ use Rattle.world_base.specs.declared.world.World.{World}
 use Rattle.world_base.specs.NextWorld.{sent_at}
 use Rattle.run_laws.specs.world_law.Owners.{node_in}
 use Rattle.run_laws.proofs.world_logs.Fits.{PacketFits, for_manager, manager_sends, own_stores, stores_bytes}
-use Rattle.run_laws.proofs.world_logs.Goods.{NodeLaws}
+use Rattle.run_laws.specs.world_logs.NodeLaws.{NodeLaws}
 use Rattle.run_laws.specs.world_logs.Lines.{moment_then}
 use Rattle.run_laws.proofs.world_logs.Managing.{asks_for_maps}
 use Rattle.run_laws.proofs.world_logs.Owed.{in_those, of_log}
@@ -74,7 +74,7 @@ module _ (laws : NodeLaws) (base : Setting) (end : World AnyNode) (setup : Setup
     owed (Deliver q) same = (let h = gets q same in record { own = h.1; seen = l.1.facts q h.0; fits = for_manager q.to q.body (fits q h.0) })
 
     goes : ManagerGoes g j l.0 (manager_step node what)
-    goes = laws.manager g j refl some refl l.0 node what seen (owed what refl)
+    goes = laws.events.manager.events g j refl some refl l.0 node what seen (owed what refl)
 
     pub manager_mine : (t : Bool) → Next g (OfManager j) l.0 l.1.moment (Manager j) k (slice_set nodes place (any.Manager (manager_step node what).node))
         (sent ++ map (sent_at clock) packets) (told ++ (if t then acts else []))

@@ -23,7 +23,7 @@ use Rattle.world_base.specs.declared.world.World.{World}
 use Rattle.run_laws.proofs.world_law.Sent.{in_append}
 use Rattle.run_laws.specs.world_law.Owners.{node_in}
 use Rattle.run_laws.proofs.world_logs.Goods as goods
-use Rattle.run_laws.proofs.world_logs.Goods.{NodeLaws}
+use Rattle.run_laws.specs.world_logs.NodeLaws.{NodeLaws}
 use Rattle.run_laws.proofs.world_logs.Roles.{high_log}
 use Rattle.run_laws.specs.world_logs.Doings.{owns}
 use Rattle.run_laws.specs.world_logs.Horizons.{Reached}
@@ -60,7 +60,7 @@ module _ (laws : NodeLaws) (base : Setting) (end : World AnyNode) (setup : Setup
     low_goes : (r : Role) (h : There r) → renews r ≡ false → log_by r ≤ 9
         → RegistryGoes (g r) (asker_by r (good.logs r h).0) (good.logs r h).0.net node what
     low_goes r h keeps low_log =
-        laws.registry (g r) (asker_by r l.0) l.0.net node what low_log (l.1.seen Registry (any.Registry node) here) (owed r l what refl)
+        laws.events.registry.events (g r) (asker_by r l.0) l.0.net node what low_log (l.1.seen Registry (any.Registry node) here) (owed r l what refl)
         (record { named = named r; filed = filed (reached r h keeps) })
       where
         l : (v : Scene) × Stands (g r) r v k nodes sent (told (log_by r))
@@ -80,5 +80,5 @@ module _ (laws : NodeLaws) (base : Setting) (end : World AnyNode) (setup : Setup
     registry_goes OfCleaner h = low_goes OfCleaner h refl (omega arith)
     registry_goes (OfManager j) h =
         (let l = good.logs (OfManager j) h in
-        laws.registry_above (g (OfManager j)) (asker_by (OfManager j) l.0) l.0.net node what (high_log j h.0)
+        laws.events.registry_above (g (OfManager j)) (asker_by (OfManager j) l.0) l.0.net node what (high_log j h.0)
         (l.1.seen Registry (any.Registry node) here) (owed (OfManager j) l what refl) (named (OfManager j)))

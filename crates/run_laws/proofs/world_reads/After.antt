@@ -122,7 +122,7 @@ module _ (base : Setting) (e : Estate AnyNode) (lines : HasLines base e) (texts 
       → IsLeft ((lines r there).scene count).net ((lines r there).scene (suc count)).net
       → last_flight (then_on ((lines r there).stands count).moment.run ((lines r there).goes count)) ≡ last_flight ((lines r there).stands count).moment.run
   left_flight laws count r there left =
-      flight_left laws.logs.others_leave_flights (setting base e r) _ _ _ ((lines r there).stands count).moment.run ((lines r there).goes count) left
+      flight_left laws.reopenings.flights.others_leave_flights (setting base e r) _ _ _ ((lines r there).stands count).moment.run ((lines r there).goes count) left
 
   pub left_after : Below → (count : ℕ) (k m : Books) (f h : Filed) (r : Role) (there : There base e lines texts part first r)
       → IsLeft ((lines r there).scene count).net ((lines r there).scene (suc count)).net → SameLog k m (log_by r) → IsSameLog (log_by r) f h

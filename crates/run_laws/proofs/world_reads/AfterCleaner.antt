@@ -192,7 +192,7 @@ module _ (laws : Below) (part : ℕ) (texts : Texts) (g : Setting) (trusted : g.
       subst (λ y. OwnGoes t.books u.books adopted p y) after (subst (λ y. OwnGoes t.books u.books adopted y x.state) before log)
 
   line : IsLine its_log v.net j.filed
-  line = line_goes_on laws.lines.lines_go_on laws.logs.nothing_filed_opening texts its_log g w.net v.net i.filed j.filed x.outs at goes straight.never sure
+  line = line_goes_on laws.lines.lines_go_on laws.logs.unfiled texts its_log g w.net v.net i.filed j.filed x.outs at goes straight.never sure
       acts filed
       (cleaner_end part texts g v j x.state then_sees then_agrees.phase) known.line
 
@@ -218,7 +218,7 @@ module _ (laws : Below) (part : ℕ) (texts : Texts) (g : Setting) (trusted : g.
         filed = kept.filed;
         flown = λ flies low. kept.flown (seen.flying ∙ flies);
         on = subst (GoesOnByFlight its_log r.log i.filed) (sym filed)
-            (laws.lines.servers_go_on_by_flights part texts its_log g w.net i r.log x.outs at was own.0.owner.end own.1 (flights r before));
+            (laws.filing.servers_go_on_by_flights part texts its_log g w.net i r.log x.outs at was own.0.owner.end own.1 (flights r before));
         kind = (subst CleanerWrites after writes).log.flies;
       }))
 
@@ -249,7 +249,7 @@ module _ (laws : Below) (part : ℕ) (texts : Texts) (g : Setting) (trusted : g.
       then_log = (subst (log_tie.CleanerAgrees g v) after then_sees).log
 
       ends : EndsByOne g w v goes o r
-      ends = comes_by_one laws.logs.openings_end_by_one g its_log o l.questions r back.comes w v l.questions.last goes
+      ends = comes_by_one laws.reopenings.openings_end_by_one g its_log o l.questions r back.comes w v l.questions.last goes
           (subst (log_tie.CleanerAgrees g w) before sees).sees (subst (SeesLog g its_log v) back.log then_log) straight
 
       e : Reopens g w.net v.net ends.settling.chain ends.settling.log r.log
@@ -281,6 +281,6 @@ module _ (laws : Below) (part : ℕ) (texts : Texts) (g : Setting) (trusted : g.
 
   -- the cleaner's log after its event
   pub cleaner_after : OwnAfter IsCopies its_log (moment_then at goes) u.books j.filed
-  cleaner_after = own_after laws IsCopies (λ s fact. fact.tells) (λ s t same. (laws.lines.attempts_are_alike s t same).copies)
-      (λ s none. (laws.lines.nothing_is_any_kind s none).copies) its_log g w v at goes straight t.books u.books i.filed j.filed more known line tells kind
+  cleaner_after = own_after laws IsCopies (λ s fact. fact.tells) (λ s t same. (laws.writing.items.attempts_are_alike s t same).copies)
+      (λ s none. (laws.writing.items.nothing_is_any_kind s none).copies) its_log g w v at goes straight t.books u.books i.filed j.filed more known line tells kind
       (by_phases node.phase x.state refl refl)

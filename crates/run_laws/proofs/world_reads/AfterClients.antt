@@ -99,7 +99,7 @@ module _ (laws : Below) (part : ℕ) (texts : Texts) (c : ℕ) (g : Setting) (tr
   x = takes node what
 
   line : IsLine c v.net j.filed
-  line = line_goes_on laws.lines.lines_go_on laws.logs.nothing_filed_opening texts c g w.net v.net i.filed j.filed x.outs at goes straight.never sure acts filed
+  line = line_goes_on laws.lines.lines_go_on laws.logs.unfiled texts c g w.net v.net i.filed j.filed x.outs at goes straight.never sure acts filed
       (client_end part texts g c v j x.state then_sees then_agrees) known.line
 
   abbrev Way : Type 0
@@ -130,7 +130,7 @@ module _ (laws : Below) (part : ℕ) (texts : Texts) (c : ℕ) (g : Setting) (tr
         filed = λ q low. kept.rows q (let a = kept.rises in omega arith);
         flown = λ flies low. kept.rows (suc (t.books.end c)) low;
         on = subst (GoesOnByFlight c r.log i.filed) (sym filed)
-            (laws.lines.servers_go_on_by_flights part texts c g w.net i r.log x.outs at was own.0.end own.1 (flights r before));
+            (laws.filing.servers_go_on_by_flights part texts c g w.net i r.log x.outs at was own.0.end own.1 (flights r before));
         kind = (subst ClientWrites after writes).flies;
       }))
 
@@ -161,7 +161,7 @@ module _ (laws : Below) (part : ℕ) (texts : Texts) (c : ℕ) (g : Setting) (tr
       then_log = (subst (log_tie.ClientAgrees g c v) after then_sees).1
 
       ends : EndsByOne g w v goes o r
-      ends = comes_by_one laws.logs.openings_end_by_one g c o l.questions r back.comes w v l.questions.last goes
+      ends = comes_by_one laws.reopenings.openings_end_by_one g c o l.questions r back.comes w v l.questions.last goes
           (subst (log_tie.ClientAgrees g c w) before sees).1 (subst (log_tie.SeesLog g c v) back.log then_log) straight
 
       e : Reopens g w.net v.net ends.settling.chain ends.settling.log r.log
@@ -198,14 +198,14 @@ module _ (laws : Below) (part : ℕ) (texts : Texts) (c : ℕ) (g : Setting) (tr
 
   -- the client's log after its event
   pub client_after : OwnAfter IsOriginal c (moment_then at goes) u.books j.filed
-  client_after = own_after laws IsOriginal (λ s fact. fact.tells) (λ s t same. (laws.lines.attempts_are_alike s t same).original)
-      (λ s none. (laws.lines.nothing_is_any_kind s none).original) c g w v at goes straight t.books u.books i.filed j.filed more known line tells kind
+  client_after = own_after laws IsOriginal (λ s fact. fact.tells) (λ s t same. (laws.writing.items.attempts_are_alike s t same).original)
+      (λ s none. (laws.writing.items.nothing_is_any_kind s none).original) c g w v at goes straight t.books u.books i.filed j.filed more known line tells kind
       (by_phases node.phase x.state refl refl)
 
   -- and its fall
   pub fell_after : (lasting_of node.phase).number ≡ c → tokens.IsAway x.state
       → FallKnown (t.acts ++ acts_of (Client c) x.outs) c (last_flight (then_on at.run goes)) x.state
-  fell_after its gone = by x.state refl (laws.logs.falls_go_on t.acts c (last_flight at.run) node what its fell)
+  fell_after its gone = by x.state refl (laws.reopenings.flights.falls_go_on t.acts c (last_flight at.run) node what its fell)
     where
       same : is_serving v.net.owner ≡ false → last_flight at.run ≡ last_flight (then_on at.run goes)
       same none = sym (flight_stays g _ w.net v.net at.run goes (straight.never none))

@@ -109,7 +109,7 @@ module _ (laws : Below) (Kind : Segment → Type 0) (once : (s : Segment) → Ki
   away_after x =
       let never = straight.never x.none in
       let flight : last_flight (then_on at.run goes) ≡ last_flight at.run = flight_stays g _ w.net v.net at.run goes never in
-      let of = same_filed l w.net v.net f h (never_files laws.logs.nothing_filed_opening g w.net v.net at goes never) more known.line line in
+      let of = same_filed l w.net v.net f h (never_files laws.logs.unfiled g w.net v.net at goes never) more known.line line in
       let books : SameLog k m l = record {
         end = ap (λ (b : Books). b.end l) x.books;
         flying = ap (λ (b : Books). b.flying l) x.books;
@@ -133,7 +133,7 @@ module _ (laws : Below) (Kind : Segment → Type 0) (once : (s : Segment) → Ki
 
   on_after : ServesOn Kind l g w v at goes k m f h → After
   on_after x = record {
-    known = serves_known g l w.net v.net at goes k m f h known line laws.logs.flights_of_owners x.before x.after x.was x.up x.seen x.then_seen x.end x.filed
+    known = serves_known g l w.net v.net at goes k m f h known line laws.reopenings.flights.flights_of_owners x.before x.after x.was x.up x.seen x.then_seen x.end x.filed
         x.flown more x.on;
     tells = tells_serving l x.before f h more x.on
         (tells_flight x.before.flight
@@ -146,9 +146,9 @@ module _ (laws : Below) (Kind : Segment → Type 0) (once : (s : Segment) → Ki
       let e : Reopens g w.net v.net x.ends.settling.chain x.ends.settling.log x.opened.log =
       reopens_by g x.trusted x.apart w v at goes x.calm x.opening x.opened x.ends in
       record {
-        known = reopens_known laws.logs.flights_of_owners laws.logs.books_follow g l w.net v.net x.ends.settling.chain x.ends.settling.log x.opened.log e
+        known = reopens_known laws.reopenings.flights.flights_of_owners laws.reopenings.books_follow g l w.net v.net x.ends.settling.chain x.ends.settling.log x.opened.log e
             (moment_then at goes) k m f h known line x.count x.books x.seen;
-        tells = tells_reopened laws.logs.one_name_one_text laws.logs.a_restart_files_the_tail Kind alike once (λ s none. once s (nothing s none)) g l w.net v.net
+        tells = tells_reopened laws.logs.one_text laws.logs.only Kind alike once (λ s none. once s (nothing s none)) g l w.net v.net
             x.ends.settling.chain x.ends.settling.log x.opened.log e f h more known.line line kind tells;
         kind = kind_then x.after x.up x.kind;
       }

@@ -42,5 +42,5 @@ module _ (g : Setting) (n o : Net) (at : Moment g n) (goes : Runs g n o) (straig
       → ((s : LogState) → o.owner ≡ Serving s → s.end.seq ≡ f.head l) → SameFlight → KnownLog l (moment_then at goes) k f
   still_known laws texts l sure k f known end flight =
       stays_known g l n o at goes k k f f known
-      (line_goes_on laws.lines.lines_go_on laws.logs.nothing_filed_opening texts l g n o f f [] at goes straight.never sure tt refl end known.line) flight
+      (line_goes_on laws.lines.lines_go_on laws.logs.unfiled texts l g n o f f [] at goes straight.never sure tt refl end known.line) flight
       (same_log k l) (same_filing f l)

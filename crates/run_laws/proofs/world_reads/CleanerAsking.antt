@@ -135,10 +135,10 @@ module _ (law : Below) (base : Setting) (e : Estate AnyNode) (lines : HasLines b
   -- ---- the segment that the job is about
 
   module _ (seg : SegRef) (f : Flew base e lines texts part first count seg) (drop : MayBeDropped base e lines texts part first count
-      law.logs.what_is_listed_flew ours
-      law.logs.what_flew_is_written joint reached seg.name) where
+      law.logs.listed ours
+      law.logs.written joint reached seg.name) where
     its_within : IsWithin n.filed seg.name
-    its_within = within base e lines texts part first count law.logs.what_is_listed_flew ours law.logs.what_flew_is_written joint reached seg f drop
+    its_within = within base e lines texts part first count law.logs.listed ours law.logs.written joint reached seg f drop
 
     its_nine : (0 < seg.name.log.0) × (seg.name.log.0 ≤ 9)
     its_nine = one_of_nine n.filed filed seg.name.log.0 seg.name.seq its_within.some its_within.filed
@@ -148,11 +148,11 @@ module _ (law : Below) (base : Setting) (e : Estate AnyNode) (lines : HasLines b
         → (is_filed_name n.filed seg.name ≡ true → (row_at n.filed b seg.name.log.0 seg.name.seq).place ≡ Some (place_in seg item))
         → IsAskable b (place_in seg item)
     askable b item lies =
-        let p = least_promised law.tokens.horizons_stay part (held_in part texts.text) first n of_eight runs joint.idx.registry joint.index_stands.registry
+        let p = least_promised law.tokens.epochs.horizons_stay part (held_in part texts.text) first n of_eight runs joint.idx.registry joint.index_stands.registry
         seg.name.log.0
         its_nine.0 its_nine.1 in
         let low : seg.name.seq < least_horizon seg.name.log.0 (all_news joint.idx.registry.board) =
-        below base e lines texts part first count law.logs.what_is_listed_flew ours law.logs.what_flew_is_written joint reached seg f drop in
+        below base e lines texts part first count law.logs.listed ours law.logs.written joint reached seg f drop in
         let up = p.above in
         record { epoch = p.epoch; promised = p.promised; within = its_within; below = omega arith; lies = lies }
 
@@ -161,7 +161,7 @@ module _ (law : Below) (base : Setting) (e : Estate AnyNode) (lines : HasLines b
     grouped premise =
         let there : Segment = n.filed.segment seg.name.log.0 seg.name.seq in
         let name : seg.name ≡ there.name = tells_apart seg_cmp_exact seg.name there.name premise in
-        its_group base e lines texts part first count law.logs.what_is_listed_flew ours seg f
+        its_group base e lines texts part first count law.logs.listed ours seg f
         ∙ (ap (λ (x : SegName). (texts.text x).group) name
         ∙ ap (λ (s : Segment). s.group) (sym (joint.index_stands.texts_of seg.name.log.0 seg.name.seq its_within.some its_within.filed)))
 
@@ -181,7 +181,7 @@ module _ (law : Below) (base : Setting) (e : Estate AnyNode) (lines : HasLines b
     checked_may : (j : JobState) (checks : List Check) → n.job.phase ≡ Checking j seg checks → AllByRecursion (CheckMay may seg) checks
     checked_may j checks premise =
         all_may checks
-        (λ there. law.reads.checks_are_of_rows part (held_in part texts.text) first n j seg checks runs (λ l q low high some limit. (joint.tells l q some
+        (λ there. law.reads.places.checks_are_of_rows part (held_in part texts.text) first n j seg checks runs (λ l q low high some limit. (joint.tells l q some
         limit).plain)
         (all_named n.filed joint.tells) premise there (grouped there))
 
@@ -200,7 +200,7 @@ module _ (law : Below) (base : Setting) (e : Estate AnyNode) (lines : HasLines b
         by true dead = none_dead (CheckMay may seg) 0 s.items dead
         by false alive =
             all_may (checks_from 0 s.items)
-            (λ there. law.reads.checks_are_of_rows part (held_in part texts.text) first (with_job n (transition n.job (input.Read (Some s)))) j seg
+            (λ there. law.reads.places.checks_are_of_rows part (held_in part texts.text) first (with_job n (transition n.job (input.Read (Some s)))) j seg
             (checks_from 0 s.items)
             (On runs (JobReads (Some s) owed)) (λ l q low high some limit. (joint.tells l q some limit).plain) (all_named n.filed joint.tells)
             (then_checks n.job j seg s premise passes alive) there (grouped there))
@@ -219,7 +219,7 @@ module _ (law : Below) (base : Setting) (e : Estate AnyNode) (lines : HasLines b
         → JobPhaseSeen (setting base e r) (log_at base e lines texts part first r there count) p
     drops p premise r there =
         subst (JobPhaseSeen (setting base e r) (log_at base e lines texts part first r there count)) premise
-        (job_seen base e lines texts part first count law.logs.what_is_listed_flew ours law.logs.what_flew_is_written joint reached node here v serves job
+        (job_seen base e lines texts part first count law.logs.listed ours law.logs.written joint reached node here v serves job
         has r there)
 
     met : (p : Phase) → job.cleaning.phase ≡ p → PhaseMet (listed_in sent Cleaner) p
@@ -228,7 +228,7 @@ module _ (law : Below) (base : Setting) (e : Estate AnyNode) (lines : HasLines b
     -- what it checks
     phase_may : (p : Phase) → job.cleaning.phase ≡ p → phases.PhaseMay may p
     phase_may (Checking j seg checks) premise =
-        checked_may seg (flew_so base e lines texts part first count law.logs.what_is_listed_flew ours seg (met (Checking j seg checks) premise).here)
+        checked_may seg (flew_so base e lines texts part first count law.logs.listed ours seg (met (Checking j seg checks) premise).here)
         (λ r there. (drops (Checking j seg checks) premise r there).1) j checks (same_phase ∙ premise)
     phase_may Greeting premise = tt
     phase_may (Listing l) premise = tt
@@ -240,7 +240,7 @@ module _ (law : Below) (base : Setting) (e : Estate AnyNode) (lines : HasLines b
     -- and what it reads
     found_may : (s : Segment) → ReadFor n.filed (Some s) n.job.phase → (p : Phase) → job.cleaning.phase ≡ p → FoundMay may s p
     found_may s owed (Reading j seg) premise =
-        read_may seg (flew_so base e lines texts part first count law.logs.what_is_listed_flew ours seg (met (Reading j seg) premise).here)
+        read_may seg (flew_so base e lines texts part first count law.logs.listed ours seg (met (Reading j seg) premise).here)
         (λ r there. (drops (Reading j seg) premise r there).1) j s (same_phase ∙ premise) owed
     found_may s owed Greeting premise = tt
     found_may s owed (Listing l) premise = tt

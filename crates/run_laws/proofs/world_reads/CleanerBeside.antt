@@ -71,7 +71,7 @@ module _ (law : Below) (base : Setting) (e : Estate AnyNode) (ok : IsSetup e.scr
 
   -- each fragment that a server listed is of a log of the run
   ours : ListsOurs base e lines texts part first count
-  ours p m among fact meta held = (let o = law.logs.runs_list_their_logs e ok run count p m among fact meta held in record {
+  ours p m among fact meta held = (let o = law.runs.runs_list_their_logs e ok run count p m among fact meta held in record {
     role = o.role;
     there = o.there;
     own = o.own;
@@ -109,11 +109,11 @@ module _ (law : Below) (base : Setting) (e : Estate AnyNode) (ok : IsSetup e.scr
 
     reached : AreReached law base e lines texts part first count joint node steps.before
     reached r there keeps =
-        law.logs.runs_reach_horizons e ok run count (log_by r) (opened r there keeps) joint.idx.registry.board (ap board_of registry_named)
+        law.runs.runs_reach_horizons e ok run count (log_by r) (opened r there keeps) joint.idx.registry.board (ap board_of registry_named)
 
     low : PollsAreLow law base e lines texts part first count joint node steps.before
     low v p m serves among fact of late =
-        law.tokens.cleaner_polls_are_low true (cluster base e) part texts.text first (moment e count).nodes (moment e count).sent (moment e count).acts
+        law.tokens.epochs.cleaner_polls_are_low true (cluster base e) part texts.text first (moment e count).nodes (moment e count).sent (moment e count).acts
         joint.tok
         joint.idx v m x.few (record { tokens = joint.tokens_stand; index = joint.index_stands; same = joint.slots })
         (ap (λ (n : CleanerNode). n.phase) (in_tokens base e lines texts part first count joint node steps.before) ∙ serves)

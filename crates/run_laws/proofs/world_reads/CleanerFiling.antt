@@ -99,7 +99,7 @@ module _ (below : Below) (base : Setting) (e : Estate AnyNode) (lines : HasLines
       → NewFor part texts.text joint.idx.net node.phase f (texts.text name))
       → FilesOwed (NewFor part texts.text joint.idx.net node.phase) texts.text 9 joint.idx.net.filed outs
   owed room says new =
-      below.lines.cleaners_files_are_owed part texts.text joint.idx.net node.phase g x.net joint.idx.net.filed outs (sure_at base e lines texts part first
+      below.filing.cleaners_files_are_owed part texts.text joint.idx.net node.phase g x.net joint.idx.net.filed outs (sure_at base e lines texts part first
       (suc count) sure)
       (record { filed = acts_filed; short = room }) says
       (all_new (NewFor part texts.text joint.idx.net node.phase) texts.text 9 (joint.idx.net.filed.head 9) (λ name. In name x.net.filed) new joint.idx.net.filed
@@ -121,7 +121,7 @@ module _ (below : Below) (base : Setting) (e : Estate AnyNode) (lines : HasLines
     flight_text f fact =
         texts.flown OfCleaner tt count f.segment
         (subst (λ o. IfSome o (λ (y : FlightState). In y.segment w.net.flown)) fact
-        (subst (OwnerFlew w.net.flown) its_owner (below.logs.what_is_held_flew g w.net (its_moment base e lines texts part first count))))
+        (subst (OwnerFlew w.net.flown) its_owner (below.logs.held g w.net (its_moment base e lines texts part first count))))
 
     named_says : (name : SegName) → IsFlight v.log name → SaysBlocks (texts.text name)
     named_says name f =
@@ -132,7 +132,7 @@ module _ (below : Below) (base : Setting) (e : Estate AnyNode) (lines : HasLines
     pub serving_files : part < 8 → EventGets part joint.idx.net node.phase what → AllByRecursion (EffectOwed part joint.idx.net) outs
         → FilesOwed (NewFor part texts.text joint.idx.net node.phase) texts.text 9 joint.idx.net.filed outs
     serving_files of_eight gets asks =
-        let flights = below.lines.cleaner_files_its_flights part texts.text g w joint.idx.net node what v of_eight
+        let flights = below.filing.cleaner_files_its_flights part texts.text g w joint.idx.net node what v of_eight
         (sure_at base e lines texts part first count (upto_before base e lines texts part first count sure))
         (owns base e lines texts part first count node steps.before).room flight_says (owns base e lines texts part first count node steps.before).agrees serves
         (agrees base e lines texts part first count joint node steps.before) gets asks in
@@ -143,7 +143,7 @@ module _ (below : Below) (base : Setting) (e : Estate AnyNode) (lines : HasLines
   flew_before : x.net.filed ≡ w.net.filed → AllSo (HasFlown w.net) outs
   flew_before same =
       all_then (λ name. In name x.net.filed) (HasFlown w.net)
-      (λ name filed. below.lines.what_is_filed_flew g w.net x.net (its_moment base e lines texts part first count) same name filed) outs acts_filed
+      (λ name filed. below.filing.what_is_filed_flew g w.net x.net (its_moment base e lines texts part first count) same name filed) outs acts_filed
 
   pub still_files : x.net.filed ≡ w.net.filed → FilesOwed (NewFor part texts.text joint.idx.net node.phase) texts.text 9 joint.idx.net.filed outs
   still_files same =
@@ -173,14 +173,14 @@ module _ (below : Below) (base : Setting) (e : Estate AnyNode) (lines : HasLines
         owed
         (short
         (all_then (λ name. In name x.net.filed) (HasFlown w.net)
-        (λ name filed. below.lines.openings_file_what_flew g w.net x.net
+        (λ name filed. below.filing.openings_file_what_flew g w.net x.net
         (its_moment base e lines texts part first count) ends.settling.chain ends.settling.log ends.writes ends.happens
         name filed) outs acts_filed))
         (all_then (λ name. In name x.net.filed) (λ name. SaysBlocks (texts.text name))
-        (adopted_says below.logs.a_restart_files_the_tail texts.text g w.net x.net refl apart (its_moment base e lines texts part first count) ends.happens
+        (adopted_says below.logs.only texts.text g w.net x.net refl apart (its_moment base e lines texts part first count) ends.happens
         calm_so restarts
         (texts.flown OfCleaner tt (suc count)) flew_says filed_before) outs acts_filed)
         (λ f name filed beyond. subst (λ (p : cleaning.Phase). NewFor part texts.text joint.idx.net p f (texts.text name)) (sym opens)
-        (adopted_moves below.logs.a_restart_files_the_tail texts.text part joint.idx.net.sent g w.net x.net refl apart
+        (adopted_moves below.logs.only texts.text part joint.idx.net.sent g w.net x.net refl apart
         (its_moment base e lines texts part first count) ends.happens calm_so
         restarts (texts.flown OfCleaner tt (suc count)) joint.idx.net.filed (joint.lined OfCleaner tt refl) moved name filed beyond))

@@ -111,15 +111,15 @@ module _ (below : Below) (base : Setting) (e : Estate AnyNode) (lines : HasLines
     reads job has p among own =
         let its = its_about job has in
         let phase : joint.idx.net.job.phase ≡ job.cleaning.phase = ap (λ (s : CleaningState). s.phase) (has_job job has) in
-        below.reads.hands_read_texts part texts.text sent (cuts_at e.world) joint.idx.net v p
+        below.reads.places.hands_read_texts part texts.text sent (cuts_at e.world) joint.idx.net v p
         (filed_known base e lines texts part first count joint)
         (record {
           job = has_job;
           came = its_reading;
-          within = reads_within base e lines texts part first count below.logs.what_is_listed_flew ours below.logs.what_flew_is_written joint reached node
+          within = reads_within base e lines texts part first count below.logs.listed ours below.logs.written joint reached node
               here v serves job has
               joint.idx.net.job.phase phase (subst (PhaseMet (listed_in sent Cleaner)) (sym phase) its.about);
-          refers = refers base e lines texts part first count below.logs.what_is_listed_flew ours (hand_of v.job)
+          refers = refers base e lines texts part first count below.logs.listed ours (hand_of v.job)
               (subst (HandMet (listed_in sent Cleaner)) (sym (ap hand_of has)) its.hand);
         })
         among own

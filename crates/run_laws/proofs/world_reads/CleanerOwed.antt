@@ -143,7 +143,7 @@ module _ (law : Below) (base : Setting) (e : Estate AnyNode) (lines : HasLines b
     -- where it serves no more nothing is filed
     away_then : (r : cleaning.Phase) → q ≡ r → is_serving x.net.owner ≡ false → x.net.filed ≡ w.net.filed
     away_then r fact away =
-        never_files law.logs.nothing_filed_opening g w.net x.net (its_moment base e lines texts part first count) ((its_line base e lines texts part
+        never_files law.logs.unfiled g w.net x.net (its_moment base e lines texts part first count) ((its_line base e lines texts part
         first).goes count)
         (beside.straight.never away)
 
@@ -261,7 +261,7 @@ module _ (law : Below) (base : Setting) (e : Estate AnyNode) (lines : HasLines b
       asks = asked;
       reopens = reopens_so p refl q refl;
       gets = gets_so;
-      writes = writes_texts law.lines.cleaner_writes_texts base e lines texts part first count node what beside.steps joint.idx.net;
+      writes = writes_texts law.writing.cleaner_writes_texts base e lines texts part first count node what beside.steps joint.idx.net;
     }
 
     -- what its event is owed

@@ -89,8 +89,8 @@ module _ (below : Below) (base : Setting) (e : Estate AnyNode) (lines : HasLines
   after = subst (cleaner_log.CleanerAgrees g x) serves (owns base e lines texts part first (suc count) _ steps.after).agrees
 
   ends_so : (d : Do) → EndsSo g cleaner_log.its_number o (comes_to o l.questions d)
-  ends_so (Deliver p) = (below.logs.openings_end_by_one g cleaner_log.its_number o l.questions).0 p
-  ends_so Tick = (below.logs.openings_end_by_one g cleaner_log.its_number o l.questions).1
+  ends_so (Deliver p) = (below.reopenings.openings_end_by_one g cleaner_log.its_number o l.questions).0 p
+  ends_so Tick = (below.reopenings.openings_end_by_one g cleaner_log.its_number o l.questions).1
   ends_so Begin = tt
 
   pub one : EndsByOne g w x runs o came.opened
@@ -124,12 +124,12 @@ module _ (below : Below) (base : Setting) (e : Estate AnyNode) (lines : HasLines
   there : AreTextsThere texts.text w.net
   there = record {
     texts_are = texts.flown OfCleaner tt count;
-    fit = λ t fact. rows_fit t (below.logs.what_flew_is_written g w.net at t fact).written.fits;
+    fit = λ t fact. rows_fit t (below.logs.written g w.net at t fact).written.fits;
   }
 
   read_back : ReadBack texts.text 9 joint.idx.net.filed one.settling.low one.settling.log.end.seq one.settling.chain
   read_back =
-      below.logs.reopenings_read_back g w.net x.net one.settling.chain one.settling.log came.opened.log reopens texts.text 9 joint.idx.net.filed
+      below.reopenings.reopenings_read_back g w.net x.net one.settling.chain one.settling.log came.opened.log reopens texts.text 9 joint.idx.net.filed
       one.settling.low there filed_of
       one.reads
 
@@ -150,7 +150,7 @@ module _ (below : Below) (base : Setting) (e : Estate AnyNode) (lines : HasLines
   }
 
   pub reopens_at : ReopensAt joint.tok.net.books (has_flight reopens) came.opened
-  reopens_at = below.logs.the_cleaner_reopens_so g w.net x.net one.settling.chain one.settling.log came.opened.log reopens joint.tok.net.books
+  reopens_at = below.reopenings.the_cleaner_reopens_so g w.net x.net one.settling.chain one.settling.log came.opened.log reopens joint.tok.net.books
       joint.idx.net.filed books_then
       came.opened one.opened
 

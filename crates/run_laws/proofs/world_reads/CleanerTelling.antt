@@ -109,6 +109,6 @@ module _ (below : Below) (base : Setting) (e : Estate AnyNode) (lines : HasLines
 
     pub live_told : (p : Packet) (m : Live) → In p sent → p.body ≡ body.Live m → LiveTold joint.tok.net.books v m
     live_told p m among fact =
-        below.reads.lives_tell_copies (owners.members (cluster base e) part) part (held_in part texts.text) (with_promise 1 joint.tok.net) joint.idx.net
+        below.reads.places.lives_tell_copies (owners.members (cluster base e) part) part (held_in part texts.text) (with_promise 1 joint.tok.net) joint.idx.net
         sent v p m tied exact has
         answers asks among fact (subst (entries.BodyTold (entries.told_by_rows (rows_at joint.idx.net.filed))) fact (joint.entries.packets p among))

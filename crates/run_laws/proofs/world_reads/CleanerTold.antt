@@ -131,7 +131,7 @@ module _ (law : Below) (base : Setting) (e : Estate AnyNode) (ok : IsSetup e.scr
     serving_told : (v : Emptying) → p ≡ Serving v → (k : Packet) → what ≡ Deliver k → (m : Body) → k.body ≡ m → ServingTold joint.tok.net.books v m
     serving_told v fact k brings (body.Live m) bears =
         live_told law base e lines texts part first count joint node what beside.of_eight
-        (all_exact joint.idx.net.filed joint.tells) (law.reads.runs_answer e count ok run) v
+        (all_exact joint.idx.net.filed joint.tells) (law.reads.places.runs_answer e count ok run) v
         (has_job law base e lines texts part first count joint node
         beside.steps.before beside.ours beside.reached beside.came beside.named v fact)
         (asks_of_hand law.tokens.nodes e ok run count node beside.steps.before v fact taken.room) k m (beside.brought k brings).0 bears

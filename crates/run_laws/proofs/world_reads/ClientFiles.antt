@@ -213,7 +213,7 @@ module _ (base : Setting) (e : Estate AnyNode) (lines : HasLines base e) (texts 
   flight_says : (s : ServingClient) → node.phase ≡ clients.Serving s → FlightSays s.log
   flight_says s fact =
       by s.log.flight
-      (subst (OwnerFlew w.net.flown) (subst (client_log.ClientAgrees g c w) fact sees.agrees).1.owner (laws.logs.what_is_held_flew g w.net at))
+      (subst (OwnerFlew w.net.flown) (subst (client_log.ClientAgrees g c w) fact sees.agrees).1.owner (laws.logs.held g w.net at))
     where
       by : (o : Option FlightState) → IfSome o (λ f. In f.segment w.net.flown) → IfSome o (λ f. SaysBlocks f.segment)
       by None flown = tt
@@ -221,7 +221,7 @@ module _ (base : Setting) (e : Estate AnyNode) (lines : HasLines base e) (texts 
 
   named_says : (name : SegName) → In name v.net.filed → SaysBlocks (texts.text name)
   named_says name filed =
-      let t = (laws.logs.logs_stay_whole g v.net (log.then base e lines texts part first count c there laws event node x)).flown name filed in
+      let t = (laws.logs.whole g v.net (log.then base e lines texts part first count c there laws event node x)).flown name filed in
       subst SaysBlocks (sym (ap texts.text (sym t.2) ∙ texts.flown (OfClient c) there (suc count) t.0 t.1)) (says_so t.0 t.1)
 
   abbrev Known : SegName → Type 0
@@ -235,7 +235,7 @@ module _ (base : Setting) (e : Estate AnyNode) (lines : HasLines base e) (texts 
   serving_known s serves name f =
       let fact : last_flight at.run ≡ Some f.0 = served_last g _ w.net at.run s serves ∙ f.1 in
       let held = subst (λ (o : Option FlightState). IfSome o (λ y. In y.segment w.net.flown)) f.1
-      (subst (OwnerFlew w.net.flown) serves (laws.logs.what_is_held_flew g w.net at)) in
+      (subst (OwnerFlew w.net.flown) serves (laws.logs.held g w.net at)) in
       let flown = log.flown_then base e lines texts part first count c there laws event node x f.0.segment held in
       let text : texts.text name ≡ f.0.segment = ap texts.text (sym f.2) ∙ text_is f.0.segment flown in
       inr (inr (
@@ -269,11 +269,11 @@ module _ (base : Setting) (e : Estate AnyNode) (lines : HasLines base e) (texts 
           let z = comes g refl w.net v.net goes straight away serves in
           let calm = subst (λ (r : Runs g w.net v.net). IsSureRun (then_on at.run r)) z.one
           (log.goes_sure base e lines texts part first count c there laws event node x) in
-          ⊎_elim before (tail_known name) (laws.logs.a_restart_files_the_tail g w.net v.net refl at z.happens calm (z.writes, serves) name fact)
+          ⊎_elim before (tail_known name) (laws.logs.only g w.net v.net refl at z.happens calm (z.writes, serves) name fact)
 
   module _ (gets : EventGets part texts.text i.net c node.phase (what_of event)) where
     pub acts_file : ActsFile v.net outs
-    acts_file = laws.lines.clients_acts_file part texts.text g c w v i.net node (what_of event) there.0 below sure sees.room flight_says sees.agrees agrees
+    acts_file = laws.filing.clients_acts_file part texts.text g c w v i.net node (what_of event) there.0 below sure sees.room flight_says sees.agrees agrees
         gets goes straight
         (log.acts_filed base e lines texts part first count c there laws event node x)
 
@@ -297,12 +297,12 @@ module _ (base : Setting) (e : Estate AnyNode) (lines : HasLines base e) (texts 
         by (clients.Opening l o) fact = resting (stage_rests o.known l.questions.last o.stage (seen (clients.Opening l o) fact).1)
         by (clients.Serving s) fact =
             all_then (IsFlight s.log) Known (serving_known s.log (seen (clients.Serving s) fact).1.owner) outs
-            (laws.lines.clients_file_their_flights part texts.text g c w i.net node (what_of event) s there.0 below sure sees.room
+            (laws.filing.clients_file_their_flights part texts.text g c w i.net node (what_of event) s there.0 below sure sees.room
             (flight_says s fact) sees.agrees fact agrees gets).flights
 
     -- it is owed
     pub files_owed : FilesOwed (IsNewerAtSlot part) texts.text c filed outs
-    files_owed = laws.lines.clients_files_are_owed part texts.text c g v.net filed outs (log.is_sure_then base e lines texts part first count c there laws
+    files_owed = laws.filing.clients_files_are_owed part texts.text c g v.net filed outs (log.is_sure_then base e lines texts part first count c there laws
         event node x) acts_file
         (all_then (λ name. In name v.net.filed) (λ name. SaysBlocks (texts.text name)) named_says outs
         (log.acts_filed base e lines texts part first count c there laws event node x))

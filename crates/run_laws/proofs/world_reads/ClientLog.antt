@@ -114,7 +114,7 @@ module _ (base : Setting) (e : Estate AnyNode) (lines : HasLines base e) (texts 
 
     -- all that was in flight in it tells of blocks at first hand
     pub original : (s : Segment) → In s after.net.flown → IsOriginal s
-    original s fact = (laws.lines.clients_flew_originals base e c line (suc count)).flew s fact
+    original s fact = (laws.writing.clients_flew_originals base e c line (suc count)).flew s fact
 
     pub flown_then : (s : Segment) → In s before.net.flown → In s after.net.flown
     flown_then s fact = (grows base e (OfClient c) line count (suc count) (omega arith)).flown s fact

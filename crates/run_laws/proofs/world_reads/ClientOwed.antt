@@ -146,7 +146,7 @@ module _ (base : Setting) (e : Estate AnyNode) (lines : HasLines base e) (texts 
   -- ---- what it has in flight
 
   pub writes : WritesTexts part texts.text i.net c went.state
-  writes = laws.lines.clients_write_texts texts.text g c v went.state part i.net (log.then base e lines texts part first count c there laws event node x)
+  writes = laws.writing.clients_write_texts texts.text g c v went.state part i.net (log.then base e lines texts part first count c there laws event node x)
       (λ s fact. texts.flown (OfClient c) there (suc count) s fact) sees_then.agrees
 
   -- ---- a reopening
@@ -200,10 +200,10 @@ module _ (base : Setting) (e : Estate AnyNode) (lines : HasLines base e) (texts 
     end_owed (stage.Scanning a) fact = tt
     end_owed (stage.Settling a) fact =
         let here = subst (client_log.SeesStage g c w o.known l.questions.last) fact stage_sees in
-        laws.logs.reopenings_read_back g w.net v.net a.chain a.log s.log (ends a fact).reopens texts.text c filed a.low
+        laws.reopenings.reopenings_read_back g w.net v.net a.chain a.log s.log (ends a fact).reopens texts.text c filed a.low
         (record {
           texts_are = λ t fact. texts.flown (OfClient c) there count t fact;
-          fit = λ t fact. items_fit t t.items (laws.logs.what_flew_is_written g w.net at t fact).written.fits.items;
+          fit = λ t fact. items_fit t t.items (laws.logs.written g w.net at t fact).written.fits.items;
         }) filed_of here.reads
 
   pub reopens : ReopensOn part texts.text i.net c node.phase went.state

@@ -112,12 +112,12 @@ module _ (base : Setting) (e : Estate AnyNode) (lines : HasLines base e) (texts 
 
   module _ (l : Lasting) (o : Opening) (opening : node.phase ≡ clients.Opening l o) (s : ServingClient) (serving : went.state ≡ clients.Serving s) where
     pub back : ComesBack c (comes_to o l.questions what) s went.outs
-    back = laws.logs.clients_come_back c node what l o s opening serving
+    back = laws.reopenings.clients_come_back c node what l o s opening serving
 
     ends_by_do : (d : Do) (p : Progress) → comes_to o l.questions d ≡ p → (r : Opened) → p ≡ progress.Opened r → reopening.EndsSo g c o (progress.Opened r)
     ends_by_do Begin p fact r opened = (let clash : progress.Opening o ≡ progress.Opened r = fact ∙ opened in absurd cc)
-    ends_by_do (Deliver packet) p fact r opened = subst (reopening.EndsSo g c o) (fact ∙ opened) ((laws.logs.openings_end_by_one g c o l.questions).0 packet)
-    ends_by_do Tick p fact r opened = subst (reopening.EndsSo g c o) (fact ∙ opened) (laws.logs.openings_end_by_one g c o l.questions).1
+    ends_by_do (Deliver packet) p fact r opened = subst (reopening.EndsSo g c o) (fact ∙ opened) ((laws.reopenings.openings_end_by_one g c o l.questions).0 packet)
+    ends_by_do Tick p fact r opened = subst (reopening.EndsSo g c o) (fact ∙ opened) (laws.reopenings.openings_end_by_one g c o l.questions).1
 
     by_one : EndsByOne g w v goes o back.opened
     by_one =
@@ -128,9 +128,9 @@ module _ (base : Setting) (e : Estate AnyNode) (lines : HasLines base e) (texts 
 
     pub reopens_so : ReopensSo t.net.books t.net.acts c back.opened
     reopens_so =
-        let re = laws.logs.ends_are_reopenings g w v goes o back.opened by_one refl x.apart at (log.goes_sure base e lines texts part first count c there
+        let re = laws.reopenings.ends_are_reopenings g w v goes o back.opened by_one refl x.apart at (log.goes_sure base e lines texts part first count c there
         laws event node x) in
-        laws.logs.clients_reopen_so g w.net v.net by_one.settling.chain by_one.settling.log back.opened.log re.0 t.net.books c filed
+        laws.reopenings.clients_reopen_so g w.net v.net by_one.settling.chain by_one.settling.log back.opened.log re.0 t.net.books c filed
         (record {
           filed = owed.filed_of base e lines texts part first count c there laws event node x;
           books = record {
@@ -173,7 +173,7 @@ module _ (base : Setting) (e : Estate AnyNode) (lines : HasLines base e) (texts 
   reads_so heeds r limit packet fact (clients.Opening l o) phase =
       ends_so heeds l o phase (comes_to o l.questions (Deliver packet)) (ap (comes_to o l.questions) fact)
   reads_so heeds r limit packet fact (clients.Serving s) phase =
-      laws.reads.fetches_read_there texts.text (moment e count).sent (Client c) (cuts_at e.world) filed s packet part limit c t.net r.known x.joint.books
+      laws.reads.places.fetches_read_there texts.text (moment e count).sent (Client c) (cuts_at e.world) filed s packet part limit c t.net r.known x.joint.books
       (λ l q some upto from limit. (x.joint.tells l q from limit).plain)
       (record {
         told = subst (entries.PhaseHolds (told_by_rows (rows_at filed))) phase r.told;

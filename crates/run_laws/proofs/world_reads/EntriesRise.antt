@@ -24,7 +24,7 @@ use Rattle.world_base.specs.declared.estate.Estate.{Estate}
 use Rattle.world_base.specs.Items.{items_of}
 use Rattle.world_base.specs.NextWorld.{first_node, start_world}
 use Rattle.run_laws.specs.world_law.Owners.{moment}
-use Rattle.run_laws.specs.world_reads.Below.{EntryKinds}
+use Rattle.run_laws.specs.world_reads.Readings.{EntryKinds}
 use Rattle.run_laws.specs.world_reads.Entries.{AnyTold, EntriesStand}
 use Rattle.xfs_base.proofs.Members.{contains_nothing}
 use Rattle.xfs_base.specs.declared.block.BlockId.{BlockId}
@@ -61,10 +61,10 @@ module _ (rows later : FiledRows) (more : AreMore rows later) where
 
   module _ (kinds : EntryKinds) where
     any_rises : (node : AnyNode) → AnyTold rows node → AnyTold later node
-    any_rises (any.Client node) fact = kinds.client_rises rows later node more fact
-    any_rises (any.Manager node) fact = kinds.manager_rises rows later node more fact
+    any_rises (any.Client node) fact = kinds.client.stays rows later node more fact
+    any_rises (any.Manager node) fact = kinds.manager.stays rows later node more fact
     any_rises (any.Server node) fact = tt
-    any_rises (any.Cleaner node) fact = kinds.cleaner_rises rows later node more fact
+    any_rises (any.Cleaner node) fact = kinds.cleaner.stays rows later node more fact
     any_rises (any.Registry node) fact = tt
 
     -- so does all that is told at a moment
@@ -78,10 +78,10 @@ module _ (rows later : FiledRows) (more : AreMore rows later) where
 
 module _ (kinds : EntryKinds) (rows : FiledRows) where
   any_begins : (name : NodeId) (setup : Setup) (items : List Work) → AnyTold rows (any_start name setup items)
-  any_begins (nodes.Client number) setup items = kinds.client_starts rows number setup items
-  any_begins (nodes.Manager number) setup items = kinds.manager_starts rows number setup items
+  any_begins (nodes.Client number) setup items = kinds.client.starts rows number setup items
+  any_begins (nodes.Manager number) setup items = kinds.manager.starts rows number setup items
   any_begins (nodes.Server number) setup items = tt
-  any_begins nodes.Cleaner setup items = kinds.cleaner_starts rows setup items
+  any_begins nodes.Cleaner setup items = kinds.cleaner.starts rows setup items
   any_begins nodes.Registry setup items = tt
 
   first_ones : (script : Script) (names : List NodeId) (node : AnyNode) → In node (map (first_node any_start script) names) → AnyTold rows node

@@ -23,7 +23,7 @@ use Rattle.world_base.specs.declared.world.World.{World}
 use Rattle.world_base.specs.Events.{node_of, what_of}
 use Rattle.world_base.specs.NextWorld.{next_world, sent_at}
 use Rattle.run_laws.proofs.world_law.Turning.{next_keeps}
-use Rattle.run_laws.specs.world_reads.Below.{EntryKinds}
+use Rattle.run_laws.specs.world_reads.Readings.{EntryKinds}
 use Rattle.run_laws.proofs.world_reads.Taking.{Took}
 use Rattle.run_laws.specs.world_reads.Entries.{AnyTold, EntriesStand}
 
@@ -70,12 +70,12 @@ module _ (rows : FiledRows) where
 
   any_tells : EntryKinds → (node : AnyNode) (what : Do) → AnyTold rows node → DoTold (told_by_rows rows) what → AnyOwed node what → AnyTells node what
   any_tells kinds (any.Client node) what holds comes owed =
-      (let t = kinds.client rows node what holds comes owed in record { node = t.node; packets = t.packets })
+      (let t = kinds.client.events rows node what holds comes owed in record { node = t.node; packets = t.packets })
   any_tells kinds (any.Manager node) what holds comes owed =
-      (let t = kinds.manager rows node what holds comes owed in record { node = t.node; packets = t.packets })
+      (let t = kinds.manager.events rows node what holds comes owed in record { node = t.node; packets = t.packets })
   any_tells kinds (any.Server node) what holds comes owed = record { node = tt; packets = kinds.server rows node what }
   any_tells kinds (any.Cleaner node) what holds comes owed =
-      (let t = kinds.cleaner rows node what holds comes owed in record { node = t.node; packets = t.packets })
+      (let t = kinds.cleaner.events rows node what holds comes owed in record { node = t.node; packets = t.packets })
   any_tells kinds (any.Registry node) what holds comes owed = record { node = tt; packets = kinds.registry rows node what }
 
   -- ---- an event

@@ -152,14 +152,14 @@ module _ (base : Setting) (e : Estate AnyNode) (lines : HasLines base e) (texts 
       stage_owed : (c : ℕ) (known : KnownMaps) (last : ℕ) (st : Stage) → SeesStage (setting base e r) c scene known last st → StageOwed told acts st
       stage_owed c known last (stage.Scanning s) sees = tt
       stage_owed c known last (stage.Settling s) sees =
-          chain_told base e lines texts part first count r there laws.lines.lines_give laws.logs.what_is_held_flew laws.logs.what_flew_is_of_the_log event
+          chain_told base e lines texts part first count r there laws.lines.lines_give laws.logs.held laws.logs.own event
           node h owned s.chain s.log sees.owner
 
       client_phase : (c : ℕ) → c ≡ log_by r → (p : clients.Phase) → client_log.ClientAgrees (setting base e r) c scene p → client_entries.PhaseOwed told acts p
       client_phase c its (client.Down l) agrees = tt
       client_phase c its (client.Opening l o) agrees = stage_owed c o.known l.questions.last o.stage agrees.1
       client_phase c its (client.Serving s) agrees =
-          flight_told base e lines texts part first count r there laws.lines.lines_give laws.logs.what_is_held_flew laws.logs.what_flew_is_of_the_log event
+          flight_told base e lines texts part first count r there laws.lines.lines_give laws.logs.held laws.logs.own event
           node h owned (record { 0 = s.lasting.number })
           (ap (λ (n : ℕ). record { 0 = n }) (agrees.0.number ∙ its)) s.log agrees.1.owner
 
@@ -167,7 +167,7 @@ module _ (base : Setting) (e : Estate AnyNode) (lines : HasLines base e) (texts 
       cleaner_phase its (cleaning.Down l) agrees = tt
       cleaner_phase its (cleaning.Opening l o) agrees = stage_owed cleaners_number o.known l.questions.last o.stage agrees.sees
       cleaner_phase its (cleaning.Serving s) agrees =
-          flight_told base e lines texts part first count r there laws.lines.lines_give laws.logs.what_is_held_flew laws.logs.what_flew_is_of_the_log event
+          flight_told base e lines texts part first count r there laws.lines.lines_give laws.logs.held laws.logs.own event
           node h owned (record { 0 = 9 })
           (ap (λ (n : ℕ). record { 0 = n }) (sym its)) s.log agrees.log.owner
 
@@ -331,7 +331,7 @@ module _ (base : Setting) (e : Estate AnyNode) (lines : HasLines base e) (texts 
               let flew : tables.In flight.segment (line.scene count).net.flown =
               subst (λ (o : Option FlightState). IfSome o (λ (f : FlightState). tables.In f.segment (line.scene count).net.flown)) flies
               (subst (OwnerFlew (line.scene count).net.flown) its.log.owner
-              (laws.logs.what_is_held_flew (setting base e (OfManager j)) (line.scene count).net (line.stands count).moment)) in
+              (laws.logs.held (setting base e (OfManager j)) (line.scene count).net (line.stands count).moment)) in
               record {
                 manager = j;
                 there = (b.some, b.within);

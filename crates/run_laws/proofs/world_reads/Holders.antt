@@ -27,7 +27,7 @@ use Rattle.run_laws.proofs.world_reads.TurnRun.{moment_cluster}
 use Rattle.run_laws.specs.world_law.Owners.{moment, node_in, tokens_of}
 use Rattle.run_laws.specs.world_law.Standing.{members}
 use Rattle.run_laws.specs.world_logs.Lines.{HasLines, Texts}
-use Rattle.run_laws.specs.world_reads.Below.{BlocksMakeLegal}
+use Rattle.run_laws.specs.world_reads.TokensBelow.{BlocksMakeLegal}
 use Rattle.run_laws.specs.world_reads.Holders.{HoldersAreNewest, IsNewest, history_at}
 use Rattle.run_laws.specs.world_reads.Joint.{Joint, k}
 use Rattle.xfs_base.proofs.BlockOrder.{same_block_exact}

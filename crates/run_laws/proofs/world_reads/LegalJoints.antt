@@ -14,7 +14,7 @@ use Rattle.run_laws.proofs.world_law.RegistryTurns.{slot_below}
 use Rattle.run_laws.specs.world_law.Standing.{members}
 use Rattle.run_laws.specs.world_law.Owners.{moment}
 use Rattle.run_laws.specs.world_logs.Lines.{HasLines, Texts}
-use Rattle.run_laws.specs.world_reads.Below.{BlocksMakeLegal}
+use Rattle.run_laws.specs.world_reads.TokensBelow.{BlocksMakeLegal}
 use Rattle.run_laws.specs.world_reads.Joint.{Joint, k}
 use Rattle.xfs_base.specs.Blocks.{slot_of}
 use Rattle.xfs_base.specs.declared.block.BlockId.{BlockId}

@@ -36,7 +36,7 @@ module _ (below : Below) where
     stands : MomentStands base e lines texts count
     stands =
         let w = whole_at below base e lines texts (first_of base e lines texts) apart setup run count
-        (λ r there keeps. below.lines.undoubted_runs_are_sure base e lines count none r there keeps) in
+        (λ r there keeps. below.runs.undoubted_runs_are_sure base e lines count none r there keeps) in
         record { joints = w.joints; references = w.references; named = w.named; comes = w.comes }
 
     legal : AreLegal (moment e count).acts
@@ -45,14 +45,14 @@ module _ (below : Below) where
         (below.tokens.every_run_has_falls_apart e setup run count) stands.joints
 
     sure : (part : ℕ) → IsSureUpto base e lines texts part (first_of base e lines texts) count
-    sure part r there keeps_on = below.lines.undoubted_runs_are_sure base e lines count none r there keeps_on
+    sure part r there keeps_on = below.runs.undoubted_runs_are_sure base e lines count none r there keeps_on
 
     kept : (part : ℕ) → part < slot_count → KeepsItsIndexes e count part texts.text
     kept part of_eight =
         let joint : Joint base e lines texts part (first_of base e lines texts) count = stands.joints part of_eight in
         record {
           filed = joint.idx.net.filed;
-          own = is_own_table below.lines.lines_give below.logs.logs_stay_whole below.logs.one_name_one_text below.logs.what_flew_is_of_the_log
+          own = is_own_table below.lines.lines_give below.logs.whole below.logs.one_text below.logs.own
               below.tokens.nodes below.index.nodes.server base e setup run lines texts part (first_of base e lines texts) count (sure part) joint;
           named = joint.index_stands.texts_of;
           keeps = keeps below.index.nodes below.tokens.nodes (cluster_of e.script.setup) part of_eight texts.text (first_of base e lines texts)
@@ -71,25 +71,25 @@ module _ (below : Below) where
   -- for the lines that each run has, and their texts
   pub every_runs_acts_are_legal : EveryRunsActsAreLegal
   every_runs_acts_are_legal e setup run count none =
-      let lines = below.logs.runs_have_lines below.lines.telling_setting.0 e setup run in
-      legal below.lines.telling_setting.0 below.lines.telling_setting.1 e setup run lines
-      (below.logs.lines_have_texts below.lines.telling_setting.0 e setup lines) count none
+      let lines = below.runs.runs_have_lines below.writing.items.telling_setting.0 e setup run in
+      legal below.writing.items.telling_setting.0 below.writing.items.telling_setting.1 e setup run lines
+      (below.runs.lines_have_texts below.writing.items.telling_setting.0 e setup lines) count none
 
   pub every_runs_holders_are_newest : EveryRunsHoldersAreNewest
   every_runs_holders_are_newest e setup run count none =
-      let base = below.lines.telling_setting.0 in
-      let apart = below.lines.telling_setting.1 in
-      let lines = below.logs.runs_have_lines base e setup run in
-      let texts = below.logs.lines_have_texts base e setup lines in
+      let base = below.writing.items.telling_setting.0 in
+      let apart = below.writing.items.telling_setting.1 in
+      let lines = below.runs.runs_have_lines base e setup run in
+      let texts = below.runs.lines_have_texts base e setup lines in
       holders_are_newest below.tokens.acts_are_legal below.tokens.blocks_make_legal below.tokens.nodes base e lines texts (first_of base e lines texts) count
       (below.tokens.every_run_has_falls_apart e setup run count) (stands base apart e setup run lines texts count none).joints
 
   pub every_runs_indexes_are_its_own : EveryRunsIndexesAreItsOwn
   every_runs_indexes_are_its_own e setup run =
-      let base = below.lines.telling_setting.0 in
-      let apart = below.lines.telling_setting.1 in
-      let lines = below.logs.runs_have_lines base e setup run in
-      let texts = below.logs.lines_have_texts base e setup lines in
+      let base = below.writing.items.telling_setting.0 in
+      let apart = below.writing.items.telling_setting.1 in
+      let lines = below.runs.runs_have_lines base e setup run in
+      let texts = below.runs.lines_have_texts base e setup lines in
       record {
         text = texts.text;
         each = λ count none part of_eight.

@@ -155,6 +155,6 @@ module _ (base : Setting) (e : Estate AnyNode) (lines : HasLines base e) (texts 
       record {
         index = index_owed base e lines texts part first count j there event node x stands laws;
         turn = λ adopted limit. turn_owed base e lines texts part first count j there event node x stands laws adopted limit;
-        given = manager.tokens_given base e lines texts part first count event coming laws.tokens.tokens_are_given (any.Manager node)
+        given = manager.tokens_given base e lines texts part first count event coming laws.tokens.epochs.tokens_are_given (any.Manager node)
             (took_it k (moment e count) coming.cluster event (any.Manager node) took);
       }

@@ -80,8 +80,8 @@ module _ (base : Setting) (e : Estate AnyNode) (lines : HasLines base e) (texts 
       of_present p at stands done = by p.reading refl (subst (λ o. completes_at t.take o own server answer ≡ Some s) at done)
         where
           refers : Refers base e lines texts part first count (Manager j) p.source.seg
-          refers = refers_down base e lines texts part first count (Manager j) laws.logs.one_name_one_text laws.logs.a_place_names_one_content
-              laws.logs.priors_name_groups (sources_of t.take.news t.take.reports) flew
+          refers = refers_down base e lines texts part first count (Manager j) laws.logs.one_text laws.logs.content
+              laws.logs.priors (sources_of t.take.news t.take.reports) flew
               p.source stands.leads
 
           by : (o : Option ReadingState) → p.reading ≡ o → completes_in t.take o own server answer ≡ Some s → IsRead part texts.text s
@@ -89,9 +89,9 @@ module _ (base : Setting) (e : Estate AnyNode) (lines : HasLines base e) (texts 
           by (Some r) fact h =
               let reads : ReadsJoined (to_any (answered_in sent (Manager j))) (cut_by (cuts_at e.world)) p.source.seg s =
               laws.reads.takeovers_read_what_came sent (Manager j) (cuts_at e.world) t.take p r ask own server answer s holds at fact answered h in
-              laws.reads.takeovers_read_texts part texts.text sent (Manager j) (cuts_at e.world) t.take p ask own server answer s holds at answered
+              laws.reads.places.takeovers_read_texts part texts.text sent (Manager j) (cuts_at e.world) t.take p ask own server answer s holds at answered
               (known base e lines texts part first count (Manager j) p.source.seg.name refers.of)
-              (names_its_group base e lines texts part first count (Manager j) laws.logs.one_name_one_text laws.logs.a_place_names_one_content p.source.seg
+              (names_its_group base e lines texts part first count (Manager j) laws.logs.one_text laws.logs.content p.source.seg
               refers s reads) done
 
       pub is_read : completes_at t.take t.take.present own server answer ≡ Some s → IsRead part texts.text s
@@ -182,7 +182,7 @@ module _ (base : Setting) (e : Estate AnyNode) (lines : HasLines base e) (texts 
       manager_told flew = record {
         reads = reads flew;
         writes = manager.writes base e lines texts part first count j there event node x
-            laws.lines.managers_write_texts;
+            laws.writing.managers_write_texts;
       }
 
       pub manager_owed : SourcesFlew (slot_in part node.phase)

@@ -146,8 +146,8 @@ module _ (base : Setting) (e : Estate AnyNode) (lines : HasLines base e) (texts 
       by (suc q) fact =
           let at = ((lines role there).stands count).moment in
           let net = ((lines role there).scene count).net in
-          let last = laws.logs.ends_are_last (setting base e role) net goes_on at (sure role there goes_on) s sees.owner in
-          let f = (laws.logs.logs_stay_whole (setting base e role) net at).flown (record { log = s.log; seq = s.end.seq; pass = s.end.pass })
+          let last = laws.logs.last (setting base e role) net goes_on at (sure role there goes_on) s sees.owner in
+          let f = (laws.logs.whole (setting base e role) net at).flown (record { log = s.log; seq = s.end.seq; pass = s.end.pass })
           (last.filed (omega arith)) in
           let named : f.0.name ≡ record { log = record { 0 = log_by role }; seq = s.end.seq; pass = s.end.pass } =
           f.2 ∙ ap (λ (l : LogId). record { log = l; seq = s.end.seq; pass = s.end.pass }) sees.own.log in
@@ -156,7 +156,7 @@ module _ (base : Setting) (e : Estate AnyNode) (lines : HasLines base e) (texts 
             segment = f.0;
             among = f.1;
             named = sym named;
-            grouped = sym (laws.logs.ends_name_groups (setting base e role) net at s sees.owner f.0 f.1 named);
+            grouped = sym (laws.logs.ends (setting base e role) net at s sees.owner f.0 f.1 named);
           })
 
   -- an owner in this phase, which serves log l where it serves
@@ -272,7 +272,7 @@ module _ (base : Setting) (e : Estate AnyNode) (lines : HasLines base e) (texts 
     flies_by s sees at = by s.log.flight refl sees.log.own.flight held
       where
         held : IfSome s.log.flight (λ (f : FlightState). tables.In f.segment wm.net.flown)
-        held = subst (OwnerFlew wm.net.flown) sees.log.owner (laws.logs.what_is_held_flew gm wm.net ((lines (OfManager j) there).stands count).moment)
+        held = subst (OwnerFlew wm.net.flown) sees.log.owner (laws.logs.held gm wm.net ((lines (OfManager j) there).stands count).moment)
 
         same : s.writer.log ≡ gm.log
         same = sym at.writer.same_log ∙ sees.log.own.log

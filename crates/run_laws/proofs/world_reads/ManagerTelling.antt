@@ -228,7 +228,7 @@ module _ (base : Setting) (e : Estate AnyNode) (lines : HasLines base e) (texts 
     given : ManagerGiven part j i.net (manager.k base e lines texts part first count).managers (index.holder part i) node.phase what
     given = subst
         (λ name. TokensGive part (manager.k base e lines texts part first count).managers (index.holder part i) i.net name (any.Manager node) what) x.own
-        (manager.tokens_given base e lines texts part first count event x.coming laws.tokens.tokens_are_given (any.Manager node)
+        (manager.tokens_given base e lines texts part first count event x.coming laws.tokens.epochs.tokens_are_given (any.Manager node)
         (subst (λ name. node_in (moment e count).nodes (place_of (manager.k base e lines texts part first count) name) ≡ Some (any.Manager node)) (sym x.own)
         (manager.here base e lines texts part first count j there event node x)))
 

@@ -165,7 +165,7 @@ module _ (base : Setting) (e : Estate AnyNode) (lines : HasLines base e) (texts 
               idx = i.next;
               index_stands = same_moment (λ n s a. index.Stands c part texts.text first n s RegistrySound i.next) _ later.nodes _ later.sent _ later.acts
                   to_nodes to_sent to_acts i.stands;
-              slots = laws.tokens.slots_stay_same true c part texts.text now.nodes place what _ _ name node b.tok t.next b.idx.net i.next.net b.slots
+              slots = laws.tokens.epochs.slots_stay_same true c part texts.text now.nodes place what _ _ name node b.tok t.next b.idx.net i.next.net b.slots
                   (record { placed = at_c; stands = premise; tokens = t.stands; leaves = t.stay; index = i.makes });
               entered =
                   entered_stays true c part now.nodes _ now.sent _ now.acts _ b.tok t.next b.tokens_stand t.stands t.since
@@ -203,7 +203,7 @@ module _ (base : Setting) (e : Estate AnyNode) (lines : HasLines base e) (texts 
                 index_turns.turns laws.index.nodes c part of_eight texts.text first
                 now.nodes now.sent b.idx b.index_stands place clock what name known at_c node premise
                 (owed node took).index
-                (laws.tokens.tokens_are_given true c part texts.text first now.nodes now.sent now.acts b.tok b.idx name node what both there fact)
+                (laws.tokens.epochs.tokens_are_given true c part texts.text first now.nodes now.sent now.acts b.tok b.idx name node what both there fact)
 
             to_nodes : slice_set now.nodes place (any_step node what).node ≡ later.nodes
             to_nodes = sym (ap (λ (w : World AnyNode). w.nodes) is_later ∙ nodes)

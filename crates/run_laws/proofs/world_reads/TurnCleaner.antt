@@ -211,7 +211,7 @@ module _ (laws : Below) (base : Setting) (e : Estate AnyNode) (lines : HasLines 
       flies = served_last g _ w.net at.run v.log (subst (log_tie.CleanerAgrees g w) fact sees).log.owner
 
       by : (t : Bool) → phase_room x.phase ≡ t → AllSo (IsFlight v.log) outs
-      by true room = (laws.lines.cleaner_files_its_flights part texts.text g w b.idx.net x what v of_eight sure_before
+      by true room = (laws.filing.cleaner_files_its_flights part texts.text g w b.idx.net x what v of_eight sure_before
           (now.cleaner_owns base e lines texts part first count b).room
           (subst (λ (o : Option FlightState). IfSome o (λ f. SaysBlocks f.segment)) flies (says (last_flight at.run) kind)) sees fact indexed
           (cleaner_gets part texts.text b.idx.asked b.idx.net x.phase what indexed.phase asks (room_below x.phase room) known index_owed.gets)

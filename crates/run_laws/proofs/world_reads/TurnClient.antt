@@ -172,7 +172,7 @@ module _ (laws : Below) (base : Setting) (e : Estate AnyNode) (lines : HasLines 
   flights : IfSome (last_flight at.run) (λ f. IsOriginal f.segment) → (s : serving.Serving) → x.phase ≡ Serves s → AllSo (IsFlight s.log) outs
   flights kind s fact =
       let flies = served_last g _ w.net at.run s.log (subst (log_tie.ClientAgrees g c w) fact sees).1.owner in
-      (laws.lines.clients_file_their_flights part texts.text g c w b.idx.net x what s there.0 (now.below base e lines texts part first count b c there)
+      (laws.filing.clients_file_their_flights part texts.text g c w b.idx.net x what s there.0 (now.below base e lines texts part first count b c there)
       sure_before
       (now.client_sees base e lines texts part first count b c there).room
       (subst (λ (o : Option FlightState). IfSome o (λ f. SaysBlocks f.segment)) flies

@@ -134,7 +134,7 @@ module _ (below : Below) (base : Setting) (e : Estate AnyNode) (lines : HasLines
 
   low : owed.PollsAreLow base e lines texts part first count c there below event node x
   low packet m s fact bears inside serves late =
-      below.tokens.client_polls_are_low true cl part texts.text first (moment e count).nodes (moment e count).sent (moment e count).acts joint.tok joint.idx
+      below.tokens.epochs.client_polls_are_low true cl part texts.text first (moment e count).nodes (moment e count).sent (moment e count).acts joint.tok joint.idx
       c s m of_eight
       (record { tokens = joint.tokens_stand; index = joint.index_stands; same = joint.slots }) there.0
       (now.member base e lines texts part first count (both_of base e lines texts part first count joint) c there)
@@ -153,7 +153,7 @@ module _ (below : Below) (base : Setting) (e : Estate AnyNode) (lines : HasLines
     known = filed_known base e lines texts part first count joint;
     told = joint.entries.holds (any.Client node) (in_list (moment e count).nodes took.place (any.Client node) took.stands);
     came = (below.reads.runs_read_what_came e setup run count).nodes (Client c) (any.Client node) named;
-    its = below.reads.runs_read_their_fetches e count c node named;
+    its = below.reads.places.runs_read_their_fetches e count c node named;
     brought = λ p fact. (sent_before (moment e count) event may p fact, delivered_to event p fact ∙ own);
   }
 

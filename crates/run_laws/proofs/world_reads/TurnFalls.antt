@@ -141,7 +141,7 @@ module _ (base : Setting) (e : Estate AnyNode) (lines : HasLines base e) (texts 
         stays down was =
             subst (λ (xs : List Act). FellWith xs c (flew_at base e lines texts part first (OfClient c) there (suc count))) (sym acts)
             (subst (FellWith ((moment e count).acts ++ (any_step node (what_of event)).acts) c) (sym flight)
-            (laws.logs.falls_stay (moment e count).acts (any_step node (what_of event)).acts c (flew_at base e lines texts part first (OfClient c) there count)
+            (laws.reopenings.flights.falls_stay (moment e count).acts (any_step node (what_of event)).acts c (flew_at base e lines texts part first (OfClient c) there count)
             (others_quiet laws base e lines texts part first of_eight count event cluster may b c down away node took owed.adopted owed.tokens) was))
 
         by_other : (p : Phase) → (b.tok.client c).phase ≡ p → After p

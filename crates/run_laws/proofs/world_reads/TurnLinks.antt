@@ -69,7 +69,7 @@ module _ (laws : Below) (base : Setting) (e : Estate AnyNode) (lines : HasLines 
         plus a = omega arith
     same_horizon x (suc more) above within =
         ap n.horizon (plus x more)
-        ∙ (laws.tokens.horizons_stay part (held_in part texts.text) first n of_eight b.index_stands.runs (x + more) (omega arith) (nobody (suc (x + more))
+        ∙ (laws.tokens.epochs.horizons_stay part (held_in part texts.text) first n of_eight b.index_stands.runs (x + more) (omega arith) (nobody (suc (x + more))
         (omega arith))
         ∙ same_horizon x more above (omega arith))
       where

@@ -89,12 +89,12 @@ module _ (laws : Below) (base : Setting) (e : Estate AnyNode) (lines : HasLines 
   clients_write : (count : ℕ) (b : Both base e lines texts part first count) (c : ℕ) → 0 < c → c ≤ e.script.setup.clients
       → ClientWrites (b.tok.client c).phase
   clients_write count b c some limit =
-      clients_write_then e run cl count (clusters count) laws.lines.runs_write_originals c (b.tok.client c)
+      clients_write_then e run cl count (clusters count) laws.writing.runs_write_originals c (b.tok.client c)
       (now.client_here base e lines texts part first count b c (some, limit))
 
   cleaner_writes : (count : ℕ) (b : Both base e lines texts part first count) → LivesTell count → CleanerWrites b.tok.cleaner.phase
   cleaner_writes count b lives =
-      cleaner_writes_then e run cl count (clusters count) laws.lines.runs_write_copies lives b.tok.cleaner
+      cleaner_writes_then e run cl count (clusters count) laws.writing.runs_write_copies lives b.tok.cleaner
       (now.cleaner_here base e lines texts part first count b)
 
   pub joint_of : (count : ℕ) (b : Both base e lines texts part first count) → IsSureUpto base e lines texts part first count → LivesTell count
@@ -186,7 +186,7 @@ module _ (laws : Below) (base : Setting) (e : Estate AnyNode) (lines : HasLines 
           known.falls (clients_write (suc count) d) (cleaner_writes (suc count) d lives)
 
       moved : FlightMoves (suc count) d
-      moved = moved_then base e lines texts part first count joint.idx.net d.idx.net turned.grown.sent laws.logs.others_leave_flights event at d.tok.cleaner
+      moved = moved_then base e lines texts part first count joint.idx.net d.idx.net turned.grown.sent laws.reopenings.flights.others_leave_flights event at d.tok.cleaner
           (now.cleaner_here base e lines texts part first (suc count) d) (now.cleaner_indexed base e lines texts part first (suc count) d) joint.moved
 
       cleaner_at : node_of event ≡ Cleaner → (x : AnyNode) → Took (moment e count) event x → Some x ≡ Some (any.Cleaner b.tok.cleaner)

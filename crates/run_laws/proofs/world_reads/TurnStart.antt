@@ -86,11 +86,11 @@ module _ (laws : Below) (base : Setting) (e : Estate AnyNode) (lines : HasLines 
     tok = token_start.start_scene true laws.tokens.nodes.starts_asking laws.tokens.nodes.first_manager laws.tokens.nodes.cleaner_starts
         laws.tokens.nodes.begins e.script setup.clients.1 setup.managers.0 part of_eight;
     tokens_stand = tokens_start;
-    idx = index_start.start_scene laws.index.nodes.client_starts laws.index.nodes.manager_starts laws.index.nodes.cleaner_starts
+    idx = index_start.start_scene laws.index.nodes.client.starts laws.index.nodes.manager.starts laws.index.nodes.cleaner.starts
         laws.index.nodes.registry_starts laws.index.nodes.begins e.script setup.clients.1 part of_eight texts.text first;
-    index_stands = index_start.start_stands laws.index.nodes.client_starts laws.index.nodes.manager_starts laws.index.nodes.cleaner_starts
+    index_stands = index_start.start_stands laws.index.nodes.client.starts laws.index.nodes.manager.starts laws.index.nodes.cleaner.starts
         laws.index.nodes.registry_starts laws.index.nodes.begins e.script setup.clients.1 part of_eight texts.text first;
-    slots = laws.tokens.slots_start_same first;
+    slots = laws.tokens.epochs.slots_start_same first;
     entered = entered_starts true cl part (first_nodes any_start e.script cl) [] [] _ tokens_start _ refl first;
   }
     where

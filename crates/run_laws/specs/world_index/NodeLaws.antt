@@ -7,17 +7,12 @@ use Rattle.node_slots.specs.node_tie.RegistryEvents as maps
 use Rattle.node_slots.specs.owner_index_tie.CleanerEvents.{CleanerEventGoes, CleanerStartAgrees, CleanerStays}
 use Rattle.node_slots.specs.owner_index_tie.ClientEvents.{ClientEventGoes, ClientsStay, FirstClientAgrees}
 use Rattle.node_slots.specs.owner_index_tie.ServerEvents.{ServerEventGoes}
+use Rattle.run_laws.specs.Kinds.{OfKind}
 
 pub record NodeLaws : Type 0 where
-  pub client_starts : FirstClientAgrees
-  pub client : ClientEventGoes
-  pub clients_stay : ClientsStay
-  pub manager_starts : FirstManagerAgrees
-  pub manager : ManagerEventGoes
-  pub managers_stay : ManagersStay
-  pub cleaner_starts : CleanerStartAgrees
-  pub cleaner : CleanerEventGoes
-  pub cleaner_stays : CleanerStays
+  pub client : OfKind FirstClientAgrees ClientsStay ClientEventGoes
+  pub manager : OfKind FirstManagerAgrees ManagersStay ManagerEventGoes
+  pub cleaner : OfKind CleanerStartAgrees CleanerStays CleanerEventGoes
   pub server : ServerEventGoes
   pub registry_starts : RegistryStarts
   pub registry : RegistryEventGoes

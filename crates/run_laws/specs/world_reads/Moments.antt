@@ -9,11 +9,12 @@ use Rattle.log_tie.specs.Setting.{Setting}
 use Rattle.node_base.specs.Setups.{IsSetup}
 use Rattle.run_laws.specs.reopening_law.Reopens.{TellsApart}
 use Rattle.run_laws.specs.restart_law.Restarts.{NoDoubtfulRestart}
+use Rattle.run_laws.specs.segment_tie.Settings.{TellingSetting}
 use Rattle.segment_format.specs.declared.segment.Segment.{Segment}
 use Rattle.world_base.specs.declared.estate.Estate.{Estate}
 use Rattle.world_base.specs.Runs.{IsRun}
 use Rattle.run_laws.specs.world_law.Owners.{moment}
-use Rattle.run_laws.specs.world_logs.Lines.{HasLines, Texts}
+use Rattle.run_laws.specs.world_logs.Lines.{HasLines, LinesHaveTexts, RunsHaveLines, Texts}
 use Rattle.run_laws.specs.world_reads.Chains.{Comes}
 use Rattle.run_laws.specs.world_reads.Entries.{PartKnown, PartsNamed}
 use Rattle.run_laws.specs.world_reads.Joint.{Joint}
@@ -37,3 +38,11 @@ abbrev pub EveryMomentStands : Type 0
 EveryMomentStands =
     (base : Setting) → TellsApart base → (e : Estate AnyNode) → IsSetup e.script.setup → IsRun any_step any_start e.script e.events e.world
     → (lines : HasLines base e) (texts : Texts base e lines) (count : ℕ) → NoDoubtfulRestart e count → MomentStands base e lines texts count
+
+-- What every run stands on: a setting in which contents tell items apart, by which a run has a line of each of its logs, with one text of each name, and each
+-- of its moments stands.
+pub record EveryRunStands : Type 0 where
+  pub setting : TellingSetting
+  pub lines : RunsHaveLines
+  pub texts : LinesHaveTexts
+  pub moments : EveryMomentStands

@@ -5,20 +5,15 @@ use Rattle.run_losses.specs.fetched_law.Reads.{CallsReadWhatIsStored, CallsReadW
 use Rattle.run_losses.specs.fetching_law.Fetchings.{CallsReadBlocks}
 use Rattle.run_losses.proofs.missing_law.Servers.{StoredLaws}
 use Rattle.run_losses.specs.missing_law.Stored.{IsStoredAs}
-use Rattle.run_laws.specs.segment_tie.Settings.{TellingSetting}
 use Rattle.run_losses.specs.source_law.Sources.{WasFiled}
 use Rattle.run_laws.specs.world_law.Owners.{moment}
-use Rattle.run_laws.specs.world_logs.Lines.{LinesHaveTexts, RunsHaveLines}
 use Rattle.run_laws.specs.world_logs.Logs.{NotDeleted}
-use Rattle.run_laws.specs.world_reads.Moments.{EveryMomentStands, first_of}
+use Rattle.run_laws.specs.world_reads.Moments.{EveryRunStands, first_of}
 use Rattle.xfs_base.specs.declared.segment.SegRef.{SegRef}
 use Rattle.xfs_base.specs.Limits.{slot_count}
 
 pub record Below : Type 0 where
-  pub setting : TellingSetting
-  pub lines : RunsHaveLines
-  pub texts : LinesHaveTexts
-  pub moments : EveryMomentStands
+  pub runs : EveryRunStands
   pub blocks : CallsReadBlocks
   pub stored : StoredLaws
 
@@ -27,20 +22,20 @@ some_slot = omega arith
 
 pub calls_read_what_was_filed : Below → CallsReadWhatWasFiled
 calls_read_what_was_filed below e ok run count none c some limit item segment x =
-    let base = below.setting.0 in
-    let lines = below.lines base e ok run in
-    let texts = below.texts base e ok lines in
-    let stands = below.moments base below.setting.1 e ok run lines texts count none in
+    let base = below.runs.setting.0 in
+    let lines = below.runs.lines base e ok run in
+    let texts = below.runs.texts base e ok lines in
+    let stands = below.runs.moments base below.runs.setting.1 e ok run lines texts count none in
     let block = below.blocks e ok run c some limit count x.reading x.reads in
     subst (λ (ref : SegRef). WasFiled e count ref.name) x.of
     (was_filed base e run lines texts (first_of base e lines texts) count (stands.joints 0 some_slot) c x.reading x.reads block.0 block.1)
 
 pub calls_read_what_is_stored : Below → CallsReadWhatIsStored
 calls_read_what_is_stored below e ok run count none c some limit item segment x kept =
-    let base = below.setting.0 in
-    let lines = below.lines base e ok run in
-    let texts = below.texts base e ok lines in
-    let stands = below.moments base below.setting.1 e ok run lines texts count none in
+    let base = below.runs.setting.0 in
+    let lines = below.runs.lines base e ok run in
+    let texts = below.runs.texts base e ok lines in
+    let stands = below.runs.moments base below.runs.setting.1 e ok run lines texts count none in
     let block = below.blocks e ok run c some limit count x.reading x.reads in
     subst (λ (ref : SegRef). NotDeleted (moment e count) ref.name → IsStoredAs e count ref) x.of
     (is_stored base e run lines texts (first_of base e lines texts) count (stands.joints 0 some_slot) c x.reading x.reads block.0 block.1 below.stored) kept

@@ -29,7 +29,6 @@ use Rattle.stripe_cleaner.specs.Job.{same_name}
 use Rattle.token_client.specs.State.{TokensState, epoch_of}
 use Rattle.token_client.specs.Transition.{accepts}
 use Rattle.run_laws.specs.segment_tie.Segments.{TellsOnce}
-use Rattle.run_laws.specs.segment_tie.Settings.{TellingSetting}
 use Rattle.token_law.specs.Books.{row_in, said}
 use Rattle.token_law.specs.Laws.{ActiveEpochsPromised, GrantsAreOfTheNewest}
 use Rattle.token_law.specs.Net.Packet.{GrantSent}
@@ -50,9 +49,9 @@ use Rattle.run_laws.proofs.world_law.Sent.{was_sent}
 use Rattle.run_laws.specs.world_law.Standing.{Scene, SentBy, members}
 use Rattle.run_laws.specs.world_law.Owners.{moment, node_in, tokens_of}
 use Rattle.run_laws.specs.world_lines.Lines.{LinesGive}
-use Rattle.run_laws.specs.world_logs.Lines.{HasLines, LinesHaveTexts, RunsHaveLines, Texts}
+use Rattle.run_laws.specs.world_logs.Lines.{HasLines, Texts}
 use Rattle.run_laws.specs.world_reads.Joint.{Joint, k}
-use Rattle.run_laws.specs.world_reads.Moments.{EveryMomentStands, first_of}
+use Rattle.run_laws.specs.world_reads.Moments.{EveryRunStands, first_of}
 use Rattle.xfs_base.specs.Blocks.{slot_of}
 use Rattle.xfs_base.specs.declared.entry.Entry.{Entry}
 use Rattle.xfs_base.specs.declared.entry.Place.{Place}
@@ -77,7 +76,7 @@ pub record Below : Type 0 where
   pub promised : ActiveEpochsPromised
   pub newest : GrantsAreOfTheNewest
   pub outdated : ReigningIsOutdated
-  pub moments : EveryMomentStands
+  pub runs : EveryRunStands
   pub undoubted : UndoubtedRunsAreSure
   pub give : LinesGive
 
@@ -115,10 +114,10 @@ module _ (below : Below) (base : Setting) (apart : TellsApart base) (e : Estate 
     abbrev then : Joint base e lines texts part first after
     then =
         let undoubted : NoDoubtfulRestart e after = λ r n less. none r n (let high = limit in omega arith) in
-        (below.moments base apart e setup run lines texts after undoubted).joints part (slot_below m.block.ino.0)
+        (below.runs.moments base apart e setup run lines texts after undoubted).joints part (slot_below m.block.ino.0)
 
     abbrev now : Joint base e lines texts part first count
-    now = (below.moments base apart e setup run lines texts count none).joints part (slot_below m.block.ino.0)
+    now = (below.runs.moments base apart e setup run lines texts count none).joints part (slot_below m.block.ino.0)
 
     abbrev f : Filed
     f = then.idx.net.filed
@@ -246,8 +245,9 @@ module _ (below : Below) (base : Setting) (apart : TellsApart base) (e : Estate 
   stood_before count none c packet place a before low not_yet p d sent fact same =
       not_deleted count none c packet place a before (sent_in e packet before count low not_yet a.sent) p d (was_sent (moment e before).sent p sent) fact same
 
--- of any setting whose contents tell items apart, and any lines
-pub grants_lead_to_what_stands : Below → TellingSetting → RunsHaveLines → LinesHaveTexts → GrantsLeadToWhatStands
-grants_lead_to_what_stands below setting lines texts e setup run count none c packet place a =
-    let its : HasLines setting.0 e = lines setting.0 e setup run in
-    stood_before below setting.0 setting.1 e setup run its (texts setting.0 e setup its) count none c packet place a
+-- by the setting whose contents tell items apart, and the lines that each run has
+pub grants_lead_to_what_stands : Below → GrantsLeadToWhatStands
+grants_lead_to_what_stands below e setup run count none c packet place a =
+    let base = below.runs.setting.0 in
+    let lines : HasLines base e = below.runs.lines base e setup run in
+    stood_before below base below.runs.setting.1 e setup run lines (below.runs.texts base e setup lines) count none c packet place a

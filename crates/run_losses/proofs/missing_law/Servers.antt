@@ -12,6 +12,7 @@ use Rattle.group_map.specs.WellFormed.{IsServer}
 use Rattle.log_flight.specs.Flights.{no_member}
 use Rattle.log_law.specs.Held.{WhatFlewIsOfTheLog}
 use Rattle.log_law.specs.Laws.{Holds, IsLater, LogsStayWhole, LogsWhole, OneNameOneText, OneText}
+use Rattle.log_law.specs.LogLaws.{LogLaws}
 use Rattle.log_law.specs.Net.{Net}
 use Rattle.log_protocol.specs.Tables as tables
 use Rattle.log_tie.specs.Seen.{members_of}
@@ -61,6 +62,9 @@ pub record StoredLaws : Type 0 where
   pub whole : LogsStayWhole
   pub one : OneNameOneText
   pub own : WhatFlewIsOfTheLog
+
+pub stored_laws : LogLaws → StoredLaws
+stored_laws logs = record { whole = logs.whole; one = logs.one_text; own = logs.own }
 
 at_end : (events : List Event) (w end : World AnyNode) → Leads any_step w events end → fold (next_world any_step) w (take (length events) events) ≡ end
 at_end [] w end leads = leads

@@ -6,7 +6,6 @@ use Rattle.log_tie.specs.Setting.{Setting}
 use Rattle.node_base.specs.Setups.{IsSetup}
 use Rattle.run_laws.specs.reading_law.Readings.{RunsReadWhatCame}
 use Rattle.run_laws.specs.restart_law.Restarts.{NoDoubtfulRestart}
-use Rattle.run_laws.specs.segment_tie.Settings.{TellingSetting}
 use Rattle.run_losses.proofs.source_law.Lying.{Laws, reads_filed, reads_stored, slot_of_map}
 use Rattle.run_losses.specs.missing_law.Stored.{IsStoredAs}
 use Rattle.run_losses.specs.source_law.Sources.{TakeoversLoseWhatWasFiled, TakeoversReadWhatIsStored, TakeoversReadWhatWasFiled, WasFiled}
@@ -14,19 +13,16 @@ use Rattle.run_losses.specs.taking_law.Takings.{Reads, TakeoversLoseWhatIsTorn, 
 use Rattle.world_base.specs.declared.estate.Estate.{Estate}
 use Rattle.world_base.specs.Runs.{IsRun}
 use Rattle.run_laws.specs.world_law.Owners.{moment}
-use Rattle.run_laws.specs.world_logs.Lines.{HasLines, LinesHaveTexts, RunsHaveLines, Texts}
+use Rattle.run_laws.specs.world_logs.Lines.{HasLines, Texts}
 use Rattle.run_laws.specs.world_logs.Logs.{NotDeleted}
 use Rattle.run_laws.specs.world_logs.Roles.{IsThere}
 use Rattle.run_laws.specs.world_logs.Roles.Role.{OfManager}
-use Rattle.run_laws.specs.world_reads.Moments.{EveryMomentStands, MomentStands, first_of}
+use Rattle.run_laws.specs.world_reads.Moments.{EveryRunStands, MomentStands, first_of}
 use Rattle.xfs_base.specs.declared.segment.SegRef.{SegRef}
 use Rattle.xfs_base.specs.Limits.{slot_count}
 
 pub record Below : Type 0 where
-  pub setting : TellingSetting
-  pub lines : RunsHaveLines
-  pub texts : LinesHaveTexts
-  pub moments : EveryMomentStands
+  pub runs : EveryRunStands
   pub came : RunsReadWhatCame
   pub laws : Laws
 
@@ -34,16 +30,16 @@ module _ (below : Below) (e : Estate AnyNode) (ok : IsSetup e.script.setup) (run
     (none : NoDoubtfulRestart e count) (j : ℕ) (there : IsThere e.script.setup.clients e.script.setup.managers (OfManager j)) (slot epoch : ℕ) (ref : SegRef)
     (r : Reads (slot_at e j slot count) epoch ref) where
   abbrev base : Setting
-  base = below.setting.0
+  base = below.runs.setting.0
 
   abbrev lines : HasLines base e
-  lines = below.lines base e ok run
+  lines = below.runs.lines base e ok run
 
   abbrev texts : Texts base e lines
-  texts = below.texts base e ok lines
+  texts = below.runs.texts base e ok lines
 
   moment_stands : MomentStands base e lines texts count
-  moment_stands = below.moments base below.setting.1 e ok run lines texts count none
+  moment_stands = below.runs.moments base below.runs.setting.1 e ok run lines texts count none
 
   less : slot < slot_count
   less =

@@ -25,7 +25,6 @@ use Rattle.registry.specs.Board.{all_news}
 use Rattle.registry.specs.BoardState.{BoardState}
 use Rattle.run_laws.specs.restart_law.Restarts.{NoDoubtfulRestart}
 use Rattle.segment_format.specs.declared.segment.Segment.{Segment}
-use Rattle.run_laws.specs.segment_tie.Settings.{TellingSetting}
 use Rattle.takeover.specs.declared.source.Present.{Present}
 use Rattle.takeover.specs.declared.source.Source.{Source}
 use Rattle.run_losses.specs.source_law.Sources.{TakeoversReadWhatIsStored, TakeoversReadWhatWasFiled}
@@ -45,7 +44,7 @@ use Rattle.world_base.specs.Runs.{IsRun}
 use Rattle.run_laws.proofs.world_law.RegistryTurns.{slot_below}
 use Rattle.run_laws.proofs.world_law.Sent.{was_sent}
 use Rattle.run_laws.specs.world_law.Owners.{moment}
-use Rattle.run_laws.specs.world_logs.Lines.{HasLines, LinesHaveTexts, RunsHaveLines, Texts}
+use Rattle.run_laws.specs.world_logs.Lines.{HasLines, Texts}
 use Rattle.run_laws.specs.world_logs.Logs.{NotDeleted}
 use Rattle.run_laws.specs.world_logs.Roles.{IsThere, log_by}
 use Rattle.run_laws.specs.world_logs.Roles.Role.{OfManager}
@@ -55,7 +54,7 @@ use Rattle.run_laws.proofs.world_reads.TurnBoth.{both_of}
 use Rattle.run_laws.proofs.world_reads.TurnMoment.{registry_seen}
 use Rattle.run_laws.specs.world_reads.Entries.{PartKnown}
 use Rattle.run_laws.specs.world_reads.Joint.{Joint, k}
-use Rattle.run_laws.specs.world_reads.Moments.{EveryMomentStands, MomentStands, first_of}
+use Rattle.run_laws.specs.world_reads.Moments.{EveryRunStands, MomentStands, first_of}
 use Rattle.xfs_base.specs.Blocks.{slot_of}
 use Rattle.xfs_base.specs.declared.segment.LogId.{LogId}
 use Rattle.xfs_base.specs.declared.segment.SegName.{SegName}
@@ -72,10 +71,7 @@ pub record Below : Type 0 where
   pub promised : ActiveEpochsPromised
   pub managed : CheckpointsHaveManagers
   pub written : WhatFlewIsWritten
-  pub setting : TellingSetting
-  pub lines : RunsHaveLines
-  pub texts : LinesHaveTexts
-  pub moments : EveryMomentStands
+  pub runs : EveryRunStands
   pub told : ClientsAreToldWhatWasLost
   pub filed : TakeoversReadWhatWasFiled
   pub stored : TakeoversReadWhatIsStored
@@ -90,19 +86,19 @@ module _ (below : Below) (e : Estate AnyNode) (setup : IsSetup e.script.setup) (
     (none : NoDoubtfulRestart e count) (c : ℕ) (s : Serving) (serves : serving_at e c count ≡ Some s) (what : Do) (name : SegName)
     (told : ToldLost e c s count what name) where
   abbrev base : Setting
-  base = below.setting.0
+  base = below.runs.setting.0
 
   lines : HasLines base e
-  lines = below.lines base e setup run
+  lines = below.runs.lines base e setup run
 
   texts : Texts base e lines
-  texts = below.texts base e setup lines
+  texts = below.runs.texts base e setup lines
 
   abbrev first : ℕ → ℕ → Segment
   first l q = first_of base e lines texts l q
 
   stands : (when : ℕ) → NoDoubtfulRestart e when → MomentStands base e lines texts when
-  stands when undoubted = below.moments base below.setting.1 e setup run lines texts when undoubted
+  stands when undoubted = below.runs.moments base below.runs.setting.1 e setup run lines texts when undoubted
 
   -- ---- the manager said so
 

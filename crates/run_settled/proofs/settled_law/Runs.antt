@@ -2,8 +2,7 @@
 use Rattle.std.proofs.Common.{ℕ, ◌<◌}
 use Rattle.core_world.specs.AnyNode.{any_start, any_step}
 use Rattle.core_world.specs.declared.any_node.AnyNode.{AnyNode}
-use Rattle.log_law.specs.Held.{WhatFlewIsOfTheLog}
-use Rattle.log_law.specs.Laws.{LogsStayWhole, OneNameOneText}
+use Rattle.log_law.specs.LogLaws.{LogLaws}
 use Rattle.log_tie.specs.Setting.{Setting}
 use Rattle.node_base.specs.Setups.{IsSetup}
 use Rattle.node_slots.specs.owner_index_tie.ServerEvents.{ServerEventGoes}
@@ -13,11 +12,10 @@ use Rattle.run_laws.proofs.world_reads.OwnTable.{is_own_table}
 use Rattle.run_laws.specs.reopening_law.Reopens.{TellsApart}
 use Rattle.run_laws.specs.restart_law.Restarts.{NoDoubtfulRestart}
 use Rattle.run_laws.specs.restart_law.Sure.{UndoubtedRunsAreSure}
-use Rattle.run_laws.specs.segment_tie.Settings.{TellingSetting}
 use Rattle.run_laws.specs.world_lines.Lines.{LinesGive}
-use Rattle.run_laws.specs.world_logs.Lines.{HasLines, LinesHaveTexts, RunsHaveLines, Texts}
+use Rattle.run_laws.specs.world_logs.Lines.{HasLines, Texts}
 use Rattle.run_laws.specs.world_reads.Joint.{IsSureUpto, Joint}
-use Rattle.run_laws.specs.world_reads.Moments.{EveryMomentStands, first_of}
+use Rattle.run_laws.specs.world_reads.Moments.{EveryRunStands, first_of}
 use Rattle.run_settled.proofs.settled_law.Tables.{clean, dirty}
 use Rattle.run_settled.specs.settled_law.Settled.{EveryRunsBlocksAreSettled, IsSettledAt}
 use Rattle.token_law.specs.Laws as small
@@ -29,15 +27,10 @@ use Rattle.xfs_base.specs.Limits.{slot_count}
 pub record Below : Type 0 where
   pub tokens : tokens.NodeLaws
   pub servers : ServerEventGoes
-  pub whole : LogsStayWhole
-  pub one : OneNameOneText
-  pub of_log : WhatFlewIsOfTheLog
+  pub logs : LogLaws
   pub give : LinesGive
   pub sure : UndoubtedRunsAreSure
-  pub setting : TellingSetting
-  pub lines : RunsHaveLines
-  pub texts : LinesHaveTexts
-  pub moments : EveryMomentStands
+  pub runs : EveryRunStands
   pub leads : small.DirtyBlocksLead
 
 module _ (below : Below) where
@@ -50,10 +43,10 @@ module _ (below : Below) where
     settled : (part : ℕ) → part < slot_count → IsSettledAt e texts.text count part
     settled part of_eight =
         let joint : Joint base e lines texts part (first_of base e lines texts) count =
-        (below.moments base apart e setup run lines texts count none).joints part of_eight in
+        (below.runs.moments base apart e setup run lines texts count none).joints part of_eight in
         record {
           filed = joint.idx.net.filed;
-          own = is_own_table below.give below.whole below.one below.of_log below.tokens below.servers base e setup run lines texts part
+          own = is_own_table below.give below.logs.whole below.logs.one_text below.logs.own below.tokens below.servers base e setup run lines texts part
               (first_of base e lines texts) count (sure part) joint;
           named = joint.index_stands.texts_of;
           clean = clean below.tokens base e lines texts part of_eight (first_of base e lines texts) count joint;
@@ -64,7 +57,7 @@ module _ (below : Below) where
   -- for the lines that each run has, and their texts
   pub every_runs_blocks_are_settled : EveryRunsBlocksAreSettled
   every_runs_blocks_are_settled e setup run =
-      let base = below.setting.0 in
-      let lines = below.lines base e setup run in
-      let texts = below.texts base e setup lines in
-      record { text = texts.text; each = λ count none part of_eight. settled base below.setting.1 e setup run lines texts count none part of_eight }
+      let base = below.runs.setting.0 in
+      let lines = below.runs.lines base e setup run in
+      let texts = below.runs.texts base e setup lines in
+      record { text = texts.text; each = λ count none part of_eight. settled base below.runs.setting.1 e setup run lines texts count none part of_eight }

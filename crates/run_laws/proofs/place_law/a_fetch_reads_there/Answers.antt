@@ -8,5 +8,5 @@ returns c = record {
   start = clients_start_so;
   its = clients_keep_so;
   runs = runs_read_their_fetches;
-  there = fetches_read_there c.one_name_one_text.ensures.one_text c.a_place_names_one_content.ensures.content c.clients_read_what_came.ensures.reads;
+  there = fetches_read_there c.laws_of_logs.ensures.one_text c.laws_of_logs.ensures.content c.clients_read_what_came.ensures.reads;
 }

@@ -7,8 +7,8 @@ returns c = record {
   acts = owners.acts_are_done;
   clients_short = owners.clients_file_short;
   cleaner_short = owners.cleaner_files_short;
-  in_boot = owners.in_boot_files_still c.openings_go_on.ensures.unfiled;
-  straight = straight.straight_files_still c.openings_go_on.ensures.unfiled;
-  clients = owners.clients_lines_go_on c.logs_stay_whole.ensures.whole c.ends_are_last.ensures.last;
-  cleaner = owners.cleaners_line_goes_on c.logs_stay_whole.ensures.whole c.ends_are_last.ensures.last;
+  in_boot = owners.in_boot_files_still c.laws_of_logs.ensures.unfiled;
+  straight = straight.straight_files_still c.laws_of_logs.ensures.unfiled;
+  clients = owners.clients_lines_go_on c.laws_of_logs.ensures.whole c.laws_of_logs.ensures.last;
+  cleaner = owners.cleaners_line_goes_on c.laws_of_logs.ensures.whole c.laws_of_logs.ensures.last;
 }

@@ -7,10 +7,14 @@ pub returns : goal.returns
 returns c =
     let below : Below = record {
       tokens = c.tokens_below.ensures;
-      index = c.index_below.ensures;
+      index = c.index_laws.ensures;
       reads = c.reads_below.ensures;
-      logs = c.logs_below.ensures;
-      lines = c.lines_below.ensures;
+      logs = c.laws_of_logs.ensures;
+      reopenings = c.reopening_laws.ensures;
+      runs = c.run_lines.ensures;
+      lines = c.line_laws.ensures.lines;
+      filing = c.line_laws.ensures.filing;
+      writing = c.writing_laws.ensures;
     } in
     let legal : EveryRunsActsAreLegal = every_runs_acts_are_legal below in
     record {

@@ -10,8 +10,8 @@ returns c = record {
     promised = c.tokens_keep_their_word.ensures.promised;
     newest = c.grants_tell_the_newest.ensures.newest;
     outdated = c.cleaning_loses_nothing.ensures.outdated;
-    moments = c.every_runs_acts_are_legal.ensures.moments;
+    runs = c.every_run_stands.ensures;
     undoubted = c.undoubted_runs_are_sure.ensures.sure;
     give = c.lines_are_filed.ensures.give;
-  }) c.items_say_all.ensures.setting c.runs_keep_logs.ensures.lines c.runs_keep_logs.ensures.texts;
+  });
 }

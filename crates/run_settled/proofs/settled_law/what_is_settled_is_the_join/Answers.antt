@@ -6,15 +6,10 @@ returns c = record {
   settled = every_runs_blocks_are_settled (record {
     tokens = c.nodes_are_seen.ensures;
     servers = c.server_index_events_are_seen.ensures;
-    whole = c.logs_stay_whole.ensures.whole;
-    one = c.one_name_one_text.ensures.one_text;
-    of_log = c.what_is_held_flew.ensures.own;
+    logs = c.laws_of_logs.ensures;
     give = c.lines_are_filed.ensures.give;
     sure = c.undoubted_runs_are_sure.ensures.sure;
-    setting = c.items_say_all.ensures.setting;
-    lines = c.runs_keep_logs.ensures.lines;
-    texts = c.runs_keep_logs.ensures.texts;
-    moments = c.every_runs_acts_are_legal.ensures.moments;
+    runs = c.every_run_stands.ensures;
     leads = c.dirty_blocks_lead.ensures.lead;
   });
 }

@@ -1,4 +1,4 @@
-use Rattle.run_laws.proofs.world_reads.index_below.Goals as goal
+use Rattle.run_laws.proofs.index_reads.index_laws.Goals as goal
 
 pub returns : goal.returns
 returns c = record {
