@@ -68,7 +68,7 @@ pub record IsSafe (e : Estate AnyNode) : Type 0 where
   pub managers_logs_stand : ManagersLogsStand e
   -- and each filed segment is read back while no more members hold nothing of it than the parity makes good
   pub read_back : FiledIsReadBack e
-  -- and where the cleaner comes back, one segment of its new incarnation was filed
+  -- and where the cleaner comes back, no two segments of its new incarnation were filed
   pub restarts_file_one : TheCleanerFilesOne e
   -- and the least horizon that the registry keeps of a client's log, or of the cleaner's, is 1 at most, or at most one beyond a segment that its owner filed
   pub horizons_filed : HorizonsReached e

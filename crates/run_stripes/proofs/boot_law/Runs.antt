@@ -1,4 +1,4 @@
--- In every run, where the cleaner comes back, just one segment of its new incarnation has been filed: in the small world of its log it comes to serve by one thing
+-- In every run, where the cleaner comes back, no two segments of its new incarnation have been filed: in the small world of its log it comes to serve by one thing
 -- that happens, by which that is so.
 use Rattle.std.proofs.Common.{◌≡◌, ℕ, suc, Bool, true, false, Option, Some, None, slice_get, refl, sym, ap, subst, ◌∙◌}
 use Rattle.cleaner_node.specs.CleanerEvents.{is_serving, lasting_of}

@@ -1,4 +1,4 @@
--- In every run, where the cleaner comes back, just one segment of its new incarnation has been filed: the one by which its log was opened.
+-- In every run, where the cleaner comes back, no two segments of its new incarnation have been filed: there is at most the one by which its log was opened.
 use Rattle.std.specs.Prelude.{◌≡◌, ℕ, suc, true, false, Some}
 use Rattle.cleaner_node.specs.CleanerEvents.{is_serving, lasting_of}
 use Rattle.cleaner_node.specs.declared.cleaner.Cleaner.{Cleaner as Sweeper}
