@@ -1,6 +1,6 @@
 -- From what the parts of a call tell to the claim of the whole.
-use Rattle.std.proofs.Common.{◌≡◌, ◌≤◌, ℕ, true, false, List, [], Option, Some, None, refl, sym, ap, ◌∙◌, inl, inr, subst, arith}
-use Rattle.std.specs.Prelude.{IfSome, IsTrue}
+use Rattle.std.proofs.Common.{◌≡◌, ◌≤◌, ℕ, Bool, true, false, List, [], Option, Some, None, refl, sym, ap, ◌∙◌, inl, inr, subst, arith}
+use Rattle.std.specs.Prelude.{IfSome}
 use Rattle.std.specs.Io.KnownBytes.{Consumes, Keeps}
 use Rattle.board_law.specs.OneRun.{HasRegistry}
 use Rattle.board_play.specs.declared.estate.BoardEstate.{BoardEstate}
@@ -19,8 +19,9 @@ use Rattle.mounts.specs.Mounted.{IsMounted}
 use Rattle.play.specs.Plays.{actors_of, estate_of}
 use Rattle.node_base.specs.Setups.{IsSetup}
 use Rattle.script_print.specs.Printing.{IsScript}
+use Rattle.script_text.specs.declared.refusal.Kind.{Kind}
 use Rattle.script_text.specs.declared.script.Script.{Script}
-use Rattle.script_text.specs.Script.{IsScriptOf}
+use Rattle.script_text.specs.Script.{IsFirstBad, IsScriptOf}
 use Rattle.transcript.specs.Replies.{open_items}
 use Rattle.transcript.specs.Text.{text_of}
 use Rattle.version_model.specs.declared.work.Work.{Work}
@@ -30,17 +31,19 @@ use Rattle.world_base.specs.declared.estate.Estate.{Estate}
 use Rattle.world_base.specs.Runs.{BeginsAll, IsRun, begun_in}
 use Rattle.xfs_base.specs.declared.node.NodeId.{NodeId}
 use Rattle.xfs_base.specs.declared.setup.Setup.{Setup}
-use Rattle.xfs_base.specs.Causes.{Rose}
 use Rattle.top_call.specs.declared.command.Command.{Command}
-use Rattle.top_call.specs.declared.command.Command.TheVariants.{Run, Live, Mount, Gen, Big, Audit, Boards, Disks}
+use Rattle.top_call.specs.declared.command.Command.TheVariants.{Disks}
 use Rattle.top_call.specs.declared.outcome.Outcome.{Outcome}
-use Rattle.top_call.specs.Commands.{plays_plainly, reads}
-use Rattle.top_call.specs.Claim.{Wanted, Writing, Reading, reading, writing, line, run_answer, IsRead, IsInput, Tells, GivesUp, TellsOrGivesUp, CannotRead, Wants, AnswersOrGivesUp, Ends, IsPlayed, IsPlayedWithBoards, IsPlayedWithDisks, IsRunBy, TellsDisks, TellsLive, ReadsAtMost, boards_in, boards_of, Claim}
+use Rattle.top_call.specs.declared.unread.Unread.{Unread}
+use Rattle.top_call.specs.declared.unread.Unread.TheVariants.{Failed, Memory, Bad}
+use Rattle.top_call.specs.Commands.{reads}
+use Rattle.top_call.specs.Claim.{AnswersLive, Wanted, Writing, Reading, reading, writing, line, refusal, run_answer, IsRead, IsInput, Tells, GivesUp, TellsOrGivesUp, Wants, AnswersOrGivesUp, Ends, IsPlayed, IsPlayedWithBoards, IsPlayedWithDisks, IsRunBy, TellsDisks, TellsLive, ReadsAtMost, boards_in, boards_of, Claim}
 use Rattle.top_call.specs.Disks.{DisksGive, DisksIn, LeavesDisks}
 use Rattle.top_call.specs.Input.{limit}
 use Rattle.top_call.specs.Mounts.{LeavesMounts, MountsIn}
 use Rattle.top_call.specs.Spoken.{usage_text}
 use Rattle.top_call.specs.Told.{boards_where, disks_where, lists_where}
+use Rattle.top_call.specs.Unread.{IsScriptRead, IsWhy, TellsWhy}
 
 -- known bytes stay as they are where nothing is written
 keeps_same : (o : Option (List ℕ)) → Keeps o o
@@ -58,9 +61,9 @@ pub gives_up : {N K : Type 0} (written : K → Option (List ℕ)) (faults : K �
 gives_up written faults sink o e = (ap (λ x. x.status) e, ap (λ x. x.estate) e, keeps_same (written sink))
 
 -- or since a read failed
-cannot_read : {N K : Type 0} (r : Reading) (written : K → Option (List ℕ)) (faults : K → ℕ) (sink : K) (o : Outcome N) → Rose r.faults r.faults_after
-    → o ≡ record { status = 4; estate = None; boards = None; disks = None; calls = None; replies = None } → CannotRead r (writing written faults sink sink) o
-cannot_read r written faults sink o rose e = (ap (λ x. x.status) e, ap (λ x. x.estate) e, keeps_same (written sink), rose)
+pub cannot_read : {N K : Type 0} (written : K → Option (List ℕ)) (faults : K → ℕ) (sink : K) (o : Outcome N)
+    → o ≡ record { status = 4; estate = None; boards = None; disks = None; calls = None; replies = None } → TellsWhy (writing written faults sink sink) o Failed
+cannot_read written faults sink o e = (ap (λ x. x.status) e, ap (λ x. x.estate) e, keeps_same (written sink))
 
 -- a text that equals the wanted one is told
 pub line_told : {N : Type 0} (s : Writing) (o : Outcome N) (text wanted : List ℕ) (status : ℕ) → text ≡ wanted → Tells s o (line text status)
@@ -70,6 +73,11 @@ line_told s o text wanted status e h = subst (λ x. Tells s o (line x status)) e
 pub run_told : {N : Type 0} (s : Writing) (o : Outcome N) (text wanted : List ℕ) (e : Estate N) → text ≡ wanted → Tells s o (run_answer text e)
     → Tells s o (run_answer wanted e)
 run_told s o text wanted e k h = subst (λ x. Tells s o (run_answer x e)) k h
+
+-- what follows of each run holds of the one that is left, if one is
+pub each_left : {X : Type 0} (P Q : X → Type 0) → ((x : X) → P x → Q x) → (o : Option X) → IfSome o P → IfSome o Q
+each_left P Q follows None h = tt
+each_left P Q follows (Some x) h = follows x h
 
 -- an image stands for one state at most, so the disks give what they stand for
 pub disks_give : ((s t : DiskState) (image : List ℕ) → StandsFor s image → StandsFor t image → s ≡ t) → {N : Type 0} (shelf_of : N → Option ShelfState)
@@ -112,27 +120,7 @@ module _ {N : Type 0} (step : N → Do → NodeStep N) (first : NodeId → Setup
   pub none_played : (o : Option (Estate N)) → o ≡ None → IfSome o (λ x. IsPlayed step first x)
   none_played o k = subst (λ y. IfSome y (λ x. IsPlayed step first x)) (sym k) tt
 
-  -- by whichever words but `boards`, `disks` and those that start threads
-  pub by_one : (command : Option Command) → plays_plainly command ≡ true → (o : Option (Estate N)) → IfSome o (λ x. IsPlayed step first x)
-      → IfSome o (IsRunBy step first command)
-  by_one command plainly None h = tt
-  by_one None plainly (Some e) h = h
-  by_one (Some Run) plainly (Some e) h = h
-  by_one (Some (Live workers)) plainly (Some e) h = absurd (cc)
-  by_one (Some (Mount workers)) plainly (Some e) h = absurd (cc)
-  by_one (Some (Gen drawn)) plainly (Some e) h = h
-  by_one (Some (Big drawn)) plainly (Some e) h = h
-  by_one (Some Audit) plainly (Some e) h = h
-  by_one (Some Boards) plainly (Some e) h = absurd (cc)
-  by_one (Some Disks) plainly (Some e) h = absurd (cc)
-
   -- with boards
-  pub none_boarded : (o : Option (Estate N)) → o ≡ None → IfSome o (λ x. IsPlayedWithBoards step first x)
-  none_boarded o k = subst (λ y. IfSome y (λ x. IsPlayedWithBoards step first x)) (sym k) tt
-
-  pub none_told : (o : Option (Estate N)) (boards : Option (List BoardEvent)) → o ≡ None → boards ≡ None → boards ≡ boards_in step first o
-  none_told o boards k h = h ∙ ap (λ y. boards_in step first y) (sym k)
-
   pub some_boarded : (script : Script) (e : BoardEstate N) (o : Option (Estate N)) → IfSome o (λ x. x ≡ e.estate) → e ≡ board_estate_of step first script
       → (HasRegistry step first → IsBoardPlayed step first e) → IfSome o (λ x. IsPlayedWithBoards step first x)
   some_boarded script e None k is h = tt
@@ -147,10 +135,6 @@ module _ {N : Type 0} (step : N → Do → NodeStep N) (first : NodeId → Setup
   some_told script e (Some x) boards k is h =
       let same : x ≡ (board_estate_of step first script).estate = k ∙ ap (λ (b : BoardEstate N). b.estate) is in
       h ∙ ap (λ (b : BoardEstate N). Some b.events) is ∙ ap (λ (y : Estate N). Some (board_estate_of step first y.script).events) (sym same)
-
-  pub by_boards : (o : Option (Estate N)) → IfSome o (λ x. IsPlayedWithBoards step first x) → IfSome o (IsRunBy step first (Some Boards))
-  by_boards None h = tt
-  by_boards (Some e) h = h
 
   -- with servers that stop, the run that a script determines was played
   pub is_played_with_disks : (script : Script) (e : Estate N) → IsScript script → IsSetup script.setup → e.script ≡ script
@@ -172,13 +156,6 @@ module _ {N : Type 0} (step : N → Do → NodeStep N) (first : NodeId → Setup
       → IfSome o (λ x. IsPlayedWithDisks step first x)
   some_stopped None e k h = tt
   some_stopped (Some x) e k h = subst (λ y. IsPlayedWithDisks step first y) (sym k) h
-
-  pub none_stopped : (o : Option (Estate N)) → o ≡ None → IfSome o (λ x. IsPlayedWithDisks step first x)
-  none_stopped o k = subst (λ y. IfSome y (λ x. IsPlayedWithDisks step first x)) (sym k) tt
-
-  pub by_disks : (o : Option (Estate N)) → IfSome o (λ x. IsPlayedWithDisks step first x) → IfSome o (IsRunBy step first (Some Disks))
-  by_disks None h = tt
-  by_disks (Some e) h = h
 
   -- and its disks are handed out
   module _ (shelf_of : N → Option ShelfState) where
@@ -208,13 +185,6 @@ module _ {N : Type 0} (step : N → Do → NodeStep N) (first : NodeId → Setup
   some_lived None e k h = tt
   some_lived (Some x) e k h = subst (λ y. IsLive step first y) (sym k) h
 
-  pub none_lived : (o : Option (Estate N)) → o ≡ None → IfSome o (λ x. IsLive step first x)
-  none_lived o k = subst (λ y. IfSome y (λ x. IsLive step first x)) (sym k) tt
-
-  pub by_workers : (workers : ℕ) (o : Option (Estate N)) → IfSome o (λ x. IsLive step first x) → IfSome o (IsRunBy step first (Some (Live workers)))
-  by_workers workers None h = tt
-  by_workers workers (Some e) h = h
-
   -- the text of such a run is told
   pub live_told : (script : Script) (s : Writing) (o : Outcome N) (e : Estate N) → e.script ≡ script → IsLive step first e → open_items e ≡ 0
       → TellsOrGivesUp s o (run_answer (text_of e) e) → TellsLive step first script s o
@@ -222,21 +192,7 @@ module _ {N : Type 0} (step : N → Do → NodeStep N) (first : NodeId → Setup
       inl (run_answer (text_of e) e, record { run = e; of_script = is; live = live; none_open = none; answer = refl }, t)
   live_told script s o e is live none (inr g) = inr g
 
-  pub live_answers : (workers : ℕ) (input : List ℕ) (script : Script) (s : Writing) (o : Outcome N) → IsScriptOf true input script → TellsLive step first script s o
-      → AnswersOrGivesUp step first (Some (Live workers)) input s o
-  live_answers workers input script s o of (inl (w, a, t)) = inl (record { wanted = w; wants = inl (script, of, a); told = t })
-  live_answers workers input script s o of (inr g) = inr g
-
   -- with an application for each client
-  pub by_applications : (workers : ℕ) (o : Option (Estate N)) → IfSome o (λ x. IsLive step first x) → IfSome o (IsRunBy step first (Some (Mount workers)))
-  by_applications workers None h = tt
-  by_applications workers (Some e) h = h
-
-  pub mount_answers : (workers : ℕ) (input : List ℕ) (script : Script) (s : Writing) (o : Outcome N) → IsScriptOf true input script → TellsLive step first script s o
-      → AnswersOrGivesUp step first (Some (Mount workers)) input s o
-  mount_answers workers input script s o of (inl (w, a, t)) = inl (record { wanted = w; wants = inl (script, of, a); told = t })
-  mount_answers workers input script s o of (inr g) = inr g
-
   pub some_mounted : (o : Option (Estate N)) (e : Estate N) (calls : List (List ℕ)) (replies : List (List Reply)) (called : Option (List (List ℕ))) (replied : Option (List (List Reply)))
       → IfSome o (λ x. x ≡ e) → called ≡ lists_where o calls → replied ≡ lists_where o replies → IsMounted step first e calls replies → MountsIn step first o called replied
   some_mounted None e calls replies called replied k are is m = (are, is)
@@ -257,13 +213,6 @@ module _ {N : Type 0} (step : N → Do → NodeStep N) (first : NodeId → Setup
       → AnswersOrGivesUp step first command input s o → Ends step first command r s o
   ends_of command r s o input i (inl a) = inl (input, i, a)
   ends_of command r s o input i (inr g) = inr (inl g)
-
-  -- where a read failed, that is how the call ends
-  pub ends_unread : {K : Type 0} (command : Option Command) (r : Reading) (written : K → Option (List ℕ)) (faults : K → ℕ) (sink : K) (o : Outcome N)
-      → IsTrue (reads command) → Rose r.faults r.faults_after
-      → o ≡ record { status = 4; estate = None; boards = None; disks = None; calls = None; replies = None }
-      → Ends step first command r (writing written faults sink sink) o
-  ends_unread command r written faults sink o is rose e = inr (inr (is, cannot_read r written faults sink o rose e))
 
   -- the claim of a command that ends so
   pub claims_ended : (command : Command) (r : Reading) (s : Writing) (o : Outcome N) → Ends step first (Some command) r s o
@@ -289,26 +238,54 @@ module _ {N : Type 0} (step : N → Do → NodeStep N) (first : NodeId → Setup
       → Claim step first (Some command) r s o
   claims_read command r s o input i told = claims_ended command r s o (ends_of (Some command) r s o input i told)
 
-  -- of one that leaves no run, and writes nothing
-  module _ {K : Type 0} (command : Command) (no_boards : boards_of step first (Some command) None ≡ None) (r : Reading) (bounded : ReadsAtMost r limit)
-      (later : r.faults ≤ r.faults_after) (written : K → Option (List ℕ)) (faults : K → ℕ) (sink : K) (o : Outcome N) where
-    claims_unmade : (status : ℕ) → o ≡ record { status = status; estate = None; boards = None; disks = None; calls = None; replies = None }
-        → Ends step first (Some command) r (writing written faults sink sink) o → Claim step first (Some command) r (writing written faults sink sink) o
-    claims_unmade status e ends =
-        let none = ap (λ x. x.estate) e in
-        claims_ended command r (writing written faults sink sink) o ends (subst (λ y. IfSome y (IsRunBy step first (Some command))) (sym none) tt)
-        (ap (λ x. x.boards) e ∙ sym no_boards ∙ ap (boards_of step first (Some command)) (sym none)) bounded later (omega arith)
+  -- of one that leaves no run
+  pub claims_without_run : (command : Command) → boards_of step first (Some command) None ≡ None → (r : Reading) (s : Writing) (o : Outcome N)
+      → Ends step first (Some command) r s o → o.estate ≡ None → o.boards ≡ None
+      → ReadsAtMost r limit → r.faults ≤ r.faults_after → s.faults ≤ s.faults_after
+      → Claim step first (Some command) r s o
+  claims_without_run command no_boards r s o ends none boards =
+      claims_ended command r s o ends (subst (λ y. IfSome y (IsRunBy step first (Some command))) (sym none) tt)
+      (boards ∙ sym no_boards ∙ ap (boards_of step first (Some command)) (sym none))
 
-    -- since a read failed
-    pub claims_unread_input : IsTrue (reads (Some command)) → Rose r.faults r.faults_after
-        → o ≡ record { status = 4; estate = None; boards = None; disks = None; calls = None; replies = None }
-        → Claim step first (Some command) r (writing written faults sink sink) o
-    claims_unread_input is rose e = claims_unmade 4 e (ends_unread (Some command) r written faults sink o is rose e)
+  -- of one that plays no script of its input
+  module _ (command : Command) (live : Bool) (is : reads (Some command) ≡ true)
+      (wants : (input : List ℕ) (number : ℕ) (kind : Kind) → IsFirstBad live input number kind → Wants step first (Some command) input (refusal number kind))
+      (r : Reading) (s : Writing) (o : Outcome N) where
+    ends_unread : (why : Unread) → IsWhy live r why → TellsWhy s o why → Ends step first (Some command) r s o
+    ends_unread Failed rose t = inr (inr (is, (t.0, t.1, t.2, rose)))
+    ends_unread Memory h t = inr (inl t)
+    ends_unread (Bad number kind) (input, read, bad) t =
+        ends_of (Some command) r s o input (subst (λ b. IsRead b r input) (sym is) read)
+        (answers (Some command) input s o (refusal number kind) (wants input number kind bad) t)
 
-    -- or in want of memory
-    pub claims_given_up : o ≡ record { status = 7; estate = None; boards = None; disks = None; calls = None; replies = None }
-        → Claim step first (Some command) r (writing written faults sink sink) o
-    claims_given_up e = claims_unmade 7 e (inr (inl (gives_up written faults sink o e)))
+    pub claims_unread_input : boards_of step first (Some command) None ≡ None → (why : Unread) → IsWhy live r why → TellsWhy s o why
+        → o.estate ≡ None → o.boards ≡ None → ReadsAtMost r limit → r.faults ≤ r.faults_after → s.faults ≤ s.faults_after
+        → Claim step first (Some command) r s o
+    claims_unread_input no_boards why h t = claims_without_run command no_boards r s o (ends_unread why h t)
+
+  -- of one that asks for a run by workers
+  module _ (command : Command) (is : reads (Some command) ≡ true) (no_boards : boards_of step first (Some command) None ≡ None)
+      (asks : (input : List ℕ) (w : Wanted N) → AnswersLive step first input w → Wants step first (Some command) input w)
+      (runs : (e : Estate N) → IsLive step first e → IsRunBy step first (Some command) e) (r : Reading) (s : Writing) (o : Outcome N) where
+    live_answers : (input : List ℕ) (script : Script) → IsScriptOf true input script → TellsLive step first script s o
+        → AnswersOrGivesUp step first (Some command) input s o
+    live_answers input script of (inl (w, a, t)) = inl (record { wanted = w; wants = asks input w (inl (script, of, a)); told = t })
+    live_answers input script of (inr g) = inr g
+
+    -- its input spells a script
+    pub claims_lived : (script : Script) → IsScriptRead true r script → TellsLive step first script s o → IfSome o.estate (λ x. IsLive step first x)
+        → o.boards ≡ boards_of step first (Some command) o.estate → ReadsAtMost r limit → r.faults ≤ r.faults_after → s.faults ≤ s.faults_after
+        → Claim step first (Some command) r s o
+    claims_lived script (input, read, of) told lived =
+        claims_read command r s o input (subst (λ b. IsRead b r input) (sym is) read) (live_answers input script of told)
+        (each_left (λ x. IsLive step first x) (IsRunBy step first (Some command)) runs o.estate lived)
+
+    -- or none
+    pub claims_not_lived : (why : Unread) → IsWhy true r why → TellsWhy s o why
+        → o.estate ≡ None → o.boards ≡ None → ReadsAtMost r limit → r.faults ≤ r.faults_after → s.faults ≤ s.faults_after
+        → Claim step first (Some command) r s o
+    claims_not_lived =
+        claims_unread_input command true is (λ input number kind bad. asks input (refusal number kind) (inr (number, kind, bad, refl))) r s o no_boards
 
   -- a command that reads nothing leaves the source as it is
   pub claims_unread : {S : Type 0} (left : S → Option (List ℕ)) (faults : S → ℕ) (source : S) (command : Option Command) (s : Writing) (o : Outcome N)

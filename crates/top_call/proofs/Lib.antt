@@ -4,3 +4,4 @@ pub mod Loops
 pub mod Named
 pub mod Setups
 pub mod Threads
+pub mod Ways

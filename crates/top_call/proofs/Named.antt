@@ -1,5 +1,5 @@
 -- The lines of a script ask nothing of nodes that its setup has not.
-use Rattle.std.proofs.Common.{ℕ, ◌≤◌, ◌-◌, true, List, [], ◌∷◌, length, sym, subst, arith}
+use Rattle.std.proofs.Common.{ℕ, ◌≤◌, ◌-◌, List, [], ◌∷◌, length, sym, subst, arith}
 use Rattle.std.specs.List.{AllByRecursion}
 use Rattle.xfs_base.specs.declared.setup.Setup.{Setup}
 use Rattle.version_model.specs.declared.work.Work.{Work}
@@ -9,7 +9,7 @@ use Rattle.script_text.specs.declared.script.Line.{Line}
 use Rattle.script_text.specs.declared.script.Script.{Script}
 use Rattle.script_text.specs.Forms.{Meanings, parts, work_of}
 use Rattle.script_text.specs.Lines.{lines}
-use Rattle.script_text.specs.Script.{IsScriptOf, text_size}
+use Rattle.script_text.specs.Script.{text_size}
 use Rattle.script_text.specs.Spelling.{Context, IsOneOf}
 use Rattle.script_print.specs.Printing.{IsScript}
 use Rattle.script_print.proofs.Asks.{lines_lack}
@@ -68,7 +68,3 @@ lines_named s before room (l ∷ ls) h =
 
 pub script_names : (s : Script) → IsScript s → NamesNodes s
 script_names s (live, bytes, h) = lines_named s.setup _ _ s.lines (script_whole live (length bytes) (lines bytes) s (lines_lack bytes) h).asked
-
--- what is read where crashes are closed is a script
-pub is_script : (bytes : List ℕ) (s : Script) → IsScriptOf true bytes s → IsScript s
-is_script bytes s h = (true, bytes, h)

@@ -60,18 +60,6 @@ reads (Some Audit) = true
 reads (Some Boards) = true
 reads (Some Disks) = true
 
--- whether what a command plays is played by one thread, with one registry and no disks
-abbrev pub plays_plainly : Option Command → Bool
-plays_plainly None = true
-plays_plainly (Some Run) = true
-plays_plainly (Some (Live workers)) = false
-plays_plainly (Some (Mount workers)) = false
-plays_plainly (Some (Gen drawn)) = true
-plays_plainly (Some (Big drawn)) = true
-plays_plainly (Some Audit) = true
-plays_plainly (Some Boards) = false
-plays_plainly (Some Disks) = false
-
 -- whether a command is carried out by threads
 abbrev pub is_live : Option Command → Bool
 is_live None = false

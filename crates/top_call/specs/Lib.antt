@@ -7,3 +7,5 @@ pub mod Mounts
 pub mod Output
 pub mod Spoken
 pub mod Told
+pub mod Unread
+pub mod Ways

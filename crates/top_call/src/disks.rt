@@ -1,22 +1,19 @@
 //! What the program does for the word `disks`: it plays a script with servers that stop and keep their disk.
-ghost use Rattle.std.specs.Prelude.{◌≡◌, ◌≤◌, None, Some, IfOk, IfSome};
+ghost use Rattle.std.specs.Prelude.{◌≡◌, ◌≤◌, None, IfOk, IfSome};
 ghost use Rattle.disk_play.specs.Courses.{disk_estate_of, disks_of};
 ghost use Rattle.script_print.specs.Printing.{IsScript};
-ghost use Rattle.top_call.specs.declared.command.Command.TheVariants as commands;
-ghost use Rattle.top_call.specs.Claim.{writing, reading, run_answer, IsPlayedWithDisks, TellsDisks, TellsOrGivesUp, AnswersOrGivesUp, Ends, ReadsAtMost};
+ghost use Rattle.top_call.specs.Claim.{writing, run_answer, IsPlayedWithDisks, TellsDisks, TellsOrGivesUp};
 ghost use Rattle.top_call.specs.Disks.{DisksGive, DisksIn};
-ghost use Rattle.top_call.specs.Input.{limit};
 ghost use Rattle.top_call.specs.Mounts.{NoReplies};
 ghost use Rattle.top_call.specs.Told.{disks_where};
 ghost use Rattle.transcript.specs.Text.{text_of};
 
 use crate::Outcome;
-use crate::one_thread::{ended, refuse, write_run};
-use crate::outside::{Sink, Source};
-use crate::whole_input::{InputError, read_input};
+use crate::one_thread::{ended, write_run};
+use crate::outside::Sink;
 use disk_play::{DiskEstate, disk_play};
 use disk_shelf::an_image_stands_for_one_state;
-use script_text::{Script, ScriptError, parse};
+use script_text::Script;
 use shelved_nodes::Shelved;
 use std::alloc::Global;
 use xfs_base::Mem;
@@ -49,7 +46,11 @@ fn write_disks<N: Drop, K: Sink>(alloc: Global, played: DiskEstate<N>, sink: &mu
 }
 
 /// Plays a script with servers that stop, and writes the text of what it leaves.
-fn play_disks<N: Shelved, K: Sink>(alloc: Global, script: &Script, sink: &mut K) -> Outcome<N>
+pub(crate) fn play_disks<N: Shelved, K: Sink>(
+    alloc: Global,
+    script: &Script,
+    sink: &mut K,
+) -> Outcome<N>
     requires { IsScript script.now }
     ensures told { TellsDisks N.transition N.first script.now (writing K.written K.faults sink.old sink.new) result }
     ensures one_run { IfSome result.estate (λ e. IsPlayedWithDisks N.transition N.first e) }
@@ -61,44 +62,5 @@ fn play_disks<N: Shelved, K: Sink>(alloc: Global, script: &Script, sink: &mut K)
     match played::<N>(alloc, script) {
         Ok(played) => write_disks(alloc, played, sink),
         Err(_) => ended(7),
-    }
-}
-
-/// Plays the script of an input with servers that stop.
-fn disks_input<N: Shelved, K: Sink>(alloc: Global, input: &[u8], sink: &mut K) -> Outcome<N>
-    ensures told { AnswersOrGivesUp N.transition N.first (Some commands.Disks) input.now (writing K.written K.faults sink.old sink.new) result }
-    ensures one_run { IfSome result.estate (λ e. IsPlayedWithDisks N.transition N.first e) }
-    ensures disks { DisksIn N.transition N.first N.shelf_of result.estate result.disks }
-    ensures no_boards { result.boards ≡ None }
-    ensures no_replies { NoReplies result.calls result.replies }
-    ensures later { K.faults sink.old ≤ K.faults sink.new }
-{
-    match parse(alloc, input, false) {
-        Ok(script) => play_disks(alloc, &script, sink),
-        Err(ScriptError::Bad(number, kind)) => refuse(alloc, number, kind, sink),
-        Err(ScriptError::Memory) => ended(7),
-    }
-}
-
-/// Reads an input, and plays the script that it is with servers that stop.
-pub(crate) fn answer_disks<N: Shelved, S: Source, K: Sink>(
-    alloc: Global,
-    source: &mut S,
-    sink: &mut K,
-) -> Outcome<N>
-    ensures ends { Ends N.transition N.first (Some commands.Disks) (reading S.left S.faults source.old source.new)
-        (writing K.written K.faults sink.old sink.new) result }
-    ensures bounded { ReadsAtMost (reading S.left S.faults source.old source.new) limit }
-    ensures read_later { S.faults source.old ≤ S.faults source.new }
-    ensures one_run { IfSome result.estate (λ e. IsPlayedWithDisks N.transition N.first e) }
-    ensures disks { DisksIn N.transition N.first N.shelf_of result.estate result.disks }
-    ensures no_boards { result.boards ≡ None }
-    ensures no_replies { NoReplies result.calls result.replies }
-    ensures later { K.faults sink.old ≤ K.faults sink.new }
-{
-    match read_input(alloc, source) {
-        Ok(input) => disks_input(alloc, input.as_bytes(), sink),
-        Err(InputError::Failed) => ended(4),
-        Err(InputError::Memory) => ended(7),
     }
 }

@@ -9,11 +9,13 @@ pub mod many_threads;
 pub mod memory_sink;
 pub mod memory_source;
 pub mod mounting;
+pub mod one_script;
 pub mod one_thread;
 pub mod outcome;
 pub mod output;
 pub mod outside;
 pub mod spoken;
+pub mod unread;
 pub mod whole_input;
 
 pub use command::{Command, threads_asked};

@@ -4,17 +4,16 @@ ghost use Rattle.live_run.specs.Live.{IsLive};
 ghost use Rattle.script_print.specs.Printing.{IsScript};
 ghost use Rattle.transcript.specs.Replies.{open_items};
 ghost use Rattle.top_call.specs.declared.command.Command.TheVariants as commands;
-ghost use Rattle.top_call.specs.Claim.{writing, reading, TellsLive, AnswersOrGivesUp, Ends, Claim, ReadsAtMost};
-ghost use Rattle.top_call.specs.Input.{limit};
+ghost use Rattle.top_call.specs.Claim.{writing, reading, TellsLive, Claim};
 ghost use Rattle.top_call.specs.Mounts.{NoReplies};
 ghost use Rattle.top_call.specs.Told.{IsPlain};
 
 use crate::Outcome;
-use crate::one_thread::{ended, refuse, write_run};
+use crate::one_thread::{ended, write_run};
 use crate::outside::{Sink, Source};
-use crate::whole_input::{InputError, read_input};
+use crate::unread::{end_unread, read_script};
 use live_run::live;
-use script_text::{Script, ScriptError, parse};
+use script_text::Script;
 use std::alloc::Global;
 use std::sync::Wait;
 use std::thread::Threads;
@@ -59,28 +58,6 @@ fn run_script<N: Member + Send, R: Threads + Wait + Sync, K: Sink, G: Gate>(
     }
 }
 
-/// Runs the script of an input by workers.
-#[tactic(auto, using(crate::proofs::Named::is_script))]
-fn run_input<N: Member + Send, R: Threads + Wait + Sync, K: Sink, G: Gate>(
-    rt: &R,
-    alloc: Global,
-    input: &[u8],
-    workers: u8,
-    sink: &mut K,
-    gate: &G,
-) -> Outcome<N>
-    ensures told { AnswersOrGivesUp N.transition N.first (Some (commands.Live workers)) input.now (writing K.written K.faults sink.old sink.new) result }
-    ensures one_run { IfSome result.estate (λ e. IsLive N.transition N.first e) }
-    ensures plain { IsPlain result }
-    ensures later { K.faults sink.old ≤ K.faults sink.new }
-{
-    match parse(alloc, input, true) {
-        Ok(script) => run_script(rt, alloc, &script, workers, sink, gate),
-        Err(ScriptError::Bad(number, kind)) => refuse(alloc, number, kind, sink),
-        Err(ScriptError::Memory) => ended(7),
-    }
-}
-
 /// What the program answers to `live W`, over nodes of any kind: reads an input, and runs the script that it is by so many
 /// workers. If the call returns, it answers as the claim says, and hands out no disks; that it returns is not claimed.
 pub fn answer_live<N: Member + Send, R: Threads + Wait + Sync, S: Source, K: Sink, G: Gate>(
@@ -96,9 +73,8 @@ pub fn answer_live<N: Member + Send, R: Threads + Wait + Sync, S: Source, K: Sin
     ensures no_disks { result.disks ≡ None }
     ensures no_replies { NoReplies result.calls result.replies }
 {
-    match read_input(alloc, source) {
-        Ok(input) => run_input(rt, alloc, input.as_bytes(), workers, sink, gate),
-        Err(InputError::Failed) => ended(4),
-        Err(InputError::Memory) => ended(7),
+    match read_script(alloc, true, source) {
+        Ok(script) => run_script(rt, alloc, &script, workers, sink, gate),
+        Err(why) => end_unread(alloc, why, sink),
     }
 }

@@ -6,7 +6,7 @@ ghost use Rattle.script_print.specs.Printing.{IsScript};
 ghost use Rattle.transcript.specs.Replies.{open_items};
 ghost use Rattle.transcript.specs.Text.{text_of};
 ghost use Rattle.top_call.specs.declared.command.Command.TheVariants as commands;
-ghost use Rattle.top_call.specs.Claim.{writing, reading, run_answer, TellsLive, TellsOrGivesUp, AnswersOrGivesUp, Claim};
+ghost use Rattle.top_call.specs.Claim.{writing, reading, run_answer, TellsLive, TellsOrGivesUp, Claim};
 ghost use Rattle.top_call.specs.Commands.{is_live};
 ghost use Rattle.top_call.specs.Mounts.{MountsIn, MountsOf};
 ghost use Rattle.top_call.specs.Told.{lists_where};
@@ -14,11 +14,11 @@ ghost use Rattle.top_call.specs.Told.{lists_where};
 use crate::Outcome;
 use crate::command::Command;
 use crate::many_threads::answer_live;
-use crate::one_thread::{ended, refuse, write_run};
+use crate::one_thread::{ended, write_run};
 use crate::outside::{Sink, Source};
-use crate::whole_input::{InputError, read_input};
+use crate::unread::{end_unread, read_script};
 use mounts::Mounted;
-use script_text::{Script, ScriptError, parse};
+use script_text::Script;
 use std::alloc::Global;
 use std::sync::Wait;
 use std::thread::Threads;
@@ -81,30 +81,6 @@ fn run_script<N: Member + Send, R: Threads + Wait + Sync, K: Sink, G: Gate>(
     }
 }
 
-/// Runs the script of an input by workers and applications.
-#[tactic(auto, using(crate::proofs::Named::is_script))]
-fn run_input<N: Member + Send, R: Threads + Wait + Sync, K: Sink, G: Gate>(
-    rt: &R,
-    alloc: Global,
-    input: &[u8],
-    workers: u8,
-    sink: &mut K,
-    gate: &G,
-) -> Outcome<N>
-    ensures told { AnswersOrGivesUp N.transition N.first (Some (commands.Mount workers)) input.now (writing K.written K.faults sink.old sink.new) result }
-    ensures one_run { IfSome result.estate (λ e. IsLive N.transition N.first e) }
-    ensures mounts { MountsIn N.transition N.first result.estate result.calls result.replies }
-    ensures no_boards { result.boards ≡ None }
-    ensures no_disks { result.disks ≡ None }
-    ensures later { K.faults sink.old ≤ K.faults sink.new }
-{
-    match parse(alloc, input, true) {
-        Ok(script) => run_script(rt, alloc, &script, workers, sink, gate),
-        Err(ScriptError::Bad(number, kind)) => refuse(alloc, number, kind, sink),
-        Err(ScriptError::Memory) => ended(7),
-    }
-}
-
 /// What the program answers to `mount W`, over nodes of any kind: reads an input, and runs the script that it is by so many
 /// workers, with an application for each client. If the call returns, it answers as the claim says, hands out no disks, and
 /// tells what each application called and was replied; that it returns is not claimed.
@@ -121,10 +97,9 @@ pub fn answer_mount<N: Member + Send, R: Threads + Wait + Sync, S: Source, K: Si
     ensures mounts { MountsIn N.transition N.first result.estate result.calls result.replies }
     ensures no_disks { result.disks ≡ None }
 {
-    match read_input(alloc, source) {
-        Ok(input) => run_input(rt, alloc, input.as_bytes(), workers, sink, gate),
-        Err(InputError::Failed) => ended(4),
-        Err(InputError::Memory) => ended(7),
+    match read_script(alloc, true, source) {
+        Ok(script) => run_script(rt, alloc, &script, workers, sink, gate),
+        Err(why) => end_unread(alloc, why, sink),
     }
 }
 

@@ -5,17 +5,15 @@ ghost use Rattle.script_print.specs.Printing.{IsScript, printed};
 ghost use Rattle.transcript.specs.Counts.{brief_of};
 ghost use Rattle.transcript.specs.Text.{text_of};
 ghost use Rattle.top_call.specs.declared.command.Command.TheVariants as commands;
-ghost use Rattle.top_call.specs.Claim.{writing, reading, line, run_answer, run_status, verdict_status, Tells, TellsOrGivesUp, run_wanted, brief_wanted, script_of, IsPlayed, AnswersOrGivesUp, Ends, Claim, ReadsAtMost};
+ghost use Rattle.top_call.specs.Claim.{writing, reading, line, run_answer, run_status, verdict_status, Tells, TellsOrGivesUp, run_wanted, brief_wanted, script_of, IsPlayed, AnswersOrGivesUp, Claim};
 ghost use Rattle.top_call.specs.Commands.{command_of, is_live, reads, HasFewTurns};
 ghost use Rattle.top_call.specs.Disks.{DisksOf};
-ghost use Rattle.top_call.specs.Input.{limit};
 ghost use Rattle.top_call.specs.Mounts.{NoReplies};
 ghost use Rattle.top_call.specs.Spoken.{refused_text, verdict_text};
 ghost use Rattle.top_call.specs.Told.{IsPlain};
 
-use crate::boards::answer_boards;
 use crate::command::{Command, Drawn, read_words};
-use crate::disks::answer_disks;
+use crate::one_script::{Way, answer_script};
 use crate::output::write_output;
 use crate::outside::{Sink, Source};
 use crate::whole_input::{InputError, read_input};
@@ -23,7 +21,7 @@ use crate::{Outcome, spoken};
 use audit::audit;
 use play::play;
 use script_print::{generate, print};
-use script_text::{Kind, Script, ScriptError, parse};
+use script_text::{Kind, Script, ScriptError};
 use shelved_nodes::Shelved;
 use std::alloc::Global;
 use transcript::{brief, open_items, text};
@@ -140,7 +138,11 @@ fn write_brief<N: Drop, K: Sink>(alloc: Global, estate: Estate<N>, sink: &mut K)
 }
 
 /// Plays a script, and writes the text of what it leaves.
-fn play_script<N: Member, K: Sink>(alloc: Global, script: &Script, sink: &mut K) -> Outcome<N>
+pub(crate) fn play_script<N: Member, K: Sink>(
+    alloc: Global,
+    script: &Script,
+    sink: &mut K,
+) -> Outcome<N>
     requires { IsScript script.now }
     ensures told { TellsOrGivesUp (writing K.written K.faults sink.old sink.new) result (run_wanted N.transition N.first script.now) }
     ensures one_run { IfSome result.estate (λ e. IsPlayed N.transition N.first e) }
@@ -231,20 +233,6 @@ fn say<N, K: Sink>(alloc: Global, verdict: Verdict, sink: &mut K) -> Outcome<N>
     }
 }
 
-/// Plays the script of an input.
-fn run_input<N: Member, K: Sink>(alloc: Global, input: &[u8], sink: &mut K) -> Outcome<N>
-    ensures told { AnswersOrGivesUp N.transition N.first (Some commands.Run) input.now (writing K.written K.faults sink.old sink.new) result }
-    ensures one_run { IfSome result.estate (λ e. IsPlayed N.transition N.first e) }
-    ensures plain { IsPlain result }
-    ensures later { K.faults sink.old ≤ K.faults sink.new }
-{
-    match parse(alloc, input, false) {
-        Ok(script) => play_script(alloc, &script, sink),
-        Err(ScriptError::Bad(number, kind)) => refuse(alloc, number, kind, sink),
-        Err(ScriptError::Memory) => ended(7),
-    }
-}
-
 /// Judges the journal of an input.
 fn audit_input<N: Member, K: Sink>(alloc: Global, input: &[u8], sink: &mut K) -> Outcome<N>
     ensures told { AnswersOrGivesUp N.transition N.first (Some commands.Audit) input.now (writing K.written K.faults sink.old sink.new) result }
@@ -259,40 +247,15 @@ fn audit_input<N: Member, K: Sink>(alloc: Global, input: &[u8], sink: &mut K) ->
     }
 }
 
-/// Reads an input, and plays the script that it is.
-fn answer_run<N: Member, S: Source, K: Sink>(
-    alloc: Global,
-    source: &mut S,
-    sink: &mut K,
-) -> Outcome<N>
-    ensures ends { Ends N.transition N.first (Some commands.Run) (reading S.left S.faults source.old source.new)
-        (writing K.written K.faults sink.old sink.new) result }
-    ensures bounded { ReadsAtMost (reading S.left S.faults source.old source.new) limit }
-    ensures read_later { S.faults source.old ≤ S.faults source.new }
-    ensures one_run { IfSome result.estate (λ e. IsPlayed N.transition N.first e) }
-    ensures plain { IsPlain result }
-    ensures later { K.faults sink.old ≤ K.faults sink.new }
-{
-    match read_input(alloc, source) {
-        Ok(input) => run_input(alloc, input.as_bytes(), sink),
-        Err(InputError::Failed) => ended(4),
-        Err(InputError::Memory) => ended(7),
-    }
-}
-
 /// Reads an input, and judges the journal that it is.
 fn answer_audit<N: Member, S: Source, K: Sink>(
     alloc: Global,
     source: &mut S,
     sink: &mut K,
 ) -> Outcome<N>
-    ensures ends { Ends N.transition N.first (Some commands.Audit) (reading S.left S.faults source.old source.new)
+    ensures claim { Claim N.transition N.first (Some commands.Audit) (reading S.left S.faults source.old source.new)
         (writing K.written K.faults sink.old sink.new) result }
-    ensures bounded { ReadsAtMost (reading S.left S.faults source.old source.new) limit }
-    ensures read_later { S.faults source.old ≤ S.faults source.new }
-    ensures one_run { IfSome result.estate (λ e. IsPlayed N.transition N.first e) }
     ensures plain { IsPlain result }
-    ensures later { K.faults sink.old ≤ K.faults sink.new }
 {
     match read_input(alloc, source) {
         Ok(input) => audit_input::<N, K>(alloc, input.as_bytes(), sink),
@@ -319,10 +282,10 @@ fn carry_out<N: Shelved, S: Source, K: Sink>(
     match command {
         Command::Gen(drawn) => print_drawn(alloc, drawn, sink),
         Command::Big(drawn) => play_drawn(alloc, drawn, sink),
-        Command::Run => answer_run(alloc, source, sink),
+        Command::Run => answer_script(alloc, Way::Plainly, source, sink),
         Command::Audit => answer_audit(alloc, source, sink),
-        Command::Boards => answer_boards(alloc, source, sink),
-        Command::Disks => answer_disks(alloc, source, sink),
+        Command::Boards => answer_script(alloc, Way::WithBoards, source, sink),
+        Command::Disks => answer_script(alloc, Way::WithDisks, source, sink),
         Command::Live(_) => unreachable!(),
         Command::Mount(_) => unreachable!(),
     }

@@ -1,9 +1,9 @@
 use Rattle.std.proofs.Common.{◌≡◌, None, [], false, inl, refl, subst, sym}
-use Rattle.top_call.specs.Claim.{Claim, line, reading, writing}
+use Rattle.top_call.specs.Claim.{Claim, IsPlayed, IsRunBy, line, reading, writing}
 use Rattle.top_call.specs.Commands.{is_live, reads}
 use Rattle.top_call.specs.Disks.{DisksOf}
 use Rattle.top_call.specs.Spoken.{usage_text}
-use Rattle.top_call.proofs.Claims.{answers, by_one, claims_unread, line_told, none_played}
+use Rattle.top_call.proofs.Claims.{answers, claims_unread, each_left, line_told, none_played}
 use Rattle.top_call.proofs.one_thread.answer.Goals as goal
 
 pub returns-in-None-clause-claim : goal.returns-in-None-clause-claim
@@ -17,7 +17,7 @@ returns-in-None-clause-claim g c =
     let answer = answers step first None [] s o (line usage_text 2) refl (inl told) in
     subst (λ command. Claim step first command r s o) c.in-None.ensures.command
     (claims_unread step first g.S.Source.left g.S.Source.faults c.args.source.now None s o refl (λ e. told) answer
-    (by_one step first None refl o.estate (none_played step first o.estate c.tell.ensures.no_run)) c.tell.ensures.plain.0 c.tell.ensures.later)
+    (each_left (λ e. IsPlayed step first e) (IsRunBy step first None) (λ e h. h) o.estate (none_played step first o.estate c.tell.ensures.no_run)) c.tell.ensures.plain.0 c.tell.ensures.later)
 
 pub returns-in-Some-clause-claim : goal.returns-in-Some-clause-claim
 returns-in-Some-clause-claim g c =
