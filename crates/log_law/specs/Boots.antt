@@ -1,4 +1,4 @@
--- Boots: where an owner comes to serve, one segment of its boot is filed.
+-- Boots: where an owner comes to serve, at most one segment of its boot is filed.
 use Rattle.std.specs.Prelude.{◌≡◌, true, false}
 use Rattle.log_law.specs.Events.{Happens}
 use Rattle.log_law.specs.Laws.{Moment}

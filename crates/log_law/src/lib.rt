@@ -182,7 +182,7 @@ pub fn the_feed_is_whole()
 
 /// Openings go on: where the number of all that was in flight has one after it, a log can be started behind the end that an opening tells, whatever comes next;
 /// unless the owner falls, what begins to fly has no number beyond the one after the end of its log; nothing is filed up to a moment at which it doesn't
-/// serve; and where it serves again, of its new boot just one segment is filed, after doubtful restarts, too.
+/// serve; and where it comes to serve, no two segments of its boot are filed, after doubtful restarts, too.
 pub fn openings_go_on()
     ensures on { OpeningsGoOn }
     ensures flies { FliesNext }
