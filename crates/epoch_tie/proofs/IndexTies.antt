@@ -1,7 +1,7 @@
 -- Steps of epochs against the index.
 use Rattle.std.proofs.Common.{◌∙◌, refl, arith}
 use Rattle.std.proofs.lemmas.Bool.Decides.{nat_tests}
-use Rattle.epoch_protocol.specs.Step.Step.{Bumps, Moves, Activates, PromisesPoll, PromisesNews, PromisesWelcome, Reports, Crashes, Restarts, Takes, Serves}
+use Rattle.epoch_protocol.specs.Step.Step.{Takes}
 use Rattle.epoch_protocol.proofs.Invariant.{always}
 use Rattle.epoch_protocol.proofs.Growing.{grows}
 use Rattle.epoch_protocol.proofs.Laws.{activates_new, registry_ahead, reigns, serves_above}
@@ -61,16 +61,6 @@ serve n first e a steps tied h = (
 )
 
 pub quiet : QuietIndexed
-quiet e v a (Bumps h may) none tied = absurd none
-quiet e v a (Moves m) none tied = absurd none
-quiet e v a (Activates m may) none tied = absurd none
-quiet e v a (PromisesPoll c p may) none tied = absurd none
-quiet e v a (PromisesNews c n may) none tied = absurd none
-quiet e v a (PromisesWelcome p may) none tied = absurd none
-quiet e v a (Reports c may) none tied = absurd none
-quiet e v a (Crashes c) none tied = absurd none
-quiet e v a (Restarts c may) none tied = absurd none
 quiet e v a (Takes p may) none tied =
     record { epoch = tied.epoch; active = tied.active; reigning = tied.reigning; promised = grind (arith, nat_tests, tied.promised) }
-quiet e v a (Serves c may) none tied = absurd none
-quiet e v a step none tied = record { epoch = tied.epoch; active = tied.active; reigning = tied.reigning; promised = tied.promised }
+quiet e v a step none tied = grind (arith, tied.epoch, tied.active, tied.reigning, tied.promised, none)

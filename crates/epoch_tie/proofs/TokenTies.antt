@@ -7,7 +7,7 @@ use Rattle.token_protocol.specs.Crashing as crashing
 use Rattle.epoch_protocol.specs.World as epochs
 use Rattle.epoch_protocol.specs.Promising.{promises}
 use Rattle.epoch_protocol.specs.Opening.{crashes, serves}
-use Rattle.epoch_protocol.specs.Step.Step.{Bumps, Moves, Activates, PromisesPoll, PromisesNews, PromisesWelcome, Reports, Crashes, Restarts, Takes, Serves}
+use Rattle.epoch_protocol.specs.Step.Step.{Takes}
 use Rattle.epoch_protocol.proofs.Invariant.{always}
 use Rattle.epoch_protocol.proofs.Laws.{activates_new, serves_above}
 use Rattle.epoch_tie.specs.TokenTie.{TokensTied, TokensStart, PollTied, NewsTied, WelcomeTied, ReportTied, CrashTied, RestartTied, ServeTied, ActivateTied, BumpTied, MoveTied, QuietTied}
@@ -131,15 +131,6 @@ pub move : MoveTied
 move e t m tied = record { members = tied.members; reigning = tied.reigning; promised = tied.promised; serving = tied.serving; down = tied.down }
 
 pub quiet : QuietTied
-quiet e v t (Bumps h may) none tied = absurd none
-quiet e v t (Moves m) none tied = absurd none
-quiet e v t (Activates m may) none tied = absurd none
-quiet e v t (PromisesPoll c p may) none tied = absurd none
-quiet e v t (PromisesNews c n may) none tied = absurd none
-quiet e v t (PromisesWelcome p may) none tied = absurd none
-quiet e v t (Reports c may) none tied = absurd none
-quiet e v t (Crashes c) none tied = absurd none
-quiet e v t (Restarts c may) none tied = absurd none
 quiet e v t (Takes p may) none tied = record {
   members = tied.members;
   reigning = tied.reigning;
@@ -147,5 +138,4 @@ quiet e v t (Takes p may) none tied = record {
   serving = λ d k j. grind (arith, nat_tests, tied.serving d k);
   down = λ d k j. grind (arith, nat_tests, tied.down d k);
 }
-quiet e v t (Serves c may) none tied = absurd none
-quiet e v t step none tied = record { members = tied.members; reigning = tied.reigning; promised = tied.promised; serving = tied.serving; down = tied.down }
+quiet e v t step none tied = grind (arith, tied, none)
