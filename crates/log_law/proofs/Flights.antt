@@ -98,29 +98,24 @@ module _ (g : Setting) where
       let f = kept x was (sym names ∙ (boot ∙ s.served)) (sym seqs ∙ (next ∙ ap suc s.head)) in
       record { flight = f.flight; flying = f.flying; seq = f.seq; boot = f.boot; content = (k.protocol.past w u reached run).content x was ∙ f.content }
 
+  -- what is so of the last flight where no owner serves, and of the flight of an owner that serves, is so of what the owner leaves
+  by_owner : (P : Option FlightState → Type 0) (p : Owner) (last : Option FlightState) → (is_serving p ≡ false → P last)
+      → ((s : LogState) → p ≡ Serving s → P s.flight) → P (flight_in p last)
+  by_owner P Down last idle serves = idle refl
+  by_owner P (Opening s) last idle serves = idle refl
+  by_owner P (Writing chain s) last idle serves = idle refl
+  by_owner P (Serving s) last idle serves = serves s refl
+
   -- over one event
   pub now_kept : (k : Below) (n : Net) (h : View g n) (o : Net) (t : Next g n h o) → t.view.w.clean ≡ 1 → (last : Option FlightState) → FlightKept h.w last
       → FlightKept t.view.w (flight_in o.owner last)
-  now_kept k n h o t clean last kept = by o.owner refl
-    where
-      still : is_serving o.owner ≡ false → FlightKept t.view.w last
-      still e = steady_kept k h.w t.view.w h.reached h.fixed t.view.fixed t.steps (t.steady e) last kept
-
-      by : (p : Owner) → o.owner ≡ p → FlightKept t.view.w (flight_in p last)
-      by Down e = still (ap is_serving e)
-      by (Opening s) e = still (ap is_serving e)
-      by (Writing chain s) e = still (ap is_serving e)
-      by (Serving s) e = serving_kept k o t.view clean s e
+  now_kept k n h o t clean last kept =
+      by_owner (FlightKept t.view.w) o.owner last
+      (λ e. steady_kept k h.w t.view.w h.reached h.fixed t.view.fixed t.steps (t.steady e) last kept) (serving_kept k o t.view clean)
 
   -- at first
   pub first_kept : (k : Below) (n : Net) (h : View g n) → h.w.clean ≡ 1 → is_serving n.owner ≡ true → FlightKept h.w (flight_in n.owner None)
-  first_kept k n h clean serves = by n.owner refl serves
-    where
-      by : (p : Owner) → n.owner ≡ p → is_serving p ≡ true → FlightKept h.w (flight_in p None)
-      by Down e t = contrary t
-      by (Opening s) e t = contrary t
-      by (Writing chain s) e t = contrary t
-      by (Serving s) e t = serving_kept k n h clean s e
+  first_kept k n h clean serves = by_owner (FlightKept h.w) n.owner None (λ e. contrary (sym e ∙ serves)) (serving_kept k n h clean)
 
   -- ---- the flight of the last boot that served is of that boot, and next after the head
 
@@ -153,22 +148,8 @@ module _ (g : Setting) where
 
   pub now_at : (k : Below) (n : Net) (h : View g n) (o : Net) (t : Next g n h o) → t.view.w.clean ≡ 1 → (last : Option FlightState) → FlightAt h.w last
       → FlightAt t.view.w (flight_in o.owner last)
-  now_at k n h o t clean last at = by o.owner refl
-    where
-      still : is_serving o.owner ≡ false → FlightAt t.view.w last
-      still e = at_on h.w t.view.w last (t.steady e).head (t.steady e).served at
-
-      by : (p : Owner) → o.owner ≡ p → FlightAt t.view.w (flight_in p last)
-      by Down e = still (ap is_serving e)
-      by (Opening s) e = still (ap is_serving e)
-      by (Writing chain s) e = still (ap is_serving e)
-      by (Serving s) e = serving_at k o t.view clean s e
+  now_at k n h o t clean last at =
+      by_owner (FlightAt t.view.w) o.owner last (λ e. at_on h.w t.view.w last (t.steady e).head (t.steady e).served at) (serving_at k o t.view clean)
 
   pub first_at : (k : Below) (n : Net) (h : View g n) → h.w.clean ≡ 1 → is_serving n.owner ≡ true → FlightAt h.w (flight_in n.owner None)
-  first_at k n h clean serves = by n.owner refl serves
-    where
-      by : (p : Owner) → n.owner ≡ p → is_serving p ≡ true → FlightAt h.w (flight_in p None)
-      by Down e t = contrary t
-      by (Opening s) e t = contrary t
-      by (Writing chain s) e t = contrary t
-      by (Serving s) e t = serving_at k n h clean s e
+  first_at k n h clean serves = by_owner (FlightAt h.w) n.owner None (λ e. contrary (sym e ∙ serves)) (serving_at k n h clean)
