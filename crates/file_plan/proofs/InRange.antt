@@ -193,28 +193,19 @@ module _ (dir : Ino) (name : Name) (ver : ℕ) (rows : List Row) (short : length
   in_leaving ino job = let le = without_shorter name rows in is_value (rows_text (remove_entry (is_at (name_cmp name)) rows)) (omega (arith, le, short))
 
   in_at_entry : (job : Job) (node : Node) → IsInRange (at_entry dir name ver rows job node)
-  in_at_entry (Makes made) node = tt
   in_at_entry (Puts offset bytes) node = in_putting node.ino offset bytes
-  in_at_entry (Gets offset len) node = tt
-  in_at_entry Sizes node = tt
   in_at_entry Lists node =
       either (is_directory node) (gathering node.ino 0 8 []) (Ends (File NotDir)) (λ _. in_gathering node.ino 0 8 [] (omega arith)) (λ _. tt)
   in_at_entry Removes node = in_leaving node.ino Removes
   in_at_entry (Moves to) node = in_path to Exists (Links node dir name)
-  in_at_entry (Links linked from old) node = tt
   in_at_entry (Unlinks old) node =
       either (same_node old node) (leaving dir name ver rows node.ino (Unlinks old)) (Ends Done) (λ _. in_leaving node.ino (Unlinks old)) (λ _. tt)
+  in_at_entry _ node = tt
 
   in_unfound : (job : Job) → IsInRange (unfound dir name ver rows job)
   in_unfound (Makes made) = in_entering made (Makes made)
-  in_unfound (Puts offset bytes) = tt
-  in_unfound (Gets offset len) = tt
-  in_unfound Sizes = tt
-  in_unfound Lists = tt
-  in_unfound Removes = tt
-  in_unfound (Moves to) = tt
   in_unfound (Links linked from old) = in_entering linked (Links linked from old)
-  in_unfound (Unlinks old) = tt
+  in_unfound _ = tt
 
   in_looked_at : (job : Job) (o : Option Node) → IsInRange (looked_at dir name ver rows job o)
   in_looked_at job None = in_unfound job
@@ -227,14 +218,7 @@ in_looked dir name ver job (Some rows) short = in_looked_at dir name ver rows sh
 
 in_entered : (job : Job) (ino : Ino) → IsInRange (entered job ino)
 in_entered (Makes made) ino = tt
-in_entered (Puts offset bytes) ino = tt
-in_entered (Gets offset len) ino = tt
-in_entered Sizes ino = tt
-in_entered Lists ino = tt
-in_entered Removes ino = tt
-in_entered (Moves to) ino = tt
-in_entered (Links linked from old) ino = tt
-in_entered (Unlinks old) ino = tt
+in_entered _ ino = tt
 
 -- ---- answers
 
@@ -242,7 +226,6 @@ in_got : (s : PlanState) (ver : ℕ) (value : Content) → IsValue value → IsI
 in_got (Ends answer) ver value fact h = tt
 in_got (Walks dir name onto rest job) ver value fact h = in_walked name onto rest job (read_rows (bytes_in value))
 in_got (Looks dir name job) ver value fact h = in_looked dir name ver job (read_rows (bytes_in value)) (read_short value fact)
-in_got (Enters dir name v rows ino job) ver value fact h = h
 in_got (Syncs dir name node) ver value fact h = tt
 in_got (Measures ino task) ver value fact h = in_measured ino task ver (size_in (bytes_in value)) (size_short value)
 in_got (Fetches ino blk low left got) ver value fact h =
@@ -254,21 +237,13 @@ in_got (Fetches ino blk low left got) ver value fact h =
     let f = length_cut (bytes_in value) low k in
     in_fetching ino (blk + 1) 0 (left - k) (got ++ cut_of (bytes_in value) low k) (omega arith) (λ some. omega (arith, first, last, some))
     (omega (arith, all, e, f))
-in_got (Fills ino blk bytes end) ver value fact h = h
-in_got (Takes ino blk low bytes end) ver value fact h = h
-in_got (Patches ino blk low bytes end v old) ver value fact h = h
 in_got (Grows ino end v) ver value fact h = tt
-in_got (Empties ino blk left v) ver value fact h = h
 in_got (Closes ino v) ver value fact h = tt
 in_got (Gathers dir blk left rows) ver value fact h = in_gathered dir blk left rows (read_rows (bytes_in value)) (omega (arith, h))
+in_got _ ver value fact h = h
 
 in_written : (s : PlanState) → IsInRange s → IsInRange (on_written s)
-in_written (Ends answer) h = tt
-in_written (Walks dir name onto rest job) h = tt
-in_written (Looks dir name job) h = tt
 in_written (Enters dir name v rows ino job) h = in_entered job ino
-in_written (Syncs dir name node) h = tt
-in_written (Measures ino task) h = tt
 in_written (Fetches ino blk low left got) h = h
 in_written (Fills ino blk bytes end) h =
     let last = h.within.last in
@@ -280,42 +255,28 @@ in_written (Patches ino blk low bytes end v old) h =
     let last = h.within.last in
     let e = length-drop (block_size - low) bytes in
     in_filling ino (blk + 1) 0 (drop (block_size - low) bytes) end (omega arith) (λ some. omega (arith, first, last, e, some))
-in_written (Grows ino end v) h = tt
 in_written (Empties ino blk left v) h = in_emptying ino (blk + 1) left v (omega (arith, h))
-in_written (Closes ino v) h = tt
 in_written (Gathers dir blk left rows) h = h
+in_written _ h = tt
 
 in_changed : (s : PlanState) → IsInRange s → IsInRange (on_changed s)
-in_changed (Ends answer) h = tt
-in_changed (Walks dir name onto rest job) h = tt
-in_changed (Looks dir name job) h = tt
-in_changed (Enters dir name v rows ino job) h = tt
-in_changed (Syncs dir name node) h = tt
-in_changed (Measures ino task) h = tt
 in_changed (Fetches ino blk low left got) h = h
 in_changed (Fills ino blk bytes end) h = h
 in_changed (Takes ino blk low bytes end) h = h
 in_changed (Patches ino blk low bytes end v old) h = h
-in_changed (Grows ino end v) h = tt
 in_changed (Empties ino blk left v) h = h
-in_changed (Closes ino v) h = tt
 in_changed (Gathers dir blk left rows) h = h
+in_changed _ h = tt
 
 in_synced : (s : PlanState) → IsInRange s → IsInRange (on_synced s)
-in_synced (Ends answer) h = tt
-in_synced (Walks dir name onto rest job) h = tt
-in_synced (Looks dir name job) h = tt
 in_synced (Enters dir name v rows ino job) h = h
-in_synced (Syncs dir name node) h = tt
-in_synced (Measures ino task) h = tt
 in_synced (Fetches ino blk low left got) h = h
 in_synced (Fills ino blk bytes end) h = h
 in_synced (Takes ino blk low bytes end) h = h
 in_synced (Patches ino blk low bytes end v old) h = h
-in_synced (Grows ino end v) h = tt
 in_synced (Empties ino blk left v) h = h
-in_synced (Closes ino v) h = tt
 in_synced (Gathers dir blk left rows) h = h
+in_synced _ h = tt
 
 pub in_after : (s : PlanState) (a : BlockAnswer) → IsAnswer a → IsInRange s → IsInRange (after_answer s a)
 in_after s (Got ver value) fact h = in_got s ver value fact h

@@ -18,51 +18,34 @@ use Rattle.file_plan.specs.declared.block_call.BlockCall.TheVariants.{Put, PutAt
 use Rattle.file_plan.specs.declared.block_call.Next.TheVariants.{Step}
 use Rattle.file_plan.specs.declared.node.Node.{Node}
 use Rattle.file_plan.specs.declared.state.Job.{Job}
-use Rattle.file_plan.specs.declared.state.Job.TheVariants.{Makes, Puts, Gets, Sizes, Lists, Removes, Moves, Links, Unlinks}
+use Rattle.file_plan.specs.declared.state.Job.TheVariants.{Moves, Links, Unlinks}
 use Rattle.file_plan.specs.declared.state.PlanState.{PlanState}
-use Rattle.file_plan.specs.declared.state.PlanState.TheVariants.{Ends, Walks, Looks, Enters, Syncs, Measures, Fetches, Fills, Takes, Patches, Grows, Empties, Closes, Gathers}
+use Rattle.file_plan.specs.declared.state.PlanState.TheVariants.{Ends, Walks, Looks, Enters, Syncs}
 use Rattle.file_plan.specs.Calls.{block_at, root}
 use Rattle.file_plan.specs.Names.{Name, Row, name_cmp, bucket_number, same_node, is_directory, named, names_are_good}
 use Rattle.file_plan.specs.Format.{content_of, rows_text, read_bucket}
 use Rattle.file_plan.specs.Plan.{walking, walking_path, walked_to, walked, fits, leaving, unfound, looked_at, looked, entered, on_got, on_written, on_changed, on_synced, after_answer, next_call, start_named, start, after_all, made_by}
 use Rattle.file_plan.specs.WriteOrder.{TakesOut, PutsIn, HasWritten, HasSettled, AddsBeforeItRemoves}
-use Rattle.file_plan.proofs.WritesKept.{either, last, from_here, written_more, settled_more}
+use Rattle.file_plan.proofs.WritesKept.{either, last, from_here, written_more, written_last, settled_more}
 
 -- what a move does on the way to its entries
 abbrev IsWay : Job → Type 0
-IsWay (Makes made) = ⊥
-IsWay (Puts offset bytes) = ⊥
-IsWay (Gets offset len) = ⊥
-IsWay Sizes = ⊥
-IsWay Lists = ⊥
-IsWay Removes = ⊥
 IsWay (Moves to) = Unit {0}
 IsWay (Links linked from old) = Unit {0}
-IsWay (Unlinks old) = ⊥
+IsWay _ = ⊥
 
 -- what it does at them; S says that the second entry was put in and then all was settled
 abbrev IsAtEntry : Type 0 → Job → Type 0
-IsAtEntry S (Makes made) = ⊥
-IsAtEntry S (Puts offset bytes) = ⊥
-IsAtEntry S (Gets offset len) = ⊥
-IsAtEntry S Sizes = ⊥
-IsAtEntry S Lists = ⊥
-IsAtEntry S Removes = ⊥
 IsAtEntry S (Moves to) = Unit {0}
 IsAtEntry S (Links linked from old) = Unit {0}
 IsAtEntry S (Unlinks old) = S
+IsAtEntry S _ = ⊥
 
 -- and what it writes there
 abbrev IsWriting : Type 0 → Name → List Row → Job → Type 0
-IsWriting S name rows (Makes made) = ⊥
-IsWriting S name rows (Puts offset bytes) = ⊥
-IsWriting S name rows (Gets offset len) = ⊥
-IsWriting S name rows Sizes = ⊥
-IsWriting S name rows Lists = ⊥
-IsWriting S name rows Removes = ⊥
-IsWriting S name rows (Moves to) = ⊥
 IsWriting S name rows (Links linked from old) = (before : List Row) × (rows ≡ insert_entry name_cmp before name linked)
 IsWriting S name rows (Unlinks old) = S × ((before : List Row) × (rows ≡ remove_entry (is_at (name_cmp name)) before))
+IsWriting S name rows _ = ⊥
 
 -- where a move may stand; A says that the second entry was put in
 abbrev InMove : Type 0 → Type 0 → PlanState → Type 0
@@ -71,26 +54,12 @@ InMove A S (Walks dir name onto rest job) = IsWay job
 InMove A S (Looks dir name job) = IsAtEntry S job
 InMove A S (Enters dir name ver rows ino job) = IsWriting S name rows job
 InMove A S (Syncs dir name node) = A
-InMove A S (Measures ino task) = ⊥
-InMove A S (Fetches ino blk low left got) = ⊥
-InMove A S (Fills ino blk bytes end) = ⊥
-InMove A S (Takes ino blk low bytes end) = ⊥
-InMove A S (Patches ino blk low bytes end ver old) = ⊥
-InMove A S (Grows ino end ver) = ⊥
-InMove A S (Empties ino blk left ver) = ⊥
-InMove A S (Closes ino ver) = ⊥
-InMove A S (Gathers dir blk left rows) = ⊥
+InMove A S _ = ⊥
 
 at_entry_of : (S : Type 0) (job : Job) → IsWay job → IsAtEntry S job
-at_entry_of S (Makes made) h = absurd h
-at_entry_of S (Puts offset bytes) h = absurd h
-at_entry_of S (Gets offset len) h = absurd h
-at_entry_of S Sizes h = absurd h
-at_entry_of S Lists h = absurd h
-at_entry_of S Removes h = absurd h
 at_entry_of S (Moves to) h = tt
 at_entry_of S (Links linked from old) h = tt
-at_entry_of S (Unlinks old) h = absurd h
+at_entry_of S _ h = absurd h
 
 module _ (A S : Type 0) where
   move_walking : (dir : Ino) (name : Name) (rest : List Name) (job : Job) → IsWay job → InMove A S (walking dir name rest job)
@@ -110,32 +79,22 @@ module _ (A S : Type 0) where
       by (Some node) = either (InMove A S) (is_directory node) (walking node.ino onto rest job) (Ends (File NotDir)) (move_walking node.ino onto rest job h) tt
 
   move_unfound : (dir : Ino) (name : Name) (ver : ℕ) (rows : List Row) (job : Job) → IsAtEntry S job → InMove A S (unfound dir name ver rows job)
-  move_unfound dir name ver rows (Makes made) h = absurd h
-  move_unfound dir name ver rows (Puts offset bytes) h = absurd h
-  move_unfound dir name ver rows (Gets offset len) h = absurd h
-  move_unfound dir name ver rows Sizes h = absurd h
-  move_unfound dir name ver rows Lists h = absurd h
-  move_unfound dir name ver rows Removes h = absurd h
   move_unfound dir name ver rows (Moves to) h = tt
   move_unfound dir name ver rows (Links linked from old) h =
       either (InMove A S) (fits (insert_entry name_cmp rows name linked))
       (Enters dir name ver (insert_entry name_cmp rows name linked) linked.ino (Links linked from old)) (Ends (File DirFull)) (rows, refl) tt
   move_unfound dir name ver rows (Unlinks old) h = tt
+  move_unfound dir name ver rows _ h = absurd h
 
   move_found : (dir : Ino) (name : Name) (ver : ℕ) (rows : List Row) (job : Job) (node : Node) → IsAtEntry S job
       → InMove A S (looked_at dir name ver rows job (Some node))
-  move_found dir name ver rows (Makes made) node h = absurd h
-  move_found dir name ver rows (Puts offset bytes) node h = absurd h
-  move_found dir name ver rows (Gets offset len) node h = absurd h
-  move_found dir name ver rows Sizes node h = absurd h
-  move_found dir name ver rows Lists node h = absurd h
-  move_found dir name ver rows Removes node h = absurd h
   move_found dir name ver rows (Moves to) node h =
       either (InMove A S) (is_directory node) (Ends (File IsDir)) (walking_path to Exists (Links node dir name)) tt
       (move_path to Exists (Links node dir name) tt)
   move_found dir name ver rows (Links linked from old) node h = tt
   move_found dir name ver rows (Unlinks old) node h =
       either (InMove A S) (same_node old node) (leaving dir name ver rows node.ino (Unlinks old)) (Ends Done) (h, (rows, refl)) tt
+  move_found dir name ver rows _ node h = absurd h
 
   move_looked : (dir : Ino) (name : Name) (ver : ℕ) (job : Job) → IsAtEntry S job → (o : Option (List Row)) → InMove A S (looked dir name ver job o)
   move_looked dir name ver job h None = tt
@@ -146,38 +105,19 @@ module _ (A S : Type 0) where
       by (Some node) = move_found dir name ver rows job node h
 
 still_at_entry : (S T : Type 0) → (S → T) → (job : Job) → IsAtEntry S job → IsAtEntry T job
-still_at_entry S T f (Makes made) h = h
-still_at_entry S T f (Puts offset bytes) h = h
-still_at_entry S T f (Gets offset len) h = h
-still_at_entry S T f Sizes h = h
-still_at_entry S T f Lists h = h
-still_at_entry S T f Removes h = h
-still_at_entry S T f (Moves to) h = h
-still_at_entry S T f (Links linked from old) h = h
 still_at_entry S T f (Unlinks old) h = f h
+still_at_entry S T f _ h = h
 
 still_writing : (S T : Type 0) → (S → T) → (name : Name) (rows : List Row) (job : Job) → IsWriting S name rows job → IsWriting T name rows job
-still_writing S T f name rows (Makes made) h = h
-still_writing S T f name rows (Puts offset bytes) h = h
-still_writing S T f name rows (Gets offset len) h = h
-still_writing S T f name rows Sizes h = h
-still_writing S T f name rows Lists h = h
-still_writing S T f name rows Removes h = h
-still_writing S T f name rows (Moves to) h = h
-still_writing S T f name rows (Links linked from old) h = h
 still_writing S T f name rows (Unlinks old) h = (f h.0, h.1)
+still_writing S T f name rows _ h = h
 
 -- a refused write looks again
 looks_again : (S T : Type 0) → (S → T) → (name : Name) (rows : List Row) (job : Job) → IsWriting S name rows job → IsAtEntry T job
-looks_again S T f name rows (Makes made) h = h
-looks_again S T f name rows (Puts offset bytes) h = h
-looks_again S T f name rows (Gets offset len) h = h
-looks_again S T f name rows Sizes h = h
-looks_again S T f name rows Lists h = h
-looks_again S T f name rows Removes h = h
 looks_again S T f name rows (Moves to) h = absurd h
 looks_again S T f name rows (Links linked from old) h = tt
 looks_again S T f name rows (Unlinks old) h = f h.0
+looks_again S T f name rows _ h = h
 
 module _ (A S B T : Type 0) (f : A → B) (g : S → T) where
   move_still : (s : PlanState) → InMove A S s → InMove B T s
@@ -186,15 +126,7 @@ module _ (A S B T : Type 0) (f : A → B) (g : S → T) where
   move_still (Looks dir name job) h = still_at_entry S T g job h
   move_still (Enters dir name v rows ino job) h = still_writing S T g name rows job h
   move_still (Syncs dir name node) h = f h
-  move_still (Measures ino task) h = absurd h
-  move_still (Fetches ino blk low left got) h = absurd h
-  move_still (Fills ino blk bytes end) h = absurd h
-  move_still (Takes ino blk low bytes end) h = absurd h
-  move_still (Patches ino blk low bytes end v old) h = absurd h
-  move_still (Grows ino end v) h = absurd h
-  move_still (Empties ino blk left v) h = absurd h
-  move_still (Closes ino v) h = absurd h
-  move_still (Gathers dir blk left rows) h = absurd h
+  move_still _ h = absurd h
 
   move_got : (s : PlanState) (ver : ℕ) (value : Content) → InMove A S s → InMove B T (on_got s ver value)
   move_got (Ends answer) ver value h = tt
@@ -202,29 +134,15 @@ module _ (A S B T : Type 0) (f : A → B) (g : S → T) where
   move_got (Looks dir name job) ver value h = move_looked B T dir name ver job (still_at_entry S T g job h) (read_bucket value)
   move_got (Enters dir name v rows ino job) ver value h = still_writing S T g name rows job h
   move_got (Syncs dir name node) ver value h = f h
-  move_got (Measures ino task) ver value h = absurd h
-  move_got (Fetches ino blk low left got) ver value h = absurd h
-  move_got (Fills ino blk bytes end) ver value h = absurd h
-  move_got (Takes ino blk low bytes end) ver value h = absurd h
-  move_got (Patches ino blk low bytes end v old) ver value h = absurd h
-  move_got (Grows ino end v) ver value h = absurd h
-  move_got (Empties ino blk left v) ver value h = absurd h
-  move_got (Closes ino v) ver value h = absurd h
-  move_got (Gathers dir blk left rows) ver value h = absurd h
+  move_got _ ver value h = absurd h
 
   -- the bucket was written
   move_entered : (dir : Ino) (name : Name) (rows : List Row) (ino : Ino) (job : Job)
       → (PutsIn (block_at dir (bucket_number name)) (content_of (rows_text rows)) → B) → IsWriting S name rows job → InMove B T (entered job ino)
-  move_entered dir name rows ino (Makes made) new h = absurd h
-  move_entered dir name rows ino (Puts offset bytes) new h = absurd h
-  move_entered dir name rows ino (Gets offset len) new h = absurd h
-  move_entered dir name rows ino Sizes new h = absurd h
-  move_entered dir name rows ino Lists new h = absurd h
-  move_entered dir name rows ino Removes new h = absurd h
-  move_entered dir name rows ino (Moves to) new h = absurd h
   move_entered dir name rows ino (Links linked from old) new h =
       new (record { dir = dir; name = name; node = linked; rows = h.0; is_bucket = refl; text = ap (λ (rs : List Row). content_of (rows_text rs)) h.1 })
   move_entered dir name rows ino (Unlinks old) new h = tt
+  move_entered dir name rows ino _ new h = absurd h
 
   move_written : (s : PlanState) → ((block : BlockId) (ver : ℕ) (value : Content) → next_call s ≡ Step (PutAt block ver value) → PutsIn block value → B)
       → InMove A S s → InMove B T (on_written s)
@@ -233,15 +151,7 @@ module _ (A S B T : Type 0) (f : A → B) (g : S → T) where
   move_written (Looks dir name job) new h = still_at_entry S T g job h
   move_written (Enters dir name v rows ino job) new h = move_entered dir name rows ino job (λ p. new _ v _ refl p) h
   move_written (Syncs dir name node) new h = f h
-  move_written (Measures ino task) new h = absurd h
-  move_written (Fetches ino blk low left got) new h = absurd h
-  move_written (Fills ino blk bytes end) new h = absurd h
-  move_written (Takes ino blk low bytes end) new h = absurd h
-  move_written (Patches ino blk low bytes end v old) new h = absurd h
-  move_written (Grows ino end v) new h = absurd h
-  move_written (Empties ino blk left v) new h = absurd h
-  move_written (Closes ino v) new h = absurd h
-  move_written (Gathers dir blk left rows) new h = absurd h
+  move_written _ new h = absurd h
 
   move_changed : (s : PlanState) → InMove A S s → InMove B T (on_changed s)
   move_changed (Ends answer) h = tt
@@ -249,15 +159,7 @@ module _ (A S B T : Type 0) (f : A → B) (g : S → T) where
   move_changed (Looks dir name job) h = still_at_entry S T g job h
   move_changed (Enters dir name v rows ino job) h = looks_again S T g name rows job h
   move_changed (Syncs dir name node) h = f h
-  move_changed (Measures ino task) h = absurd h
-  move_changed (Fetches ino blk low left got) h = absurd h
-  move_changed (Fills ino blk bytes end) h = absurd h
-  move_changed (Takes ino blk low bytes end) h = absurd h
-  move_changed (Patches ino blk low bytes end v old) h = absurd h
-  move_changed (Grows ino end v) h = absurd h
-  move_changed (Empties ino blk left v) h = absurd h
-  move_changed (Closes ino v) h = absurd h
-  move_changed (Gathers dir blk left rows) h = absurd h
+  move_changed _ h = absurd h
 
   move_synced : (s : PlanState) → (next_call s ≡ Step Sync → A → T) → InMove A S s → InMove B T (on_synced s)
   move_synced (Ends answer) new h = tt
@@ -265,15 +167,7 @@ module _ (A S B T : Type 0) (f : A → B) (g : S → T) where
   move_synced (Looks dir name job) new h = still_at_entry S T g job h
   move_synced (Enters dir name v rows ino job) new h = still_writing S T g name rows job h
   move_synced (Syncs dir name node) new h = new refl h
-  move_synced (Measures ino task) new h = absurd h
-  move_synced (Fetches ino blk low left got) new h = absurd h
-  move_synced (Fills ino blk bytes end) new h = absurd h
-  move_synced (Takes ino blk low bytes end) new h = absurd h
-  move_synced (Patches ino blk low bytes end v old) new h = absurd h
-  move_synced (Grows ino end v) new h = absurd h
-  move_synced (Empties ino blk left v) new h = absurd h
-  move_synced (Closes ino v) new h = absurd h
-  move_synced (Gathers dir blk left rows) new h = absurd h
+  move_synced _ new h = absurd h
 
   move_after : (s : PlanState) (a : BlockAnswer)
       → ((made : ℕ) (block : BlockId) (ver : ℕ) (value : Content) → a ≡ Written made → next_call s ≡ Step (PutAt block ver value) → PutsIn block value → B)
@@ -298,17 +192,7 @@ module _ (s0 : PlanState) where
       subst (InMove (Added (answers ++ a ∷ [])) (Settled (answers ++ a ∷ []))) (sym (last answers a s0))
       (move_after (Added answers) (Settled answers) (Added (answers ++ a ∷ [])) (Settled (answers ++ a ∷ [])) (written_more s0 PutsIn answers a)
       (settled_more s0 answers a) (after_all s0 answers) a
-      (λ made block ver value e f t. record {
-        before = answers;
-        later = [];
-        block = block;
-        over = ver;
-        value = value;
-        made = made;
-        split = ap (λ (b : BlockAnswer). answers ++ b ∷ []) e;
-        step = f;
-        such = t;
-      })
+      (written_last s0 PutsIn answers a)
       (λ e f added. record { before = answers; later = []; split = ap (λ (b : BlockAnswer). answers ++ b ∷ []) e; step = f; entered = added }) h)
 
   move_all : (rest front : List BlockAnswer) → Stands front → Stands (front ++ rest)
@@ -322,31 +206,17 @@ move_put A S (Walks dir name onto rest job) block value e h = cc
 move_put A S (Looks dir name job) block value e h = cc
 move_put A S (Enters dir name v rows ino job) block value e h = cc
 move_put A S (Syncs dir name node) block value e h = cc
-move_put A S (Measures ino task) block value e h = h
-move_put A S (Fetches ino blk low left got) block value e h = h
-move_put A S (Fills ino blk bytes end) block value e h = h
-move_put A S (Takes ino blk low bytes end) block value e h = h
-move_put A S (Patches ino blk low bytes end v old) block value e h = h
-move_put A S (Grows ino end v) block value e h = h
-move_put A S (Empties ino blk left v) block value e h = h
-move_put A S (Closes ino v) block value e h = h
-move_put A S (Gathers dir blk left rows) block value e h = h
+move_put A S _ block value e h = h
 
 -- the writes of a bucket
 move_write : (S : Type 0) (dir : Ino) (name : Name) (rows : List Row) (job : Job) → IsWriting S name rows job
     → PutsIn (block_at dir (bucket_number name)) (content_of (rows_text rows))
     ⊎ (TakesOut (block_at dir (bucket_number name)) (content_of (rows_text rows)) × S)
-move_write S dir name rows (Makes made) h = absurd h
-move_write S dir name rows (Puts offset bytes) h = absurd h
-move_write S dir name rows (Gets offset len) h = absurd h
-move_write S dir name rows Sizes h = absurd h
-move_write S dir name rows Lists h = absurd h
-move_write S dir name rows Removes h = absurd h
-move_write S dir name rows (Moves to) h = absurd h
 move_write S dir name rows (Links linked from old) h =
     inl (record { dir = dir; name = name; node = linked; rows = h.0; is_bucket = refl; text = ap (λ (rs : List Row). content_of (rows_text rs)) h.1 })
 move_write S dir name rows (Unlinks old) h =
     inr (record { dir = dir; name = name; rows = h.1.0; is_bucket = refl; text = ap (λ (rs : List Row). content_of (rows_text rs)) h.1.1 }, h.0)
+move_write S dir name rows _ h = absurd h
 
 move_put_at : (A S : Type 0) (s : PlanState) (block : BlockId) (ver : ℕ) (value : Content) → next_call s ≡ Step (PutAt block ver value) → InMove A S s
     → PutsIn block value ⊎ (TakesOut block value × S)
@@ -360,15 +230,7 @@ move_put_at A S (Enters dir name v rows ino job) block ver value e h =
     (subst (λ (v : Content). PutsIn (block_at dir (bucket_number name)) v ⊎ (TakesOut (block_at dir (bucket_number name)) v × S)) text
     (move_write S dir name rows job h))
 move_put_at A S (Syncs dir name node) block ver value e h = let no' : ⊥ = cc in absurd no'
-move_put_at A S (Measures ino task) block ver value e h = absurd h
-move_put_at A S (Fetches ino blk low left got) block ver value e h = absurd h
-move_put_at A S (Fills ino blk bytes end) block ver value e h = absurd h
-move_put_at A S (Takes ino blk low bytes end) block ver value e h = absurd h
-move_put_at A S (Patches ino blk low bytes end v old) block ver value e h = absurd h
-move_put_at A S (Grows ino end v) block ver value e h = absurd h
-move_put_at A S (Empties ino blk left v) block ver value e h = absurd h
-move_put_at A S (Closes ino v) block ver value e h = absurd h
-move_put_at A S (Gathers dir blk left rows) block ver value e h = absurd h
+move_put_at A S _ block ver value e h = absurd h
 
 move_sync : (A S : Type 0) (s : PlanState) → next_call s ≡ Step Sync → InMove A S s → A
 move_sync A S (Ends answer) e h = let no' : ⊥ = cc in absurd no'
@@ -376,15 +238,7 @@ move_sync A S (Walks dir name onto rest job) e h = let no' : ⊥ = cc in absurd 
 move_sync A S (Looks dir name job) e h = let no' : ⊥ = cc in absurd no'
 move_sync A S (Enters dir name v rows ino job) e h = let no' : ⊥ = cc in absurd no'
 move_sync A S (Syncs dir name node) e h = h
-move_sync A S (Measures ino task) e h = absurd h
-move_sync A S (Fetches ino blk low left got) e h = absurd h
-move_sync A S (Fills ino blk bytes end) e h = absurd h
-move_sync A S (Takes ino blk low bytes end) e h = absurd h
-move_sync A S (Patches ino blk low bytes end v old) e h = absurd h
-move_sync A S (Grows ino end v) e h = absurd h
-move_sync A S (Empties ino blk left v) e h = absurd h
-move_sync A S (Closes ino v) e h = absurd h
-move_sync A S (Gathers dir blk left rows) e h = absurd h
+move_sync A S _ e h = absurd h
 
 pub adds_before_it_removes : AddsBeforeItRemoves
 adds_before_it_removes from to number client answers block value =

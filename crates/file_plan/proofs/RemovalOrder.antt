@@ -18,9 +18,9 @@ use Rattle.file_plan.specs.declared.block_call.BlockCall.TheVariants.{Put, PutAt
 use Rattle.file_plan.specs.declared.block_call.Next.TheVariants.{Step}
 use Rattle.file_plan.specs.declared.node.Node.{Node}
 use Rattle.file_plan.specs.declared.state.Job.{Job}
-use Rattle.file_plan.specs.declared.state.Job.TheVariants.{Makes, Puts, Gets, Sizes, Lists, Removes, Moves, Links, Unlinks}
+use Rattle.file_plan.specs.declared.state.Job.TheVariants.{Removes}
 use Rattle.file_plan.specs.declared.state.PlanState.{PlanState}
-use Rattle.file_plan.specs.declared.state.PlanState.TheVariants.{Ends, Walks, Looks, Enters, Syncs, Measures, Fetches, Fills, Takes, Patches, Grows, Empties, Closes, Gathers}
+use Rattle.file_plan.specs.declared.state.PlanState.TheVariants.{Ends, Walks, Looks, Enters, Measures, Empties, Closes}
 use Rattle.file_plan.specs.declared.state.Task.{Task}
 use Rattle.file_plan.specs.declared.state.Task.TheVariants.{Tells, Cuts, Raises, Clears}
 use Rattle.file_plan.specs.Calls.{block_at, root}
@@ -28,18 +28,11 @@ use Rattle.file_plan.specs.Names.{Name, Row, name_cmp, bucket_number, is_directo
 use Rattle.file_plan.specs.Format.{content_of, rows_text, read_bucket, read_size}
 use Rattle.file_plan.specs.Plan.{walking, walking_path, walked_to, walked, emptying, blocks_of, measured, leaving, looked_at, looked, entered, on_got, on_written, on_changed, on_synced, after_answer, next_call, start_named, start, after_all, made_by}
 use Rattle.file_plan.specs.WriteOrder.{TakesOut, HasWritten, RemovesEntryFirst}
-use Rattle.file_plan.proofs.WritesKept.{either, last, from_here, written_more}
+use Rattle.file_plan.proofs.WritesKept.{either, last, from_here, written_more, written_last}
 
 abbrev IsRemoval : Job → Type 0
-IsRemoval (Makes made) = ⊥
-IsRemoval (Puts offset bytes) = ⊥
-IsRemoval (Gets offset len) = ⊥
-IsRemoval Sizes = ⊥
-IsRemoval Lists = ⊥
 IsRemoval Removes = Unit {0}
-IsRemoval (Moves to) = ⊥
-IsRemoval (Links linked from old) = ⊥
-IsRemoval (Unlinks old) = ⊥
+IsRemoval _ = ⊥
 
 abbrev IsClearing : Task → Type 0
 IsClearing Tells = ⊥
@@ -53,27 +46,14 @@ InRemoval H (Ends answer) = Unit {0}
 InRemoval H (Walks dir name onto rest job) = IsRemoval job
 InRemoval H (Looks dir name job) = IsRemoval job
 InRemoval H (Enters dir name ver rows ino job) = IsRemoval job × ((old : List Row) × (rows ≡ remove_entry (is_at (name_cmp name)) old))
-InRemoval H (Syncs dir name node) = ⊥
 InRemoval H (Measures ino task) = H × IsClearing task
-InRemoval H (Fetches ino blk low left got) = ⊥
-InRemoval H (Fills ino blk bytes end) = ⊥
-InRemoval H (Takes ino blk low bytes end) = ⊥
-InRemoval H (Patches ino blk low bytes end ver old) = ⊥
-InRemoval H (Grows ino end ver) = ⊥
 InRemoval H (Empties ino blk left ver) = H
 InRemoval H (Closes ino ver) = H
-InRemoval H (Gathers dir blk left rows) = ⊥
+InRemoval H _ = ⊥
 
 by_removal : (P : Job → Type 0) → P Removes → (job : Job) → IsRemoval job → P job
-by_removal P p (Makes made) h = absurd h
-by_removal P p (Puts offset bytes) h = absurd h
-by_removal P p (Gets offset len) h = absurd h
-by_removal P p Sizes h = absurd h
-by_removal P p Lists h = absurd h
 by_removal P p Removes h = p
-by_removal P p (Moves to) h = absurd h
-by_removal P p (Links linked from old) h = absurd h
-by_removal P p (Unlinks old) h = absurd h
+by_removal P p _ h = absurd h
 
 by_clearing : (P : Task → Type 0) → P Clears → (task : Task) → IsClearing task → P task
 by_clearing P p Tells h = absurd h
@@ -119,17 +99,11 @@ module _ (H K : Type 0) (kept : H → K) where
   removal_got (Looks dir name job) ver value h =
       by_removal (λ j. InRemoval K (looked dir name ver j (read_bucket value))) (removal_looked K dir name ver (read_bucket value)) job h
   removal_got (Enters dir name v rows ino job) ver value h = h
-  removal_got (Syncs dir name node) ver value h = absurd h
   removal_got (Measures ino task) ver value h =
       by_clearing (λ t. InRemoval K (measured ino t ver (read_size value))) (removal_measured K (kept h.0) ino ver (read_size value)) task h.1
-  removal_got (Fetches ino blk low left got) ver value h = absurd h
-  removal_got (Fills ino blk bytes end) ver value h = absurd h
-  removal_got (Takes ino blk low bytes end) ver value h = absurd h
-  removal_got (Patches ino blk low bytes end v old) ver value h = absurd h
-  removal_got (Grows ino end v) ver value h = absurd h
   removal_got (Empties ino blk left v) ver value h = kept h
   removal_got (Closes ino v) ver value h = kept h
-  removal_got (Gathers dir blk left rows) ver value h = absurd h
+  removal_got _ ver value h = absurd h
 
   removal_written : (s : PlanState) → ((block : BlockId) (ver : ℕ) (value : Content) → next_call s ≡ Step (PutAt block ver value) → TakesOut block value → K)
       → InRemoval H s → InRemoval K (on_written s)
@@ -143,64 +117,40 @@ module _ (H K : Type 0) (kept : H → K) where
         tt,
       )
       job h.0
-  removal_written (Syncs dir name node) new h = absurd h
   removal_written (Measures ino task) new h = (kept h.0, h.1)
-  removal_written (Fetches ino blk low left got) new h = absurd h
-  removal_written (Fills ino blk bytes end) new h = absurd h
-  removal_written (Takes ino blk low bytes end) new h = absurd h
-  removal_written (Patches ino blk low bytes end v old) new h = absurd h
-  removal_written (Grows ino end v) new h = absurd h
   removal_written (Empties ino blk left v) new h = removal_emptying K (kept h) ino (blk + 1) left v
   removal_written (Closes ino v) new h = tt
-  removal_written (Gathers dir blk left rows) new h = absurd h
+  removal_written _ new h = absurd h
 
   removal_still : (s : PlanState) → InRemoval H s → InRemoval K s
   removal_still (Ends answer) h = tt
   removal_still (Walks dir name onto rest job) h = h
   removal_still (Looks dir name job) h = h
   removal_still (Enters dir name v rows ino job) h = h
-  removal_still (Syncs dir name node) h = absurd h
   removal_still (Measures ino task) h = (kept h.0, h.1)
-  removal_still (Fetches ino blk low left got) h = absurd h
-  removal_still (Fills ino blk bytes end) h = absurd h
-  removal_still (Takes ino blk low bytes end) h = absurd h
-  removal_still (Patches ino blk low bytes end v old) h = absurd h
-  removal_still (Grows ino end v) h = absurd h
   removal_still (Empties ino blk left v) h = kept h
   removal_still (Closes ino v) h = kept h
-  removal_still (Gathers dir blk left rows) h = absurd h
+  removal_still _ h = absurd h
 
   removal_changed : (s : PlanState) → InRemoval H s → InRemoval K (on_changed s)
   removal_changed (Ends answer) h = tt
   removal_changed (Walks dir name onto rest job) h = h
   removal_changed (Looks dir name job) h = h
   removal_changed (Enters dir name v rows ino job) h = h.0
-  removal_changed (Syncs dir name node) h = absurd h
   removal_changed (Measures ino task) h = (kept h.0, h.1)
-  removal_changed (Fetches ino blk low left got) h = absurd h
-  removal_changed (Fills ino blk bytes end) h = absurd h
-  removal_changed (Takes ino blk low bytes end) h = absurd h
-  removal_changed (Patches ino blk low bytes end v old) h = absurd h
-  removal_changed (Grows ino end v) h = absurd h
   removal_changed (Empties ino blk left v) h = kept h
   removal_changed (Closes ino v) h = (kept h, tt)
-  removal_changed (Gathers dir blk left rows) h = absurd h
+  removal_changed _ h = absurd h
 
   removal_synced : (s : PlanState) → InRemoval H s → InRemoval K (on_synced s)
   removal_synced (Ends answer) h = tt
   removal_synced (Walks dir name onto rest job) h = h
   removal_synced (Looks dir name job) h = h
   removal_synced (Enters dir name v rows ino job) h = h
-  removal_synced (Syncs dir name node) h = absurd h
   removal_synced (Measures ino task) h = (kept h.0, h.1)
-  removal_synced (Fetches ino blk low left got) h = absurd h
-  removal_synced (Fills ino blk bytes end) h = absurd h
-  removal_synced (Takes ino blk low bytes end) h = absurd h
-  removal_synced (Patches ino blk low bytes end v old) h = absurd h
-  removal_synced (Grows ino end v) h = absurd h
   removal_synced (Empties ino blk left v) h = kept h
   removal_synced (Closes ino v) h = kept h
-  removal_synced (Gathers dir blk left rows) h = absurd h
+  removal_synced _ h = absurd h
 
   removal_after : (s : PlanState) (a : BlockAnswer)
       → ((made : ℕ) (block : BlockId) (ver : ℕ) (value : Content) → a ≡ Written made → next_call s ≡ Step (PutAt block ver value) → TakesOut block value → K)
@@ -219,17 +169,7 @@ module _ (s0 : PlanState) where
   removal_more answers a h =
       subst (InRemoval (TakenOut (answers ++ a ∷ []))) (sym (last answers a s0))
       (removal_after (TakenOut answers) (TakenOut (answers ++ a ∷ [])) (written_more s0 TakesOut answers a) (after_all s0 answers) a
-      (λ made block ver value e f t. record {
-        before = answers;
-        later = [];
-        block = block;
-        over = ver;
-        value = value;
-        made = made;
-        split = ap (λ (b : BlockAnswer). answers ++ b ∷ []) e;
-        step = f;
-        such = t;
-      }) h)
+      (written_last s0 TakesOut answers a) h)
 
   removal_all : (rest front : List BlockAnswer) → InRemoval (TakenOut front) (after_all s0 front)
       → InRemoval (TakenOut (front ++ rest)) (after_all s0 (front ++ rest))
@@ -244,16 +184,10 @@ removal_put H (Ends answer) block value e h = let no' : ⊥ = cc in absurd no'
 removal_put H (Walks dir name onto rest job) block value e h = let no' : ⊥ = cc in absurd no'
 removal_put H (Looks dir name job) block value e h = let no' : ⊥ = cc in absurd no'
 removal_put H (Enters dir name v rows ino job) block value e h = let no' : ⊥ = cc in absurd no'
-removal_put H (Syncs dir name node) block value e h = absurd h
 removal_put H (Measures ino task) block value e h = let no' : ⊥ = cc in absurd no'
-removal_put H (Fetches ino blk low left got) block value e h = absurd h
-removal_put H (Fills ino blk bytes end) block value e h = absurd h
-removal_put H (Takes ino blk low bytes end) block value e h = absurd h
-removal_put H (Patches ino blk low bytes end v old) block value e h = absurd h
-removal_put H (Grows ino end v) block value e h = absurd h
 removal_put H (Empties ino blk left v) block value e h = let none : None ≡ value = cc in (h, sym none)
 removal_put H (Closes ino v) block value e h = let no' : ⊥ = cc in absurd no'
-removal_put H (Gathers dir blk left rows) block value e h = absurd h
+removal_put H _ block value e h = absurd h
 
 -- a write of a removal over a version
 removal_put_at : (H : Type 0) (s : PlanState) (block : BlockId) (ver : ℕ) (value : Content) → next_call s ≡ Step (PutAt block ver value) → InRemoval H s
@@ -265,16 +199,10 @@ removal_put_at H (Enters dir name v rows ino job) block ver value e h =
     let at : block_at dir (bucket_number name) ≡ block = cc in
     let text : content_of (rows_text rows) ≡ value = cc in
     inl (record { dir = dir; name = name; rows = h.1.0; is_bucket = sym at; text = sym text ∙ ap (λ (rs : List Row). content_of (rows_text rs)) h.1.1 })
-removal_put_at H (Syncs dir name node) block ver value e h = absurd h
 removal_put_at H (Measures ino task) block ver value e h = let no' : ⊥ = cc in absurd no'
-removal_put_at H (Fetches ino blk low left got) block ver value e h = absurd h
-removal_put_at H (Fills ino blk bytes end) block ver value e h = absurd h
-removal_put_at H (Takes ino blk low bytes end) block ver value e h = absurd h
-removal_put_at H (Patches ino blk low bytes end v old) block ver value e h = absurd h
-removal_put_at H (Grows ino end v) block ver value e h = absurd h
 removal_put_at H (Empties ino blk left v) block ver value e h = let no' : ⊥ = cc in absurd no'
 removal_put_at H (Closes ino v) block ver value e h = let none : None ≡ value = cc in inr (h, sym none)
-removal_put_at H (Gathers dir blk left rows) block ver value e h = absurd h
+removal_put_at H _ block ver value e h = absurd h
 
 removal_path : (H : Type 0) (path : List Name) (fault : FileFault) → InRemoval H (walking_path path fault Removes)
 removal_path H [] fault = tt

@@ -34,20 +34,12 @@ use Rattle.file_plan.specs.Calls.{root}
 
 -- the versions that a state keeps are known
 abbrev Knows : (BlockId → ℕ → Type 0) → PlanState → Type 0
-Knows P (Ends answer) = Unit {0}
-Knows P (Walks dir name onto rest job) = Unit {0}
-Knows P (Looks dir name job) = Unit {0}
 Knows P (Enters dir name ver rows ino job) = P (block_at dir (bucket_number name)) ver
-Knows P (Syncs dir name node) = Unit {0}
-Knows P (Measures ino task) = Unit {0}
-Knows P (Fetches ino blk low left got) = Unit {0}
-Knows P (Fills ino blk bytes end) = Unit {0}
-Knows P (Takes ino blk low bytes end) = Unit {0}
 Knows P (Patches ino blk low bytes end ver old) = P (block_at ino blk) ver
 Knows P (Grows ino end ver) = P (block_at ino size_block) ver
 Knows P (Empties ino blk left ver) = P (block_at ino size_block) ver
 Knows P (Closes ino ver) = P (block_at ino size_block) ver
-Knows P (Gathers dir blk left rows) = Unit {0}
+Knows P _ = Unit {0}
 
 module _ (P : BlockId → ℕ → Type 0) where
   knows_if : (b : Bool) (x y : PlanState) → Knows P x → Knows P y → Knows P (cond b x y)
@@ -115,29 +107,20 @@ module _ (P : BlockId → ℕ → Type 0) where
         (knows_filling ino (offset / block_size) (offset % block_size) bytes (end_of offset bytes))
 
     knows_at_entry : (job : Job) (node : Node) → Knows P (at_entry dir name ver rows job node)
-    knows_at_entry (Makes made) node = tt
     knows_at_entry (Puts offset bytes) node = knows_putting node.ino offset bytes
-    knows_at_entry (Gets offset len) node = tt
-    knows_at_entry Sizes node = tt
     knows_at_entry Lists node = knows_if (is_directory node) (gathering node.ino 0 8 []) (Ends (File NotDir)) tt tt
     knows_at_entry Removes node = p
     knows_at_entry (Moves to) node = knows_path to Exists (Links node dir name)
-    knows_at_entry (Links linked from old) node = tt
     knows_at_entry (Unlinks old) node = knows_if (same_node old node) (leaving dir name ver rows node.ino (Unlinks old)) (Ends Done) p tt
+    knows_at_entry _ node = tt
 
     knows_found : (job : Job) (node : Node) → Knows P (found dir name ver rows job node)
     knows_found job node = knows_if (needs_file job && is_directory node) (Ends (File IsDir)) (at_entry dir name ver rows job node) tt (knows_at_entry job node)
 
     knows_unfound : (job : Job) → Knows P (unfound dir name ver rows job)
     knows_unfound (Makes made) = knows_entering made (Makes made)
-    knows_unfound (Puts offset bytes) = tt
-    knows_unfound (Gets offset len) = tt
-    knows_unfound Sizes = tt
-    knows_unfound Lists = tt
-    knows_unfound Removes = tt
-    knows_unfound (Moves to) = tt
     knows_unfound (Links linked from old) = knows_entering linked (Links linked from old)
-    knows_unfound (Unlinks old) = tt
+    knows_unfound _ = tt
 
     knows_looked_at : (job : Job) (o : Option Node) → Knows P (looked_at dir name ver rows job o)
     knows_looked_at job None = knows_unfound job
@@ -150,14 +133,7 @@ module _ (P : BlockId → ℕ → Type 0) where
 
   knows_entered : (job : Job) (ino : Ino) → Knows P (entered job ino)
   knows_entered (Makes made) ino = tt
-  knows_entered (Puts offset bytes) ino = tt
-  knows_entered (Gets offset len) ino = tt
-  knows_entered Sizes ino = tt
-  knows_entered Lists ino = tt
-  knows_entered Removes ino = tt
-  knows_entered (Moves to) ino = tt
-  knows_entered (Links linked from old) ino = tt
-  knows_entered (Unlinks old) ino = tt
+  knows_entered _ ino = tt
 
 -- what is known stays known, and what is read is known from then on
 module _ (P R : BlockId → ℕ → Type 0) (kept : (block : BlockId) (ver : ℕ) → P block ver → R block ver) where
@@ -166,65 +142,32 @@ module _ (P R : BlockId → ℕ → Type 0) (kept : (block : BlockId) (ver : ℕ
   on_got_knows (Ends answer) ver value new h = tt
   on_got_knows (Walks dir name onto rest job) ver value new h = knows_walked R name onto rest job _
   on_got_knows (Looks dir name job) ver value new h = knows_looked R dir name ver (new (block_at dir (bucket_number name)) refl) job _
-  on_got_knows (Enters dir name v rows ino job) ver value new h = kept _ _ h
   on_got_knows (Syncs dir name node) ver value new h = tt
   on_got_knows (Measures ino task) ver value new h = knows_measured R ino task ver _ (new (block_at ino size_block) refl)
   on_got_knows (Fetches ino blk low left got) ver value new h = knows_fetching R ino (blk + 1) 0 _ _
   on_got_knows (Fills ino blk bytes end) ver value new h = tt
   on_got_knows (Takes ino blk low bytes end) ver value new h = new (block_at ino blk) refl
-  on_got_knows (Patches ino blk low bytes end v old) ver value new h = kept _ _ h
-  on_got_knows (Grows ino end v) ver value new h = kept _ _ h
-  on_got_knows (Empties ino blk left v) ver value new h = kept _ _ h
-  on_got_knows (Closes ino v) ver value new h = kept _ _ h
   on_got_knows (Gathers dir blk left rows) ver value new h = knows_gathered R dir blk left rows _
+  on_got_knows _ ver value new h = kept _ _ h
 
   on_written_knows : (s : PlanState) → Knows P s → Knows R (on_written s)
-  on_written_knows (Ends answer) h = tt
-  on_written_knows (Walks dir name onto rest job) h = tt
-  on_written_knows (Looks dir name job) h = tt
   on_written_knows (Enters dir name ver rows ino job) h = knows_entered R job ino
-  on_written_knows (Syncs dir name node) h = tt
-  on_written_knows (Measures ino task) h = tt
-  on_written_knows (Fetches ino blk low left got) h = tt
   on_written_knows (Fills ino blk bytes end) h = knows_filling R ino (blk + 1) 0 (drop block_size bytes) end
-  on_written_knows (Takes ino blk low bytes end) h = tt
   on_written_knows (Patches ino blk low bytes end ver old) h = knows_filling R ino (blk + 1) 0 (drop (block_size - low) bytes) end
-  on_written_knows (Grows ino end ver) h = tt
   on_written_knows (Empties ino blk left ver) h = knows_emptying R ino (blk + 1) left ver (kept _ _ h)
-  on_written_knows (Closes ino ver) h = tt
-  on_written_knows (Gathers dir blk left rows) h = tt
+  on_written_knows _ h = tt
 
   on_changed_knows : (s : PlanState) → Knows P s → Knows R (on_changed s)
-  on_changed_knows (Ends answer) h = tt
-  on_changed_knows (Walks dir name onto rest job) h = tt
-  on_changed_knows (Looks dir name job) h = tt
-  on_changed_knows (Enters dir name ver rows ino job) h = tt
-  on_changed_knows (Syncs dir name node) h = tt
-  on_changed_knows (Measures ino task) h = tt
-  on_changed_knows (Fetches ino blk low left got) h = tt
-  on_changed_knows (Fills ino blk bytes end) h = tt
-  on_changed_knows (Takes ino blk low bytes end) h = tt
-  on_changed_knows (Patches ino blk low bytes end ver old) h = tt
-  on_changed_knows (Grows ino end ver) h = tt
   on_changed_knows (Empties ino blk left ver) h = kept _ _ h
-  on_changed_knows (Closes ino ver) h = tt
-  on_changed_knows (Gathers dir blk left rows) h = tt
+  on_changed_knows _ h = tt
 
   on_synced_knows : (s : PlanState) → Knows P s → Knows R (on_synced s)
-  on_synced_knows (Ends answer) h = tt
-  on_synced_knows (Walks dir name onto rest job) h = tt
-  on_synced_knows (Looks dir name job) h = tt
   on_synced_knows (Enters dir name ver rows ino job) h = kept _ _ h
-  on_synced_knows (Syncs dir name node) h = tt
-  on_synced_knows (Measures ino task) h = tt
-  on_synced_knows (Fetches ino blk low left got) h = tt
-  on_synced_knows (Fills ino blk bytes end) h = tt
-  on_synced_knows (Takes ino blk low bytes end) h = tt
   on_synced_knows (Patches ino blk low bytes end ver old) h = kept _ _ h
   on_synced_knows (Grows ino end ver) h = kept _ _ h
   on_synced_knows (Empties ino blk left ver) h = kept _ _ h
   on_synced_knows (Closes ino ver) h = kept _ _ h
-  on_synced_knows (Gathers dir blk left rows) h = tt
+  on_synced_knows _ h = tt
 
   after_knows : (s : PlanState) (a : BlockAnswer)
       → ((block : BlockId) (ver : ℕ) (old : Content) → next_call s ≡ Step (Get block) → a ≡ Got ver old → R block ver) → Knows P s → Knows R (after_answer s a)
@@ -260,24 +203,15 @@ module _ (s0 : PlanState) where
 -- a state that writes over a version keeps that version
 named_known : (P : BlockId → ℕ → Type 0) (s : PlanState) (block : BlockId) (ver : ℕ) (value : Content) → next_call s ≡ Step (PutAt block ver value) → Knows P s
     → P block ver
-named_known P (Ends answer) block ver value e h = let no' : ⊥ = cc in absurd no'
-named_known P (Walks dir name onto rest job) block ver value e h = let no' : ⊥ = cc in absurd no'
-named_known P (Looks dir name job) block ver value e h = let no' : ⊥ = cc in absurd no'
 named_known P (Enters dir name v rows ino job) block ver value e h = let same : block_at dir (bucket_number name) ≡ block = cc in let at : v ≡ ver =
     cc in subst (λ (n : ℕ). P block n) at (subst (λ (b : BlockId). P b v) same h)
-named_known P (Syncs dir name node) block ver value e h = let no' : ⊥ = cc in absurd no'
-named_known P (Measures ino task) block ver value e h = let no' : ⊥ = cc in absurd no'
-named_known P (Fetches ino blk low left got) block ver value e h = let no' : ⊥ = cc in absurd no'
-named_known P (Fills ino blk bytes end) block ver value e h = let no' : ⊥ = cc in absurd no'
-named_known P (Takes ino blk low bytes end) block ver value e h = let no' : ⊥ = cc in absurd no'
 named_known P (Patches ino blk low bytes end v old) block ver value e h = let same : block_at ino blk ≡ block = cc in let at : v ≡ ver =
     cc in subst (λ (n : ℕ). P block n) at (subst (λ (b : BlockId). P b v) same h)
 named_known P (Grows ino end v) block ver value e h = let same : block_at ino size_block ≡ block = cc in let at : v ≡ ver =
     cc in subst (λ (n : ℕ). P block n) at (subst (λ (b : BlockId). P b v) same h)
-named_known P (Empties ino blk left v) block ver value e h = let no' : ⊥ = cc in absurd no'
 named_known P (Closes ino v) block ver value e h = let same : block_at ino size_block ≡ block = cc in let at : v ≡ ver =
     cc in subst (λ (n : ℕ). P block n) at (subst (λ (b : BlockId). P b v) same h)
-named_known P (Gathers dir blk left rows) block ver value e h = let no' : ⊥ = cc in absurd no'
+named_known P _ block ver value e h = let no' : ⊥ = cc in absurd no'
 
 knows_start : (P : BlockId → ℕ → Type 0) (c : FileCall) (ino : Ino) → Knows P (start_named c ino)
 knows_start P (call.Mk path) ino = knows_path P path Exists (Makes (record { kind = kind.File; ino = ino }))
@@ -303,21 +237,12 @@ over_reads c number client answers block ver value e =
 -- a state whose write was refused reads the block
 reads_next : (s : PlanState) (block : BlockId) (ver : ℕ) (value : Content) → next_call s ≡ Step (PutAt block ver value)
     → next_call (on_changed s) ≡ Step (Get block)
-reads_next (Ends answer) block ver value e = let no' : ⊥ = cc in absurd no'
-reads_next (Walks dir name onto rest job) block ver value e = let no' : ⊥ = cc in absurd no'
-reads_next (Looks dir name job) block ver value e = let no' : ⊥ = cc in absurd no'
 reads_next (Enters dir name v rows ino job) block ver value e = let same : block_at dir (bucket_number name) ≡ block =
     cc in ap (λ (b : BlockId). Step (Get b)) same
-reads_next (Syncs dir name node) block ver value e = let no' : ⊥ = cc in absurd no'
-reads_next (Measures ino task) block ver value e = let no' : ⊥ = cc in absurd no'
-reads_next (Fetches ino blk low left got) block ver value e = let no' : ⊥ = cc in absurd no'
-reads_next (Fills ino blk bytes end) block ver value e = let no' : ⊥ = cc in absurd no'
-reads_next (Takes ino blk low bytes end) block ver value e = let no' : ⊥ = cc in absurd no'
 reads_next (Patches ino blk low bytes end v old) block ver value e = let same : block_at ino blk ≡ block = cc in ap (λ (b : BlockId). Step (Get b)) same
 reads_next (Grows ino end v) block ver value e = let same : block_at ino size_block ≡ block = cc in ap (λ (b : BlockId). Step (Get b)) same
-reads_next (Empties ino blk left v) block ver value e = let no' : ⊥ = cc in absurd no'
 reads_next (Closes ino v) block ver value e = let same : block_at ino size_block ≡ block = cc in ap (λ (b : BlockId). Step (Get b)) same
-reads_next (Gathers dir blk left rows) block ver value e = let no' : ⊥ = cc in absurd no'
+reads_next _ block ver value e = let no' : ⊥ = cc in absurd no'
 
 pub reads_again : ReadsAgain
 reads_again c number client answers block ver value e =
