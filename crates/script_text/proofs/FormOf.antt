@@ -123,37 +123,7 @@ form_by k v = form_at (position (λ g. (kind_of g == k) && bytes_eq v (verb g)) 
 
 form_told : (f : Form) → form_by (kind_of f) (verb f) ≡ Some f
 form_told Bput = refl
-form_told Bget = refl
-form_told Sync = refl
-form_told Mk = refl
-form_told Mkdir = refl
-form_told Put = refl
-form_told Get = refl
-form_told Size = refl
-form_told Ls = refl
-form_told Rm = refl
-form_told Mv = refl
-form_told ClientCrash = refl
-form_told ClientRestart = refl
-form_told CleanerCrash = refl
-form_told CleanerRestart = refl
-form_told Clean = refl
-form_told ManagerCrash = refl
-form_told ManagerRestart = refl
-form_told Checkpoint = refl
-form_told Lose = refl
-form_told Rebuild = refl
-form_told ServerStop = refl
-form_told ServerStart = refl
-form_told Move = refl
-form_told BoardStop = refl
-form_told BoardStart = refl
-form_told NetLose = refl
-form_told NetAgain = refl
-form_told NetMix = refl
-form_told NetHold = refl
-form_told NetGo = refl
-form_told NetStep = refl
+form_told f = refl
 
 -- a place in the list of all where a form stands
 record Stands (f : Form) : Type 0 where
