@@ -74,19 +74,7 @@ has_logs (body.Usage usage) = list_all (λ count. is_name count.0) usage.counts
 has_logs (body.Welcome welcome) = is_news welcome.news
 has_logs (body.MapNews news) = is_news news
 has_logs (body.CkptDone done) = list_all is_part done.parts && is_horizon done.horizon
-has_logs (body.Want want) = true
-has_logs (body.Forward forward) = true
-has_logs (body.Supply supply) = true
-has_logs (body.Recall recall) = true
-has_logs (body.Gave gave) = true
-has_logs (body.DeltaAck ack) = true
-has_logs (body.Poll poll) = true
-has_logs (body.Report report) = true
-has_logs (body.List ask) = true
-has_logs (body.Dead dead) = true
-has_logs (body.UsageAsk ask) = true
-has_logs (body.Hello hello) = true
-has_logs (body.CkptAck ack) = true
+has_logs _ = true
 
 -- the slot that a body names is 0 to 7
 abbrev pub has_slot : Body → Bool
@@ -98,35 +86,12 @@ has_slot (body.UsageAsk ask) = is_slot ask.slot
 has_slot (body.Usage usage) = is_slot usage.slot
 has_slot (body.CkptDone done) = is_slot done.slot
 has_slot (body.CkptAck ack) = is_slot ack.slot
-has_slot (body.Want want) = true
-has_slot (body.Grant grant) = true
-has_slot (body.Forward forward) = true
-has_slot (body.Supply supply) = true
-has_slot (body.Recall recall) = true
-has_slot (body.Gave gave) = true
-has_slot (body.Gone gone) = true
-has_slot (body.Store store) = true
-has_slot (body.Stored stored) = true
-has_slot (body.Fetch fetch) = true
-has_slot (body.Fragment found) = true
-has_slot (body.Missing missing) = true
-has_slot (body.Fence fence) = true
-has_slot (body.Fenced fenced) = true
-has_slot (body.List ask) = true
-has_slot (body.Listed listed) = true
-has_slot (body.Delete delete) = true
-has_slot (body.Deleted deleted) = true
-has_slot (body.Check check) = true
-has_slot (body.Live live) = true
-has_slot (body.Dead dead) = true
-has_slot (body.Hello hello) = true
-has_slot (body.Welcome welcome) = true
-has_slot (body.MapNews news) = true
+has_slot _ = true
 
 -- each version that rows of a log tell is at least 65,536 below its end
 abbrev pub has_versions : Body → Bool
 has_versions (body.Deltas deltas) = list_all (λ row. has_long_room row.1.ver) deltas.rows
-has_versions other = true
+has_versions _ = true
 
 -- whether a node looks at a packet: its sender is a node, and its numbers are in range
 abbrev pub is_well_formed : Peers → Packet → Bool
