@@ -186,15 +186,10 @@ module _ (laws : Below) (part : ℕ) (texts : Texts) (c : ℕ) (g : Setting) (tr
   not_then q after gone = client_away part texts g c v j q (subst (log_tie.ClientAgrees g c v) after then_sees) gone
 
   by_phases : (p q : Phase) → node.phase ≡ p → x.state ≡ q → Way
-  by_phases (Down k) (Down l) before after = away (not_then (Down l) after tt) (goes_as (Down k) (Down l) before after)
-  by_phases (Opening k o) (Down l) before after = away (not_then (Down l) after tt) (goes_as (Opening k o) (Down l) before after)
-  by_phases (Serves r) (Down l) before after = away (not_then (Down l) after tt) (goes_as (Serves r) (Down l) before after)
-  by_phases (Down k) (Opening l o) before after = away (not_then (Opening l o) after tt) (goes_as (Down k) (Opening l o) before after)
-  by_phases (Opening k a) (Opening l o) before after = away (not_then (Opening l o) after tt) (goes_as (Opening k a) (Opening l o) before after)
-  by_phases (Serves r) (Opening l o) before after = away (not_then (Opening l o) after tt) (goes_as (Serves r) (Opening l o) before after)
   by_phases (Down k) (Serves s) before after = absurd (goes_as (Down k) (Serves s) before after)
   by_phases (Opening l o) (Serves s) before after = reopens l o s before after
   by_phases (Serves r) (Serves s) before after = serves r s before after
+  by_phases p q before after = away (not_then q after tt) (goes_as p q before after)
 
   -- the client's log after its event
   pub client_after : OwnAfter IsOriginal c (moment_then at goes) u.books j.filed
