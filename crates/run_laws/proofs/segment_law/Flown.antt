@@ -21,6 +21,7 @@ use Rattle.log_protocol.specs.Tables.{In}
 use Rattle.log_scan.specs.ScanState.{ScanState}
 use Rattle.log_scan.specs.Transition as scan
 use Rattle.log_tie.specs.Setting.{Setting}
+use Rattle.node_moves.proofs.LogWalk as log_walk
 use Rattle.segment_format.specs.declared.segment.Segment.{Segment}
 use Rattle.xfs_base.proofs.Booleans.{contrary}
 use Rattle.run_laws.specs.segment_tie.Segments.{IsFirstHand, IsOriginal, WritesNothing, WritesOriginals}
@@ -32,15 +33,14 @@ use Rattle.run_laws.specs.segment_law.Flown.{IsOriginalLog, LogsGoOnOriginal, Ow
 
 -- ---- a log that serves
 
+own_given : (i : Input) → PutsOwn i → log_walk.Given (logs.walk IsFirstHand IsOriginal originals) i
+own_given (Put block entry value) own = record { version = own.0; hop = own.1 }
+own_given (Parts items) own = λ t fact. (nothing_is t (fact ∙ own)).original
+own_given _ own = tt
+
 -- it goes on so whatever of its own it takes
 own_so : (s : LogState) (i : Input) → PutsOwn i → WritesOriginals s → WritesOriginals (transition s i).state
-own_so s (Put block entry value) own h =
-    logs.put_so IsFirstHand IsOriginal originals s block (record { entry = entry; value = value }) (record { version = own.0; hop = own.1 }) h
-own_so s (Parts items) own h = logs.parts_so IsFirstHand IsOriginal originals s items (λ t fact. (nothing_is t (fact ∙ own)).original) h
-own_so s Seal own h = logs.seal_so IsFirstHand IsOriginal originals s h
-own_so s (Acked name index generation) own h = logs.acked_so IsFirstHand IsOriginal originals s name index generation h
-own_so s (Maps groups) own h = logs.maps_so IsFirstHand IsOriginal originals s groups h
-own_so s Tick own h = logs.tick_so IsFirstHand IsOriginal originals s h
+own_so s i own h = logs.log_so IsFirstHand IsOriginal originals s i (own_given i own) h
 
 all_so : (s : LogState) (inputs : List Input) → AllByRecursion PutsOwn inputs → WritesOriginals s → WritesOriginals (state_after s inputs)
 all_so s [] own h = h

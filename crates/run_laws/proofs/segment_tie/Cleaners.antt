@@ -8,6 +8,7 @@ use Rattle.cleaner_node.specs.declared.cleaner.Phase.{Phase}
 use Rattle.cleaner_node.specs.declared.cleaner.Phase.TheVariants.{Down, Opening, Serving}
 use Rattle.cleaner_serving.specs.declared.emptying.Emptying.{Emptying}
 use Rattle.client_log.specs.declared.input.In.{In as LogIn}
+use Rattle.client_log.specs.declared.input.In.TheVariants as log_ins
 use Rattle.client_log.specs.LogState.{LogState}
 use Rattle.client_log.specs.Transition as log
 use Rattle.log_flight.specs.declared.dirty.Change.{Change}
@@ -73,14 +74,14 @@ moved_waits block entry value fact = record {
 
 put_so : (s : LogState) (i : LogIn) → Put (OutMoved versions) i → WritesCopies s → WritesCopies (log.transition s i).state
 put_so s i (BlockPut block entry value moved) h =
-    logs.put_so IsMoved IsCopies copies s block (record { entry = entry; value = value }) (moved_waits block entry value moved.0) h
-put_so s i AllPut h = logs.seal_so IsMoved IsCopies copies s h
+    logs.log_so IsMoved IsCopies copies s (log_ins.Put block entry value) (moved_waits block entry value moved.0) h
+put_so s i AllPut h = logs.log_so IsMoved IsCopies copies s log_ins.Seal tt h
 
 written_so : (first : Cleaner) (what : Do) (e : Emptying) (i : LogIn) → Written first what e i → WritesCopies e.log
     → WritesCopies (log.transition e.log i).state
-written_so first what e i (AckCame packet m same came) h = logs.acked_so IsMoved IsCopies copies e.log m.name m.index m.generation h
-written_so first what e i (GroupsCame before packet news same as_was brought) h = logs.maps_so IsMoved IsCopies copies e.log news.groups h
-written_so first what e i LogTicks h = logs.tick_so IsMoved IsCopies copies e.log h
+written_so first what e i (AckCame packet m same came) h = logs.log_so IsMoved IsCopies copies e.log (log_ins.Acked m.name m.index m.generation) tt h
+written_so first what e i (GroupsCame before packet news same as_was brought) h = logs.log_so IsMoved IsCopies copies e.log (log_ins.Maps news.groups) tt h
+written_so first what e i LogTicks h = logs.log_so IsMoved IsCopies copies e.log log_ins.Tick tt h
 
 -- ---- one that doesn't
 

@@ -61,7 +61,7 @@ takes_keep n = record {
   lets = λ t l c block g clean fact p. p;
   lowers = λ t l c block g clean fact p. p;
   leaves = λ t l c block nothing p. p;
-  seals = λ t l c p. logs.seal_so IsFirstHand IsOriginal originals l p;
+  seals = λ t l c p. logs.log_so IsFirstHand IsOriginal originals l log_ins.Seal tt p;
 }
 
 -- ---- the cache
@@ -130,9 +130,7 @@ outer_so : (s : LogState) (i : log_in.In) → IsOuter AnyMap i → WritesOrigina
 outer_so s (log_ins.Put block entry value) outer p = absurd outer
 outer_so s (log_ins.Parts items) outer p = absurd outer
 outer_so s log_ins.Seal outer p = absurd outer
-outer_so s (log_ins.Acked name index generation) outer p = logs.acked_so IsFirstHand IsOriginal originals s name index generation p
-outer_so s (log_ins.Maps groups) outer p = logs.maps_so IsFirstHand IsOriginal originals s groups p
-outer_so s log_ins.Tick outer p = logs.tick_so IsFirstHand IsOriginal originals s p
+outer_so s i outer p = logs.log_so IsFirstHand IsOriginal originals s i tt p
 
 -- a block is written: its new version waits, at first hand
 changed_so : (s : Serving) (block : BlockId) (value : Option (List ℕ)) → may_write (held_at s block) ≡ true → So s → So (changes s block value).done.state
@@ -141,7 +139,7 @@ changed_so s block value may p =
     let w : Serving = wrote s block value in
     let entry : Entry = record { ver = (held_at w block).ver; hop = 0; place = None } in
     wrote_so w (log_ins.Put block entry value)
-    (logs.put_so IsFirstHand IsOriginal originals w.log block (record { entry = entry; value = value })
+    (logs.log_so IsFirstHand IsOriginal originals w.log (log_ins.Put block entry value)
     (record { version = written_some s.tokens block value may; hop = refl }) p)
 
 gone_so : (s : Serving) (block : BlockId) → So s → So (notes_gone s block)

@@ -1,18 +1,16 @@
 -- A log that waits for such versions and has such a segment in flight goes on so, whatever it takes.
-use Rattle.std.proofs.Common.{List, ◌≡◌, ℕ, zero, suc, ◌≤◌, ◌&&◌, cond, [], ◌∷◌, map, length, Option, Some, None, refl, sym, subst, nat_lt}
+use Rattle.std.proofs.Common.{List, ◌≡◌, ℕ, zero, suc, ◌≤◌, [], ◌∷◌, map, length, Option, Some, None, refl, sym, subst}
 use Rattle.std.specs.Prelude.{drop, take, IfSome}
 use Rattle.std.proofs.lemmas.List.{drop-map, take-map}
 use Rattle.indexmap.specs.IndexMap.{insert_entry}
+use Rattle.client_log.specs.declared.input.In.{In}
 use Rattle.client_log.specs.LogState.{LogState}
-use Rattle.client_log.specs.Transition.{Done, launched, has_next, is_idle, is_full, can_go_on, sealed, if_full, waits, on_put, on_seal, restriped, landed, settled, can_follow, followed, looked_at, on_acked, on_maps, on_tick, all_sends, on_parts, writes}
-use Rattle.group_map.specs.GroupMapState.{GroupMapState}
+use Rattle.client_log.specs.Transition.{transition}
 use Rattle.log_flight.specs.declared.dirty.Change.{Change}
-use Rattle.log_flight.specs.declared.flight.Fate.{Fate}
-use Rattle.log_flight.specs.declared.flight.Fate.TheVariants.{Restripe, Settle, Wait}
-use Rattle.log_flight.specs.Fate.{fate_of}
-use Rattle.log_flight.specs.Flights.{FlightState, is_of, noting}
+use Rattle.log_flight.specs.Flights.{FlightState}
 use Rattle.log_flight.specs.Items.{items_of}
-use Rattle.log_flight.specs.Texts.{has_text}
+use Rattle.node_moves.proofs.LogWalk as log_walk
+use Rattle.node_moves.proofs.LogWalk.{Walk}
 use Rattle.node_slots.specs.node_tie.LogRows.{row_of, told}
 use Rattle.node_slots.proofs.node_tie.ClientRows.{once_dropped, once_put, once_taken, rows_put}
 use Rattle.node_slots.proofs.node_tie.LogRows.{take_within}
@@ -22,9 +20,7 @@ use Rattle.token_law.specs.Books.{AreOnce}
 use Rattle.xfs_base.proofs.Booleans.{by_test}
 use Rattle.xfs_base.specs.Blocks.{same_block}
 use Rattle.xfs_base.specs.declared.block.BlockId.{BlockId}
-use Rattle.xfs_base.specs.declared.segment.SegName.{SegName}
 use Rattle.xfs_base.specs.Limits.{segment_blocks}
-use Rattle.xfs_base.specs.Steps.{still}
 use Rattle.run_laws.specs.segment_tie.Segments.{IsOriginal, IsCopies, IsFirstHand, IsMoved, IsWaiting, WritesSo}
 use Rattle.run_laws.proofs.segment_tie.Items.{Says, Changes, AllWait, changes_tell, original_alike, original_of, copies_alike, copies_of}
 
@@ -46,115 +42,66 @@ copies = record {
 }
 
 module _ (Moved : ℕ → Type 0) (Flies : Segment → Type 0) (kind : IsKind Moved Flies) where
-  abbrev pub So : LogState → Type 0
+  abbrev So : LogState → Type 0
   So s = WritesSo Moved Flies s.dirty s.flight
-
-  abbrev Keeps : Done → Type 0
-  Keeps d = So d.state
 
   -- ---- what waits
 
-  dropped : (n : ℕ) (cs : Changes) → AllWait Moved cs → AllWait Moved (drop n cs)
+  pub dropped : (n : ℕ) (cs : Changes) → AllWait Moved cs → AllWait Moved (drop n cs)
   dropped zero cs all = all
   dropped (suc n) [] all = tt
   dropped (suc n) (c ∷ cs) all = dropped n cs all.1
 
-  taken : (n : ℕ) (cs : Changes) → AllWait Moved cs → AllWait Moved (take n cs)
+  pub taken : (n : ℕ) (cs : Changes) → AllWait Moved cs → AllWait Moved (take n cs)
   taken zero cs all = tt
   taken (suc n) [] all = tt
   taken (suc n) (c ∷ cs) all = (all.0, taken n cs all.1)
 
-  put : (block : BlockId) (change : Change) (cs : Changes) → IsWaiting Moved change → AllWait Moved cs → AllWait Moved (insert_entry same_block cs block change)
+  pub put : (block : BlockId) (change : Change) (cs : Changes) → IsWaiting Moved change → AllWait Moved cs → AllWait Moved (insert_entry same_block cs block change)
   put block change [] new all = (new, tt)
   put block change (c ∷ cs) new all =
       by_test (AllWait Moved) (same_block block c.0) ((c.0, change) ∷ cs) (c ∷ insert_entry same_block cs block change) (λ t. (new, all.1))
       (λ t. (all.0, put block change cs new all.1))
 
-  waits_so : (s : LogState) (block : BlockId) (change : Change) → IsWaiting Moved change → So s → So (waits s block change)
-  waits_so s block change new h = record {
-    once = subst AreOnce (sym (rows_put row_of block change s.dirty)) (once_put block (row_of change) (map told s.dirty) h.once);
-    each = put block change s.dirty new h.each;
-    flies = h.flies;
+  -- ---- the log
+
+  -- each segment with these items is of the kind
+  abbrev pub AllFly : List Item → Type 0
+  AllFly items = (t : Segment) → t.items ≡ items → Flies t
+
+  abbrev pub walk : Walk
+  walk = record {
+    Waits = λ log dirty. AreOnce (map told dirty) × AllWait Moved dirty;
+    Flies = λ name items. AllFly items;
+    Says = λ out. Unit {0};
+    Puts = λ block change. IsWaiting Moved change;
+    Writes = AllFly;
+    puts = λ s block change new h. (
+      subst AreOnce (sym (rows_put row_of block change s.dirty)) (once_put block (row_of change) (map told s.dirty) h.0),
+      put block change s.dirty new h.1,
+    );
+    leaves = λ s h. (
+      subst AreOnce (drop-map told segment_blocks s.dirty) (once_dropped segment_blocks (map told s.dirty) h.0),
+      dropped segment_blocks s.dirty h.1,
+    );
+    seals = λ s h t fact.
+        kind.made t (take segment_blocks s.dirty) (take_within segment_blocks s.dirty)
+        (subst AreOnce (take-map told segment_blocks s.dirty) (once_taken segment_blocks (map told s.dirty) h.0)) (taken segment_blocks s.dirty h.1) fact;
+    writes = λ s items fact h. fact;
+    again = λ name items fact. fact;
+    sends = λ f place member fact. tt;
+    settles = λ f fact. tt;
   }
 
-  -- ---- a segment begins
+  all_fly : (o : Option FlightState) → IfSome o (λ f. Flies f.segment) → IfSome o (λ f. AllFly f.segment.items)
+  all_fly None h = tt
+  all_fly (Some f) h = λ t fact. kind.alike f.segment t (sym fact) h
 
-  sealed_so : (s : LogState) → So s → Keeps (sealed s)
-  unfolding sealed launched
-  sealed_so s h = record {
-    once = subst AreOnce (drop-map told segment_blocks s.dirty) (once_dropped segment_blocks (map told s.dirty) h.once);
-    each = dropped segment_blocks s.dirty h.each;
-    flies = kind.made _ (take segment_blocks s.dirty) (take_within segment_blocks s.dirty)
-        (subst AreOnce (take-map told segment_blocks s.dirty) (once_taken segment_blocks (map told s.dirty) h.once)) (taken segment_blocks s.dirty h.each) refl;
-  }
+  one_flies : (o : Option FlightState) → IfSome o (λ f. AllFly f.segment.items) → IfSome o (λ f. Flies f.segment)
+  one_flies None h = tt
+  one_flies (Some f) h = h f.segment refl
 
-  if_full_so : (s : LogState) → So s → Keeps (if_full s)
-  unfolding if_full
-  if_full_so s h = by_test Keeps (is_full s) (sealed s) (still s) (λ t. sealed_so s h) (λ t. h)
-
-  pub put_so : (s : LogState) (block : BlockId) (change : Change) → IsWaiting Moved change → So s → So (on_put s block change).state
-  unfolding on_put
-  put_so s block change new h =
-      by_test Keeps (can_go_on (waits s block change)) (if_full (waits s block change)) (still s)
-      (λ t. if_full_so (waits s block change) (waits_so s block change new h))
-      (λ t. h)
-
-  pub seal_so : (s : LogState) → So s → So (on_seal s).state
-  unfolding on_seal
-  seal_so s h =
-      by_test Keeps (is_idle s && nat_lt 0 (length s.dirty) && has_next s.end.seq) (sealed s) (still s) (λ t. sealed_so s h) (λ t. h)
-
-  -- these items
-  pub parts_so : (s : LogState) (items : List Item) → ((t : Segment) → t.items ≡ items → Flies t) → So s → So (on_parts s items).state
-  unfolding on_parts launched
-  parts_so s items fact h =
-      by_test Keeps (is_idle s && has_next s.end.seq && has_text items) (writes s items) (still s)
-      (λ t. record { once = h.once; each = h.each; flies = fact _ refl }) (λ t. h)
-
-  -- ---- a segment is settled
-
-  -- beside the same that waits, this flies
-  flies_so : (s : LogState) (f : FlightState) → So s → Flies f.segment → So (record s { flight = Some f })
-  flies_so s f h fact = record { once = h.once; each = h.each; flies = fact }
-
-  follows_so : (s : LogState) (f : FlightState) (fate : Fate) → So s → Flies f.segment → Keeps (followed s f fate)
-  unfolding restriped launched settled
-  follows_so s f Restripe h fact = record { once = h.once; each = h.each; flies = kind.alike f.segment _ refl fact }
-  follows_so s f Settle h fact = if_full_so (landed s f) (record { once = h.once; each = h.each; flies = tt })
-  follows_so s f Wait h fact = flies_so s f h fact
-
-  looks_so : (before s : LogState) (f : FlightState) → So before → So s → Flies f.segment → Keeps (looked_at before s f)
-  unfolding looked_at
-  looks_so before s f was h fact =
-      by_test Keeps (can_follow s f (fate_of s.groups f)) (followed s f (fate_of s.groups f)) (still before)
-      (λ t. follows_so s f (fate_of s.groups f) h fact) (λ t. was)
-
-  pub acked_so : (s : LogState) (name : SegName) (index generation : ℕ) → So s → So (on_acked s name index generation).state
-  unfolding on_acked
-  acked_so s name index generation h = by s.flight h.flies
-    where
-      by : (o : Option FlightState) → IfSome o (λ f. Flies f.segment)
-          → Keeps (elim o [ None ↦ still s | Some f ↦ cond (is_of f name index generation) (looked_at s s (noting f index)) (still s) ])
-      by None fact = h
-      by (Some f) fact =
-          by_test Keeps (is_of f name index generation) (looked_at s s (noting f index)) (still s) (λ t. looks_so s s (noting f index) h h fact) (λ t. h)
-
-  pub maps_so : (s : LogState) (groups : GroupMapState) → So s → So (on_maps s groups).state
-  unfolding on_maps
-  maps_so s groups h = by s.flight h.flies
-    where
-      now : So (record s { groups = groups })
-      now = record { once = h.once; each = h.each; flies = h.flies }
-
-      by : (o : Option FlightState) → IfSome o (λ f. Flies f.segment)
-          → Keeps (elim o [ None ↦ still (record s { groups = groups }) | Some f ↦ looked_at s (record s { groups = groups }) f ])
-      by None fact = now
-      by (Some f) fact = looks_so s (record s { groups = groups }) f h now fact
-
-  pub tick_so : (s : LogState) → So s → So (on_tick s).state
-  unfolding on_tick
-  tick_so s h = by s.flight
-    where
-      by : (o : Option FlightState) → Keeps (elim o [ None ↦ still s | Some f ↦ record { state = s; outs = all_sends f } ])
-      by None = h
-      by (Some f) = h
+  pub log_so : (s : LogState) (i : In) → log_walk.Given walk i → So s → So (transition s i).state
+  log_so s i given h =
+      let d = log_walk.log_goes walk s i given (record { waits = (h.once, h.each); flies = all_fly s.flight h.flies }) in
+      record { once = d.holds.waits.0; each = d.holds.waits.1; flies = one_flies (transition s i).state.flight d.holds.flies }
