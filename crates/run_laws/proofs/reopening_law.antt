@@ -3,7 +3,7 @@ mod Chains
 mod Steps
 mod Reopened
 mod Reading
-mod Flights
+pub mod Flights
 mod Following
 mod Ending
 mod Falling

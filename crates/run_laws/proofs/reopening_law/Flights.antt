@@ -51,12 +51,12 @@ away_keeps (Opening s) flight away = refl
 away_keeps (Writing chain s) flight away = refl
 away_keeps (Serving s) flight away = contrary (sym away)
 
-last_stays : (g : Setting) (first n o : Net) (run : Runs g first n) (goes : Runs g n o) → NeverServes goes → last_flight (then_on run goes) ≡ last_flight run
+pub last_stays : (g : Setting) (first n o : Net) (run : Runs g first n) (goes : Runs g n o) → NeverServes goes → last_flight (then_on run goes) ≡ last_flight run
 last_stays g first n o run Begun never = refl
 last_stays g first n o run (On {m = m} goes happens) never =
     away_keeps o.owner (last_flight (then_on run goes)) never.0 ∙ last_stays g first n m run goes never.1
 
-same_flew : (k m : Books) (l : ℕ) (flight : Option FlightState) → SameLog k m l → LastFlew k l flight → LastFlew m l flight
+pub same_flew : (k m : Books) (l : ℕ) (flight : Option FlightState) → SameLog k m l → LastFlew k l flight → LastFlew m l flight
 same_flew k m l flight same flew = record { flying = same.flying ∙ flew.flying; next = next flight flew.next }
   where
     next : (x : Option FlightState)

@@ -54,7 +54,8 @@ use Rattle.run_laws.specs.world_logs.Lines.{moment_then}
 use Rattle.xfs_base.specs.declared.node.NodeId.TheVariants.{Client}
 use Rattle.xfs_base.specs.declared.segment.SegName.{SegName}
 use Rattle.run_laws.proofs.world_reads.AfterBack.{CameBack, came_back}
-use Rattle.run_laws.proofs.world_reads.AfterLogs.{KnownLog, flight_stays, reopens_by}
+use Rattle.run_laws.proofs.reopening_law.Flights.{last_stays}
+use Rattle.run_laws.proofs.world_reads.AfterLogs.{KnownLog, reopens_by}
 use Rattle.run_laws.proofs.world_reads.AfterOwn as after_own
 use Rattle.run_laws.proofs.world_reads.AfterOwn.{OwnAfter, comes_by_one, none_serves, one_log, own_after}
 use Rattle.run_laws.proofs.world_reads.AfterOwners.{line_goes_on}
@@ -203,7 +204,7 @@ module _ (laws : Below) (part : ℕ) (texts : Texts) (c : ℕ) (g : Setting) (tr
   fell_after its gone = by x.state refl (laws.reopenings.flights.falls_go_on t.acts c (last_flight at.run) node what its fell)
     where
       same : is_serving v.net.owner ≡ false → last_flight at.run ≡ last_flight (then_on at.run goes)
-      same none = sym (flight_stays g _ w.net v.net at.run goes (straight.never none))
+      same none = sym (last_stays g _ w.net v.net at.run goes (straight.never none))
 
       acts_now : List Act
       acts_now = t.acts ++ acts_of (Client c) x.outs

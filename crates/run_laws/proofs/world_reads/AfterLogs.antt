@@ -1,18 +1,16 @@
 -- One log over an event: what the books have of it, and what its owner had in flight when it served last, stays so, whoever the event is of.
-use Rattle.std.proofs.Common.{◌≡◌, ◌≤◌, ◌<◌, ℕ, suc, Bool, true, false, List, Option, Some, None, is_some, nat_le, inl, inr, refl, sym, ap, subst, ◌∙◌, arith}
+use Rattle.std.proofs.Common.{◌≡◌, ◌≤◌, ◌<◌, ℕ, suc, Bool, true, false, List, Option, Some, is_some, nat_le, inl, inr, refl, sym, ap, subst, ◌∙◌, arith}
 use Rattle.std.proofs.lemmas.Bool.Decides.{nat_tests}
 use Rattle.std.specs.Prelude.{IfSome}
 use Rattle.client_log.specs.LogState.{LogState}
-use Rattle.node_logs.specs.client_log_tie.ClientEvents.{NeverServes}
 use Rattle.index_tie.specs.Filed.{Filed}
 use Rattle.index_tie.specs.Growth.{IsMore, with_segment}
 use Rattle.log_flight.specs.Flights.{FlightState}
 use Rattle.log_law.specs.Events.{Runs}
-use Rattle.log_law.specs.Events.Runs.{Begun, On}
 use Rattle.log_law.specs.Laws.{Moment}
 use Rattle.log_law.specs.Net.{Net, Owner}
 use Rattle.log_law.specs.Net.Owner.{Down, Opening, Serving, Writing}
-use Rattle.log_law.specs.Restarts.{IsSureRun, flight_in, is_serving, last_flight}
+use Rattle.log_law.specs.Restarts.{IsSureRun, is_serving, last_flight}
 use Rattle.log_law.specs.Tails.{then_on}
 use Rattle.log_owner.specs.declared.opened.Opened.{Opened}
 use Rattle.log_owner.specs.declared.opening.Opening as openings
@@ -22,6 +20,7 @@ use Rattle.node_slots.specs.node_tie.LogRows.{LogSeen, rows_told}
 use Rattle.node_slots.specs.node_tie.Sight.{SameLog}
 use Rattle.node_slots.proofs.owner_index_tie.Growing.{head_is, segment_is}
 use Rattle.node_slots.specs.owner_index_tie.Filing.{IsSameLog}
+use Rattle.run_laws.proofs.reopening_law.Flights.{last_stays, same_flew, served_last}
 use Rattle.run_laws.specs.reopening_law.Flights.{FlightsOfOwners, LastFlew, OthersLeaveFlights}
 use Rattle.run_laws.specs.reopening_law.Openings.{EndsByOne}
 use Rattle.run_laws.specs.reopening_law.Reopens.{BooksFollow, BooksOf, BooksThen, FiledOf, Reopens, TellsApart, has_flight}
@@ -30,7 +29,6 @@ use Rattle.token_law.specs.Books.{Books, reopened, with_empty}
 use Rattle.run_laws.specs.world_lines.Lines.{IsLine}
 use Rattle.run_laws.specs.world_lines.Polls.{GoesOnByFlight}
 use Rattle.run_laws.specs.world_logs.Lines.{IsLeft, moment_then}
-use Rattle.xfs_base.proofs.Booleans.{contrary}
 
 -- ---- what is known of a log
 
@@ -61,47 +59,19 @@ reopens_by g trusted apart w v at goes calm o r ends = record {
 
 -- ---- what was in flight
 
-away_keeps : (o : Owner) (flight : Option FlightState) → is_serving o ≡ false → flight_in o flight ≡ flight
-away_keeps Down flight away = refl
-away_keeps (Opening s) flight away = refl
-away_keeps (Writing chain s) flight away = refl
-away_keeps (Serving s) flight away = contrary (sym away)
-
--- while the owner serves it is what is in flight
-pub served_last : (g : Setting) (first n : Net) (run : Runs g first n) (s : LogState) → n.owner ≡ Serving s → last_flight run ≡ s.flight
-served_last g first n Begun s serves = ap (λ x. flight_in x None) serves
-served_last g first n (On run happens) s serves = ap (λ x. flight_in x (last_flight run)) serves
-
--- while the owner serves nowhere it stays
-pub flight_stays : (g : Setting) (first n o : Net) (run : Runs g first n) (goes : Runs g n o) → NeverServes goes
-    → last_flight (then_on run goes) ≡ last_flight run
-flight_stays g first n o run Begun never = refl
-flight_stays g first n o run (On {m = m} goes happens) never =
-    away_keeps o.owner (last_flight (then_on run goes)) never.0 ∙ flight_stays g first n m run goes never.1
-
--- and so it does where others leave the owner as it was
+-- it stays where others leave the owner as it was
 pub flight_left : OthersLeaveFlights → (g : Setting) (first n o : Net) (run : Runs g first n) (goes : Runs g n o) → IsLeft n o
     → last_flight (then_on run goes) ≡ last_flight run
 flight_left leave g first n o run goes left = by n.owner refl
   where
     away : is_serving n.owner ≡ false → last_flight (then_on run goes) ≡ last_flight run
-    away none = flight_stays g first n o run goes (leave g n o goes left.inc left.owner none)
+    away none = last_stays g first n o run goes (leave g n o goes left.inc left.owner none)
 
     by : (x : Owner) → n.owner ≡ x → last_flight (then_on run goes) ≡ last_flight run
     by Down fact = away (ap is_serving fact)
     by (Opening s) fact = away (ap is_serving fact)
     by (Writing chain s) fact = away (ap is_serving fact)
     by (Serving s) fact = served_last g first o (then_on run goes) s (left.owner ∙ fact) ∙ sym (served_last g first n run s fact)
-
--- where the books have it, so do those of which the same is known
-flew_same : (k m : Books) (l : ℕ) (flight : Option FlightState) → SameLog k m l → LastFlew k l flight → LastFlew m l flight
-flew_same k m l flight same flew = record { flying = same.flying ∙ flew.flying; next = next flight flew.next }
-  where
-    next : (x : Option FlightState)
-        → IfSome x (λ f. (f.segment.name.seq ≡ suc (k.end l)) × (k.rows l (suc (k.end l)) ≡ rows_told f.segment.items))
-        → IfSome x (λ f. (f.segment.name.seq ≡ suc (m.end l)) × (m.rows l (suc (m.end l)) ≡ rows_told f.segment.items))
-    next None h = tt
-    next (Some f) h = (h.0 ∙ ap suc (sym same.end), ap (λ r. r (suc (m.end l))) same.rows ∙ (ap (λ q. k.rows l (suc q)) same.end ∙ h.1))
 
 -- ---- where the log stays
 
@@ -119,7 +89,7 @@ module _ (g : Setting) (l : ℕ) (n o : Net) (at : Moment g n) (goes : Runs g n 
   stays_known flight books same = record {
     books = books_same k m l f h books same fact.books;
     line = line;
-    flew = subst (LastFlew m l) (sym flight) (flew_same k m l (last_flight at.run) books fact.flew);
+    flew = subst (LastFlew m l) (sym flight) (same_flew k m l (last_flight at.run) books fact.flew);
   }
 
   -- ---- where its owner serves

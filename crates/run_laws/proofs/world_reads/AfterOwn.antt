@@ -31,7 +31,8 @@ use Rattle.run_laws.specs.world_lines.Polls.{GoesOnByFlight}
 use Rattle.run_laws.specs.world_logs.Lines.{moment_then}
 use Rattle.run_laws.specs.world_reads.Below.{Below}
 use Rattle.run_laws.proofs.world_reads.AfterBack.{ComesTo}
-use Rattle.run_laws.proofs.world_reads.AfterLogs.{KnownLog, flight_stays, reopens_by, reopens_known, served_last, serves_known, stays_known}
+use Rattle.run_laws.proofs.reopening_law.Flights.{last_stays, served_last}
+use Rattle.run_laws.proofs.world_reads.AfterLogs.{KnownLog, reopens_by, reopens_known, serves_known, stays_known}
 use Rattle.run_laws.proofs.world_reads.AfterOwners.{never_files, same_filed}
 use Rattle.run_laws.proofs.world_reads.AfterTells.{AllTell, tells_reopened, tells_same, tells_serving}
 
@@ -108,7 +109,7 @@ module _ (laws : Below) (Kind : Segment → Type 0) (once : (s : Segment) → Ki
   away_after : GoesAway Kind l g w v at goes k m f h → After
   away_after x =
       let never = straight.never x.none in
-      let flight : last_flight (then_on at.run goes) ≡ last_flight at.run = flight_stays g _ w.net v.net at.run goes never in
+      let flight : last_flight (then_on at.run goes) ≡ last_flight at.run = last_stays g _ w.net v.net at.run goes never in
       let of = same_filed l w.net v.net f h (never_files laws.logs.unfiled g w.net v.net at goes never) more known.line line in
       let books : SameLog k m l = record {
         end = ap (λ (b : Books). b.end l) x.books;

@@ -16,7 +16,8 @@ use Rattle.node_slots.specs.owner_index_tie.Filing.{IsSameLog}
 use Rattle.token_law.specs.Books.{Books}
 use Rattle.run_laws.specs.world_lines.Lines.{IsSure}
 use Rattle.run_laws.specs.world_logs.Lines.{moment_then}
-use Rattle.run_laws.proofs.world_reads.AfterLogs.{KnownLog, flight_stays, served_last, stays_known}
+use Rattle.run_laws.proofs.reopening_law.Flights.{last_stays, served_last}
+use Rattle.run_laws.proofs.world_reads.AfterLogs.{KnownLog, stays_known}
 use Rattle.run_laws.proofs.world_reads.AfterOwners.{line_goes_on}
 use Rattle.run_laws.specs.world_reads.Below.{Below}
 
@@ -32,7 +33,7 @@ module _ (g : Setting) (n o : Net) (at : Moment g n) (goes : Runs g n o) (straig
 
   -- what was in flight when it served last is the same: where it doesn't serve then, and where it serves on with the same log
   pub away_flight : is_serving o.owner ≡ false → SameFlight
-  away_flight none = flight_stays g _ n o at.run goes (straight.never none)
+  away_flight none = last_stays g _ n o at.run goes (straight.never none)
 
   pub serving_flight : (s : LogState) → n.owner ≡ Serving s → o.owner ≡ Serving s → SameFlight
   serving_flight s was up = served_last g _ o (then_on at.run goes) s up ∙ sym (served_last g _ n at.run s was)

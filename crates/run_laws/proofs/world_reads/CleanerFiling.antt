@@ -41,7 +41,7 @@ use Rattle.run_laws.specs.world_lines.Owners.{HasFlown}
 use Rattle.run_laws.specs.world_lines.Turns.{AllSo}
 use Rattle.run_laws.specs.world_logs.Lines.{HasLines, Texts}
 use Rattle.run_laws.specs.world_logs.Roles.Role.{OfCleaner}
-use Rattle.run_laws.proofs.world_reads.AfterLogs.{served_last}
+use Rattle.run_laws.proofs.reopening_law.Flights.{served_last}
 use Rattle.run_laws.proofs.world_reads.CleanerFiles.{adopted_moves, all_new}
 use Rattle.run_laws.proofs.world_reads.CleanerMoment.{Steps, agrees, its_line, its_moment, its_scene, its_setting, owns, sure_at, upto_before}
 use Rattle.run_laws.proofs.world_reads.CleanerReopening.{calm, came, one}

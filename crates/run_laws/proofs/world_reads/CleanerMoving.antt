@@ -32,7 +32,8 @@ use Rattle.world_base.specs.declared.event.Event.{Event}
 use Rattle.world_base.specs.Events.{node_of}
 use Rattle.run_laws.specs.world_logs.Lines.{HasLines, Texts}
 use Rattle.run_laws.specs.world_logs.Roles.Role.{OfCleaner}
-use Rattle.run_laws.proofs.world_reads.AfterLogs.{flight_left, flight_stays, served_last}
+use Rattle.run_laws.proofs.reopening_law.Flights.{last_stays, served_last}
+use Rattle.run_laws.proofs.world_reads.AfterLogs.{flight_left}
 use Rattle.run_laws.proofs.world_reads.CleanerMoment.{IsHere, its_line, its_moment, its_scene, its_setting, owns}
 use Rattle.run_laws.specs.world_reads.Joint.{flew_at}
 use Rattle.xfs_base.specs.declared.node.NodeId.TheVariants.{Cleaner}
@@ -105,7 +106,7 @@ module _ (base : Setting) (e : Estate AnyNode) (lines : HasLines base e) (texts 
           own_so : Cleaner ≡ node_of event
               → last_flight (then_on (its_moment base e lines texts part first count).run goes) ≡ before_last
           own_so own =
-              flight_stays (its_setting base e lines texts part first) _ (its_scene base e lines texts part first count).net
+              last_stays (its_setting base e lines texts part first) _ (its_scene base e lines texts part first count).net
               (its_scene base e lines texts part first (suc count)).net (its_moment base e lines texts part first count).run goes
               (((its_line base e lines texts part first).straight count event at own).never none)
 

@@ -55,7 +55,8 @@ use Rattle.run_laws.specs.world_logs.Roles.Role.{OfClient}
 use Rattle.run_laws.specs.world_logs.Standing.{OwnerSeen}
 use Rattle.run_laws.proofs.world_reads.ClientLog as log
 use Rattle.run_laws.proofs.world_reads.ClientLog.{ClientEvent}
-use Rattle.run_laws.proofs.world_reads.Stepping.{comes, served_last}
+use Rattle.run_laws.proofs.reopening_law.Flights.{served_last}
+use Rattle.run_laws.proofs.world_reads.Stepping.{comes}
 use Rattle.run_laws.specs.world_reads.Joint.{There, k}
 use Rattle.xfs_base.proofs.Booleans.{by_test}
 use Rattle.xfs_base.specs.declared.segment.SegName.{SegName}

@@ -1,14 +1,12 @@
 -- What happens to the owner of a log between two counts of a run: only one that writes its opening segment comes to serve, and by one thing that happens.
 use Rattle.std.proofs.Common.{◌≡◌, Bool, true, false, Option, Some, None, refl, sym, ap, ◌∙◌}
-use Rattle.client_log.specs.LogState.{LogState}
 use Rattle.node_logs.specs.client_log_tie.ClientEvents.{IsOnce, ServesStraight}
 use Rattle.group_map.specs.GroupMapState.{GroupMapState}
 use Rattle.log_law.specs.Events.{Happens, Runs}
 use Rattle.log_law.specs.Events.Happens.{Acts, Writes, Opens, Crashes, Restarts, Renews, Serves, Bars, Lists, Hears, Raises, Publishes, Welcomes, Drops}
 use Rattle.log_law.specs.Events.Runs.{Begun, On}
 use Rattle.log_law.specs.Net.{Net, Told, after_told, chain_in}
-use Rattle.log_law.specs.Net.Owner.{Serving}
-use Rattle.log_law.specs.Restarts.{IsSureRun, flight_in, is_serving, is_writing, last_flight}
+use Rattle.log_law.specs.Restarts.{IsSureRun, is_serving, is_writing}
 use Rattle.log_law.specs.Tails.{then_on}
 use Rattle.log_scan.specs.ScanState.{ScanState}
 use Rattle.log_scan.specs.Transition as scan
@@ -19,11 +17,6 @@ use Rattle.xfs_base.proofs.Booleans.{contrary}
 pub sure_before : {g : Setting} {n m o : Net} (run : Runs g n m) (more : Runs g m o) → IsSureRun (then_on run more) → IsSureRun run
 sure_before run Begun sure = sure
 sure_before run (On more happens) sure = sure_before run more sure.0
-
--- what its owner had in flight when it served last is what is in flight while it serves
-pub served_last : (g : Setting) (first n : Net) (run : Runs g first n) (s : LogState) → n.owner ≡ Serving s → last_flight run ≡ s.flight
-served_last g first n Begun s serves = ap (λ x. flight_in x None) serves
-served_last g first n (On run happens) s serves = ap (λ x. flight_in x (last_flight run)) serves
 
 module _ (g : Setting) where
   told_not : (n : Net) (s : ScanState) (d : scan.Done) (t : Option Told) (m : Option GroupMapState) → is_serving (after_told g n s d t m).owner ≡ false

@@ -60,7 +60,7 @@ use Rattle.run_laws.specs.world_logs.Roles.Role.{OfCleaner}
 use Rattle.run_laws.proofs.world_reads.After.{AllKnown, KnownAt}
 use Rattle.run_laws.proofs.world_reads.AfterCleaner as after
 use Rattle.run_laws.proofs.world_reads.AfterOwn.{OwnAfter}
-use Rattle.run_laws.proofs.world_reads.AfterLogs.{served_last}
+use Rattle.run_laws.proofs.reopening_law.Flights.{served_last}
 use Rattle.run_laws.proofs.world_reads.CleanerMoment.{sure_at, upto_before}
 use Rattle.run_laws.proofs.world_reads.CleanerPromises.{promised_then}
 use Rattle.run_laws.proofs.world_reads.CleanerSaying.{says_once}

@@ -50,7 +50,7 @@ use Rattle.run_laws.specs.world_logs.Roles.Role.{OfClient}
 use Rattle.run_laws.proofs.world_reads.After.{AllKnown, KnownAt}
 use Rattle.run_laws.proofs.world_reads.AfterClients as after
 use Rattle.run_laws.proofs.world_reads.AfterOwn.{OwnAfter}
-use Rattle.run_laws.proofs.world_reads.AfterLogs.{served_last}
+use Rattle.run_laws.proofs.reopening_law.Flights.{served_last}
 use Rattle.run_laws.proofs.world_reads.CleanerMoment.{upto_before}
 use Rattle.run_laws.proofs.world_reads.CleanerSaying.{says_once}
 use Rattle.run_laws.proofs.world_reads.Taking.{Took, did_then, moment_next, node_then, took_it}

@@ -32,7 +32,7 @@ use Rattle.run_laws.specs.world_law.Owners.{moment, node_in}
 use Rattle.run_laws.specs.world_logs.Lines.{HasLines, Texts, setting}
 use Rattle.run_laws.specs.world_logs.Roles.Role.{OfClient}
 use Rattle.run_laws.proofs.world_reads.After.{left_flight}
-use Rattle.run_laws.proofs.world_reads.AfterLogs.{served_last}
+use Rattle.run_laws.proofs.reopening_law.Flights.{served_last}
 use Rattle.run_laws.proofs.world_reads.AfterWrites.{serving_told}
 use Rattle.run_laws.proofs.world_reads.Taking.{Took, moment_next, took_it}
 use Rattle.run_laws.proofs.world_reads.TurnAside.{others_quiet}
