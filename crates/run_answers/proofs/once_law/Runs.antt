@@ -54,6 +54,7 @@ use Rattle.run_answers.specs.once_law.Items.{AnswersOnce, IsUnanswered}
 use Rattle.run_answers.specs.once_law.Ledgers.{Closes, EachEventKeepsLedger, EventKeepsLedger, IsOpen, KeepsLedger, MayBeAnswered, OpenHasBegun, Without, items_in, name_in}
 use Rattle.run_answers.specs.once_law.Runs.{EachItemIsAnsweredOnce, IsOwnItem}
 use Rattle.run_answers.proofs.once_law.Items.{keeps_ledger, next_left}
+use Rattle.run_laws.proofs.world_law.Sent.{in_append}
 
 -- ---- one event
 
@@ -147,17 +148,8 @@ answers_itself x what sound node item a among =
 
 -- ---- lists of acts
 
-in_either : (x : Act) (xs ys : List Act) → In x (xs ++ ys) → In x xs ⊎ In x ys
-in_either x [] ys among = inr among
-in_either x (y ∷ xs) ys (inl e) = inl (inl e)
-in_either x (y ∷ xs) ys (inr among) = by (in_either x xs ys among)
-  where
-    by : In x xs ⊎ In x ys → In x (y ∷ xs) ⊎ In x ys
-    by (inl fact) = inl (inr fact)
-    by (inr fact) = inr fact
-
 unanswered_both : (xs ys : List Act) (node : NodeId) (item : ℕ) → IsUnanswered xs node item → IsUnanswered ys node item → IsUnanswered (xs ++ ys) node item
-unanswered_both xs ys node item before behind a among = by (in_either (act.Answered node item a) xs ys among)
+unanswered_both xs ys node item before behind a among = by (in_append xs ys (act.Answered node item a) among)
   where
     by : In (act.Answered node item a) xs ⊎ In (act.Answered node item a) ys → ⊥
     by (inl fact) = before a fact
@@ -378,7 +370,7 @@ module _ (script : Script) where
       turn_its : (place : ℕ) (x : AnyNode) → place_of w.cluster (node_of event) ≡ Some place → slice_get w.nodes place ≡ Some x
           → AllIts later (w.acts ++ (any_step x (what_of event)).acts)
       turn_its place x at fact node item a among =
-          by (in_either (act.Answered node item a) w.acts (any_step x (what_of event)).acts among)
+          by (in_append w.acts (any_step x (what_of event)).acts (act.Answered node item a) among)
         where
           by : In (act.Answered node item a) w.acts ⊎ In (act.Answered node item a) (any_step x (what_of event)).acts → Its later node item
           by (inl earlier) = its_later node item (all.its node item a earlier)

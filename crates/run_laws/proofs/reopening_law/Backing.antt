@@ -38,6 +38,7 @@ use Rattle.xfs_base.proofs.Booleans.{by_test}
 use Rattle.xfs_base.specs.declared.segment.SegName.{SegName}
 use Rattle.xfs_base.specs.Steps.{saying, still}
 use Rattle.run_laws.specs.reopening_law.Openings.{ClientsComeBack, ComesBack, comes_to}
+use Rattle.run_laws.proofs.world_law.Sent.{in_append}
 
 -- ---- what is no act of being back
 
@@ -52,11 +53,6 @@ none_back : (outs : List Effect) → AllByRecursion IsNoBack outs → (c : ℕ) 
 none_back [] none c chain fact = fact
 none_back (e ∷ outs) none c chain (inl same) = subst IsNoBack (sym same) none.0
 none_back (e ∷ outs) none c chain (inr fact) = none_back outs none.1 c chain fact
-
-in_either : (xs ys : List Effect) (e : Effect) → In e (xs ++ ys) → In e xs ⊎ In e ys
-in_either [] ys e fact = inr fact
-in_either (x ∷ xs) ys e (inl same) = inl (inl same)
-in_either (x ∷ xs) ys e (inr fact) = ⊎_elim (λ a. inl (inr a)) inr (in_either xs ys e fact)
 
 act_no_back : (a : Act) → MayAct a → IsNoBack (Does a)
 act_no_back (act.Back c chain) may = absurd may
@@ -98,7 +94,7 @@ module _ (c : ℕ) (l : Lasting) (o : Opening) (s : Serving) where
     comes = fact;
     log = sym (same_log (served m capacity r) s e);
     back = λ chain among. ⊎_elim (λ there. absurd (none_back effects none c chain there)) (its chain)
-        (in_either effects _ (Does (act.Back c chain)) among);
+        (in_append effects _ (Does (act.Back c chain)) among);
   }
     where
       rest : List Effect
@@ -112,7 +108,7 @@ module _ (c : ℕ) (l : Lasting) (o : Opening) (s : Serving) where
       its chain (inr fact) = absurd
           (⊎_elim (none_back (pushes_all r.promised.managers r.feed) (pushes_no_back r.promised.managers r.feed) c chain)
           (none_back (answers_unanswered m.items.unanswered answer.Done) (answers_no_back m.items.unanswered answer.Done) c chain)
-          (in_either (pushes_all r.promised.managers r.feed) (answers_unanswered m.items.unanswered answer.Done) (Does (act.Back c chain)) fact))
+          (in_append (pushes_all r.promised.managers r.feed) (answers_unanswered m.items.unanswered answer.Done) (Does (act.Back c chain)) fact))
 
   wish_comes : (m : Lasting) (number : ℕ) (wanted : Option Work) → Comes Begin (opening_begins m o number (wish_of wanted))
   wish_comes m number (Some (work.Crash node)) e = absurd cc

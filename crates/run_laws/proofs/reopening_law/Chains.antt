@@ -26,11 +26,6 @@ pub in_right : {X : Type 0} (xs ys : List X) (x : X) → In x ys → In x (xs ++
 in_right [] ys x fact = fact
 in_right (z ∷ xs) ys x fact = inr (in_right xs ys x fact)
 
-pub in_either : {X : Type 0} (xs ys : List X) (x : X) → In x (xs ++ ys) → In x xs ⊎ In x ys
-in_either [] ys x fact = inr fact
-in_either (z ∷ xs) ys x (inl e) = inl (inl e)
-in_either (z ∷ xs) ys x (inr fact) = ⊎_elim (λ a. inl (inr a)) inr (in_either xs ys x fact)
-
 pub among_in : {X : Type 0} (xs : List X) (x : X) → Among x xs → In x xs
 among_in [] x fact = absurd fact
 among_in (y ∷ xs) x (inl e) = inl e

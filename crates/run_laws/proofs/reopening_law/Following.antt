@@ -29,9 +29,10 @@ use Rattle.xfs_base.specs.declared.segment.SegName.{SegName}
 use Rattle.run_laws.specs.reopening_law.Below.{Below}
 use Rattle.run_laws.specs.reopening_law.Reopens.{BooksAfter, BooksFollow, BooksThen, ClientsReopenSo, FiledOf, IsOpened, Reopens, TheCleanerReopensSo, has_flight}
 use Rattle.run_laws.proofs.reopening_law.Books.{adopted_end, empty_end, empty_flies, empty_keeps, empty_says, reopened_flies, reopened_keeps, reopened_rises}
-use Rattle.run_laws.proofs.reopening_law.Chains.{Holds, found, holds, in_either, its_segment}
+use Rattle.run_laws.proofs.reopening_law.Chains.{Holds, found, holds, its_segment}
 use Rattle.run_laws.proofs.reopening_law.Reopened as then
 use Rattle.run_laws.proofs.reopening_law.Steps.{landed}
+use Rattle.log_tie.proofs.Listings.{in_either}
 
 -- the flight that the chain has
 pub record HasFlight (chain : List Segment) (flight : Option FlightState) : Type 0 where
@@ -175,11 +176,11 @@ module _ (k : Below) (g : Setting) (n o : Net) (chain : List Segment) (s r : Log
               contrary
               (sym none ∙ subst (λ y. holds_flight (names_in chain) (flight_of y) ≡ true) (sym fact)
               (found chain x t.0 t.1 (ap (λ (z : SegName). z.seq) t.2 ∙ attempt.seq) (ap (λ (z : SegName). z.pass.inc) t.2 ∙ attempt.boot))))
-              (λ was. absurd (is_new was)) (in_either (names_of chain) n.filed it.name read)
+              (λ was. absurd (is_new was)) (in_either it.name (names_of chain) n.filed read)
 
           by : (x : FlightState) × (flight ≡ Some x) × IsAttemptOf g x it → it.items ≡ []
           by x = by_name x.0 x.1 x.2
-              (in_either (log_filed g.log (log.transition s (then.by k g n o chain s r e).input).outs) (names_of chain ++ n.filed) it.name
+              (in_either it.name (log_filed g.log (log.transition s (then.by k g n o chain s r e).input).outs) (names_of chain ++ n.filed)
               (subst (In it.name) (then.by k g n o chain s r e).filed (now.filed q some within)))
 
       -- where it has it, the next segment says what was in flight

@@ -24,6 +24,7 @@ use Rattle.segment_format.specs.declared.segment.Segment.{Segment}
 use Rattle.xfs_base.proofs.Booleans.{by_test}
 use Rattle.xfs_base.specs.declared.fragment.Fragment.{Fragment}
 use Rattle.xfs_base.specs.declared.segment.SegName.{SegName}
+use Rattle.log_tie.proofs.Listings.{in_either}
 
 abbrev DeletesNone : List Packet → Type 0
 DeletesNone packets = (name : SegName) → In (DeleteSent name) packets → ⊥
@@ -32,11 +33,6 @@ abbrev AreDrops : Net → Type 0
 AreDrops n = (name : SegName) → In (DeleteSent name) n.sent → In name n.dropped
 
 -- ---- what is sent
-
-in_both : {X : Type 0} (xs ys : List X) (x : X) → In x (xs ++ ys) → In x xs ⊎ In x ys
-in_both [] ys x fact = inr fact
-in_both (y ∷ xs) ys x (inl e) = inl (inl e)
-in_both (y ∷ xs) ys x (inr fact) = ⊎_elim (λ first. inl (inr first)) inr (in_both xs ys x fact)
 
 by_log : (outs : List log_outs.Out) → DeletesNone (log_packets outs)
 by_log [] name fact = fact
@@ -83,7 +79,7 @@ by_server g v s Loses name fact = fact
 module _ (g : Setting) (n : Net) (so : AreDrops n) where
   -- what is sent anew stands before what was sent
   more_so : (more : List Packet) (name : SegName) → DeletesNone more → In (DeleteSent name) (more ++ n.sent) → In name n.dropped
-  more_so more name none fact = ⊎_elim (λ first. absurd (none name first)) (so name) (in_both more n.sent (DeleteSent name) fact)
+  more_so more name none fact = ⊎_elim (λ first. absurd (none name first)) (so name) (in_either (DeleteSent name) more n.sent fact)
 
   flight_so : (chain : List Segment) (d : log.Done) (o : Option FlightState) → AreDrops (after_flight g n chain d o)
   flight_so chain d None name fact = more_so (log_packets d.outs) name (by_log d.outs) fact
@@ -95,7 +91,7 @@ module _ (g : Setting) (n : Net) (so : AreDrops n) where
   told_so s d (Some t) (Some m) name fact =
       let first = first_write g n.inc t.end m in
       ⊎_elim (λ here. absurd (by_log first.outs name here)) (more_so (scan_packets n.inc d.outs) name (by_scan n.inc d.outs))
-      (in_both (log_packets first.outs) (scan_packets n.inc d.outs ++ n.sent) (DeleteSent name) fact)
+      (in_either (DeleteSent name) (log_packets first.outs) (scan_packets n.inc d.outs ++ n.sent) fact)
 
   happens_so : (o : Net) → Happens g n o → AreDrops o
   happens_so o (Acts s i fact came texts) name sent = more_so (log_packets (log.transition s i).outs) name (by_log (log.transition s i).outs) sent

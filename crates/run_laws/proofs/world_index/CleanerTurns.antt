@@ -1,5 +1,5 @@
 -- The cleaner that has its turn: the moment after it stands to the small world that runs on with its log and its job.
-use Rattle.std.proofs.Common.{◌≡◌, ◌⊎◌, ⊎_elim, ℕ, List, [], ◌∷◌, ◌++◌, Some, inl, inr, map, slice_get, slice_set, sym, ap, ◌∙◌, arith}
+use Rattle.std.proofs.Common.{◌≡◌, ◌⊎◌, ⊎_elim, ℕ, List, ◌++◌, Some, inl, inr, map, slice_get, slice_set, sym, ap, ◌∙◌, arith}
 use Rattle.std.proofs.lemmas.List.Elements.{All-from_recursion, recursion_from_All}
 use Rattle.std.specs.List.{All}
 use Rattle.cleaner_node.specs.CleanerEvents.{takes}
@@ -37,12 +37,7 @@ use Rattle.run_laws.specs.world_index.Standing.{CleanerTells, Fact, Scene, Stand
 use Rattle.run_laws.proofs.world_law.Sent.{in_append, sends}
 use Rattle.xfs_base.specs.declared.node.NodeId.TheVariants.{Cleaner}
 use Rattle.xfs_base.specs.declared.segment.SegName.{SegName}
-
--- what is in two lists is in one of them
-in_either : {X : Type 0} (x : X) (xs ys : List X) → tables.In x (xs ++ ys) → tables.In x xs ⊎ tables.In x ys
-in_either x [] ys h = inr h
-in_either x (y ∷ xs) ys (inl fact) = inl (inl fact)
-in_either x (y ∷ xs) ys (inr later) = ⊎_elim (λ h. inl (inr h)) (λ h. inr h) (in_either x xs ys later)
+use Rattle.log_tie.proofs.Listings.{in_either}
 
 -- what the cleaner says, it tells
 module _ (part : ℕ) (texts : Texts) (n : Net) (old asked questions : Questions) (since : ℕ) where

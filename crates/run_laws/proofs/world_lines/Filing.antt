@@ -50,17 +50,12 @@ use Rattle.run_laws.specs.world_lines.Filing.{CleanerFilesItsFlights, ClientsFil
 use Rattle.run_laws.specs.world_lines.Lines.{IsSure, SaysBlocks}
 use Rattle.run_laws.specs.world_lines.Owners.{HasFlown, IsRoomy}
 use Rattle.run_laws.specs.world_lines.Turns.{AllSo}
+use Rattle.log_tie.proofs.Listings.{in_either}
 
 pub what_is_filed_flew : LogsStayWhole → WhatIsFiledFlew
 what_is_filed_flew whole g n o m same name fact = (whole g n m).flown name (subst (In name) same fact)
 
 -- ---- an owner whose opening segment is in flight
-
--- what is in one of two lists
-in_either : (xs ys : List SegName) (name : SegName) → In name (xs ++ ys) → In name xs ⊎ In name ys
-in_either [] ys name fact = inr fact
-in_either (x ∷ xs) ys name (inl e) = inl (inl e)
-in_either (x ∷ xs) ys name (inr fact) = ⊎_elim (λ first. inl (inr first)) (λ second. inr second) (in_either xs ys name fact)
 
 in_names : (chain : List Segment) (name : SegName) → In name (names_of chain) → (s : Segment) × In s chain × (s.name ≡ name)
 in_names [] name fact = absurd fact
@@ -103,9 +98,9 @@ module _ (whole : LogsStayWhole) (held : WhatIsHeldFlew) (written : WhatFlewIsWr
     writes_flew i None name fact =
         ⊎_elim (landed_flew i name)
         (λ rest. ⊎_elim (λ read. let t = in_names chain name read in (t.0, flew.read t.0 t.1, t.2)) (was_filed name)
-        (in_either (names_of chain) n.filed name rest))
-        (in_either (log_filed g.log (log.transition s i).outs) (names_of chain ++ n.filed) name fact)
-    writes_flew i (Some f) name fact = ⊎_elim (landed_flew i name) (was_filed name) (in_either (log_filed g.log (log.transition s i).outs) n.filed name fact)
+        (in_either name (names_of chain) n.filed rest))
+        (in_either name (log_filed g.log (log.transition s i).outs) (names_of chain ++ n.filed) fact)
+    writes_flew i (Some f) name fact = ⊎_elim (landed_flew i name) (was_filed name) (in_either name (log_filed g.log (log.transition s i).outs) n.filed fact)
 
 pub openings_file_what_flew : LogsStayWhole → WhatIsHeldFlew → WhatFlewIsWritten
     → ((s : LogState) (input : Input) → AllByRecursion (TellsWhatIsDue s input) (log.transition s input).outs) → OpeningsFileWhatFlew

@@ -17,6 +17,7 @@ use Rattle.run_laws.specs.world_logs.Roles.{IsThere, Role, log_by}
 use Rattle.run_laws.specs.world_logs.Roles.Role.{OfClient, OfCleaner, OfManager}
 use Rattle.xfs_base.specs.declared.segment.LogId.{LogId}
 use Rattle.xfs_base.specs.declared.segment.SegName.{SegName}
+use Rattle.log_tie.proofs.Listings.{in_either}
 
 -- ---- lists
 
@@ -28,11 +29,6 @@ in_left (y ∷ xs) ys x (inr fact) = inr (in_left xs ys x fact)
 in_right : {X : Type 0} (xs ys : List X) (x : X) → In x ys → In x (xs ++ ys)
 in_right [] ys x fact = fact
 in_right (y ∷ xs) ys x fact = inr (in_right xs ys x fact)
-
-in_either : {X : Type 0} (xs ys : List X) (x : X) → In x (xs ++ ys) → In x xs ⊎ In x ys
-in_either [] ys x fact = inr fact
-in_either (y ∷ xs) ys x (inl e) = inl (inl e)
-in_either (y ∷ xs) ys x (inr fact) = ⊎_elim (λ here. inl (inr here)) (λ there. inr there) (in_either xs ys x fact)
 
 -- ---- counts
 
@@ -91,7 +87,7 @@ module _ (law : OneNameOneText) (own : WhatFlewIsOfTheLog) (base : Setting) (e :
     from_first zero limit s fact = absurd fact
     from_first (suc n) limit s fact =
         ⊎_elim (λ here. record { role = role (suc n); there = there (suc n) (positive n) limit; here = here })
-        (λ more. from_first n (one_less n top limit) s more) (in_either (flown_next n limit) (of_first n (one_less n top limit)) s fact)
+        (λ more. from_first n (one_less n top limit) s more) (in_either s (flown_next n limit) (of_first n (one_less n top limit)) fact)
 
     in_first : (s : Segment) (n : ℕ) (limit : n ≤ top) (d : ℕ) → 0 < d → (h : There (role d)) → d ≤ n → In s (flown_in (role d) h) → In s (of_first n limit)
     unfolding of_first
@@ -116,7 +112,7 @@ module _ (law : OneNameOneText) (own : WhatFlewIsOfTheLog) (base : Setting) (e :
   flew s fact = ⊎_elim (λ here. from_first OfClient clients (λ n some limit. (some, limit)) clients (all_of clients) s here)
       (λ rest. ⊎_elim (λ here. record { role = OfCleaner; there = tt; here = here })
       (λ more. from_first OfManager managers (λ n some limit. (some, limit)) managers (all_of managers) s more)
-      (in_either (flown_in OfCleaner tt) of_managers s rest)) (in_either of_clients (flown_in OfCleaner tt ++ of_managers) s fact)
+      (in_either s (flown_in OfCleaner tt) of_managers rest)) (in_either s of_clients (flown_in OfCleaner tt ++ of_managers) fact)
 
   among_all : (s : Segment) (r : Role) (h : There r) → In s (flown_in r h) → In s all_flown
   unfolding all_flown

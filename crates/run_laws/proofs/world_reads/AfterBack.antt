@@ -35,6 +35,7 @@ use Rattle.wire_msg.specs.declared.packet.Packet as wire
 use Rattle.xfs_base.proofs.Booleans.{by_test}
 use Rattle.xfs_base.specs.declared.segment.SegName.{SegName}
 use Rattle.xfs_base.specs.Steps.{saying, still}
+use Rattle.run_laws.proofs.world_law.Sent.{in_append}
 
 -- an opening comes to this, by a packet or by time
 abbrev pub ComesTo : Questions → openings.Opening → Opened → Type 0
@@ -57,11 +58,6 @@ module _ (c : ℕ) (chain : List SegName) where
   not_opening owner [] may fact = fact
   not_opening owner (e ∷ outs) may (inl fact) = subst (MayDo owner) (sym fact) may.0
   not_opening owner (e ∷ outs) may (inr fact) = not_opening owner outs may.1 fact
-
-  in_both : (xs ys : List Effect) → In Back (xs ++ ys) → In Back xs ⊎ In Back ys
-  in_both [] ys fact = inr fact
-  in_both (x ∷ xs) ys (inl fact) = inl (inl fact)
-  in_both (x ∷ xs) ys (inr fact) = ⊎_elim (λ a. inl (inr a)) (λ b. inr b) (in_both xs ys fact)
 
   abbrev IsOut : Effect → Type 0
   IsOut (Send to m) = Unit {0}
@@ -113,8 +109,8 @@ module _ (l : Lasting) (o : openings.Opening) where
     says = λ c chain here. ⊎_elim (λ a. absurd (not_opening c chain o.known.owner effects may a))
         (λ b. ⊎_elim (λ same. same_chain c k.number chain r.chain same)
         (λ rest. ⊎_elim (λ a. absurd (not_pushes c chain r.promised.managers _ a)) (λ a. absurd (not_answers c chain k.items.unanswered answer.Done a))
-        (in_both c chain (pushes_all r.promised.managers r.feed) (answers_unanswered k.items.unanswered answer.Done) rest)) b)
-        (in_both c chain effects (back k capacity r).outs here);
+        (in_append (pushes_all r.promised.managers r.feed) (answers_unanswered k.items.unanswered answer.Done) (Does (act.Back c chain)) rest)) b)
+        (in_append effects (back k capacity r).outs (Does (act.Back c chain)) here);
   }
 
   opening_comes : (number : ℕ) (wanted : Option Work) → Comes (opening_begins (record l { items = begun l.items }) o number (wish_of wanted))

@@ -39,7 +39,8 @@ use Rattle.world_base.specs.NextWorld.{first_node, next_world, sent_at, start_wo
 use Rattle.run_laws.proofs.world_index.Senders.{IsKind, IsSentBy}
 use Rattle.run_laws.proofs.world_law.Turning.{next_keeps}
 use Rattle.run_laws.specs.world_law.Owners.{moment}
-use Rattle.run_laws.proofs.world_reads.EntriesStay.{at_place, in_both, in_set}
+use Rattle.run_laws.proofs.world_reads.EntriesStay.{at_place, in_set}
+use Rattle.run_laws.proofs.world_law.Sent.{in_append}
 use Rattle.run_laws.proofs.world_reads.Taking.{Took}
 use Rattle.run_laws.specs.world_reads.Entries.{AnyNames, PartsNamed}
 use Rattle.xfs_base.specs.declared.news.SlotNews.{SlotNews}
@@ -182,7 +183,7 @@ module _ (known : Known) where
               holds = λ x among. ⊎_elim (λ same. subst (AnyNames known) (sym same) t.node) (λ before. stand.holds x before)
                   (in_set w.nodes place (any_step node (what_of event)).node x among);
               packets = λ p among. ⊎_elim (λ before. stand.packets p before) (λ new. sent_names clock packets t.packets p new)
-                  (in_both w.sent (map (sent_at clock) packets) p among);
+                  (in_append w.sent (map (sent_at clock) packets) p among);
             }
 
 -- ---- more is known

@@ -26,6 +26,7 @@ use Rattle.run_laws.proofs.world_law.Turning.{next_keeps}
 use Rattle.run_laws.specs.world_reads.Readings.{EntryKinds}
 use Rattle.run_laws.proofs.world_reads.Taking.{Took}
 use Rattle.run_laws.specs.world_reads.Entries.{AnyTold, EntriesStand}
+use Rattle.run_laws.proofs.world_law.Sent.{in_append}
 
 -- ---- lists
 
@@ -35,11 +36,6 @@ in_set (z ∷ xs) zero y x (inl fact) = inl fact
 in_set (z ∷ xs) zero y x (inr later) = inr (inr later)
 in_set (z ∷ xs) (suc place) y x (inl fact) = inr (inl fact)
 in_set (z ∷ xs) (suc place) y x (inr later) = ⊎_elim (λ fact. inl fact) (λ on. inr (inr on)) (in_set xs place y x later)
-
-pub in_both : {X : Type 0} (xs ys : List X) (x : X) → In x (xs ++ ys) → In x xs ⊎ In x ys
-in_both [] ys x among = inr among
-in_both (z ∷ xs) ys x (inl fact) = inl (inl fact)
-in_both (z ∷ xs) ys x (inr later) = ⊎_elim (λ on. inl (inr on)) (λ behind. inr behind) (in_both xs ys x later)
 
 pub at_place : {X : Type 0} (xs : List X) (place : ℕ) (x : X) → slice_get xs place ≡ Some x → In x xs
 at_place [] place x fact = absurd (let clash : None ≡ Some x = fact in cc)
@@ -113,5 +109,5 @@ module _ (rows : FiledRows) where
                   (in_set w.nodes place (any_step node (what_of event)).node x among);
               packets = λ p among. ⊎_elim (λ before. stand.packets p before)
                   (λ new. sent_told clock (any_step node (what_of event)).packets t.packets p new)
-                  (in_both w.sent (map (sent_at clock) (any_step node (what_of event)).packets) p among);
+                  (in_append w.sent (map (sent_at clock) (any_step node (what_of event)).packets) p among);
             }

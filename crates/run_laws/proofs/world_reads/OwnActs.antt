@@ -46,6 +46,7 @@ use Rattle.xfs_base.proofs.Booleans.{equal_itself}
 use Rattle.xfs_base.specs.declared.node.NodeId.{NodeId}
 use Rattle.xfs_base.specs.declared.node.NodeId.TheVariants.{Client, Manager, Server, Cleaner, Registry}
 use Rattle.xfs_base.specs.declared.segment.SegName.{SegName}
+use Rattle.run_laws.proofs.world_law.Sent.{in_append}
 
 -- ---- what files nothing
 
@@ -91,15 +92,6 @@ registry_files_none : (node : RegistryNode) (what : Do) (name : SegName) → In 
 registry_files_none node what name fact = unfiled Registry name (registry_takes node what).outs (registry_quiet node what) fact
 
 -- ---- all events
-
-in_either : (xs ys : List Act) (x : Act) → In x (xs ++ ys) → In x xs ⊎ In x ys
-in_either [] ys x fact = inr fact
-in_either (y ∷ xs) ys x (inl same) = inl (inl same)
-in_either (y ∷ xs) ys x (inr more) = by (in_either xs ys x more)
-  where
-    by : In x xs ⊎ In x ys → In x (y ∷ xs) ⊎ In x ys
-    by (inl here) = inl (inr here)
-    by (inr there) = inr there
 
 module _ (laws : tokens.NodeLaws) (servers : ServerEventGoes) (e : Estate AnyNode) (setup : IsSetup e.script.setup)
     (run : IsRun any_step any_start e.script e.events e.world) (name : SegName) where
@@ -159,7 +151,7 @@ module _ (laws : tokens.NodeLaws) (servers : ServerEventGoes) (e : Estate AnyNod
       → ToldByOwner (suc count)
   one_more count event at (inl nothing) was fact = before count (was (subst (In (act.Filed name)) nothing.acts fact))
   one_more count event at (inr turn) was fact =
-      by (in_either (moment e count).acts (any_step turn.0 (what_of event)).acts (act.Filed name) (subst (In (act.Filed name)) turn.1.acts fact))
+      by (in_append (moment e count).acts (any_step turn.0 (what_of event)).acts (act.Filed name) (subst (In (act.Filed name)) turn.1.acts fact))
     where
       by : In (act.Filed name) (moment e count).acts ⊎ In (act.Filed name) (any_step turn.0 (what_of event)).acts → ToldByOwner (suc count)
       by (inl earlier) = before count (was earlier)
@@ -221,4 +213,4 @@ module _ (e : Estate AnyNode) (l : ℕ) (x : Act) where
           (was (subst (λ (events : List Event). In x (acts_by l (start_world any_start e.script) events)) past fact))
       by was (Some event) at =
           subst (λ (w : World AnyNode). In x w.acts) (sym (moment_next e count event at))
-          (now was event (in_either (did e l count) (owners_acts l (moment e count) event) x (subst (In x) (did_next e count event at l) fact)))
+          (now was event (in_append (did e l count) (owners_acts l (moment e count) event) x (subst (In x) (did_next e count event at l) fact)))
