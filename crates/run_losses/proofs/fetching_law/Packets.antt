@@ -98,10 +98,7 @@ polled_goes s manager p =
 
 on_poll_goes : (s : Serving) (from : NodeId) (p : Poll) → Goes s (on_poll s from p)
 on_poll_goes s (node.Manager manager) p = polled_goes s manager p
-on_poll_goes s (node.Client k) p = stays s s (itself s)
-on_poll_goes s (node.Server k) p = stays s s (itself s)
-on_poll_goes s node.Cleaner p = stays s s (itself s)
-on_poll_goes s node.Registry p = stays s s (itself s)
+on_poll_goes s _ p = stays s s (itself s)
 
 hears_goes : (s : Serving) (news : SlotNews) → Goes s (hears s news)
 unfolding hears
@@ -294,10 +291,7 @@ module _ (s : Serving) (fresh : s.lasting.questions.last < next_ask s.lasting.qu
 
   on_told_turns : (from : NodeId) → packet.from ≡ from → (ask : ℕ) (t : Answered) → Tells ask t packet.body → Turn (on_told s from ask t)
   on_told_turns (node.Server server) fact ask t tells = told_by_turns server fact ask t tells
-  on_told_turns (node.Client k) fact ask t tells = still_turns
-  on_told_turns (node.Manager k) fact ask t tells = still_turns
-  on_told_turns node.Cleaner fact ask t tells = still_turns
-  on_told_turns node.Registry fact ask t tells = still_turns
+  on_told_turns _ fact ask t tells = still_turns
 
   -- ---- maps
 
