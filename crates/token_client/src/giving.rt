@@ -1,7 +1,7 @@
 //! Giving blocks: forwards and recalls, and what a block goes through until it is given up.
 ghost use Rattle.std.specs.Prelude.{◌≡◌, ◌++◌, [], OnOk};
 ghost use Rattle.token_client.specs.State.{held_of};
-ghost use Rattle.token_client.specs.Transition.{serves, on_forwarded, refetch, give, recalled_above, recalled_again, recalled, was_answered, on_recalled, on_wrote, on_settled, on_evict};
+ghost use Rattle.token_client.specs.Transition.{serves, on_forwarded, refetch, give, recalled_above, was_answered, on_recalled, on_wrote, on_settled, on_evict};
 
 use crate::output::Out;
 use crate::table::{is_settled_by, may_evict, may_write, take_held};
@@ -115,47 +115,8 @@ impl Tokens {
         Ok(())
     }
 
-    /// Takes a recall that isn't above the block's stamp.
-    #[tactic(auto, unfolding(crate::specs::Transition::recalled_again))]
-    pub(crate) fn recalled_again(
-        &mut self,
-        outs: &mut List<Out>,
-        block: BlockId,
-        stamp: Stamp,
-    ) -> Mem<()>
-        ensures state { OnOk result (self.new ≡ (recalled_again self.old block stamp).state) }
-        ensures outs { OnOk result (outs.new ≡ outs.old ++ (recalled_again self.old block stamp).outs) }
-    {
-        if !self.was_answered(block, stamp) {
-            return Ok(());
-        }
-        outs.push(Out::Gave { block, stamp })?;
-        Ok(())
-    }
-
-    /// Takes a recall of the promised epoch.
-    #[tactic(auto, unfolding(crate::specs::Transition::recalled))]
-    pub(crate) fn recalled(
-        &mut self,
-        outs: &mut List<Out>,
-        block: BlockId,
-        stamp: Stamp,
-        keep: bool,
-    ) -> Mem<()>
-        ensures state { OnOk result (self.new ≡ (recalled self.old block stamp keep).state) }
-        ensures outs { OnOk result (outs.new ≡ outs.old ++ (recalled self.old block stamp keep).outs) }
-    {
-        if stamp.is_after(self.stamp(block)) {
-            self.recalled_above(outs, block, stamp, keep)?;
-            Ok(())
-        } else {
-            self.recalled_again(outs, block, stamp)?;
-            Ok(())
-        }
-    }
-
-    /// A manager takes a block back.
-    #[tactic(auto, unfolding(crate::specs::Transition::on_recalled))]
+    /// A manager takes a block back. A recall that was answered is answered again, and an older one is dropped.
+    #[tactic(auto, unfolding(crate::specs::Transition::on_recalled, crate::specs::Transition::recalled, crate::specs::Transition::recalled_again))]
     pub(crate) fn on_recalled(
         &mut self,
         outs: &mut List<Out>,
@@ -169,7 +130,11 @@ impl Tokens {
         if !self.is_promised(block, stamp) {
             return Ok(());
         }
-        self.recalled(outs, block, stamp, keep)?;
+        if stamp.is_after(self.stamp(block)) {
+            self.recalled_above(outs, block, stamp, keep)?;
+        } else if self.was_answered(block, stamp) {
+            outs.push(Out::Gave { block, stamp })?;
+        }
         Ok(())
     }
 
