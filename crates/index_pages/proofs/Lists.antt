@@ -1,5 +1,5 @@
 -- What loops and undone changes need.
-use Rattle.std.proofs.Common.{◌≡◌, ℕ, ◌+◌, ◌<◌, List, [], ◌∷◌, ◌++◌, Option, cond, length, get_or, set, take, drop, map, None, Some, ◌-◌, refl, sym, ap, ◌∙◌, arith}
+use Rattle.std.proofs.Common.{◌≡◌, ℕ, ◌+◌, List, [], ◌∷◌, ◌++◌, Option, cond, length, take, None, Some, ◌-◌, refl, sym, ap, ◌∙◌, arith}
 use Rattle.std.specs.declared.cmp.Ordering.{Ordering}
 use Rattle.std.specs.declared.cmp.Ordering.TheVariants.{Less, Equal, Greater}
 use Rattle.std.specs.Ordering.{match_ordering, is_eq}
@@ -14,20 +14,7 @@ use Rattle.xfs_base.proofs.BlockOrder.{block_cmp_total}
 use Rattle.index_pages.specs.declared.layout.Page.{Page}
 use Rattle.index_pages.specs.Layout.{first_block}
 use Rattle.index_pages.specs.Pages.{PagesState, page_of, begun, row_of}
-use Rattle.std.proofs.lemmas.List.{length-take-le, length-map, get_or_at, set_at, drop_more, map_more, append_assoc, take_at, length_push}
-
--- a list of which the items below a place are changed, with the one at that place changed too
-pub changed_more : {X : Type 0} (f : X → X) (old xs : List X) (i : ℕ) (d e : X) → i < length old → xs ≡ map f (take i old) ++ drop i old → e ≡ get_or xs i d
-    → set xs i (f e) ≡ map f (take (i + 1) old) ++ drop (i + 1) old
-changed_more f old xs i d e here fact read =
-    let rest : drop i old ≡ get_or old i d ∷ drop (i + 1) old = drop_more old i d here in
-    let long : length (map f (take i old)) ≡ i = length-map (take i old) f ∙ length-take-le i old (omega arith) in
-    let is2 : xs ≡ map f (take i old) ++ get_or old i d ∷ drop (i + 1) old = fact ∙ ap (λ r. map f (take i old) ++ r) rest in
-    let here2 : e ≡ get_or old i d = read ∙ ap (λ r. get_or r i d) is2 ∙ get_or_at (map f (take i old)) (get_or old i d) (drop (i + 1) old) d i long in
-    ap (λ r. set r i (f e)) is2 ∙ set_at (map f (take i old)) (get_or old i d) (drop (i + 1) old) (f e) i long
-    ∙ ap (λ y. map f (take i old) ++ f y ∷ drop (i + 1) old) here2
-    ∙ sym (append_assoc (map f (take i old)) (f (get_or old i d) ∷ []) (drop (i + 1) old))
-    ∙ ap (λ r. r ++ drop (i + 1) old) (sym (map_more f old i d here))
+use Rattle.std.proofs.lemmas.List.{append_assoc, take_at, length_push}
 
 -- what is put at a new key and then removed leaves the entries as they were
 pub remove-insert : {K X : Type 0} {R : K → K → Ordering} (total : IsTotalOrder R) (k : K) (v : X) (es : List (K × X)) → lookup (is_at (R k)) es ≡ None

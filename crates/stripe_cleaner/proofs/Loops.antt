@@ -1,8 +1,8 @@
 -- One step of a loop.
-use Rattle.std.proofs.Common.{◌≡◌, ℕ, suc, ◌+◌, ◌-◌, ◌<◌, ◌≤◌, Bool, true, false, cond, List, [], ◌∷◌, ◌++◌, length, get_or, set, drop, map, min, take, refl, sym, ap, ◌∙◌, append_assoc, length-append, arith}
+use Rattle.std.proofs.Common.{◌≡◌, ℕ, suc, ◌+◌, ◌-◌, ◌<◌, ◌≤◌, Bool, true, false, cond, List, [], ◌∷◌, ◌++◌, length, get_or, drop, map, min, take, refl, sym, ap, ◌∙◌, append_assoc, length-append, arith}
 use Rattle.std.specs.Prelude.{not, fold}
 use Rattle.std.specs.List.{range_with_len}
-use Rattle.std.proofs.lemmas.List.{at_drop_more, length-take-le, length-map, get_or_at, set_at, drop_more, map_more}
+use Rattle.std.proofs.lemmas.List.{at_drop_more}
 use Rattle.segment_format.specs.declared.segment.Item.{Item}
 use Rattle.segment_format.specs.declared.segment.Item.TheVariants.{Block, Delta, Part}
 use Rattle.segment_format.specs.Rule.{no_item}
@@ -80,16 +80,3 @@ pub live_step : (usages : List (ℕ × List (SegName × ℕ))) (name : SegName) 
     → fold (λ sum slot. sum + live_in usages name slot) live (drop i slots) ≡ fold (λ sum slot. sum + live_in usages name slot)
     (live + live_in usages name (get_or slots i d)) (drop (i + 1) slots)
 live_step usages name live slots i d lt = at_drop_more (fold (λ sum slot. sum + live_in usages name slot) live) slots i d lt
-
--- a list of which the items below a place are changed, with the one at that place changed too
-pub changed_more : {X : Type 0} (f : X → X) (old xs : List X) (i : ℕ) (d e : X) → i < length old → xs ≡ map f (take i old) ++ drop i old → e ≡ get_or xs i d
-    → set xs i (f e) ≡ map f (take (i + 1) old) ++ drop (i + 1) old
-changed_more f old xs i d e here fact read =
-    let rest : drop i old ≡ get_or old i d ∷ drop (i + 1) old = drop_more old i d here in
-    let long : length (map f (take i old)) ≡ i = length-map (take i old) f ∙ length-take-le i old (omega arith) in
-    let is2 : xs ≡ map f (take i old) ++ get_or old i d ∷ drop (i + 1) old = fact ∙ ap (λ r. map f (take i old) ++ r) rest in
-    let here2 : e ≡ get_or old i d = read ∙ ap (λ r. get_or r i d) is2 ∙ get_or_at (map f (take i old)) (get_or old i d) (drop (i + 1) old) d i long in
-    ap (λ r. set r i (f e)) is2 ∙ set_at (map f (take i old)) (get_or old i d) (drop (i + 1) old) (f e) i long
-    ∙ ap (λ y. map f (take i old) ++ f y ∷ drop (i + 1) old) here2
-    ∙ sym (append_assoc (map f (take i old)) (f (get_or old i d) ∷ []) (drop (i + 1) old))
-    ∙ ap (λ r. r ++ drop (i + 1) old) (sym (map_more f old i d here))
