@@ -32,7 +32,7 @@ use Rattle.stripe_cleaner.specs.JobState.{JobState}
 use Rattle.stripe_cleaner.specs.Listing.{begun}
 use Rattle.stripe_cleaner.specs.Promises.{promised_at, promised_with, is_above, is_promised}
 use Rattle.stripe_cleaner.specs.Transition.{Done, turned, is_greeting, welcomed, on_welcome, forgetting, on_promise, listed_in, counted_in, read_in, answered_in, moved_in, deleted_in, on_usage, is_heard, may_move, on_live, on_dead, transition}
-use Rattle.stripe_cleaner.proofs.Turns.{Carries, says_lists, says_questions, next_fine, checking_fine, looked_fine, listed_in_fine, counted_in_fine, forgetting_fine, mapped_fine, deleted_in_fine, awaits_fine}
+use Rattle.stripe_cleaner.proofs.Turns.{says_lists, says_questions, next_fine, checking_fine, looked_fine, listed_in_fine, counted_in_fine, forgetting_fine, mapped_fine, deleted_in_fine, awaits_fine}
 use Rattle.log_protocol.specs.IndexState.{IndexState}
 use Rattle.log_protocol.specs.IndexSteps.{IndexSteps, promises, counts, drops_row}
 use Rattle.log_protocol.specs.IndexSteps.IndexSteps.{Done as Ended, More}
@@ -66,24 +66,6 @@ module _ (b : BlockId) (f : Filed) where
 
     abbrev Fine : Turn → Type 0
     Fine turn = KnownIn turn.state × Says turn.outs
-
-    carries : Carries KnownIn (DeletesDropped b f dropped)
-    carries = record {
-      listing = λ l. tt;
-      counting = λ c. tt;
-      reading = λ j segment. tt;
-      over = tt;
-      checks = λ j i segment checks k. k;
-      deletes = λ j i segment servers left k. k;
-      hello = tt;
-      list = λ server. tt;
-      usage = λ slot. tt;
-      fetch = λ segment. tt;
-      question = λ block place. tt;
-      moving = λ moved. tt;
-      finished = λ count. tt;
-      delete = λ j segment servers server k. k;
-    }
 
     -- checks that a change leaves as dead as they were
     checked_map : (name : SegName) (checks : List Check) (g : Check → Check) → ((c : Check) → (g c).block ≡ c.block)
@@ -180,7 +162,7 @@ module _ (b : BlockId) (f : Filed) where
         frame = e.frame;
         promised = e.promised;
         polled = e.polled;
-        fine = looked_fine _ _ (carries e.state.dead_at e.state.dropped) j segment was_asked checks e.checked (λ dead servers. e.drops dead);
+        fine = looked_fine (IsChecked b f e.state.dead_at) (IsDropped b f e.state.dropped) j segment was_asked checks e.checked (λ dead servers. e.drops dead);
       }
 
   checked_first : (w : IndexState) (j : JobState) (segment : SegRef) (read : Segment) → IsWithin f segment.name
@@ -199,7 +181,7 @@ module _ (b : BlockId) (f : Filed) where
         frame = e.frame;
         promised = e.promised;
         polled = e.polled;
-        fine = checking_fine _ _ (carries e.state.dead_at e.state.dropped) j segment checks e.checked (λ dead servers. e.drops dead);
+        fine = checking_fine (IsChecked b f e.state.dead_at) (IsDropped b f e.state.dropped) j segment checks e.checked (λ dead servers. e.drops dead);
       }
     where
       weaker : (cs : List Check) → AllByRecursion (λ (c : Check). is_dead c.fate ≡ false) cs
@@ -208,7 +190,7 @@ module _ (b : BlockId) (f : Filed) where
       weaker (c ∷ cs) all = ((λ _ dead. absurd (false≢true (sym all.0 ∙ dead))), weaker cs all.1)
 
   read_turned : (w : IndexState) (read : Option Segment) (p : Phase) → Known b f w.dead_at w.dropped p → ReadFor f read p → Turned w (read_in read p)
-  read_turned w None (Reading j segment) k owes = by_nothing w (next j) (next_fine _ _ (carries w.dead_at w.dropped) j.left j)
+  read_turned w None (Reading j segment) k owes = by_nothing w (next j) (next_fine (IsChecked b f w.dead_at) (IsDropped b f w.dropped) j.left j)
   read_turned w (Some read) (Reading j segment) k owes =
       by_test (Turned w) (same_name read.name segment.name) (checking j segment (checks_from 0 read.items)) (still (Reading j segment))
       (λ t. checked_first w j segment read owes.0 (λ fact. owes.1 fact (tells_apart seg_cmp_exact read.name segment.name t)))
@@ -359,7 +341,7 @@ module _ (b : BlockId) (f : Filed) where
       by_test (λ (d : Done). Known b f w.dead_at w.dropped d.state.phase × AllByRecursion (DeletesDropped b f w.dropped) d.outs)
       (is_above s.promised slot epoch)
       (turned (record s { promised = promised_with s.promised slot epoch }) (forgetting slot s.phase)) (still s)
-      (λ _. forgetting_fine _ _ (carries w.dead_at w.dropped) slot s.phase c.known)
+      (λ _. forgetting_fine (IsChecked b f w.dead_at) (IsDropped b f w.dropped) slot s.phase c.known)
       (λ _. (c.known, tt))
 
   pub welcome_rises : (w : IndexState) (s : CleaningState) (slots : List SlotNews) (groups : GroupMapState) → Cleans b f w s
@@ -379,7 +361,7 @@ module _ (b : BlockId) (f : Filed) where
   usage_stays w s slot epoch counts c =
       by_test (StaysOn w) (is_promised s.promised slot epoch) (turned s (counted_in s.count slot counts s.phase)) (still s)
       (λ _. turns w s (counted_in s.count slot counts s.phase) c
-      (by_nothing w (counted_in s.count slot counts s.phase) (counted_in_fine _ _ (carries w.dead_at w.dropped) s.count slot counts s.phase c.known)))
+      (by_nothing w (counted_in s.count slot counts s.phase) (counted_in_fine (IsChecked b f w.dead_at) (IsDropped b f w.dropped) s.count slot counts s.phase c.known)))
       (λ _. quiet w s c)
 
   pub live_answered : (w : IndexState) (s : CleaningState) (block : BlockId) (epoch : ℕ) (entry : Entry) → Cleans b f w s
@@ -417,13 +399,13 @@ module _ (b : BlockId) (f : Filed) where
   read_stays w s read c owes = turns w s (read_in read s.phase) c (read_turned w read s.phase c.known owes)
 
   pub maps_stay : (w : IndexState) (s : CleaningState) (groups : GroupMapState) → Cleans b f w s → StaysOn w (transition s (input.Maps groups))
-  maps_stay w s groups c = stays_same w s (transition s (input.Maps groups)) c refl (mapped_fine _ _ (carries w.dead_at w.dropped) groups s.phase c.known) tt
+  maps_stay w s groups c = stays_same w s (transition s (input.Maps groups)) c refl (mapped_fine (IsChecked b f w.dead_at) (IsDropped b f w.dropped) groups s.phase c.known) tt
 
   pub listed_stays : (w : IndexState) (s : CleaningState) (server : ℕ) (held : List FragMeta) → Cleans b f w s
       → StaysOn w (transition s (input.Listed server held))
   listed_stays w s server held c =
       turns w s (listed_in server held s.phase) c
-      (by_nothing w (listed_in server held s.phase) (listed_in_fine _ _ (carries w.dead_at w.dropped) server held s.phase c.known))
+      (by_nothing w (listed_in server held s.phase) (listed_in_fine (IsChecked b f w.dead_at) (IsDropped b f w.dropped) server held s.phase c.known))
 
   pub moved_stays_on : (w : IndexState) (s : CleaningState) → Cleans b f w s → StaysOn w (transition s input.Moved)
   moved_stays_on w s c = turns w s (moved_in s.phase) c (by_nothing w (moved_in s.phase) (moved_fine w.dead_at w.dropped s.phase c.known))
@@ -431,10 +413,10 @@ module _ (b : BlockId) (f : Filed) where
   pub deleted_stays : (w : IndexState) (s : CleaningState) (server : ℕ) (name : SegName) → Cleans b f w s → StaysOn w (transition s (input.Deleted server name))
   deleted_stays w s server name c =
       turns w s (deleted_in server name s.phase) c
-      (by_nothing w (deleted_in server name s.phase) (deleted_in_fine _ _ (carries w.dead_at w.dropped) server name s.phase c.known))
+      (by_nothing w (deleted_in server name s.phase) (deleted_in_fine (IsChecked b f w.dead_at) (IsDropped b f w.dropped) server name s.phase c.known))
 
   pub tick_stays : (w : IndexState) (s : CleaningState) → Cleans b f w s → StaysOn w (transition s input.Tick)
-  tick_stays w s c = stays_same w s (transition s input.Tick) c refl c.known (awaits_fine _ _ (carries w.dead_at w.dropped) s.phase c.known)
+  tick_stays w s c = stays_same w s (transition s input.Tick) c refl c.known (awaits_fine (IsChecked b f w.dead_at) (IsDropped b f w.dropped) s.phase c.known)
 
   welcome_cleans : (w : IndexState) (s : CleaningState) (slots : List SlotNews) (groups : GroupMapState) → Cleans b f w s
       → NoLower b w s (on_welcome s slots groups).state → Cleaned b f w (on_welcome s slots groups)

@@ -14,10 +14,10 @@ use Rattle.stripe_cleaner.specs.declared.input.In.TheVariants as input
 use Rattle.stripe_cleaner.specs.declared.output.Out as outputs
 use Rattle.stripe_cleaner.specs.declared.output.Out.TheVariants as output
 use Rattle.stripe_cleaner.specs.declared.phase.Phase.{Phase}
-use Rattle.stripe_cleaner.specs.declared.phase.Phase.TheVariants.{Reading, Checking, Deleting}
+use Rattle.stripe_cleaner.specs.declared.phase.Phase.TheVariants.{Reading, Checking}
 use Rattle.stripe_cleaner.specs.Checks.{moved_once, is_dead}
 use Rattle.stripe_cleaner.specs.CleaningState.{CleaningState, started}
-use Rattle.stripe_cleaner.specs.Histories.{blocks_of}
+use Rattle.stripe_cleaner.specs.Histories.{KnownOf, DeletesOf, blocks_of}
 use Rattle.stripe_cleaner.specs.Job.{same_name}
 use Rattle.stripe_cleaner.specs.Promises.{promised_at}
 use Rattle.stripe_cleaner.specs.Transition as job
@@ -88,9 +88,7 @@ pub record IsDropped (b : BlockId) (f : Filed) (dropped : ℕ → ℕ → ℕ) (
   pub row_dropped : is_filed_name f name ≡ true → has_block b f name ≡ true → dropped name.log.0 name.seq ≡ 1
 
 abbrev pub Known : BlockId → Filed → (ℕ → ℕ → ℕ) → (ℕ → ℕ → ℕ) → Phase → Type 0
-Known b f dead_at dropped (Checking j segment checks) = IsChecked b f dead_at segment.name checks
-Known b f dead_at dropped (Deleting j segment servers) = IsDropped b f dropped segment.name
-Known b f dead_at dropped phase = Unit {0}
+Known b f dead_at dropped phase = KnownOf (IsChecked b f dead_at) (IsDropped b f dropped) phase
 
 abbrev pub promise_of : BlockId → CleaningState → ℕ
 promise_of b s = promised_at s.promised (slot_of b.ino.0)
@@ -126,8 +124,7 @@ Owes b f w s input = Unit {0}
 
 -- what is deleted was dropped
 abbrev pub DeletesDropped : BlockId → Filed → (ℕ → ℕ → ℕ) → outputs.Out → Type 0
-DeletesDropped b f dropped (output.Delete server name) = IsDropped b f dropped name
-DeletesDropped b f dropped out = Unit {0}
+DeletesDropped b f dropped out = DeletesOf (IsDropped b f dropped) out
 
 -- the index, but for what the cleaner knows
 abbrev pub uncleaned : IndexState → IndexState

@@ -27,14 +27,14 @@ use Rattle.stripe_cleaner.specs.declared.phase.Phase.{Phase}
 use Rattle.stripe_cleaner.specs.declared.phase.Phase.TheVariants.{Reading, Checking, Deleting}
 use Rattle.stripe_cleaner.specs.Checks.{checks_from, after_live, after_dead, after_moved, live_at, dead_at, moved_at, is_dead, any_asked, all_dead, questions}
 use Rattle.stripe_cleaner.specs.CleaningState.{CleaningState, started}
-use Rattle.stripe_cleaner.specs.Histories.{state_after, Stage, stage_at_live, stage_at_dead, stage_at_moved, awaits_moved, stage_with, stage_from, stage_after, blocks_of, reads, IsEmptied, DeletesEmptied}
+use Rattle.stripe_cleaner.specs.Histories.{state_after, Stage, stage_at_live, stage_at_dead, stage_at_moved, awaits_moved, stage_with, stage_from, stage_after, blocks_of, reads, IsEmptied, KnownOf, DeletesEmptied}
 use Rattle.stripe_cleaner.specs.Histories.Stage.{Asked, Live, Moved, Dead}
 use Rattle.stripe_cleaner.specs.Job.{Turn, same_name, checking, is_moving}
 use Rattle.stripe_cleaner.specs.Listing.{begun}
 use Rattle.stripe_cleaner.specs.Promises.{promised_with, is_above, is_promised}
 use Rattle.stripe_cleaner.specs.Transition.{Done, turned, is_greeting, welcomed, on_welcome, forgetting, on_promise, counted_in, read_in, answered_in, moved_in, on_usage, is_heard, may_move, on_live, on_dead, transition}
 use Rattle.stripe_cleaner.proofs.Histories.{split_with, always}
-use Rattle.stripe_cleaner.proofs.Turns.{Carries, says_lists, says_questions, next_fine, checking_fine, looked_fine, listed_in_fine, counted_in_fine, forgetting_fine, mapped_fine, deleted_in_fine, awaits_fine}
+use Rattle.stripe_cleaner.proofs.Turns.{says_lists, says_questions, next_fine, checking_fine, looked_fine, listed_in_fine, counted_in_fine, forgetting_fine, mapped_fine, deleted_in_fine, awaits_fine}
 
 -- ---- stages
 
@@ -241,33 +241,13 @@ module _ (start : CleaningState) where
   module _ (history : List In) where
     -- how far the present segment is, in each phase
     abbrev KnownIn : Phase → Type 0
-    KnownIn (Checking j segment checks) = IsChecked history segment.name checks
-    KnownIn (Deleting j segment servers) = IsEmptied start history segment.name
-    KnownIn p = Unit {0}
+    KnownIn p = KnownOf (IsChecked history) (IsEmptied start history) p
 
     abbrev Says : List Out → Type 0
     Says outs = AllByRecursion (DeletesEmptied start history) outs
 
     abbrev Fine : Turn → Type 0
     Fine turn = KnownIn turn.state × Says turn.outs
-
-    carries : Carries KnownIn (DeletesEmptied start history)
-    carries = record {
-      listing = λ l. tt;
-      counting = λ c. tt;
-      reading = λ j segment. tt;
-      over = tt;
-      checks = λ j i segment checks k. k;
-      deletes = λ j i segment servers left k. k;
-      hello = tt;
-      list = λ server. tt;
-      usage = λ slot. tt;
-      fetch = λ segment. tt;
-      question = λ block place. tt;
-      moving = λ moved. tt;
-      finished = λ count. tt;
-      delete = λ j segment servers server k. k;
-    }
 
   abbrev FineDone : List In → Done → Type 0
   FineDone history d = KnownIn history d.state.phase × Says history d.outs
@@ -284,12 +264,12 @@ module _ (start : CleaningState) where
   -- a read of the segment that is awaited
   read_fine : (history : List In) (read : Option Segment) (p : Phase) → (state_after start history).phase ≡ p → KnownIn history p
       → Fine (history ++ input.Read read ∷ []) (read_in read p)
-  read_fine history None (Reading j segment) e k = next_fine _ _ (carries (history ++ input.Read None ∷ [])) j.left j
+  read_fine history None (Reading j segment) e k = next_fine (IsChecked (history ++ input.Read None ∷ [])) (IsEmptied start (history ++ input.Read None ∷ [])) j.left j
   read_fine history (Some read) (Reading j segment) e k =
       by_test (Fine (history ++ input.Read (Some read) ∷ [])) (same_name read.name segment.name) (checking j segment (checks_from 0 read.items))
       (still (Reading j segment))
       (λ t. let k = checked_first history read segment.name (subst (reads segment.name) (sym e) refl) (tells_apart seg_cmp_exact read.name segment.name t) in
-      checking_fine _ _ (carries (history ++ input.Read (Some read) ∷ [])) j segment (checks_from 0 read.items) k
+      checking_fine (IsChecked (history ++ input.Read (Some read) ∷ [])) (IsEmptied start (history ++ input.Read (Some read) ∷ [])) j segment (checks_from 0 read.items) k
       (λ dead servers. emptied_from (history ++ input.Read (Some read) ∷ []) segment.name (checks_from 0 read.items) dead k))
       (λ t. (tt, tt))
   read_fine history read (Checking j segment checks) e k = (checked_later history (input.Read read) segment.name checks (λ b x. refl) k, tt)
@@ -302,7 +282,7 @@ module _ (start : CleaningState) where
       → Fine (history ++ i ∷ []) (answered_in answer p)
   answered_fine history i answer (Checking j segment checks) same moves k =
       let later = checked_with history i segment.name checks answer same moves k in
-      looked_fine _ _ (carries (history ++ i ∷ [])) j segment (any_asked checks) (map answer checks) later
+      looked_fine (IsChecked (history ++ i ∷ [])) (IsEmptied start (history ++ i ∷ [])) j segment (any_asked checks) (map answer checks) later
       (λ dead servers. emptied_from (history ++ i ∷ []) segment.name (map answer checks) dead later)
   answered_fine history i answer (Deleting j segment servers) same moves k = (emptied_later history i segment.name k, tt)
   answered_fine history i answer p same moves k = (tt, tt)
@@ -374,13 +354,13 @@ module _ (start : CleaningState) where
   unfolding on_promise
   promise_fine h s slot epoch k =
       by_test (FineDone h) (is_above s.promised slot epoch) (turned (record s { promised = promised_with s.promised slot epoch }) (forgetting slot s.phase))
-      (still s) (λ t. forgetting_fine _ _ (carries h) slot s.phase k) (λ t. (k, tt))
+      (still s) (λ t. forgetting_fine (IsChecked h) (IsEmptied start h) slot s.phase k) (λ t. (k, tt))
 
   usage_fine : (h : List In) (s : CleaningState) (slot epoch : ℕ) (counts : _) → KnownIn h s.phase → FineDone h (on_usage s slot epoch counts)
   unfolding on_usage
   usage_fine h s slot epoch counts k =
       by_test (FineDone h) (is_promised s.promised slot epoch) (turned s (counted_in s.count slot counts s.phase)) (still s)
-      (λ t. counted_in_fine _ _ (carries h) s.count slot counts s.phase k) (λ t. (k, tt))
+      (λ t. counted_in_fine (IsChecked h) (IsEmptied start h) s.count slot counts s.phase k) (λ t. (k, tt))
 
   abbrev now : List In → CleaningState
   now history = state_after start history
@@ -393,12 +373,12 @@ module _ (start : CleaningState) where
       promise_fine (history ++ input.Promise slot epoch ∷ []) (now history) slot epoch
       (stays_known history (input.Promise slot epoch) (now history).phase (λ b x. refl) k)
   turn_fine history (input.Maps groups) k = (
-    mapped_fine _ _ (carries (history ++ input.Maps groups ∷ [])) groups (now history).phase
+    mapped_fine (IsChecked (history ++ input.Maps groups ∷ [])) (IsEmptied start (history ++ input.Maps groups ∷ [])) groups (now history).phase
         (stays_known history (input.Maps groups) (now history).phase (λ b x. refl) k),
     tt,
   )
   turn_fine history (input.Listed server held) k =
-      listed_in_fine _ _ (carries (history ++ input.Listed server held ∷ [])) server held (now history).phase
+      listed_in_fine (IsChecked (history ++ input.Listed server held ∷ [])) (IsEmptied start (history ++ input.Listed server held ∷ [])) server held (now history).phase
       (stays_known history (input.Listed server held) (now history).phase (λ b x. refl) k)
   turn_fine history (input.Usage slot epoch counts) k =
       usage_fine (history ++ input.Usage slot epoch counts ∷ []) (now history) slot epoch counts
@@ -408,11 +388,11 @@ module _ (start : CleaningState) where
   turn_fine history (input.Dead block epoch) k = dead_fine history block epoch k
   turn_fine history input.Moved k = moved_fine history (now history).phase refl k
   turn_fine history (input.Deleted server name) k =
-      deleted_in_fine _ _ (carries (history ++ input.Deleted server name ∷ [])) server name (now history).phase
+      deleted_in_fine (IsChecked (history ++ input.Deleted server name ∷ [])) (IsEmptied start (history ++ input.Deleted server name ∷ [])) server name (now history).phase
       (stays_known history (input.Deleted server name) (now history).phase (λ b x. refl) k)
   turn_fine history input.Tick k = (
     stays_known history input.Tick (now history).phase (λ b x. refl) k,
-    awaits_fine _ _ (carries (history ++ input.Tick ∷ [])) (now history).phase (stays_known history input.Tick (now history).phase (λ b x. refl) k),
+    awaits_fine (IsChecked (history ++ input.Tick ∷ [])) (IsEmptied start (history ++ input.Tick ∷ [])) (now history).phase (stays_known history input.Tick (now history).phase (λ b x. refl) k),
   )
 
   known_always : KnownIn [] start.phase → (history : List In) → KnownIn history (now history).phase

@@ -18,6 +18,7 @@ use Rattle.stripe_cleaner.specs.declared.phase.Phase.TheVariants.{Greeting, List
 use Rattle.stripe_cleaner.specs.Checks.{is_awaited, any_asked, all_dead, place_in, questions, moves}
 use Rattle.stripe_cleaner.specs.Counting.{CountingState, has_usage, is_counted, awaited_slots, all_slots, chosen}
 use Rattle.stripe_cleaner.specs.Job.{Turn, next_of, next, deletes, servers_of, deleting, counted, left_to_delete, same_name, on_deleted, checking, looked_at}
+use Rattle.stripe_cleaner.specs.Histories.{KnownOf, DeletesOf}
 use Rattle.stripe_cleaner.specs.JobState.{JobState}
 use Rattle.stripe_cleaner.specs.Listing.{ListingState, is_among, without}
 use Rattle.stripe_cleaner.specs.Transition as step
@@ -51,35 +52,24 @@ module _ (May : Out → Type 0) where
 
 -- ---- turns
 
--- Nothing need be known but where a segment is checked or deleted, nor for any packet but the deletes.
-pub record Carries (Known : Phase → Type 0) (May : Out → Type 0) : Type 0 where
-  pub listing : (l : ListingState) → Known (Listing l)
-  pub counting : (c : CountingState) → Known (Counting c)
-  pub reading : (j : JobState) (segment : SegRef) → Known (Reading j segment)
-  pub over : Known Over
-  -- it is known of the segment, and not of the job or of the servers
-  pub checks : (j i : JobState) (segment : SegRef) (checks : List Check) → Known (Checking j segment checks) → Known (Checking i segment checks)
-  pub deletes : (j i : JobState) (segment : SegRef) (servers left : List ℕ) → Known (Deleting j segment servers) → Known (Deleting i segment left)
-  pub hello : May out.Hello
-  pub list : (server : ℕ) → May (out.List server)
-  pub usage : (slot : ℕ) → May (out.UsageAsk slot)
-  pub fetch : (segment : SegRef) → May (out.Fetch segment)
-  pub question : (block : BlockId) (place : Place) → May (out.Check block place)
-  pub moving : (moved : _) → May (out.Move moved)
-  pub finished : (count : ℕ) → May (out.Finished count)
-  pub delete : (j : JobState) (segment : SegRef) (servers : List ℕ) (server : ℕ) → Known (Deleting j segment servers) → May (out.Delete server segment.name)
+-- It is known of the segment, and not of the job or of the servers.
+module _ (Checked : SegName → List Check → Type 0) (Gone : SegName → Type 0) where
+  abbrev Known : Phase → Type 0
+  Known p = KnownOf Checked Gone p
 
-module _ (Known : Phase → Type 0) (May : Out → Type 0) (c : Carries Known May) where
+  abbrev May : Out → Type 0
+  May out = DeletesOf Gone out
+
   abbrev Fine : Turn → Type 0
   Fine turn = Known turn.state × AllByRecursion May turn.outs
 
   pub next_fine : (left : List SegRef) (j : JobState) → Fine (next_of left j)
-  next_fine [] j = (c.over, (c.finished j.deleted, tt))
-  next_fine (s ∷ left) j = (c.reading _ s, (c.fetch s, tt))
+  next_fine [] j = (tt, (tt, tt))
+  next_fine (s ∷ left) j = (tt, (tt, tt))
 
   deleting_fine : (j : JobState) (segment : SegRef) → ((servers : List ℕ) → Known (Deleting j segment servers)) → Fine (deleting j segment)
   deleting_fine j segment k =
-      (k (servers_of j.groups segment), says_deletes May segment.name (λ server. c.delete j segment [] server (k [])) (servers_of j.groups segment))
+      (k (servers_of j.groups segment), says_deletes May segment.name (λ server. k []) (servers_of j.groups segment))
 
   deleted_fine : (server : ℕ) (name : SegName) (j : JobState) (segment : SegRef) (servers : List ℕ) → Known (Deleting j segment servers)
       → Fine (on_deleted server name j segment servers)
@@ -87,7 +77,7 @@ module _ (Known : Phase → Type 0) (May : Out → Type 0) (c : Carries Known Ma
       by_test Fine (same_name name segment.name && is_among servers server) (left_to_delete j segment (without servers server))
       (still (Deleting j segment servers))
       (λ t. by_test Fine (length (without servers server) == 0) (next (counted j)) (still (Deleting j segment (without servers server)))
-      (λ u. next_fine j.left (counted j)) (λ u. (c.deletes j j segment servers (without servers server) k, tt)))
+      (λ u. next_fine j.left (counted j)) (λ u. (k, tt)))
       (λ t. (k, tt))
 
   pub checking_fine : (j : JobState) (segment : SegRef) (checks : List Check) → Known (Checking j segment checks)
@@ -96,7 +86,7 @@ module _ (Known : Phase → Type 0) (May : Out → Type 0) (c : Carries Known Ma
   checking_fine j segment checks k ends =
       by_test Fine (all_dead checks) (deleting j segment) (record { state = Checking j segment checks; outs = questions segment checks })
       (λ t. deleting_fine j segment (ends t))
-      (λ t. (k, says_questions May c.question segment checks))
+      (λ t. (k, says_questions May (λ block place. tt) segment checks))
 
   pub looked_fine : (j : JobState) (segment : SegRef) (was_asked : Bool) (checks : List Check) → Known (Checking j segment checks)
       → (all_dead checks ≡ true → (servers : List ℕ) → Known (Deleting j segment servers)) → Fine (looked_at j segment was_asked checks)
@@ -107,7 +97,7 @@ module _ (Known : Phase → Type 0) (May : Out → Type 0) (c : Carries Known Ma
       (still (Checking j segment checks)))
       (λ t. deleting_fine j segment (ends t))
       (λ t. by_test Fine (was_asked && not (any_asked checks)) (record { state = Checking j segment checks; outs = out.Move (moves checks) ∷ [] })
-      (still (Checking j segment checks)) (λ u. (k, (c.moving (moves checks), tt))) (λ u. (k, tt)))
+      (still (Checking j segment checks)) (λ u. (k, (tt, tt))) (λ u. (k, tt)))
 
   -- ---- inputs that are no answers
 
@@ -115,8 +105,8 @@ module _ (Known : Phase → Type 0) (May : Out → Type 0) (c : Carries Known Ma
   listed_fine l =
       by_test Fine (length l.awaited == 0)
       (record { state = Counting (record { groups = l.groups; candidates = l.candidates; usages = [] }); outs = usage_asks all_slots }) (still (Listing l))
-      (λ t. (c.counting _, says_usage_asks May c.usage all_slots))
-      (λ t. (c.listing l, tt))
+      (λ t. (tt, says_usage_asks May (λ slot. tt) all_slots))
+      (λ t. (tt, tt))
 
   pub listed_in_fine : (server : ℕ) (held : List FragMeta) (p : Phase) → Known p → Fine (listed_in server held p)
   listed_in_fine server held (Listing l) k =
@@ -127,7 +117,7 @@ module _ (Known : Phase → Type 0) (May : Out → Type 0) (c : Carries Known Ma
   counted_fine count s =
       by_test Fine (is_counted s.usages) (next (record { groups = s.groups; left = chosen count s; deleted = 0 })) (still (Counting s))
       (λ t. next_fine (chosen count s) (record { groups = s.groups; left = chosen count s; deleted = 0 }))
-      (λ t. (c.counting s, tt))
+      (λ t. (tt, tt))
 
   pub counted_in_fine : (count slot : ℕ) (counts : _) (p : Phase) → Known p → Fine (counted_in count slot counts p)
   counted_in_fine count slot counts (Counting s) k =
@@ -138,15 +128,11 @@ module _ (Known : Phase → Type 0) (May : Out → Type 0) (c : Carries Known Ma
   pub forgetting_fine : (slot : ℕ) (p : Phase) → Known p → Fine (forgetting slot p)
   forgetting_fine slot (Counting s) k =
       by_test Fine (has_usage s.usages slot) (record { state = Counting (forgotten slot s); outs = out.UsageAsk slot ∷ [] }) (still (Counting s))
-      (λ t. (c.counting (forgotten slot s), (c.usage slot, tt))) (λ t. (k, tt))
+      (λ t. (tt, (tt, tt))) (λ t. (k, tt))
   forgetting_fine slot p k = (k, tt)
 
   pub mapped_fine : (groups : GroupMapState) (p : Phase) → Known p → Known (mapped groups p)
-  mapped_fine groups (Listing l) k = c.listing _
-  mapped_fine groups (Counting s) k = c.counting _
-  mapped_fine groups (Reading j segment) k = c.reading _ segment
-  mapped_fine groups (Checking j segment checks) k = c.checks j _ segment checks k
-  mapped_fine groups (Deleting j segment servers) k = c.deletes j _ segment servers servers k
+  mapped_fine groups (Listing l) k = k
   mapped_fine groups p k = k
 
   pub deleted_in_fine : (server : ℕ) (name : SegName) (p : Phase) → Known p → Fine (deleted_in server name p)
@@ -154,10 +140,10 @@ module _ (Known : Phase → Type 0) (May : Out → Type 0) (c : Carries Known Ma
   deleted_in_fine server name p k = (k, tt)
 
   pub awaits_fine : (p : Phase) → Known p → AllByRecursion May (awaits p)
-  awaits_fine Greeting k = (c.hello, tt)
-  awaits_fine (Listing l) k = says_lists May c.list l.awaited
-  awaits_fine (Counting s) k = says_usage_asks May c.usage (awaited_slots s.usages)
-  awaits_fine (Reading j segment) k = (c.fetch segment, tt)
-  awaits_fine (Checking j segment checks) k = says_questions May c.question segment checks
-  awaits_fine (Deleting j segment servers) k = says_deletes May segment.name (λ server. c.delete j segment servers server k) servers
+  awaits_fine Greeting k = (tt, tt)
+  awaits_fine (Listing l) k = says_lists May (λ server. tt) l.awaited
+  awaits_fine (Counting s) k = says_usage_asks May (λ slot. tt) (awaited_slots s.usages)
+  awaits_fine (Reading j segment) k = (tt, tt)
+  awaits_fine (Checking j segment checks) k = says_questions May (λ block place. tt) segment checks
+  awaits_fine (Deleting j segment servers) k = says_deletes May segment.name (λ server. k) servers
   awaits_fine Over k = tt

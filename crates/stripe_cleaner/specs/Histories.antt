@@ -10,6 +10,7 @@ use Rattle.xfs_base.specs.declared.news.SlotNews.{SlotNews}
 use Rattle.xfs_base.specs.declared.segment.SegName.{SegName}
 use Rattle.xfs_base.specs.Blocks.{same_block}
 use Rattle.xfs_base.specs.Steps.{steps}
+use Rattle.stripe_cleaner.specs.declared.checks.Check.{Check}
 use Rattle.stripe_cleaner.specs.declared.input.In.{In}
 use Rattle.stripe_cleaner.specs.declared.input.In.TheVariants as input
 use Rattle.stripe_cleaner.specs.declared.output.Out.{Out}
@@ -117,7 +118,17 @@ pub record IsEmptied (start : CleaningState) (history : List In) (name : SegName
   pub dead : AllByRecursion (λ b. stage_after (transition (state_after start before) (input.Read (Some segment))).state later b ≡ Dead)
       (blocks_of segment.items)
 
+-- what is known of the segment in hand: something where it is checked, and something where it is deleted
+abbrev pub KnownOf : (SegName → List Check → Type 0) → (SegName → Type 0) → Phase → Type 0
+KnownOf Checked Gone (phase.Checking j segment checks) = Checked segment.name checks
+KnownOf Checked Gone (phase.Deleting j segment servers) = Gone segment.name
+KnownOf Checked Gone phase = Unit {0}
+
+-- what is deleted is such
+abbrev pub DeletesOf : (SegName → Type 0) → Out → Type 0
+DeletesOf Gone (out.Delete server name) = Gone name
+DeletesOf Gone out = Unit {0}
+
 -- what is deleted is emptied
 abbrev pub DeletesEmptied : CleaningState → List In → Out → Type 0
-DeletesEmptied start history (out.Delete server name) = IsEmptied start history name
-DeletesEmptied start history out = Unit {0}
+DeletesEmptied start history out = DeletesOf (IsEmptied start history) out
