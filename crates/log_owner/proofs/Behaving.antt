@@ -223,32 +223,7 @@ body_so o q from (body.Fragment f) =
 body_so o q from (body.Missing m) =
     by_server_so o q (missing_by o q m) (server_in from) (λ n. answer_so o q (λ own. input.Missing own n m.generation) (own_in o.stage m.ask))
 body_so o q from (body.Stored s) = stored_so o q s
-body_so o q from (body.Want b) = dropped o q
-body_so o q from (body.Grant b) = dropped o q
-body_so o q from (body.Forward b) = dropped o q
-body_so o q from (body.Supply b) = dropped o q
-body_so o q from (body.Recall b) = dropped o q
-body_so o q from (body.Gave b) = dropped o q
-body_so o q from (body.Gone b) = dropped o q
-body_so o q from (body.Deltas b) = dropped o q
-body_so o q from (body.DeltaAck b) = dropped o q
-body_so o q from (body.Poll b) = dropped o q
-body_so o q from (body.Report b) = dropped o q
-body_so o q from (body.Store b) = dropped o q
-body_so o q from (body.Fetch b) = dropped o q
-body_so o q from (body.Fence b) = dropped o q
-body_so o q from (body.List b) = dropped o q
-body_so o q from (body.Listed b) = dropped o q
-body_so o q from (body.Delete b) = dropped o q
-body_so o q from (body.Deleted b) = dropped o q
-body_so o q from (body.Check b) = dropped o q
-body_so o q from (body.Live b) = dropped o q
-body_so o q from (body.Dead b) = dropped o q
-body_so o q from (body.UsageAsk b) = dropped o q
-body_so o q from (body.Usage b) = dropped o q
-body_so o q from (body.Hello b) = dropped o q
-body_so o q from (body.CkptDone b) = dropped o q
-body_so o q from (body.CkptAck b) = dropped o q
+body_so o q from _ = dropped o q
 
 pub packet_so : (o : Opening) (q : Questions) (p : Packet) → Behaves o.known.owner (on_packet o q p)
 unfolding on_packet

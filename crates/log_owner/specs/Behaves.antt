@@ -13,14 +13,11 @@ use Rattle.version_model.specs.declared.act.Act.TheVariants as act
 use Rattle.wire_msg.specs.declared.body.Body.{Body}
 use Rattle.wire_msg.specs.declared.body.Body.TheVariants as body
 use Rattle.xfs_base.specs.declared.node.NodeId.{NodeId}
-use Rattle.xfs_base.specs.declared.node.NodeId.TheVariants.{Client, Manager, Server, Cleaner, Registry}
+use Rattle.xfs_base.specs.declared.node.NodeId.TheVariants.{Server, Registry}
 
 abbrev pub IsServer : NodeId → Type 0
 IsServer (Server number) = Unit {0}
-IsServer (Client number) = ⊥
-IsServer (Manager number) = ⊥
-IsServer Cleaner = ⊥
-IsServer Registry = ⊥
+IsServer _ = ⊥
 
 -- It asks the registry in its incarnation; a server it asks for fragments, or tells to store one, or fences below its incarnation,
 -- its own log alone. To managers and clients it says nothing.
@@ -29,46 +26,12 @@ MaySay owner to (body.Hello hello) = (to ≡ Registry) × (hello.inc ≡ owner.i
 MaySay owner to (body.Fence fence) = IsServer to × (fence.log ≡ owner.log) × (fence.pass ≡ fence_pass owner.inc)
 MaySay owner to (body.Fetch fetch) = IsServer to
 MaySay owner to (body.Store store) = IsServer to
-MaySay owner to (body.Want b) = ⊥
-MaySay owner to (body.Grant b) = ⊥
-MaySay owner to (body.Forward b) = ⊥
-MaySay owner to (body.Supply b) = ⊥
-MaySay owner to (body.Recall b) = ⊥
-MaySay owner to (body.Gave b) = ⊥
-MaySay owner to (body.Gone b) = ⊥
-MaySay owner to (body.Deltas b) = ⊥
-MaySay owner to (body.DeltaAck b) = ⊥
-MaySay owner to (body.Poll b) = ⊥
-MaySay owner to (body.Report b) = ⊥
-MaySay owner to (body.Stored b) = ⊥
-MaySay owner to (body.Fragment b) = ⊥
-MaySay owner to (body.Missing b) = ⊥
-MaySay owner to (body.Fenced b) = ⊥
-MaySay owner to (body.List b) = ⊥
-MaySay owner to (body.Listed b) = ⊥
-MaySay owner to (body.Delete b) = ⊥
-MaySay owner to (body.Deleted b) = ⊥
-MaySay owner to (body.Check b) = ⊥
-MaySay owner to (body.Live b) = ⊥
-MaySay owner to (body.Dead b) = ⊥
-MaySay owner to (body.UsageAsk b) = ⊥
-MaySay owner to (body.Usage b) = ⊥
-MaySay owner to (body.Welcome b) = ⊥
-MaySay owner to (body.MapNews b) = ⊥
-MaySay owner to (body.CkptDone b) = ⊥
-MaySay owner to (body.CkptAck b) = ⊥
+MaySay owner to _ = ⊥
 
 -- It answers nothing; it acts only that segments are filed.
 abbrev pub MayAct : Act → Type 0
 MayAct (act.Filed seg) = Unit {0}
-MayAct (act.Wrote client block value) = ⊥
-MayAct (act.Read client block ver value) = ⊥
-MayAct (act.Synced client) = ⊥
-MayAct (act.Fell client flight falls) = ⊥
-MayAct (act.Back client chain) = ⊥
-MayAct (act.Lost node seg) = ⊥
-MayAct (act.Dropped seg) = ⊥
-MayAct (act.Answered node item answer) = ⊥
+MayAct _ = ⊥
 
 abbrev pub MayDo : Owner → Effect → Type 0
 MayDo owner (effect.Send to body) = MaySay owner to body

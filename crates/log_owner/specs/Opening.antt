@@ -306,32 +306,7 @@ on_body o q from (body.Fenced f) = on_fenced o q from f
 on_body o q from (body.Fragment f) = on_found o q from f
 on_body o q from (body.Missing m) = on_missing o q from m
 on_body o q from (body.Stored s) = on_stored o q s
-on_body o q from (body.Want b) = drops o q
-on_body o q from (body.Grant b) = drops o q
-on_body o q from (body.Forward b) = drops o q
-on_body o q from (body.Supply b) = drops o q
-on_body o q from (body.Recall b) = drops o q
-on_body o q from (body.Gave b) = drops o q
-on_body o q from (body.Gone b) = drops o q
-on_body o q from (body.Deltas b) = drops o q
-on_body o q from (body.DeltaAck b) = drops o q
-on_body o q from (body.Poll b) = drops o q
-on_body o q from (body.Report b) = drops o q
-on_body o q from (body.Store b) = drops o q
-on_body o q from (body.Fetch b) = drops o q
-on_body o q from (body.Fence b) = drops o q
-on_body o q from (body.List b) = drops o q
-on_body o q from (body.Listed b) = drops o q
-on_body o q from (body.Delete b) = drops o q
-on_body o q from (body.Deleted b) = drops o q
-on_body o q from (body.Check b) = drops o q
-on_body o q from (body.Live b) = drops o q
-on_body o q from (body.Dead b) = drops o q
-on_body o q from (body.UsageAsk b) = drops o q
-on_body o q from (body.Usage b) = drops o q
-on_body o q from (body.Hello b) = drops o q
-on_body o q from (body.CkptDone b) = drops o q
-on_body o q from (body.CkptAck b) = drops o q
+on_body o q from _ = drops o q
 
 -- A packet: where it names a group that isn't known it is dropped, and the maps are asked for.
 unfoldable pub on_packet : Opening → Questions → Packet → Went

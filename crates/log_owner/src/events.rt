@@ -1,7 +1,7 @@
 //! What a packet makes of an opening.
 ghost use Rattle.std.specs.Prelude.{◌≡◌, IfOk, OnOk};
-ghost use Rattle.log_owner.specs.Opening.{Goes, scans, own_in, on_welcome, on_news, regrouped, on_fenced, fenced_by, is_fenced, on_found, found_by, on_missing, missing_by, on_stored};
-ghost use Rattle.log_scan.specs.declared.input.In.TheVariants.{Got};
+ghost use Rattle.log_owner.specs.Opening.{Goes, scans, own_in, on_welcome, on_news, regrouped, on_fenced, is_fenced, on_found, on_missing, on_stored};
+ghost use Rattle.log_scan.specs.declared.input.In.TheVariants.{Fenced as Holds, Got};
 ghost use Rattle.node_base.specs.Maps.{taken};
 
 use crate::known::Known;
@@ -75,11 +75,17 @@ impl Opening {
     {
         match server_in(from) {
             None => Ok(Progress::Opening(self)),
-            Some(server) => self.fenced_by(alloc, effects, questions, server, fenced),
+            Some(server) => {
+                if !self.is_fenced(fenced) {
+                    return Ok(Progress::Opening(self));
+                }
+                self.fenced(alloc, effects, questions, server, fenced)
+            }
         }
     }
 
-    fn fenced_by(
+    // The scan gets what a server holds.
+    fn fenced(
         self,
         alloc: Global,
         effects: &mut Effects,
@@ -87,11 +93,8 @@ impl Opening {
         server: u8,
         fenced: &Fenced,
     ) -> Mem<Progress>
-        ensures { Goes result questions.new effects.old effects.new (fenced_by self questions.old fenced.now server) }
+        ensures { Goes result questions.new effects.old effects.new (scans self questions.old (Holds server fenced.now.generation fenced.now.held)) }
     {
-        if !self.is_fenced(fenced) {
-            return Ok(Progress::Opening(self));
-        }
         let generation = fenced.generation;
         match fenced.held.copy(alloc) {
             Ok(held) => {
@@ -129,23 +132,10 @@ impl Opening {
     {
         match server_in(from) {
             None => Ok(Progress::Opening(self)),
-            Some(server) => self.found_by(alloc, effects, questions, server, found),
-        }
-    }
-
-    fn found_by(
-        self,
-        alloc: Global,
-        effects: &mut Effects,
-        questions: &mut Questions,
-        server: u8,
-        found: &Found,
-    ) -> Mem<Progress>
-        ensures { Goes result questions.new effects.old effects.new (found_by self questions.old found.now server) }
-    {
-        match self.own(found.ask) {
-            None => Ok(Progress::Opening(self)),
-            Some(ask) => self.found(alloc, effects, questions, server, ask, found),
+            Some(server) => match self.own(found.ask) {
+                None => Ok(Progress::Opening(self)),
+                Some(ask) => self.found(alloc, effects, questions, server, ask, found),
+            },
         }
     }
 
@@ -193,30 +183,17 @@ impl Opening {
     {
         match server_in(from) {
             None => Ok(Progress::Opening(self)),
-            Some(server) => self.missing_by(alloc, effects, questions, server, missing),
-        }
-    }
-
-    fn missing_by(
-        self,
-        alloc: Global,
-        effects: &mut Effects,
-        questions: &mut Questions,
-        server: u8,
-        missing: &Missing,
-    ) -> Mem<Progress>
-        ensures { Goes result questions.new effects.old effects.new (missing_by self questions.old missing.now server) }
-    {
-        match self.own(missing.ask) {
-            None => Ok(Progress::Opening(self)),
-            Some(ask) => {
-                let input = In::Missing {
-                    ask,
-                    server,
-                    generation: missing.generation,
-                };
-                self.scan(alloc, effects, questions, input)
-            }
+            Some(server) => match self.own(missing.ask) {
+                None => Ok(Progress::Opening(self)),
+                Some(ask) => {
+                    let input = In::Missing {
+                        ask,
+                        server,
+                        generation: missing.generation,
+                    };
+                    self.scan(alloc, effects, questions, input)
+                }
+            },
         }
     }
 
