@@ -2,10 +2,9 @@
 ghost use Rattle.std.specs.Prelude.{◌≡◌, ◌++◌, ◌∷◌, [], IfOk, OnOk};
 ghost use Rattle.node_base.specs.Beginning.{work_at};
 ghost use Rattle.node_base.specs.Setups.{IsSetup};
-ghost use Rattle.store_nodes.specs.ServerEvents.{server_start, hello_of, takes_news, on_news, on_welcome, asks_for_maps, hears, hears_known, on_body, on_packet, on_lose, begins_rebuild, on_rebuild, wish_of, on_wish, on_begin, hello_again, on_tick, on_event, is_far_from_ends, takes, server_step};
+ghost use Rattle.store_nodes.specs.ServerEvents.{server_start, hello_of, takes_news, on_news, on_welcome, asks_for_maps, hears, on_body, on_packet, on_lose, on_rebuild, wish_of, on_begin, hello_again, on_tick, is_far_from_ends, takes, server_step};
 
 use fragment_store::Shelf;
-use group_map::GroupMap;
 use group_rebuild::{In, Rebuild};
 use node_base::{
     Asked, Effects, Items, Maps, Peers, Questions, groups_of, has_room, is_well_formed,
@@ -138,7 +137,11 @@ impl Server {
         if !self.is_far_from_ends() {
             return Ok(());
         }
-        self.on_event(alloc, effects, what)
+        match what {
+            Do::Begin => self.on_begin(alloc, effects),
+            Do::Deliver(packet) => self.on_packet(alloc, effects, packet.as_packet()),
+            Do::Tick => self.on_tick(alloc, effects),
+        }
     }
 
     fn is_far_from_ends(&self) -> bool
@@ -149,17 +152,6 @@ impl Server {
             && has_room(self.maps.version)
     }
 
-    fn on_event(&mut self, alloc: Global, effects: &mut Effects, what: &Do) -> Mem<()>
-        ensures state { OnOk result (self.new ≡ (on_event self.old what.now).state) }
-        ensures effects { OnOk result (effects.new ≡ effects.old ++ (on_event self.old what.now).outs) }
-    {
-        match what {
-            Do::Begin => self.on_begin(alloc, effects),
-            Do::Deliver(packet) => self.on_packet(alloc, effects, packet.as_packet()),
-            Do::Tick => self.on_tick(alloc, effects),
-        }
-    }
-
     #[tactic(auto, unfolding(crate::specs::ServerEvents::on_begin))]
     fn on_begin(&mut self, alloc: Global, effects: &mut Effects) -> Mem<()>
         ensures state { OnOk result (self.new ≡ (on_begin self.old).state) }
@@ -168,15 +160,7 @@ impl Server {
         let Some(number) = self.items.begin() else {
             return Ok(());
         };
-        let wish = wish_at(&self.items, number);
-        self.on_wish(alloc, effects, number, wish)
-    }
-
-    fn on_wish(&mut self, alloc: Global, effects: &mut Effects, number: u32, wish: Wish) -> Mem<()>
-        ensures state { OnOk result (self.new ≡ (on_wish self.old number wish).state) }
-        ensures effects { OnOk result (effects.new ≡ effects.old ++ (on_wish self.old number wish).outs) }
-    {
-        match wish {
+        match wish_at(&self.items, number) {
             Wish::Lose => self.on_lose(alloc, effects, number),
             Wish::Rebuild => self.on_rebuild(alloc, effects, number),
             Wish::Other => Ok(()),
@@ -207,24 +191,8 @@ impl Server {
         match body {
             Body::MapNews(news) => self.on_news(alloc, effects, news),
             Body::Welcome(welcome) => self.on_welcome(alloc, effects, welcome),
-            _ => self.hears_known(alloc, effects, from, body),
-        }
-    }
-
-    fn hears_known(
-        &mut self,
-        alloc: Global,
-        effects: &mut Effects,
-        from: NodeId,
-        body: &Body,
-    ) -> Mem<()>
-        ensures state { OnOk result (self.new ≡ (hears_known self.old from body.now).state) }
-        ensures effects { OnOk result (effects.new ≡ effects.old ++ (hears_known self.old from body.now).outs) }
-    {
-        if names_known_groups(&self.maps, body) {
-            self.hears(alloc, effects, from, body)
-        } else {
-            self.asks_for_maps(effects)
+            _ if names_known_groups(&self.maps, body) => self.hears(alloc, effects, from, body),
+            _ => self.asks_for_maps(effects),
         }
     }
 
@@ -270,21 +238,7 @@ impl Server {
         if self.items.open().is_some() {
             return effects.answer(number, Answer::Busy);
         }
-        let groups = self.maps.copy_groups(alloc)?;
-        self.begins_rebuild(alloc, effects, number, groups)
-    }
-
-    fn begins_rebuild(
-        &mut self,
-        alloc: Global,
-        effects: &mut Effects,
-        number: u32,
-        groups: Option<GroupMap>,
-    ) -> Mem<()>
-        ensures state { OnOk result (self.new ≡ (begins_rebuild self.old number groups).state) }
-        ensures effects { OnOk result (effects.new ≡ effects.old ++ (begins_rebuild self.old number groups).outs) }
-    {
-        let Some(groups) = groups else {
+        let Some(groups) = self.maps.copy_groups(alloc)? else {
             return Ok(());
         };
         self.items.wait(number);
