@@ -5,7 +5,7 @@ ghost use Rattle.wire_msg.specs.declared.body.Body.TheVariants.{Welcome as Welco
 ghost use Rattle.node_base.specs.declared.effects.Effect.TheVariants.{Send};
 ghost use Rattle.node_base.specs.Beginning.{work_at};
 ghost use Rattle.node_base.specs.Setups.{IsSetup};
-ghost use Rattle.registry_node.specs.Events.{registry_start, news_of, tells_all, moved, on_move, changed, welcome_of, welcomes, on_hello, kept, on_done, move_of, on_begin, hears, on_packet, on_event, takes, registry_step};
+ghost use Rattle.registry_node.specs.Events.{registry_start, news_of, tells_all, moved, on_move, changed, welcome_of, welcomes, on_hello, kept, on_done, move_of, on_begin, on_packet, takes, registry_step};
 
 use node_base::{Effects, Items, Peers, has_room, is_well_formed};
 use registry::{Board, In, Out};
@@ -85,13 +85,6 @@ impl RegistryNode {
         if !has_room(self.board.version()) {
             return Ok(());
         }
-        self.on_event(alloc, effects, what)
-    }
-
-    fn on_event(&mut self, alloc: Global, effects: &mut Effects, what: &Do) -> Mem<()>
-        ensures state { OnOk result (self.new ≡ (on_event self.old what.now).state) }
-        ensures effects { OnOk result (effects.new ≡ effects.old ++ (on_event self.old what.now).outs) }
-    {
         match what {
             Do::Begin => self.on_begin(alloc, effects),
             Do::Deliver(packet) => self.on_packet(alloc, effects, packet.as_packet()),
@@ -121,16 +114,9 @@ impl RegistryNode {
         if !is_well_formed(self.peers, packet) {
             return Ok(());
         }
-        self.hears(alloc, effects, packet.from, &packet.body)
-    }
-
-    fn hears(&mut self, alloc: Global, effects: &mut Effects, from: NodeId, body: &Body) -> Mem<()>
-        ensures state { OnOk result (self.new ≡ (hears self.old from body.now).state) }
-        ensures effects { OnOk result (effects.new ≡ effects.old ++ (hears self.old from body.now).outs) }
-    {
-        match body {
-            Body::Hello(hello) => self.on_hello(alloc, effects, from, *hello),
-            Body::CkptDone(done) => self.on_done(alloc, effects, from, done),
+        match &packet.body {
+            Body::Hello(hello) => self.on_hello(alloc, effects, packet.from, *hello),
+            Body::CkptDone(done) => self.on_done(alloc, effects, packet.from, done),
             _ => Ok(()),
         }
     }
@@ -241,8 +227,7 @@ impl RegistryNode {
     {
         match out {
             Out::Changed => self.tell_all(alloc, effects),
-            Out::Epoch { epoch: _ } => Ok(()),
-            Out::Kept { epoch: _ } => Ok(()),
+            _ => Ok(()),
         }
     }
 
@@ -312,8 +297,6 @@ fn say_one_kept(effects: &mut Effects, from: NodeId, done: &CkptDone, out: &Out)
     ensures { OnOk result (effects.new ≡ effects.old ++ kept from done.now out.now) }
 {
     match out {
-        Out::Changed => Ok(()),
-        Out::Epoch { epoch: _ } => Ok(()),
         Out::Kept { epoch } => {
             let ack = CkptAck {
                 slot: done.slot,
@@ -322,5 +305,6 @@ fn say_one_kept(effects: &mut Effects, from: NodeId, done: &CkptDone, out: &Out)
             };
             effects.send(from, Body::CkptAck(ack))
         }
+        _ => Ok(()),
     }
 }
