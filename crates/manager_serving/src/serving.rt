@@ -17,9 +17,7 @@ use manager_slots::{Ears, Lasting, SlotTable};
 use node_base::{Effects, Maps, has_room, names_known_groups, server_in};
 use std::alloc::Global;
 use takeover::In;
-use wire_msg::{
-    Body, Check, Deltas, Found, Gave, Missing, News, Packet, Report, UsageAsk, Want, Welcome,
-};
+use wire_msg::{Body, Found, Missing, News, Packet, Report, Welcome};
 use xfs_base::{End, LogId, Mem, NodeId, SlotNews};
 
 /// What a manager has that serves: it lasts from the start of a run, or from the Welcome of its boot, to its
@@ -169,6 +167,7 @@ impl Serving {
         send_hello(effects, self.lasting.inc, ask)
     }
 
+    #[tactic(auto, unfolding(crate::specs::Serving::on_want, crate::specs::Serving::on_gave, crate::specs::Serving::on_deltas, crate::specs::Serving::on_check, crate::specs::Serving::on_usage_ask))]
     fn on_body(
         &mut self,
         alloc: Global,
@@ -183,11 +182,20 @@ impl Serving {
         match body {
             Body::MapNews(news) => self.on_fitting_news(alloc, effects, clients, news),
             Body::Welcome(welcome) => self.on_welcome(alloc, effects, clients, welcome),
-            Body::Want(want) => self.on_want(alloc, effects, client_in(from), *want),
-            Body::Gave(gave) => self.on_gave(alloc, effects, client_in(from), *gave),
-            Body::Deltas(deltas) => self.on_deltas(alloc, effects, fed_log(from), deltas),
-            Body::Check(check) => self.on_check(alloc, effects, *check),
-            Body::UsageAsk(asked) => self.on_usage_ask(alloc, effects, *asked),
+            Body::Want(want) => match client_in(from) {
+                Some(client) => self.slots.on_want(alloc, effects, client, *want),
+                None => Ok(()),
+            },
+            Body::Gave(gave) => match client_in(from) {
+                Some(client) => self.slots.on_gave(alloc, effects, client, *gave),
+                None => Ok(()),
+            },
+            Body::Deltas(deltas) => match fed_log(from) {
+                Some(log) => self.slots.on_deltas(alloc, effects, log, deltas),
+                None => Ok(()),
+            },
+            Body::Check(check) => self.slots.on_check(alloc, effects, *check),
+            Body::UsageAsk(asked) => self.slots.on_usage_ask(alloc, effects, *asked),
             Body::Report(report) => self.on_report(alloc, effects, from, report),
             Body::Fragment(found) => self.on_found(alloc, effects, server_in(from), found),
             Body::Missing(missing) => self.on_missing(alloc, effects, server_in(from), *missing),
@@ -229,73 +237,6 @@ impl Serving {
             return Ok(());
         }
         self.on_news(alloc, effects, clients, news)
-    }
-
-    #[tactic(auto, unfolding(crate::specs::Serving::on_want))]
-    fn on_want(
-        &mut self,
-        alloc: Global,
-        effects: &mut Effects,
-        from: Option<u8>,
-        want: Want,
-    ) -> Mem<()>
-        ensures state { OnOk result (self.new ≡ (on_want self.old from want).state) }
-        ensures effects { OnOk result (effects.new ≡ effects.old ++ (on_want self.old from want).outs) }
-    {
-        let Some(client) = from else {
-            return Ok(());
-        };
-        self.slots.on_want(alloc, effects, client, want)
-    }
-
-    #[tactic(auto, unfolding(crate::specs::Serving::on_gave))]
-    fn on_gave(
-        &mut self,
-        alloc: Global,
-        effects: &mut Effects,
-        from: Option<u8>,
-        gave: Gave,
-    ) -> Mem<()>
-        ensures state { OnOk result (self.new ≡ (on_gave self.old from gave).state) }
-        ensures effects { OnOk result (effects.new ≡ effects.old ++ (on_gave self.old from gave).outs) }
-    {
-        let Some(client) = from else {
-            return Ok(());
-        };
-        self.slots.on_gave(alloc, effects, client, gave)
-    }
-
-    #[tactic(auto, unfolding(crate::specs::Serving::on_deltas))]
-    fn on_deltas(
-        &mut self,
-        alloc: Global,
-        effects: &mut Effects,
-        from: Option<LogId>,
-        deltas: &Deltas,
-    ) -> Mem<()>
-        ensures state { OnOk result (self.new ≡ (on_deltas self.old from deltas.now).state) }
-        ensures effects { OnOk result (effects.new ≡ effects.old ++ (on_deltas self.old from deltas.now).outs) }
-    {
-        let Some(log) = from else {
-            return Ok(());
-        };
-        self.slots.on_deltas(alloc, effects, log, deltas)
-    }
-
-    #[tactic(auto, unfolding(crate::specs::Serving::on_check))]
-    fn on_check(&mut self, alloc: Global, effects: &mut Effects, check: Check) -> Mem<()>
-        ensures state { OnOk result (self.new ≡ (on_check self.old check).state) }
-        ensures effects { OnOk result (effects.new ≡ effects.old ++ (on_check self.old check).outs) }
-    {
-        self.slots.on_check(alloc, effects, check)
-    }
-
-    #[tactic(auto, unfolding(crate::specs::Serving::on_usage_ask))]
-    fn on_usage_ask(&mut self, alloc: Global, effects: &mut Effects, asked: UsageAsk) -> Mem<()>
-        ensures state { OnOk result (self.new ≡ (on_usage_ask self.old asked).state) }
-        ensures effects { OnOk result (effects.new ≡ effects.old ++ (on_usage_ask self.old asked).outs) }
-    {
-        self.slots.on_usage_ask(alloc, effects, asked)
     }
 
     #[tactic(auto, unfolding(crate::specs::Serving::on_report))]
@@ -375,8 +316,9 @@ impl Serving {
         self.slots.take(alloc, effects, questions, slot, input)
     }
 
-    /// The maps come, and fit. Where they are newer, all that they say is taken, and else the slots alone.
-    #[tactic(auto, unfolding(crate::specs::Serving::on_news))]
+    /// The maps come, and fit. Where they are newer, all that they say is taken, and else the slots alone: the
+    /// groups first, then the slots with a greater epoch in order, then settling is looked at.
+    #[tactic(auto, unfolding(crate::specs::Serving::on_news, crate::specs::Serving::on_newer, crate::specs::Serving::regroups))]
     pub fn on_news(
         &mut self,
         alloc: Global,
@@ -387,38 +329,15 @@ impl Serving {
         ensures state { OnOk result (self.new ≡ (on_news self.old clients news.now).state) }
         ensures effects { OnOk result (effects.new ≡ effects.old ++ (on_news self.old clients news.now).outs) }
     {
-        if self.maps.take(alloc, news)? {
-            self.on_newer(alloc, effects, clients, news)
-        } else {
-            self.hear_slots(alloc, effects, clients, news.slots.as_slice())
+        let slots = news.slots.as_slice();
+        if !self.maps.take(alloc, news)? {
+            return self.hear_slots(alloc, effects, clients, slots);
         }
-    }
-
-    // The groups first, then the slots with a greater epoch in order, then settling is looked at.
-    #[tactic(auto, unfolding(crate::specs::Serving::on_newer))]
-    fn on_newer(
-        &mut self,
-        alloc: Global,
-        effects: &mut Effects,
-        clients: u8,
-        news: &News,
-    ) -> Mem<()>
-        ensures state { OnOk result (self.new ≡ (on_newer self.old clients news.now).state) }
-        ensures effects { OnOk result (effects.new ≡ effects.old ++ (on_newer self.old clients news.now).outs) }
-    {
-        self.regroup(alloc, effects, &news.groups)?;
-        self.hear_slots(alloc, effects, clients, news.slots.as_slice())?;
+        let questions = &mut self.lasting.questions;
+        self.slots.regroup(alloc, effects, questions, &news.groups)?;
+        self.hear_slots(alloc, effects, clients, slots)?;
         let groups = news.groups.copy(alloc)?;
         self.write(alloc, effects, client_log::In::Maps(groups))
-    }
-
-    #[tactic(auto, unfolding(crate::specs::Serving::regroups))]
-    fn regroup(&mut self, alloc: Global, effects: &mut Effects, groups: &GroupMap) -> Mem<()>
-        ensures state { OnOk result (self.new ≡ (regroups self.old groups.now).state) }
-        ensures effects { OnOk result (effects.new ≡ effects.old ++ (regroups self.old groups.now).outs) }
-    {
-        let questions = &mut self.lasting.questions;
-        self.slots.regroup(alloc, effects, questions, groups)
     }
 
     // Slots whose epoch is greater: where the maps give one to this manager it takes it over, and else it
@@ -447,24 +366,16 @@ impl Serving {
     }
 
     /// Time passes: what is unanswered is said again, one kind after the other.
-    #[tactic(auto, unfolding(crate::specs::Serving::on_tick))]
+    #[tactic(auto, unfolding(crate::specs::Serving::on_tick, crate::specs::Serving::recalls_again))]
     pub fn on_tick(&mut self, alloc: Global, effects: &mut Effects) -> Mem<()>
         ensures state { OnOk result (self.new ≡ (on_tick self.old).state) }
         ensures effects { OnOk result (effects.new ≡ effects.old ++ (on_tick self.old).outs) }
     {
-        self.recall_again(alloc, effects)?;
+        self.slots.recall_again(alloc, effects)?;
         self.ask_again(alloc, effects, true)?;
         self.ask_again(alloc, effects, false)?;
         self.write(alloc, effects, client_log::In::Tick)?;
         self.tell_again(alloc, effects)
-    }
-
-    #[tactic(auto, unfolding(crate::specs::Serving::recalls_again))]
-    fn recall_again(&mut self, alloc: Global, effects: &mut Effects) -> Mem<()>
-        ensures state { OnOk result (self.new ≡ (recalls_again self.old).state) }
-        ensures effects { OnOk result (effects.new ≡ effects.old ++ (recalls_again self.old).outs) }
-    {
-        self.slots.recall_again(alloc, effects)
     }
 
     // The takeovers' polls are sent again, or what else they ask.
