@@ -3,7 +3,7 @@ ghost use Rattle.std.specs.Prelude.{◌≡◌, ◌++◌, IfOk, IfSome, OnOk};
 ghost use Rattle.node_base.specs.Setups.{IsSetup};
 ghost use Rattle.manager_node.specs.Phases.{is_serving, on_begin, waiting_of};
 ghost use Rattle.node_base.specs.Maps.{forgotten};
-ghost use Rattle.manager_node.specs.Events.{first_manager, takes_welcome, on_welcome, on_waiting, on_packet, on_deliver, on_time, on_event, happens, manager_step};
+ghost use Rattle.manager_node.specs.Events.{first_manager, takes_welcome, on_waiting, on_deliver, on_time, happens, manager_step};
 ghost use Rattle.manager_serving.specs.Serving as servings;
 
 use crate::beginning::{begin_down, begin_serving, begin_waiting};
@@ -77,28 +77,32 @@ impl Manager {
         ensures state { OnOk result (self.new ≡ record self.old { phase = (happens self.old what.now).state }) }
         ensures effects { OnOk result (effects.new ≡ effects.old ++ (happens self.old what.now).outs) }
     {
-        if self.phase.has_room() {
-            on_event(alloc, effects, self.peers, &mut self.phase, what)
-        } else {
-            Ok(())
+        if !self.phase.has_room() {
+            return Ok(());
+        }
+        match what {
+            Do::Begin => begin_next(alloc, effects, &mut self.phase),
+            Do::Deliver(packet) => self.deliver(alloc, effects, packet.as_packet()),
+            Do::Tick => on_time(alloc, effects, &mut self.phase),
         }
     }
-}
 
-fn on_event(
-    alloc: Global,
-    effects: &mut Effects,
-    peers: Peers,
-    phase: &mut Phase,
-    what: &Do,
-) -> Mem<()>
-    ensures state { OnOk result (phase.new ≡ (on_event peers phase.old what.now).state) }
-    ensures effects { OnOk result (effects.new ≡ effects.old ++ (on_event peers phase.old what.now).outs) }
-{
-    match what {
-        Do::Begin => begin_next(alloc, effects, phase),
-        Do::Deliver(packet) => on_deliver(alloc, effects, peers, phase, packet.as_packet()),
-        Do::Tick => on_time(alloc, effects, phase),
+    // A packet comes. A manager that is down takes none, and one that awaits its Welcome takes that alone.
+    #[tactic(auto, unfolding(crate::specs::Events::on_deliver))]
+    fn deliver(&mut self, alloc: Global, effects: &mut Effects, packet: &Packet) -> Mem<()>
+        ensures state { OnOk result (self.new ≡ record self.old { phase = (on_deliver self.old.peers self.old.phase packet.now).state }) }
+        ensures effects { OnOk result (effects.new ≡ effects.old ++ (on_deliver self.old.peers self.old.phase packet.now).outs) }
+    {
+        if !is_well_formed(self.peers, packet) {
+            return Ok(());
+        }
+        let peers = self.peers;
+        let phase = &mut self.phase;
+        match phase {
+            Phase::Down(_) => Ok(()),
+            Phase::Waiting(_, _) => wait_here(alloc, effects, peers, phase, &packet.body),
+            Phase::Serving(serving) => serving.hear(alloc, effects, peers.clients, packet),
+        }
     }
 }
 
@@ -125,43 +129,6 @@ fn on_begin(alloc: Global, effects: &mut Effects, phase: Phase) -> Mem<Phase>
     }
 }
 
-// A packet comes.
-#[tactic(auto, unfolding(crate::specs::Events::on_deliver))]
-fn on_deliver(
-    alloc: Global,
-    effects: &mut Effects,
-    peers: Peers,
-    phase: &mut Phase,
-    packet: &Packet,
-) -> Mem<()>
-    ensures state { OnOk result (phase.new ≡ (on_deliver peers phase.old packet.now).state) }
-    ensures effects { OnOk result (effects.new ≡ effects.old ++ (on_deliver peers phase.old packet.now).outs) }
-{
-    if is_well_formed(peers, packet) {
-        on_packet(alloc, effects, peers, phase, packet)
-    } else {
-        Ok(())
-    }
-}
-
-// A manager that is down takes no packet, and one that awaits its Welcome takes that alone.
-fn on_packet(
-    alloc: Global,
-    effects: &mut Effects,
-    peers: Peers,
-    phase: &mut Phase,
-    packet: &Packet,
-) -> Mem<()>
-    ensures state { OnOk result (phase.new ≡ (on_packet peers phase.old packet.now).state) }
-    ensures effects { OnOk result (effects.new ≡ effects.old ++ (on_packet peers phase.old packet.now).outs) }
-{
-    match phase {
-        Phase::Down(_) => Ok(()),
-        Phase::Waiting(_, _) => wait_here(alloc, effects, peers, phase, &packet.body),
-        Phase::Serving(serving) => serving.hear(alloc, effects, peers.clients, packet),
-    }
-}
-
 // A body comes to a manager that awaits its Welcome.
 fn wait_here(
     alloc: Global,
@@ -184,6 +151,8 @@ fn wait_here(
     }
 }
 
+// What it becomes: where this is the Welcome that it awaits it serves, and takes over the slots that are given to it.
+#[tactic(auto, unfolding(crate::specs::Events::on_welcome))]
 fn on_waiting(
     alloc: Global,
     effects: &mut Effects,
@@ -196,7 +165,16 @@ fn on_waiting(
     ensures effects { OnOk result (effects.new ≡ effects.old ++ (on_waiting peers lasting hello body.now).outs) }
 {
     match body {
-        Body::Welcome(welcome) => on_welcome(alloc, effects, peers, lasting, hello, welcome),
+        Body::Welcome(welcome) if takes_welcome(peers, &lasting, hello, welcome) => {
+            let mut serving = again(alloc, peers, lasting, &welcome.news.groups)?;
+            match serving.on_news(alloc, effects, peers.clients, &welcome.news) {
+                Ok(()) => Ok(Phase::Serving(serving)),
+                Err(error) => {
+                    drop(serving);
+                    Err(error)
+                }
+            }
+        }
         _ => Ok(Phase::Waiting(lasting, hello)),
     }
 }
@@ -208,31 +186,6 @@ fn takes_welcome(peers: Peers, lasting: &Lasting, hello: u32, welcome: &Welcome)
     welcome.inc == lasting.inc
         && welcome.ask == hello
         && Maps::forgotten(peers.servers).fits(&welcome.news)
-}
-
-#[tactic(auto, unfolding(crate::specs::Events::on_welcome))]
-fn on_welcome(
-    alloc: Global,
-    effects: &mut Effects,
-    peers: Peers,
-    lasting: Lasting,
-    hello: u32,
-    welcome: &Welcome,
-) -> Mem<Phase>
-    ensures state { IfOk result (λ after. after ≡ (on_welcome peers lasting hello welcome.now).state) }
-    ensures effects { OnOk result (effects.new ≡ effects.old ++ (on_welcome peers lasting hello welcome.now).outs) }
-{
-    if !takes_welcome(peers, &lasting, hello, welcome) {
-        return Ok(Phase::Waiting(lasting, hello));
-    }
-    let mut serving = again(alloc, peers, lasting, &welcome.news.groups)?;
-    match serving.on_news(alloc, effects, peers.clients, &welcome.news) {
-        Ok(()) => Ok(Phase::Serving(serving)),
-        Err(error) => {
-            drop(serving);
-            Err(error)
-        }
-    }
 }
 
 // A manager that has started again, and is about to take these groups.
