@@ -3,7 +3,7 @@ ghost use Rattle.std.specs.Prelude.{◌≡◌, ◌++◌, ◌∷◌, [], IfOk, On
 ghost use Rattle.log_owner.specs.Sending as sending;
 ghost use Rattle.node_base.specs.declared.effects.Effect.TheVariants.{Answer as Answers};
 ghost use Rattle.version_model.specs.declared.answer.Answer.TheVariants.{Done};
-ghost use Rattle.manager_node.specs.Phases.{answers, serves, wish_of, crashes, restarts, down_wish, waiting_wish, serving_wish, begin_down, begin_waiting, begin_serving};
+ghost use Rattle.manager_node.specs.Phases.{answers, serves, wish_of, crashes, restarts, serving_wish, begin_down, begin_waiting, begin_serving};
 ghost use Rattle.manager_slots.specs.Lasting.{with_answer};
 ghost use Rattle.manager_serving.specs.Checkpoints as checkpoints;
 
@@ -37,7 +37,7 @@ fn wish_of(lasting: &Lasting, number: u32) -> Wish
     }
 }
 
-/// The next item of a manager that is down.
+/// The next item of a manager that is down: a restart is begun, and all else is refused.
 #[tactic(auto, unfolding(crate::specs::Phases::begin_down))]
 pub(crate) fn begin_down(effects: &mut Effects, lasting: Lasting) -> Mem<Phase>
     ensures state { IfOk result (λ phase. phase ≡ (begin_down lasting).state) }
@@ -47,16 +47,7 @@ pub(crate) fn begin_down(effects: &mut Effects, lasting: Lasting) -> Mem<Phase>
     let Some(number) = lasting.items.begin() else {
         return Ok(Phase::Down(lasting));
     };
-    let wish = wish_of(&lasting, number);
-    down_wish(effects, lasting, number, wish)
-}
-
-// A restart, and all else is refused.
-fn down_wish(effects: &mut Effects, lasting: Lasting, number: u32, wish: Wish) -> Mem<Phase>
-    ensures state { IfOk result (λ phase. phase ≡ (down_wish lasting number wish).state) }
-    ensures effects { OnOk result (effects.new ≡ effects.old ++ (down_wish lasting number wish).outs) }
-{
-    match wish {
+    match wish_of(&lasting, number) {
         Wish::Restart => restart(effects, lasting, number),
         Wish::Crash | Wish::Checkpoint => {
             answer(effects, Phase::Down(lasting), number, Answer::Down)
@@ -64,7 +55,7 @@ fn down_wish(effects: &mut Effects, lasting: Lasting, number: u32, wish: Wish) -
     }
 }
 
-/// The next item of a manager that awaits its Welcome.
+/// The next item of a manager that awaits its Welcome: it manages no slot yet.
 #[tactic(auto, unfolding(crate::specs::Phases::begin_waiting))]
 pub(crate) fn begin_waiting(effects: &mut Effects, lasting: Lasting, hello: u32) -> Mem<Phase>
     ensures state { IfOk result (λ phase. phase ≡ (begin_waiting lasting hello).state) }
@@ -74,22 +65,7 @@ pub(crate) fn begin_waiting(effects: &mut Effects, lasting: Lasting, hello: u32)
     let Some(number) = lasting.items.begin() else {
         return Ok(Phase::Waiting(lasting, hello));
     };
-    let wish = wish_of(&lasting, number);
-    waiting_wish(effects, lasting, hello, number, wish)
-}
-
-// It manages no slot yet.
-fn waiting_wish(
-    effects: &mut Effects,
-    lasting: Lasting,
-    hello: u32,
-    number: u32,
-    wish: Wish,
-) -> Mem<Phase>
-    ensures state { IfOk result (λ phase. phase ≡ (waiting_wish lasting hello number wish).state) }
-    ensures effects { OnOk result (effects.new ≡ effects.old ++ (waiting_wish lasting hello number wish).outs) }
-{
-    match wish {
+    match wish_of(&lasting, number) {
         Wish::Crash => crash(effects, lasting, number),
         Wish::Restart => answer(effects, Phase::Waiting(lasting, hello), number, Answer::Up),
         Wish::Checkpoint => {

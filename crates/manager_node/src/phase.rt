@@ -48,13 +48,9 @@ impl Phase {
         ensures leaves { self.new ≡ idle }
     {
         match self.take(alloc) {
-            Phase::Down(lasting) => {
-                drop(lasting);
-                None
-            }
             Phase::Waiting(lasting, hello) => Some((lasting, hello)),
-            Phase::Serving(serving) => {
-                drop(serving);
+            other => {
+                drop(other);
                 None
             }
         }
@@ -71,11 +67,7 @@ impl Phase {
     pub fn is_serving(&self) -> bool
         ensures { result ≡ is_serving self.now }
     {
-        match self {
-            Phase::Down(_) => false,
-            Phase::Waiting(_, _) => false,
-            Phase::Serving(_) => true,
-        }
+        matches!(self, Phase::Serving(_))
     }
 
     /// What outlives a crash.
