@@ -1,6 +1,6 @@
 //! The log of a client: sealing it, and what is settled.
 ghost use Rattle.std.specs.Prelude.{◌≡◌, ◌++◌, OnOk, fold};
-ghost use Rattle.client_serving.specs.Flights.{feeds, gives_if_clean, keeps_clean, seals_again, settled_rows, settles, writes, writes_one};
+ghost use Rattle.client_serving.specs.Flights.{feeds, gives_if_clean, keeps_clean, settled_rows, settles, writes, writes_one};
 ghost use Rattle.log_owner.specs.Sending.{pushes_all};
 ghost use Rattle.xfs_base.specs.Steps.{steps};
 
@@ -25,7 +25,10 @@ impl Serving {
         let outs = self.log.take(alloc, input)?;
         let settling = is_any_settling(outs.as_slice());
         self.write_all(alloc, effects, outs)?;
-        self.seal_again(alloc, effects, settling)
+        if settling && self.tokens.is_giving(alloc)? {
+            self.seal(alloc, effects)?;
+        }
+        Ok(())
     }
 
     fn write_all(&mut self, alloc: Global, effects: &mut Effects, outs: List<Out>) -> Mem<()>
@@ -47,16 +50,6 @@ impl Serving {
             Out::Send { fragment, member } => send_store(effects, fragment, member),
             Out::Settled { end, rows } => self.settle(alloc, effects, end, rows),
         }
-    }
-
-    fn seal_again(&mut self, alloc: Global, effects: &mut Effects, settling: bool) -> Mem<()>
-        ensures state { OnOk result (self.new ≡ (seals_again self.old settling).state) }
-        ensures effects { OnOk result (effects.new ≡ effects.old ++ (seals_again self.old settling).outs) }
-    {
-        if settling && self.tokens.is_giving(alloc)? {
-            self.seal(alloc, effects)?;
-        }
-        Ok(())
     }
 
     // A segment is settled.

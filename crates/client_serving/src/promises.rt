@@ -1,6 +1,6 @@
 //! Promises: polls of managers, and maps.
 ghost use Rattle.std.specs.Prelude.{◌≡◌, ◌<◌, ◌++◌, ◌∷◌, [], IfOk, OnOk};
-ghost use Rattle.client_serving.specs.Packets.{hears, on_news, on_poll, on_welcome, polled, promises, regroups, renews};
+ghost use Rattle.client_serving.specs.Packets.{hears, on_news, on_poll, on_welcome, promises, renews};
 ghost use Rattle.log_owner.specs.Sending.{hello};
 ghost use Rattle.node_base.specs.Asking.{next_ask, drawn};
 ghost use Rattle.xfs_base.specs.Steps.{steps};
@@ -9,7 +9,6 @@ ghost use Rattle.xfs_base.specs.Limits.{slot_count};
 use crate::sends::report;
 use crate::{Lasting, Serving};
 use client_call::reads::end_reading;
-use group_map::GroupMap;
 use log_owner::sending::send_hello;
 use node_base::Effects;
 use std::alloc::Global;
@@ -20,6 +19,7 @@ use xfs_base::{List, Mem, NodeId, SlotNews};
 
 impl Serving {
     /// A slot's new manager asks what the client holds.
+    #[tactic(auto, unfolding(crate::specs::Packets::polled))]
     pub(crate) fn on_poll(
         &mut self,
         alloc: Global,
@@ -30,17 +30,9 @@ impl Serving {
         ensures state { OnOk result (self.new ≡ (on_poll self.old from poll).state) }
         ensures effects { OnOk result (effects.new ≡ effects.old ++ (on_poll self.old from poll).outs) }
     {
-        match from {
-            NodeId::Manager(manager) => self.polled(alloc, effects, manager, poll),
-            NodeId::Client(_) | NodeId::Server(_) | NodeId::Cleaner | NodeId::Registry => Ok(()),
-        }
-    }
-
-    #[tactic(auto, unfolding(crate::specs::Packets::polled))]
-    fn polled(&mut self, alloc: Global, effects: &mut Effects, manager: u8, poll: Poll) -> Mem<()>
-        ensures state { OnOk result (self.new ≡ (polled self.old manager poll).state) }
-        ensures effects { OnOk result (effects.new ≡ effects.old ++ (polled self.old manager poll).outs) }
-    {
+        let NodeId::Manager(manager) = from else {
+            return Ok(());
+        };
         let Poll { slot, epoch } = poll;
         if SLOT_COUNT <= slot || epoch < self.tokens.promised(slot) {
             return Ok(());
@@ -119,7 +111,11 @@ impl Serving {
         }
         let newer = self.maps.take(alloc, news)?;
         self.hear_all(alloc, effects, news.slots.as_slice())?;
-        self.regroup(alloc, effects, newer, &news.groups)
+        if !newer {
+            return Ok(());
+        }
+        let groups = news.groups.copy(alloc)?;
+        self.write(alloc, effects, client_log::In::Maps(groups))
     }
 
     fn hear_all(&mut self, alloc: Global, effects: &mut Effects, slots: &[SlotNews]) -> Mem<()>
@@ -142,24 +138,6 @@ impl Serving {
         }
         let outs = self.promise(alloc, news.slot, news.epoch, news.manager)?;
         self.follow(alloc, effects, outs)
-    }
-
-    // With newer groups it is looked whether the segment in flight is settled.
-    fn regroup(
-        &mut self,
-        alloc: Global,
-        effects: &mut Effects,
-        newer: bool,
-        groups: &GroupMap,
-    ) -> Mem<()>
-        ensures state { OnOk result (self.new ≡ (regroups self.old newer groups.now).state) }
-        ensures effects { OnOk result (effects.new ≡ effects.old ++ (regroups self.old newer groups.now).outs) }
-    {
-        if !newer {
-            return Ok(());
-        }
-        let groups = groups.copy(alloc)?;
-        self.write(alloc, effects, client_log::In::Maps(groups))
     }
 }
 

@@ -1,7 +1,7 @@
 //! Reading a block from a log.
 ghost use Rattle.std.specs.Prelude.{◌≡◌, ◌++◌, ◌∷◌, OnOk, None};
-ghost use Rattle.client_serving.specs.Packets.{ends_fetch, on_found, on_missing, on_told, told_by};
-ghost use Rattle.client_serving.specs.Reads.{ask_after, begins, confirmed_next, confirms, drawn_after, loses_at, reads, reads_over};
+ghost use Rattle.client_serving.specs.Packets.{ends_fetch, on_told};
+ghost use Rattle.client_serving.specs.Reads.{ask_after, begins, confirmed_next, confirms, drawn_after, loses_at, reads};
 ghost use Rattle.node_base.specs.Beginning.{answered, answers_unanswered};
 ghost use Rattle.node_base.specs.declared.effects.Effect.TheVariants.{Lose};
 ghost use Rattle.token_client.specs.Transition.{on_quit};
@@ -18,7 +18,6 @@ use std::alloc::Global;
 use stripe_code::Told;
 use token_client::{In, Tokens};
 use version_model::Answer;
-use wire_msg::{Found, Missing};
 use xfs_base::{BlockId, Mem, NodeId, Place, SegName};
 
 impl Serving {
@@ -38,21 +37,8 @@ impl Serving {
         if self.call.is_none() {
             return Ok(());
         }
-        let reading = take_reading(&mut self.call);
-        self.read_over(alloc, effects, target_of(block, place), reading)
-    }
-
-    fn read_over(
-        &mut self,
-        alloc: Global,
-        effects: &mut Effects,
-        target: Target,
-        reading: Option<Reading>,
-    ) -> Mem<()>
-        ensures state { OnOk result (self.new ≡ (reads_over self.old target reading).state) }
-        ensures effects { OnOk result (effects.new ≡ effects.old ++ (reads_over self.old target reading).outs) }
-    {
-        let Some(reading) = reading else {
+        let target = target_of(block, place);
+        let Some(reading) = take_reading(&mut self.call) else {
             return self.begin_reading(alloc, effects, target);
         };
         if same_target(reading.target(), target) {
@@ -155,37 +141,9 @@ impl Serving {
         }
     }
 
-    /// A server's fragment, in answer to a fetch.
-    pub(crate) fn on_found(
-        &mut self,
-        alloc: Global,
-        effects: &mut Effects,
-        from: NodeId,
-        found: &Found,
-    ) -> Mem<()>
-        ensures state { OnOk result (self.new ≡ (on_found self.old from found.now).state) }
-        ensures effects { OnOk result (effects.new ≡ effects.old ++ (on_found self.old from found.now).outs) }
-    {
-        let told = Told::Held(found.fragment.copy(alloc)?);
-        self.on_told(alloc, effects, from, found.ask, told)
-    }
-
-    /// A server lacks a segment, in answer to a fetch.
-    pub(crate) fn on_missing(
-        &mut self,
-        alloc: Global,
-        effects: &mut Effects,
-        from: NodeId,
-        missing: Missing,
-    ) -> Mem<()>
-        ensures state { OnOk result (self.new ≡ (on_missing self.old from missing).state) }
-        ensures effects { OnOk result (effects.new ≡ effects.old ++ (on_missing self.old from missing).outs) }
-    {
-        let told = Told::Missing(missing.generation);
-        self.on_told(alloc, effects, from, missing.ask, told)
-    }
-
-    fn on_told(
+    /// A server has told what it holds of a segment, in answer to a fetch.
+    #[tactic(auto, unfolding(crate::specs::Packets::told_by))]
+    pub(crate) fn on_told(
         &mut self,
         alloc: Global,
         effects: &mut Effects,
@@ -196,27 +154,10 @@ impl Serving {
         ensures state { OnOk result (self.new ≡ (on_told self.old from ask told).state) }
         ensures effects { OnOk result (effects.new ≡ effects.old ++ (on_told self.old from ask told).outs) }
     {
-        match from {
-            NodeId::Server(server) => self.told_by(alloc, effects, server, ask, told),
-            NodeId::Client(_) | NodeId::Manager(_) | NodeId::Cleaner | NodeId::Registry => {
-                drop(told);
-                Ok(())
-            }
-        }
-    }
-
-    #[tactic(auto, unfolding(crate::specs::Packets::told_by))]
-    fn told_by(
-        &mut self,
-        alloc: Global,
-        effects: &mut Effects,
-        server: u8,
-        ask: u32,
-        told: Told,
-    ) -> Mem<()>
-        ensures state { OnOk result (self.new ≡ (told_by self.old server ask told).state) }
-        ensures effects { OnOk result (effects.new ≡ effects.old ++ (told_by self.old server ask told).outs) }
-    {
+        let NodeId::Server(server) = from else {
+            drop(told);
+            return Ok(());
+        };
         let Some(wanted) = block_read(&self.call) else {
             drop(told);
             return Ok(());

@@ -16,10 +16,11 @@ use log_owner::sealing::acked;
 use log_owner::sending::push_all;
 use node_base::{Effects, Maps, names_known_groups};
 use std::alloc::Global;
+use stripe_code::Told;
 use token_client::Tokens;
 use wire_msg::{Body, DeltaAck, Packet};
+use xfs_base::Mem;
 use xfs_base::limits::SLOT_COUNT;
-use xfs_base::{Mem, NodeId};
 
 /// What a client that serves has. The tokens keep which epoch each slot is promised to.
 pub struct Serving {
@@ -78,50 +79,45 @@ impl Serving {
         ensures effects { OnOk result (effects.new ≡ effects.old ++ (on_packet self.old packet.now).outs) }
     {
         if names_known_groups(&self.maps, &packet.body) {
-            self.take_body(alloc, effects, packet.from, &packet.body)
+            self.take_body(alloc, effects, packet)
         } else {
             ask_for_maps(effects, &mut self.lasting)
         }
     }
 
-    // A body about blocks, or another.
+    // A packet about blocks, or another.
     #[tactic(auto, unfolding(crate::specs::Packets::on_forward))]
-    fn take_body(
-        &mut self,
-        alloc: Global,
-        effects: &mut Effects,
-        from: NodeId,
-        body: &Body,
-    ) -> Mem<()>
-        ensures state { OnOk result (self.new ≡ (on_body self.old from body.now).state) }
-        ensures effects { OnOk result (effects.new ≡ effects.old ++ (on_body self.old from body.now).outs) }
+    fn take_body(&mut self, alloc: Global, effects: &mut Effects, packet: &Packet) -> Mem<()>
+        ensures state { OnOk result (self.new ≡ (on_body self.old packet.now.from packet.now.body).state) }
+        ensures effects { OnOk result (effects.new ≡ effects.old ++ (on_body self.old packet.now.from packet.now.body).outs) }
     {
-        match body {
+        match &packet.body {
             Body::Grant(grant) => self.on_grant(alloc, effects, **grant),
             Body::Supply(supply) => self.on_supply(alloc, effects, supply),
             Body::Forward(asked) => forward(alloc, effects, &mut self.tokens, *asked),
             Body::Recall(recall) => self.on_recall(alloc, effects, *recall),
             Body::Gone(gone) => self.on_gone(alloc, effects, *gone),
-            _ => self.take_log_body(alloc, effects, from, body),
+            _ => self.take_log_body(alloc, effects, packet),
         }
     }
 
-    // A body about a log, the maps or the promises.
-    fn take_log_body(
-        &mut self,
-        alloc: Global,
-        effects: &mut Effects,
-        from: NodeId,
-        body: &Body,
-    ) -> Mem<()>
-        ensures state { OnOk result (self.new ≡ (on_log_body self.old from body.now).state) }
-        ensures effects { OnOk result (effects.new ≡ effects.old ++ (on_log_body self.old from body.now).outs) }
+    // A packet about a log, the maps or the promises.
+    fn take_log_body(&mut self, alloc: Global, effects: &mut Effects, packet: &Packet) -> Mem<()>
+        ensures state { OnOk result (self.new ≡ (on_log_body self.old packet.now.from packet.now.body).state) }
+        ensures effects { OnOk result (effects.new ≡ effects.old ++ (on_log_body self.old packet.now.from packet.now.body).outs) }
     {
-        match body {
+        let from = packet.from;
+        match &packet.body {
             Body::DeltaAck(ack) => self.on_ack(alloc, *ack),
             Body::Stored(stored) => self.write(alloc, effects, acked(*stored)),
-            Body::Fragment(found) => self.on_found(alloc, effects, from, found),
-            Body::Missing(missing) => self.on_missing(alloc, effects, from, *missing),
+            Body::Fragment(found) => {
+                let told = Told::Held(found.fragment.copy(alloc)?);
+                self.on_told(alloc, effects, from, found.ask, told)
+            }
+            Body::Missing(missing) => {
+                let told = Told::Missing(missing.generation);
+                self.on_told(alloc, effects, from, missing.ask, told)
+            }
             Body::Poll(poll) => self.on_poll(alloc, effects, from, *poll),
             Body::MapNews(news) => self.on_news(alloc, effects, news),
             Body::Welcome(welcome) => self.on_welcome(alloc, effects, welcome),
