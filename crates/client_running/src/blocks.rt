@@ -1,6 +1,6 @@
 //! Calls on blocks.
 ghost use Rattle.std.specs.Prelude.{◌≡◌, ◌++◌, IfOk, OnOk, true};
-ghost use Rattle.client_running.specs.Blocks.{gets, puts, puts_at, puts_again, syncs, changes_if_fits, lets_go, makes};
+ghost use Rattle.client_running.specs.Blocks.{gets, puts, puts_at, needs, syncs, changes_if_fits, lets_go, makes};
 ghost use Rattle.client_serving.specs.Flights.{held_at};
 ghost use Rattle.token_client.specs.Held.{may_write};
 
@@ -47,15 +47,7 @@ fn get(
     ensures answer { IfOk result (λ answer. answer ≡ (gets serving.old block).answer) }
 {
     if serving.tokens.mode(block).is_nothing() {
-        serving.hand(
-            alloc,
-            effects,
-            In::Need {
-                block,
-                mode: Mode::Copy,
-            },
-        )?;
-        return Ok(None);
+        return need(alloc, effects, serving, block, Mode::Copy);
     }
     drop(serving.cache.take(alloc, coop_cache::In::Touch(block))?);
     let answer = read(
@@ -81,15 +73,7 @@ fn put(
     ensures answer { IfOk result (λ answer. answer ≡ (puts serving.old block value.now).answer) }
 {
     if !serving.tokens.may_write(block) {
-        serving.hand(
-            alloc,
-            effects,
-            In::Need {
-                block,
-                mode: Mode::Own,
-            },
-        )?;
-        return Ok(None);
+        return need(alloc, effects, serving, block, Mode::Own);
     }
     change(alloc, effects, serving, block, value)
 }
@@ -108,38 +92,29 @@ fn put_at(
     ensures answer { IfOk result (λ answer. answer ≡ (puts_at serving.old block ver value.now).answer) }
 {
     if !serving.tokens.may_write(block) {
-        serving.hand(
-            alloc,
-            effects,
-            In::Need {
-                block,
-                mode: Mode::Own,
-            },
-        )?;
-        return Ok(None);
+        return need(alloc, effects, serving, block, Mode::Own);
     }
-    put_again(alloc, effects, serving, block, ver, value)
-}
-
-// A block that may be written is, where its version is still this one.
-fn put_again(
-    alloc: Global,
-    effects: &mut Effects,
-    serving: &mut Serving,
-    block: BlockId,
-    ver: u64,
-    value: &Value,
-) -> Mem<Option<BlockAnswer>>
-    requires { may_write (held_at serving.old block) ≡ true }
-    ensures state { OnOk result (serving.new ≡ (puts_again serving.old block ver value.now).done.state) }
-    ensures effects { OnOk result (effects.new ≡ effects.old ++ (puts_again serving.old block ver value.now).done.outs) }
-    ensures answer { IfOk result (λ answer. answer ≡ (puts_again serving.old block ver value.now).answer) }
-{
     if serving.tokens.ver(block) == ver {
         return change(alloc, effects, serving, block, value);
     }
     let_go(alloc, serving, block)?;
     Ok(Some(BlockAnswer::Changed))
+}
+
+// The block is asked for, unless it is asked for already.
+fn need(
+    alloc: Global,
+    effects: &mut Effects,
+    serving: &mut Serving,
+    block: BlockId,
+    mode: Mode,
+) -> Mem<Option<BlockAnswer>>
+    ensures state { OnOk result (serving.new ≡ (needs serving.old block mode).done.state) }
+    ensures effects { OnOk result (effects.new ≡ effects.old ++ (needs serving.old block mode).done.outs) }
+    ensures answer { IfOk result (λ answer. answer ≡ (needs serving.old block mode).answer) }
+{
+    serving.hand(alloc, effects, In::Need { block, mode })?;
+    Ok(None)
 }
 
 #[tactic(auto, unfolding(crate::specs::Blocks::syncs))]
