@@ -1,10 +1,8 @@
 //! The client as a node: what each event makes of it.
 ghost use Rattle.std.specs.Prelude.{◌≡◌, ◌++◌, ℕ, IfOk, IfSome, OnOk};
 ghost use Rattle.client_node.specs.declared.phase.Phase.TheVariants.{Opening as Opens};
-ghost use Rattle.client_node.specs.Phases.{client_step, on_begin, on_deliver, delivers, on_time, on_event, client_room, is_serving, opening_of, takes};
+ghost use Rattle.client_node.specs.Phases.{client_step, on_begin, on_deliver, delivers, on_time, client_room, is_serving, opening_of, takes};
 ghost use Rattle.client_node.specs.Starting.{first_client};
-ghost use Rattle.client_serving.specs.Packets.{on_packet, on_tick};
-ghost use Rattle.client_running.specs.Running.{runs};
 ghost use Rattle.node_base.specs.Setups.{IsSetup};
 ghost use Rattle.segment_format.specs.Format.{IsLog};
 
@@ -109,32 +107,32 @@ impl Client {
         if !self.has_room() {
             return Ok(());
         }
-        on_event(
-            alloc,
-            effects,
-            self.peers,
-            self.cache,
-            &mut self.phase,
-            what,
-        )
+        match what {
+            Do::Begin => begin_next(alloc, effects, self.peers, &mut self.phase),
+            Do::Deliver(packet) => self.deliver(alloc, effects, packet.as_packet()),
+            Do::Tick => tick(alloc, effects, self.cache, &mut self.phase),
+        }
     }
-}
 
-fn on_event(
-    alloc: Global,
-    effects: &mut Effects,
-    peers: Peers,
-    cache: u16,
-    phase: &mut Phase,
-    what: &Do,
-) -> Mem<()>
-    ensures phase { OnOk result (phase.new ≡ (on_event peers cache phase.old what.now).state) }
-    ensures effects { OnOk result (effects.new ≡ effects.old ++ (on_event peers cache phase.old what.now).outs) }
-{
-    match what {
-        Do::Begin => begin_next(alloc, effects, peers, phase),
-        Do::Deliver(packet) => { deliver(alloc, effects, peers, cache, phase, packet.as_packet()) }
-        Do::Tick => tick(alloc, effects, cache, phase),
+    // A packet comes. One that isn't well formed is dropped, and a client that is down takes none. At one that
+    // serves the open call is looked at then.
+    #[tactic(auto, unfolding(crate::specs::Phases::on_deliver))]
+    fn deliver(&mut self, alloc: Global, effects: &mut Effects, packet: &Packet) -> Mem<()>
+        ensures phase { OnOk result
+            (self.new ≡ record self.old { phase = (delivers self.old.peers self.old.cache self.old.phase packet.now).state }) }
+        ensures effects { OnOk result (effects.new ≡ effects.old ++ (delivers self.old.peers self.old.cache self.old.phase packet.now).outs) }
+    {
+        if !is_well_formed(self.peers, packet) {
+            return Ok(());
+        }
+        match &mut self.phase {
+            Phase::Down(_) => Ok(()),
+            Phase::Opening(_, _) => hear_here(alloc, effects, self.cache, &mut self.phase, packet),
+            Phase::Serving(serving) => {
+                serving.take(alloc, effects, packet)?;
+                run(alloc, effects, serving)
+            }
+        }
     }
 }
 
@@ -202,30 +200,8 @@ fn begin_to_open(effects: &mut Effects, lasting: Lasting, opening: Opening) -> M
     }
 }
 
-// A packet comes. A client that is down takes none.
-#[tactic(auto, unfolding(crate::specs::Phases::on_deliver))]
-fn deliver(
-    alloc: Global,
-    effects: &mut Effects,
-    peers: Peers,
-    cache: u16,
-    phase: &mut Phase,
-    packet: &Packet,
-) -> Mem<()>
-    ensures phase { OnOk result (phase.new ≡ (delivers peers cache phase.old packet.now).state) }
-    ensures effects { OnOk result (effects.new ≡ effects.old ++ (delivers peers cache phase.old packet.now).outs) }
-{
-    if !is_well_formed(peers, packet) {
-        return Ok(());
-    }
-    match phase {
-        Phase::Down(_) => Ok(()),
-        Phase::Opening(_, _) => hear_here(alloc, effects, cache, phase, packet),
-        Phase::Serving(serving) => take_and_run(alloc, effects, serving, packet),
-    }
-}
-
 // A packet comes to a client that opens its log.
+#[tactic(auto, unfolding(crate::specs::Phases::on_deliver))]
 fn hear_here(
     alloc: Global,
     effects: &mut Effects,
@@ -237,32 +213,15 @@ fn hear_here(
     ensures effects { OnOk result
         (IfSome (opening_of phase.old) (λ o. effects.new ≡ effects.old ++ (on_deliver cache (Opens o.0 o.1) packet.now).outs)) }
 {
-    match phase.take_opening(alloc) {
-        Some((lasting, opening)) => {
-            let after = hear(alloc, effects, lasting, opening, cache, packet)?;
-            phase.turn_to(after);
-            Ok(())
-        }
-        None => Ok(()),
-    }
-}
-
-// What it makes of a client that opens its log.
-#[tactic(auto, unfolding(crate::specs::Phases::on_deliver))]
-fn hear(
-    alloc: Global,
-    effects: &mut Effects,
-    lasting: Lasting,
-    opening: Opening,
-    cache: u16,
-    packet: &Packet,
-) -> Mem<Phase>
-    ensures phase { IfOk result (λ after. after ≡ (on_deliver cache (Opens lasting opening) packet.now).state) }
-    ensures effects { OnOk result (effects.new ≡ effects.old ++ (on_deliver cache (Opens lasting opening) packet.now).outs) }
-{
+    let Some((lasting, opening)) = phase.take_opening(alloc) else {
+        return Ok(());
+    };
     let mut lasting = lasting;
     match opening.take(alloc, effects, &mut lasting.questions, packet) {
-        Ok(progress) => phase_after(alloc, effects, lasting, cache, progress),
+        Ok(progress) => {
+            phase.turn_to(phase_after(alloc, effects, lasting, cache, progress)?);
+            Ok(())
+        }
         Err(error) => {
             drop(lasting);
             Err(error)
@@ -270,31 +229,7 @@ fn hear(
     }
 }
 
-// A packet comes to a client that serves, and the open call is looked at.
-fn take_and_run(
-    alloc: Global,
-    effects: &mut Effects,
-    serving: &mut Serving,
-    packet: &Packet,
-) -> Mem<()>
-    ensures serving { OnOk result (serving.new ≡ (runs (on_packet serving.old packet.now).state).state) }
-    ensures effects { OnOk result
-        (effects.new ≡ effects.old ++ ((on_packet serving.old packet.now).outs ++ (runs (on_packet serving.old packet.now).state).outs)) }
-{
-    serving.take(alloc, effects, packet)?;
-    run(alloc, effects, serving)
-}
-
-// Time passes at a client that serves, and the open call is looked at.
-fn tick_and_run(alloc: Global, effects: &mut Effects, serving: &mut Serving) -> Mem<()>
-    ensures serving { OnOk result (serving.new ≡ (runs (on_tick serving.old).state).state) }
-    ensures effects { OnOk result (effects.new ≡ effects.old ++ ((on_tick serving.old).outs ++ (runs (on_tick serving.old).state).outs)) }
-{
-    serving.tick(alloc, effects)?;
-    run(alloc, effects, serving)
-}
-
-// Time passes.
+// Time passes. At a client that serves the open call is looked at then.
 #[tactic(auto, unfolding(crate::specs::Phases::on_time))]
 fn tick(alloc: Global, effects: &mut Effects, cache: u16, phase: &mut Phase) -> Mem<()>
     ensures phase { OnOk result (phase.new ≡ (on_time cache phase.old).state) }
@@ -303,41 +238,29 @@ fn tick(alloc: Global, effects: &mut Effects, cache: u16, phase: &mut Phase) -> 
     match phase {
         Phase::Down(_) => Ok(()),
         Phase::Opening(_, _) => tick_here(alloc, effects, cache, phase),
-        Phase::Serving(serving) => tick_and_run(alloc, effects, serving),
+        Phase::Serving(serving) => {
+            serving.tick(alloc, effects)?;
+            run(alloc, effects, serving)
+        }
     }
 }
 
 // Time passes at a client that opens its log.
+#[tactic(auto, unfolding(crate::specs::Phases::on_time))]
 fn tick_here(alloc: Global, effects: &mut Effects, cache: u16, phase: &mut Phase) -> Mem<()>
     ensures phase { OnOk result (IfSome (opening_of phase.old) (λ o. phase.new ≡ (on_time cache (Opens o.0 o.1)).state)) }
     ensures effects { OnOk result
         (IfSome (opening_of phase.old) (λ o. effects.new ≡ effects.old ++ (on_time cache (Opens o.0 o.1)).outs)) }
 {
-    match phase.take_opening(alloc) {
-        Some((lasting, opening)) => {
-            let after = ask_again(alloc, effects, lasting, opening, cache)?;
-            phase.turn_to(after);
-            Ok(())
-        }
-        None => Ok(()),
-    }
-}
-
-// What it makes of a client that opens its log.
-#[tactic(auto, unfolding(crate::specs::Phases::on_time))]
-fn ask_again(
-    alloc: Global,
-    effects: &mut Effects,
-    lasting: Lasting,
-    opening: Opening,
-    cache: u16,
-) -> Mem<Phase>
-    ensures phase { IfOk result (λ after. after ≡ (on_time cache (Opens lasting opening)).state) }
-    ensures effects { OnOk result (effects.new ≡ effects.old ++ (on_time cache (Opens lasting opening)).outs) }
-{
+    let Some((lasting, opening)) = phase.take_opening(alloc) else {
+        return Ok(());
+    };
     let mut lasting = lasting;
     match opening.tick(alloc, effects, &mut lasting.questions) {
-        Ok(progress) => phase_after(alloc, effects, lasting, cache, progress),
+        Ok(progress) => {
+            phase.turn_to(phase_after(alloc, effects, lasting, cache, progress)?);
+            Ok(())
+        }
         Err(error) => {
             drop(lasting);
             Err(error)

@@ -61,11 +61,7 @@ impl Phase {
     pub(crate) fn is_serving(&self) -> bool
         ensures { result ≡ is_serving self.now }
     {
-        match self {
-            Phase::Down(_) => false,
-            Phase::Opening(_, _) => false,
-            Phase::Serving(_) => true,
-        }
+        matches!(self, Phase::Serving(_))
     }
 
     /// What outlives a crash.
