@@ -5,3 +5,4 @@ pub mod OpeningSays
 pub mod OpeningWalk
 pub mod OpeningMaps
 pub mod Effects
+pub mod SlotPhases

@@ -1,6 +1,6 @@
 -- What a law of a manager shows of the few things that happen to its slots, to the checkpoints that it writes and to its log, and of what it says; the walk has
 -- it then of all that comes to a manager, of time, and of its items.
-use Rattle.std.proofs.Common.{◌≡◌, ℕ, suc, List, [], ◌∷◌, ◌++◌, Option, Some, None}
+use Rattle.std.proofs.Common.{◌≡◌, ℕ, List, [], ◌∷◌, ◌++◌, Option, Some, None}
 use Rattle.std.specs.Prelude.{IfSome, drop, take}
 use Rattle.std.specs.List.{AllByRecursion}
 use Rattle.checkpoint.specs.declared.input.In.{In as WriterIn}
@@ -49,6 +49,7 @@ use Rattle.xfs_base.specs.declared.segment.LogId.{LogId}
 use Rattle.xfs_base.specs.declared.segment.SegRef.{SegRef}
 use Rattle.xfs_base.specs.declared.token.Mode.{Mode}
 use Rattle.node_moves.proofs.Effects as effects
+use Rattle.node_moves.specs.SlotPhases.{EachSlot, SlotIs}
 use Rattle.node_moves.proofs.LogWalk.{IsHeard}
 
 abbrev pub Rows : Type 0
@@ -155,15 +156,11 @@ module _ (w : Walk) where
   -- ---- a manager stands so
 
   abbrev pub SlotSo : ℕ → SlotPhase → Type 0
-  SlotSo k (phase.Active a) = w.Managed k a
-  SlotSo k (phase.Taking t) = w.Taken k t.take.news t.take.index t.take.chain t.take.reports
-  SlotSo k (phase.Away epoch) = Unit {0}
-  SlotSo k (phase.Broken epoch seg) = Unit {0}
+  SlotSo k = SlotIs (w.Managed k) (λ t. w.Taken k t.take.news t.take.index t.take.chain t.take.reports)
 
   -- the slots from this number on
   abbrev pub SlotsSo : ℕ → List SlotPhase → Type 0
-  SlotsSo k [] = Unit {0}
-  SlotsSo k (p ∷ phases) = SlotSo k p × SlotsSo (suc k) phases
+  SlotsSo k phases = EachSlot SlotSo k phases
 
   abbrev pub DoneSo : CkptDone → Type 0
   DoneSo m = w.Done m.slot m.epoch m.parts m.horizon

@@ -15,8 +15,9 @@ use Rattle.manager_serving.specs.declared.serving.Serving.{Serving}
 use Rattle.manager_slots.specs.declared.slot_phase.SlotPhase.{SlotPhase}
 use Rattle.manager_slots.specs.declared.slot_phase.SlotPhase.TheVariants as phase
 use Rattle.node_moves.proofs.manager_walk.Events.{AwaitedSo, DoSo, PacketSo, PhaseFlies, PhaseSo}
-use Rattle.node_moves.proofs.manager_walk.Laws.{IsPlain, JobSo, SlotSo, SlotsSo, Walk}
+use Rattle.node_moves.proofs.manager_walk.Laws.{IsPlain, JobSo, Walk}
 use Rattle.node_moves.proofs.manager_walk.Serving.{AnswerSo, Asked, Hears}
+use Rattle.node_moves.proofs.SlotPhases.{numbered, unnumbered}
 use Rattle.slot_beliefs.specs.Index.{pages_of}
 use Rattle.stripe_code.specs.declared.round.Told.{Told as Answered}
 use Rattle.wire_msg.specs.declared.body.Body.{Body}
@@ -115,26 +116,6 @@ module _ (told : Told) (nothing : AllowsNothing told) where
 
   -- ---- what stands is what it is said to hold
 
-  slot_so : (k : ℕ) (p : SlotPhase) → SlotHolds told p → SlotSo walk k p
-  slot_so k (phase.Active a) h = h
-  slot_so k (phase.Taking t) h = h
-  slot_so k (phase.Away epoch) h = tt
-  slot_so k (phase.Broken epoch seg) h = tt
-
-  slot_holds : (k : ℕ) (p : SlotPhase) → SlotSo walk k p → SlotHolds told p
-  slot_holds k (phase.Active a) h = h
-  slot_holds k (phase.Taking t) h = h
-  slot_holds k (phase.Away epoch) h = tt
-  slot_holds k (phase.Broken epoch seg) h = tt
-
-  slots_so : (k : ℕ) (phases : List SlotPhase) → AllByRecursion (SlotHolds told) phases → SlotsSo walk k phases
-  slots_so k [] h = tt
-  slots_so k (p ∷ phases) h = (slot_so k p h.0, slots_so (suc k) phases h.1)
-
-  slots_hold : (k : ℕ) (phases : List SlotPhase) → SlotsSo walk k phases → AllByRecursion (SlotHolds told) phases
-  slots_hold k [] h = tt
-  slots_hold k (p ∷ phases) h = (slot_holds k p h.0, slots_hold (suc k) phases h.1)
-
   job_so : (checkpoint : Option Checkpointing) → JobSo walk checkpoint
   job_so None = tt
   job_so (Some job) = by job.done
@@ -146,12 +127,12 @@ module _ (told : Told) (nothing : AllowsNothing told) where
   pub stands : (p : Phase) → PhaseHolds told p → PhaseSo walk p
   stands (Down life) h = tt
   stands (Waiting life hello) h = tt
-  stands (Serves s) h = record { slots = slots_so 0 s.slots h.slots; work = h.pages; job = job_so s.checkpoint; log = h.log }
+  stands (Serves s) h = record { slots = numbered (SlotHolds told) 0 s.slots h.slots; work = h.pages; job = job_so s.checkpoint; log = h.log }
 
   pub holds : (p : Phase) → PhaseSo walk p → PhaseHolds told p
   holds (Down life) h = tt
   holds (Waiting life hello) h = tt
-  holds (Serves s) h = record { slots = slots_hold 0 s.slots h.slots; pages = h.work; log = h.log }
+  holds (Serves s) h = record { slots = unnumbered (SlotHolds told) 0 s.slots h.slots; pages = h.work; log = h.log }
 
   pub flies : (p : Phase) → PhaseFlies walk p
   flies (Down life) = tt

@@ -1,13 +1,11 @@
 -- What a manager has applied of logs, and what its checkpoints cover, keeps to any bounds that are to hold.
-use Rattle.std.proofs.Common.{ℕ, suc, List, [], ◌∷◌}
+use Rattle.std.proofs.Common.{[], ◌∷◌}
 use Rattle.log_owner.specs.Sending.{server_in}
 use Rattle.manager_node.specs.declared.phase.Phase.{Phase}
 use Rattle.manager_node.specs.declared.phase.Phase.TheVariants.{Down, Waiting, Serving as Serves}
 use Rattle.manager_serving.specs.declared.serving.Serving.{Serving}
-use Rattle.manager_slots.specs.declared.slot_phase.SlotPhase.{SlotPhase}
-use Rattle.manager_slots.specs.declared.slot_phase.SlotPhase.TheVariants as phase
 use Rattle.node_moves.proofs.manager_walk.Events.{AwaitedSo, DoSo, PacketSo, PhaseFlies, PhaseSo}
-use Rattle.node_moves.proofs.manager_walk.Laws.{IsPlain, SlotSo, SlotsSo, Walk, said_any}
+use Rattle.node_moves.proofs.manager_walk.Laws.{IsPlain, Walk, said_any}
 use Rattle.node_moves.proofs.manager_walk.Serving.{Hears, any_answer}
 use Rattle.token_manager.specs.Transition as slot
 use Rattle.wire_msg.specs.declared.body.Body.{Body}
@@ -18,7 +16,7 @@ use Rattle.wire_msg.specs.declared.packet.Packet.{Packet}
 use Rattle.xfs_base.proofs.Alls.{all_append}
 use Rattle.xfs_base.specs.declared.node.NodeId.{NodeId}
 use Rattle.manager_serving.specs.Serving.{fed_log}
-use Rattle.node_tellings.specs.filed_tie.Bounds.{BodyBounded, Bounds, DoBounded, KnownBounded, NewsBounded, PacketBounded, PhaseBounded, ReportBounded, SlotBounded, SlotsBounded, WorkBounded}
+use Rattle.node_tellings.specs.filed_tie.Bounds.{BodyBounded, Bounds, DoBounded, KnownBounded, NewsBounded, PacketBounded, PhaseBounded, ReportBounded, WorkBounded}
 use Rattle.node_tellings.proofs.filed_tie.Bounding.{Bounding}
 use Rattle.node_tellings.proofs.filed_tie.Slots.{slot_goes}
 
@@ -82,35 +80,15 @@ module _ (b : Bounds) (laws : Bounding b) (node : NodeId) where
 
   -- ---- what stands is what is bounded
 
-  slot_so : (k : ℕ) (p : SlotPhase) → SlotBounded b k p → SlotSo walk k p
-  slot_so k (phase.Active a) h = h
-  slot_so k (phase.Taking t) h = h
-  slot_so k (phase.Away epoch) h = tt
-  slot_so k (phase.Broken epoch seg) h = tt
-
-  slot_bounded : (k : ℕ) (p : SlotPhase) → SlotSo walk k p → SlotBounded b k p
-  slot_bounded k (phase.Active a) h = h
-  slot_bounded k (phase.Taking t) h = h
-  slot_bounded k (phase.Away epoch) h = tt
-  slot_bounded k (phase.Broken epoch seg) h = tt
-
-  slots_so : (k : ℕ) (phases : List SlotPhase) → SlotsBounded b k phases → SlotsSo walk k phases
-  slots_so k [] h = tt
-  slots_so k (p ∷ phases) h = (slot_so k p h.0, slots_so (suc k) phases h.1)
-
-  slots_bounded : (k : ℕ) (phases : List SlotPhase) → SlotsSo walk k phases → SlotsBounded b k phases
-  slots_bounded k [] h = tt
-  slots_bounded k (p ∷ phases) h = (slot_bounded k p h.0, slots_bounded (suc k) phases h.1)
-
   pub stands : (p : Phase) → PhaseBounded b p → PhaseSo walk p
   stands (Down life) h = tt
   stands (Waiting life hello) h = tt
-  stands (Serves s) h = record { slots = slots_so 0 s.slots h.slots; work = h.writer; job = h.checkpoint; log = tt }
+  stands (Serves s) h = record { slots = h.slots; work = h.writer; job = h.checkpoint; log = tt }
 
   pub bounded : (p : Phase) → PhaseSo walk p → PhaseBounded b p
   bounded (Down life) h = tt
   bounded (Waiting life hello) h = tt
-  bounded (Serves s) h = record { slots = slots_bounded 0 s.slots h.slots; writer = h.work; checkpoint = h.job }
+  bounded (Serves s) h = record { slots = h.slots; writer = h.work; checkpoint = h.job }
 
   pub flies : (p : Phase) → PhaseFlies walk p
   flies (Down life) = tt

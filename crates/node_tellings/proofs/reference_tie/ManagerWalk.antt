@@ -1,15 +1,14 @@
 -- Each part of a checkpoint that a manager keeps and tells, and each end that was reported to it, is what references of any kind say.
-use Rattle.std.proofs.Common.{ℕ, suc, List, [], ◌∷◌}
+use Rattle.std.proofs.Common.{List, [], ◌∷◌}
 use Rattle.std.specs.List.{AllByRecursion}
 use Rattle.log_owner.specs.Sending.{server_in}
 use Rattle.manager_node.specs.declared.phase.Phase.{Phase}
 use Rattle.manager_node.specs.declared.phase.Phase.TheVariants.{Down, Waiting, Serving as Serves}
 use Rattle.manager_serving.specs.declared.serving.Serving.{Serving}
-use Rattle.manager_slots.specs.declared.slot_phase.SlotPhase.{SlotPhase}
-use Rattle.manager_slots.specs.declared.slot_phase.SlotPhase.TheVariants as phase
 use Rattle.node_moves.proofs.manager_walk.Events.{AwaitedSo, DoSo, PacketSo, PhaseFlies, PhaseSo}
-use Rattle.node_moves.proofs.manager_walk.Laws.{IsPlain, SlotSo, SlotsSo, Walk, said_any}
+use Rattle.node_moves.proofs.manager_walk.Laws.{IsPlain, Walk, said_any}
 use Rattle.node_moves.proofs.manager_walk.Serving.{Hears, any_answer}
+use Rattle.node_moves.proofs.SlotPhases.{numbered, unnumbered}
 use Rattle.token_manager.specs.Transition as slot
 use Rattle.wire_msg.specs.declared.body.Body.{Body}
 use Rattle.wire_msg.specs.declared.body.Body.TheVariants as body
@@ -97,35 +96,15 @@ module _ (refs : References) (node : NodeId) where
 
   -- ---- what stands is what refers so
 
-  slot_so : (k : ℕ) (p : SlotPhase) → SlotRefers refs p → SlotSo walk k p
-  slot_so k (phase.Active a) h = h
-  slot_so k (phase.Taking t) h = h
-  slot_so k (phase.Away epoch) h = tt
-  slot_so k (phase.Broken epoch seg) h = tt
-
-  slot_refers : (k : ℕ) (p : SlotPhase) → SlotSo walk k p → SlotRefers refs p
-  slot_refers k (phase.Active a) h = h
-  slot_refers k (phase.Taking t) h = h
-  slot_refers k (phase.Away epoch) h = tt
-  slot_refers k (phase.Broken epoch seg) h = tt
-
-  slots_so : (k : ℕ) (phases : List SlotPhase) → AllByRecursion (SlotRefers refs) phases → SlotsSo walk k phases
-  slots_so k [] h = tt
-  slots_so k (p ∷ phases) h = (slot_so k p h.0, slots_so (suc k) phases h.1)
-
-  slots_refer : (k : ℕ) (phases : List SlotPhase) → SlotsSo walk k phases → AllByRecursion (SlotRefers refs) phases
-  slots_refer k [] h = tt
-  slots_refer k (p ∷ phases) h = (slot_refers k p h.0, slots_refer (suc k) phases h.1)
-
   pub stands : (p : Phase) → PhaseRefers refs p → PhaseSo walk p
   stands (Down life) h = tt
   stands (Waiting life hello) h = tt
-  stands (Serves s) h = record { slots = slots_so 0 s.slots h.slots; work = h.writer; job = h.checkpoint; log = tt }
+  stands (Serves s) h = record { slots = numbered (SlotRefers refs) 0 s.slots h.slots; work = h.writer; job = h.checkpoint; log = tt }
 
   pub refers : (p : Phase) → PhaseSo walk p → PhaseRefers refs p
   refers (Down life) h = tt
   refers (Waiting life hello) h = tt
-  refers (Serves s) h = record { slots = slots_refer 0 s.slots h.slots; writer = h.work; checkpoint = h.job }
+  refers (Serves s) h = record { slots = unnumbered (SlotRefers refs) 0 s.slots h.slots; writer = h.work; checkpoint = h.job }
 
   pub flies : (p : Phase) → FliesRefers refs p → PhaseFlies walk p
   flies (Down life) h = tt

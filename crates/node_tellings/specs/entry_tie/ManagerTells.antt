@@ -35,6 +35,7 @@ use Rattle.xfs_base.specs.declared.block.BlockId.{BlockId}
 use Rattle.xfs_base.specs.declared.entry.Entry.{Entry}
 use Rattle.xfs_base.specs.declared.node.NodeId.{NodeId}
 use Rattle.xfs_base.specs.declared.setup.Setup.{Setup}
+use Rattle.node_moves.specs.SlotPhases.{SlotIs}
 use Rattle.node_tellings.specs.entry_tie.Told.{Told, RowsTold, FiledRows, told_by_rows, HoldsRise, EventsTellTold}
 
 -- ---- what it holds
@@ -49,10 +50,7 @@ TakeHolds told take = ReadTold told take.index take.chain
 
 -- the index of a slot that is managed, and what was read of one that is taken over
 abbrev pub SlotHolds : Told → SlotPhase → Type 0
-SlotHolds told (phase.Active active) = RowsTold told active.slot.index.rows
-SlotHolds told (phase.Taking taking) = TakeHolds told taking.take
-SlotHolds told (phase.Away epoch) = Unit {0}
-SlotHolds told (phase.Broken epoch seg) = Unit {0}
+SlotHolds told = SlotIs (λ active. RowsTold told active.slot.index.rows) (λ taking. TakeHolds told taking.take)
 
 -- the pages of a checkpoint that no segment has yet
 abbrev pub WorkHolds : Told → WorkState → Type 0

@@ -1,12 +1,11 @@
 -- Where managers and the registry have numbers of the logs of the clients and of the cleaner, and what is to hold of them.
-use Rattle.std.specs.Prelude.{◌≢◌, ◌<◌, ℕ, suc, List, [], ◌∷◌, Option, IfSome}
+use Rattle.std.specs.Prelude.{◌≢◌, ◌<◌, ℕ, List, Option, IfSome}
 use Rattle.std.specs.List.{AllByRecursion}
 use Rattle.checkpoint.specs.WriterState.{WorkState, WriterState}
 use Rattle.manager_node.specs.declared.manager.Manager.{Manager}
 use Rattle.manager_node.specs.declared.phase.Phase.{Phase}
 use Rattle.manager_node.specs.declared.phase.Phase.TheVariants.{Down, Waiting, Serving as Serves}
 use Rattle.manager_slots.specs.declared.slot_phase.SlotPhase.{SlotPhase}
-use Rattle.manager_slots.specs.declared.slot_phase.SlotPhase.TheVariants as phase
 use Rattle.manager_serving.specs.declared.checkpointing.Checkpointing.{Checkpointing}
 use Rattle.manager_serving.specs.declared.serving.Serving.{Serving}
 use Rattle.manager_serving.specs.Serving.{fed_log}
@@ -25,6 +24,7 @@ use Rattle.xfs_base.specs.declared.news.SlotNews.{SlotNews}
 use Rattle.xfs_base.specs.declared.node.NodeId.{NodeId}
 use Rattle.xfs_base.specs.declared.segment.LogId.{LogId}
 use Rattle.xfs_base.specs.Limits.{slot_count}
+use Rattle.node_moves.specs.SlotPhases.{EachSlot, SlotIs}
 
 -- What is to hold, in a slot and an epoch of it, of what is applied of the logs 1 to 9 and of the horizon of a checkpoint; and what is to hold of the number
 -- of a segment that the owner of a log tells.
@@ -49,15 +49,11 @@ TakeBounded b slot take = KnownBounded b slot take.news.epoch take.news.horizon 
 
 -- what is applied where the slot is managed, and what is known where it is taken over
 abbrev pub SlotBounded : Bounds → ℕ → SlotPhase → Type 0
-SlotBounded b slot (phase.Active active) = b.applied slot active.slot.epoch active.slot.applied
-SlotBounded b slot (phase.Taking taking) = TakeBounded b slot taking.take
-SlotBounded b slot (phase.Away epoch) = Unit {0}
-SlotBounded b slot (phase.Broken epoch seg) = Unit {0}
+SlotBounded b slot = SlotIs (λ active. b.applied slot active.slot.epoch active.slot.applied) (λ taking. TakeBounded b slot taking.take)
 
 -- the slots from this number on
 abbrev pub SlotsBounded : Bounds → ℕ → List SlotPhase → Type 0
-SlotsBounded b slot [] = Unit {0}
-SlotsBounded b slot (p ∷ phases) = SlotBounded b slot p × SlotsBounded b (suc slot) phases
+SlotsBounded b slot phases = EachSlot (SlotBounded b) slot phases
 
 -- ---- a manager
 

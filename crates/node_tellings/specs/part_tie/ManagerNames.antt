@@ -13,7 +13,6 @@ use Rattle.manager_node.specs.declared.phase.Phase.{Phase}
 use Rattle.manager_node.specs.declared.phase.Phase.TheVariants.{Down, Waiting, Serving as Serves}
 use Rattle.manager_node.specs.Events.{first_manager, manager_step}
 use Rattle.manager_slots.specs.declared.slot_phase.SlotPhase.{SlotPhase}
-use Rattle.manager_slots.specs.declared.slot_phase.SlotPhase.TheVariants as phase
 use Rattle.manager_slots.specs.Lasting.{log_of}
 use Rattle.manager_serving.specs.declared.checkpointing.Checkpointing.{Checkpointing}
 use Rattle.manager_serving.specs.declared.serving.Serving.{Serving}
@@ -25,15 +24,13 @@ use Rattle.wire_msg.specs.declared.registry.CkptDone.{CkptDone}
 use Rattle.xfs_base.specs.declared.segment.LogId.{LogId}
 use Rattle.xfs_base.specs.declared.segment.SegRef.{SegRef}
 use Rattle.xfs_base.specs.declared.setup.Setup.{Setup}
+use Rattle.node_moves.specs.SlotPhases.{SlotIs}
 use Rattle.node_tellings.specs.part_tie.Names.{AllKnown, DoNames, Known, NamesKnown, named_by}
 
 -- ---- what it names
 
 abbrev pub SlotNames : Known → SlotPhase → Type 0
-SlotNames known (phase.Active a) = AllKnown known a.parts
-SlotNames known (phase.Taking t) = AllKnown known t.take.news.parts
-SlotNames known (phase.Away epoch) = Unit {0}
-SlotNames known (phase.Broken epoch seg) = Unit {0}
+SlotNames known = SlotIs (λ a. AllKnown known a.parts) (λ t. AllKnown known t.take.news.parts)
 
 abbrev pub WorkNames : Known → WorkState → Type 0
 WorkNames known work = AllKnown known work.parts

@@ -10,7 +10,6 @@ use Rattle.manager_node.specs.declared.phase.Phase.{Phase}
 use Rattle.manager_node.specs.declared.phase.Phase.TheVariants.{Down, Waiting, Serving as Serves}
 use Rattle.manager_node.specs.Events.{first_manager, manager_step}
 use Rattle.manager_slots.specs.declared.slot_phase.SlotPhase.{SlotPhase}
-use Rattle.manager_slots.specs.declared.slot_phase.SlotPhase.TheVariants as phase
 use Rattle.manager_serving.specs.declared.checkpointing.Checkpointing.{Checkpointing}
 use Rattle.manager_serving.specs.declared.serving.Serving.{Serving}
 use Rattle.takeover.specs.declared.report.Report.{Report}
@@ -22,6 +21,7 @@ use Rattle.xfs_base.specs.declared.node.NodeId.{NodeId}
 use Rattle.xfs_base.specs.declared.segment.End.{End}
 use Rattle.xfs_base.specs.declared.segment.SegRef.{SegRef}
 use Rattle.xfs_base.specs.declared.setup.Setup.{Setup}
+use Rattle.node_moves.specs.SlotPhases.{SlotIs}
 use Rattle.node_tellings.specs.reference_tie.References.{DoRefers, DoneRefers, PacketRefers, PartsRefer, References, listed}
 
 -- ---- a slot
@@ -38,10 +38,7 @@ abbrev pub TakeRefers : References → TakeState → Type 0
 TakeRefers r take = KnownRefers r take.news.parts take.reports
 
 abbrev pub SlotRefers : References → SlotPhase → Type 0
-SlotRefers r (phase.Active active) = PartsRefer r active.parts
-SlotRefers r (phase.Taking taking) = TakeRefers r taking.take
-SlotRefers r (phase.Away epoch) = Unit {0}
-SlotRefers r (phase.Broken epoch seg) = Unit {0}
+SlotRefers r = SlotIs (λ active. PartsRefer r active.parts) (λ taking. TakeRefers r taking.take)
 
 -- ---- a manager
 
