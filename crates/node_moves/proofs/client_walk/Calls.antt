@@ -1,5 +1,6 @@
 -- What a client that serves does for the open call.
 use Rattle.std.proofs.Common.{refl, ℕ, zero, suc, ◌+◌, ◌==◌, List, [], ◌∷◌, Option, Some, None, is_none}
+use Rattle.std.specs.Prelude.{IfSome}
 use Rattle.std.specs.List.{AllByRecursion}
 use Rattle.client_call.specs.Blocks.{value_of}
 use Rattle.coop_cache.specs.Transition.{left, touched}
@@ -34,7 +35,7 @@ use Rattle.xfs_base.specs.Modes.{is_nothing}
 use Rattle.xfs_base.specs.Steps.{saying}
 use Rattle.node_moves.proofs.client_walk.Frames as frames
 use Rattle.node_moves.proofs.client_walk.LogTurns.{put_rests}
-use Rattle.node_moves.proofs.client_walk.Laws.{Walk, Reads}
+use Rattle.node_moves.proofs.client_walk.Laws.{Walk}
 use Rattle.node_moves.proofs.client_walk.Readings as readings
 use Rattle.node_moves.proofs.client_walk.Flights as flights
 use Rattle.node_moves.proofs.client_walk.Tokens as serving
@@ -130,18 +131,18 @@ module _ (w : Walk) where
       (answers_unanswered s.lasting.items.unanswered answer) (w.lasts s (record s.lasting { items = answered s.lasting.items }) refl h)
       (serving.answers_say w s.lasting.items.unanswered answer)
 
-  answers_call_so : (s : Serving) (call : Call) (answer : Option BlockAnswer) → Reads w.Reading call.reading → At s → Goes (answers_call s call answer).done
+  answers_call_so : (s : Serving) (call : Call) (answer : Option BlockAnswer) → IfSome call.reading w.Reading → At s → Goes (answers_call s call answer).done
   answers_call_so s call None fact h =
       serving.still_so w (record s { call = Some call }) (w.calls s (Some call) fact h)
   answers_call_so s call (Some a) fact h = goes_on_so s (after_answer call.plan a) (readings.next_so w.Reading call.plan a) h
 
   -- what was made is told to the call
-  ran_so : (call : Call) (made : Made) → Reads w.Reading call.reading → Goes made.done → Goes (ran call made).done
+  ran_so : (call : Call) (made : Made) → IfSome call.reading w.Reading → Goes made.done → Goes (ran call made).done
   ran_so call made fact p =
       frames.goes_on w.Says w.Acted w.Stands made.done (answers_call made.done.state call made.answer).done p
       (λ k. answers_call_so made.done.state call made.answer fact k)
 
-  runs_call_so : (s : Serving) (call : Option Call) → Reads w.Reading (reading_in call) → At s → Goes (runs_call s call).done
+  runs_call_so : (s : Serving) (call : Option Call) → IfSome (reading_in call) w.Reading → At s → Goes (runs_call s call).done
   runs_call_so s None fact h = serving.still_so w s h
   runs_call_so s (Some call) fact h =
       ran_so call (makes (record s { call = None }) call.step) fact

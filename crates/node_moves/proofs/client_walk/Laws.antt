@@ -2,6 +2,7 @@
 -- it makes.
 use Rattle.std.proofs.Common.{◌≡◌, ℕ, List, [], ◌∷◌, Option, Some, None, refl}
 use Rattle.std.specs.List.{AllByRecursion}
+use Rattle.std.specs.Prelude.{IfSome}
 use Rattle.client_call.specs.declared.call.Call.{Call}
 use Rattle.client_call.specs.Reads.{reading_in, target_of}
 use Rattle.client_log.specs.declared.input.In.{In as LogIn}
@@ -70,11 +71,6 @@ abbrev pub OfServer : (ℕ → Type 0) → NodeId → Type 0
 OfServer so (node.Server server) = so server
 OfServer so _ = Unit {0}
 
--- a reading that there may be is so
-abbrev pub Reads : (ReadingState → Type 0) → Option ReadingState → Type 0
-Reads reading None = Unit {0}
-Reads reading (Some r) = reading r
-
 -- where all is known to lie where it is read, so it is of what the tokens say; and where each reading is so, one that there may be
 pub all_tell : (lies : Target → Type 0) → ((target : Target) → lies target) → (outs : List Out) → AllByRecursion (Tells lies) outs
 all_tell lies each [] = tt
@@ -85,7 +81,7 @@ all_tell lies each (output.Flush block ∷ outs) = (tt, all_tell lies each outs)
 all_tell lies each (output.Ready block ∷ outs) = (tt, all_tell lies each outs)
 all_tell lies each (output.Supply block ver value ∷ outs) = (tt, all_tell lies each outs)
 
-pub all_read : (reading : ReadingState → Type 0) → ((r : ReadingState) → reading r) → (r : Option ReadingState) → Reads reading r
+pub all_read : (reading : ReadingState → Type 0) → ((r : ReadingState) → reading r) → (r : Option ReadingState) → IfSome r reading
 all_read reading each None = tt
 all_read reading each (Some r) = each r
 
@@ -110,8 +106,8 @@ pub record Walk : Type 1 where
   pub maps : (s : Serving) (news : News) → Mapped news.groups → Stands s → Stands (record s { maps = taken s.maps news })
   pub managed : (s : Serving) (managers : Managers) → Stands s → Stands (record s { managers = managers })
   pub lasts : (s : Serving) (l : Lasting) → l.number ≡ s.lasting.number → Stands s → Stands (record s { lasting = l })
-  pub calls : (s : Serving) (call : Option Call) → Reads Reading (reading_in call) → Stands s → Stands (record s { call = call })
-  pub reads : (s : Serving) → Stands s → Reads Reading (reading_in s.call)
+  pub calls : (s : Serving) (call : Option Call) → IfSome (reading_in call) Reading → Stands s → Stands (record s { call = call })
+  pub reads : (s : Serving) → Stands s → IfSome (reading_in s.call) Reading
   pub begun : (s : Serving) (target : Target) (group : Group) → group_in s.maps.groups target.seg.group ≡ Some group → Lies target → Stands s
       → Reading (begun target group (next_ask s.lasting.questions))
   pub confirmed : (r : ReadingState) (ask : ℕ) → Reading r → Reading (on_confirmed r ask).state

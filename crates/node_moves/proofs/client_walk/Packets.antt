@@ -1,5 +1,6 @@
 -- What packets and time make of a client that serves.
 use Rattle.std.proofs.Common.{refl, ℕ, ◌==◌, Bool, List, [], ◌∷◌, ◌++◌, Option, Some, None, nat_lt, ◌&&◌, not}
+use Rattle.std.specs.Prelude.{IfSome}
 use Rattle.std.specs.List.{AllByRecursion, flat_map}
 use Rattle.client_log.specs.declared.input.In.TheVariants as log_in
 use Rattle.client_call.specs.Reads.{block_read, Heard, heard, fetches_again, reading_in, value_at}
@@ -51,7 +52,7 @@ use Rattle.xfs_base.specs.Modes.{is_own}
 use Rattle.xfs_base.specs.Steps.{Stepped, still, saying, steps}
 use Rattle.node_moves.proofs.client_walk.Frames as frames
 use Rattle.node_moves.proofs.client_walk.LogTurns.{tick_rests}
-use Rattle.node_moves.proofs.client_walk.Laws.{Walk, Hears, OfServer, Tells, Reads}
+use Rattle.node_moves.proofs.client_walk.Laws.{Walk, Hears, OfServer, Tells}
 use Rattle.node_moves.proofs.client_walk.Readings as readings
 use Rattle.node_moves.proofs.client_walk.Promises.{all_hear_left, leaves_so, promises_left}
 use Rattle.node_moves.proofs.client_walk.Flights as flights
@@ -134,7 +135,7 @@ module _ (w : Walk) where
   ends_fetch_so s at next.Ask h = still_so s h
   ends_fetch_so s at next.Lost h = still_so s h
 
-  told_at_so : (s : Serving) (at : Option BlockAt) (x : Heard) → Reads w.Reading x.reading → At s → Goes (told_at s at x)
+  told_at_so : (s : Serving) (at : Option BlockAt) (x : Heard) → IfSome x.reading w.Reading → At s → Goes (told_at s at x)
   told_at_so s None x fact h = still_so s h
   told_at_so s (Some at) x fact h = ends_fetch_so (with_reading s x.reading) at x.next (serving.read_so w s x.reading fact h)
 

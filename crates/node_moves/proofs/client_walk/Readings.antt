@@ -1,5 +1,6 @@
 -- The reading of the open call, and what is known of it as it goes on; a reading is of one place all the while.
 use Rattle.std.proofs.Common.{ℕ, Option, Some, None}
+use Rattle.std.specs.Prelude.{IfSome}
 use Rattle.client_call.specs.Calls.{going_by, after_answer, may_make, file_call, call_of}
 use Rattle.client_call.specs.declared.call.Call.{Call}
 use Rattle.client_call.specs.declared.call.Going.TheVariants.{On, Ends}
@@ -28,7 +29,7 @@ use Rattle.version_model.specs.declared.file_call.FileCall.{FileCall}
 use Rattle.version_model.specs.declared.work.Work.{Work}
 use Rattle.version_model.specs.declared.work.Work.TheVariants as work
 use Rattle.xfs_base.proofs.Booleans.{by_test}
-use Rattle.node_moves.proofs.client_walk.Laws.{Reads, all_read}
+use Rattle.node_moves.proofs.client_walk.Laws.{all_read}
 
 -- ---- a reading is of one place
 
@@ -65,24 +66,24 @@ module _ (lies : Target → Type 0) where
 -- ---- the reading of the open call
 
 module _ (reading : ReadingState → Type 0) where
-  pub call_so : (call : Option Call) (r : Option ReadingState) → Reads reading r → Reads reading (reading_in (call_with call r))
+  pub call_so : (call : Option Call) (r : Option ReadingState) → IfSome r reading → IfSome (reading_in (call_with call r)) reading
   call_so None r fact = tt
   call_so (Some call) r fact = fact
 
-  pub kept_so : (tokens : TokensState) (r : Option ReadingState) → Reads reading r → Reads reading (kept_while tokens r)
+  pub kept_so : (tokens : TokensState) (r : Option ReadingState) → IfSome r reading → IfSome (kept_while tokens r) reading
   kept_so tokens None fact = tt
-  kept_so tokens (Some r) fact = by_test (Reads reading) (is_fetched tokens r.target.block) (Some r) None (λ _. fact) (λ _. tt)
+  kept_so tokens (Some r) fact = by_test (λ o. IfSome o reading) (is_fetched tokens r.target.block) (Some r) None (λ _. fact) (λ _. tt)
 
   pub heard_so : (r : Option ReadingState) (groups : Option GroupMapState) (ask server : ℕ) (t : Told)
-      → ((r : ReadingState) (groups : GroupMapState) → reading r → reading (on_answer r groups ask server t).state) → Reads reading r
-      → Reads reading (heard r groups ask server t).reading
+      → ((r : ReadingState) (groups : GroupMapState) → reading r → reading (on_answer r groups ask server t).state) → IfSome r reading
+      → IfSome (heard r groups ask server t).reading reading
   heard_so None groups ask server t answered fact = tt
   heard_so (Some r) None ask server t answered fact = fact
   heard_so (Some r) (Some groups) ask server t answered fact = answered r groups fact
 
   -- a call that goes on, and what it reads
   abbrev pub GoingSo : Going → Type 0
-  GoingSo (On call) = Reads reading call.reading
+  GoingSo (On call) = IfSome call.reading reading
   GoingSo (Ends answer) = Unit {0}
 
   abbrev pub CallSo : Option Going → Type 0

@@ -1,5 +1,6 @@
 -- What a client that serves does at an input of its tokens: the cache, the reading of the open call, the seals of its log, and what it says.
 use Rattle.std.proofs.Common.{◌≡◌, refl, ℕ, ◌==◌, Bool, List, [], ◌∷◌, Option, Some, None, is_none}
+use Rattle.std.specs.Prelude.{IfSome}
 use Rattle.std.specs.List.{AllByRecursion, flat_map}
 use Rattle.client_log.specs.declared.output.Out.{Out as LogOut}
 use Rattle.client_log.specs.declared.output.Out.TheVariants as log_out
@@ -47,7 +48,7 @@ use Rattle.xfs_base.specs.Steps.{still}
 use Rattle.xfs_base.proofs.Alls.{all_map}
 use Rattle.node_moves.proofs.client_walk.Frames as frames
 use Rattle.node_moves.proofs.client_walk.LogTurns.{seal_rests}
-use Rattle.node_moves.proofs.client_walk.Laws.{Walk, Tells, Takes, Reads}
+use Rattle.node_moves.proofs.client_walk.Laws.{Walk, Tells, Takes}
 use Rattle.node_moves.proofs.client_walk.Readings as readings
 
 module _ (w : Walk) where
@@ -126,7 +127,7 @@ module _ (w : Walk) where
   loses_at_so s (Some at) seg h = loses_so s at.block seg h
 
   -- the open call reads this
-  pub read_so : (s : Serving) (r : Option ReadingState) → Reads w.Reading r → At s → At (with_reading s r)
+  pub read_so : (s : Serving) (r : Option ReadingState) → IfSome r w.Reading → At s → At (with_reading s r)
   read_so s r fact h = w.calls s (call_with s.call r) (readings.call_so w.Reading s.call r fact) h
 
   pub ends_so : (s : Serving) → At s → At (ends_reading s)
@@ -166,7 +167,7 @@ module _ (w : Walk) where
       let step : Step = on_confirmed r (ask_after s r.ask r.stage) in
       drawn_after_so s step.state step.next r.stage (w.confirmed r (ask_after s r.ask r.stage) fact) h
 
-  reads_over_so : (s : Serving) (target : Target) (reading : Option ReadingState) → w.Lies target → Reads w.Reading reading → At s
+  reads_over_so : (s : Serving) (target : Target) (reading : Option ReadingState) → w.Lies target → IfSome reading w.Reading → At s
       → Goes (reads_over s target reading)
   reads_over_so s target None fact was h = begins_so s target fact h
   reads_over_so s target (Some r) fact was h =

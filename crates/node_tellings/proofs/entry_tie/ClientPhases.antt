@@ -63,9 +63,7 @@ use Rattle.node_moves.proofs.client_walk.Readings as readings
 module _ (told : Told) (done : List Act) where
   -- a client that holds what is told
   abbrev PhaseSo : Phase → Type 0
-  PhaseSo (Down l) = Unit {0}
-  PhaseSo (Opening l o) = Unit {0}
-  PhaseSo (Serves s) = serving.At told done s
+  PhaseSo p = PhaseHolds told p
 
   abbrev Goes : Went_to → Type 0
   Goes w = frames.Goes told done PhaseSo w
@@ -215,16 +213,6 @@ module _ (told : Told) (done : List Act) where
       by_test (λ (x : Went_to). Goes x) (client_room client) (happens client what) (still client.phase) (λ t. happens_so client what fact h owed)
       (λ t. still_so client.phase h)
 
-  stands : (p : Phase) → PhaseHolds told p → PhaseSo p
-  stands (Down l) h = tt
-  stands (Opening l o) h = tt
-  stands (Serves s) h = serving.stands told done s h
-
-  holds : (p : Phase) → PhaseSo p → PhaseHolds told p
-  holds (Down l) h = tt
-  holds (Opening l o) h = tt
-  holds (Serves s) h = serving.holds told done s h
-
 -- ---- the law
 
 -- of any entries that are told
@@ -233,9 +221,9 @@ pub any_client_tells : (told : Told) (client : Client) (what : Do) → ClientHol
 any_client_tells told client what h fact owed =
     let w : Went_to = takes client what in
     let done : List Act = (client_step client what).acts in
-    let went = takes_so told done client what fact (stands told done client.phase h) owed
+    let went = takes_so told done client what fact h owed
     (frames.acts_acted told done (AClient (lasting_of client.phase).number) w.outs (contains_all done)) in
-    record { node = holds told done w.state went.0; packets = frames.packets_tell told done (AClient (lasting_of client.phase).number) w.outs went.1 }
+    record { node = went.0; packets = frames.packets_tell told done (AClient (lasting_of client.phase).number) w.outs went.1 }
 
 pub clients_tell : ClientsTellTold
 clients_tell rows client what h fact owed = any_client_tells (told_by_rows rows) client what h fact owed

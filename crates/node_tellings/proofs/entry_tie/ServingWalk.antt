@@ -1,23 +1,19 @@
 -- A client that serves fetches and reads where it is told, its feed keeps what is told, and it tells managers no more.
-use Rattle.std.proofs.Common.{List, Option, Some, None, subst}
-use Rattle.client_call.specs.declared.call.Call.{Call}
-use Rattle.client_call.specs.Reads.{reading_in}
+use Rattle.std.proofs.Common.{List, subst}
 use Rattle.client_serving.specs.declared.serving.Serving.{Serving}
 use Rattle.client_serving.specs.Lasting.{log_of}
 use Rattle.client_serving.specs.Sends.{Done}
-use Rattle.delta_feed.specs.FeedState.{FeedState}
 use Rattle.segment_reading.specs.declared.target.Target.{Target}
 use Rattle.segment_reading.specs.Reading.{ReadingState}
-use Rattle.node_moves.proofs.client_walk.Laws.{Hears, Reads, Walk, hears_so}
+use Rattle.node_moves.proofs.client_walk.Laws.{Hears, Walk, hears_so}
 use Rattle.node_moves.proofs.client_walk.Readings.{answered_so, confirmed_so}
-use Rattle.token_client.specs.State.{TokensState}
 use Rattle.version_model.specs.declared.act.Act.{Act}
 use Rattle.wire_msg.specs.declared.body.Body.{Body}
 use Rattle.xfs_base.specs.declared.node.NodeId.{NodeId}
-use Rattle.node_tellings.specs.entry_tie.ClientTells.{BlockTold, FeedTold, FlightOwed, ReadingTold, ServingHolds}
+use Rattle.node_tellings.specs.entry_tie.ClientTells.{BlockTold, FlightOwed, ServingHolds}
 use Rattle.node_tellings.specs.entry_tie.Told.{BodyTold, RowsTold, Told}
 use Rattle.node_tellings.proofs.entry_tie.ClientReads.{tokens_say}
-use Rattle.node_tellings.proofs.entry_tie.ClientTokens.{FetchesTold, tokens_so}
+use Rattle.node_tellings.proofs.entry_tie.ClientTokens.{tokens_so}
 use Rattle.node_tellings.proofs.entry_tie.Feeds.{acknowledged_told, pushes_all_say, pushes_say, renewed_told, settled_told}
 use Rattle.node_tellings.proofs.entry_tie.Frames as frames
 
@@ -29,14 +25,8 @@ module _ (told : Told) (done : List Act) where
   abbrev pub ReadingSo : ReadingState → Type 0
   ReadingSo r = Lies r.target
 
-  -- what it fetches and reads lies where it is told, and its feed keeps what is told
-  pub record Stands (its : TokensState) (kept : FeedState) (open_call : Option Call) : Type 0 where
-    pub fetches : FetchesTold told its
-    pub feed : FeedTold told kept
-    pub reading : Reads ReadingSo (reading_in open_call)
-
   abbrev pub At : Serving → Type 0
-  At s = Stands s.tokens s.feed s.call
+  At s = ServingHolds told s
 
   -- its log and its cache hold nothing of it; what is in flight says what is told, where it is acted to be filed
   abbrev pub walk : Walk
@@ -87,22 +77,6 @@ module _ (told : Told) (done : List Act) where
 
   abbrev pub Goes : Done → Type 0
   Goes d = frames.Goes told done At d
-
-  -- ---- what stands is what it is said to hold
-
-  reading_so : (r : Option ReadingState) → ReadingTold told r → Reads ReadingSo r
-  reading_so None h = tt
-  reading_so (Some r) h = h
-
-  reading_told : (r : Option ReadingState) → Reads ReadingSo r → ReadingTold told r
-  reading_told None h = tt
-  reading_told (Some r) h = h
-
-  pub stands : (s : Serving) → ServingHolds told s → At s
-  stands s h = record { fetches = h.fetches; feed = h.feed; reading = reading_so (reading_in s.call) h.reading }
-
-  pub holds : (s : Serving) → At s → ServingHolds told s
-  holds s h = record { fetches = h.fetches; feed = h.feed; reading = reading_told (reading_in s.call) h.reading }
 
   -- of a packet it takes what a grant tells
   pub hears : (from : NodeId) (b : Body) → BodyTold told b → Hears walk from b

@@ -67,7 +67,7 @@ module _ (came : Came) (striped : Striped) where
 
   -- what goes so by the walk stands
   gone : (d : Done) → steps.Goes steps.Any steps.Any (serving.At came striped) d → ServesSo came striped d.state
-  gone d p = serving.holds came striped d.state (steps.gone steps.Any (serving.At came striped) d p).0
+  gone d p = (steps.gone steps.Any (serving.At came striped) d p).0
 
   begins_so : (s : Serving) (number : ℕ) (going : Option Going) → readings.CallSo (serving.Known came striped) going → ServesSo came striped s
       → ServesSo came striped (begins_call s number going).state
@@ -75,7 +75,7 @@ module _ (came : Came) (striped : Striped) where
   begins_so s number (Some x) fact h =
       let t : Serving = record s { lasting = record s.lasting { items = waiting s.lasting.items number } } in
       gone (packets_go.and_runs its_walk (goes_on t x)) (packets_go.runs_after its_walk (goes_on t x)
-      (calls.goes_on_so its_walk t x fact (serving.stands came striped s h)))
+      (calls.goes_on_so its_walk t x fact h))
 
   call_begun : (s : Serving) (number : ℕ) (wanted : Option Work) → readings.CallSo (serving.Known came striped) (call_at s number wanted)
   call_begun s number None = tt
@@ -127,7 +127,7 @@ module _ (came : Came) (striped : Striped) where
       opened_on_so l capacity (opening.on_packet o l.questions packet) (maps.packet_so came striped o l.questions packet fact h)
   on_deliver_so capacity (Serves s) packet fact h =
       gone (packets_go.and_runs its_walk (packets.on_packet s packet))
-      (packets_go.packet_so its_walk s packet (serving.hears came striped packet.from packet.body fact) (serving.stands came striped s h) tt)
+      (packets_go.packet_so its_walk s packet (serving.hears came striped packet.from packet.body fact) h tt)
 
   delivers_so : (peers : Peers) (capacity : ℕ) (p : Phase) (packet : Packet) → BodyBrought came striped packet.from packet.body → PhaseSo p
       → Goes (delivers peers capacity p packet)
@@ -139,7 +139,7 @@ module _ (came : Came) (striped : Striped) where
   on_time_so capacity (Down l) h = tt
   on_time_so capacity (Opening l o) h = opened_on_so l capacity (opening.on_tick o l.questions) (maps.time_so came striped o l.questions h)
   on_time_so capacity (Serves s) h =
-      gone (packets_go.and_runs its_walk (packets.on_tick s)) (packets_go.time_so its_walk s (serving.stands came striped s h))
+      gone (packets_go.and_runs its_walk (packets.on_tick s)) (packets_go.time_so its_walk s h)
 
   happens_so : (client : Client) (what : Do) → DoBrought came striped what → PhaseSo client.phase → Goes (happens client what)
   happens_so client Begin fact h = on_begin_so client.peers.servers client.phase h

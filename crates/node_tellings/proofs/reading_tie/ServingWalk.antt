@@ -1,7 +1,6 @@
 -- What a client that serves reads came: each answer of its round was told by a server, and its groups are as maps that came say.
 use Rattle.std.proofs.Common.{◌≡◌, ℕ, Option, Some, None}
-use Rattle.client_call.specs.declared.call.Call.{Call}
-use Rattle.client_call.specs.Reads.{heard, reading_in}
+use Rattle.client_call.specs.Reads.{heard}
 use Rattle.client_serving.specs.declared.serving.Serving.{Serving}
 use Rattle.client_serving.specs.Reads.{group_in}
 use Rattle.group_map.specs.declared.group.Group.{Group}
@@ -13,7 +12,7 @@ use Rattle.segment_format.specs.declared.segment.Segment.{Segment}
 use Rattle.segment_reading.specs.declared.reading.Next.TheVariants as next
 use Rattle.segment_reading.specs.Reading.{ReadingState}
 use Rattle.node_moves.proofs.client_walk.Frames as steps
-use Rattle.node_moves.proofs.client_walk.Laws.{Hears, OfServer, Reads, Walk, all_tell}
+use Rattle.node_moves.proofs.client_walk.Laws.{Hears, OfServer, Walk, all_tell}
 use Rattle.stripe_code.specs.declared.round.Told.{Told as Answered}
 use Rattle.token_client.specs.Transition as client
 use Rattle.wire_msg.specs.declared.body.Body.{Body}
@@ -32,12 +31,8 @@ module _ (came : Came) (striped : Striped) where
   abbrev pub Known : ReadingState → Type 0
   Known r = ReadingCame came striped r
 
-  pub record Stands (groups : Option GroupMapState) (open_call : Option Call) : Type 0 where
-    pub maps : MapsStriped striped groups
-    pub reading : Reads Known (reading_in open_call)
-
   abbrev pub At : Serving → Type 0
-  At s = Stands s.maps.groups s.call
+  At s = ServesSo came striped s
 
   pub grouped : (groups : Option GroupMapState) (id : ℕ) (group : Group) → group_in groups id ≡ Some group → MapsStriped striped groups
       → GroupStriped striped id group
@@ -98,21 +93,7 @@ module _ (came : Came) (striped : Striped) where
     files = λ name end rows filed. tt;
   }
 
-  -- ---- what stands is what it is said to hold
-
-  any_known : (r : Option ReadingState) → AnyReadingCame came striped r → Reads Known r
-  any_known None h = tt
-  any_known (Some r) h = h
-
-  any_came : (r : Option ReadingState) → Reads Known r → AnyReadingCame came striped r
-  any_came None h = tt
-  any_came (Some r) h = h
-
-  pub stands : (s : Serving) → ServesSo came striped s → At s
-  stands s h = record { maps = h.maps; reading = any_known (reading_in s.call) h.reading }
-
-  pub holds : (s : Serving) → At s → ServesSo came striped s
-  holds s h = record { maps = h.maps; reading = any_came (reading_in s.call) h.reading }
+  -- ---- what it hears
 
   of_server : (from : NodeId) (ask : ℕ) (t : Answered) → AnswerBrought came (server_in from) ask t → OfServer (λ server. came ask server t) from
   of_server (node.Server server) ask t fact = fact

@@ -1,5 +1,5 @@
 -- What a client holds of where blocks lie.
-use Rattle.std.specs.Prelude.{◌≡◌, ℕ, List, Contains, Option, Some, None}
+use Rattle.std.specs.Prelude.{◌≡◌, ℕ, List, Contains, Option, Some, None, IfSome}
 use Rattle.std.specs.List.{AllByRecursion}
 use Rattle.client_log.specs.LogState.{LogState}
 use Rattle.client_log.specs.Transition.{end_from}
@@ -10,7 +10,6 @@ use Rattle.client_node.specs.Phases.{client_step}
 use Rattle.client_node.specs.Starting.{first_client}
 use Rattle.client_call.specs.Reads.{reading_in}
 use Rattle.client_serving.specs.declared.serving.Serving.{Serving}
-use Rattle.client_serving.specs.Flights.{held_at}
 use Rattle.client_serving.specs.Lasting.{log_of}
 use Rattle.delta_feed.specs.declared.feed.FiledDeltas.{FiledDeltas}
 use Rattle.delta_feed.specs.FeedState.{FeedState}
@@ -23,6 +22,7 @@ use Rattle.segment_format.specs.Rows.{rows_of}
 use Rattle.segment_reading.specs.declared.target.BlockAt.{BlockAt}
 use Rattle.segment_reading.specs.Reading.{ReadingState}
 use Rattle.token_client.specs.declared.held.Fetch.{Fetch}
+use Rattle.token_client.specs.State.{TokensState, held_of}
 use Rattle.version_model.specs.declared.act.Act.{Act}
 use Rattle.version_model.specs.declared.act.Act.TheVariants.{Filed}
 use Rattle.version_model.specs.declared.work.Work.{Work}
@@ -52,8 +52,7 @@ BlockTold told seg None = Unit {0}
 BlockTold told seg (Some wanted) = LiesTold told wanted.block (record { seg = seg; item = wanted.item })
 
 abbrev pub ReadingTold : Told → Option ReadingState → Type 0
-ReadingTold told None = Unit {0}
-ReadingTold told (Some r) = BlockTold told r.target.seg r.target.block
+ReadingTold told its = IfSome its (λ (r : ReadingState). BlockTold told r.target.seg r.target.block)
 
 -- what is kept of a settled segment, to be told to managers
 abbrev pub DeltasTold : Told → FiledDeltas → Type 0
@@ -62,10 +61,14 @@ DeltasTold told deltas = RowsTold told deltas.rows
 abbrev pub FeedTold : Told → FeedState → Type 0
 FeedTold told feed = AllByRecursion (DeltasTold told) feed.filed
 
-pub record ServingHolds (told : Told) (s : Serving) : Type 0 where
-  pub fetches : (block : BlockId) → FetchTold told block (held_at s block).fetch
-  pub feed : FeedTold told s.feed
-  pub reading : ReadingTold told (reading_in s.call)
+-- what it fetches and reads lies where it is told, and its feed keeps what is told
+pub record KeepsTold (told : Told) (its : TokensState) (kept : FeedState) (reads : Option ReadingState) : Type 0 where
+  pub fetches : (block : BlockId) → FetchTold told block (held_of its.blocks block).fetch
+  pub feed : FeedTold told kept
+  pub reading : ReadingTold told reads
+
+abbrev pub ServingHolds : Told → Serving → Type 0
+ServingHolds told s = KeepsTold told s.tokens s.feed (reading_in s.call)
 
 abbrev pub PhaseHolds : Told → Phase → Type 0
 PhaseHolds told (Down l) = Unit {0}

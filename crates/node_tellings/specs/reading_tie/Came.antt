@@ -1,5 +1,5 @@
 -- What a reader holds came: each answer of its round was told by a server, and its groups are as maps that came say.
-use Rattle.std.specs.Prelude.{◌≡◌, ℕ, true, List, length, Option, Some, None, Ok}
+use Rattle.std.specs.Prelude.{◌≡◌, ℕ, true, List, length, Option, Some, None, IfSome, Ok}
 use Rattle.std.specs.List.{AllByRecursion}
 use Rattle.group_map.specs.declared.group.Group.{Group}
 use Rattle.group_map.specs.GroupMapState.{GroupMapState}
@@ -74,8 +74,7 @@ ReadingCame came striped r = RoundCame came striped r.target.seg r.ask r.round
 
 -- one that there may be
 abbrev pub AnyReadingCame : Came → Striped → Option ReadingState → Type 0
-AnyReadingCame came striped None = Unit {0}
-AnyReadingCame came striped (Some r) = ReadingCame came striped r
+AnyReadingCame came striped its = IfSome its (ReadingCame came striped)
 
 -- ---- what is read
 
