@@ -16,9 +16,7 @@ use Rattle.node_moves.proofs.client_walk.Frames.{all_before, all_behind}
 module _ (Tells : Body → Type 0) where
   abbrev pub Says : Effect → Type 0
   Says (Send to said) = Tells said
-  Says (Answers item answer) = Unit {0}
-  Says (Lose seg) = Unit {0}
-  Says (Does act) = Unit {0}
+  Says _ = Unit {0}
 
   abbrev pub AllSay : List Effect → Type 0
   AllSay outs = AllByRecursion Says outs
@@ -41,17 +39,13 @@ module _ (Tells : Body → Type 0) where
 
 module _ (Done : Act → Type 0) where
   abbrev pub Acted : Effect → Type 0
-  Acted (Send to said) = Unit {0}
-  Acted (Answers item answer) = Unit {0}
-  Acted (Lose seg) = Unit {0}
   Acted (Does act) = Done act
+  Acted _ = Unit {0}
 
   module _ (node : NodeId) where
     one_act : (e : Effect) → AllByRecursion Done (act_of node e) → Acted e
-    one_act (Send to said) acts = tt
-    one_act (Answers item answer) acts = tt
-    one_act (Lose seg) acts = tt
     one_act (Does act) acts = acts.0
+    one_act _ acts = tt
 
     pub acts_acted : (es : List Effect) → AllByRecursion Done (acts_of node es) → AllByRecursion Acted es
     acts_acted [] acts = tt

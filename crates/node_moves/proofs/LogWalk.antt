@@ -79,12 +79,10 @@ module _ (w : Walk) where
 
   -- of what a log hears alone nothing is known
   pub heard : (i : In) → IsHeard i → Given i
-  heard (Acked name index generation) is = tt
-  heard (Maps groups) is = tt
-  heard Tick is = tt
   heard (Put block entry value) is = absurd is
   heard (Parts items) is = absurd is
   heard Seal is = absurd is
+  heard _ is = tt
 
   rests : (s : LogState) → Holds s → Goes (still s)
   rests s h = record { holds = h; says = tt }

@@ -48,12 +48,10 @@ abbrev pub Any : NodeId → Body → Type 0
 Any from said = Unit {0}
 
 pub heard_opens : (i : LogIn) → IsHeard i → IsOpening i
-heard_opens (log_in.Acked name index generation) heard = tt
-heard_opens (log_in.Maps groups) heard = tt
-heard_opens log_in.Tick heard = tt
 heard_opens (log_in.Put block entry value) heard = absurd heard
 heard_opens (log_in.Parts items) heard = absurd heard
 heard_opens log_in.Seal heard = absurd heard
+heard_opens _ heard = tt
 
 -- So it is of what is made of an opening, with what it knows, these questions, and at this stage, where so much is known of a body that comes from a node; that its
 -- maps are newer ones changes nothing of it.

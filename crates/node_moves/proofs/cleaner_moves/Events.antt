@@ -334,9 +334,7 @@ module _ (first : Cleaner) (what : Do) (its : IsTaken first what) where
   confirmed_then : (e : Emptying) (x : Next) → Serves e (after_confirmed e x)
   confirmed_then e next.Ask = Last Fetches
   confirmed_then e next.Lost = read_over e None SegmentLost
-  confirmed_then e next.Wait = Rests
-  confirmed_then e next.Again = Rests
-  confirmed_then e (next.Read segment) = Rests
+  confirmed_then e _ = Rests
 
   read_again : (e : Emptying) → Serves e (reads_again e)
   unfolding reads_again

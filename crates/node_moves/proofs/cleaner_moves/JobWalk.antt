@@ -174,9 +174,7 @@ module _ (w : WalkLaw) where
   live_so : (block told : BlockId) (entry : Entry) (fate : Fate) → same_block block told ≡ true → w.LiveSo told entry fate → may_move entry ≡ true
       → w.FateSo block fate → w.FateSo block (after_live entry fate)
   live_so block told entry (Asked value) same live may h = w.lives block told entry value same live may h
-  live_so block told entry (Live e value) same live may h = h
-  live_so block told entry Moved same live may h = h
-  live_so block told entry Dead same live may h = h
+  live_so block told entry _ same live may h = h
 
   dead_so : (block : BlockId) (fate : Fate) → w.FateSo block fate → w.FateSo block (after_dead fate)
   dead_so block (Asked value) h = w.dead block
@@ -185,10 +183,8 @@ module _ (w : WalkLaw) where
   dead_so block Dead h = h
 
   moved_so : (block : BlockId) (fate : Fate) → w.FateSo block fate → w.FateSo block (after_moved fate)
-  moved_so block (Asked value) h = h
   moved_so block (Live e value) h = w.moved block
-  moved_so block Moved h = h
-  moved_so block Dead h = h
+  moved_so block _ h = h
 
   live_check : (block : BlockId) (entry : Entry) → may_move entry ≡ true → (c : Check) → (same_block c.block block ≡ true → w.LiveSo block entry c.fate)
       → CheckSo c → CheckSo (live_at block entry c)
@@ -212,10 +208,8 @@ module _ (w : WalkLaw) where
 
   one_move : (block : BlockId) (fate : Fate) (others : List (BlockId × Entry × Option (List ℕ))) → w.FateSo block fate → AllByRecursion MoveSo others
       → AllByRecursion MoveSo (cons_option (move_from block fate) others)
-  one_move block (Asked value) others h rest = rest
   one_move block (Live e value) others h rest = (h, rest)
-  one_move block Moved others h rest = rest
-  one_move block Dead others h rest = rest
+  one_move block _ others h rest = rest
 
   moves_so : (checks : List Check) → AllByRecursion CheckSo checks → AllByRecursion MoveSo (moves checks)
   moves_so [] all = tt
@@ -396,12 +390,7 @@ module _ (w : WalkLaw) where
 
       checked_on : (p : Phase) → ChecksSo p → ChecksSo (mapped groups p)
       checked_on (Checking j seg checks) h = h
-      checked_on Greeting h = tt
-      checked_on (Listing l) h = tt
-      checked_on (Counting c) h = tt
-      checked_on (Reading j seg) h = tt
-      checked_on (Deleting j seg servers) h = tt
-      checked_on Over h = tt
+      checked_on _ h = tt
 
   -- ---- time: the maps are asked for by a job that has just begun, and by it alone
 

@@ -149,10 +149,7 @@ Hears w from _ = Unit {0}
 
 pub of_any : (so : ℕ → Type 0) → ((server : ℕ) → so server) → (from : NodeId) → OfServer so from
 of_any so each (node.Server server) = each server
-of_any so each (node.Client n) = tt
-of_any so each (node.Manager n) = tt
-of_any so each node.Cleaner = tt
-of_any so each node.Registry = tt
+of_any so each _ = tt
 
 -- where answers and maps may tell anything, that is known of a packet which is known of a grant
 pub hears_so : (w : Walk) → ((ask server : ℕ) (t : Told) → w.Came ask server t) → ((groups : GroupMapState) → w.Mapped groups) → (from : NodeId) (b : Body)

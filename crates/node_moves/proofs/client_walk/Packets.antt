@@ -131,9 +131,7 @@ module _ (w : Walk) where
   ends_fetch_so : (s : Serving) (at : BlockAt) (x : Next) → At s → Goes (ends_fetch s at x)
   ends_fetch_so s at next.Again h = serving.hands_so w s (input.Reask at.block) tt h
   ends_fetch_so s at (next.Read segment) h = serving.hands_so w s (input.Fetched at.block (value_at segment at.item)) tt h
-  ends_fetch_so s at next.Wait h = still_so s h
-  ends_fetch_so s at next.Ask h = still_so s h
-  ends_fetch_so s at next.Lost h = still_so s h
+  ends_fetch_so s at _ h = still_so s h
 
   told_at_so : (s : Serving) (at : Option BlockAt) (x : Heard) → IfSome x.reading w.Reading → At s → Goes (told_at s at x)
   told_at_so s None x fact h = still_so s h
@@ -148,10 +146,7 @@ module _ (w : Walk) where
 
   pub on_told_so : (s : Serving) (from : NodeId) (ask : ℕ) (t : Answered) → OfServer (λ server. w.Came ask server t) from → At s → Goes (on_told s from ask t)
   on_told_so s (node.Server server) ask t fact h = told_by_so s server ask t fact h
-  on_told_so s (node.Client k) ask t fact h = still_so s h
-  on_told_so s (node.Manager k) ask t fact h = still_so s h
-  on_told_so s node.Cleaner ask t fact h = still_so s h
-  on_told_so s node.Registry ask t fact h = still_so s h
+  on_told_so s _ ask t fact h = still_so s h
 
   -- ---- promises
 
@@ -199,10 +194,7 @@ module _ (w : Walk) where
 
   on_poll_so : (s : Serving) (from : NodeId) (p : Poll) → Owed s → At s → Goes (on_poll s from p)
   on_poll_so s (node.Manager manager) p owed h = polled_so s manager p owed h
-  on_poll_so s (node.Client k) p owed h = still_so s h
-  on_poll_so s (node.Server k) p owed h = still_so s h
-  on_poll_so s node.Cleaner p owed h = still_so s h
-  on_poll_so s node.Registry p owed h = still_so s h
+  on_poll_so s _ p owed h = still_so s h
 
   -- ---- maps
 

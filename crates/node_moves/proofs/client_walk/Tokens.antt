@@ -151,15 +151,11 @@ module _ (w : Walk) where
   confirmed_next_so : (s : Serving) (r : ReadingState) (x : Next) → w.Reading r → At s → Goes (confirmed_next s r x)
   confirmed_next_so s r next.Lost fact h = loses_at_so s r.target.block r.target.seg.name h
   confirmed_next_so s r next.Ask fact h = plain_so (with_reading s (Some r)) (fetches r) (read_so s (Some r) fact h) (fetches_say r)
-  confirmed_next_so s r next.Wait fact h = still_so (with_reading s (Some r)) (read_so s (Some r) fact h)
-  confirmed_next_so s r next.Again fact h = still_so (with_reading s (Some r)) (read_so s (Some r) fact h)
-  confirmed_next_so s r (next.Read segment) fact h = still_so (with_reading s (Some r)) (read_so s (Some r) fact h)
+  confirmed_next_so s r _ fact h = still_so (with_reading s (Some r)) (read_so s (Some r) fact h)
 
   drawn_after_so : (s : Serving) (r : ReadingState) (x : Next) (stage : Stage) → w.Reading r → At s → Goes (confirmed_next (drawn_after s stage) r x)
   drawn_after_so s r x Between fact h = confirmed_next_so (draws s) r x fact (draws_so s h)
-  drawn_after_so s r x Asking fact h = confirmed_next_so s r x fact h
-  drawn_after_so s r x Doubted fact h = confirmed_next_so s r x fact h
-  drawn_after_so s r x Over fact h = confirmed_next_so s r x fact h
+  drawn_after_so s r x _ fact h = confirmed_next_so s r x fact h
 
   confirms_so : (s : Serving) (r : ReadingState) → w.Reading r → At s → Goes (confirms s r)
   unfolding confirms

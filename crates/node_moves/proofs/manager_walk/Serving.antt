@@ -148,9 +148,7 @@ module _ (w : Walk) where
   -- what an answer of a server completes in a slot that asked for it
   abbrev pub Asked : ℕ → ℕ → Answered → SlotPhase → Type 0
   Asked ask server t (phase.Taking taking) = (own : ℕ) → fetch_in (phase.Taking taking) ask ≡ Some own → w.Completes taking.take own server t
-  Asked ask server t (phase.Away epoch) = Unit {0}
-  Asked ask server t (phase.Active a) = Unit {0}
-  Asked ask server t (phase.Broken epoch seg) = Unit {0}
+  Asked ask server t _ = Unit {0}
 
   -- what a server answers to a question
   abbrev pub AnswerSo : Serving → Option ℕ → ℕ → Answered → Type 0
@@ -172,16 +170,12 @@ module _ (w : Walk) where
   got_so : (ask server generation : ℕ) (fragment : Fragment) (p : SlotPhase) → Asked ask server (answered.Held fragment) p → (k own : ℕ)
       → fetch_in p ask ≡ Some own → HeardSo w k p (take_in.Got own server generation fragment)
   got_so ask server generation fragment (phase.Taking taking) fact k own at = fact own at
-  got_so ask server generation fragment (phase.Away epoch) fact k own at = tt
-  got_so ask server generation fragment (phase.Active a) fact k own at = tt
-  got_so ask server generation fragment (phase.Broken epoch seg) fact k own at = tt
+  got_so ask server generation fragment _ fact k own at = tt
 
   missing_so : (ask server generation : ℕ) (p : SlotPhase) → Asked ask server (answered.Missing generation) p → (k own : ℕ)
       → fetch_in p ask ≡ Some own → HeardSo w k p (take_in.Missing own server generation)
   missing_so ask server generation (phase.Taking taking) fact k own at = fact own at
-  missing_so ask server generation (phase.Away epoch) fact k own at = tt
-  missing_so ask server generation (phase.Active a) fact k own at = tt
-  missing_so ask server generation (phase.Broken epoch seg) fact k own at = tt
+  missing_so ask server generation _ fact k own at = tt
 
   found_on : (s : Serving) (server : Option ℕ) (found : Found) → AnswerSo s server found.ask (answered.Held found.fragment) → Ready s
       → Does (on_found s server found)

@@ -51,11 +51,9 @@ module _ (w : Walk) (k : ℕ) where
   one_said : (number epoch : ℕ) (o : SlotOut) → Said w.Granted o → AllSay w (said number epoch o)
   unfolding said
   one_said number epoch (slot_out.Grant client block stamp inc req mode entry) fact = (w.grants _ fact, tt)
-  one_said number epoch (slot_out.Forward client block stamp to inc req ver) fact = (w.plain _ tt, tt)
-  one_said number epoch (slot_out.Recall client block stamp keep) fact = (w.plain _ tt, tt)
-  one_said number epoch (slot_out.Applied log applied) fact = (w.plain _ tt, tt)
   one_said number epoch (slot_out.Live entry) fact = tt
   one_said number epoch slot_out.Dead fact = tt
+  one_said number epoch _ fact = (w.plain _ tt, tt)
 
   pub phase_takes : (p : SlotPhase) (number : ℕ) (given : SlotIn) → Given w.Ranges given → SlotSo w k p → Goes (takes p number given)
   unfolding takes
@@ -97,9 +95,7 @@ module _ (w : Walk) (k : ℕ) where
   pub phase_tells_usage : (p : SlotPhase) (asked : UsageAsk) → AllSay w (on_usage_ask p asked)
   unfolding on_usage_ask
   phase_tells_usage (phase.Active a) asked = (w.plain _ tt, tt)
-  phase_tells_usage (phase.Away epoch) asked = tt
-  phase_tells_usage (phase.Taking t) asked = tt
-  phase_tells_usage (phase.Broken epoch seg) asked = tt
+  phase_tells_usage _ asked = tt
 
   -- ---- a slot that is taken over, which may ask
 
@@ -130,9 +126,7 @@ module _ (w : Walk) (k : ℕ) where
   -- what is known of an input, where a takeover takes it
   abbrev pub HeardSo : SlotPhase → TakeIn → Type 0
   HeardSo (phase.Taking t) given = InputSo w k t.take given
-  HeardSo (phase.Away epoch) given = Unit {0}
-  HeardSo (phase.Active a) given = Unit {0}
-  HeardSo (phase.Broken epoch seg) given = Unit {0}
+  HeardSo _ given = Unit {0}
 
   heard_on : (p : SlotPhase) (given : TakeIn) → SlotSo w k p → HeardSo p given → Leaves (SlotSo w k) (OutSo w k) (heard p given)
   unfolding heard
@@ -144,9 +138,7 @@ module _ (w : Walk) (k : ℕ) where
   -- of what is known whatever the state of the takeover is
   pub heard_any : (p : SlotPhase) (given : TakeIn) → ((s : TakeState) → InputSo w k s given) → HeardSo p given
   heard_any (phase.Taking t) given each = each t.take
-  heard_any (phase.Away epoch) given each = tt
-  heard_any (phase.Active a) given each = tt
-  heard_any (phase.Broken epoch seg) given each = tt
+  heard_any _ given each = tt
 
   pub asker_takes : (a : Asker) (number : ℕ) (given : TakeIn) → AskerSo a → HeardSo a.phase given → Asks (takeovers.takes a number given)
   unfolding takeovers.takes

@@ -40,10 +40,8 @@ module _ (w : Walk) (k : ℕ) where
 
   -- what is handed out
   abbrev pub OutSo : Out → Type 0
-  OutSo (Poll to) = Unit {0}
-  OutSo (Fetch server name ask) = Unit {0}
   OutSo (Active epoch index beliefs applied) = w.Handed k epoch index applied
-  OutSo (Lost name) = Unit {0}
+  OutSo _ = Unit {0}
 
   abbrev pub Goes : Done → Type 0
   Goes d = Leaves TakeSo OutSo d
@@ -114,9 +112,7 @@ module _ (w : Walk) (k : ℕ) where
       → ((segment : Segment) → segment_of n ≡ Some segment → w.Read (told_of s.news.slot segment)) → TakeSo s → Goes (judged_as s source r n)
   judged_on s source r next.Again new known = again_on s source r known
   judged_on s source r (next.Read segment) new known = has_read-on s source segment (new segment refl) known
-  judged_on s source r next.Wait new known = quiet (reads s source (Some r)) known
-  judged_on s source r next.Ask new known = quiet (reads s source (Some r)) known
-  judged_on s source r next.Lost new known = quiet (reads s source (Some r)) known
+  judged_on s source r _ new known = quiet (reads s source (Some r)) known
 
   -- ---- the inputs
 

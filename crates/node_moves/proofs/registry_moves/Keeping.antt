@@ -45,15 +45,13 @@ module _ (first : RegistryNode) (what : Do) (B : BoardState → Type 0) (D : Boa
 
   hello_keeps : (packet : Packet) (m : Hello) → Came what packet (body.Hello m) → (from : NodeId) → packet.from ≡ from → Holds (hello first.board from m.inc)
   unfolding manager_hello server_hello
-  hello_keeps packet m came (Client c) fact = h
   hello_keeps packet m came (Manager k) fact =
       by_test Holds (hears_manager first.board k m.inc) (record { state = manager_restarted first.board k m.inc; outs = Changed ∷ [] }) (still first.board)
       (λ t. keeps.restarts packet m k came fact t h) (λ t. h)
   hello_keeps packet m came (Server v) fact =
       by_test Holds (hears_server first.board v m.inc) (record { state = server_lost first.board v m.inc; outs = Changed ∷ [] }) (still first.board)
       (λ t. keeps.loses packet m v came fact t h) (λ t. h)
-  hello_keeps packet m came Cleaner fact = h
-  hello_keeps packet m came Registry fact = h
+  hello_keeps packet m came _ fact = h
 
   move_keeps : (slot manager : ℕ) → Holds (reassign first.board slot manager)
   unfolding reassign

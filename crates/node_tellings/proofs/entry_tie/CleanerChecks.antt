@@ -50,10 +50,8 @@ module _ (told : Told) where
   fate_live block entry Dead fact h = tt
 
   fate_dead : (block : BlockId) (fate : Fate) → FateTold told block fate → FateTold told block (after_dead fate)
-  fate_dead block (Asked value) h = tt
   fate_dead block (Live e value) h = h
-  fate_dead block Moved h = tt
-  fate_dead block Dead h = tt
+  fate_dead block _ h = tt
 
   fate_moved : (block : BlockId) (fate : Fate) → FateTold told block (after_moved fate)
   fate_moved block (Asked value) = tt
@@ -110,43 +108,26 @@ module _ (told : Told) where
 
   forgetting_keeps : (slot : ℕ) (p : Phase) → CheckingTold told p → Keeps (forgetting slot p)
   forgetting_keeps slot (Counting c) h = by_test Keeps (has_usage c.usages slot) _ (still (Counting c)) (λ t. tt) (λ t. tt)
-  forgetting_keeps slot Greeting h = tt
-  forgetting_keeps slot (Listing l) h = tt
-  forgetting_keeps slot (Reading j segment) h = tt
   forgetting_keeps slot (Checking j segment checks) h = h
-  forgetting_keeps slot (Deleting j segment servers) h = tt
-  forgetting_keeps slot Over h = tt
+  forgetting_keeps slot _ h = tt
 
   mapped_keeps : (groups : GroupMapState) (p : Phase) → CheckingTold told p → CheckingTold told (mapped groups p)
-  mapped_keeps groups (Counting c) h = tt
-  mapped_keeps groups Greeting h = tt
-  mapped_keeps groups (Listing l) h = tt
-  mapped_keeps groups (Reading j segment) h = tt
   mapped_keeps groups (Checking j segment checks) h = h
-  mapped_keeps groups (Deleting j segment servers) h = tt
-  mapped_keeps groups Over h = tt
+  mapped_keeps groups _ h = tt
 
   listed_keeps : (server : ℕ) (held : List FragMeta) (p : Phase) → CheckingTold told p → Keeps (listed_in server held p)
   listed_keeps server held (Listing l) h =
       by_test Keeps (is_among l.awaited server) (listed (heard l server held)) (still (Listing l))
       (λ t. by_test Keeps (length (heard l server held).awaited == 0) _ _ (λ u. tt) (λ u. tt)) (λ t. tt)
-  listed_keeps server held (Counting c) h = tt
-  listed_keeps server held Greeting h = tt
-  listed_keeps server held (Reading j segment) h = tt
   listed_keeps server held (Checking j segment checks) h = h
-  listed_keeps server held (Deleting j segment servers) h = tt
-  listed_keeps server held Over h = tt
+  listed_keeps server held _ h = tt
 
   counted_keeps : (count slot : ℕ) (counts : List (SegName × ℕ)) (p : Phase) → CheckingTold told p → Keeps (counted_in count slot counts p)
   counted_keeps count slot counts (Counting c) h =
       by_test Keeps (has_usage c.usages slot) (still (Counting c)) (steps.counted count (usage_with slot counts c)) (λ t. tt)
       (λ t. by_test Keeps (is_counted (usage_with slot counts c).usages) _ _ (λ u. next_keeps _) (λ u. tt))
-  counted_keeps count slot counts (Listing l) h = tt
-  counted_keeps count slot counts Greeting h = tt
-  counted_keeps count slot counts (Reading j segment) h = tt
   counted_keeps count slot counts (Checking j segment checks) h = h
-  counted_keeps count slot counts (Deleting j segment servers) h = tt
-  counted_keeps count slot counts Over h = tt
+  counted_keeps count slot counts _ h = tt
 
   read_keeps : (read : Option Segment) (p : Phase) → CheckingTold told p → Keeps (read_in read p)
   read_keeps None (Reading j segment) h = next_keeps j
@@ -162,21 +143,11 @@ module _ (told : Told) where
 
   answered_keeps : (f : Check → Check) → ((c : Check) → CheckTold told c → CheckTold told (f c)) → (p : Phase) → CheckingTold told p → Keeps (answered_in f p)
   answered_keeps f each (Checking j segment checks) h = looked_keeps j segment (any_asked checks) (map f checks) (all_mapped f each checks h)
-  answered_keeps f each (Counting c) h = tt
-  answered_keeps f each (Listing l) h = tt
-  answered_keeps f each Greeting h = tt
-  answered_keeps f each (Reading j segment) h = tt
-  answered_keeps f each (Deleting j segment servers) h = tt
-  answered_keeps f each Over h = tt
+  answered_keeps f each _ h = tt
 
   moved_keeps : (p : Phase) → CheckingTold told p → Keeps (moved_in p)
   moved_keeps (Checking j segment checks) h = by_test Keeps (is_moving checks) _ (still (Checking j segment checks)) (λ t. all_moved checks) (λ t. h)
-  moved_keeps (Counting c) h = tt
-  moved_keeps (Listing l) h = tt
-  moved_keeps Greeting h = tt
-  moved_keeps (Reading j segment) h = tt
-  moved_keeps (Deleting j segment servers) h = tt
-  moved_keeps Over h = tt
+  moved_keeps _ h = tt
 
   deleted_keeps : (server : ℕ) (name : SegName) (p : Phase) → CheckingTold told p → Keeps (deleted_in server name p)
   deleted_keeps server name (Deleting j segment servers) h =
@@ -184,11 +155,7 @@ module _ (told : Told) where
       (still (Deleting j segment servers))
       (λ t. by_test Keeps (length (without servers server) == 0) (next (counted j)) _ (λ u. next_keeps (counted j)) (λ u. tt)) (λ t. tt)
   deleted_keeps server name (Checking j segment checks) h = h
-  deleted_keeps server name (Counting c) h = tt
-  deleted_keeps server name (Listing l) h = tt
-  deleted_keeps server name Greeting h = tt
-  deleted_keeps server name (Reading j segment) h = tt
-  deleted_keeps server name Over h = tt
+  deleted_keeps server name _ h = tt
 
   -- ---- any input
 

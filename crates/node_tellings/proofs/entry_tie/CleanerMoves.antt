@@ -71,10 +71,8 @@ module _ (told : Told) where
       all_filter_map (OutMoved told) (λ c. Unit {0}) (question segment) (one_question segment) checks (all_each (λ c. Unit {0}) (λ c. tt) checks)
 
   one_move : (block : BlockId) (fate : Fate) → FateTold told block fate → IfSome (move_from block fate) (BlockMoved told)
-  one_move block (Asked value) h = tt
   one_move block (Live e value) h = h
-  one_move block Moved h = tt
-  one_move block Dead h = tt
+  one_move block _ h = tt
 
   moves_told : (checks : List Check) → Checks told checks → AllByRecursion (BlockMoved told) (moves checks)
   moves_told checks all = all_filter_map (BlockMoved told) (CheckTold told) (λ c. move_from c.block c.fate) (λ c. one_move c.block c.fate) checks all
@@ -106,12 +104,7 @@ module _ (told : Told) where
 
   forgetting_gives : (slot : ℕ) (p : Phase) → GivesSo (forgetting slot p)
   forgetting_gives slot (Counting c) = by_test GivesSo (has_usage c.usages slot) _ (still (Counting c)) (λ t. (tt, tt)) (λ t. tt)
-  forgetting_gives slot Greeting = tt
-  forgetting_gives slot (Listing l) = tt
-  forgetting_gives slot (Reading j segment) = tt
-  forgetting_gives slot (Checking j segment checks) = tt
-  forgetting_gives slot (Deleting j segment servers) = tt
-  forgetting_gives slot Over = tt
+  forgetting_gives slot _ = tt
 
   listed_gives : (server : ℕ) (held : List FragMeta) (p : Phase) → GivesSo (listed_in server held p)
   listed_gives server held (Listing l) =
@@ -149,12 +142,7 @@ module _ (told : Told) where
 
   answered_gives : (f : Check → Check) → ((c : Check) → CheckTold told c → CheckTold told (f c)) → (p : Phase) → CheckingTold told p → GivesSo (answered_in f p)
   answered_gives f each (Checking j segment checks) h = looked_gives j segment (any_asked checks) (map f checks) (all_mapped told f each checks h)
-  answered_gives f each (Counting c) h = tt
-  answered_gives f each (Listing l) h = tt
-  answered_gives f each Greeting h = tt
-  answered_gives f each (Reading j segment) h = tt
-  answered_gives f each (Deleting j segment servers) h = tt
-  answered_gives f each Over h = tt
+  answered_gives f each _ h = tt
 
   moved_gives : (p : Phase) → GivesSo (moved_in p)
   moved_gives (Checking j segment checks) =

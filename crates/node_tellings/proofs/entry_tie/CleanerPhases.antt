@@ -308,19 +308,12 @@ cleaner_starts rows setup works = record { job = tt; feed = tt; log = record { w
 
 module _ (told later : Told) (more : (block : BlockId) (entry : Entry) → told block entry → later block entry) where
   fate_rises : (block : BlockId) (fate : Fate) → FateTold told block fate → FateTold later block fate
-  fate_rises block (Asked value) h = tt
   fate_rises block (Live entry value) h = record { before = h.before; before_told = more block h.before h.before_told; moved = h.moved }
-  fate_rises block Moved h = tt
-  fate_rises block Dead h = tt
+  fate_rises block _ h = tt
 
   checking_rises : (p : job_phases.Phase) → CheckingTold told p → CheckingTold later p
   checking_rises (Checking job segment checks) h = all_weaker (CheckTold told) (CheckTold later) (λ c. fate_rises c.block c.fate) checks h
-  checking_rises Greeting h = tt
-  checking_rises (Listing l) h = tt
-  checking_rises (Counting c) h = tt
-  checking_rises (Reading job segment) h = tt
-  checking_rises (Deleting job segment servers) h = tt
-  checking_rises Over h = tt
+  checking_rises _ h = tt
 
   job_rises : (job : Option Job) → JobTold told job → JobTold later job
   job_rises None h = tt

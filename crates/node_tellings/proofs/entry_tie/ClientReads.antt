@@ -39,12 +39,8 @@ module _ (told : Told) where
   AllOut d = AllByRecursion OutTold d.outs
 
   a_want : (o : Out) → IsWant o → OutTold o
-  a_want (output.Want block req again mode) fact = tt
-  a_want (output.Gave block stamp) fact = tt
-  a_want (output.Flush block) fact = tt
   a_want (output.Read block place) fact = absurd fact
-  a_want (output.Ready block) fact = tt
-  a_want (output.Supply block ver value) fact = tt
+  a_want _ fact = tt
 
   pub wants_told : (outs : List Out) → AllByRecursion IsWant outs → AllByRecursion OutTold outs
   wants_told outs all = all_weaker IsWant OutTold a_want outs all

@@ -143,9 +143,7 @@ module _ (told : Told) (nothing : AllowsNothing told) where
 
   asked : (ask server : ℕ) (t : Answered) (p : SlotPhase) → SlotOwed told ask server t p → Asked walk ask server t p
   asked ask server t (phase.Taking taking) owed = owed
-  asked ask server t (phase.Away epoch) owed = tt
-  asked ask server t (phase.Active a) owed = tt
-  asked ask server t (phase.Broken epoch seg) owed = tt
+  asked ask server t _ owed = tt
 
   answered : (s : Serving) (server : Option ℕ) (ask : ℕ) (t : Answered) → AnswerOwed told s server ask t → AnswerSo walk s server ask t
   answered s None ask t owed = tt

@@ -40,11 +40,8 @@ all_reverse P (x ∷ xs) all =
 
 -- a chain that is told is of the log
 abbrev pub ChainTells : ℕ → Out → Type 0
-ChainTells log (out.Hello ask) = Unit {0}
-ChainTells log (out.Fence server) = Unit {0}
-ChainTells log (out.Fetch server name ask) = Unit {0}
 ChainTells log (out.Chain segments end prior) = AreOfLog log segments
-ChainTells log (out.Lost name) = Unit {0}
+ChainTells log _ = Unit {0}
 
 module _ (reach : Reach) (log : ℕ) where
   record IsOpening (o : Opening) : Type 0 where
@@ -219,11 +216,7 @@ module _ (reach : Reach) (log : ℕ) where
   -- what an input tells of horizons
   abbrev pub InputTells : In → Type 0
   InputTells (Welcome ask news groups) = NewsReach news
-  InputTells (Fenced server generation held) = Unit {0}
-  InputTells (Got ask server generation fragment) = Unit {0}
-  InputTells (Missing ask server generation) = Unit {0}
-  InputTells (Maps groups) = Unit {0}
-  InputTells Tick = Unit {0}
+  InputTells _ = Unit {0}
 
   keeps_takes : (o : Opening) (stage : Stage) (input : In) → IsOpening o → ReadsLog log stage → InputTells input → Keeps (takes o stage input)
   keeps_takes o stage (Welcome ask news groups) fact st tells = keeps_on_welcome o stage ask news groups fact tells st

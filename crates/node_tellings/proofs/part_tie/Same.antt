@@ -61,9 +61,7 @@ again_same s source r = by (on_confirmed r (s.ask + 1)).state (on_confirmed r (s
 judged_same : (s : TakeState) (source : Source) (q : ReadingState) (n : Next) → Same s (judged_as s source q n)
 judged_same s source q next.Again = again_same s source q
 judged_same s source q (next.Read segment) = has_read_same s source segment
-judged_same s source q next.Wait = (refl, refl)
-judged_same s source q next.Ask = (refl, refl)
-judged_same s source q next.Lost = (refl, refl)
+judged_same s source q _ = (refl, refl)
 
 pub told_same : (s : TakeState) (ask server : ℕ) (t : Told) → Same s (on_told s ask server t)
 unfolding on_told

@@ -45,12 +45,9 @@ module _ (known : Known) where
 
   one_said : (number epoch : ℕ) (o : SlotOut) → AllSay known (said number epoch o)
   unfolding said
-  one_said number epoch (slot_out.Grant client block stamp inc req mode entry) = (tt, tt)
-  one_said number epoch (slot_out.Forward client block stamp to inc req ver) = (tt, tt)
-  one_said number epoch (slot_out.Recall client block stamp keep) = (tt, tt)
-  one_said number epoch (slot_out.Applied log applied) = (tt, tt)
   one_said number epoch (slot_out.Live entry) = tt
   one_said number epoch slot_out.Dead = tt
+  one_said number epoch _ = (tt, tt)
 
   pub phase_takes : (p : SlotPhase) (number : ℕ) (given : SlotIn) → SlotNames known p → Goes (takes p number given)
   unfolding takes
@@ -89,9 +86,7 @@ module _ (known : Known) where
   pub phase_tells_usage : (p : SlotPhase) (asked : UsageAsk) → AllSay known (on_usage_ask p asked)
   unfolding on_usage_ask
   phase_tells_usage (phase.Active a) asked = (tt, tt)
-  phase_tells_usage (phase.Away epoch) asked = tt
-  phase_tells_usage (phase.Taking t) asked = tt
-  phase_tells_usage (phase.Broken epoch seg) asked = tt
+  phase_tells_usage _ asked = tt
 
   -- ---- a slot that is taken over, which may ask
 

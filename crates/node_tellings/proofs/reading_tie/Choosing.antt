@@ -51,19 +51,15 @@ module _ (met : Met) where
   as_known Greeting h = tt
   as_known (Listing l) h = (tt, h)
   as_known (Counting c) h = h
-  as_known (Reading j seg) h = record { here = h.here; behind = h.behind }
-  as_known (Checking j seg checks) h = record { here = h.here; behind = h.behind }
-  as_known (Deleting j seg servers) h = record { here = h.here; behind = h.behind }
   as_known Over h = tt
+  as_known _ h = record { here = h.here; behind = h.behind }
 
   as_met : (p : Phase) → SegmentsSo law p → PhaseMet met p
   as_met Greeting h = tt
   as_met (Listing l) h = h.1
   as_met (Counting c) h = h
-  as_met (Reading j seg) h = record { here = h.here; behind = h.behind }
-  as_met (Checking j seg checks) h = record { here = h.here; behind = h.behind }
-  as_met (Deleting j seg servers) h = record { here = h.here; behind = h.behind }
   as_met Over h = tt
+  as_met _ h = record { here = h.here; behind = h.behind }
 
   as_owed : (p : Phase) (i : Input) → InputMet i → InputSo law p i
   as_owed p (input.Listed server held) fact = fact

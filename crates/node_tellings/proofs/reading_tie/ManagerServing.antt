@@ -70,10 +70,8 @@ module _ (came : Came) (striped : Striped) where
 
   says_on : (s : Serving) (o : Out) → At s → Goes (says s o)
   unfolding says gives_parts
-  says_on s (out.Parts items) h = h
   says_on s (out.Done slot epoch parts horizon) h = registers_on (asked s) _ h
-  says_on s out.Kept h = h
-  says_on s (out.Stale epoch) h = h
+  says_on s _ h = h
 
   writer_on : (s : Serving) (given : WriterIn) → At s → Goes (writer_takes s given)
   unfolding writer_takes says_each

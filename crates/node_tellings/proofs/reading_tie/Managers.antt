@@ -155,9 +155,7 @@ module _ (came : Came) (striped : Striped) where
 module _ (came later : Came) (striped more : Striped) (grows : CameMore came later) (widens : StripedMore striped more) where
   slot_rises : (p : SlotPhase) → SlotHolds came striped p → SlotHolds later more p
   slot_rises (phase.Taking t) h = take_rises came later striped more grows widens t.take h
-  slot_rises (phase.Active a) h = tt
-  slot_rises (phase.Away epoch) h = tt
-  slot_rises (phase.Broken epoch seg) h = tt
+  slot_rises _ h = tt
 
   pub phase_rises : (p : Phase) → PhaseHolds came striped p → PhaseHolds later more p
   phase_rises (Down kept) h = tt

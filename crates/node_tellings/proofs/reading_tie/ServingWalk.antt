@@ -97,10 +97,7 @@ module _ (came : Came) (striped : Striped) where
 
   of_server : (from : NodeId) (ask : ℕ) (t : Answered) → AnswerBrought came (server_in from) ask t → OfServer (λ server. came ask server t) from
   of_server (node.Server server) ask t fact = fact
-  of_server (node.Client n) ask t fact = tt
-  of_server (node.Manager n) ask t fact = tt
-  of_server node.Cleaner ask t fact = tt
-  of_server node.Registry ask t fact = tt
+  of_server _ ask t fact = tt
 
   pub hears : (from : NodeId) (b : Body) → BodyBrought came striped from b → Hears walk from b
   hears from (body.Fragment m) fact = of_server from m.ask _ fact

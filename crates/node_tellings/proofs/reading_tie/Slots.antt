@@ -48,10 +48,8 @@ module _ (came : Came) (striped : Striped) where
 
   phase_takes : (p : SlotPhase) (number : ℕ) (given : SlotIn) → Holds p → Goes (tokens.takes p number given)
   unfolding tokens.takes
-  phase_takes (phase.Active a) number given h = tt
-  phase_takes (phase.Away epoch) number given h = tt
   phase_takes (phase.Taking t) number given h = h
-  phase_takes (phase.Broken epoch seg) number given h = tt
+  phase_takes _ number given h = tt
 
   phase_wants : (p : SlotPhase) (client : ℕ) (want : Want) → Holds p → Goes (tokens.on_want p client want)
   unfolding tokens.on_want
@@ -62,10 +60,8 @@ module _ (came : Came) (striped : Striped) where
 
   phase_checks : (p : SlotPhase) (check : Check) → Holds p → Goes (tokens.on_check p check)
   unfolding tokens.on_check
-  phase_checks (phase.Active a) check h = tt
-  phase_checks (phase.Away epoch) check h = tt
   phase_checks (phase.Taking t) check h = h
-  phase_checks (phase.Broken epoch seg) check h = tt
+  phase_checks _ check h = tt
 
   -- ---- a slot that is taken over, which may ask
 
@@ -74,9 +70,7 @@ module _ (came : Came) (striped : Striped) where
 
   fetches_on : (p : SlotPhase) (q : Questions) (server : ℕ) (name : SegName) (own : ℕ) → Holds p → AskerHolds (fetches p q server name own).state
   fetches_on (phase.Taking t) q server name own h = h
-  fetches_on (phase.Away epoch) q server name own h = tt
-  fetches_on (phase.Active a) q server name own h = tt
-  fetches_on (phase.Broken epoch seg) q server name own h = tt
+  fetches_on _ q server name own h = tt
 
   says_on : (number : ℕ) (a : Asker) (o : TakeOut) → AskerHolds a → AskerHolds (says number a o).state
   unfolding says
@@ -92,9 +86,7 @@ module _ (came : Came) (striped : Striped) where
   heard_on : (p : SlotPhase) (given : TakeIn) → InputBrought came striped given → Holds p → Holds (heard p given).state
   unfolding heard
   heard_on (phase.Taking t) given fact h = take_goes came striped t.take given fact h
-  heard_on (phase.Away epoch) given fact h = tt
-  heard_on (phase.Active a) given fact h = tt
-  heard_on (phase.Broken epoch seg) given fact h = tt
+  heard_on _ given fact h = tt
 
   asker_takes : (a : Asker) (number : ℕ) (given : TakeIn) → InputBrought came striped given → AskerHolds a → AskerHolds (takeovers.takes a number given).state
   unfolding takeovers.takes
@@ -225,10 +217,8 @@ module _ (came : Came) (striped : Striped) where
 
   cleaned_holds : (p : SlotPhase) → Holds p → Holds (cleaned_phase p)
   unfolding cleaned_phase
-  cleaned_holds (phase.Active a) h = tt
-  cleaned_holds (phase.Away epoch) h = tt
   cleaned_holds (phase.Taking t) h = h
-  cleaned_holds (phase.Broken epoch seg) h = tt
+  cleaned_holds _ h = tt
 
   named_holds : (epoch : ℕ) (parts : List SegRef) (p : SlotPhase) → Holds p → Holds (named_phase epoch parts p)
   unfolding named_phase

@@ -48,10 +48,7 @@ none_left (x ∷ nodes) fact = (let e = eqb-true (length (x ∷ nodes)) 0 fact i
 -- what completes a segment reads it
 completed : (n : Next) (segment : Segment) → segment_of n ≡ Some segment → n ≡ next.Read segment
 completed (next.Read s) segment fact = cc
-completed next.Wait segment fact = absurd cc
-completed next.Ask segment fact = absurd cc
-completed next.Again segment fact = absurd cc
-completed next.Lost segment fact = absurd cc
+completed _ segment fact = absurd cc
 
 module _ (came : Came) (striped : Striped) where
   -- all have reported, and each source behind is one of those that are to be read
@@ -138,9 +135,7 @@ module _ (came : Came) (striped : Striped) where
       → ((segment : Segment) → segment_of n ≡ Some segment → ReadsJoined (to_any came) striped source.seg segment) → Goes (judged_as s source q n)
   judged_on s source q next.Again ready leads looks reading joined = again_on s source q ready leads looks reading
   judged_on s source q (next.Read segment) ready leads looks reading joined = has_read-on s source segment ready leads (joined segment refl)
-  judged_on s source q next.Wait ready leads looks reading joined = reads_so s source (Some q) ready leads looks reading
-  judged_on s source q next.Ask ready leads looks reading joined = reads_so s source (Some q) ready leads looks reading
-  judged_on s source q next.Lost ready leads looks reading joined = reads_so s source (Some q) ready leads looks reading
+  judged_on s source q _ ready leads looks reading joined = reads_so s source (Some q) ready leads looks reading
 
   -- ---- an answer
 

@@ -40,22 +40,15 @@ pub record MovedTold (told : Told) (block : BlockId) (entry : Entry) : Type 0 wh
 
 -- a block that is live is to be moved from where it is told
 abbrev pub FateTold : Told → BlockId → Fate → Type 0
-FateTold told block (Asked value) = Unit {0}
 FateTold told block (Live entry value) = MovedTold told block entry
-FateTold told block Moved = Unit {0}
-FateTold told block Dead = Unit {0}
+FateTold told block _ = Unit {0}
 
 abbrev pub CheckTold : Told → Check → Type 0
 CheckTold told check = FateTold told check.block check.fate
 
 abbrev pub CheckingTold : Told → jobs.Phase → Type 0
 CheckingTold told (Checking job segment checks) = AllByRecursion (CheckTold told) checks
-CheckingTold told Greeting = Unit {0}
-CheckingTold told (Listing l) = Unit {0}
-CheckingTold told (Counting c) = Unit {0}
-CheckingTold told (Reading job segment) = Unit {0}
-CheckingTold told (Deleting job segment servers) = Unit {0}
-CheckingTold told Over = Unit {0}
+CheckingTold told _ = Unit {0}
 
 abbrev pub JobTold : Told → Option Job → Type 0
 JobTold told None = Unit {0}

@@ -97,9 +97,7 @@ TakeOwed told take ask server answer =
 
 abbrev pub PhaseOwed : Told → ℕ → ℕ → Answered → SlotPhase → Type 0
 PhaseOwed told ask server answer (phase.Taking taking) = TakeOwed told taking.take ask server answer
-PhaseOwed told ask server answer (phase.Active active) = Unit {0}
-PhaseOwed told ask server answer (phase.Away epoch) = Unit {0}
-PhaseOwed told ask server answer (phase.Broken epoch seg) = Unit {0}
+PhaseOwed told ask server answer _ = Unit {0}
 
 -- where the takeover of the slot asked the question of the manager's that is answered
 abbrev pub SlotOwed : Told → ℕ → ℕ → Answered → SlotPhase → Type 0

@@ -17,11 +17,8 @@ AreOfLog log segments = AllByRecursion (λ segment. segment.name.log.0 ≡ log) 
 
 -- what was read back is of this log, and so is what is read now
 abbrev pub ReadsLog : ℕ → scan_stages.Stage → Type 0
-ReadsLog log Hails = Unit {0}
-ReadsLog log (Gathers lists) = Unit {0}
-ReadsLog log (Asks lists) = Unit {0}
 ReadsLog log (Reads back reading) = AreOfLog log back.chain × IfSome reading (λ r. r.target.seg.name.log.0 ≡ log)
-ReadsLog log Over = Unit {0}
+ReadsLog log _ = Unit {0}
 
 -- the horizon below which nothing is read, where the log can have one, is above nothing but what was filed
 pub record ScanReaches (reach : Reach) (log : ℕ) (scan : ScanState) : Type 0 where

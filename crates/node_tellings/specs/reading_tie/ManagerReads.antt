@@ -22,9 +22,7 @@ use Rattle.node_tellings.specs.reading_tie.TakeoverReads.{TakeHolds}
 
 abbrev pub SlotHolds : Came → Striped → SlotPhase → Type 0
 SlotHolds came striped (phase.Taking taking) = TakeHolds came striped taking.take
-SlotHolds came striped (phase.Active active) = Unit {0}
-SlotHolds came striped (phase.Away epoch) = Unit {0}
-SlotHolds came striped (phase.Broken epoch seg) = Unit {0}
+SlotHolds came striped _ = Unit {0}
 
 pub record ServingHolds (came : Came) (striped : Striped) (groups : Option GroupMapState) (table : List SlotPhase) : Type 0 where
   pub maps : MapsStriped striped groups
