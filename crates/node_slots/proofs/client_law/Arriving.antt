@@ -108,10 +108,7 @@ module _ (A : BlockId → Type 0) (M : GroupMapState → Type 0) (B : Fact) (P :
 
     confirmed_next-keeps : (s : Serving) (r : ReadingState) (m : Next) → At (P n) s → At (P n) (confirmed_next s r m).state
     confirmed_next-keeps s r next.Lost p = loses_at-keeps s r.target.block r.target.seg.name p
-    confirmed_next-keeps s r next.Ask p = p
-    confirmed_next-keeps s r next.Wait p = p
-    confirmed_next-keeps s r next.Again p = p
-    confirmed_next-keeps s r (next.Read segment) p = p
+    confirmed_next-keeps s r _ p = p
 
     drawn_after-keeps : (s : Serving) (stage : Stage) → At (P n) s → At (P n) (drawn_after s stage)
     drawn_after-keeps s Between p = p

@@ -66,9 +66,7 @@ writing_step block Sync fact = contrary (ap writes_in fact)
 
 reading_step : (block : BlockId) (step : BlockCall) → needed_by step ≡ Some (block, Copy) → Reads step block
 reading_step block (Get read) fact = ap (block_in block) fact
-reading_step block (Put written value) fact = contrary (ap reads_in fact)
-reading_step block (PutAt written ver value) fact = contrary (ap reads_in fact)
-reading_step block Sync fact = contrary (ap reads_in fact)
+reading_step block _ fact = contrary (ap reads_in fact)
 
 writing : (block : BlockId) (call : Option Call) → needed call ≡ Some (block, Own) → IsOpenAt (λ step. Writes step block) call
 writing block None fact = contrary (ap is_some fact)

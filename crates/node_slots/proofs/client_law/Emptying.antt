@@ -153,11 +153,8 @@ module _ (l : LogState) (empty : l.dirty ≡ []) (groups : GroupMapState) where
 -- what an opening has its log take
 abbrev IsOpenings : LogIn → Type 0
 IsOpenings (log_in.Put block entry value) = ⊥
-IsOpenings (log_in.Parts items) = Unit {0}
 IsOpenings log_in.Seal = ⊥
-IsOpenings (log_in.Acked name index generation) = Unit {0}
-IsOpenings (log_in.Maps groups) = Unit {0}
-IsOpenings log_in.Tick = Unit {0}
+IsOpenings _ = Unit {0}
 
 takes_empties : (l : LogState) → l.dirty ≡ [] → (i : LogIn) → IsOpenings i → Empties (log.transition l i)
 unfolding on_acked on_maps log_tick

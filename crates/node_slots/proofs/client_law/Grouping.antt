@@ -79,11 +79,9 @@ module _ (Is : GroupMapState → Type 0) where
   -- what an opening has its log take, with such maps
   abbrev IsSuchInput : LogIn → Type 0
   IsSuchInput (log_in.Put block entry value) = ⊥
-  IsSuchInput (log_in.Parts items) = Unit {0}
   IsSuchInput log_in.Seal = ⊥
-  IsSuchInput (log_in.Acked name index generation) = Unit {0}
   IsSuchInput (log_in.Maps groups) = Is groups
-  IsSuchInput log_in.Tick = Unit {0}
+  IsSuchInput _ = Unit {0}
 
   module _ (l : LogState) (p : Is l.groups) where
     parts_has : (items : List Item) → Has (on_parts l items)

@@ -61,12 +61,10 @@ module _ (Is : GroupMapState → Type 0) where
 
     outer-has : (i : log_in.In) → IsOuter Is i → Has Is (log.transition l i)
     unfolding on_acked on_maps on_tick
-    outer-has (log_ins.Put block entry value) outer = absurd outer
-    outer-has (log_ins.Parts items) outer = absurd outer
-    outer-has log_ins.Seal outer = absurd outer
     outer-has (log_ins.Acked name index generation) outer = acked_has Is l p name index generation l.flight
     outer-has (log_ins.Maps groups) outer = mapped_has Is l p groups outer l.flight
     outer-has log_ins.Tick outer = ticked_has Is l p l.flight
+    outer-has _ outer = absurd outer
 
   -- ---- what a client does
 

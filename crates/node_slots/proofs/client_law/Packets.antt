@@ -128,10 +128,7 @@ module _ (A : BlockId → Type 0) (M : GroupMapState → Type 0) (B : Fact) (P :
 
   on_poll-keeps : (s : Serving) (from : NodeId) (m : Poll) → At (P 1) s → At (P 1) (on_poll s from m).state
   on_poll-keeps s (node.Manager manager) m p = polled-keeps s manager m p
-  on_poll-keeps s (node.Client c) m p = p
-  on_poll-keeps s (node.Server n) m p = p
-  on_poll-keeps s node.Cleaner m p = p
-  on_poll-keeps s node.Registry m p = p
+  on_poll-keeps s _ m p = p
 
   hears-keeps : (s : Serving) (news : SlotNews) → Both 1 s → Both 1 (hears s news).state
   unfolding hears promises
@@ -226,9 +223,7 @@ module _ (A : BlockId → Type 0) (M : GroupMapState → Type 0) (B : Fact) (P :
       ends_fetch-keeps r at (next.Read segment) =
           fetched-keeps A M B P Q k (with_reading s r) (kept s (with_reading s r) (with_reading-keeps (needed s.call) s r) asks) p
           at.block (may at.block) (value_at segment at.item)
-      ends_fetch-keeps r at next.Wait = p
-      ends_fetch-keeps r at next.Ask = p
-      ends_fetch-keeps r at next.Lost = p
+      ends_fetch-keeps r at _ = p
 
       told_at-keeps : (at : Option BlockAt) (h : Heard) → Kept (told_at s at h)
       told_at-keeps None h = p
@@ -237,10 +232,7 @@ module _ (A : BlockId → Type 0) (M : GroupMapState → Type 0) (B : Fact) (P :
       on_told-keeps : (from : NodeId) (ask : ℕ) (t : Told) → Kept (on_told s from ask t)
       unfolding told_by
       on_told-keeps (node.Server server) ask t = told_at-keeps (block_read (reading_in s.call)) (heard (reading_in s.call) s.maps.groups ask server t)
-      on_told-keeps (node.Client c) ask t = p
-      on_told-keeps (node.Manager m) ask t = p
-      on_told-keeps node.Cleaner ask t = p
-      on_told-keeps node.Registry ask t = p
+      on_told-keeps _ ask t = p
 
     -- ---- a packet
 
@@ -263,26 +255,7 @@ module _ (A : BlockId → Type 0) (M : GroupMapState → Type 0) (B : Fact) (P :
     on_body-keeps from (body.Missing m) arrives brings = less (on_missing s from m) (on_told-keeps arrives from m.ask (tells.Missing m.generation))
     on_body-keeps from (body.MapNews m) arrives brings = inl (on_news-keeps s m brings both)
     on_body-keeps from (body.Welcome m) arrives brings = inl (on_welcome-keeps s m brings both)
-    on_body-keeps from (body.Want m) arrives brings = unmoved
-    on_body-keeps from (body.Gave m) arrives brings = unmoved
-    on_body-keeps from (body.Deltas m) arrives brings = unmoved
-    on_body-keeps from (body.Report m) arrives brings = unmoved
-    on_body-keeps from (body.Store m) arrives brings = unmoved
-    on_body-keeps from (body.Fetch m) arrives brings = unmoved
-    on_body-keeps from (body.Fence m) arrives brings = unmoved
-    on_body-keeps from (body.Fenced m) arrives brings = unmoved
-    on_body-keeps from (body.List m) arrives brings = unmoved
-    on_body-keeps from (body.Listed m) arrives brings = unmoved
-    on_body-keeps from (body.Delete m) arrives brings = unmoved
-    on_body-keeps from (body.Deleted m) arrives brings = unmoved
-    on_body-keeps from (body.Check m) arrives brings = unmoved
-    on_body-keeps from (body.Live m) arrives brings = unmoved
-    on_body-keeps from (body.Dead m) arrives brings = unmoved
-    on_body-keeps from (body.UsageAsk m) arrives brings = unmoved
-    on_body-keeps from (body.Usage m) arrives brings = unmoved
-    on_body-keeps from (body.Hello m) arrives brings = unmoved
-    on_body-keeps from (body.CkptDone m) arrives brings = unmoved
-    on_body-keeps from (body.CkptAck m) arrives brings = unmoved
+    on_body-keeps from _ arrives brings = unmoved
 
     pub on_packet-keeps : (packet : Packet) → Arrives A s packet.body → BringsMaps M packet.body → KeptOrFresh A M B P Q k (on_packet s packet).state
     unfolding on_packet asks_for_maps

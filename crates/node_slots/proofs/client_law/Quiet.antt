@@ -35,12 +35,10 @@ IsQuiet s t = (b : BlockId) → IsSame (held_of s.blocks b) (held_of t.blocks b)
 
 -- has the client neither seal nor read, nor cache
 abbrev pub IsSilent : Out → Type 0
-IsSilent (Want block req again mode) = Unit {0}
-IsSilent (Gave block stamp) = Unit {0}
-IsSilent (Supply block ver value) = Unit {0}
 IsSilent (Flush block) = ⊥
 IsSilent (Read block place) = ⊥
 IsSilent (Ready block) = ⊥
+IsSilent _ = Unit {0}
 
 pub record GoesQuietly (s : TokensState) (d : Done) : Type 0 where
   pub quiet : IsQuiet s d.state

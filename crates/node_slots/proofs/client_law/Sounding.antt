@@ -95,10 +95,7 @@ confirmed_next-sound s r next.Lost p = lost s r.target.block p
     lost : (s : Serving) (at : Option BlockAt) → Sound s → Sound (loses_at s at r.target.seg.name).state
     lost s None p = p
     lost s (Some at) p = loses-sound s at.block r.target.seg.name p
-confirmed_next-sound s r next.Ask p = p
-confirmed_next-sound s r next.Wait p = p
-confirmed_next-sound s r next.Again p = p
-confirmed_next-sound s r (next.Read segment) p = p
+confirmed_next-sound s r _ p = p
 
 drawn_after-sound : (s : Serving) (stage : Stage) → Sound s → Sound (drawn_after s stage)
 drawn_after-sound s Between p = p
@@ -140,12 +137,10 @@ seals-sound s p = p
 
 follows_one-sound : (s : Serving) (o : Out) → Sound s → Sound (follows_one s o).state
 unfolding follows_one
-follows_one-sound s (Want block req again mode) p = p
-follows_one-sound s (Gave block stamp) p = p
 follows_one-sound s (Flush block) p = seals-sound s p
 follows_one-sound s (Read block place) p = reads-sound s block place p
 follows_one-sound s (Ready block) p = notes_copy-sound s block p
-follows_one-sound s (Supply block ver value) p = p
+follows_one-sound s _ p = p
 
 pub follows-sound : (s : Serving) (outs : List Out) → Sound s → Sound (follows s outs).state
 unfolding follows

@@ -57,9 +57,7 @@ may_say owner to _ may = refl
 
 may_do : (owner : Owner) (effect : Effect) → MayDo owner effect → Says IsUntold effect
 may_do owner (Send to said) may = may_say owner to said may
-may_do owner (Answer item answer) may = tt
-may_do owner (Lose seg) may = tt
-may_do owner (Does act) may = tt
+may_do owner _ may = tt
 
 opening_says : (owner : Owner) (w : Went) → Behaves owner w → AllSay IsUntold w.effects
 opening_says owner w b = all_weaker (MayDo owner) (Says IsUntold) (may_do owner) w.effects b.does

@@ -223,18 +223,14 @@ module _ (part : ℕ) (texts : Texts) (asked : Questions) (brought : Brought) (d
   pub other_checks : (n : Net) (p : SlotPhase) (check : Check) → (slot_of check.block.ino.0 ≡ part → ⊥) → AllDone part texts asked n (on_check p check).outs
   unfolding on_check
   other_checks n (phase.Active a) check other = check_done n check a.slot.epoch (slot.transition a.slot (check_input check)).outs other
-  other_checks n (phase.Away epoch) check other = tt
-  other_checks n (phase.Taking t) check other = tt
-  other_checks n (phase.Broken epoch seg) check other = tt
+  other_checks n _ check other = tt
 
   -- ---- what other slots say
 
   pub other_takes : (n : Net) (k : ℕ) (p : SlotPhase) (given : Input) → AllDone part texts asked n (takes p k given).outs
   unfolding takes
   other_takes n k (phase.Active a) given = said_done n k a.slot.epoch (slot.transition a.slot given).outs
-  other_takes n k (phase.Away epoch) given = tt
-  other_takes n k (phase.Taking t) given = tt
-  other_takes n k (phase.Broken epoch seg) given = tt
+  other_takes n k _ given = tt
 
   pub other_wants : (n : Net) (p : SlotPhase) (c : ℕ) (want : Want) → AllDone part texts asked n (on_want p c want).outs
   unfolding on_want
@@ -246,6 +242,4 @@ module _ (part : ℕ) (texts : Texts) (asked : Questions) (brought : Brought) (d
   pub usage_done : (n : Net) (p : SlotPhase) (ask : UsageAsk) → AllDone part texts asked n (on_usage_ask p ask)
   unfolding on_usage_ask
   usage_done n (phase.Active a) ask = (tt, tt)
-  usage_done n (phase.Away epoch) ask = tt
-  usage_done n (phase.Taking t) ask = tt
-  usage_done n (phase.Broken epoch seg) ask = tt
+  usage_done n _ ask = tt

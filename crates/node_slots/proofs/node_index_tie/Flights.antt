@@ -158,12 +158,10 @@ module _ (s : LogState) where
 
   -- what is not a write of anything new
   pub log_went : s.dirty ≡ [] → (i : In) → IsHeard i → Went (transition s i)
-  log_went none (Put block entry value) bars = absurd bars
-  log_went none (Parts items) bars = absurd bars
-  log_went none Seal bars = absurd bars
   log_went none (Acked name index generation) bars = acked_went none name index generation
   log_went none (Maps groups) bars = maps_went none groups
   log_went none Tick bars = tick_went
+  log_went none _ bars = absurd bars
 
   -- ---- a segment of just these items
 

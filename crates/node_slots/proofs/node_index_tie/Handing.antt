@@ -112,9 +112,7 @@ module _ (part : ℕ) (texts : Texts) (n : Net) where
 
   abbrev pub OwesAt : SlotPhase → Input → Type 0
   OwesAt (phase.Taking t) given = Owes t.epoch t.take given
-  OwesAt (phase.Active a) given = Unit {0}
-  OwesAt (phase.Away epoch) given = Unit {0}
-  OwesAt (phase.Broken epoch seg) given = Unit {0}
+  OwesAt _ given = Unit {0}
 
   -- ---- one input more
 

@@ -116,31 +116,23 @@ module _ (part : ℕ) (texts : Texts) (questions : Questions) (exists : part < s
     unfolding serving.on_want
     serves_want n s (Client c) want agrees filed = by_table n s agrees (table.on_want s.slots c want)
         (table_wants part texts questions exists brought (desk_of s agrees.given) n s.slots c want (table_of n s agrees filed))
-    serves_want n s (Manager c) want agrees filed = still_of part texts questions exists brought n s agrees
-    serves_want n s (Server c) want agrees filed = still_of part texts questions exists brought n s agrees
-    serves_want n s Cleaner want agrees filed = still_of part texts questions exists brought n s agrees
-    serves_want n s Registry want agrees filed = still_of part texts questions exists brought n s agrees
+    serves_want n s _ want agrees filed = still_of part texts questions exists brought n s agrees
 
     serves_gave : (n : Net) (s : Serving) (from : NodeId) (gave : Gave) → ServingAgrees part texts n s → AreTexts texts n.filed
         → Of part texts questions exists brought n s (serving.on_gave s (serving.client_in from) gave)
     unfolding serving.on_gave
     serves_gave n s (Client c) gave agrees filed = by_table n s agrees (table.on_gave s.slots c gave)
         (table_gaves part texts questions exists brought (desk_of s agrees.given) n s.slots c gave (table_of n s agrees filed))
-    serves_gave n s (Manager c) gave agrees filed = still_of part texts questions exists brought n s agrees
-    serves_gave n s (Server c) gave agrees filed = still_of part texts questions exists brought n s agrees
-    serves_gave n s Cleaner gave agrees filed = still_of part texts questions exists brought n s agrees
-    serves_gave n s Registry gave agrees filed = still_of part texts questions exists brought n s agrees
+    serves_gave n s _ gave agrees filed = still_of part texts questions exists brought n s agrees
 
     serves_deltas : (j : ℕ) (n : Net) (s : Serving) (from : NodeId) (m : Deltas) → ServingAgrees part texts n s → AreTexts texts n.filed
         → DeltasGets part texts questions j n from m → Of part texts questions exists brought n s (serving.on_deltas s (serving.fed_log from) m)
     unfolding serving.on_deltas
     serves_deltas j n s (Client c) m agrees filed gets = by_table n s agrees (table.on_deltas s.slots (record { 0 = c }) m)
         (table_deltas part texts questions exists brought (desk_of s agrees.given) n s.slots (record { 0 = c }) m (table_of n s agrees filed) gets)
-    serves_deltas j n s (Manager c) m agrees filed gets = still_of part texts questions exists brought n s agrees
-    serves_deltas j n s (Server c) m agrees filed gets = still_of part texts questions exists brought n s agrees
     serves_deltas j n s Cleaner m agrees filed gets = by_table n s agrees (table.on_deltas s.slots cleaner_log m)
         (table_deltas part texts questions exists brought (desk_of s agrees.given) n s.slots cleaner_log m (table_of n s agrees filed) gets)
-    serves_deltas j n s Registry m agrees filed gets = still_of part texts questions exists brought n s agrees
+    serves_deltas j n s _ m agrees filed gets = still_of part texts questions exists brought n s agrees
 
     serves_check : (n : Net) (s : Serving) (check : Check) → ServingAgrees part texts n s → AreTexts texts n.filed
         → (slot_of check.block.ino.0 ≡ part → CheckKnown part questions n check) → Of part texts questions exists brought n s (serving.on_check s check)
@@ -167,9 +159,7 @@ module _ (part : ℕ) (texts : Texts) (questions : Questions) (exists : part < s
         → AnswerGets part texts questions j n p ask given → fetch_in p ask ≡ Some own → OwesAt part texts n p (given own)
     owes_answer j n (phase.Taking t) ask own given none gets fact = record
         { brings = λ r b. absurd (none own r b); reads = λ s done. gets t own s refl fact done }
-    owes_answer j n (phase.Active a) ask own given none gets fact = tt
-    owes_answer j n (phase.Away epoch) ask own given none gets fact = tt
-    owes_answer j n (phase.Broken epoch seg) ask own given none gets fact = tt
+    owes_answer j n _ ask own given none gets fact = tt
 
     serves_answer : brought.ends → (j : ℕ) (n : Net) (s : Serving) (ask : ℕ) (given : ℕ → TakeoverIn) → ServingAgrees part texts n s → AreTexts texts n.filed
         → ((own : ℕ) (r : Heard) → Brings (given own) r → ⊥) → AnswerGets part texts questions j n (phase_at s.slots part) ask given

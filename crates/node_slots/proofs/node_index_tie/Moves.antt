@@ -54,9 +54,7 @@ held_is (phase.Broken epoch seg) e h = absurd h
 -- and so is what is managed
 managed_is : (p : SlotPhase) (e : ℕ) → ManagedAt p e → epoch_of p ≡ e
 managed_is (phase.Active a) e h = h
-managed_is (phase.Taking t) e h = absurd h
-managed_is (phase.Away epoch) e h = absurd h
-managed_is (phase.Broken epoch seg) e h = absurd h
+managed_is _ e h = absurd h
 
 -- a slot that stays as it is is managed as before
 pub managed_as : (p q : SlotPhase) → q ≡ p → (e : ℕ) → ManagedAt p e → ManagedAt q e
@@ -96,10 +94,8 @@ module _ (part : ℕ) (n m : Net) (g : Grows n m) where
 
   pub report_on : (epoch : ℕ) (from : NodeId) (end : End) → ReportKnown part n epoch from end → ReportKnown part m epoch from end
   report_on epoch (Client c) end k = end_on epoch c end k
-  report_on epoch (Manager c) end k = tt
-  report_on epoch (Server c) end k = tt
   report_on epoch Cleaner end k = (end_on epoch cleaners_number end k.0, g.sent _ k.1)
-  report_on epoch Registry end k = tt
+  report_on epoch _ end k = tt
 
   pub news_on : (news : SlotNews) → m.slots news.epoch ≡ n.slots news.epoch → NewsKnown part n news → NewsKnown part m news
   news_on news same k = record {
@@ -141,9 +137,7 @@ module _ (part : ℕ) (texts : Texts) (asked : Questions) where
 
   does_on : (n m : Net) → Grows n m → (e : Effect) → DoesAt n e → DoesAt m e
   does_on n m g (Send to b) h = sends_on n m g b h
-  does_on n m g (Answer item answer) h = tt
-  does_on n m g (Lose seg) h = tt
-  does_on n m g (Does act) h = tt
+  does_on n m g _ h = tt
 
   pub done_on : (n m : Net) → Grows n m → (outs : List Effect) → AllDone n outs → AllDone m outs
   done_on n m g outs h = all_weaker (DoesAt n) (DoesAt m) (does_on n m g) outs h

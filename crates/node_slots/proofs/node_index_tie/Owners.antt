@@ -112,10 +112,7 @@ owners_tell part n l feed managers some limit k = record {
 -- an input that settles nothing
 IsQuiet : In → Type 0
 IsQuiet (Settled seq rows) = ⊥
-IsQuiet (Ack slot applied) = Unit {0}
-IsQuiet (NewEpoch slot) = Unit {0}
-IsQuiet (Push slot) = Unit {0}
-IsQuiet Tick = Unit {0}
+IsQuiet _ = Unit {0}
 
 quiet_numbers : (xs : List In) (i : In) → IsQuiet i → settled_numbers (xs ++ i ∷ []) ≡ settled_numbers xs
 unfolding IsQuiet

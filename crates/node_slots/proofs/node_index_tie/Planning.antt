@@ -406,9 +406,6 @@ module _ (part : ℕ) (texts : Texts) (questions : Questions) (exists : part < s
 
       begins_there : (p : SlotPhase) → Serves part texts questions exists brought n s (node.writes_slot cleaned_there (begin_in k p))
       unfolding node.writer_takes node.says_each
-      begins_there (phase.Away e) = stays_there
-      begins_there (phase.Taking t) = stays_there
-      begins_there (phase.Broken e seg) = stays_there
       begins_there (phase.Active a) =
           by_test (λ (r : Stepped WriterState Out). Serves part texts questions exists brought n s (node.said_by cleaned_there r)) (is_idle s.writer)
           (go_on (record s.writer { number = s.writer.number + 1 })
@@ -431,6 +428,7 @@ module _ (part : ℕ) (texts : Texts) (questions : Questions) (exists : part < s
         where
           refused : Serves part texts questions exists brought n s (node.said_by cleaned_there (still s.writer))
           refused = stays_there
+      begins_there _ = stays_there
 
     -- ---- any slot
 

@@ -74,11 +74,9 @@ module _ (part : ℕ) (texts : Texts) where
 
   pub read_on : (s : TakeState) (r : Read) (i : Input) → AllRead r → ((x : Segment) → completes s i ≡ Some x → IsRead part texts x)
       → AllRead (read_after s r i)
-  read_on s r (input.Report from held end) all owed = all
   read_on s r (input.Got ask server generation fragment) all owed = read_by_all s r ask server (Held fragment) all owed
   read_on s r (input.Missing ask server generation) all owed = read_by_all s r ask server (Lacks generation) all owed
-  read_on s r (input.Maps groups) all owed = all
-  read_on s r input.Tick all owed = all
+  read_on s r _ all owed = all
 
   -- ---- what was read tells
 

@@ -62,10 +62,8 @@ module _ (part : ℕ) (texts : Texts) (n m : Net) (held : SlotPhase) (t : Passes
 
     report_stays : (from : NodeId) (end : End) → ReportKnown part n epoch from end → ReportKnown part m epoch from end
     report_stays (Client c) end k = end_stays c end k
-    report_stays (Manager c) end k = tt
-    report_stays (Server c) end k = tt
     report_stays Cleaner end k = (end_stays cleaners_number end k.0, t.sent _ k.1)
-    report_stays Registry end k = tt
+    report_stays _ end k = tt
 
   -- ---- the slot
 

@@ -212,9 +212,7 @@ module _ (part : ℕ) (texts : Texts) (asked : Questions) (exists : part < slot_
   -- newer groups bring nothing
   regroup_owes : (n : Net) (p : SlotPhase) (groups : GroupMapState) → OwesAt part texts n p (input.Maps groups)
   regroup_owes n (phase.Taking t) groups = record { brings = λ r fact. absurd fact; reads = λ s fact. absurd (let clash : None ≡ Some s = fact in cc) }
-  regroup_owes n (phase.Active a) groups = tt
-  regroup_owes n (phase.Away epoch) groups = tt
-  regroup_owes n (phase.Broken epoch seg) groups = tt
+  regroup_owes n _ groups = tt
 
   -- and end no takeover
   table_regroup : (n : Net) (groups : GroupMapState) (a : TableAsker) (k : ℕ) → TableAgrees n a.table

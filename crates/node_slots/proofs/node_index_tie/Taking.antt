@@ -186,6 +186,4 @@ module _ (part : ℕ) (texts : Texts) (asked : Questions) where
     pub asks_managed : (k : ℕ) (p : SlotPhase) (q : Numbers) (polls : Bool) (e : ℕ) → ManagedAt p e → ManagedAt (asks_again (asker p q) k polls).state.phase e
     unfolding asks_again heard says_each
     asks_managed k (phase.Active a) q polls e h = h
-    asks_managed k (phase.Taking t) q polls e h = absurd h
-    asks_managed k (phase.Away epoch) q polls e h = absurd h
-    asks_managed k (phase.Broken epoch seg) q polls e h = absurd h
+    asks_managed k _ q polls e h = absurd h

@@ -187,25 +187,19 @@ module _ (part : ℕ) (texts : Texts) (questions : Questions) (exists : part < s
       unfolding named_phase
       named_held (phase.Active a) e h = by_test (λ q. HeldAt q e → HeldAt (phase.Active a) e) (a.slot.epoch == w.epoch)
           (phase.Active (record a { parts = w.parts })) (phase.Active a) (λ _ k. k) (λ _ k. k) h
-      named_held (phase.Taking t) e h = h
-      named_held (phase.Away x) e h = h
-      named_held (phase.Broken x seg) e h = h
+      named_held _ e h = h
 
       named_managed : (p : SlotPhase) (e : ℕ) → ManagedAt p e → ManagedAt (named_phase w.epoch w.parts p) e
       unfolding named_phase
       named_managed (phase.Active a) e h = by_test (λ q. ManagedAt q e) (a.slot.epoch == w.epoch) (phase.Active (record a { parts = w.parts })) (phase.Active a)
           (λ _. h) (λ _. h)
-      named_managed (phase.Taking t) e h = h
-      named_managed (phase.Away x) e h = h
-      named_managed (phase.Broken x seg) e h = h
+      named_managed _ e h = h
 
       named_epoch : (p : SlotPhase) → epoch_of (named_phase w.epoch w.parts p) ≡ epoch_of p
       unfolding named_phase
       named_epoch (phase.Active a) = by_test (λ q. epoch_of q ≡ epoch_of (phase.Active a)) (a.slot.epoch == w.epoch)
           (phase.Active (record a { parts = w.parts })) (phase.Active a) (λ _. refl) (λ _. refl)
-      named_epoch (phase.Taking t) = refl
-      named_epoch (phase.Away x) = refl
-      named_epoch (phase.Broken x seg) = refl
+      named_epoch _ = refl
 
       done_awaited : (m : Net) → CkptSeen part m done → (o : Option Checkpointing) → DoneSeen part m (node.awaiting done o)
       done_awaited m seen None = tt

@@ -72,12 +72,10 @@ module _ (n : Need) where
 
   pub follows_one-keeps : (s : Serving) (o : Out) → IsQuiet o → Keeps n s (follows_one s o).state
   unfolding follows_one
-  follows_one-keeps s (Want block req again mode) q = keeps_same n s
-  follows_one-keeps s (Gave block stamp) q = keeps_same n s
   follows_one-keeps s (Flush block) q = seals-keeps s
   follows_one-keeps s (Read block place) q = absurd q
   follows_one-keeps s (Ready block) q = notes_copy-keeps s block
-  follows_one-keeps s (Supply block ver value) q = keeps_same n s
+  follows_one-keeps s _ q = keeps_same n s
 
   pub follows-keeps : (s : Serving) (outs : List Out) → Each IsQuiet outs → Keeps n s (follows s outs).state
   unfolding follows

@@ -35,26 +35,12 @@ pub record AsksAs (n : Need) (t : TokensState) : Type 0 where
 abbrev pub InputSuits : Need → In → Type 0
 InputSuits n (input.Need block mode) = n ≡ Some (block, mode)
 InputSuits n (input.Granted block stamp inc req mode entry) = ⊥
-InputSuits n (input.Supplied block stamp inc req ver value) = Unit {0}
-InputSuits n (input.Forwarded block stamp ver) = Unit {0}
-InputSuits n (input.Recalled block stamp keep) = Unit {0}
-InputSuits n (input.Wrote block value) = Unit {0}
-InputSuits n (input.Settled block ver) = Unit {0}
-InputSuits n (input.Fetched block value) = Unit {0}
-InputSuits n (input.Evict block) = Unit {0}
-InputSuits n (input.Reask block) = Unit {0}
-InputSuits n (input.Quit block) = Unit {0}
-InputSuits n (input.Promise slot epoch) = Unit {0}
-InputSuits n input.Tick = Unit {0}
+InputSuits n _ = Unit {0}
 
 -- what has a block read that is needed
 abbrev pub ReadSuits : Need → Out → Type 0
-ReadSuits n (Want block req again mode) = Unit {0}
-ReadSuits n (Gave block stamp) = Unit {0}
-ReadSuits n (Supply block ver value) = Unit {0}
-ReadSuits n (Flush block) = Unit {0}
 ReadSuits n (Read block place) = n ≡ Some (block, Copy)
-ReadSuits n (Ready block) = Unit {0}
+ReadSuits n _ = Unit {0}
 
 -- one out at most, and what it has read is needed
 abbrev pub OneRead : Need → List Out → Type 0

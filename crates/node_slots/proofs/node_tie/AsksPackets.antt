@@ -86,9 +86,7 @@ module _ (n : Need) where
   ends_fetch-keeps : (s : Serving) (at : BlockAt) (does : Next) → KeepsAll s (ends_fetch s at does)
   ends_fetch-keeps s at next.Again = hands-keeps n s (tokens.Reask at.block) tt
   ends_fetch-keeps s at (next.Read segment) = hands-keeps n s (tokens.Fetched at.block (value_at segment at.item)) tt
-  ends_fetch-keeps s at next.Wait = keeps_same n s
-  ends_fetch-keeps s at next.Ask = keeps_same n s
-  ends_fetch-keeps s at next.Lost = keeps_same n s
+  ends_fetch-keeps s at _ = keeps_same n s
 
   told_at-keeps : (s : Serving) (at : Option BlockAt) (h : Heard) → KeepsAll s (told_at s at h)
   told_at-keeps s None h = keeps_same n s
@@ -102,10 +100,7 @@ module _ (n : Need) where
 
   on_told-keeps : (s : Serving) (from : NodeId) (ask : ℕ) (t : Told) → KeepsAll s (on_told s from ask t)
   on_told-keeps s (node.Server server) ask t = told_by-keeps s server ask t
-  on_told-keeps s (node.Client c) ask t = keeps_same n s
-  on_told-keeps s (node.Manager m) ask t = keeps_same n s
-  on_told-keeps s node.Cleaner ask t = keeps_same n s
-  on_told-keeps s node.Registry ask t = keeps_same n s
+  on_told-keeps s _ ask t = keeps_same n s
 
   on_found-keeps : (s : Serving) (from : NodeId) (f : Found) → KeepsAll s (on_found s from f)
   on_found-keeps s from f = on_told-keeps s from f.ask (told.Held f.fragment)
@@ -147,10 +142,7 @@ module _ (n : Need) where
 
   on_poll-keeps : (s : Serving) (from : NodeId) (p : Poll) → KeepsAll s (on_poll s from p)
   on_poll-keeps s (node.Manager manager) p = polled-keeps s manager p
-  on_poll-keeps s (node.Client c) p = keeps_same n s
-  on_poll-keeps s (node.Server m) p = keeps_same n s
-  on_poll-keeps s node.Cleaner p = keeps_same n s
-  on_poll-keeps s node.Registry p = keeps_same n s
+  on_poll-keeps s _ p = keeps_same n s
 
   hears-keeps : (s : Serving) (news : SlotNews) → KeepsAll s (hears s news)
   unfolding hears
@@ -234,26 +226,7 @@ module _ (s : Serving) (p : AsksForCall s) where
   on_body-asks from (body.Missing m) = keeps_asks (on_missing s from m) (on_missing-keeps (needed s.call) s from m)
   on_body-asks from (body.MapNews m) = keeps_asks (on_news s m) (on_news-keeps (needed s.call) s m)
   on_body-asks from (body.Welcome m) = keeps_asks (on_welcome s m) (on_welcome-keeps (needed s.call) s m)
-  on_body-asks from (body.Want m) = p
-  on_body-asks from (body.Gave m) = p
-  on_body-asks from (body.Deltas m) = p
-  on_body-asks from (body.Report m) = p
-  on_body-asks from (body.Store m) = p
-  on_body-asks from (body.Fetch m) = p
-  on_body-asks from (body.Fence m) = p
-  on_body-asks from (body.Fenced m) = p
-  on_body-asks from (body.List m) = p
-  on_body-asks from (body.Listed m) = p
-  on_body-asks from (body.Delete m) = p
-  on_body-asks from (body.Deleted m) = p
-  on_body-asks from (body.Check m) = p
-  on_body-asks from (body.Live m) = p
-  on_body-asks from (body.Dead m) = p
-  on_body-asks from (body.UsageAsk m) = p
-  on_body-asks from (body.Usage m) = p
-  on_body-asks from (body.Hello m) = p
-  on_body-asks from (body.CkptDone m) = p
-  on_body-asks from (body.CkptAck m) = p
+  on_body-asks from _ = p
 
   pub on_packet-asks : (packet : Packet) → StillAsks (on_packet s packet)
   unfolding on_packet

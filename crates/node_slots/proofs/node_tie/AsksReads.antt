@@ -85,16 +85,11 @@ module _ (block : BlockId) where
   confirmed_next-asks : (s : Serving) (r : ReadingState) (then_next : Next) → IsAt block r.target.block → ReadsFor block s
       → AsksForCall (confirmed_next s r then_next).state
   confirmed_next-asks s r next.Lost here p = loses_at-asks s r.target.block r.target.seg.name here p
-  confirmed_next-asks s r next.Ask here p = with_reading-asks s (Some r) p.asks
-  confirmed_next-asks s r next.Wait here p = with_reading-asks s (Some r) p.asks
-  confirmed_next-asks s r next.Again here p = with_reading-asks s (Some r) p.asks
-  confirmed_next-asks s r (next.Read segment) here p = with_reading-asks s (Some r) p.asks
+  confirmed_next-asks s r _ here p = with_reading-asks s (Some r) p.asks
 
   drawn_after-reads : (s : Serving) (stage : Stage) → ReadsFor block s → ReadsFor block (drawn_after s stage)
   drawn_after-reads s Between p = record { asks = draws-asks s p.asks; needs = p.needs }
-  drawn_after-reads s Asking p = p
-  drawn_after-reads s Doubted p = p
-  drawn_after-reads s Over p = p
+  drawn_after-reads s _ p = p
 
   confirms-asks : (s : Serving) (r : ReadingState) → IsAt block r.target.block → ReadsFor block s → AsksForCall (confirms s r).state
   unfolding confirms
@@ -133,12 +128,10 @@ module _ (block : BlockId) where
 
 follows_one-asks : (s : Serving) (o : Out) → AsksForCall s → ReadSuits (needed s.call) o → AsksForCall (follows_one s o).state
 unfolding follows_one
-follows_one-asks s (Want block req again mode) p q = p
-follows_one-asks s (Gave block stamp) p q = p
-follows_one-asks s (Supply block ver value) p q = p
 follows_one-asks s (Flush block) p q = kept s (follows_one s (Flush block)).state (follows_one-keeps (needed s.call) s (Flush block) tt) p
 follows_one-asks s (Read block place) p q = reads-asks block s place (record { asks = p; needs = q })
 follows_one-asks s (Ready block) p q = kept s (follows_one s (Ready block)).state (follows_one-keeps (needed s.call) s (Ready block) tt) p
+follows_one-asks s _ p q = p
 
 follows-asks : (s : Serving) (outs : List Out) → AsksForCall s → OneRead (needed s.call) outs → AsksForCall (follows s outs).state
 unfolding follows

@@ -29,12 +29,8 @@ AllSuit n t = (b : BlockId) → Suits n b (held_of t.blocks b)
 
 -- has no block read
 abbrev pub IsQuiet : Out → Type 0
-IsQuiet (Want block req again mode) = Unit {0}
-IsQuiet (Gave block stamp) = Unit {0}
-IsQuiet (Supply block ver value) = Unit {0}
-IsQuiet (Flush block) = Unit {0}
 IsQuiet (Read block place) = ⊥
-IsQuiet (Ready block) = Unit {0}
+IsQuiet _ = Unit {0}
 
 -- a step leaves what is asked for as needed, and has no block read
 pub record GoesOn (n : Need) (d : Done) : Type 0 where

@@ -115,31 +115,13 @@ opens_last k own adopted count =
 
 module _ (logs : Bool) (members part : ℕ) where
   happens_last : (n m : Net) → Happens logs members part n m → Lasts n.books m.books
-  happens_last n m (Acts c end i serves own) = lasts_still n.books
-  happens_last n m (Elsewhere c end i serves other) = lasts_still n.books
-  happens_last n m (Reports c end serves) = lasts_still n.books
-  happens_last n m (GetsCopy c end block stamp inc req entry serves fact) = lasts_still n.books
-  happens_last n m (GetsOwn c end block stamp inc req entry value serves fact accepts room) = lasts_still n.books
-  happens_last n m (Declines c end block stamp inc req entry serves fact accepts) = lasts_still n.books
-  happens_last n m (GetsRecall c end block stamp keep serves fact) = lasts_still n.books
-  happens_last n m (GetsForward c other block stamp inc req ver value pos less fact up serves held) = lasts_still n.books
-  happens_last n m (GetsSupply c end block stamp inc req ver value serves fact) = lasts_still n.books
-  happens_last n m (Fetches c end block value serves there) = lasts_still n.books
-  happens_last n m (Reads c block value pos less up holds held) = lasts_still n.books
-  happens_last n m (Syncs c pos less up clean) = lasts_still n.books
   happens_last n m (Seals c rows pos less up idle newest) = lasts_sealed n.books c rows
   happens_last n m (Files c pos less up flies) = lasts_filed n.books c
-  happens_last n m (GetsDeltas e s log first upto rows at known some covers) = lasts_still n.books
-  happens_last n m (GetsWant e s c inc req again block mode end at fact) = lasts_still n.books
-  happens_last n m (GetsGave e s c block stamp end at fact) = lasts_still n.books
-  happens_last n m (Ticks e s at) = lasts_still n.books
-  happens_last n m (Crashes c flight falls pos less up once so) = lasts_still n.books
   happens_last n m (Returns c inc epochs chain count pos less up later rises flies) = opens_last n.books c (adopts n.acts c chain) count
   happens_last n m (SealsCopies l rows above idle copies) = lasts_sealed n.books l rows
   happens_last n m (FilesCopies l above flies) = lasts_filed n.books l
   happens_last n m (Reopens l adopted count above flies) = opens_last n.books l adopted count
-  happens_last n m (Activates e index applied rows ends order none all each sent gathered) = lasts_still n.books
-  happens_last n m (Says a neutral) = lasts_still n.books
+  happens_last n m _ = lasts_still n.books
 
   pub books_last : (n m : Net) → Runs logs members part n m → Lasts n.books m.books
   books_last n m Begun = lasts_still n.books

@@ -280,10 +280,7 @@ module _ (part limit : ℕ) (small : part < 8) where
   poll_heard : (e : Emptying) (from : NodeId) (m : Poll) → Bears e → (m.slot ≡ part → m.epoch ≤ limit) → ServesOn e (on_poll e from m)
   unfolding on_poll
   poll_heard e (node.Manager manager) m b within = poll_taken e manager m b within
-  poll_heard e (node.Client n) m b within = serves_still e b
-  poll_heard e (node.Server n) m b within = serves_still e b
-  poll_heard e node.Cleaner m b within = serves_still e b
-  poll_heard e node.Registry m b within = serves_still e b
+  poll_heard e _ m b within = serves_still e b
 
   -- ---- the maps
 

@@ -225,9 +225,7 @@ reading_ended e read = job_from e (record e { job = job_read e.job }) _ refl ref
 confirmed_so : (e : Emptying) (n : Next) → JobDoes e (after_confirmed e n)
 confirmed_so e next.Ask = record { says = fetched e.lasting.inc (hand_of e.job); inc = refl; promised = refl }
 confirmed_so e next.Lost = reading_ended e None
-confirmed_so e next.Wait = job_still e
-confirmed_so e next.Again = job_still e
-confirmed_so e (next.Read segment) = job_still e
+confirmed_so e _ = job_still e
 
 confirmed_alike : (e : Emptying) (job : Option Job) (ask : ℕ) → Alike e (confirmed_in e job ask).state
 confirmed_alike e None ask = (refl, refl)

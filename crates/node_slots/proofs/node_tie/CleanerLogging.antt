@@ -154,14 +154,8 @@ module _ (members part : ℕ) (few : members ≤ its_log) where
   job_says k e (out.Finished count) h copies = stays k _ (record { seen = h.seen; waits = h.waits; job = tt })
 
   out_grown : (k m : Books) → Lasts k m → (o : Out) → OutCopies k o → OutCopies m o
-  out_grown k m grown out.Hello copies = tt
-  out_grown k m grown (out.List server) copies = tt
-  out_grown k m grown (out.UsageAsk slot) copies = tt
-  out_grown k m grown (out.Fetch seg) copies = tt
-  out_grown k m grown (out.Check block place) copies = tt
   out_grown k m grown (out.Move blocks) copies = all_weaker (MoveCopies k) (MoveCopies m) (move_grown k m grown) blocks copies
-  out_grown k m grown (out.Delete server name) copies = tt
-  out_grown k m grown (out.Finished count) copies = tt
+  out_grown k m grown _ copies = tt
 
   -- ---- the job takes an input
 
@@ -247,11 +241,8 @@ module _ (members part : ℕ) (few : members ≤ its_log) where
       by_hand (Some hand) = record { seen = h.seen; waits = h.waits; job = its }
 
   confirmed_so : (k : Books) (e : Emptying) (n : Next) → ServesCopies k e → Gone k (after_confirmed e n).state
-  confirmed_so k e next.Ask h = stays k e h
   confirmed_so k e next.Lost h = reading_ended k e None h
-  confirmed_so k e next.Wait h = stays k e h
-  confirmed_so k e next.Again h = stays k e h
-  confirmed_so k e (next.Read segment) h = stays k e h
+  confirmed_so k e _ h = stays k e h
 
   read_again : (k : Books) (e : Emptying) → ServesCopies k e → Gone k (reads_again e).state
   unfolding reads_again confirmed

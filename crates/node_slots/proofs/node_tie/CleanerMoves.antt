@@ -105,10 +105,8 @@ phase_grown k m grown (Checking j seg checks) h =
     all_weaker (λ (c : Check). FateCopies k c.block c.fate) (λ (c : Check). FateCopies m c.block c.fate) (λ c. by c.block c.fate) checks h
   where
     by : (block : BlockId) (fate : Fate) → FateCopies k block fate → FateCopies m block fate
-    by block (Asked value) copy = tt
     by block (Live e value) copy = copy_grown k m grown block _ copy
-    by block Moved copy = tt
-    by block Dead copy = tt
+    by block _ copy = tt
 phase_grown k m grown Greeting h = tt
 phase_grown k m grown (Listing l) h = tt
 phase_grown k m grown (Counting c) h = tt

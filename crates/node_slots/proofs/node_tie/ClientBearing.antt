@@ -84,19 +84,12 @@ module _ (P : BlockId → Option Giving → Type 0) (E : List ℕ → Type 0) (Q
 
   -- what an input has to bring: of a recall that it was sent, of a promise that it may be made; of what isn't clean then, or has no value, that the fact holds
   abbrev pub Allowed : In → Type 0
-  Allowed (Need block mode) = Unit {0}
   Allowed (Granted block stamp inc req mode entry) = is_own mode ≡ true → (h : Held) → Q block h → Q block (owned h stamp entry.ver)
-  Allowed (Supplied block stamp inc req ver value) = Unit {0}
-  Allowed (Forwarded block stamp ver) = Unit {0}
   Allowed (Recalled block stamp keep) = P block (Some (record { stamp = stamp; keep = keep }))
   Allowed (Wrote block value) = (h : Held) → Q block h → Q block (written h value)
   Allowed (Settled block ver) = (h : Held) → Q block h → Q block (version_settled h ver)
-  Allowed (Fetched block value) = Unit {0}
-  Allowed (Evict block) = Unit {0}
-  Allowed (Reask block) = Unit {0}
-  Allowed (Quit block) = Unit {0}
   Allowed (Promise slot epoch) = (epochs : List ℕ) → E epochs → E (slice_set epochs slot epoch)
-  Allowed Tick = Unit {0}
+  Allowed _ = Unit {0}
 
   -- one block changes
   bears_with : (s : TokensState) → Bears s → (block : BlockId) (g : Held) → P block g.giving → Q block g → Bears (with_held s block g)

@@ -46,10 +46,7 @@ module _ (part c life : ℕ) where
   -- what a client does, and was seen, is seen in a world of more packets
   supply_more : (sent more : List Packet) → Within sent more → (to : NodeId) (m : _) → SupplySeen part sent to m → SupplySeen part more to m
   supply_more sent more w (Client n) m h = λ inside. w _ (h inside)
-  supply_more sent more w (Manager n) m h = h
-  supply_more sent more w (Server n) m h = h
-  supply_more sent more w Cleaner m h = h
-  supply_more sent more w Registry m h = h
+  supply_more sent more w _ m h = h
 
   sends_more : (sent more : List Packet) → Within sent more → (to : NodeId) (m : Body) → ClientSends part sent c life to m → ClientSends part more c life to m
   sends_more sent more w to (body.Want m) h = λ inside. w _ (h inside)
@@ -65,9 +62,7 @@ module _ (part c life : ℕ) where
 
   pub does_more : (sent more : List Packet) → Within sent more → (e : Effect) → ClientDoes part sent c life e → ClientDoes part more c life e
   does_more sent more w (Send to m) h = sends_more sent more w to m h
-  does_more sent more w (Answer item answer) h = h
-  does_more sent more w (Lose seg) h = h
-  does_more sent more w (Does act) h = h
+  does_more sent more w _ h = h
 
   pub all_more : (sent more : List Packet) → Within sent more → (es : List Effect) → All (ClientDoes part sent c life) es
       → All (ClientDoes part more c life) es

@@ -197,9 +197,7 @@ module _ (logs : Bool) (members part limit c life room highest : ℕ) (pos : 0 <
   ends_fetch_so n s at next.Again brings h =
       tokens.hands_own logs members part limit c life room highest pos less n s (input.Reask at.block) tt (λ u. refl) tt h
   ends_fetch_so n s at (next.Read segment) brings h = read_so n s at.block (value_at segment at.item) brings h
-  ends_fetch_so n s at next.Wait brings h = still_so n s h
-  ends_fetch_so n s at next.Ask brings h = still_so n s h
-  ends_fetch_so n s at next.Lost brings h = still_so n s h
+  ends_fetch_so n s at _ brings h = still_so n s h
 
   told_at_so : (n : Net) (s : Serving) (at : Option BlockAt) (x : Heard) → Premise logs (BringsRead n.books s at x.next) → At n s → Goes n (told_at s at x)
   told_at_so n s None x brings h = still_so n s h
@@ -219,10 +217,7 @@ module _ (logs : Bool) (members part limit c life room highest : ℕ) (pos : 0 <
 
   on_told_so : (n : Net) (s : Serving) (from : NodeId) (ask : ℕ) (t : Told) → Premise logs (Tells n.books s from ask t) → At n s → Goes n (on_told s from ask t)
   on_told_so n s (node.Server server) ask t brings h = told_by_so n s server ask t brings h
-  on_told_so n s (node.Client k) ask t brings h = still_so n s h
-  on_told_so n s (node.Manager k) ask t brings h = still_so n s h
-  on_told_so n s node.Cleaner ask t brings h = still_so n s h
-  on_told_so n s node.Registry ask t brings h = still_so n s h
+  on_told_so n s _ ask t brings h = still_so n s h
 
   pub on_found_so : (n : Net) (s : Serving) (from : NodeId) (f : Found) → Premise logs (Tells n.books s from f.ask (told.Held f.fragment)) → At n s
       → Goes n (on_found s from f)

@@ -45,40 +45,14 @@ module _ (part c life : ℕ) (owner : Owner) (same : owner.inc ≡ life) where
   may_say to (body.Report m) h = absurd h
   may_say to (body.Supply m) h = absurd h
   may_say to (body.Deltas m) h = absurd h
-  may_say to (body.Grant m) h = h
-  may_say to (body.Forward m) h = h
-  may_say to (body.Recall m) h = h
-  may_say to (body.Gone m) h = h
-  may_say to (body.DeltaAck m) h = h
-  may_say to (body.Poll m) h = h
-  may_say to (body.Stored m) h = h
-  may_say to (body.Fragment m) h = h
-  may_say to (body.Missing m) h = h
-  may_say to (body.Fenced m) h = h
-  may_say to (body.List m) h = h
-  may_say to (body.Listed m) h = h
-  may_say to (body.Delete m) h = h
-  may_say to (body.Deleted m) h = h
-  may_say to (body.Check m) h = h
-  may_say to (body.Live m) h = h
-  may_say to (body.Dead m) h = h
-  may_say to (body.UsageAsk m) h = h
-  may_say to (body.Usage m) h = h
-  may_say to (body.Welcome m) h = h
-  may_say to (body.MapNews m) h = h
-  may_say to (body.CkptDone m) h = h
-  may_say to (body.CkptAck m) h = h
+  may_say to _ h = h
 
   neutral : (a : Act) → MayAct a → IsNeutral a
   neutral (act.Filed seg) h = tt
-  neutral (act.Wrote client block value) h = h
-  neutral (act.Read client block ver value) h = h
-  neutral (act.Synced client) h = h
-  neutral (act.Fell client flight falls) h = h
-  neutral (act.Back client chain) h = h
   neutral (act.Lost node seg) h = tt
   neutral (act.Dropped seg) h = tt
   neutral (act.Answered node item answer) h = tt
+  neutral _ h = h
 
   may_do : (e : Effect) → MayDo owner e → May part c life e
   may_do (Send to b) h = may_say to b h

@@ -134,11 +134,7 @@ promise_kept s slot epoch eight small may =
 
 abbrev IsWant : outputs.Out → Type 0
 IsWant (output.Want block req again mode) = Unit {0}
-IsWant (output.Gave block stamp) = ⊥
-IsWant (output.Supply block ver value) = ⊥
-IsWant (output.Flush block) = ⊥
-IsWant (output.Read block place) = ⊥
-IsWant (output.Ready block) = ⊥
+IsWant _ = ⊥
 
 wants_on : (xs ys : List outputs.Out) → AllByRecursion IsWant xs → AllByRecursion IsWant ys → AllByRecursion IsWant (xs ++ ys)
 wants_on [] ys h k = k
@@ -301,10 +297,7 @@ module _ (logs : Bool) (members part limit c life room highest : ℕ) (small : p
   pub on_poll_so : (n : Net) (s : Serving) (from : NodeId) (p : Poll) → PollSeen part n.sent limit p → AsksForCall s → has_room s.tokens.req ≡ true → At n s
       → Goes n (on_poll s from p)
   on_poll_so n s (node.Manager manager) p fits asks room h = polled_so n s manager p fits asks room h
-  on_poll_so n s (node.Client k) p fits asks room h = still_so n s h
-  on_poll_so n s (node.Server k) p fits asks room h = still_so n s h
-  on_poll_so n s node.Cleaner p fits asks room h = still_so n s h
-  on_poll_so n s node.Registry p fits asks room h = still_so n s h
+  on_poll_so n s _ p fits asks room h = still_so n s h
 
   -- ---- news
 

@@ -129,11 +129,7 @@ neutral_after (act.Lost node seg) fact h = refl
 neutral_after (act.Filed seg) fact h = refl
 neutral_after (act.Dropped seg) fact h = refl
 neutral_after (act.Answered node item answer) fact h = refl
-neutral_after (act.Wrote client block value) fact h = absurd fact
-neutral_after (act.Read client block ver value) fact h = absurd fact
-neutral_after (act.Synced client) fact h = absurd fact
-neutral_after (act.Fell client flight falls) fact h = absurd fact
-neutral_after (act.Back client chain) fact h = absurd fact
+neutral_after _ fact h = absurd fact
 
 neutral_history : (done : List Act) → AllByRecursion IsNeutral done → (h : History) → history_after done h ≡ h
 neutral_history [] all h = refl

@@ -172,10 +172,7 @@ module _ (logs : Bool) (members part limit c life room highest : ℕ) where
   abbrev pub OutSeen : List Packet → ℕ → outputs.Out → Type 0
   OutSeen sent end (output.Want block req again mode) = SentOf part sent block (WantSent c life req again block mode end)
   OutSeen sent end (output.Gave block stamp) = SentOf part sent block (GaveSent c block stamp end)
-  OutSeen sent end (output.Supply block ver value) = Unit {0}
-  OutSeen sent end (output.Flush block) = Unit {0}
-  OutSeen sent end (output.Read block place) = Unit {0}
-  OutSeen sent end (output.Ready block) = Unit {0}
+  OutSeen sent end _ = Unit {0}
 
   abbrev pub OutsSeen : List Packet → ℕ → List outputs.Out → Type 0
   OutsSeen sent end outs = AllByRecursion (OutSeen sent end) outs
@@ -193,10 +190,7 @@ module _ (logs : Bool) (members part limit c life room highest : ℕ) where
   out_more : (sent more : List Packet) → Within sent more → (end : ℕ) (o : outputs.Out) → OutSeen sent end o → OutSeen more end o
   out_more sent more w end (output.Want block req again mode) h = λ inside. w _ (h inside)
   out_more sent more w end (output.Gave block stamp) h = λ inside. w _ (h inside)
-  out_more sent more w end (output.Supply block ver value) h = h
-  out_more sent more w end (output.Flush block) h = h
-  out_more sent more w end (output.Read block place) h = h
-  out_more sent more w end (output.Ready block) h = h
+  out_more sent more w end _ h = h
 
   pub outs_more : (sent more : List Packet) → Within sent more → (end : ℕ) (outs : List outputs.Out) → OutsSeen sent end outs → OutsSeen more end outs
   outs_more sent more w end [] h = h

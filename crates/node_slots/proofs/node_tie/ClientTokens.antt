@@ -225,9 +225,7 @@ module _ (logs : Bool) (members part limit c life room highest : ℕ) (pos : 0 <
   drawn_after_so : (n : Net) (s : Serving) (end : ℕ) (r : ReadingState) (x : Next) (stage : Stage) → s.log.end.seq ≡ end → At n s
       → Logged n end (confirmed_next (drawn_after s stage) r x)
   drawn_after_so n s end r x Between e h = confirmed_next_so n (draws s) end r x e h
-  drawn_after_so n s end r x Asking e h = confirmed_next_so n s end r x e h
-  drawn_after_so n s end r x Doubted e h = confirmed_next_so n s end r x e h
-  drawn_after_so n s end r x Over e h = confirmed_next_so n s end r x e h
+  drawn_after_so n s end r x _ e h = confirmed_next_so n s end r x e h
 
   confirms_so : (n : Net) (s : Serving) (end : ℕ) (r : ReadingState) → s.log.end.seq ≡ end → At n s → Logged n end (confirms s r)
   unfolding confirms

@@ -244,16 +244,12 @@ module _ (logs : Bool) (members part limit life : ℕ) where
   pub check_done : (n : Net) (p : SlotPhase) (check : Check) → AllDone logs members part limit life n (on_check p check).outs
   unfolding on_check
   check_done n (phase.Active a) check = checks_done n check a.slot.epoch (slot.transition a.slot (check_input check)).outs
-  check_done n (phase.Away epoch) check = tt
-  check_done n (phase.Taking t) check = tt
-  check_done n (phase.Broken epoch seg) check = tt
+  check_done n _ check = tt
 
   pub usage_done : (n : Net) (p : SlotPhase) (asked : UsageAsk) → AllDone logs members part limit life n (on_usage_ask p asked)
   unfolding on_usage_ask
   usage_done n (phase.Active a) asked = (tt, tt)
-  usage_done n (phase.Away epoch) asked = tt
-  usage_done n (phase.Taking t) asked = tt
-  usage_done n (phase.Broken epoch seg) asked = tt
+  usage_done n _ asked = tt
 
   -- ---- the other slots
 

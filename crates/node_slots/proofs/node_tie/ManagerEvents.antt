@@ -57,9 +57,7 @@ use Rattle.node_slots.proofs.node_tie.ManagerServes.{Of, serves_quiet, serves_ti
 
 taking_is : (p : SlotPhase) (e : ℕ) → TakingAt p e → epoch_of p ≡ e
 taking_is (phase.Taking t) e h = h
-taking_is (phase.Active a) e h = absurd h
-taking_is (phase.Away epoch) e h = absurd h
-taking_is (phase.Broken epoch seg) e h = absurd h
+taking_is _ e h = absurd h
 
 nothing_enters : {A : Type 0} (n : Net) (e : ℕ) (z : SlotState) → n.slots e ≡ Some z → n.slots e ≡ None → A
 nothing_enters n e z some none = absurd (some_none z (sym some ∙ none))

@@ -20,10 +20,8 @@ module _ (members part : ℕ) (n m : Net) (grows : Grows n m) (promises : n.prom
   report_on : (epoch : ℕ) (node : NodeId) (held : List (BlockId × Mode)) (end : End) → ReportKnown members part n epoch node held end
       → ReportKnown members part m epoch node held end
   report_on epoch (Client c) held end known = (known.0, known.1, grows _ known.2)
-  report_on epoch (Manager c) held end known = tt
-  report_on epoch (Server c) held end known = tt
   report_on epoch Cleaner held end known = up_to epoch n.promised m.promised known promises
-  report_on epoch Registry held end known = tt
+  report_on epoch _ held end known = tt
 
   phase_on : (p : SlotPhase) → ((e : ℕ) → HeldAt p e → m.slots e ≡ n.slots e) → PhaseAgrees members part n p → PhaseAgrees members part m p
   phase_on (phase.Taking t) same agrees = record {

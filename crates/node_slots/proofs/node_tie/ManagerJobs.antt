@@ -41,9 +41,7 @@ module _ (k : ℕ) where
   SpeaksOf (out.Grant client block stamp inc req mode entry) = IsOf block
   SpeaksOf (out.Forward client block stamp to inc req ver) = IsOf block
   SpeaksOf (out.Recall client block stamp keep) = IsOf block
-  SpeaksOf (out.Applied log applied) = Unit {0}
-  SpeaksOf (out.Live entry) = Unit {0}
-  SpeaksOf out.Dead = Unit {0}
+  SpeaksOf _ = Unit {0}
 
   abbrev pub AllSpeakOf : List Out → Type 0
   AllSpeakOf outs = AllByRecursion SpeaksOf outs
@@ -121,9 +119,7 @@ module _ (k : ℕ) where
   abbrev pub IsInputOf : In → Type 0
   IsInputOf (input.Want client block inc req again mode end) = IsOf block
   IsInputOf (input.Gave client block stamp end) = IsOf block
-  IsInputOf (input.Deltas log first upto rows) = Unit {0}
-  IsInputOf (input.Check block place) = Unit {0}
-  IsInputOf input.Tick = Unit {0}
+  IsInputOf _ = Unit {0}
 
   of_takes : (s : SlotState) (given : In) → IsInputOf given → AreOf s.jobs → KeepsTo (slot.transition s given)
   of_takes s (input.Want client block inc req again mode end) of all =

@@ -39,10 +39,7 @@ use Rattle.node_slots.proofs.node_tie.ManagerTakes.{IsOnce, heard_is, all_heard}
 -- the clients that reported, in the order in which they did
 abbrev client_of : NodeId → List ℕ
 client_of (Client c) = c ∷ []
-client_of (Manager c) = []
-client_of (Server c) = []
-client_of Cleaner = []
-client_of Registry = []
+client_of _ = []
 
 abbrev order_of : List Heard → List ℕ
 order_of reports = flat_map (λ r. client_of r.from) reports
@@ -80,10 +77,7 @@ both_reported rows (c ∷ cs) ds = ap (λ xs. reported c (rows c) ++ xs) (both_r
 one_reported : (rows : ℕ → List (BlockId × Mode)) (node : NodeId) (held : List (BlockId × Mode)) → ((c : ℕ) → node ≡ Client c → rows c ≡ held)
     → held_by node held ≡ all_reported rows (client_of node)
 one_reported rows (Client c) held say = ap (reported c) (sym (say c refl)) ∙ sym (append-nil (reported c (rows c)))
-one_reported rows (Manager c) held say = refl
-one_reported rows (Server c) held say = refl
-one_reported rows Cleaner held say = refl
-one_reported rows Registry held say = refl
+one_reported rows _ held say = refl
 
 -- where each client's report says these rows, what is believed is what was reported
 beliefs_are : (rows : ℕ → List (BlockId × Mode)) (reports : List Heard) → ((c : ℕ) (r : Heard) → In r reports → r.from ≡ Client c → rows c ≡ r.held)

@@ -85,20 +85,14 @@ module _ (logs : Bool) (members part limit life : ℕ) (exists : part < slot_cou
   unfolding on_want
   serves_want n s (Client c) want agrees gets = by_table n s (table.on_want s.slots c want)
       (table_wants logs members part limit life exists n s.slots c want agrees gets)
-  serves_want n s (Manager c) want agrees gets = still_serves n s agrees
-  serves_want n s (Server c) want agrees gets = still_serves n s agrees
-  serves_want n s Cleaner want agrees gets = still_serves n s agrees
-  serves_want n s Registry want agrees gets = still_serves n s agrees
+  serves_want n s _ want agrees gets = still_serves n s agrees
 
   pub serves_gave : (n : Net) (s : Serving) (from : NodeId) (gave : Gave) → TableAgrees members part n s.slots → GaveGets part n from gave
       → Of n s (on_gave s (client_in from) gave)
   unfolding on_gave
   serves_gave n s (Client c) gave agrees gets = by_table n s (table.on_gave s.slots c gave)
       (table_gaves logs members part limit life exists n s.slots c gave agrees gets)
-  serves_gave n s (Manager c) gave agrees gets = still_serves n s agrees
-  serves_gave n s (Server c) gave agrees gets = still_serves n s agrees
-  serves_gave n s Cleaner gave agrees gets = still_serves n s agrees
-  serves_gave n s Registry gave agrees gets = still_serves n s agrees
+  serves_gave n s _ gave agrees gets = still_serves n s agrees
 
   pub serves_deltas : (n : Net) (s : Serving) (from : NodeId) (deltas : Deltas) → TableAgrees members part n s.slots
       → DeltasGets logs members part n (phase_at s.slots part) from deltas
@@ -106,11 +100,9 @@ module _ (logs : Bool) (members part limit life : ℕ) (exists : part < slot_cou
   unfolding on_deltas
   serves_deltas n s (Client c) deltas agrees owed = by_table n s (table.on_deltas s.slots (record { 0 = c }) deltas)
       (table_deltas logs members part limit life exists n s.slots (record { 0 = c }) deltas agrees owed)
-  serves_deltas n s (Manager c) deltas agrees owed = still_serves n s agrees
-  serves_deltas n s (Server c) deltas agrees owed = still_serves n s agrees
   serves_deltas n s Cleaner deltas agrees owed = by_table n s (table.on_deltas s.slots cleaner_log deltas)
       (table_deltas logs members part limit life exists n s.slots cleaner_log deltas agrees owed)
-  serves_deltas n s Registry deltas agrees owed = still_serves n s agrees
+  serves_deltas n s _ deltas agrees owed = still_serves n s agrees
 
   pub serves_check : (n : Net) (s : Serving) (check : Check) → TableAgrees members part n s.slots → Of n s (on_check s check)
   unfolding on_check
@@ -149,20 +141,14 @@ module _ (logs : Bool) (members part limit life : ℕ) (exists : part < slot_cou
   unfolding on_found
   serves_found n s (Server v) found agrees low owed = serves_answer n s found.ask
       (λ own. input.Got own v found.generation found.fragment) agrees low (λ own r fact. fact) owed
-  serves_found n s (Client c) found agrees low owed = still_serves n s agrees
-  serves_found n s (Manager c) found agrees low owed = still_serves n s agrees
-  serves_found n s Cleaner found agrees low owed = still_serves n s agrees
-  serves_found n s Registry found agrees low owed = still_serves n s agrees
+  serves_found n s _ found agrees low owed = still_serves n s agrees
 
   pub serves_missing : (n : Net) (s : Serving) (from : NodeId) (missing : Missing) → TableAgrees members part n s.slots → Low s.slots
       → AbsentGets logs members part n (phase_at s.slots part) from missing → Of n s (on_missing s (server_in from) missing)
   unfolding on_missing
   serves_missing n s (Server v) missing agrees low owed = serves_answer n s missing.ask
       (λ own. input.Missing own v missing.generation) agrees low (λ own r fact. fact) owed
-  serves_missing n s (Client c) missing agrees low owed = still_serves n s agrees
-  serves_missing n s (Manager c) missing agrees low owed = still_serves n s agrees
-  serves_missing n s Cleaner missing agrees low owed = still_serves n s agrees
-  serves_missing n s Registry missing agrees low owed = still_serves n s agrees
+  serves_missing n s _ missing agrees low owed = still_serves n s agrees
 
   -- ---- time
 

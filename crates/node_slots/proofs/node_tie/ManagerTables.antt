@@ -370,9 +370,7 @@ module _ (logs : Bool) (members part limit life : ℕ) (exists : part < slot_cou
   clean_agrees : (n : Net) (p : SlotPhase) → PhaseAgrees members part n p → PhaseAgrees members part n (table.cleaned_phase p)
   unfolding table.cleaned_phase
   clean_agrees n (phase.Active a) h = record { slot = h.slot; there = h.there; same = h.same ∙ cleaned_alike a.slot; nine = h.nine }
-  clean_agrees n (phase.Away epoch) h = h
-  clean_agrees n (phase.Taking t) h = h
-  clean_agrees n (phase.Broken epoch seg) h = h
+  clean_agrees n _ h = h
 
   clean_other : (k : ℕ) (p : SlotPhase) → OtherAgrees k p → OtherAgrees k (table.cleaned_phase p)
   unfolding table.cleaned_phase
@@ -409,9 +407,7 @@ module _ (logs : Bool) (members part limit life : ℕ) (exists : part < slot_cou
   unfolding table.named_phase
   name_other k epoch parts (phase.Active a) h = by_test (OtherAgrees k) (a.slot.epoch == epoch) (phase.Active (record a { parts = parts })) (phase.Active a)
       (λ _. h) (λ _. h)
-  name_other k epoch parts (phase.Away e) h = h
-  name_other k epoch parts (phase.Taking t) h = h
-  name_other k epoch parts (phase.Broken e seg) h = h
+  name_other k epoch parts _ h = h
 
   pub table_names : (n : Net) (t : Table) (k epoch : ℕ) (parts : List SegRef) → TableAgrees members part n t → TableStays n t (table.named_at t k epoch parts)
   unfolding table.named_at

@@ -43,10 +43,8 @@ use Rattle.token_protocol.specs.Basics.{In}
 
 -- anything but that the slot is active
 abbrev pub IsPlain : Out → Type 0
-IsPlain (Poll to) = Unit {0}
-IsPlain (Fetch server name ask) = Unit {0}
 IsPlain (Active epoch index beliefs applied) = ⊥
-IsPlain (Lost name) = Unit {0}
+IsPlain _ = Unit {0}
 
 abbrev pub ArePlain : List Out → Type 0
 ArePlain outs = AllByRecursion IsPlain outs
@@ -146,9 +144,7 @@ again_on s source r all = by (on_confirmed r (s.ask + 1)).state (on_confirmed r 
 judged_on : (s : TakeState) (source : Source) (r : ReadingState) (n : Next) → AllIn s → On s (judged_as s source r n)
 judged_on s source r next.Again all = again_on s source r all
 judged_on s source r (next.Read segment) all = has_read-on s source segment all
-judged_on s source r next.Wait all = reads_on s source (Some r) all
-judged_on s source r next.Ask all = reads_on s source (Some r) all
-judged_on s source r next.Lost all = reads_on s source (Some r) all
+judged_on s source r _ all = reads_on s source (Some r) all
 
 told_in-on : (s : TakeState) (source : Source) (r : Option ReadingState) (ask server : ℕ) (t : Told) → AllIn s → On s (told_in s source r ask server t)
 told_in-on s source None ask server t all = reads_on s source None all
@@ -287,10 +283,7 @@ once_more s report new once r q r_in q_in same = by (in_last r report s.reports 
 -- the report that an input brings
 abbrev pub Brings : Input → Report → Type 0
 Brings (input.Report from held end) r = r ≡ record { from = from; held = held; end = end }
-Brings (input.Got ask server generation fragment) r = ⊥
-Brings (input.Missing ask server generation) r = ⊥
-Brings (input.Maps groups) r = ⊥
-Brings input.Tick r = ⊥
+Brings _ r = ⊥
 
 pub record Took (s : TakeState) (i : Input) (d : Done) : Type 0 where
   pub news : d.state.news ≡ s.news

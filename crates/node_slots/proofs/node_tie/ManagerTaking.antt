@@ -286,10 +286,8 @@ module _ (logs : Bool) (members part limit life : ℕ) where
       of_node : (node : NodeId) → ReportGets part n members node report → report.epoch ≡ epoch_of p
           → ReportKnown members part n (epoch_of p) node report.held report.end
       of_node (Client c) g same = (g.0, g.1, subst (λ e. In (ReportSent c e report.held report.end.seq) n.sent) same (g.2 of))
-      of_node (Manager c) g same = tt
-      of_node (Server c) g same = tt
       of_node Cleaner g same = subst (λ e. e ≤ n.promised) same (g of)
-      of_node Registry g same = tt
+      of_node _ g same = tt
 
       known : (node : NodeId) → ReportGets part n members node report → report.epoch ≡ epoch_of p → (r : Heard)
           → r ≡ record { from = node; held = report.held; end = report.end } → ReportKnown members part n (epoch_of p) r.from r.held r.end
@@ -321,10 +319,8 @@ module _ (logs : Bool) (members part limit life : ℕ) where
 
   other_heard : (k : ℕ) (p : SlotPhase) (given : Input) → OtherAgrees k p → OtherAgrees k (heard p given).state
   unfolding heard
-  other_heard k (phase.Taking t) given agrees = tt
-  other_heard k (phase.Away epoch) given agrees = tt
   other_heard k (phase.Active active) given agrees = agrees
-  other_heard k (phase.Broken epoch seg) given agrees = tt
+  other_heard k _ given agrees = tt
 
   pub other_hears : (n : Net) (k : ℕ) (a : Asker) (given : Input) → (k ≡ part → ⊥) → OtherAgrees k a.phase → OtherAsks n k (takes a k given)
   unfolding takes

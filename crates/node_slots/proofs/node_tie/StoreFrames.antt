@@ -44,9 +44,7 @@ module _ (P : Packet → Type 0) (D : Effect → Type 0) (node : NodeId)
     (each : (to : NodeId) (said : Body) → D (Send to said) → P (record { from = node; to = to; clock = 0; body = said })) where
   one_packet_does : (effect : Effect) → D effect → All P (packet_of node effect)
   one_packet_does (Send to said) does = All-cons P (record { from = node; to = to; clock = 0; body = said }) [] (each to said does) (All-nil P)
-  one_packet_does (Answer item answer) does = All-nil P
-  one_packet_does (Lose seg) does = All-nil P
-  one_packet_does (Does act) does = All-nil P
+  one_packet_does _ does = All-nil P
 
   pub packets_do : (effects : List Effect) → AllByRecursion D effects → All P (packets_of node effects)
   packets_do [] all = All-nil P

@@ -43,10 +43,8 @@ module _ (So Then : SegName → Type 0) (so : (name : SegName) → So name → T
   act_then _ h = tt
 
   effect_then : (e : Effect) → EffectSo So e → EffectSo Then e
-  effect_then (Send to m) h = tt
-  effect_then (Answer item answer) h = tt
-  effect_then (Lose seg) h = tt
   effect_then (Does act) h = act_then act h
+  effect_then _ h = tt
 
   pub all_then : (outs : List Effect) → AllSo So outs → AllSo Then outs
   all_then outs all = all_weaker (EffectSo So) (EffectSo Then) effect_then outs all

@@ -33,22 +33,13 @@ use Rattle.wire_msg.specs.declared.cleaning.Check.{Check}
 use Rattle.xfs_base.specs.Steps.{Stepped, saying, steps}
 use Rattle.xfs_base.specs.declared.segment.SegName.{SegName}
 use Rattle.xfs_base.proofs.Alls.{all_append, all_weaker}
+use Rattle.node_moves.proofs.client_walk.Frames.{all_before, all_behind}
 use Rattle.node_slots.specs.owner_index_tie.CleanerEvents.{JobAgrees, EmptyingSeen, IsMoved, MayAsk, SaysOwed, EffectOwed, CleanerSays, CleanerActs, CleanerDoes}
 use Rattle.node_slots.specs.owner_index_tie.Acting.{ActSo, AllSo, EffectSo}
 use Rattle.node_slots.specs.owner_index_tie.Filing.{IsSameLog, filing, after_act, after_effect, filed_after, FilesNext, FilesOwed}
 use Rattle.node_slots.proofs.owner_index_tie.Feeds.{same_owner}
 use Rattle.node_slots.proofs.owner_index_tie.Growing.{next_files}
 use Rattle.node_slots.proofs.owner_index_tie.Frames.{says_on, more_itself, more_then, after_both, owed_before, owed_behind, AllMay, IsNamed, owed_named}
-
--- ---- lists
-
-pub all_before : {X : Type 0} (P : X → Type 0) (xs ys : List X) → AllByRecursion P (xs ++ ys) → AllByRecursion P xs
-all_before P [] ys all = tt
-all_before P (x ∷ xs) ys all = (all.0, all_before P xs ys all.1)
-
-pub all_behind : {X : Type 0} (P : X → Type 0) (xs ys : List X) → AllByRecursion P (xs ++ ys) → AllByRecursion P ys
-all_behind P [] ys all = all
-all_behind P (x ∷ xs) ys all = all_behind P xs ys all.1
 
 -- ---- the small world goes on
 
@@ -138,9 +129,7 @@ module _ (part : ℕ) (n m : Net) (g : Grows n m) where
 
   owed_later : (e : Effect) → EffectOwed part n e → EffectOwed part m e
   owed_later (Send to b) h = sends_later b h
-  owed_later (Answers item answer) h = tt
-  owed_later (Lose seg) h = tt
-  owed_later (Does act) h = tt
+  owed_later _ h = tt
 
   pub all_owed_later : (es : List Effect) → AllByRecursion (EffectOwed part n) es → AllByRecursion (EffectOwed part m) es
   all_owed_later es all = all_weaker (EffectOwed part n) (EffectOwed part m) owed_later es all
@@ -288,10 +277,8 @@ module _ (New : Filed → Segment → Type 0) (part : ℕ) (texts : Texts) (sinc
     act_files _ h = refl
 
     effect_files : (e : Effect) → Plain e → after_effect texts 9 n.filed e ≡ n.filed
-    effect_files (Send to b) h = refl
-    effect_files (Answers item answer) h = refl
-    effect_files (Lose seg) h = refl
     effect_files (Does act) h = act_files act h
+    effect_files _ h = refl
 
     pub plain_files : (es : List Effect) → AllPlain es → filed_after texts 9 n.filed es ≡ n.filed
     plain_files [] all = refl
@@ -313,10 +300,8 @@ module _ (New : Filed → Segment → Type 0) (part : ℕ) (texts : Texts) (sinc
     act_named _ h = tt
 
     effect_named : (e : Effect) → Plain e → EffectSo (IsNamed texts) e
-    effect_named (Send to b) h = tt
-    effect_named (Answers item answer) h = tt
-    effect_named (Lose seg) h = tt
     effect_named (Does act) h = act_named act h
+    effect_named _ h = tt
 
     plain_named : (outs : List Effect) → AllPlain outs → AllSo (IsNamed texts) outs
     plain_named outs all = all_weaker Plain (EffectSo (IsNamed texts)) effect_named outs all

@@ -154,9 +154,7 @@ module _ (New : Filed → Segment → Type 0) (part : ℕ) (texts : Texts) (sinc
   after_confirmed_so e next.Ask h = frames.quiet New part texts since answered asked n e (fetches (hand_of e.job)) h
       (fetches_plain New part texts since answered asked n (hand_of e.job))
   after_confirmed_so e next.Lost h = ends_so e None h tt
-  after_confirmed_so e next.Wait h = still_so e h
-  after_confirmed_so e next.Again h = still_so e h
-  after_confirmed_so e (next.Read segment) h = still_so e h
+  after_confirmed_so e _ h = still_so e h
 
   reads_again_so : (e : Emptying) → At e → Goes (reads_again e)
   unfolding reads_again confirmed
@@ -206,7 +204,4 @@ module _ (New : Filed → Segment → Type 0) (part : ℕ) (texts : Texts) (sinc
   pub poll_so : (e : Emptying) (from : NodeId) (p : Poll) → At e → PollGets part n e p → Goes (on_poll e from p)
   unfolding on_poll
   poll_so e (node.Manager manager) p h gets = polled_by e manager p h gets
-  poll_so e (node.Client k) p h gets = still_so e h
-  poll_so e (node.Server k) p h gets = still_so e h
-  poll_so e node.Cleaner p h gets = still_so e h
-  poll_so e node.Registry p h gets = still_so e h
+  poll_so e _ p h gets = still_so e h

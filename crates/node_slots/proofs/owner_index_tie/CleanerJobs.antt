@@ -83,15 +83,10 @@ module _ (s : CleaningState) where
   unfolding job.on_usage job.on_live job.on_dead
   same_promises (input.Welcome slots groups) h = absurd h
   same_promises (input.Promise slot epoch) h = absurd h
-  same_promises (input.Maps groups) h = refl
-  same_promises (input.Listed server held) h = refl
   same_promises (input.Usage slot epoch counts) h = by_test Same _ _ _ (λ _. refl) (λ _. refl)
-  same_promises (input.Read read) h = refl
   same_promises (input.Live block epoch entry) h = by_test Same _ _ _ (λ _. refl) (λ _. refl)
   same_promises (input.Dead block epoch) h = by_test Same _ _ _ (λ _. refl) (λ _. refl)
-  same_promises input.Moved h = refl
-  same_promises (input.Deleted server name) h = refl
-  same_promises input.Tick h = refl
+  same_promises _ h = refl
 
 -- with an epoch of a slot
 pub with_length : (promised : List ℕ) (slot epoch : ℕ) → length (promised_with promised slot epoch) ≡ length promised

@@ -46,13 +46,7 @@ use Rattle.node_slots.proofs.owner_index_tie.CleanerSays.{rejobbed}
 
 IsUsageAsk : Out → Type 0
 IsUsageAsk (out.UsageAsk slot) = Unit {0}
-IsUsageAsk out.Hello = ⊥
-IsUsageAsk (out.List server) = ⊥
-IsUsageAsk (out.Fetch seg) = ⊥
-IsUsageAsk (out.Check block place) = ⊥
-IsUsageAsk (out.Move blocks) = ⊥
-IsUsageAsk (out.Delete server name) = ⊥
-IsUsageAsk (out.Finished count) = ⊥
+IsUsageAsk _ = ⊥
 
 usage_log : (e : Emptying) (o : Option Job) (slot : ℕ) → (asks_usage e o slot).state.log ≡ e.log
 usage_log e None slot = refl

@@ -60,9 +60,7 @@ module _ (part : ℕ) (n m : Net) (l since : ℕ) (more : IsMore n.filed m.filed
 
   pub does_on : (e : Effect) → OwnerDoes part n l since e → OwnerDoes part m l since e
   does_on (Send to b) h = says_on b h
-  does_on (Answers item answer) h = tt
-  does_on (Lose seg) h = tt
-  does_on (Does act) h = tt
+  does_on _ h = tt
 
 -- ---- what is filed
 
@@ -85,10 +83,8 @@ module _ (texts : Texts) (l : ℕ) where
   more_act f _ = more_itself f
 
   more_effect : (f : Filed) (e : Effect) → IsMore f (after_effect texts l f e)
-  more_effect f (Send to m) = more_itself f
-  more_effect f (Answers item answer) = more_itself f
-  more_effect f (Lose seg) = more_itself f
   more_effect f (Does act) = more_act f act
+  more_effect f _ = more_itself f
 
   pub more_after : (f : Filed) (es : List Effect) → IsMore f (filed_after texts l f es)
   more_after f [] = more_itself f
@@ -125,10 +121,8 @@ module _ (New : Filed → Segment → Type 0) (texts : Texts) (l : ℕ) where
     may_act f _ named = tt
 
     may_effect : (f : Filed) (e : Effect) → EffectSo (IsNamed texts) e → OwedEffect New texts l f e
-    may_effect f (Send to m) named = tt
-    may_effect f (Answers item answer) named = tt
-    may_effect f (Lose seg) named = tt
     may_effect f (Does act) named = may_act f act named
+    may_effect f _ named = tt
 
     -- then what is named is owed
     pub owed_named : (f : Filed) (es : List Effect) → AllSo (IsNamed texts) es → FilesOwed New texts l f es
@@ -154,9 +148,7 @@ module _ (part : ℕ) (n : Net) (l since : ℕ) (f : Filed) where
 
   plain_does : (e : Effect) → Plain e → OwnerDoes part (filing n f) l since e
   plain_does (Send to m) h = h
-  plain_does (Answers item answer) h = tt
-  plain_does (Lose seg) h = tt
-  plain_does (Does act) h = tt
+  plain_does _ h = tt
 
   pub all_do : (outs : List Effect) → AllPlain outs → AllByRecursion (OwnerDoes part (filing n f) l since) outs
   all_do outs all = all_weaker Plain (OwnerDoes part (filing n f) l since) plain_does outs all
@@ -167,10 +159,8 @@ module _ (part : ℕ) (n : Net) (l since : ℕ) (f : Filed) where
     act_files _ h = refl
 
     effect_files : (e : Effect) → Plain e → after_effect texts l f e ≡ f
-    effect_files (Send to m) h = refl
-    effect_files (Answers item answer) h = refl
-    effect_files (Lose seg) h = refl
     effect_files (Does act) h = act_files act h
+    effect_files _ h = refl
 
     pub files_none : (outs : List Effect) → AllPlain outs → filed_after texts l f outs ≡ f
     files_none [] all = refl
@@ -182,10 +172,8 @@ module _ (part : ℕ) (n : Net) (l since : ℕ) (f : Filed) where
     act_so _ h = tt
 
     effect_so : (e : Effect) → Plain e → EffectSo So e
-    effect_so (Send to m) h = tt
-    effect_so (Answers item answer) h = tt
-    effect_so (Lose seg) h = tt
     effect_so (Does act) h = act_so act h
+    effect_so _ h = tt
 
     pub plain_so : (outs : List Effect) → AllPlain outs → AllSo So outs
     plain_so outs all = all_weaker Plain (EffectSo So) effect_so outs all

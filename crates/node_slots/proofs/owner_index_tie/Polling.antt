@@ -71,7 +71,4 @@ module _ (part : ℕ) (n : Net) (l since : ℕ) (some : 0 < l) (limit : l ≤ bl
 
   pub on_poll_so : (s : Serving) (from : NodeId) (p : Poll) → At s → PollLinked part n l f s p → Goes (on_poll s from p)
   on_poll_so s (node.Manager manager) p h linked = polled_so s manager p h linked
-  on_poll_so s (node.Client k) p h linked = still_so s h
-  on_poll_so s (node.Server k) p h linked = still_so s h
-  on_poll_so s node.Cleaner p h linked = still_so s h
-  on_poll_so s node.Registry p h linked = still_so s h
+  on_poll_so s _ p h linked = still_so s h

@@ -57,10 +57,8 @@ module _ (New : Filed → Segment → Type 0) (texts : Texts) (l : ℕ) where
   act_text f _ owed are = are
 
   effect_text : (f : Filed) (e : Effect) → OwedEffect New texts l f e → AreTexts texts f → AreTexts texts (after_effect texts l f e)
-  effect_text f (Send to m) owed are = are
-  effect_text f (Answer item answer) owed are = are
-  effect_text f (Lose seg) owed are = are
   effect_text f (Does act) owed are = act_text f act owed are
+  effect_text f _ owed are = are
 
   -- what is filed are the texts of their names
   pub texts_after : (f : Filed) (es : List Effect) → FilesOwed New texts l f es → AreTexts texts f → AreTexts texts (filed_after texts l f es)
@@ -93,10 +91,8 @@ module _ (texts : Texts) (l other : ℕ) (apart : other ≡ l → ⊥) where
   same_act f _ = same_itself other f
 
   same_effect : (f : Filed) (e : Effect) → IsSameLog other f (after_effect texts l f e)
-  same_effect f (Send to m) = same_itself other f
-  same_effect f (Answer item answer) = same_itself other f
-  same_effect f (Lose seg) = same_itself other f
   same_effect f (Does act) = same_act f act
+  same_effect f _ = same_itself other f
 
   -- an owner files nothing of another log
   pub others_after : (f : Filed) (es : List Effect) → IsSameLog other f (filed_after texts l f es)
@@ -116,10 +112,8 @@ module _ (New : Filed → Segment → Type 0) (part : ℕ) (texts : Texts) (hold
   act_runs f _ owed = Begun
 
   effect_runs : (f : Filed) (e : Effect) → OwedEffect New texts l f e → Runs part holds (filing n f) (filing n (after_effect texts l f e))
-  effect_runs f (Send to m) owed = Begun
-  effect_runs f (Answer item answer) owed = Begun
-  effect_runs f (Lose seg) owed = Begun
   effect_runs f (Does act) owed = act_runs f act owed
+  effect_runs f _ owed = Begun
 
   pub runs_after : (f : Filed) (es : List Effect) → FilesOwed New texts l f es → Runs part holds (filing n f) (filing n (filed_after texts l f es))
   runs_after f [] owed = Begun

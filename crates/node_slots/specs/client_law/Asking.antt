@@ -14,9 +14,7 @@ use Rattle.node_slots.specs.client_law.Events.{HoldsAfterAnyEvents}
 
 abbrev pub Reads : BlockCall → BlockId → Type 0
 Reads (Get read) block = read ≡ block
-Reads (Put written value) block = ⊥
-Reads (PutAt written ver value) block = ⊥
-Reads Sync block = ⊥
+Reads _ block = ⊥
 
 abbrev pub Writes : BlockCall → BlockId → Type 0
 Writes (Get read) block = ⊥

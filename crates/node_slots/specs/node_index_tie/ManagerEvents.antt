@@ -126,10 +126,8 @@ module _ (part : ℕ) (texts : Texts) (asked : Questions) (j : ℕ) (n : Net) wh
   -- Deltas are of a client's log, or the cleaner's
   abbrev pub DeltasGets : NodeId → Deltas → Type 0
   DeltasGets (Client c) m = m.slot ≡ part → DeltasKnown part n c m
-  DeltasGets (Manager c) m = Unit {0}
-  DeltasGets (Server c) m = Unit {0}
   DeltasGets Cleaner m = m.slot ≡ part → DeltasKnown part n cleaners_number m
-  DeltasGets Registry m = Unit {0}
+  DeltasGets _ m = Unit {0}
 
   abbrev pub ReportGets : NodeId → Report → Type 0
   ReportGets from m = m.slot ≡ part → ReportKnown part n m.epoch from m.end

@@ -38,9 +38,7 @@ module _ (part : ℕ) (n : Net) (l : ℕ) where
 
   abbrev pub OwnerDoes : Effect → Type 0
   OwnerDoes (Send to m) = BodyTells m
-  OwnerDoes (Answer item answer) = Unit {0}
-  OwnerDoes (Lose seg) = Unit {0}
-  OwnerDoes (Does a) = Unit {0}
+  OwnerDoes _ = Unit {0}
 
 -- What an owner tells the manager of one slot, and of each, was filed.
 pub record OwnerTells (part : ℕ) (n : Net) (l : ℕ) (feed : FeedState) (managers : Managers) : Type 0 where

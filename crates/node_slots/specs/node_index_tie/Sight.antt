@@ -74,10 +74,8 @@ module _ (part : ℕ) (n : Net) where
   -- what is known of a report; that of the cleaner was sent, in this epoch
   abbrev pub ReportKnown : ℕ → NodeId → End → Type 0
   ReportKnown epoch (Client c) end = EndKnown epoch c end
-  ReportKnown epoch (Manager c) end = Unit {0}
-  ReportKnown epoch (Server c) end = Unit {0}
   ReportKnown epoch Cleaner end = EndKnown epoch cleaners_number end × In (CleanerReported epoch end.seq) n.sent
-  ReportKnown epoch Registry end = Unit {0}
+  ReportKnown epoch _ end = Unit {0}
 
   -- News of an epoch at which nobody was active yet are what the registry kept last.
   pub record NewsKnown (news : SlotNews) : Type 0 where
@@ -124,6 +122,4 @@ module _ (part : ℕ) (asked : Questions) (n : Net) where
 
   abbrev pub ManagerDoes : Effect → Type 0
   ManagerDoes (Send to m) = ManagerSends m
-  ManagerDoes (Answer item answer) = Unit {0}
-  ManagerDoes (Lose seg) = Unit {0}
-  ManagerDoes (Does a) = Unit {0}
+  ManagerDoes _ = Unit {0}

@@ -82,10 +82,7 @@ module _ (k : Books) (s : Serving) where
   -- a server tells this in answer to a fetch
   abbrev pub Tells : NodeId → ℕ → Told → Type 0
   Tells (node.Server server) ask t = BringsRead (block_read (reading_in s.call)) (heard (reading_in s.call) s.maps.groups ask server t).next
-  Tells (node.Client n) ask t = Unit {0}
-  Tells (node.Manager n) ask t = Unit {0}
-  Tells node.Cleaner ask t = Unit {0}
-  Tells node.Registry ask t = Unit {0}
+  Tells _ ask t = Unit {0}
 
 -- Where the opening of a log ends, its end is that of the books, reopened by the chain that was found, with so many segments that say nothing; what the chain
 -- adopts was in flight; and nothing waits to be written, or is in flight.

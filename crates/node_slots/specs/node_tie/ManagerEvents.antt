@@ -78,9 +78,7 @@ phase_at table slot = unwrap_or (slice_get table slot) (phase.Away 0)
 -- the slot is being taken over at this epoch
 abbrev pub TakingAt : SlotPhase → ℕ → Type 0
 TakingAt (phase.Taking t) e = t.epoch ≡ e
-TakingAt (phase.Active a) e = ⊥
-TakingAt (phase.Away epoch) e = ⊥
-TakingAt (phase.Broken epoch seg) e = ⊥
+TakingAt _ e = ⊥
 
 -- the slot is being taken over, or is managed, at this epoch
 abbrev pub HeldAt : SlotPhase → ℕ → Type 0
@@ -91,19 +89,15 @@ HeldAt (phase.Broken epoch seg) e = ⊥
 
 -- the slot is managed at this epoch
 abbrev pub ManagedAt : SlotPhase → ℕ → Type 0
-ManagedAt (phase.Taking t) e = ⊥
 ManagedAt (phase.Active a) e = a.slot.epoch ≡ e
-ManagedAt (phase.Away epoch) e = ⊥
-ManagedAt (phase.Broken epoch seg) e = ⊥
+ManagedAt _ e = ⊥
 
 module _ (members part : ℕ) (n : Net) where
   -- a report of a client was sent, in the epoch of the takeover; the cleaner has promised that epoch where it reports
   abbrev pub ReportKnown : ℕ → NodeId → List (BlockId × Mode) → End → Type 0
   ReportKnown epoch (Client c) held end = (0 < c) × (c < members) × In (ReportSent c epoch held end.seq) n.sent
-  ReportKnown epoch (Manager c) held end = Unit {0}
-  ReportKnown epoch (Server c) held end = Unit {0}
   ReportKnown epoch Cleaner held end = epoch ≤ n.promised
-  ReportKnown epoch Registry held end = Unit {0}
+  ReportKnown epoch _ held end = Unit {0}
 
   -- a takeover of the slot
   pub record TakingAgrees (t : Taking) : Type 0 where
@@ -139,9 +133,7 @@ JobsOf k jobs = All (λ e. (slot_of e.0.ino.0 ≡ k) × (slot_of e.1.want.block.
 
 abbrev pub OtherAgrees : ℕ → SlotPhase → Type 0
 OtherAgrees k (phase.Active a) = JobsOf k a.slot.jobs
-OtherAgrees k (phase.Taking t) = Unit {0}
-OtherAgrees k (phase.Away epoch) = Unit {0}
-OtherAgrees k (phase.Broken epoch seg) = Unit {0}
+OtherAgrees k _ = Unit {0}
 
 -- ---- the manager
 
@@ -198,10 +190,8 @@ module _ (part : ℕ) (n : Net) where
   -- a report is of one of the clients, or the cleaner has promised its epoch
   abbrev pub ReportGets : ℕ → NodeId → Report → Type 0
   ReportGets members (Client c) m = (0 < c) × (c < members) × ReportSeen part n.sent c m
-  ReportGets members (Manager c) m = Unit {0}
-  ReportGets members (Server c) m = Unit {0}
   ReportGets members Cleaner m = m.slot ≡ part → m.epoch ≤ n.promised
-  ReportGets members Registry m = Unit {0}
+  ReportGets members _ m = Unit {0}
 
 -- the end that the first report of a client names, by client
 abbrev pub ends_of : List Heard → ℕ → ℕ
@@ -229,17 +219,13 @@ module _ (logs : Bool) (members part : ℕ) (n : Net) where
   -- where logs keep their word: Deltas of a client's log, or the cleaner's, to a slot
   abbrev pub DeltasGets : SlotPhase → NodeId → Deltas → Type 0
   DeltasGets p (Client c) m = m.slot ≡ part → Premise logs (DeltasJoin members part n p (record { 0 = c }) m)
-  DeltasGets p (Manager c) m = Unit {0}
-  DeltasGets p (Server c) m = Unit {0}
   DeltasGets p Cleaner m = m.slot ≡ part → Premise logs (DeltasJoin members part n p cleaner_log m)
-  DeltasGets p Registry m = Unit {0}
+  DeltasGets p _ m = Unit {0}
 
   -- what comes to a slot that is taken over
   abbrev pub TakeoverGets : SlotPhase → Input → Type 0
   TakeoverGets (phase.Taking t) given = Premise logs (Completes members part n t.take given)
-  TakeoverGets (phase.Active a) given = Unit {0}
-  TakeoverGets (phase.Away epoch) given = Unit {0}
-  TakeoverGets (phase.Broken epoch seg) given = Unit {0}
+  TakeoverGets _ given = Unit {0}
 
   -- a report, in the epoch of the slot
   abbrev pub LastReportGets : SlotPhase → NodeId → Report → Type 0

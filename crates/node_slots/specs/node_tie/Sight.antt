@@ -58,31 +58,19 @@ module _ (part : ℕ) (sent : List Packet) where
   -- what goes to a client, and to a client alone
   abbrev pub GrantSeen : NodeId → Grant → Type 0
   GrantSeen (Client c) m = SentOf m.block (GrantSent c m.block m.stamp m.inc m.req m.mode m.entry)
-  GrantSeen (Manager n) m = ⊥
-  GrantSeen (Server n) m = ⊥
-  GrantSeen Cleaner m = ⊥
-  GrantSeen Registry m = ⊥
+  GrantSeen _ m = ⊥
 
   abbrev pub ForwardSeen : NodeId → Forward → Type 0
   ForwardSeen (Client c) m = SentOf m.block (ForwardSent c m.to m.block m.stamp m.inc m.req m.ver)
-  ForwardSeen (Manager n) m = ⊥
-  ForwardSeen (Server n) m = ⊥
-  ForwardSeen Cleaner m = ⊥
-  ForwardSeen Registry m = ⊥
+  ForwardSeen _ m = ⊥
 
   abbrev pub RecallSeen : NodeId → Recall → Type 0
   RecallSeen (Client c) m = SentOf m.block (RecallSent c m.block m.stamp m.keep)
-  RecallSeen (Manager n) m = ⊥
-  RecallSeen (Server n) m = ⊥
-  RecallSeen Cleaner m = ⊥
-  RecallSeen Registry m = ⊥
+  RecallSeen _ m = ⊥
 
   abbrev pub SupplySeen : NodeId → Supply → Type 0
   SupplySeen (Client c) m = SentOf m.block (SupplySent c m.block m.stamp m.inc m.req m.ver m.value)
-  SupplySeen (Manager n) m = ⊥
-  SupplySeen (Server n) m = ⊥
-  SupplySeen Cleaner m = ⊥
-  SupplySeen Registry m = ⊥
+  SupplySeen _ m = ⊥
 
   -- ---- what each kind of node sends
 

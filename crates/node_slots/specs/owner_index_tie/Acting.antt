@@ -34,10 +34,8 @@ module _ (So : SegName → Type 0) where
   ActSo _ = Unit {0}
 
   abbrev pub EffectSo : Effect → Type 0
-  EffectSo (Send to m) = Unit {0}
-  EffectSo (Answer item answer) = Unit {0}
-  EffectSo (Lose seg) = Unit {0}
   EffectSo (Does act) = ActSo act
+  EffectSo _ = Unit {0}
 
   abbrev pub AllSo : List Effect → Type 0
   AllSo outs = AllByRecursion EffectSo outs

@@ -110,9 +110,7 @@ module _ (part : ℕ) (n : Net) where
 
   abbrev pub EffectOwed : Effect → Type 0
   EffectOwed (Send to m) = SaysOwed m
-  EffectOwed (Answer item answer) = Unit {0}
-  EffectOwed (Lose seg) = Unit {0}
-  EffectOwed (Does act) = Unit {0}
+  EffectOwed _ = Unit {0}
 
   -- from the horizon of an epoch on that is polled, and that is none before the promised one, the log is linked
   abbrev pub PollGets : Emptying → Poll → Type 0

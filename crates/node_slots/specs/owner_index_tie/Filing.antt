@@ -28,10 +28,8 @@ module _ (texts : Texts) (l : ℕ) where
   after_act f _ = f
 
   abbrev pub after_effect : Filed → Effect → Filed
-  after_effect f (Send to m) = f
-  after_effect f (Answer item answer) = f
-  after_effect f (Lose seg) = f
   after_effect f (Does act) = after_act f act
+  after_effect f _ = f
 
   -- what is filed once all this is done, in its order
   abbrev pub filed_after : Filed → List Effect → Filed
@@ -59,10 +57,8 @@ module _ (New : Filed → Segment → Type 0) (texts : Texts) (l : ℕ) where
   OwedAct f _ = Unit {0}
 
   abbrev pub OwedEffect : Filed → Effect → Type 0
-  OwedEffect f (Send to m) = Unit {0}
-  OwedEffect f (Answer item answer) = Unit {0}
-  OwedEffect f (Lose seg) = Unit {0}
   OwedEffect f (Does act) = OwedAct f act
+  OwedEffect f _ = Unit {0}
 
   abbrev pub FilesOwed : Filed → List Effect → Type 0
   FilesOwed f [] = Unit {0}

@@ -113,6 +113,4 @@ module _ (part : ℕ) (n : Net) (l since : ℕ) where
 
   abbrev pub OwnerDoes : Effect → Type 0
   OwnerDoes (Send to m) = OwnerSays m
-  OwnerDoes (Answer item answer) = Unit {0}
-  OwnerDoes (Lose seg) = Unit {0}
-  OwnerDoes (Does a) = Unit {0}
+  OwnerDoes _ = Unit {0}
