@@ -492,9 +492,7 @@ module _ (g : Setting) (fact : g.log ≡ cleaner_log) where
   confirmed_so : (w : Scene) (e : Emptying) (x : Next) → Stands g w e → Goes w (after_confirmed e x)
   confirmed_so w e next.Ask h = at_once g w e _ h (fetched w (hand_of e.job))
   confirmed_so w e next.Lost h = reading_ended w e None h tt
-  confirmed_so w e next.Wait h = stays g w e h
-  confirmed_so w e next.Again h = stays g w e h
-  confirmed_so w e (next.Read segment) h = stays g w e h
+  confirmed_so w e _ h = stays g w e h
 
   read_again : (w : Scene) (e : Emptying) → Stands g w e → Goes w (reads_again e)
   unfolding reads_again confirmed

@@ -351,9 +351,7 @@ module _ (g : Setting) (fact : g.log ≡ cleaner_log) (w : Scene) where
 module _ (g : Setting) (w : Scene) where
   as_effect : (e : Effect) → CleanerDoes g w e → EffectSeen g (its_asker w) w.net TheCleaner e
   as_effect (Send to said) h = h
-  as_effect (Answers item a) h = tt
-  as_effect (Lose seg) h = tt
-  as_effect (Does act) h = tt
+  as_effect _ h = tt
 
   one_act : (e : Effect) → CleanerDoes g w e → All (ActSeen g w) (act_of TheCleaner e)
   one_act (Send to said) h = All-nil (ActSeen g w)

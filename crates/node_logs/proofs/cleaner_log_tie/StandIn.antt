@@ -47,10 +47,7 @@ use Rattle.node_logs.proofs.cleaner_log_tie.Frames.{CleanerDoes, AllDone, said_a
 -- servers stand for themselves; all others are one to an opening
 abbrev stand_in : NodeId → NodeId
 stand_in (Server v) = Server v
-stand_in (Client c) = Registry
-stand_in (Manager k) = Registry
-stand_in Cleaner = Registry
-stand_in Registry = Registry
+stand_in _ = Registry
 
 same_server : (from : NodeId) → server_in (stand_in from) ≡ server_in from
 same_server (Server v) = refl
@@ -99,10 +96,7 @@ module _ (g : Setting) (w : Scene) where
   reached_so : (from : NodeId) (generation : ℕ) → ReachedBy g (its_asker w) w.net from generation
       → ReachedBy g (asker its_number w) w.net (stand_in from) generation
   reached_so (Server v) generation h = h
-  reached_so (Client c) generation h = tt
-  reached_so (Manager k) generation h = tt
-  reached_so Cleaner generation h = tt
-  reached_so Registry generation h = tt
+  reached_so _ generation h = tt
 
   comes_so : (from : NodeId) (b : Body) → BodySeen g (its_asker w) w.net from Cleaner b
       → BodySeen g (asker its_number w) w.net (stand_in from) (Client its_number) b

@@ -100,12 +100,10 @@ module _ (t u : ℕ → Question) (a : Asked) (ask : ℕ) (same : u a.ask ≡ t 
   in_on reading.Over h = h
 
   at_on : (st : scan_stages.Stage) → AsksAt t a ask st → AsksAt u a ask st
-  at_on Hails h = registry_on h
   at_on (Gathers lists) h = servers_on h
-  at_on (Asks lists) h = registry_on h
-  at_on (Reads b None) h = registry_on h
   at_on (Reads b (Some r)) h = record { stage = in_on r.stage h.stage; past = h.past }
   at_on Over h = servers_on h
+  at_on _ h = registry_on h
 
 -- ---- an answer that was awaited
 
@@ -226,18 +224,12 @@ module _ (g : Setting) (c : ℕ) (small : is_log g.log.0 ≡ true) (w : Scene) (
     found_so : (from : NodeId) (f : Found) → (is_of_log g f.fragment.meta.name ≡ true → In (FragmentSent f.fragment) w.net.sent) → Goes (on_found o q from f)
     unfolding on_found
     found_so (Server v) f seen = found_by_so f v (own_in o.stage f.ask) seen
-    found_so (Client v) f seen = dropped
-    found_so (Manager v) f seen = dropped
-    found_so Cleaner f seen = dropped
-    found_so Registry f seen = dropped
+    found_so _ f seen = dropped
 
     missing_so : (from : NodeId) (m : Missing) → Goes (on_missing o q from m)
     unfolding on_missing
     missing_so (Server v) m = missing_by_so m v (own_in o.stage m.ask)
-    missing_so (Client v) m = dropped
-    missing_so (Manager v) m = dropped
-    missing_so Cleaner m = dropped
-    missing_so Registry m = dropped
+    missing_so _ m = dropped
 
   -- ---- a Fenced
 
@@ -269,10 +261,7 @@ module _ (g : Setting) (c : ℕ) (small : is_log g.log.0 ≡ true) (w : Scene) (
   fenced_so : (o : Opening) (from : NodeId) (f : Fenced) → Sees o.known o.stage → FencedSeen g (asker c w) w.net from f → Goes (on_fenced o q from f)
   unfolding on_fenced
   fenced_so o (Server v) f h seen = fenced_by_so o o.stage f v h seen
-  fenced_so o (Client v) f h seen = dropped o h
-  fenced_so o (Manager v) f h seen = dropped o h
-  fenced_so o Cleaner f h seen = dropped o h
-  fenced_so o Registry f h seen = dropped o h
+  fenced_so o _ f h seen = dropped o h
 
   -- ---- the log of an opening
 

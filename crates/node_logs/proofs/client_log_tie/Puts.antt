@@ -30,10 +30,8 @@ all_such P Q weaker (i ∷ inputs) all = (weaker i all.0, all_such P Q weaker in
 -- ---- what was taken
 
 served_or : LogState → Owner → LogState
-served_or s Down = s
-served_or s (Opening scan) = s
-served_or s (Writing chain log) = s
 served_or s (Serving log) = log
+served_or s _ = s
 
 -- an owner has one log
 pub one_log : (s t : LogState) (n : Net) → n.owner ≡ Serving s → n.owner ≡ Serving t → s ≡ t

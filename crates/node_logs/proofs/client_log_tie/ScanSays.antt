@@ -138,11 +138,9 @@ module _ (g : Setting) (c : ℕ) where
     -- ---- servers are fenced or asked
 
     abbrev pub IsRest : ℕ → Out → Type 0
-    IsRest limit (Hello own) = ⊥
     IsRest limit (Fence server) = Unit {0}
     IsRest limit (Fetch server name own) = own ≤ limit
-    IsRest limit (Chain segments end prior) = ⊥
-    IsRest limit (Lost name) = ⊥
+    IsRest limit _ = ⊥
 
     rest_tells_none : (limit : ℕ) (outs : List Out) → AllByRecursion (IsRest limit) outs → chain_in outs ≡ None
     rest_tells_none limit [] all = refl

@@ -133,9 +133,7 @@ module _ (g : Setting) (c : ℕ) (w : Scene) (its life : ℕ) (k : Known) (q : Q
   -- where a round is on, servers are asked
   is_on : (ask : ℕ) (x : readings.Stage) → is_asking x ≡ true → AsksIn w.asked s.asked ask x → (x ≡ reading.Asking) × Servers ask
   is_on ask reading.Asking t asks = (refl, asks)
-  is_on ask reading.Between t asks = contrary t
-  is_on ask reading.Doubted t asks = contrary t
-  is_on ask reading.Over t asks = contrary t
+  is_on ask _ t asks = contrary t
 
   answer_so : (o : Opening) (b : Backward) (r : ReadingState) (groups : GroupMapState) (ask server : ℕ) (t : Told) → Stood o → AsksOf w.asked s.asked o.ask r
       → Takes (scan.heard_with o b r (Some groups) ask server t)

@@ -130,9 +130,7 @@ module _ (g : Setting) (c : ℕ) (fact : g.log ≡ record { 0 = c }) where
   ends_fetch_so : (w : Scene) (s : Serving) (at : BlockAt) (x : Next) → At w s → Goes w (ends_fetch s at x)
   ends_fetch_so w s at next.Again h = tokens.hands_so g c w s (input.Reask at.block) h
   ends_fetch_so w s at (next.Read segment) h = tokens.hands_so g c w s (input.Fetched at.block (value_at segment at.item)) h
-  ends_fetch_so w s at next.Wait h = still_so w s h
-  ends_fetch_so w s at next.Ask h = still_so w s h
-  ends_fetch_so w s at next.Lost h = still_so w s h
+  ends_fetch_so w s at _ h = still_so w s h
 
   told_at_so : (w : Scene) (s : Serving) (at : Option BlockAt) (x : Heard) → At w s → Goes w (told_at s at x)
   told_at_so w s None x h = still_so w s h
@@ -144,10 +142,7 @@ module _ (g : Setting) (c : ℕ) (fact : g.log ≡ record { 0 = c }) where
 
   on_told_so : (w : Scene) (s : Serving) (from : NodeId) (ask : ℕ) (t : Told) → At w s → Goes w (on_told s from ask t)
   on_told_so w s (node.Server server) ask t h = told_by_so w s server ask t h
-  on_told_so w s (node.Client k) ask t h = still_so w s h
-  on_told_so w s (node.Manager k) ask t h = still_so w s h
-  on_told_so w s node.Cleaner ask t h = still_so w s h
-  on_told_so w s node.Registry ask t h = still_so w s h
+  on_told_so w s _ ask t h = still_so w s h
 
   -- ---- promises
 
@@ -177,10 +172,7 @@ module _ (g : Setting) (c : ℕ) (fact : g.log ≡ record { 0 = c }) where
 
   on_poll_so : (w : Scene) (s : Serving) (from : NodeId) (p : Poll) → At w s → Goes w (on_poll s from p)
   on_poll_so w s (node.Manager manager) p h = polled_so w s manager p h
-  on_poll_so w s (node.Client k) p h = still_so w s h
-  on_poll_so w s (node.Server k) p h = still_so w s h
-  on_poll_so w s node.Cleaner p h = still_so w s h
-  on_poll_so w s node.Registry p h = still_so w s h
+  on_poll_so w s _ p h = still_so w s h
 
   -- ---- maps
 

@@ -186,15 +186,11 @@ module _ (g : Setting) (c : ℕ) where
   confirmed_next_so : (w : Scene) (s : Serving) (r : ReadingState) (x : Next) → At w s → Goes w (confirmed_next s r x)
   confirmed_next_so w s r next.Lost h = loses_at_so w s r.target.block r.target.seg.name h
   confirmed_next_so w s r next.Ask h = frames.goes_plain g c w (with_reading s (Some r)) (fetches r) h (plain_fetches r)
-  confirmed_next_so w s r next.Wait h = still_so w (with_reading s (Some r)) h
-  confirmed_next_so w s r next.Again h = still_so w (with_reading s (Some r)) h
-  confirmed_next_so w s r (next.Read segment) h = still_so w (with_reading s (Some r)) h
+  confirmed_next_so w s r _ h = still_so w (with_reading s (Some r)) h
 
   drawn_after_so : (w : Scene) (s : Serving) (r : ReadingState) (x : Next) (stage : Stage) → At w s → Goes w (confirmed_next (drawn_after s stage) r x)
   drawn_after_so w s r x Between h = confirmed_next_so w (draws s) r x (draws_so w s h)
-  drawn_after_so w s r x Asking h = confirmed_next_so w s r x h
-  drawn_after_so w s r x Doubted h = confirmed_next_so w s r x h
-  drawn_after_so w s r x Over h = confirmed_next_so w s r x h
+  drawn_after_so w s r x _ h = confirmed_next_so w s r x h
 
   confirms_so : (w : Scene) (s : Serving) (r : ReadingState) → At w s → Goes w (confirms s r)
   unfolding confirms

@@ -183,10 +183,8 @@ fit_tick s h = elim s.flight as (λ o. FitAfter (elim o [ None ↦ still s | Som
 abbrev pub Takes : Input → Type 0
 Takes (Put block entry value) = PutFits block entry value
 Takes (Parts items) = has_text items ≡ true → ItemsFit items
-Takes Seal = Unit {0}
-Takes (Acked name index generation) = Unit {0}
 Takes (Maps m) = MapFits m
-Takes Tick = Unit {0}
+Takes _ = Unit {0}
 
 fit_after : (s : LogState) (i : Input) → LogFits s → Takes i → LogFits (transition s i).state
 unfolding FitAfter

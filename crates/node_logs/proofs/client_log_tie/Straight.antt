@@ -33,34 +33,21 @@ opens_stays g n s d (Some t) (Some m) = refl
 
 -- one thing that happens to an owner that isn't down leaves its incarnation
 pub boot_stays : (g : Setting) (n o : Net) → Happens g n o → is_down n.owner ≡ false → o.inc ≡ n.inc
-boot_stays g n o (Acts s i fact came texts) up = refl
 boot_stays g n o (Writes chain s i fact came texts) up = writes_stays g n chain (log.transition s i) (log.transition s i).state.flight
 boot_stays g n o (Opens s i fact came can) up =
     opens_stays g n s (scan.transition s i) (chain_in (scan.transition s i).outs) (scan.transition s i).state.opening.groups
-boot_stays g n o Crashes up = refl
 boot_stays g n o (Restarts down) up = contrary (sym up ∙ ap is_down down)
 boot_stays g n o (Renews map high doubts down came) up = contrary (sym up ∙ ap is_down down)
-boot_stays g n o (Serves v deed some came) up = refl
-boot_stays g n o (Bars v l pass) up = refl
-boot_stays g n o (Lists v) up = refl
-boot_stays g n o (Hears v generation past reached) up = refl
-boot_stays g n o (Raises low name past fact below) up = refl
-boot_stays g n o (Publishes map whole) up = refl
-boot_stays g n o (Welcomes inc ask news map hello low whole) up = refl
-boot_stays g n o (Drops lists meta listed within below) up = refl
+boot_stays g n o _ up = refl
 
 serving_up : (x : Owner) → is_serving x ≡ true → is_down x ≡ false
 serving_up Down fact = contrary fact
-serving_up (Opening s) fact = refl
-serving_up (Writing chain s) fact = refl
-serving_up (Serving s) fact = refl
+serving_up _ fact = refl
 
 -- one without its log doesn't serve
 without_log : (x : Owner) → has_log x ≡ false → is_serving x ≡ false
-without_log Down none = refl
-without_log (Opening s) none = refl
-without_log (Writing chain s) none = refl
 without_log (Serving s) none = none
+without_log _ none = refl
 
 never_serves : (g : Setting) (n o : Net) (runs : Runs g n o) → NeverHasLog runs → NeverServes runs
 never_serves g n o Begun never = tt

@@ -93,10 +93,7 @@ module _ (g : Setting) (j : ℕ) where
   module _ (w v : Scene) (grown : Grown g w v) where
     store_more : (to : NodeId) (m : stores.Store) → StoreSeen g (its_asker j w) w.net to m → StoreSeen g (its_asker j v) v.net to m
     store_more (Server k) m h = λ own. grown.sent _ (h own)
-    store_more (Client k) m h = tt
-    store_more (Manager k) m h = tt
-    store_more Cleaner m h = tt
-    store_more Registry m h = tt
+    store_more _ m h = tt
 
     says_more : (to : NodeId) (said : Body) → Says w to said → Says v to said
     says_more to (body.Store m) h = (store_more to m h.0, h.1)

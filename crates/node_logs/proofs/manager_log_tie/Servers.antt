@@ -78,10 +78,8 @@ found_bytes (h ∷ held) name all =
 
 -- what is filled in is bytes
 abbrev OutFits : Out → Type 0
-OutFits (out.List server) = Unit {0}
-OutFits (out.Fetch server name own) = Unit {0}
 OutFits (out.Fill f) = FragmentFits f
-OutFits (out.Finished filled gone) = Unit {0}
+OutFits _ = Unit {0}
 
 abbrev ReadsGo : Stepped ReadsState Out → Type 0
 ReadsGo d = Leaves ReadsFit OutFits d
@@ -159,11 +157,8 @@ repeated_fits s None = all_map OutFits (λ (server : ℕ). out.List server) (λ 
 repeated_fits s (Some r) = again_fits r.ask r.present
 
 abbrev InputFits : Input → Type 0
-InputFits (input.Listed server metas names) = Unit {0}
 InputFits (input.Got ask server generation f) = FragmentFits f
-InputFits (input.Missing ask server generation) = Unit {0}
-InputFits (input.Maps groups) = Unit {0}
-InputFits input.Tick = Unit {0}
+InputFits _ = Unit {0}
 
 rebuild_fits : (s : RebuildState) (i : Input) → StateFits s → InputFits i → StateGoes (transition s i)
 rebuild_fits s (input.Listed server metas names) h new = listed_fits s server metas names h

@@ -83,11 +83,9 @@ PhaseGoes d = Leaves SlotFits IsAside d
 one_said : (number epoch : ℕ) (o : SlotOut) → GrantFits o → AllAside (said number epoch o)
 unfolding said
 one_said number epoch (slot_out.Grant client block stamp inc req mode entry) h = (h, tt)
-one_said number epoch (slot_out.Forward client block stamp to inc req ver) h = (tt, tt)
-one_said number epoch (slot_out.Recall client block stamp keep) h = (tt, tt)
-one_said number epoch (slot_out.Applied log applied) h = (tt, tt)
 one_said number epoch (slot_out.Live entry) h = tt
 one_said number epoch slot_out.Dead h = tt
+one_said number epoch _ h = (tt, tt)
 
 all_said : (number epoch : ℕ) (outs : List SlotOut) → AllByRecursion GrantFits outs → AllAside (flat_map (said number epoch) outs)
 all_said number epoch [] all = tt
@@ -111,12 +109,8 @@ phase_wants (phase.Taking t) client want h = phase_takes (phase.Taking t) (slot_
 
 one_checked : (check : Check) (epoch : ℕ) (o : SlotOut) → LiveFits check.block o → AllAside (check_said check epoch o)
 unfolding check_said
-one_checked check epoch (slot_out.Grant client block stamp inc req mode entry) h = (tt, tt)
-one_checked check epoch (slot_out.Forward client block stamp to inc req ver) h = (tt, tt)
-one_checked check epoch (slot_out.Recall client block stamp keep) h = (tt, tt)
-one_checked check epoch (slot_out.Applied log applied) h = (tt, tt)
 one_checked check epoch (slot_out.Live entry) h = (h, tt)
-one_checked check epoch slot_out.Dead h = (tt, tt)
+one_checked check epoch _ h = (tt, tt)
 
 pub phase_checks : (p : SlotPhase) (check : Check) → SlotFits p → PhaseGoes (on_check p check)
 unfolding on_check
@@ -133,9 +127,7 @@ phase_checks (phase.Broken epoch seg) check h = record { state = tt; outs = tt }
 pub phase_tells_usage : (p : SlotPhase) (asked : UsageAsk) → AllAside (on_usage_ask p asked)
 unfolding on_usage_ask
 phase_tells_usage (phase.Active a) asked = (tt, tt)
-phase_tells_usage (phase.Away epoch) asked = tt
-phase_tells_usage (phase.Taking t) asked = tt
-phase_tells_usage (phase.Broken epoch seg) asked = tt
+phase_tells_usage _ asked = tt
 
 -- ---- a slot that is taken over, which may ask
 

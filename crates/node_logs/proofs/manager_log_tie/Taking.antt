@@ -38,10 +38,8 @@ use Rattle.node_logs.proofs.manager_log_tie.Rows.{all_joined_fit, told_fit}
 
 -- the index of a slot that is handed out fits
 abbrev pub OutFits : Out → Type 0
-OutFits (Poll to) = Unit {0}
-OutFits (Fetch server name ask) = Unit {0}
 OutFits (Active epoch index beliefs applied) = RowsFit index
-OutFits (Lost name) = Unit {0}
+OutFits _ = Unit {0}
 
 abbrev pub Goes : Done → Type 0
 Goes d = Leaves TakeFits OutFits d
@@ -123,9 +121,7 @@ again_on s source r h round =
 judged_on : (s : TakeState) (source : Source) (r : ReadingState) (n : Next) → Sources s → RoundFits r.round → NextFits n → Goes (judged_as s source r n)
 judged_on s source r next.Again h round fits = again_on s source r h round
 judged_on s source r (next.Read segment) h round fits = read_on s source segment h fits.1
-judged_on s source r next.Wait h round fits = quiet (reads s source (Some r)) (reads_on s source r h round)
-judged_on s source r next.Ask h round fits = quiet (reads s source (Some r)) (reads_on s source r h round)
-judged_on s source r next.Lost h round fits = quiet (reads s source (Some r)) (reads_on s source r h round)
+judged_on s source r _ h round fits = quiet (reads s source (Some r)) (reads_on s source r h round)
 
 -- ---- the inputs
 
@@ -191,11 +187,8 @@ reported_on s report h =
 
 -- a fragment that comes is bytes
 abbrev pub TakeInFits : Input → Type 0
-TakeInFits (input.Report from held end) = Unit {0}
 TakeInFits (input.Got ask server generation fragment) = IsBytes fragment.bytes
-TakeInFits (input.Missing ask server generation) = Unit {0}
-TakeInFits (input.Maps groups) = Unit {0}
-TakeInFits input.Tick = Unit {0}
+TakeInFits _ = Unit {0}
 
 pub take_goes : (s : TakeState) (given : Input) → TakeFits s → TakeInFits given → Goes (transition s given)
 take_goes s (input.Report from held end) h fits = reported_on s (record { from = from; held = held; end = end }) h

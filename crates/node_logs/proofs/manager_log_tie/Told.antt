@@ -58,17 +58,7 @@ stays_written g n o (Acts s i fact came texts) old = with_flight (log.transition
 stays_written g n o (Writes chain s i fact came texts) old = flight_written g n old chain (log.transition s i) (log.transition s i).state.flight texts
 stays_written g n o (Opens s i fact came can) old =
     told_written g n old s (scan.transition s i) (chain_in (scan.transition s i).outs) (scan.transition s i).state.opening.groups refl can
-stays_written g n o Crashes old = old
-stays_written g n o (Restarts down) old = old
-stays_written g n o (Renews m high doubts down came) old = old
-stays_written g n o (Serves v deed some came) old = old
-stays_written g n o (Bars v log pass) old = old
-stays_written g n o (Lists v) old = old
-stays_written g n o (Hears v generation up reached) old = old
-stays_written g n o (Raises low name up fact below) old = old
-stays_written g n o (Publishes m whole) old = old
-stays_written g n o (Welcomes inc ask news m hello low whole) old = old
-stays_written g n o (Drops lists meta sent among below) old = old
+stays_written g n o _ old = old
 
 along : (g : Setting) (n o : Net) → Runs g n o → AllWritten n.flown → AllWritten o.flown
 along g n o Begun old = old

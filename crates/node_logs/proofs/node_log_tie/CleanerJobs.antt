@@ -307,9 +307,7 @@ module _ (g : Setting) (owner : Asker) (other : g.log ≡ cleaner_log → ⊥) (
   confirmed_so : (n : Net) (e : Emptying) (x : Next) → EmptyingSeen g n e → Goes n (after_confirmed e x)
   confirmed_so n e next.Ask seen = at_once g owner n e _ seen (fetched n (hand_of e.job))
   confirmed_so n e next.Lost seen = reading_ended n e None seen
-  confirmed_so n e next.Wait seen = stays g owner n e seen
-  confirmed_so n e next.Again seen = stays g owner n e seen
-  confirmed_so n e (next.Read segment) seen = stays g owner n e seen
+  confirmed_so n e _ seen = stays g owner n e seen
 
   read_again : (n : Net) (e : Emptying) → EmptyingSeen g n e → Goes n (reads_again e)
   unfolding reads_again confirmed

@@ -97,19 +97,15 @@ module _ (g : Setting) (n : Net) where
   as_known Greeting seen = tt
   as_known (Listing l) seen = seen
   as_known (Counting c) seen = seen
-  as_known (Reading j seg) seen = record { here = seen.1; behind = seen.0 }
-  as_known (Checking j seg checks) seen = record { here = seen.1; behind = seen.0 }
-  as_known (Deleting j seg servers) seen = record { here = seen.1; behind = seen.0 }
   as_known Over seen = tt
+  as_known _ seen = record { here = seen.1; behind = seen.0 }
 
   as_seen : (p : Phase) → SegmentsSo law p → JobPhaseSeen g n p
   as_seen Greeting h = tt
   as_seen (Listing l) h = h
   as_seen (Counting c) h = h
-  as_seen (Reading j seg) h = (h.behind, h.here)
-  as_seen (Checking j seg checks) h = (h.behind, h.here)
-  as_seen (Deleting j seg servers) h = (h.behind, h.here)
   as_seen Over h = tt
+  as_seen _ h = (h.behind, h.here)
 
   as_owed : (p : Phase) (i : Input) → CleaningSent i → InputSo law p i
   as_owed p (input.Welcome slots groups) sent = let within = (least_within g.log.0 slots u32_end (omega arith)).1 in omega arith

@@ -116,17 +116,14 @@ happened_later g n o (Acts s i serves came text) = says_more g n _ (log_packets 
 happened_later g n o (Writes chain s i writes came text) = flight_later g n chain (log.transition s i) (log.transition s i).state.flight
 happened_later g n o (Opens s i opens came can) =
     told_later g n s (scan.transition s i) (chain_in (scan.transition s i).outs) (scan.transition s i).state.opening.groups
-happened_later g n o Crashes = says_more g n _ [] refl refl (omega arith)
-happened_later g n o (Restarts down) = says_more g n _ [] refl refl (omega arith)
-happened_later g n o (Renews m high doubts down came) = says_more g n _ [] refl refl (omega arith)
 happened_later g n o (Serves v deed some came) = serves_later g n v deed came
 happened_later g n o (Bars v log pass) = bars_later g n v log pass
 happened_later g n o (Lists v) = says_more g n _ (_ ∷ []) refl refl (omega arith)
-happened_later g n o (Hears v generation up reached) = says_more g n _ [] refl refl (omega arith)
 happened_later g n o (Raises low name up fact below) = says_more g n _ [] refl refl up
 happened_later g n o (Publishes m whole) = says_more g n _ (_ ∷ []) refl refl (omega arith)
 happened_later g n o (Welcomes inc ask news m hello low whole) = says_more g n _ (_ ∷ []) refl refl (omega arith)
 happened_later g n o (Drops lists meta sent among below) = says_more g n _ (_ ∷ []) refl refl (omega arith)
+happened_later g n o _ = says_more g n _ [] refl refl (omega arith)
 
 -- ---- runs
 

@@ -63,9 +63,7 @@ module _ (P : Packet → Type 0) (D : Effect → Type 0) (node : NodeId)
     (each : (to : NodeId) (said : Body) → D (Send to said) → P (record { from = node; to = to; clock = 0; body = said })) where
   one_packet : (effect : Effect) → D effect → All P (packet_of node effect)
   one_packet (Send to said) does = All-cons P (record { from = node; to = to; clock = 0; body = said }) [] (each to said does) (All-nil P)
-  one_packet (Answer item answer) does = All-nil P
-  one_packet (Lose seg) does = All-nil P
-  one_packet (Does act) does = All-nil P
+  one_packet _ does = All-nil P
 
   pub packets_all : (effects : List Effect) → AllByRecursion D effects → All P (packets_of node effects)
   packets_all [] all = All-nil P

@@ -138,10 +138,8 @@ module _ (g : Setting) (n : Net) (v : ℕ) where
 
   -- what is filled in of the log is a filling
   abbrev pub OutSeen : Out → Type 0
-  OutSeen (out.List server) = Unit {0}
-  OutSeen (out.Fetch server name own) = Unit {0}
   OutSeen (out.Fill f) = is_of_log g f.meta.name ≡ true → IsFilling g n v f
-  OutSeen (out.Finished filled gone) = Unit {0}
+  OutSeen _ = Unit {0}
 
   -- a step of the reading
   pub record ReadOn (s : Stepped ReadsState Out) : Type 0 where

@@ -70,9 +70,7 @@ answers_no_map g v s (Stores f generation) =
 answers_no_map g v s (Fetches name) =
     by_test NoMap (is_of_log g name) (fragment_told (held_at s.held name)) [] (λ t. told_no_map (held_at s.held name)) (λ t m fact. fact)
 answers_no_map g v s (Fences inc) = one_no_map _ (λ m e. absurd cc)
-answers_no_map g v s (Deletes name) = λ m fact. fact
-answers_no_map g v s (Fills f) = λ m fact. fact
-answers_no_map g v s Loses = λ m fact. fact
+answers_no_map g v s _ = λ m fact. fact
 
 -- ---- what happens
 
@@ -106,17 +104,12 @@ happened_named g n o before (Acts s i serves came text) =
 happened_named g n o before (Writes chain s i writes came text) = flight_named g n before chain (log.transition s i) (log.transition s i).state.flight
 happened_named g n o before (Opens s i opens came can) =
     told_named g n before s (scan.transition s i) (chain_in (scan.transition s i).outs) (scan.transition s i).state.opening.groups
-happened_named g n o before Crashes = before
-happened_named g n o before (Restarts down) = before
-happened_named g n o before (Renews m high doubts down came) = before
 happened_named g n o before (Serves v deed some came) = more g n before (answers g v (n.shelves v) deed) n.sent (answers_no_map g v (n.shelves v) deed) before
-happened_named g n o before (Bars v log pass) = before
 happened_named g n o before (Lists v) = more g n before (_ ∷ []) n.sent (one_no_map _ (λ m e. absurd cc)) before
-happened_named g n o before (Hears v generation up reached) = before
-happened_named g n o before (Raises low name up fact below) = before
 happened_named g n o before (Publishes m whole) = published g n before n.registry m whole
 happened_named g n o before (Welcomes inc ask news m hello low whole) = more g n before (_ ∷ []) n.sent (one_no_map _ (λ k e. absurd cc)) before
 happened_named g n o before (Drops lists meta sent among below) = more g n before (_ ∷ []) n.sent (one_no_map _ (λ m e. absurd cc)) before
+happened_named g n o before _ = before
 
 run_named : (g : Setting) (n o : Net) → MapsName g n → Runs g n o → MapsName g o
 run_named g n o before Begun = before

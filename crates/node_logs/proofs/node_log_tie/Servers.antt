@@ -60,10 +60,8 @@ module _ (g : Setting) (owner : Asker) (v : ℕ) (some : 0 < v) (other : owner.n
   Goes n d = Went g owner v n d
 
   out_later : (n next : Net) → Later n next → (o : Out) → OutSeen g n v o → OutSeen g next v o
-  out_later n next later (out.List server) h = tt
-  out_later n next later (out.Fetch server name own) h = tt
   out_later n next later (out.Fill f) h = λ own. filling_later g n next later v f (h own)
-  out_later n next later (out.Finished filled gone) h = tt
+  out_later n next later _ h = tt
 
   -- ---- what a rebuild says
 

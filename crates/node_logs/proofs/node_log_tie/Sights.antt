@@ -34,10 +34,7 @@ module _ (g : Setting) (owner asker : Asker) (n next : Net) (later : Later n nex
 
   pub reached_on : (from : NodeId) (generation : ℕ) → ReachedBy g owner n from generation → ReachedBy g asker next from generation
   reached_on (Server v) generation h = (let x = later.reached v in omega arith)
-  reached_on (Client c) generation h = tt
-  reached_on (Manager k) generation h = tt
-  reached_on Cleaner generation h = tt
-  reached_on Registry generation h = tt
+  reached_on _ generation h = tt
 
 -- what is seen stays seen, while its owner asks more
 module _ (g : Setting) (owner asker : Asker) (same : asker.node ≡ owner.node) (keeps : (k : ℕ) → (owner.asked k ≡ Unasked → ⊥) → asker.asked k ≡ owner.asked k)

@@ -38,10 +38,8 @@ use Rattle.node_logs.specs.opening_law.Questions.{WaitsInVain, PastReading, Past
 -- by no later question than this
 abbrev pub UpTo : ℕ → Out → Type 0
 UpTo limit (Hello own) = own ≤ limit
-UpTo limit (Fence server) = Unit {0}
 UpTo limit (Fetch server name own) = own ≤ limit
-UpTo limit (Chain segments end prior) = Unit {0}
-UpTo limit (Lost name) = Unit {0}
+UpTo limit _ = Unit {0}
 
 -- the first thing that is said is asked by this question
 abbrev pub AsksBy : ℕ → List Out → Type 0

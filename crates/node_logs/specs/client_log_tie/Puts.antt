@@ -15,10 +15,7 @@ use Rattle.segment_format.specs.declared.segment.Segment.{Segment}
 abbrev pub PutsOwn : Input → Type 0
 PutsOwn (Put block entry value) = (0 < entry.ver) × (entry.hop ≡ 0)
 PutsOwn (Parts items) = items ≡ []
-PutsOwn Seal = Unit {0}
-PutsOwn (Acked name index generation) = Unit {0}
-PutsOwn (Maps groups) = Unit {0}
-PutsOwn Tick = Unit {0}
+PutsOwn _ = Unit {0}
 
 -- what was in flight up to now, once a log took these, oldest first
 abbrev pub flown_after : LogState → List Input → List Segment → List Segment

@@ -37,10 +37,8 @@ MapFits m = (log seq : ℕ) → (group_for m log seq).id < 2 ^ 32
 abbrev pub InputFits : Input → Type 0
 InputFits (Put block entry value) = PutFits block entry value
 InputFits (Parts items) = items ≡ []
-InputFits Seal = Unit {0}
-InputFits (Acked name index generation) = Unit {0}
 InputFits (Maps m) = MapFits m
-InputFits Tick = Unit {0}
+InputFits _ = Unit {0}
 
 -- Whatever fits and a log takes from now on, oldest first: what is in flight then has a text.
 abbrev pub StaysWritten : LogState → Type 0

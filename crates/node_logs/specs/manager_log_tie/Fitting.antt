@@ -55,10 +55,8 @@ PartFits (Part slot rows) = RowsFit rows
 abbrev pub InputFits : Input → Type 0
 InputFits (Put block entry value) = ⊥
 InputFits (Parts items) = AllByRecursion PartFits items
-InputFits Seal = Unit {0}
-InputFits (Acked name index generation) = Unit {0}
 InputFits (Maps m) = MapFits m
-InputFits Tick = Unit {0}
+InputFits _ = Unit {0}
 
 -- Whatever fits and a log of checkpoints takes from now on, oldest first: what is in flight then has a text.
 abbrev pub StaysWritten : LogState → Type 0

@@ -47,25 +47,16 @@ module _ (g : Setting) (owner : Asker) (n : Net) where
   -- only a server gets Stores and Fences
   abbrev pub StoreSeen : NodeId → Store → Type 0
   StoreSeen (Server v) m = SentOf m.fragment.meta.name (StoreSent v m.fragment m.generation)
-  StoreSeen (Client c) m = Unit {0}
-  StoreSeen (Manager k) m = Unit {0}
-  StoreSeen Cleaner m = Unit {0}
-  StoreSeen Registry m = Unit {0}
+  StoreSeen _ m = Unit {0}
 
   -- a Fence of the log is for the first pass of a boot
   abbrev pub FenceSeen : NodeId → Fence → Type 0
   FenceSeen (Server v) m = (m.log.0 == g.log.0) ≡ true → (m.pass.att ≡ 0) × In (FenceSent v m.pass.inc) n.sent
-  FenceSeen (Client c) m = Unit {0}
-  FenceSeen (Manager k) m = Unit {0}
-  FenceSeen Cleaner m = Unit {0}
-  FenceSeen Registry m = Unit {0}
+  FenceSeen _ m = Unit {0}
 
   abbrev pub FencedSeen : NodeId → Fenced → Type 0
   FencedSeen (Server v) m = (m.log.0 == g.log.0) ≡ true → In (FencedSent v m.pass.inc m.generation m.held) n.sent
-  FencedSeen (Client c) m = Unit {0}
-  FencedSeen (Manager k) m = Unit {0}
-  FencedSeen Cleaner m = Unit {0}
-  FencedSeen Registry m = Unit {0}
+  FencedSeen _ m = Unit {0}
 
   abbrev pub StoredSeen : Stored → Type 0
   StoredSeen m = SentOf m.name (StoredSent m.name m.index m.generation)
@@ -95,10 +86,7 @@ module _ (g : Setting) (owner : Asker) (n : Net) where
 
   abbrev pub ReachedBy : NodeId → ℕ → Type 0
   ReachedBy (Server v) generation = generation ≤ (n.shelves v).generation
-  ReachedBy (Client c) generation = Unit {0}
-  ReachedBy (Manager k) generation = Unit {0}
-  ReachedBy Cleaner generation = Unit {0}
-  ReachedBy Registry generation = Unit {0}
+  ReachedBy _ generation = Unit {0}
 
   pub record HelloSeen (from : NodeId) (m : Hello) : Type 0 where
     pub own : from ≡ owner.node → AskedBy m.inc (owner.asked m.ask)
@@ -134,9 +122,7 @@ module _ (g : Setting) (owner : Asker) (n : Net) where
   -- what an event has a node do: each packet of it
   abbrev pub EffectSeen : NodeId → Effect → Type 0
   EffectSeen from (Send to said) = BodySeen from to said
-  EffectSeen from (Answer item answer) = Unit {0}
-  EffectSeen from (Lose seg) = Unit {0}
-  EffectSeen from (Does act) = Unit {0}
+  EffectSeen from _ = Unit {0}
 
   abbrev pub AllSeen : List packets.Packet → Type 0
   AllSeen sent = All PacketSeen sent

@@ -40,11 +40,8 @@ PastReading ask None = Unit {0}
 PastReading ask (Some r) = r.ask ≤ ask
 
 abbrev pub PastStage : ℕ → Stage → Type 0
-PastStage ask Hails = Unit {0}
-PastStage ask (Gathers lists) = Unit {0}
-PastStage ask (Asks lists) = Unit {0}
 PastStage ask (Reads b r) = PastReading ask r
-PastStage ask Over = Unit {0}
+PastStage ask _ = Unit {0}
 
 -- a scan of a node whose last question is this
 pub record ScanAsks (s : Scanning) (last : ℕ) : Type 0 where
