@@ -17,11 +17,8 @@ any_shelf (Server node) = Some node.shelf
 any_shelf _ = None
 
 pub any_shelf_changes : (node : AnyNode) (what : Do) → ShelvesChange what (any_shelf node) (any_shelf (any_step node what).node)
-any_shelf_changes (Client node) what = tt
-any_shelf_changes (Manager node) what = tt
 any_shelf_changes (Server node) what = events_change_by_one node what
-any_shelf_changes (Cleaner node) what = tt
-any_shelf_changes (Registry node) what = tt
+any_shelf_changes _ what = tt
 
 pub any_first_shelf : (node : NodeId) (setup : Setup) (items : List Work) → any_shelf (any_start node setup items) ≡ first_shelf node
 any_first_shelf (nodes.Client number) setup items = refl

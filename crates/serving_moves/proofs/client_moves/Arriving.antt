@@ -83,10 +83,7 @@ polled_goes s manager p =
 
 poll_goes : (s : Serving) (from : NodeId) (p : Poll) → Moves s (on_poll s from p)
 poll_goes s (node.Manager manager) p = polled_goes s manager p
-poll_goes s (node.Client k) p = stays s s (itself s)
-poll_goes s (node.Server k) p = stays s s (itself s)
-poll_goes s node.Cleaner p = stays s s (itself s)
-poll_goes s node.Registry p = stays s s (itself s)
+poll_goes s _ p = stays s s (itself s)
 
 hears_goes : (s : Serving) (news : SlotNews) → Moves s (hears s news)
 unfolding hears
@@ -110,11 +107,7 @@ supply_goes s m = hands_go s (input.Supplied m.block m.stamp m.inc m.req m.ver m
 
 supplies_plain : (f : Forward) (o : outputs.Out) → AllPlain Answering (supplies f o)
 supplies_plain f (output.Supply block ver value) = (tt, tt)
-supplies_plain f (output.Want block req again mode) = tt
-supplies_plain f (output.Gave block stamp) = tt
-supplies_plain f (output.Flush block) = tt
-supplies_plain f (output.Read block place) = tt
-supplies_plain f (output.Ready block) = tt
+supplies_plain f _ = tt
 
 forward_goes : (s : Serving) (f : Forward) → Moves s (on_forward s f)
 unfolding on_forward
@@ -150,9 +143,7 @@ ack_goes s a =
 fetch_goes : (s : Serving) (at : BlockAt) (x : Next) → Moves s (ends_fetch s at x)
 fetch_goes s at next.Again = hands_go s (input.Reask at.block)
 fetch_goes s at (next.Read segment) = hands_go s (input.Fetched at.block (value_at segment at.item))
-fetch_goes s at next.Wait = stays s s (itself s)
-fetch_goes s at next.Ask = stays s s (itself s)
-fetch_goes s at next.Lost = stays s s (itself s)
+fetch_goes s at _ = stays s s (itself s)
 
 told_goes : (s : Serving) (server ask : ℕ) (t : Answered) → Moves s (told_by s server ask t)
 unfolding told_by
@@ -169,10 +160,7 @@ told_goes s server ask t =
 
 on_told_goes : (s : Serving) (from : NodeId) (ask : ℕ) (t : Answered) → Moves s (on_told s from ask t)
 on_told_goes s (node.Server server) ask t = told_goes s server ask t
-on_told_goes s (node.Client k) ask t = stays s s (itself s)
-on_told_goes s (node.Manager k) ask t = stays s s (itself s)
-on_told_goes s node.Cleaner ask t = stays s s (itself s)
-on_told_goes s node.Registry ask t = stays s s (itself s)
+on_told_goes s _ ask t = stays s s (itself s)
 
 -- ---- maps
 

@@ -101,15 +101,11 @@ begins_go s target = by (group_in s.maps.groups target.seg.group)
 next_goes : (s : Serving) (r : ReadingState) (x : Next) → Moves s (confirmed_next s r x)
 next_goes s r next.Lost = loses_at_go s r.target.block r.target.seg.name
 next_goes s r next.Ask = plainly s (gives (with_reading s (Some r)) (fetches r)) (reading_kept s (Some r)) (fetches_plain r)
-next_goes s r next.Wait = stays s (with_reading s (Some r)) (reading_kept s (Some r))
-next_goes s r next.Again = stays s (with_reading s (Some r)) (reading_kept s (Some r))
-next_goes s r (next.Read segment) = stays s (with_reading s (Some r)) (reading_kept s (Some r))
+next_goes s r _ = stays s (with_reading s (Some r)) (reading_kept s (Some r))
 
 drawn_kept : (s : Serving) (stage : Stage) → Kept s (drawn_after s stage)
 drawn_kept s Between = record { calls = same_call _; number = refl; items = same _ }
-drawn_kept s Asking = itself s
-drawn_kept s Doubted = itself s
-drawn_kept s Over = itself s
+drawn_kept s _ = itself s
 
 confirms_go : (s : Serving) (r : ReadingState) → Moves s (confirms s r)
 unfolding confirms

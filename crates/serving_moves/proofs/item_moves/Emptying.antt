@@ -183,9 +183,7 @@ ends_go e read =
 confirmed_go : (e : Emptying) (x : Next) → Goes e (jobs.after_confirmed e x)
 confirmed_go e next.Ask = plainly e _ refl (same (items_of e)) (fetches_plain (hand_of e.job))
 confirmed_go e next.Lost = ends_go e None
-confirmed_go e next.Wait = rests e
-confirmed_go e next.Again = rests e
-confirmed_go e (next.Read segment) = rests e
+confirmed_go e _ = rests e
 
 confirmed_same : (e : Emptying) (job : Option Job) (ask : ℕ) → ItemsStay (items_of e) (items_of (jobs.confirmed_in e job ask).state)
 confirmed_same e None ask = same (items_of e)
@@ -319,10 +317,7 @@ polled_goes e manager p =
 poll_goes : (e : Emptying) (from : NodeId) (p : Poll) → Goes e (emptying.on_poll e from p)
 unfolding emptying.on_poll
 poll_goes e (node.Manager manager) p = polled_goes e manager p
-poll_goes e (node.Client k) p = rests e
-poll_goes e (node.Server k) p = rests e
-poll_goes e node.Cleaner p = rests e
-poll_goes e node.Registry p = rests e
+poll_goes e _ p = rests e
 
 -- ---- the maps
 

@@ -109,17 +109,13 @@ putting_well ino offset bytes =
     (λ _. filling_well ino (offset / block_size) (offset % block_size) bytes (plan.end_of offset bytes))
 
 at_entry_well : (dir : Ino) (name : Name) (ver : ℕ) (rows : List Row) (job : Job) (node : Node) → EndsWell (plan.at_entry dir name ver rows job node)
-at_entry_well dir name ver rows (Makes made) node = tt
 at_entry_well dir name ver rows (Puts offset bytes) node = putting_well node.ino offset bytes
-at_entry_well dir name ver rows (Gets offset len) node = tt
-at_entry_well dir name ver rows Sizes node = tt
 at_entry_well dir name ver rows Lists node =
     by_test EndsWell (is_directory node) (plan.gathering node.ino 0 8 []) (plan.refuses fault.NotDir) (λ _. gathering_well node.ino 0 8 []) (λ _. tt)
-at_entry_well dir name ver rows Removes node = tt
 at_entry_well dir name ver rows (Moves to) node = path_well to fault.Exists (Links node dir name)
-at_entry_well dir name ver rows (Links linked from old) node = tt
 at_entry_well dir name ver rows (Unlinks old) node =
     by_test EndsWell (same_node old node) (plan.leaving dir name ver rows node.ino (Unlinks old)) (Ends answer.Done) (λ _. tt) (λ _. tt)
+at_entry_well dir name ver rows _ node = tt
 
 unfound_well : (dir : Ino) (name : Name) (ver : ℕ) (rows : List Row) (job : Job) → EndsWell (plan.unfound dir name ver rows job)
 unfound_well dir name ver rows (Makes made) = entering_well dir name ver rows made (Makes made)

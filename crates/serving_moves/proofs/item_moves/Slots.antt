@@ -42,12 +42,9 @@ use Rattle.serving_moves.specs.item_moves.Moves.Losses.{Telling}
 
 said_plain : (slot epoch : ℕ) (o : SlotOut) → AllPlain Telling (tokens.said slot epoch o)
 unfolding tokens.said
-said_plain slot epoch (slot_out.Grant client block stamp inc req mode entry) = (tt, tt)
-said_plain slot epoch (slot_out.Forward client block stamp to inc req ver) = (tt, tt)
-said_plain slot epoch (slot_out.Recall client block stamp keep) = (tt, tt)
-said_plain slot epoch (slot_out.Applied log applied) = (tt, tt)
 said_plain slot epoch (slot_out.Live entry) = tt
 said_plain slot epoch slot_out.Dead = tt
+said_plain slot epoch _ = (tt, tt)
 
 takes_plain : (p : SlotPhase) (slot : ℕ) (given : SlotIn) → AllPlain Telling (tokens.takes p slot given).outs
 unfolding tokens.takes
@@ -79,9 +76,7 @@ check_plain (phase.Broken epoch seg) check = tt
 usage_plain : (p : SlotPhase) (asked : UsageAsk) → AllPlain Telling (tokens.on_usage_ask p asked)
 unfolding tokens.on_usage_ask
 usage_plain (phase.Active a) asked = (tt, tt)
-usage_plain (phase.Away epoch) asked = tt
-usage_plain (phase.Taking t) asked = tt
-usage_plain (phase.Broken epoch seg) asked = tt
+usage_plain _ asked = tt
 
 -- ---- the table
 
@@ -131,9 +126,7 @@ table_recalls t = all_steps table.recalls (IsPlain Telling) recalls_plain t all_
 
 fetches_plain : (p : SlotPhase) (q : Questions) (server : ℕ) (name : SegName) (own : ℕ) → AllPlain Telling (takeovers.fetches p q server name own).outs
 fetches_plain (phase.Taking t) q server name own = (tt, tt)
-fetches_plain (phase.Away epoch) q server name own = tt
-fetches_plain (phase.Active a) q server name own = tt
-fetches_plain (phase.Broken epoch seg) q server name own = tt
+fetches_plain _ q server name own = tt
 
 says_plain : (slot : ℕ) (a : Asker) (o : TakeOut) → AllPlain Telling (takeovers.says slot a o).outs
 unfolding takeovers.says
