@@ -68,15 +68,6 @@ is_fall word = both is_block (λ rest. count_of 58 rest == 1) (cut_at 58 word)
 abbrev pub is_segment : List ℕ → Bool
 is_segment word = both is_writer (λ rest. count_of 46 rest == 2) (cut_at 46 word)
 
--- what a word says that was done with segments
-abbrev pub segment_verb_of : List ℕ → Option Verb
-segment_verb_of word =
-    if bytes_eq word (codes "back") then Some verbs.Back
-    else if bytes_eq word (codes "lost") then Some verbs.Lost
-    else if bytes_eq word (codes "filed") then Some verbs.Filed
-    else if bytes_eq word (codes "dropped") then Some verbs.Dropped
-    else None
-
 -- what a word says that was done
 abbrev pub verb_of : List ℕ → Option Verb
 verb_of word =
@@ -84,7 +75,11 @@ verb_of word =
     else if bytes_eq word (codes "read") then Some verbs.Read
     else if bytes_eq word (codes "synced") then Some verbs.Synced
     else if bytes_eq word (codes "fell") then Some verbs.Fell
-    else segment_verb_of word
+    else if bytes_eq word (codes "back") then Some verbs.Back
+    else if bytes_eq word (codes "lost") then Some verbs.Lost
+    else if bytes_eq word (codes "filed") then Some verbs.Filed
+    else if bytes_eq word (codes "dropped") then Some verbs.Dropped
+    else None
 
 -- the words behind a verb are of its form
 abbrev pub fits : Verb → List (List ℕ) → Bool

@@ -3,7 +3,7 @@ ghost use Rattle.std.specs.Prelude.{◌≡◌, Some, None, MatchOption};
 ghost use Rattle.std.specs.List.{list_all};
 ghost use Rattle.script_text.specs.Reading.{cut_at};
 ghost use Rattle.script_text.specs.Words.{words as all_words};
-ghost use Rattle.audit.specs.Shapes.{is_digit, are_digits, is_numbered, is_writer, count_of, is_block, is_version, is_flight, is_fall, is_segment, segment_verb_of, verb_of, fits, shape_of};
+ghost use Rattle.audit.specs.Shapes.{is_digit, are_digits, is_numbered, is_writer, count_of, is_block, is_version, is_flight, is_fall, is_segment, verb_of, fits, shape_of};
 
 use script_text::word::{Words, cut_at, spells};
 
@@ -151,23 +151,6 @@ fn are_segments(words: Words) -> bool
     true
 }
 
-/// What a word says that was done to a segment or lost with one.
-fn segment_verb_of(word: &[u8]) -> Option<Verb>
-    ensures { result ≡ segment_verb_of word.now }
-{
-    if spells(word, b"back") {
-        Some(Verb::Back)
-    } else if spells(word, b"lost") {
-        Some(Verb::Lost)
-    } else if spells(word, b"filed") {
-        Some(Verb::Filed)
-    } else if spells(word, b"dropped") {
-        Some(Verb::Dropped)
-    } else {
-        None
-    }
-}
-
 /// What a word says that an act did.
 fn verb_of(word: &[u8]) -> Option<Verb>
     ensures { result ≡ verb_of word.now }
@@ -180,8 +163,16 @@ fn verb_of(word: &[u8]) -> Option<Verb>
         Some(Verb::Synced)
     } else if spells(word, b"fell") {
         Some(Verb::Fell)
+    } else if spells(word, b"back") {
+        Some(Verb::Back)
+    } else if spells(word, b"lost") {
+        Some(Verb::Lost)
+    } else if spells(word, b"filed") {
+        Some(Verb::Filed)
+    } else if spells(word, b"dropped") {
+        Some(Verb::Dropped)
     } else {
-        segment_verb_of(word)
+        None
     }
 }
 
