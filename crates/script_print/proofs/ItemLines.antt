@@ -31,37 +31,7 @@ regular f = each_form is_regular refl f
 -- the line that asks for the work of a form
 asked_of : (f : Form) (v : Meanings (parts f)) → asked (work_of f v) ≡ by f v
 asked_of Bput v = refl
-asked_of Bget v = refl
-asked_of Sync v = refl
-asked_of Mk v = refl
-asked_of Mkdir v = refl
-asked_of Put v = refl
-asked_of Get v = refl
-asked_of Size v = refl
-asked_of Ls v = refl
-asked_of Rm v = refl
-asked_of Mv v = refl
-asked_of ClientCrash v = refl
-asked_of ClientRestart v = refl
-asked_of CleanerCrash v = refl
-asked_of CleanerRestart v = refl
-asked_of Clean v = refl
-asked_of ManagerCrash v = refl
-asked_of ManagerRestart v = refl
-asked_of Checkpoint v = refl
-asked_of Lose v = refl
-asked_of Rebuild v = refl
-asked_of ServerStop v = refl
-asked_of ServerStart v = refl
-asked_of Move v = refl
-asked_of BoardStop v = refl
-asked_of BoardStart v = refl
-asked_of NetLose v = refl
-asked_of NetAgain v = refl
-asked_of NetMix v = refl
-asked_of NetHold v = refl
-asked_of NetGo v = refl
-asked_of NetStep v = refl
+asked_of f v = refl
 
 and_parts : (a b : Bool) → (a && b) ≡ true → (a ≡ true) × (b ≡ true)
 and_parts true b e = (refl, e)
