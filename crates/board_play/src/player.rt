@@ -37,8 +37,11 @@ pub struct Player<N> {
     pub offered: u32,
 }
 
-impl<N: Drop> Drop for Player<N> {
-    fn drop(self) {
+impl<N> Player<N> {
+    /// The world, what happened in it, and what happened to nodes and boards.
+    fn into_parts(self) -> (World<N>, List<Event>, List<BoardEvent>)
+        ensures { (result.0 ≡ self.world) × (result.1 ≡ self.events) × (result.2 ≡ self.happened) }
+    {
         let Player {
             boards,
             world,
@@ -50,11 +53,18 @@ impl<N: Drop> Drop for Player<N> {
             offered: _,
         } = self;
         drop(boards);
-        drop(world);
-        drop(happened);
-        drop(events);
         drop(sent);
         drop(schedule);
+        (world, events, happened)
+    }
+}
+
+impl<N: Drop> Drop for Player<N> {
+    fn drop(self) {
+        let (world, events, happened) = self.into_parts();
+        drop(world);
+        drop(events);
+        drop(happened);
     }
 }
 
@@ -81,19 +91,7 @@ impl<N: Drop> Player<N> {
     pub(crate) fn into_estate(self, script: Script) -> BoardEstate<N>
         ensures { result ≡ left_by script self }
     {
-        let Player {
-            boards,
-            world,
-            happened,
-            events,
-            sent,
-            schedule,
-            unanswered: _,
-            offered: _,
-        } = self;
-        drop(boards);
-        drop(sent);
-        drop(schedule);
+        let (world, events, happened) = self.into_parts();
         BoardEstate {
             estate: Estate {
                 script,

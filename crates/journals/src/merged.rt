@@ -13,28 +13,13 @@ use xfs_base::{List, Mem};
 
 /// What happened to all nodes so far, in one order; and what a world is of without its nodes: which nodes there
 /// are, the clock of each, what they sent, and what they did.
+#[derive(Drop)]
 pub(crate) struct Merged {
     pub(crate) cluster: Cluster,
     clocks: List<u64>,
     sent: List<SharedPacket>,
     acts: List<Act>,
     events: List<Event>,
-}
-
-impl Drop for Merged {
-    fn drop(self) {
-        let Merged {
-            cluster: _,
-            clocks,
-            sent,
-            acts,
-            events,
-        } = self;
-        drop(clocks);
-        drop(sent);
-        drop(acts);
-        drop(events);
-    }
 }
 
 /// Puts shared packets behind those that were sent.

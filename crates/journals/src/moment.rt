@@ -24,14 +24,7 @@ pub struct Moment {
 
 impl Drop for Moment {
     fn drop(self) {
-        let Moment {
-            clock: _,
-            what,
-            from: _,
-            number: _,
-            packets,
-            acts,
-        } = self;
+        let (what, packets, acts) = self.into_told();
         drop(what);
         drop(packets);
         drop(acts);

@@ -17,11 +17,7 @@ pub struct Mounted<N> {
 
 impl<N: Drop> Drop for Mounted<N> {
     fn drop(self) {
-        let Mounted {
-            estate,
-            calls,
-            replies,
-        } = self;
+        let (estate, calls, replies) = self.into_parts();
         drop(estate);
         drop(calls);
         drop(replies);
