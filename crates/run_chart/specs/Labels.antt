@@ -67,10 +67,6 @@ subject_of (body.Stored m) = Segment m.name
 subject_of (body.Fetch m) = Segment m.name
 subject_of (body.Fragment m) = Segment m.fragment.meta.name
 subject_of (body.Missing m) = Segment m.name
-subject_of (body.Fence m) = Nothing
-subject_of (body.Fenced m) = Nothing
-subject_of (body.List m) = Nothing
-subject_of (body.Listed m) = Nothing
 subject_of (body.Delete m) = Segment m.name
 subject_of (body.Deleted m) = Segment m.name
 subject_of (body.Check m) = Block m.block
@@ -78,11 +74,9 @@ subject_of (body.Live m) = Block m.block
 subject_of (body.Dead m) = Block m.block
 subject_of (body.UsageAsk m) = Slot m.slot
 subject_of (body.Usage m) = Slot m.slot
-subject_of (body.Hello m) = Nothing
-subject_of (body.Welcome m) = Nothing
-subject_of (body.MapNews m) = Nothing
 subject_of (body.CkptDone m) = Slot m.slot
 subject_of (body.CkptAck m) = Slot m.slot
+subject_of _ = Nothing
 
 -- which part of xFS it belongs to: who may read and write, the logs, the reading of what is stored, or the maps
 abbrev pub part_of : Body → Part

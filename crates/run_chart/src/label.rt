@@ -109,10 +109,6 @@ fn subject_of(body: &Body) -> Subject
         Body::Fetch(said) => Subject::Segment(said.name),
         Body::Fragment(said) => Subject::Segment(said.fragment.meta.name),
         Body::Missing(said) => Subject::Segment(said.name),
-        Body::Fence(_) => Subject::Nothing,
-        Body::Fenced(_) => Subject::Nothing,
-        Body::List(_) => Subject::Nothing,
-        Body::Listed(_) => Subject::Nothing,
         Body::Delete(said) => Subject::Segment(said.name),
         Body::Deleted(said) => Subject::Segment(said.name),
         Body::Check(said) => Subject::Block(said.block),
@@ -120,11 +116,9 @@ fn subject_of(body: &Body) -> Subject
         Body::Dead(said) => Subject::Block(said.block),
         Body::UsageAsk(said) => Subject::Slot(said.slot),
         Body::Usage(said) => Subject::Slot(said.slot),
-        Body::Hello(_) => Subject::Nothing,
-        Body::Welcome(_) => Subject::Nothing,
-        Body::MapNews(_) => Subject::Nothing,
         Body::CkptDone(said) => Subject::Slot(said.slot),
         Body::CkptAck(said) => Subject::Slot(said.slot),
+        _ => Subject::Nothing,
     }
 }
 

@@ -29,6 +29,7 @@ pub enum Span {
 }
 
 /// The row of an event.
+#[derive(Drop)]
 pub struct Row {
     /// Its number in the picture, from 0.
     pub number: usize,
@@ -46,22 +47,6 @@ pub struct Row {
     pub acts: Stretch,
     /// Of each node, in their order, whether it serves behind the event.
     pub serving: List<bool>,
-}
-
-impl Drop for Row {
-    fn drop(self) {
-        let Row {
-            number: _,
-            begun: _,
-            event: _,
-            node: _,
-            clock: _,
-            sent: _,
-            acts: _,
-            serving,
-        } = self;
-        drop(serving);
-    }
 }
 
 /// How many items of some lines stand before the line of a number.
