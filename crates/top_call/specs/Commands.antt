@@ -51,35 +51,18 @@ command_of (word ∷ a ∷ b ∷ c ∷ more) = None
 -- whether a command reads an input
 abbrev pub reads : Option Command → Bool
 reads None = false
-reads (Some Run) = true
-reads (Some (Live workers)) = true
-reads (Some (Mount workers)) = true
 reads (Some (Gen drawn)) = false
 reads (Some (Big drawn)) = false
-reads (Some Audit) = true
-reads (Some Boards) = true
-reads (Some Disks) = true
+reads (Some c) = true
 
 -- whether a command is carried out by threads
 abbrev pub is_live : Option Command → Bool
-is_live None = false
-is_live (Some Run) = false
 is_live (Some (Live workers)) = true
 is_live (Some (Mount workers)) = true
-is_live (Some (Gen drawn)) = false
-is_live (Some (Big drawn)) = false
-is_live (Some Audit) = false
-is_live (Some Boards) = false
-is_live (Some Disks) = false
+is_live asked = false
 
 -- a script that is drawn has at most 2,000 turns
 abbrev pub HasFewTurns : Option Command → Type 0
-HasFewTurns None = Unit {0}
-HasFewTurns (Some Run) = Unit {0}
-HasFewTurns (Some (Live workers)) = Unit {0}
-HasFewTurns (Some (Mount workers)) = Unit {0}
 HasFewTurns (Some (Gen drawn)) = drawn.turns ≤ 2000
 HasFewTurns (Some (Big drawn)) = drawn.turns ≤ 2000
-HasFewTurns (Some Audit) = Unit {0}
-HasFewTurns (Some Boards) = Unit {0}
-HasFewTurns (Some Disks) = Unit {0}
+HasFewTurns asked = Unit {0}

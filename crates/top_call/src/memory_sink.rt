@@ -13,6 +13,7 @@ use xfs_base::{Failed, List, Mem};
 
 /// Room in memory for bytes to be written, at most a piece at a time. The calls whose numbers, from 1,
 /// are named fail or take nothing. Its room is made at the start; no other call takes memory.
+#[derive(Drop)]
 pub struct MemSink {
     buffer: Vec<u8>,
     len: usize,
@@ -21,23 +22,6 @@ pub struct MemSink {
     empties: List<u32>,
     calls: u64,
     faults: u64,
-}
-
-impl Drop for MemSink {
-    fn drop(self) {
-        let MemSink {
-            buffer,
-            len: _,
-            piece: _,
-            fails,
-            empties,
-            calls: _,
-            faults: _,
-        } = self;
-        drop(buffer);
-        drop(fails);
-        drop(empties);
-    }
 }
 
 impl Model for MemSink {

@@ -11,6 +11,7 @@ use xfs_base::{Failed, List};
 
 /// Bytes in memory to be read, at most a piece at a time. The calls whose numbers, from 1, are named
 /// fail. No call takes memory.
+#[derive(Drop)]
 pub struct MemSource {
     bytes: List<u8>,
     place: usize,
@@ -18,21 +19,6 @@ pub struct MemSource {
     fails: List<u32>,
     calls: u64,
     faults: u64,
-}
-
-impl Drop for MemSource {
-    fn drop(self) {
-        let MemSource {
-            bytes,
-            place: _,
-            piece: _,
-            fails,
-            calls: _,
-            faults: _,
-        } = self;
-        drop(bytes);
-        drop(fails);
-    }
 }
 
 impl Model for MemSource {

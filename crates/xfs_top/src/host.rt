@@ -7,16 +7,10 @@ use top_call::{Sink, Source};
 use xfs_base::Failed;
 
 /// Reads from standard input, or another reader, and counts its failures.
+#[derive(Drop)]
 pub struct StdSource<R> {
     reader: R,
     faults: u64,
-}
-
-impl<R: Drop> Drop for StdSource<R> {
-    fn drop(self) {
-        let StdSource { reader, faults: _ } = self;
-        drop(reader);
-    }
 }
 
 impl<R: Read> StdSource<R> {
@@ -45,16 +39,10 @@ impl<R: Read> Source for StdSource<R> {
 }
 
 /// Writes to standard output, or another writer, and counts its failures; a write that takes nothing is one.
+#[derive(Drop)]
 pub struct StdSink<W> {
     writer: W,
     faults: u64,
-}
-
-impl<W: Drop> Drop for StdSink<W> {
-    fn drop(self) {
-        let StdSink { writer, faults: _ } = self;
-        drop(writer);
-    }
 }
 
 impl<W: Write> StdSink<W> {
