@@ -45,10 +45,6 @@ pub state_armed : (shelf : Kept MemState) (passes : Option ℕ) → (armed shelf
 state_armed shelf None = refl
 state_armed shelf (Some n) = refl
 
-pub open_armed : (shelf : Kept MemState) (passes : Option ℕ) → (armed shelf passes).closed ≡ shelf.closed
-open_armed shelf None = refl
-open_armed shelf (Some n) = refl
-
 passes_armed : (shelf : Kept MemState) (passes : Option ℕ) → shelf.disk.drive.passes ≡ None → (armed shelf passes).disk.drive.passes ≡ passes
 passes_armed shelf None waits = waits
 passes_armed shelf (Some n) waits = refl

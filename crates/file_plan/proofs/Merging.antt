@@ -10,7 +10,6 @@ use Rattle.file_plan.specs.declared.node.Node.{Node}
 use Rattle.file_plan.specs.Merging.{Passes}
 use Rattle.file_plan.specs.Names.{Name, Row, name_cmp}
 use Rattle.file_plan.specs.Plan.{insert_all}
-use Rattle.xfs_base.proofs.Booleans.{and_second}
 use Rattle.file_plan.proofs.Buckets.{name_total, one_name, is_T, first, second}
 use Rattle.file_plan.proofs.RowPlaces.{put_step, less_all}
 
@@ -103,11 +102,3 @@ stops_empty done others now (row ∷ rows) name way none node more rising = absu
 pub record Merges (done others more all : List Row) : Type 0 where
   pub rising : is_sorted name_cmp more ≡ true
   pub same : done ++ insert_all others more ≡ all
-
-pub merges_step : (done others now rest after more all : List Row) (name : Name) (node : Node) → Merges done others ((name, node) ∷ more) all
-    → Passes done others name now rest → after ≡ now ++ (name, node) ∷ [] → Merges after rest more all
-merges_step done others now rest after more all name node m passes added = record {
-  rising = and_second (below_all name_cmp name more) (is_sorted name_cmp more) m.rising;
-  same = ap (λ (rs : List Row). rs ++ insert_all rest more) added ∙ append_assoc now ((name, node) ∷ []) (insert_all rest more)
-      ∙ sym (passes node more m.rising) ∙ m.same;
-}

@@ -36,15 +36,6 @@ pub row_name : (bytes : List ℕ) → has_row bytes ≡ true → is_good (take (
 unfolding has_row
 row_name bytes has = and_second (is_kind_byte (get_or bytes 0 0)) _ (and_second (nat_le (6 + name_length bytes) (length bytes)) _ has)
 
--- the four bytes of an index number
-pub four_bytes : (bytes : List ℕ) → 6 ≤ length bytes → get_or bytes 1 0 ∷ get_or bytes 2 0 ∷ get_or bytes 3 0 ∷ get_or bytes 4 0 ∷ [] ≡ take 4 (drop 1 bytes)
-four_bytes [] long = absurd (omega (arith, long))
-four_bytes (k ∷ []) long = absurd (omega (arith, long))
-four_bytes (k ∷ a ∷ []) long = absurd (omega (arith, long))
-four_bytes (k ∷ a ∷ b ∷ []) long = absurd (omega (arith, long))
-four_bytes (k ∷ a ∷ b ∷ c ∷ []) long = absurd (omega (arith, long))
-four_bytes (k ∷ a ∷ b ∷ c ∷ d ∷ rest) long = refl
-
 -- ---- the loop
 
 -- the entries that were read, and those to come
@@ -57,13 +48,6 @@ pub record Reads (rows : List Row) (rest all : List ℕ) : Type 0 where
   pub limit : ℕ
   pub enough : length rest ≤ limit
   pub same : with_all rows (rows_from limit rest) ≡ rows_from (length all) all
-
-pub reads_first : (all : List ℕ) → Reads [] all all
-reads_first all = record { limit = length all; enough = omega arith; same = by (rows_from (length all) all) }
-  where
-    by : (o : Option (List Row)) → with_all [] o ≡ o
-    by None = refl
-    by (Some rows) = refl
 
 all_more : (rows : List Row) (row : Row) (o : Option (List Row)) → with_all (rows ++ row ∷ []) o ≡ with_all rows (with_row row o)
 all_more rows row None = refl
@@ -95,14 +79,6 @@ reads_more rows (b ∷ bs) all row has fact r = by r.limit r.enough r.same
           ∙ ap (λ (r : Row). with_all rows (with_row r (rows_from n (rest_of_rows (b ∷ bs))))) fact
           ∙ ap (with_all rows) (sym (front_step n b bs true has)) ∙ same;
     }
-
-pub reads_none : (rows : List Row) (rest all : List ℕ) → 0 < length rest → has_row rest ≡ false → Reads rows rest all → None ≡ rows_from (length all) all
-reads_none rows [] all some has r = absurd (omega (arith, some))
-reads_none rows (b ∷ bs) all some has r = by r.limit r.enough r.same
-  where
-    by : (n : ℕ) → length (b ∷ bs) ≤ n → with_all rows (rows_from n (b ∷ bs)) ≡ rows_from (length all) all → None ≡ rows_from (length all) all
-    by zero enough same = absurd (omega (arith, enough))
-    by (suc n) enough same = ap (with_all rows) (sym (front_step n b bs false has)) ∙ same
 
 pub reads_all : (rows : List Row) (rest all : List ℕ) → length rest ≡ 0 → Reads rows rest all → Some rows ≡ rows_from (length all) all
 reads_all rows [] all none r = ap Some (sym (append-nil rows)) ∙ r.same

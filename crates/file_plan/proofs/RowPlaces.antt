@@ -1,6 +1,6 @@
 -- Where an entry comes or goes in a list of entries, found from the front on; and a list that rises from each entry to the next.
-use Rattle.std.proofs.Common.{◌≡◌, ℕ, suc, ◌+◌, ◌<◌, ◌≤◌, Bool, true, false, cond, ◌&&◌, List, [], ◌∷◌, ◌++◌, length, take, drop, get_or, refl, sym, ap, subst, ◌∙◌, arith, append_assoc, length-append}
-use Rattle.std.specs.Prelude.{T, insert, remove}
+use Rattle.std.proofs.Common.{◌≡◌, ℕ, suc, ◌+◌, ◌<◌, ◌≤◌, Bool, true, false, cond, ◌&&◌, List, [], ◌∷◌, ◌++◌, length, take, drop, get_or, refl, sym, ap, subst, ◌∙◌, arith, length-append}
+use Rattle.std.specs.Prelude.{T, insert}
 use Rattle.std.proofs.Math.ListN.{set}
 use Rattle.std.specs.FinMap.Entries.{is_sorted, below_all}
 use Rattle.std.specs.Ordering.{match_ordering, is_eq, is_lt, is_ge}
@@ -8,7 +8,7 @@ use Rattle.std.specs.Map.{remove_entry}
 use Rattle.std.specs.BTreeMap.{is_at, insert_entry}
 use Rattle.std.specs.declared.cmp.Ordering.{Ordering}
 use Rattle.std.specs.declared.cmp.Ordering.TheVariants.{Less, Equal, Greater}
-use Rattle.std.proofs.lemmas.List.{drop_more, take_more, take_all, drop_all, set_split, append-nil}
+use Rattle.std.proofs.lemmas.List.{drop_more, drop_all, set_split}
 use Rattle.file_plan.specs.declared.node.Node.{Node}
 use Rattle.file_plan.specs.Names.{Name, Row, name_cmp}
 use Rattle.file_plan.specs.Format.{rows_text}
@@ -25,25 +25,6 @@ pub put_step : (row : Row) (rest : List Row) (name : Name) (node : Node) (o : Or
     (row ∷ insert_entry name_cmp rest name node)
 put_step row rest name node o e =
     ap (λ (r : Ordering). match_ordering r ((name, node) ∷ row ∷ rest) ((row.0, node) ∷ rest) (row ∷ insert_entry name_cmp rest name node)) e
-
-pub put_past : (rows : List Row) (name : Name) (node : Node) (i : ℕ) (row : Row) → i < length rows → row ≡ get_or rows i row → name_cmp name row.0 ≡ Greater
-    → put_from rows name node i ≡ put_from rows name node (i + 1)
-put_past rows name node i row here fact greater =
-    ap (λ (rs : List Row). take i rows ++ insert_entry name_cmp rs name node) (drop_more rows i row here)
-    ∙ ap (λ (r : Row). take i rows ++ insert_entry name_cmp (r ∷ drop (i + 1) rows) name node) (sym fact)
-    ∙ ap (λ (rs : List Row). take i rows ++ rs) (put_step row (drop (i + 1) rows) name node Greater greater)
-    ∙ sym (append_assoc (take i rows) (row ∷ []) (insert_entry name_cmp (drop (i + 1) rows) name node))
-    ∙ ap (λ (r : Row). (take i rows ++ r ∷ []) ++ insert_entry name_cmp (drop (i + 1) rows) name node) fact
-    ∙ ap (λ (rs : List Row). rs ++ insert_entry name_cmp (drop (i + 1) rows) name node) (sym (take_more rows i row here))
-
-pub put_before : (rows : List Row) (name : Name) (node : Node) (i : ℕ) (row : Row) → i < length rows → row ≡ get_or rows i row → name_cmp name row.0 ≡ Less
-    → put_from rows name node i ≡ insert rows i (name, node)
-put_before rows name node i row here fact less =
-    ap (λ (rs : List Row). take i rows ++ insert_entry name_cmp rs name node) (drop_more rows i row here)
-    ∙ ap (λ (r : Row). take i rows ++ insert_entry name_cmp (r ∷ drop (i + 1) rows) name node) (sym fact)
-    ∙ ap (λ (rs : List Row). take i rows ++ rs) (put_step row (drop (i + 1) rows) name node Less less)
-    ∙ ap (λ (r : Row). take i rows ++ (name, node) ∷ r ∷ drop (i + 1) rows) fact
-    ∙ ap (λ (rs : List Row). take i rows ++ (name, node) ∷ rs) (sym (drop_more rows i row here))
 
 one_more : (i : ℕ) → i + 1 ≡ suc i
 one_more i = omega arith
@@ -67,32 +48,6 @@ put_last rows name node i past =
 
 abbrev pub cut_from : List Row → Name → ℕ → List Row
 cut_from rows name i = take i rows ++ remove_entry (is_at (name_cmp name)) (drop i rows)
-
-cut_step : (row : Row) (rest : List Row) (name : Name) (b : Bool) → is_at (name_cmp name) row.0 ≡ b
-    → remove_entry (is_at (name_cmp name)) (row ∷ rest) ≡ cond b rest (row ∷ remove_entry (is_at (name_cmp name)) rest)
-cut_step row rest name b e = ap (λ (t : Bool). cond t rest (row ∷ remove_entry (is_at (name_cmp name)) rest)) e
-
-pub cut_past : (rows : List Row) (name : Name) (i : ℕ) (row : Row) → i < length rows → row ≡ get_or rows i row → is_eq (name_cmp name row.0) ≡ false
-    → cut_from rows name i ≡ cut_from rows name (i + 1)
-cut_past rows name i row here fact other =
-    ap (λ (rs : List Row). take i rows ++ remove_entry (is_at (name_cmp name)) rs) (drop_more rows i row here)
-    ∙ ap (λ (r : Row). take i rows ++ remove_entry (is_at (name_cmp name)) (r ∷ drop (i + 1) rows)) (sym fact)
-    ∙ ap (λ (rs : List Row). take i rows ++ rs) (cut_step row (drop (i + 1) rows) name false other)
-    ∙ sym (append_assoc (take i rows) (row ∷ []) (remove_entry (is_at (name_cmp name)) (drop (i + 1) rows)))
-    ∙ ap (λ (r : Row). (take i rows ++ r ∷ []) ++ remove_entry (is_at (name_cmp name)) (drop (i + 1) rows)) fact
-    ∙ ap (λ (rs : List Row). rs ++ remove_entry (is_at (name_cmp name)) (drop (i + 1) rows)) (sym (take_more rows i row here))
-
-pub cut_here : (rows : List Row) (name : Name) (i : ℕ) (row : Row) → i < length rows → row ≡ get_or rows i row → is_eq (name_cmp name row.0) ≡ true
-    → cut_from rows name i ≡ remove rows i
-cut_here rows name i row here fact same =
-    ap (λ (rs : List Row). take i rows ++ remove_entry (is_at (name_cmp name)) rs) (drop_more rows i row here)
-    ∙ ap (λ (r : Row). take i rows ++ remove_entry (is_at (name_cmp name)) (r ∷ drop (i + 1) rows)) (sym fact)
-    ∙ ap (λ (rs : List Row). take i rows ++ rs) (cut_step row (drop (i + 1) rows) name true same)
-    ∙ ap (λ (k : ℕ). take i rows ++ drop k rows) (one_more i)
-
-pub cut_last : (rows : List Row) (name : Name) (i : ℕ) → length rows ≤ i → cut_from rows name i ≡ rows
-cut_last rows name i past =
-    ap (λ (rs : List Row). take i rows ++ remove_entry (is_at (name_cmp name)) rs) (drop_all i rows past) ∙ append-nil (take i rows) ∙ take_all i rows past
 
 -- ---- rising names
 

@@ -1,5 +1,5 @@
 -- What a plan has written or settled stays so while more answers come.
-use Rattle.std.proofs.Common.{◌≡◌, ℕ, ◌+◌, Bool, true, false, cond, List, [], ◌∷◌, ◌++◌, refl, ap, ◌∙◌, append_assoc}
+use Rattle.std.proofs.Common.{◌≡◌, ℕ, Bool, true, false, cond, List, [], ◌∷◌, ◌++◌, refl, ap, ◌∙◌, append_assoc}
 use Rattle.xfs_base.specs.declared.block.BlockId.{BlockId}
 use Rattle.version_model.specs.History.{Content}
 use Rattle.file_plan.specs.declared.block_call.BlockAnswer.{BlockAnswer}

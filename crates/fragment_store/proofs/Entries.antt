@@ -124,10 +124,6 @@ pub map-name-meta : (fs : List Fragment) → map (λ m. m.name) (map (λ f. f.me
 map-name-meta [] = refl
 map-name-meta (f ∷ fs) = ap (λ ns. f.meta.name ∷ ns) (map-name-meta fs)
 
-pub IsShelf-empty : IsShelf [] []
-unfolding IsStrictlySortedBy
-IsShelf-empty = record { named = refl; sorted = tt; marked = tt; away = λ name marked. refl }
-
 pub none_held : (o : Option Fragment) → is_some o ≡ false → o ≡ None
 none_held None e = refl
 none_held (Some f) e = contrary (sym e)

@@ -97,9 +97,6 @@ is_marked-with (m ∷ ms) new name =
 pub log_cmp_total : IsTotalOrder log_cmp
 log_cmp_total = on_total (λ (l : LogId). l.0) nat_cmp_total
 
-no_fence : Pass
-no_fence = record { inc = 0; att = 0 }
-
 -- the fence of each log once one is set
 pub fence_of-with : (fences : List (LogId × Pass)) (log : LogId) (pass : Pass) (other : LogId)
     → fence_of (insert_entry log_cmp fences log pass) other ≡ cond (eq_by_cmp log_cmp other log) pass (fence_of fences other)

@@ -1,15 +1,13 @@
 -- What is known to have an answer is what has one.
-use Rattle.std.proofs.Common.{◌≡◌, refl, sym, ap, subst, ◌∙◌, ℕ, ◌+◌, ◌<◌, ◌≤◌, ◌≢◌, Bool, true, false, ◌||◌, ◌&&◌, ◌==◌, nat_lt, List, [], ◌∷◌, ◌++◌, length, take, arith, get_or}
+use Rattle.std.proofs.Common.{◌≡◌, refl, sym, ap, subst, ◌∙◌, ℕ, ◌+◌, ◌<◌, ◌≤◌, Bool, true, false, ◌||◌, ◌&&◌, ◌==◌, nat_lt, List, [], ◌∷◌, ◌++◌, length, take, arith, get_or}
 use Rattle.std.specs.Prelude.{nat_le}
-use Rattle.std.specs.List.{Contains}
 use Rattle.std.proofs.lemmas.Bool.Decides.{nat_tests}
-use Rattle.std.proofs.lemmas.List.Folds.{list_any-append, list_any_at, list_any_more}
+use Rattle.std.proofs.lemmas.List.Folds.{list_any-append, list_any_more}
 use Rattle.version_model.specs.declared.act.Act.{Act}
 use Rattle.xfs_base.specs.declared.node.NodeId.{NodeId}
-use Rattle.xfs_base.proofs.Booleans.{contrary, equal_itself, or_first, or_second}
+use Rattle.xfs_base.proofs.Booleans.{contrary, or_first, or_second}
 use Rattle.journals.specs.declared.answers.Answers.{Answers}
 use Rattle.journals.specs.Answers.{AreAnswered, AreKnown, IsSettled, has_answer, is_among, is_answer_to, knows}
-use Rattle.journals.proofs.Gets.{any_has, has_any}
 
 -- two tests that pass together are equal
 same_test : (a b : Bool) → (a ≡ true → b ≡ true) → (b ≡ true → a ≡ true) → a ≡ b
@@ -94,20 +92,3 @@ answered_all node a done count known settled answered =
           let past : a.all + 1 ≤ count = grind (arith, nat_tests) in
           contrary (sym settled ∙ known (a.all + 1) ∙ answered (a.all + 1) (omega arith) past)
     ] refl
-
--- answers that are among more acts are answers there
-pub answered_among : (node : NodeId) (count : ℕ) (some all : List Act) → ((a : Act) → Contains some a → Contains all a) → AreAnswered node count some → AreAnswered node count all
-answered_among node count some all among answered k from upto =
-    let found = any_has (is_answer_to node k) some (answered k from upto) in
-    has_any (is_answer_to node k) all found.0 (among found.0 found.1) found.2
-
--- a number that is found is among the others
-pub among_found : (wanted i : ℕ) (numbers : List ℕ) (n : ℕ) → i < length numbers → n ≡ get_or numbers i n → n ≡ wanted → is_among wanted numbers ≡ true
-among_found wanted i numbers n within at is =
-    list_any_at (λ m. m == wanted) numbers i n within (ap (λ m. m == wanted) (sym at ∙ is) ∙ equal_itself wanted)
-
-pub among_more : (wanted i : ℕ) (numbers : List ℕ) (n : ℕ) → i < length numbers → n ≡ get_or numbers i n → n ≢ wanted → is_among wanted (take i numbers) ≡ false
-    → is_among wanted (take (i + 1) numbers) ≡ false
-among_more wanted i numbers n within at apart so_far =
-    let other : (n == wanted) ≡ false = grind (arith, nat_tests) in
-    list_any_more (λ m. m == wanted) numbers i n within ∙ ap (λ b. b || (get_or numbers i n == wanted)) so_far ∙ ap (λ m. m == wanted) (sym at) ∙ other

@@ -3,7 +3,6 @@ pub mod Keeping
 pub mod Known
 pub mod Least
 pub mod Lefts
-pub mod Packets
 pub mod Rising
 pub mod Stamps
 pub mod Starts

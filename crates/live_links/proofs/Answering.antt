@@ -89,10 +89,6 @@ module _ {N : Type 0} (step : N → Do → NodeStep N) (node : NodeId) (first : 
 begin_is : begins (Begin ∷ []) ≤ 1
 begin_is = omega arith
 
--- no more is begun where nothing happens
-pub begun_still : (old new : List Moment) (bound : ℕ) → new ≡ old → begins (whats new) ≤ begins (whats old) + bound
-begun_still old new bound is = let same = ap (λ all. begins (whats all)) is in omega arith
-
 pub one_begun : (may : Bool) → may ≡ true → begins (Begin ∷ []) ≤ cond may 1 0
 one_begun may is = rw is (omega arith)
 

@@ -27,9 +27,6 @@ out_trans k a b c f g = (out_then a b c f.0 g.0, g.1 ∙ f.1)
 row_trans : (k : ℕ) (a b c : List Out) → StillRow k a b → StillRow k b c → StillRow k a c
 row_trans k a b c f g = each_then StillOut StillOut StillOut out_trans a b c f g
 
-pub ins_same : (xs : List In) → AtEach StillIn xs xs
-ins_same xs = each_same StillIn still_in xs
-
 pub outs_same : (xs : List (List Out)) → AtEach StillRow xs xs
 outs_same xs = each_same StillRow still_row xs
 

@@ -1,5 +1,5 @@
 -- One step of a loop that goes over a list, or counts up.
-use Rattle.std.proofs.Common.{◌≡◌, ℕ, suc, ◌+◌, ◌-◌, ◌<◌, ◌≤◌, Bool, true, false, cond, List, [], ◌∷◌, ◌++◌, length, get_or, drop, min, Option, sym, ap, ◌∙◌, append_assoc, arith}
+use Rattle.std.proofs.Common.{◌≡◌, ℕ, suc, ◌+◌, ◌-◌, ◌<◌, ◌≤◌, Bool, true, false, cond, List, [], ◌∷◌, ◌++◌, length, get_or, drop, Option, sym, ap, ◌∙◌, append_assoc, arith}
 use Rattle.std.specs.Prelude.{option_to_list, filter, nat_le}
 use Rattle.std.specs.List.{range_with_len}
 use Rattle.std.proofs.lemmas.List.{at_drop_more}
@@ -8,7 +8,7 @@ use Rattle.xfs_base.specs.declared.news.SlotNews.{SlotNews}
 use Rattle.xfs_base.specs.Limits.{u32_end}
 use Rattle.log_scan.specs.declared.listing.Listing.{Listing}
 use Rattle.log_scan.specs.Pick.{above, counting, newest}
-use Rattle.log_scan.specs.Transition.{horizon_of, least_horizon}
+use Rattle.log_scan.specs.Transition.{least_horizon}
 use Rattle.log_scan.proofs.Newest.{newest_append}
 
 -- ---- servers, counted up from the one after i
@@ -67,12 +67,3 @@ meta_skip best low metas i d lt below =
 pub least_bound : (log : ℕ) (slots : List SlotNews) → least_horizon log slots ≤ u32_end
 least_bound log [] = omega arith
 least_bound log (s ∷ ss) = (let rest = least_bound log ss in omega (arith, rest))
-
-min_in_turn : (a b c : ℕ) → min (min a b) c ≡ min a (min b c)
-min_in_turn a b c = omega arith
-
-pub least_step : (least log : ℕ) (slots : List SlotNews) (i : ℕ) (d : SlotNews) → i < length slots
-    → min (min least (horizon_of log (get_or slots i d))) (least_horizon log (drop (i + 1) slots)) ≡ min least (least_horizon log (drop i slots))
-least_step least log slots i d lt =
-    min_in_turn least (horizon_of log (get_or slots i d)) (least_horizon log (drop (i + 1) slots))
-    ∙ sym (ap (min least) (at_drop_more (least_horizon log) slots i d lt))

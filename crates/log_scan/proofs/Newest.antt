@@ -1,5 +1,5 @@
 -- The newest of what is listed: a search that keeps the best so far, and takes another only where it is newer, finds it. And none is newer.
-use Rattle.std.proofs.Common.{◌≡◌, Bool, true, false, cond, ◌||◌, not, List, [], ◌∷◌, ◌++◌, Option, Some, None, refl, sym, ap, ◌∙◌}
+use Rattle.std.proofs.Common.{◌≡◌, Bool, true, false, cond, ◌||◌, not, List, [], ◌∷◌, ◌++◌, Some, None, refl, sym, ap, ◌∙◌}
 use Rattle.std.specs.Prelude.{option_to_list}
 use Rattle.std.specs.List.{list_any, find}
 use Rattle.std.specs.Ordering.{is_gt, ordering_reverse}
@@ -111,13 +111,6 @@ search_is b (m ∷ ms) = by (is_newer m b) refl (search_is m ms) (search_is b ms
     by true e second first = second ∙ sym (newer_second b m ms e)
     by false e second first = first ∙ sym (older_second b m ms e)
 
--- the better of two
-pub better_is : (b m : FragMeta) → Some (cond (is_newer m b) m b) ≡ newest (b ∷ m ∷ [])
-better_is b m = search_is b (m ∷ [])
-
-pub alone_is : (m : FragMeta) → Some m ≡ newest (m ∷ [])
-alone_is m = search_is m []
-
 -- ---- over a list in two parts
 
 search_append : (b : FragMeta) (xs ys : List FragMeta) → search b (xs ++ ys) ≡ search (search b xs) ys
@@ -132,8 +125,3 @@ newest_append (b ∷ xs) ys =
     ∙ sym (search_is (search b xs) ys)
     ∙ ap Some (sym (search_append b xs ys))
     ∙ search_is b (xs ++ ys)
-
--- the newest of one at most
-pub newest_given : (o : Option FragMeta) → newest (option_to_list o ++ []) ≡ o
-newest_given None = refl
-newest_given (Some m) = sym (alone_is m)

@@ -29,15 +29,6 @@ found p (y ∷ ys) x h = by (p y) refl h (λ k. found p ys x k)
     by true e k rest = let same : y ≡ x = cc in subst (Finds p (y ∷ ys)) same (record { among = contains_first y ys; passes = e })
     by false e k rest = record { among = contains_rest y x ys (rest k).among; passes = (rest k).passes }
 
-fails_at : {X : Type 0} (q : X → Bool) (xs : List X) (x : X) → list_any q xs ≡ false → Contains xs x → q x ≡ false
-fails_at q [] x none has = absurd (contains_nothing x has)
-fails_at q (y ∷ ys) x none has =
-    let both = or_parts (q y) (list_any q ys) none in
-    elim (contains_cases y x ys has) [
-      | inl e ↦ ap q (sym e) ∙ both.0
-      | inr k ↦ fails_at q ys x both.1 k
-    ]
-
 fails_filtered : {X : Type 0} (q p : X → Bool) (xs : List X) (x : X) → list_any q (filter p xs) ≡ false → Contains xs x → p x ≡ true → q x ≡ false
 fails_filtered q p [] x none has pass = absurd (contains_nothing x has)
 fails_filtered q p (y ∷ ys) x none has pass = elim (contains_cases y x ys has) [ inl e ↦ here e | inr k ↦ fails_filtered q p ys x (rest (p y) none) k pass ]

@@ -1,5 +1,5 @@
 -- What is handed over: items that are called in their order, and replies that are given in theirs.
-use Rattle.std.proofs.Common.{◌≡◌, refl, sym, ap, subst, ◌∙◌, ℕ, zero, suc, ◌+◌, ◌<◌, ◌≤◌, true, false, cond, nat_lt, List, [], ◌∷◌, ◌++◌, length, take, arith, append_assoc, append-nil, length-append, get_or}
+use Rattle.std.proofs.Common.{◌≡◌, refl, sym, ap, subst, ◌∙◌, ℕ, suc, ◌+◌, ◌<◌, ◌≤◌, true, false, cond, nat_lt, List, [], ◌∷◌, ◌++◌, length, take, arith, append_assoc, append-nil, length-append, get_or}
 use Rattle.std.proofs.lemmas.Bool.Decides.{nat_tests}
 use Rattle.std.proofs.lemmas.List.{take_more}
 use Rattle.std.proofs.lemmas.List.Elements.{filter_map-append}
@@ -22,10 +22,6 @@ items_more xs ys x more is are =
     let next : length ys ≡ suc (length xs) = omega arith in
     let number : x ≡ length ys = is ∙ sym count in
     more ∙ ap (λ (zs : List ℕ). zs ++ x ∷ []) are ∙ ap (λ (n : ℕ). items_to (length xs) ++ n ∷ []) number ∙ sym (items_suc (length xs) (length ys) next)
-
-pub items_count : (n : ℕ) → length (items_to n) ≡ n
-items_count zero = refl
-items_count (suc k) = length-append (items_to k) (suc k ∷ []) ∙ (let e = items_count k in omega arith)
 
 -- all items were called where so many were begun as there are, each of which was called, and no more can be called
 pub all_called : (sent received known : List ℕ) (begun count : ℕ) → sent ≡ items_to (length sent) → received ++ known ≡ sent → begun ≤ length received

@@ -143,11 +143,6 @@ counts_rise i more counted few small (m ∷ ms) = ap (λ t. t && has_room more i
 
 -- ---- the rows that go to a slot
 
-none_older : (slot number : ℕ) (filed : List FiledDeltas) → AllByRecursion (λ (f : FiledDeltas). f.seq ≤ number) filed → rows_after slot number filed ≡ []
-none_older slot number [] all = refl
-none_older slot number (f ∷ fs) all =
-    ap (λ t. cond t (slot_rows slot f.rows) [] ++ rows_after slot number fs) (not_lt_test number f.seq all.0) ∙ none_older slot number fs all.1
-
 pub newest_alone : (slot number seq : ℕ) (filed : List FiledDeltas) (rows : List (BlockId × Entry)) → AllByRecursion (λ (f : FiledDeltas). f.seq ≤ number) filed
     → nat_lt number seq ≡ true → rows_after slot number (filed ++ record { seq = seq; rows = rows } ∷ []) ≡ slot_rows slot rows
 newest_alone slot number seq [] rows all newer =

@@ -9,9 +9,6 @@ le_test n m h = grind (arith, nat_tests)
 pub lt_test : (n m : ℕ) → n < m → nat_lt n m ≡ true
 lt_test n m h = grind (arith, nat_tests)
 
-pub not_le_test : (n m : ℕ) → m < n → nat_le n m ≡ false
-not_le_test n m h = grind (arith, nat_tests)
-
 pub not_lt_test : (n m : ℕ) → m ≤ n → nat_lt n m ≡ false
 not_lt_test n m h = grind (arith, nat_tests)
 

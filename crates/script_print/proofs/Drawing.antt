@@ -1,5 +1,5 @@
 -- What a number draws: each work that a turn makes is asked for by a short line.
-use Rattle.std.proofs.Common.{◌≡◌, ℕ, zero, suc, ◌+◌, ◌-◌, ◌*◌, ◌%◌, ◌≤◌, ◌<◌, ◌^◌, ◌==◌, nat_lt, Bool, true, false, List, [], ◌∷◌, ◌++◌, length, codes, refl, sym, ◌∙◌, ap, subst, arith, inl, Some, Result, Ok, Err, IfOk, if◌then◌else◌, append_assoc, append-nil, length-append}
+use Rattle.std.proofs.Common.{◌≡◌, ℕ, zero, suc, ◌+◌, ◌-◌, ◌*◌, ◌%◌, ◌≤◌, ◌<◌, ◌^◌, ◌==◌, nat_lt, Bool, true, false, List, [], ◌∷◌, ◌++◌, length, codes, refl, sym, ◌∙◌, ap, subst, arith, inl, Some, Result, Ok, Err, IfOk, if◌then◌else◌, append_assoc, length-append}
 use Rattle.std.specs.List.{repeat, AllByRecursion}
 use Rattle.std.specs.Fmt.{decimal}
 use Rattle.std.specs.Str.Parse.{AllDigits}
@@ -106,12 +106,6 @@ few_kept lines new turn d h e =
     let c : length new ≡ length lines + length (turn_works (turn + 1) d) = new_length lines new (turn_works (turn + 1) d) e in
     let f : length (turn_works (turn + 1) d) ≤ 2 = turn_few (turn + 1) d in
     omega (arith, c, f, h)
-
-pub turns_done : (lines whole : List Line) (turns turn t x : ℕ) → turns ≤ turn → lines ++ numbered (8 + length lines) (works_from (turns - turn) t x) ≡ whole
-    → lines ≡ whole
-turns_done lines whole turns turn t x l h =
-    let a : turns - turn ≡ 0 = omega (arith, l) in
-    sym (append-nil lines) ∙ ap (λ n. lines ++ numbered (8 + length lines) (works_from n t x)) (sym a) ∙ h
 
 -- a work is asked for by a short line wherever texts of ten bytes may stand
 abbrev Room : ℕ → Context

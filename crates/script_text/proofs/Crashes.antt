@@ -1,5 +1,5 @@
 -- The first crash that no later restart follows, from the last item to the first.
-use Rattle.std.proofs.Common.{◌≡◌, ℕ, suc, ◌+◌, ◌<◌, Bool, true, false, not, ◌||◌, List, [], ◌∷◌, ◌++◌, length, drop, get_or, refl, sym, ◌∙◌, ap, arith, Option, Some, None, if◌then◌else◌, add-one, drop-cons}
+use Rattle.std.proofs.Common.{◌≡◌, ℕ, Bool, true, false, not, ◌||◌, List, [], ◌∷◌, ◌++◌, refl, sym, ◌∙◌, ap, arith, Option, Some, None, if◌then◌else◌}
 use Rattle.std.specs.List.{list_any}
 use Rattle.std.proofs.lemmas.List.Folds.{list_any-append}
 use Rattle.xfs_base.specs.declared.node.NodeId.{NodeId}
@@ -121,9 +121,3 @@ one_kept l items ns found k = record {
   nodes = λ node. nodes_after l.work ns node ∙ ap (λ b. restarts node l.work || b) (k.nodes node);
   first = crash_kept l.work l.number items ns found k;
 }
-
-pub step_kept : (items : List Line) (i : ℕ) (l : Line) (ns : List NodeId) (found : Option ℕ) → i < length items → l ≡ get_or items i l
-    → Kept (drop (i + 1) items) ns found → Kept (drop i items) (after_work ns l.work) (found_before l ns found)
-step_kept items i l ns found h e k =
-    let d : drop i items ≡ l ∷ drop (i + 1) items = rw (add-one, drop-cons items i l) (ap (λ x. x ∷ drop (suc i) items) (sym e)) in
-    rw d (one_kept l (drop (i + 1) items) ns found k)

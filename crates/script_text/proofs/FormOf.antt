@@ -11,7 +11,7 @@ use Rattle.std.proofs.lemmas.List.Quantifiers.{position-Some}
 use Rattle.std.proofs.lemmas.Bool.{ltb-false}
 use Rattle.xfs_base.proofs.Booleans.{and_first, and_second}
 use Rattle.script_text.specs.declared.form.Form.{Form}
-use Rattle.script_text.specs.declared.form.Form.TheVariants.{Bput, Bget, Sync, Mk, Mkdir, Put, Get, Size, Ls, Rm, Mv, ClientCrash, ClientRestart, CleanerCrash, CleanerRestart, Clean, ManagerCrash, ManagerRestart, Checkpoint, Lose, Rebuild, ServerStop, ServerStart, Move, BoardStop, BoardStart, NetLose, NetAgain, NetMix, NetHold, NetGo, NetStep}
+use Rattle.script_text.specs.declared.form.Form.TheVariants.{Bput}
 use Rattle.script_text.specs.declared.form.Part.{Part}
 use Rattle.script_text.specs.declared.form.Part.TheVariants as part
 use Rattle.script_text.specs.Words.{first, behind, is_end}

@@ -10,18 +10,8 @@ good x = Ok x
 abbrev pub bad : {X : Type 0} → Kind → Result X Kind
 bad k = Err k
 
-pub ok_not_err : {X : Type 0} (x : X) (k : Kind) (r : Result X Kind) → r ≡ Ok x → r ≡ Err k → ⊥
-ok_not_err x k r e f = let g : Ok x ≡ Err k = sym e ∙ f in cc
-
 pub same_ok : {X : Type 0} (x y : X) (r : Result X Kind) → r ≡ Ok x → r ≡ Ok y → x ≡ y
 same_ok x y r e f = let g : good x ≡ good y = sym e ∙ f in cc
-
-pub same_err : {X : Type 0} (j k : Kind) (r : Result X Kind) → r ≡ Err j → r ≡ Err k → j ≡ k
-same_err {X} j k r e f = let g : bad {X = X} j ≡ bad k = sym e ∙ f in cc
-
-pub ok_or_err : {X : Type 0} (r : Result X Kind) → ((x : X) × (r ≡ Ok x)) ⊎ ((k : Kind) × (r ≡ Err k))
-ok_or_err (Ok x) = inl (x, refl)
-ok_or_err (Err k) = inr (k, refl)
 
 judge_at : {X : Type 0} (f l : Kind) (x y : X) (b : Bool) → (if b then good x else bad l) ≡ good y → (x ≡ y) × (b ≡ true)
 judge_at f l x y true e = (cc, refl)
@@ -61,7 +51,3 @@ bind_err {X} {Y} (Err j) f k e = inl (ap (λ i. bad {X = X} i) (err_of j k e))
   where
     err_of : (i m : Kind) → bad {X = Y} i ≡ bad m → i ≡ m
     err_of i m e = cc
-
-pub none_or_some : {X : Type 0} (o : Option X) → (o ≡ None) ⊎ ((x : X) × (o ≡ Some x))
-none_or_some None = inl refl
-none_or_some (Some x) = inr (x, refl)

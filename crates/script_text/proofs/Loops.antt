@@ -1,15 +1,14 @@
 -- What loops keep: what is read so far stands before what the rest gives.
-use Rattle.std.proofs.Common.{◌≡◌, ℕ, zero, suc, ◌+◌, ◌-◌, ◌<◌, ◌≤◌, ◌==◌, nat_le, Bool, true, false, not, ◌&&◌, List, [], ◌∷◌, ◌++◌, length, drop, get_or, refl, sym, ◌∙◌, ap, arith, Option, Some, None, Ok, Err, if◌then◌else◌, append_assoc, append-nil, length-append, zero-add, add-one, drop-cons}
+use Rattle.std.proofs.Common.{◌≡◌, ℕ, zero, suc, ◌+◌, ◌-◌, ◌<◌, ◌≤◌, ◌==◌, nat_le, Bool, true, false, not, ◌&&◌, List, [], ◌∷◌, ◌++◌, length, drop, get_or, refl, sym, ◌∙◌, ap, arith, Option, Some, None, Err, if◌then◌else◌, append_assoc, length-append, zero-add, add-one, drop-cons}
 use Rattle.std.proofs.lemmas.Bool.Decides.{nat_tests}
 use Rattle.std.specs.List.{repeat}
 use Rattle.script_text.specs.declared.form.Part.{Part}
 use Rattle.script_text.specs.declared.form.Part.TheVariants as part
 use Rattle.script_text.specs.declared.refusal.Kind.TheVariants.{BadText, TooLong}
-use Rattle.script_text.specs.Lines.{lines}
-use Rattle.script_text.specs.Words.{Lacks, parted, first, behind, is_end}
+use Rattle.script_text.specs.Words.{Lacks, parted, is_end}
 use Rattle.script_text.specs.Forms.{looks, has_words, piece_of, behind_part}
 use Rattle.script_text.specs.Outcome.{judge}
-use Rattle.script_text.specs.Reading.{is_short, with_byte, within, are_few, new_server, servers_from}
+use Rattle.script_text.specs.Reading.{is_short, are_few}
 use Rattle.script_text.proofs.Judged.{good, bad}
 use Rattle.script_text.proofs.Parts.{parted_cut, parted_whole, some_parts}
 
@@ -17,14 +16,6 @@ use Rattle.script_text.proofs.Parts.{parted_cut, parted_whole, some_parts}
 abbrev pub with_front : List ℕ → Option (List ℕ) → Option (List ℕ)
 with_front front None = None
 with_front front (Some text) = Some (front ++ text)
-
-pub front_byte : (front : List ℕ) (b : ℕ) (o : Option (List ℕ)) → with_front (front ++ b ∷ []) o ≡ with_front front (with_byte b o)
-front_byte front b None = refl
-front_byte front b (Some text) = ap Some (append_assoc front (b ∷ []) text)
-
-pub no_front : (o : Option (List ℕ)) → with_front [] o ≡ o
-no_front None = refl
-no_front (Some text) = refl
 
 -- repeating
 repeat_more : (count i : ℕ) (piece : List ℕ) → i < count → repeat (count - i) piece ≡ piece ++ repeat (count - (i + 1)) piece
@@ -36,26 +27,6 @@ pub repeat_step : (text piece whole : List ℕ) (count i : ℕ) → i < count �
     → (text ++ piece) ++ repeat (count - (i + 1)) piece ≡ whole
 repeat_step text piece whole count i l e =
     append_assoc text piece (repeat (count - (i + 1)) piece) ∙ ap (λ x. text ++ x) (sym (repeat_more count i piece l)) ∙ e
-
-pub repeat_over : (text piece whole : List ℕ) (count i limit : ℕ) → i < count → text ++ repeat (count - i) piece ≡ whole → limit < length text + length piece
-    → within limit whole ≡ Err TooLong
-repeat_over text piece whole count i limit l e m =
-    let f : whole ≡ (text ++ piece) ++ repeat (count - (i + 1)) piece = sym (repeat_step text piece whole count i l e) in
-    let g : length whole ≡ (length text + length piece) + length (repeat (count - (i + 1)) piece) =
-    ap length f ∙ length-append (text ++ piece) (repeat (count - (i + 1)) piece)
-    ∙ ap (λ x. x + length (repeat (count - (i + 1)) piece)) (length-append text piece) in
-    long (length whole) limit (omega (arith, g, m))
-  where
-    long : (n limit : ℕ) → limit < n → (if nat_le n limit then good whole else bad TooLong) ≡ Err TooLong
-    long n limit h = let t : nat_le n limit ≡ false = grind (arith, nat_tests, h) in rw t refl
-
-pub repeat_done : (text piece whole : List ℕ) (count i limit : ℕ) → count ≤ i → text ++ repeat (count - i) piece ≡ whole → length text ≤ limit
-    → within limit whole ≡ Ok text
-repeat_done text piece whole count i limit l e m =
-    let z : count - i ≡ 0 = omega arith in
-    let f : text ≡ whole = sym (append-nil text) ∙ ap (λ k. text ++ repeat k piece) (sym z) ∙ e in
-    let t : nat_le (length text) limit ≡ true = grind (arith, nat_tests, m) in
-    rw (← f) (rw t refl)
 
 -- names of a path
 pub names_step : (whole names : List (List ℕ)) (rest name after : List ℕ) → names ++ parted 47 rest ≡ whole → rest ≡ name ++ 47 ∷ after → Lacks 47 name
@@ -117,29 +88,6 @@ pub short_more : (text piece new : List ℕ) (limit : ℕ) → new ≡ text ++ p
 short_more text piece new limit g l =
     let h : length new ≡ length text + length piece = ap length g ∙ length-append text piece in
     omega (arith, h, l)
-
--- the servers of a group
-pub servers_end : (s : ℕ) (taken : List ℕ) (ws : List (List ℕ)) → is_end ws ≡ true → servers_from s taken ws ≡ Some taken
-servers_end s taken [] e = refl
-servers_end s taken (w ∷ ws) e = absurd (grind (arith, e))
-
-pub servers_none : (s : ℕ) (taken : List ℕ) (ws : List (List ℕ)) → is_end ws ≡ false → new_server s taken (first ws) ≡ None → servers_from s taken ws ≡ None
-servers_none s taken [] e f = absurd (grind (arith, e))
-servers_none s taken (w ∷ ws) e f = ap (λ (o : Option ℕ). elim o [ None ↦ None | Some x ↦ servers_from s (taken ++ x ∷ []) ws ]) f
-
-pub servers_some : (s n : ℕ) (taken new : List ℕ) (ws : List (List ℕ)) → is_end ws ≡ false → new_server s taken (first ws) ≡ Some n → new ≡ taken ++ n ∷ []
-    → servers_from s new (behind ws) ≡ servers_from s taken ws
-servers_some s n taken new [] e f g = absurd (grind (arith, e))
-servers_some s n taken new (w ∷ ws) e f g =
-    ap (λ x. servers_from s x ws) g ∙ sym (ap (λ (o : Option ℕ). elim o [ None ↦ None | Some x ↦ servers_from s (taken ++ x ∷ []) ws ]) f)
-
-pub behind_shorter : (ws : List (List ℕ)) → is_end ws ≡ false → length (behind ws) < length ws
-behind_shorter [] e = absurd (grind (arith, e))
-behind_shorter (w ∷ ws) e = omega arith
-
-pub lines_start : (bytes : List ℕ) → length bytes ≡ 0 → lines bytes ≡ []
-lines_start [] l = refl
-lines_start (b ∷ bytes) l = absurd (omega (arith, l))
 
 -- a text so often without a byte
 repeat_empty : (n : ℕ) (t : List ℕ) → length t ≡ 0 → length (repeat n t) ≡ 0

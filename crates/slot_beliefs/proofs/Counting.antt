@@ -129,13 +129,6 @@ grown i m counted seg =
 
 -- ---- room for all
 
-pub fits_first : (usage : List (SegName × ℕ)) (m : BlockId × Entry) (ms : List (BlockId × Entry)) → Fits usage (m ∷ ms)
-    → ForSome (segment_of m.1) (λ seg. count_of usage seg < u32_end)
-fits_first usage m ms fits = λ seg fact.
-    let one : blocks_at (segment_of m.1) seg ≡ 1 = ap (λ end. blocks_at end seg) fact ∙ one_at seg in
-    let room : count_of usage seg + (blocks_at (segment_of m.1) seg + live_in seg ms) < 2 ^ 32 = fits seg (omega arith) in
-    omega arith
-
 pub fits_more : (i : Indexed) (m : BlockId × Entry) (ms : List (BlockId × Entry)) → IsCounted i → Fits i.usage (m ∷ ms) → Fits (indexed i m).usage ms
 fits_more i m ms counted fits = λ seg some.
     let room : count_of i.usage seg + (blocks_at (segment_of m.1) seg + live_in seg ms) < 2 ^ 32 = fits seg (omega arith) in

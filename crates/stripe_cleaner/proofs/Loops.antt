@@ -1,5 +1,5 @@
 -- One step of a loop.
-use Rattle.std.proofs.Common.{◌≡◌, ℕ, suc, ◌+◌, ◌-◌, ◌<◌, ◌≤◌, Bool, true, false, cond, List, [], ◌∷◌, ◌++◌, length, get_or, drop, map, min, take, refl, sym, ap, ◌∙◌, append_assoc, length-append, arith}
+use Rattle.std.proofs.Common.{◌≡◌, ℕ, suc, ◌+◌, ◌-◌, ◌<◌, Bool, true, false, cond, List, [], ◌∷◌, ◌++◌, length, get_or, drop, map, min, take, refl, sym, ap, ◌∙◌, append_assoc, length-append, arith}
 use Rattle.std.specs.Prelude.{not, fold}
 use Rattle.std.specs.List.{range_with_len}
 use Rattle.std.proofs.lemmas.List.{at_drop_more}
@@ -47,13 +47,6 @@ first_step left count e rest lt =
     let k : count - length left ≡ suc (count - length (left ++ segment_at e ∷ [])) = omega (arith, l) in
     append_assoc left (segment_at e ∷ []) (map segment_at (take (count - length (left ++ segment_at e ∷ [])) rest))
     ∙ ap (λ m. left ++ map segment_at (take m (e ∷ rest))) (sym k)
-
--- once so many are chosen, no other is
-pub first_full : (left : List SegRef) (count : ℕ) (e : Fullness × ℕ) (rest : List (Fullness × ℕ)) → count ≤ length left
-    → left ++ map segment_at (take (count - length left) rest) ≡ left ++ map segment_at (take (count - length left) (e ∷ rest))
-first_full left count e rest le =
-    let k : count - length left ≡ 0 = omega arith in
-    ap (λ m. left ++ map segment_at (take m rest)) k ∙ ap (λ m. left ++ map segment_at (take m (e ∷ rest))) (sym k)
 
 -- the checks of the item that comes, and of those after it
 pub checks_more : (checks new all : List Check) (n m : ℕ) (item : Item) (rest : List Item) → m ≡ min (n + 1) no_item → new ≡ checks ++ check_of n item

@@ -1,5 +1,5 @@
 -- Inputs of this block: each is taken by steps of the client.
-use Rattle.std.proofs.Common.{◌≡◌, ℕ, ◌+◌, ◌==◌, ◌<◌, Bool, true, false, ◌&&◌, ◌||◌, not, List, [], ◌∷◌, Option, Some, None, is_some, is_none, refl, sym, ap, subst, ◌∙◌, arith, nat_lt}
+use Rattle.std.proofs.Common.{◌≡◌, ℕ, ◌+◌, ◌==◌, ◌<◌, Bool, true, false, ◌&&◌, not, List, [], ◌∷◌, Option, Some, None, is_some, is_none, refl, sym, ap, subst, ◌∙◌, arith, nat_lt}
 use Rattle.std.specs.Ordering.{eq_by_cmp}
 use Rattle.std.specs.Prelude.{if◌then◌else◌}
 use Rattle.std.proofs.lemmas.Bool.Decides.{nat_tests}
@@ -73,11 +73,6 @@ needed Own Copy h = contrary (sym h)
 needed Nothing Own h = (refl, omega arith)
 needed Copy Own h = (refl, omega arith)
 needed Own Own h = contrary (sym h)
-
-not_or : (a b : Bool) → not (a || b) ≡ true → (a ≡ false) × (b ≡ false)
-not_or true b h = contrary h
-not_or false true h = contrary h
-not_or false false h = (refl, refl)
 
 module _ (logs : Bool) (g : Setting) (end : ℕ) where
   -- what is put is what is shown

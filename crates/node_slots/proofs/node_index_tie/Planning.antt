@@ -102,20 +102,6 @@ begin_is t k = by (slice_get t k)
     by None = refl
     by (Some p) = refl
 
-cleaned_held : (p : SlotPhase) (e : ℕ) → HeldAt (cleaned_phase p) e → HeldAt p e
-unfolding cleaned_phase
-cleaned_held (phase.Active a) e h = h
-cleaned_held (phase.Away epoch) e h = h
-cleaned_held (phase.Taking t) e h = h
-cleaned_held (phase.Broken epoch seg) e h = h
-
-cleaned_epoch : (p : SlotPhase) → epoch_of (cleaned_phase p) ≡ epoch_of p
-unfolding cleaned_phase
-cleaned_epoch (phase.Active a) = refl
-cleaned_epoch (phase.Away epoch) = refl
-cleaned_epoch (phase.Taking t) = refl
-cleaned_epoch (phase.Broken epoch seg) = refl
-
 cleaned_pages : (i : Indexed) → pages_of (cleaned_index i) ≡ cleaned (pages_of i)
 unfolding cleaned
 cleaned_pages i = refl

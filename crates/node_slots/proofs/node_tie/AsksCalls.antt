@@ -6,7 +6,7 @@ use Rattle.client_call.specs.declared.call.Call.{Call}
 use Rattle.client_call.specs.declared.call.Going.TheVariants.{On, Ends}
 use Rattle.client_call.specs.declared.call.Going.{Going}
 use Rattle.client_call.specs.Fitting.{put_fits}
-use Rattle.client_running.specs.Blocks.{Made, answers, changed, changes, changes_if_fits, got, gets, held_back, lets_go, makes, needs, put_of, puts, puts_again, puts_at, synced_answer, syncs, waits, wrote}
+use Rattle.client_running.specs.Blocks.{Made, changed, changes, changes_if_fits, got, gets, held_back, lets_go, makes, needs, put_of, puts, puts_again, puts_at, synced_answer, syncs, waits, wrote}
 use Rattle.client_serving.specs.declared.serving.Serving.{Serving}
 use Rattle.client_serving.specs.Flights.{held_at}
 use Rattle.client_serving.specs.Follow.{hands, notes_gone, seals}
@@ -49,9 +49,6 @@ record MadeFor (n : Need) (s : Serving) (m : Made) : Type 0 where
 
 waits-for : (n : Need) (s : Serving) (d : Done) → Kept n s d.state → MadeFor n s (waits d)
 waits-for n s d k = record { asks = k.asks; call = k.call; item = k.item }
-
-answers-for : (n : Need) (s : Serving) (d : Done) (a : BlockAnswer) → Kept None s d.state → MadeFor n s (answers d a)
-answers-for n s d a k = record { asks = k.asks; call = k.call; item = k.item }
 
 needs-for : (s : Serving) (block : BlockId) (mode : Mode) → AsksAs (Some (block, mode)) s.tokens → MadeFor (Some (block, mode)) s (needs s block mode)
 needs-for s block mode a =

@@ -1,6 +1,5 @@
 -- A client that serves asks for its call: at the start, when it serves again, and after each event.
 use Rattle.std.proofs.Common.{◌≡◌, ℕ, false, [], ◌∷◌, Option, Some, None, is_none, is_some, replicate, refl, sym, ap, subst}
-use Rattle.client_log.specs.LogState.{LogState}
 use Rattle.client_node.specs.declared.client.Client.{Client}
 use Rattle.client_node.specs.declared.phase.Phase.TheVariants.{Down, Opening, Serving as Serves}
 use Rattle.client_node.specs.declared.phase.Phase.{Phase}
@@ -13,21 +12,18 @@ use Rattle.client_serving.specs.Lasting.{first_lasting}
 use Rattle.client_serving.specs.Packets.{on_packet, on_tick}
 use Rattle.client_running.specs.Running.{goes_on}
 use Rattle.client_serving.specs.Sends.{Done, gives}
-use Rattle.client_node.specs.Serving.{returned, first_serving}
-use Rattle.delta_feed.specs.FeedState.{FeedState}
+use Rattle.client_node.specs.Serving.{first_serving}
 use Rattle.group_map.specs.GroupMapState.{GroupMapState}
 use Rattle.group_map.specs.Groups as groups
 use Rattle.log_owner.specs.declared.opened.Opened.{Opened}
 use Rattle.log_owner.specs.declared.opened.Progress.{Progress}
 use Rattle.log_owner.specs.declared.opened.Progress.TheVariants as progress
 use Rattle.log_owner.specs.declared.opening.Opening as openings
-use Rattle.log_owner.specs.declared.promised.Promised.{Promised}
 use Rattle.log_owner.specs.Opening as opening
 use Rattle.log_owner.specs.Opening.{Went}
 use Rattle.node_base.specs.Beginning.{begun, is_left, next_item, waiting, work_at}
 use Rattle.node_base.specs.declared.effects.Effect.TheVariants.{Answer as Answers}
 use Rattle.node_base.specs.declared.items.Items.{Items}
-use Rattle.node_base.specs.declared.maps.Maps.{Maps}
 use Rattle.node_base.specs.declared.peers.Peers.{Peers}
 use Rattle.node_base.specs.Shape.{is_well_formed}
 use Rattle.version_model.specs.declared.answer.Answer.TheVariants as answer
@@ -56,11 +52,6 @@ first_serving-asks l managers capacity maps = asks_none (first_serving l manager
 
 pub first_asks : StartsAsking
 first_asks number setup works = first_serving-asks (first_lasting number works) setup.managers setup.cache (groups.started setup.servers setup.groups)
-
-pub returned-asks : (l : Lasting) (capacity : ℕ) (maps : Maps) (promised : Promised) (log : LogState) (feed : FeedState)
-    → AsksForCall (returned l capacity maps promised log feed)
-returned-asks l capacity maps promised log feed =
-    asks_none (returned l capacity maps promised log feed) (started-asks None l.inc promised.epochs) (λ none. refl)
 
 pub served-asks : (l : Lasting) (capacity : ℕ) (o : Opened) → AsksForCall (served l capacity o)
 served-asks l capacity o = asks_none (served l capacity o) (started-asks None l.inc o.promised.epochs) (λ none. refl)

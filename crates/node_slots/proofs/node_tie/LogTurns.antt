@@ -27,13 +27,6 @@ flies_seen k l s t f flying end same fact flown = record {
   flight = subst (λ (o : Option FlightState). IfSome o (IsFlown k l t)) (sym fact) (flown.0 ∙ ap suc (sym same), flown.1);
 }
 
-pub rests_seen : (k : Books) (l : ℕ) (s t : LogState) → s.flight ≡ None → t.end.seq ≡ s.end.seq → t.flight ≡ None → LogSeen k l s → LogSeen k l t
-rests_seen k l s t idle same none seen = record {
-  end = seen.end ∙ sym same;
-  flying = seen.flying ∙ ap is_some idle ∙ sym (ap is_some none);
-  flight = subst (λ (o : Option FlightState). IfSome o (IsFlown k l t)) (sym none) tt;
-}
-
 -- a log that is sealed has the next segment in flight
 pub seal_seen : (k : Books) (l : ℕ) (s : LogState) → LogSeen k l s
     → LogSeen (sealed k l (rows_told (items_of 0 (take segment_blocks s.dirty)))) l (log.sealed s).state

@@ -16,10 +16,8 @@ use Rattle.xfs_base.specs.declared.token.Mode.{Mode}
 use Rattle.xfs_base.proofs.NodeOrder.{same_node_itself, same_node_is}
 use Rattle.xfs_base.specs.Nodes.{same_node}
 use Rattle.xfs_base.proofs.Alls.{all_append}
-use Rattle.xfs_base.specs.Logs.{cleaners_number}
-use Rattle.slot_beliefs.specs.Recalls.{applied_of}
 use Rattle.takeover.specs.declared.report.Report.{Report as Heard}
-use Rattle.takeover.specs.Reports.{applied_of as applied_by, polled, client_after, end_from, held_by, beliefs_of}
+use Rattle.takeover.specs.Reports.{polled, client_after, end_from, held_by, beliefs_of}
 use Rattle.takeover.specs.TakeState.{TakeState}
 use Rattle.takeover.specs.Transition.{awaited}
 use Rattle.token_law.specs.Net.{Net, Happens, IsLatest}
@@ -124,20 +122,6 @@ cleaner_polled clients = behind (map client_after (range_with_len 0 clients))
 
 first_of : (a b : ℕ) → a ≤ max a b
 first_of a b = omega arith
-
--- a new manager has each log of a client applied up to its reported end at least
-pub ends_applied : (horizon : List ℕ) (reports : List Heard) (c : ℕ) → 0 < c → c < cleaners_number → ends_of reports c ≤ applied_of (applied_by horizon reports) c
-unfolding applied_by
-ends_applied horizon reports zero pos less = absurd (omega arith)
-ends_applied horizon reports (suc zero) pos less = first_of _ _
-ends_applied horizon reports (suc (suc zero)) pos less = first_of _ _
-ends_applied horizon reports (suc (suc (suc zero))) pos less = first_of _ _
-ends_applied horizon reports (suc (suc (suc (suc zero)))) pos less = first_of _ _
-ends_applied horizon reports (suc (suc (suc (suc (suc zero))))) pos less = first_of _ _
-ends_applied horizon reports (suc (suc (suc (suc (suc (suc zero)))))) pos less = first_of _ _
-ends_applied horizon reports (suc (suc (suc (suc (suc (suc (suc zero))))))) pos less = first_of _ _
-ends_applied horizon reports (suc (suc (suc (suc (suc (suc (suc (suc zero)))))))) pos less = first_of _ _
-ends_applied horizon reports (suc (suc (suc (suc (suc (suc (suc (suc (suc c))))))))) pos less = absurd (omega arith)
 
 module _ (members part : ℕ) (n : Net) where
   -- once all have reported, the cleaner has promised the epoch

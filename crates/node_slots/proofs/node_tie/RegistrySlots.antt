@@ -7,8 +7,6 @@ use Rattle.std.specs.Map.{lookup}
 use Rattle.std.specs.Ordering.{nat_cmp, eq_by_cmp}
 use Rattle.std.proofs.lemmas.Bool.Decides.{nat_tests}
 use Rattle.std.proofs.lemmas.Cmp.{eq_by_cmp_equiv, nat_cmp_total}
-use Rattle.std.proofs.lemmas.Map.Lookups.{exact_unsigned}
-use Rattle.std.proofs.lemmas.Map.Views.{tells_apart}
 use Rattle.std.proofs.Math.ListN.{length-set}
 use Rattle.manager_map.specs.declared.entry.SlotEntry.{SlotEntry}
 use Rattle.manager_map.specs.Slots.{entry_at, next_entry, after_move}
@@ -146,10 +144,3 @@ inc_put incs manager inc q =
 pub inc_here : (incs : List (ℕ × ℕ)) (manager inc : ℕ) → inc_of (insert_entry nat_cmp incs manager inc) manager ≡ inc
 inc_here incs manager inc =
     inc_put incs manager inc manager ∙ ap (λ (t : Bool). cond t inc (inc_of incs manager)) ((eq_by_cmp_equiv nat_cmp_total).refl manager)
-
-pub inc_there : (incs : List (ℕ × ℕ)) (manager inc q : ℕ) → q ≢ manager → inc_of (insert_entry nat_cmp incs manager inc) q ≡ inc_of incs q
-inc_there incs manager inc q apart = inc_put incs manager inc q ∙ at (eq_by_cmp nat_cmp q manager) refl
-  where
-    at : (t : Bool) → eq_by_cmp nat_cmp q manager ≡ t → cond t inc (inc_of incs q) ≡ inc_of incs q
-    at true same = absurd (apart (tells_apart exact_unsigned q manager same))
-    at false other = refl

@@ -29,10 +29,6 @@ many_is : {X : Type 0} (f : X → Bool) (xs : List X) → count_by f xs ≡ many
 many_is f [] = refl
 many_is f (x ∷ xs) = sum_by-cons (λ y. cond (f y) 1 0) x xs ∙ ap (λ n. cond (f x) 1 0 + n) (many_is f xs)
 
-many_append : {X : Type 0} (f : X → Bool) (xs ys : List X) → many f (xs ++ ys) ≡ many f xs + many f ys
-many_append f [] ys = omega arith
-many_append f (x ∷ xs) ys = (let more = many_append f xs ys in omega arith)
-
 many_none : {X : Type 0} (xs : List X) → many (λ x. false) xs ≡ 0
 many_none [] = refl
 many_none (x ∷ xs) = (let none = many_none xs in omega arith)

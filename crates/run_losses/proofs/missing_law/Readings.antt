@@ -399,23 +399,6 @@ NotLost step = step.next ≡ next.Lost → ⊥
 abbrev KeepsTarget : ReadingState → Step → Type 0
 KeepsTarget r step = (step.state.target ≡ r.target) × (step.state.ask ≡ r.ask)
 
-read_never_lost : (later : ReadingState) (segment : Option Segment) → NotLost (read_as later segment)
-read_never_lost later (Some s) = λ lost. absurd cc
-read_never_lost later None = λ lost. absurd cc
-
-never_lost : (later : ReadingState) (groups : GroupMapState) (st : RoundState) → NotLost (judged later groups st)
-never_lost later groups (round.Read bytes) = read_never_lost later (segment_found later.target groups (answer_of bytes))
-never_lost later groups (round.Short pairs) = λ lost. absurd cc
-never_lost later groups round.Waiting = λ lost. absurd cc
-
--- no answer says that it is lost; that comes of the reader's own question alone
-pub answer_never_loses : (r : ReadingState) (groups : GroupMapState) (ask server : ℕ) (t : Told) → (on_answer r groups ask server t).next ≡ next.Lost → ⊥
-unfolding on_answer
-answer_never_loses r groups ask server t =
-    by_test NotLost (counts r ask server t) (judged (with_answer r server t) groups (state_of (taken r.round server t)))
-    (record { state = r; next = next.Wait })
-    (λ takes. never_lost (with_answer r server t) groups (state_of (taken r.round server t))) (λ other lost. absurd cc)
-
 keeps_target : (r later : ReadingState) → later.target ≡ r.target → later.ask ≡ r.ask → (groups : GroupMapState) (st : RoundState)
     → KeepsTarget r (judged later groups st)
 keeps_target r later target ask groups (round.Read bytes) = read (segment_found later.target groups (answer_of bytes))
@@ -439,7 +422,3 @@ confirmed_so r ask stand.Asking = refl
 confirmed_so r ask stand.Between = refl
 confirmed_so r ask stand.Doubted = refl
 confirmed_so r ask stand.Over = refl
-
-pub confirmed_keeps_target : (r : ReadingState) (ask : ℕ) → (on_confirmed r ask).state.target ≡ r.target
-unfolding on_confirmed
-confirmed_keeps_target r ask = confirmed_so r ask r.stage

@@ -63,12 +63,6 @@ nothing_ends r groups ask server t none =
     nobody : asks r.round server ≡ true → ⊥
     nobody fact = contrary (sym (ap (list_any (λ s. s == server)) none) ∙ fact)
 
-servers-goes_on : (r : ReadingState) (ask : ℕ) (stage : readings.Stage) → (goes_on r ask stage).state.round.servers ≡ r.round.servers
-servers-goes_on r ask stand.Asking = refl
-servers-goes_on r ask stand.Between = refl
-servers-goes_on r ask stand.Doubted = refl
-servers-goes_on r ask stand.Over = refl
-
 -- the next round begins only between two rounds
 is_between : (r : ReadingState) (ask : ℕ) → (on_confirmed r ask).next ≡ next.Ask → r.stage ≡ stand.Between
 unfolding on_confirmed
