@@ -1,5 +1,5 @@
 -- The journals of all cells, once their ends were compared, can be merged.
-use Rattle.std.proofs.Common.{◌≡◌, refl, sym, ap, subst, ◌∙◌, ℕ, ◌<◌, true, List, [], ◌∷◌, length, Option, Some, None, inl, inr, arith}
+use Rattle.std.proofs.Common.{◌≡◌, refl, sym, ap, subst, ◌∙◌, ℕ, ◌<◌, Bool, true, List, [], ◌∷◌, length, Option, Some, None, inl, inr, arith}
 use Rattle.std.specs.Prelude.{slice_get}
 use Rattle.std.specs.List.{Contains, cons_option}
 use Rattle.std.proofs.Props.{props}
@@ -79,8 +79,8 @@ moment_of : (ms : List Moment) (x : Packet) → Contains (delivered_in ms) x →
 moment_of [] x found = absurd (none_in [] x refl found)
 moment_of (m ∷ ms) x found = at_first m ms x (delivered_in ms) (packet_of m.what) refl (moment_of ms x) found
 
-module _ {N : Type 0} (step : N → Do → NodeStep N) (first : NodeId → Setup → List Work → N) (script : Script) (rings : List (List Out)) (js : List (List Moment)) (ns : List N) (os : List (List Out))
-    (is : List (List In)) (all : AreParts step first script rings js ns os is) (whole : length js ≡ node_count (cluster_of script.setup))
+module _ {N : Type 0} (step : N → Do → NodeStep N) (first : NodeId → Setup → List Work → N) (script : Script) (rings : List (List Out)) (full : Bool) (js : List (List Moment)) (ns : List N) (os : List (List Out))
+    (is : List (List In)) (all : AreParts step first script rings full js ns os is) (whole : length js ≡ node_count (cluster_of script.setup))
     (ringed : length rings ≡ node_count (cluster_of script.setup)) where
   abbrev cluster : Cluster
   cluster = cluster_of script.setup
@@ -95,7 +95,7 @@ module _ {N : Type 0} (step : N → Do → NodeStep N) (first : NodeId → Setup
     at_node : slice_get ns p ≡ Some node
     at_outs : slice_get os p ≡ Some outs
     at_ins : slice_get is p ≡ Some ins
-    part : IsPart step first script rings p moments node outs ins
+    part : IsPart step first script rings full p moments node outs ins
 
   part_at : (p : ℕ) → p < length js → PartAt p
   part_at p within =

@@ -1,5 +1,5 @@
 -- What one act of a cell does.
-use Rattle.std.specs.Prelude.{◌≡◌, ℕ, zero, suc, ◌+◌, ◌≤◌, Bool, true, false, cond, List, [], ◌∷◌, ◌++◌, length, map, Option, Some, None}
+use Rattle.std.specs.Prelude.{◌≡◌, ℕ, zero, suc, ◌≤◌, Bool, true, false, List, [], ◌∷◌, ◌++◌, length, map, Option, Some, None}
 use Rattle.std.specs.List.{count_by}
 use Rattle.wire_msg.specs.declared.packet.Do.{Do}
 use Rattle.wire_msg.specs.declared.packet.Do.TheVariants.{Begin, Deliver, Tick}
@@ -73,14 +73,17 @@ module _ {N : Type 0} (step : N → Do → NodeStep N) (first : N) where
   module _ (c : Cluster) (place : ℕ) (node : NodeId) (dues : List Due) where
     -- how a cell chooses what it does in an act
     pub record Chooses (idle may_begin moved : Bool) (old new : CellView) : Type 0 where
-      -- it begins its next item where that is due and may begin
-      pub begins : may_begin ≡ true → MayBegin step node first dues (whats old.moments) → AreStill old.ins new.ins × Turns c place Begin 0 0 old new
-      -- time passes only where its worker is idle
-      pub waits : ticks (whats new.moments) ≤ ticks (whats old.moments) + cond idle 1 0
+      -- where its worker is idle time passes at its node, and it does nothing else, whatever waits for it
+      pub passes : idle ≡ true → AreStill old.ins new.ins × Turns c place Tick 0 0 old new
+      -- elsewhere it begins its next item where that is due and may begin
+      pub begins : idle ≡ false → may_begin ≡ true → MayBegin step node first dues (whats old.moments) → AreStill old.ins new.ins × Turns c place Begin 0 0 old new
+      -- no time passes there
+      pub waits : idle ≡ false → ticks (whats new.moments) ≡ ticks (whats old.moments)
       -- and it rests only where its worker isn't, and no item is due that may begin
       pub rests : moved ≡ false → (idle ≡ false) × (may_begin ≡ true → MayBegin step node first dues (whats old.moments) → ⊥)
 
-    -- a visit at a cell: a first act, and behind one that was a turn so many more at most, in which no time passes
+    -- a visit at a cell: a first act, and behind one that was a turn so many more at most, in which no time passes; so time passes in the first turn of a visit of
+    -- an idle worker, and nowhere else
     pub record Visits (idle : Bool) (more : ℕ) (moved : Bool) (old new : CellView) : Type 0 where
       pub mid : CellView
       pub acted : Acted c place moved old mid
@@ -89,4 +92,4 @@ module _ {N : Type 0} (step : N → Do → NodeStep N) (first : N) where
       pub count : ℕ
       pub most : count ≤ more
       pub later : Acts c place count mid new
-      pub waits : ticks (whats new.moments) ≤ ticks (whats mid.moments)
+      pub waits : ticks (whats new.moments) ≡ ticks (whats mid.moments)

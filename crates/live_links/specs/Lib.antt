@@ -1,5 +1,6 @@
 pub mod Acts
 pub mod Answered
+pub mod Ending
 pub mod Ends
 pub mod Facts
 pub mod Made

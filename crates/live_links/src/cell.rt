@@ -6,7 +6,7 @@ ghost use Rattle.wire_msg.specs.declared.packet.Packet.{Packet as Sent};
 ghost use Rattle.world_base.specs.Cluster.{cluster_of, node_count};
 ghost use Rattle.journals.specs.Journals.{MayBegin, begins, replayed, whats};
 ghost use Rattle.live_links.specs.Acts.{Acted, Acts, Chooses, Turns, Visits, ticks};
-ghost use Rattle.live_links.specs.Answered.{AnswersMore, answered_at};
+ghost use Rattle.live_links.specs.Answered.{AnswersMore, answered_at, waited_at};
 ghost use Rattle.live_links.specs.Ends.{AreStill, IsInsOf, IsOutsOf, IsUnused, Received, TookOne};
 ghost use Rattle.live_links.specs.Facts.{IsDone, IsLinked, dues_at, first_at, name_at};
 
@@ -91,6 +91,13 @@ impl<N: Member, R: RunName> Cell<N, R> {
         self.journal.begun()
     }
 
+    /// How often time passed behind the node's last answer to an item of its own, or since the start where there is none.
+    pub fn waited(&self) -> u64
+        ensures { result ≡ waited_at N.transition N.first R.script self.now.journal.place self.now.journal.moments }
+    {
+        self.journal.waited()
+    }
+
     /// What the node answered to its own items, in the order of its journal. It takes no memory.
     pub fn answered(&self) -> &[Act]
         ensures { result.now ≡ answered_at N.transition N.first R.script self.now.journal.place self.now.journal.moments }
@@ -163,8 +170,8 @@ impl<N: Member, R: RunName> Cell<N, R> {
         may_begin && self.journal.due()
     }
 
-    /// Makes at most one turn: begins the next item where it is due, else takes a packet, else lets time pass
-    /// where the worker is idle. It says whether it made one. What it took from a ring is delivered in this turn,
+    /// Makes at most one turn: lets time pass where the worker is idle, whatever waits; elsewhere begins the next item
+    /// where it is due, else takes a packet. It says whether it made one. What it took from a ring is delivered in this turn,
     /// and what the node sends in it is pushed. Where memory is wanting the node is given up with its run.
     pub fn act(self, alloc: Global, idle: bool) -> Mem<(Cell<N, R>, bool)>
         ensures place { IfOk result (λ r. r.0.journal.place ≡ self.journal.place) }
@@ -189,6 +196,10 @@ impl<N: Member, R: RunName> Cell<N, R> {
         ensures begun { IfOk result (λ r. begins (whats r.0.journal.moments) ≤ begins (whats self.journal.moments) + cond may_begin 1 0) }
         ensures answered { IfOk result (λ r. AnswersMore N.transition N.first R.script self.journal.place self.journal.moments r.0.journal.moments) }
     {
+        if idle {
+            let ticked = self.turn(alloc, Do::Tick, 0, 0)?;
+            return Ok((ticked, true));
+        }
         if self.is_to_begin(may_begin) {
             let begun = self.turn(alloc, Do::Begin, 0, 0)?;
             return Ok((begun, true));
@@ -199,13 +210,7 @@ impl<N: Member, R: RunName> Cell<N, R> {
                 let taken = cell.take(alloc, letter)?;
                 Ok((taken, true))
             }
-            None => {
-                if !idle {
-                    return Ok((cell, false));
-                }
-                let ticked = cell.turn(alloc, Do::Tick, 0, 0)?;
-                Ok((ticked, true))
-            }
+            None => Ok((cell, false)),
         }
     }
 
@@ -214,7 +219,7 @@ impl<N: Member, R: RunName> Cell<N, R> {
         ensures place { IfOk result (λ c. c.journal.place ≡ self.journal.place) }
         ensures acted { IfOk result (λ c. (count : ℕ) × (count ≤ more) × Acts N.transition (first_at N.first R.script self.journal.place) (cluster_of R.script.setup) self.journal.place count
             (record { moments = self.journal.moments; outs = self.outs; ins = self.ins }) (record { moments = c.journal.moments; outs = c.outs; ins = c.ins })) }
-        ensures waits { IfOk result (λ c. ticks (whats c.journal.moments) ≤ ticks (whats self.journal.moments)) }
+        ensures waits { IfOk result (λ c. ticks (whats c.journal.moments) ≡ ticks (whats self.journal.moments)) }
     {
         let mut cell = self;
         let mut moves = true;
@@ -229,8 +234,8 @@ impl<N: Member, R: RunName> Cell<N, R> {
         Ok(cell)
     }
 
-    /// Acts one after the other, as `act` says, until one makes no turn, and so many at most after the first. Time
-    /// passes in the first alone, and only where the worker is idle. It says whether the first made a turn: where it
+    /// Acts one after the other, as `act` says, until one makes no turn, and so many at most after the first. Where
+    /// the worker is idle time passes in the first, and it passes in no other. It says whether the first made a turn: where it
     /// made none the cell is as it was, and no item is due.
     pub fn act_on(self, alloc: Global, idle: bool, more: u8) -> Mem<(Cell<N, R>, bool)>
         ensures place { IfOk result (λ r. r.0.journal.place ≡ self.journal.place) }

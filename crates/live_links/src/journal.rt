@@ -1,12 +1,12 @@
 //! A node with what happened to it.
-ghost use Rattle.std.specs.Prelude.{◌≡◌, ◌==◌, ◌+◌, ◌<◌, ◌&&◌, ◌||◌, nat_le, [], ◌∷◌, IfOk, IsTrue, ◌↔◌};
+ghost use Rattle.std.specs.Prelude.{◌≡◌, ◌==◌, ◌+◌, ◌<◌, ◌&&◌, ◌||◌, nat_le, cond, [], ◌∷◌, IfOk, IsTrue, ◌↔◌};
 ghost use Rattle.node_base.specs.Setups.{IsSetup};
 ghost use Rattle.wire_msg.specs.declared.packet.Do.TheVariants.{Begin};
 ghost use Rattle.world_base.specs.Cluster.{HasNode, cluster_of, node_count};
 ghost use Rattle.world_base.specs.NextWorld.{first_node};
 ghost use Rattle.journals.specs.Journals.{MayBegin, begins, replayed, whats};
-ghost use Rattle.live_links.specs.Acts.{turned};
-ghost use Rattle.live_links.specs.Answered.{answered_at};
+ghost use Rattle.live_links.specs.Acts.{ticks, turned};
+ghost use Rattle.live_links.specs.Answered.{answered_at, waited_at};
 ghost use Rattle.live_links.specs.Facts.{IsDone, IsJournal, dues_at, first_at, name_at};
 
 use crate::answered::keep_answers;
@@ -36,11 +36,13 @@ pub struct Journal<N: Member, R: RunName> {
     sent: u64,
     dues: List<Due>,
     answered: List<Act>,
+    waited: u64,
     of: PhantomData<R>,
     ghost name_is: { name ≡ name_at R.script place },
     ghost dues_are: { dues ≡ dues_at R.script place },
     ghost is_journal: { IsJournal N.transition (name_at R.script place) (first_at N.first R.script place) dues moments node.value clock begun answers sent },
     ghost answered_are: { answered ≡ answered_at N.transition N.first R.script place moments },
+    ghost waited_is: { waited ≡ waited_at N.transition N.first R.script place moments },
 }
 
 /// How many items begin.
@@ -51,6 +53,17 @@ fn begins_of(what: &Do) -> u64
         Do::Begin => 1,
         Do::Deliver(_) => 0,
         Do::Tick => 0,
+    }
+}
+
+/// How often time passes.
+fn ticks_of(what: &Do) -> u64
+    ensures { result ≡ ticks (what.now ∷ []) }
+{
+    match what {
+        Do::Begin => 0,
+        Do::Deliver(_) => 0,
+        Do::Tick => 1,
     }
 }
 
@@ -67,6 +80,17 @@ fn is_met(due: &Due, events: usize, begun: u64, answered: u32) -> bool
     ensures { result ≡ (nat_le due.now.after events && (due.now.free || nat_le begun answered)) }
 {
     due.after as usize <= events && (due.free || begun <= u64::from(answered))
+}
+
+/// How often time passed since the last answer, after one event more, in which there was an answer or none.
+fn wait_on(waited: u64, answers: bool, what: &Do) -> Mem<u64>
+    ensures { IfOk result (λ w. w ≡ cond answers 0 (waited + ticks (what.now ∷ []))) }
+{
+    if answers {
+        return Ok(0);
+    }
+    let more = sum(waited, ticks_of(what))?;
+    Ok(more)
 }
 
 /// Whether of so many items so many were begun as there are, and as many have an answer.
@@ -118,6 +142,7 @@ impl<N: Member, R: RunName> Journal<N, R> {
             sent: 0,
             dues,
             answered: List::new(alloc),
+            waited: 0,
             of: PhantomData,
         })
     }
@@ -152,6 +177,13 @@ impl<N: Member, R: RunName> Journal<N, R> {
         ensures { result ≡ begins (whats self.now.moments) }
     {
         self.begun
+    }
+
+    /// How often time passed behind the node's last answer to an item of its own, or since the start where there is none.
+    pub fn waited(&self) -> u64
+        ensures { result ≡ waited_at N.transition N.first R.script self.now.place self.now.moments }
+    {
+        self.waited
     }
 
     /// What the node answered to its own items, in the order of its journal. It takes no memory.
@@ -191,7 +223,9 @@ impl<N: Member, R: RunName> Journal<N, R> {
         let mut answers = self.answers;
         answers.note_all(self.name, acts.as_slice())?;
         let mut answered = self.answered;
+        let before = answered.len();
         keep_answers(&mut answered, alloc, self.name, acts.as_slice())?;
+        let waited = wait_on(self.waited, before < answered.len(), &what)?;
         let begun = sum(self.begun, begins_of(&what))?;
         let sent = sum(self.sent, packets.len() as u64)?;
         let shared = shared_all(alloc, clock, packets)?;
@@ -216,6 +250,7 @@ impl<N: Member, R: RunName> Journal<N, R> {
             sent,
             dues: self.dues,
             answered,
+            waited,
             of: PhantomData,
         };
         Ok((journal, letters))

@@ -1,5 +1,5 @@
 -- From the parts of all cells, and from what the merge says, to a run by workers.
-use Rattle.std.proofs.Common.{◌≡◌, ℕ, ◌<◌, true, List, length, Option, Some, None, Result, Ok, Err, refl, sym, ap, subst, ◌∙◌, arith}
+use Rattle.std.proofs.Common.{◌≡◌, ℕ, ◌<◌, ◌≤◌, Bool, true, false, List, length, Option, Some, None, Result, Ok, Err, refl, sym, ap, subst, ◌∙◌, arith}
 use Rattle.std.specs.Prelude.{IfOk, slice_get}
 use Rattle.std.specs.List.{Contains}
 use Rattle.node_base.specs.Setups.{IsSetup}
@@ -27,9 +27,11 @@ use Rattle.journals.specs.Merging.{Rises, whats_of}
 use Rattle.journals.proofs.Gets.{any_has, has, has_any}
 use Rattle.journals.proofs.Starts.{start_cluster}
 use Rattle.live_links.specs.Ends.{In, Out}
-use Rattle.live_links.specs.Facts.{dues_at, first_at, name_at}
+use Rattle.live_links.specs.Answered.{waited_at, waited_in}
+use Rattle.live_links.specs.Ending.{IsEnded, last_wait}
+use Rattle.live_links.specs.Facts.{IsDone, dues_at, first_at, name_at}
 use Rattle.live_links.specs.Parts.{AreParts, IsPart}
-use Rattle.live_run.specs.Live.{IsLive, NamesNodes}
+use Rattle.live_run.specs.Live.{EndsSo, IsLive, NamesNodes}
 use Rattle.live_run.proofs.Counts.{begun_is, nobody_begins, nobodys_items}
 
 -- what is answered among some acts is answered among more
@@ -39,11 +41,11 @@ answered_too node k some all among answered =
     let found = any_has (is_answer_to node k) some answered in
     has_any (is_answer_to node k) all found.0 (among found.0 found.1) found.2
 
-module _ {N : Type 0} (step : N → Do → NodeStep N) (first : NodeId → Setup → List Work → N) (script : Script) (rings : List (List Out))
+module _ {N : Type 0} (step : N → Do → NodeStep N) (first : NodeId → Setup → List Work → N) (script : Script) (rings : List (List Out)) (full : Bool)
     (js : List (List Moment)) (ns : List N) (os : List (List Out)) (is : List (List In)) (events : List Event) (world : World N) where
   -- what is known once all journals are merged
   pub record IsJoined : Type 0 where
-    pub parts : AreParts step first script rings js ns os is
+    pub parts : AreParts step first script rings full js ns os is
     pub whole : length js ≡ node_count (cluster_of script.setup)
     pub setup : IsSetup script.setup
     pub names : NamesNodes script
@@ -61,7 +63,7 @@ module _ {N : Type 0} (step : N → Do → NodeStep N) (first : NodeId → Setup
       end : N
       outs : List Out
       ins : List In
-      part : IsPart step first script rings p moments end outs ins
+      part : IsPart step first script rings full p moments end outs ins
 
     journaled : (p : ℕ) → p < node_count (cluster_of script.setup) → Journaled p
     journaled p below =
@@ -88,64 +90,85 @@ module _ {N : Type 0} (step : N → Do → NodeStep N) (first : NodeId → Setup
         subst (λ n. MeetsDues step n (first_node first script n) (dues_of script.lines n) (whats_of n events)) (sym (node_there c node place.0 place.1))
         (met_at place.0 (place_within c node place.0 place.1))
 
-    begun_at : (p : ℕ) → p < node_count (cluster_of script.setup)
-        → begins_of (name_at script p) events ≡ length (items_of script.lines (name_at script p))
-    begun_at p below =
-        let x = journaled p below in
-        begun_is (name_at script p) events ∙ ap begins (joined.each p x.moments x.at) ∙ x.part.done.begun ∙ due_for_each script.lines (name_at script p)
+    -- what is known of a cell at the end of a full run
+    done_at : full ≡ true → (p : ℕ) (j : List Moment) → IsEnded step first script full p j → IsDone step first script p j
+    done_at is p j ended = subst (λ (b : Bool). IsEnded step first script b p j) is ended
 
-    answered_at : (p : ℕ) → p < node_count (cluster_of script.setup)
+    waited_there : full ≡ false → (p : ℕ) (j : List Moment) → IsEnded step first script full p j → last_wait ≤ waited_at step first script p j
+    waited_there is p j ended = subst (λ (b : Bool). IsEnded step first script b p j) is ended
+
+    begun_at : full ≡ true → (p : ℕ) → p < node_count (cluster_of script.setup)
+        → begins_of (name_at script p) events ≡ length (items_of script.lines (name_at script p))
+    begun_at is_full p below =
+        let x = journaled p below in
+        begun_is (name_at script p) events ∙ ap begins (joined.each p x.moments x.at) ∙ (done_at is_full p x.moments x.part.ended).begun ∙ due_for_each script.lines (name_at script p)
+
+    answered_at : full ≡ true → (p : ℕ) → p < node_count (cluster_of script.setup)
         → AreAnswered (name_at script p) (length (items_of script.lines (name_at script p))) world.acts
-    answered_at p below k least most =
+    answered_at is_full p below k least most =
         let x = journaled p below in
         let same = due_for_each script.lines (name_at script p) in
         answered_too (name_at script p) k (acts_in step (first_at first script p) (whats x.moments)) world.acts
-        (λ a found. joined.acts p x.moments a x.at found) (x.part.done.answered k least (omega arith))
+        (λ a found. joined.acts p x.moments a x.at found) ((done_at is_full p x.moments x.part.ended).answered k least (omega arith))
 
     -- of a node of the run, and of what is none
-    begun_by : (node : NodeId) (o : Option ℕ) → place_of (cluster_of script.setup) node ≡ o → begins_of node events ≡ length (items_of script.lines node)
-    begun_by node None none =
+    begun_by : full ≡ true → (node : NodeId) (o : Option ℕ) → place_of (cluster_of script.setup) node ≡ o → begins_of node events ≡ length (items_of script.lines node)
+    begun_by is_full node None none =
         nobody_begins step (cluster_of script.setup) node none (start_world first script) 0 0 events (start_cluster first script) joined.rises
         ∙ sym (ap length (nobodys_items script.setup node none script.lines joined.names))
-    begun_by node (Some p) there =
+    begun_by is_full node (Some p) there =
         let c = cluster_of script.setup in
-        subst (λ n. begins_of n events ≡ length (items_of script.lines n)) (sym (node_there c node p there)) (begun_at p (place_within c node p there))
+        subst (λ n. begins_of n events ≡ length (items_of script.lines n)) (sym (node_there c node p there)) (begun_at is_full p (place_within c node p there))
 
-    answered_by : (node : NodeId) (o : Option ℕ) → place_of (cluster_of script.setup) node ≡ o
+    answered_by : full ≡ true → (node : NodeId) (o : Option ℕ) → place_of (cluster_of script.setup) node ≡ o
         → AreAnswered node (length (items_of script.lines node)) world.acts
-    answered_by node None none =
+    answered_by is_full node None none =
         let nothing : length (items_of script.lines node) ≡ 0 = ap length (nobodys_items script.setup node none script.lines joined.names) in
         λ k least most. absurd (omega arith)
-    answered_by node (Some p) there =
+    answered_by is_full node (Some p) there =
         let c = cluster_of script.setup in
-        subst (λ n. AreAnswered n (length (items_of script.lines n)) world.acts) (sym (node_there c node p there)) (answered_at p (place_within c node p there))
+        subst (λ n. AreAnswered n (length (items_of script.lines n)) world.acts) (sym (node_there c node p there)) (answered_at is_full p (place_within c node p there))
 
-    pub is_live : IsLive step first (record { script = script; events = events; world = world })
+    waited_by : full ≡ false → (node : NodeId) → HasNode script.setup node
+        → last_wait ≤ waited_in step node 0 (first_node first script node) (whats_of node events)
+    waited_by given_up node had =
+        let place = place_had script.setup node had in
+        let c = cluster_of script.setup in
+        let x = journaled place.0 (place_within c node place.0 place.1) in
+        subst (λ n. last_wait ≤ waited_in step n 0 (first_node first script n) (whats_of n events)) (sym (node_there c node place.0 place.1))
+        (subst (λ ds. last_wait ≤ waited_in step (name_at script place.0) 0 (first_at first script place.0) ds) (sym (joined.each place.0 x.moments x.at))
+        (waited_there given_up place.0 x.moments x.part.ended))
+
+    ends_so : (b : Bool) → full ≡ b → EndsSo step first b (record { script = script; events = events; world = world })
+    ends_so true is = record {
+      complete = λ node. begun_by is node (place_of (cluster_of script.setup) node) refl;
+      answered = λ node. answered_by is node (place_of (cluster_of script.setup) node) refl;
+    }
+    ends_so false is = waited_by is
+
+    pub is_live : IsLive step first full (record { script = script; events = events; world = world })
     is_live = record {
-      whole = record {
-        setup = joined.setup;
-        one_run = joined.run;
-        complete = λ node. begun_by node (place_of (cluster_of script.setup) node) refl;
-      };
+      setup = joined.setup;
+      one_run = joined.run;
       rises = joined.rises;
       met = met;
-      answered = λ node. answered_by node (place_of (cluster_of script.setup) node) refl;
+      ends = ends_so full refl;
     }
 
-module _ {N : Type 0} (step : N → Do → NodeStep N) (first : NodeId → Setup → List Work → N) (script : Script) (rings : List (List Out))
+module _ {N : Type 0} (step : N → Do → NodeStep N) (first : NodeId → Setup → List Work → N) (script : Script) (rings : List (List Out)) (full : Bool)
     (js : List (List Moment)) (ns : List N) (os : List (List Out)) (is : List (List In))
-    (parts : AreParts step first script rings js ns os is) (whole : length js ≡ node_count (cluster_of script.setup)) (setup : IsSetup script.setup)
+    (parts : AreParts step first script rings full js ns os is) (whole : length js ≡ node_count (cluster_of script.setup)) (setup : IsSetup script.setup)
     (names : NamesNodes script) where
   pub all_live : {E : Type 0} (r : Result (Estate N) E) → IfOk r (λ e. e.script ≡ script) → IfOk r (λ e. IsRun step first script e.events e.world)
       → IfOk r (λ e. Rises step (start_world first script) 0 0 e.events)
       → IfOk r (λ e. (p : ℕ) (j : List Moment) → slice_get js p ≡ Some j → whats_of (node_at (cluster_of script.setup) p) e.events ≡ whats j)
       → IfOk r (λ e. (p : ℕ) (j : List Moment) (a : Act) → slice_get js p ≡ Some j
       → Contains (acts_in step (first_node first script (node_at (cluster_of script.setup) p)) (whats j)) a → Contains e.world.acts a)
-      → IfOk r (λ e. IsLive step first e)
+      → IfOk r (λ e. IsLive step first full e)
   all_live (Ok e) same run rises each acts =
-      let joined : IsJoined step first script rings js ns os is e.events e.world =
+      let joined : IsJoined step first script rings full js ns os is e.events e.world =
       record { parts = parts; whole = whole; setup = setup; names = names; run = run; rises = rises; each = each; acts = acts }
       in
-      subst (λ s. IsLive step first (record { script = s; events = e.events; world = e.world })) (sym same)
-      (is_live step first script rings js ns os is e.events e.world joined)
+      subst (λ s. IsLive step first full (record { script = s; events = e.events; world = e.world })) (sym same)
+      (is_live step first script rings full js ns os is e.events e.world joined)
   all_live (Err e) same run rises each acts = tt

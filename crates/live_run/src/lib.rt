@@ -8,5 +8,5 @@ pub mod running;
 pub mod workers;
 
 pub use cells::{first_cells, left_at, seats_of, turned_round};
-pub use running::{all_done, apart, live, merged, one_round};
-pub use workers::{MORE, QUIET, Round, Seat, Visited, go_round};
+pub use running::{LAST, all_done, all_waited, apart, live, merged, one_round};
+pub use workers::{MORE, PATIENCE, QUIET, Round, Seat, Visited, Watch, go_round};

@@ -1,4 +1,6 @@
 //! The workers: each goes round over all nodes, and lets one at a time have its turns, under that node's lock.
+ghost use Rattle.std.specs.Prelude.{◌≡◌, ◌||◌, nat_le};
+
 use live_links::{Cell, RunName};
 use std::alloc::Global;
 use std::sync::{Mutex, Wait};
@@ -13,6 +15,12 @@ pub const MORE: u8 = 63;
 /// After how many rounds, one after the other, in which a worker moved nothing, it lets time pass at the nodes.
 pub const QUIET: u8 = 32;
 
+/// After how many rounds a worker lets time pass at the nodes, even if they moved in each.
+pub const LONGEST: u16 = 4096;
+
+/// After how many rounds in which time passed, and no item was answered, a worker leaves.
+pub const PATIENCE: u16 = 1024;
+
 /// What stands behind a lock, and lets workers have turns with it.
 pub trait Visited: Drop {
     /// The name of its node.
@@ -24,6 +32,9 @@ pub trait Visited: Drop {
 
     /// Whether each item of its node was begun and is answered.
     fn is_over(&self) -> bool;
+
+    /// How many answers its node gave to items of its own.
+    fn answers(&self) -> usize;
 }
 
 impl<N: Member, R: RunName> Visited for Cell<N, R> {
@@ -38,6 +49,10 @@ impl<N: Member, R: RunName> Visited for Cell<N, R> {
     fn is_over(&self) -> bool {
         self.done()
     }
+
+    fn answers(&self) -> usize {
+        self.answered().len()
+    }
 }
 
 /// A cell, or what has one, behind a lock. None is left there only after want of memory.
@@ -50,8 +65,12 @@ enum Found {
     Nothing,
     /// Another worker.
     Busy,
-    /// A cell, whether it had a turn, and whether all its items are answered.
-    Cell { moved: bool, done: bool },
+    /// A cell, whether it had a turn, whether it answered an item in it, and whether all its items are answered.
+    Cell {
+        moved: bool,
+        answered: bool,
+        done: bool,
+    },
 }
 
 /// What a worker found in a round over all seats.
@@ -61,6 +80,8 @@ pub struct Round {
     pub gone: bool,
     /// Whether some cell had a turn.
     pub moved: bool,
+    /// Whether some cell answered an item.
+    pub answered: bool,
     /// Whether all items of all cells are answered.
     pub done: bool,
 }
@@ -76,15 +97,86 @@ fn visit<T: Visited, G: Gate>(alloc: Global, seat: &Seat<T>, idle: bool, gate: &
         Some(cell) => cell,
     };
     let node = cell.node();
+    let before = cell.answers();
     gate.enter(node);
     let acted = cell.have_turns(alloc, idle);
     gate.leave(node);
     match acted {
         Err(_) => Found::Nothing,
         Ok((cell, moved)) => {
+            let answered = before < cell.answers();
             let done = cell.is_over();
             *guard = Some(cell);
-            Found::Cell { moved, done }
+            Found::Cell {
+                moved,
+                answered,
+                done,
+            }
+        }
+    }
+}
+
+/// What a worker knows of the rounds that it made.
+#[derive(Clone, Copy)]
+pub struct Watch {
+    /// How many rounds, one after the other, moved nothing last.
+    quiet: u8,
+    /// How many rounds were made since time passed.
+    since: u16,
+    /// In how many rounds time passed since an item was answered.
+    passed: u16,
+}
+
+impl Watch {
+    /// Of none.
+    pub fn new() -> Watch
+        ensures { result ≡ record { quiet = 0; since = 0; passed = 0 } }
+    {
+        Watch {
+            quiet: 0,
+            since: 0,
+            passed: 0,
+        }
+    }
+
+    /// Whether time is to pass in the next round: so many moved nothing, or it is long since time passed.
+    pub fn is_idle(&self, quiet: u8) -> bool
+        ensures { result ≡ (nat_le quiet self.now.quiet || nat_le 4096 self.now.since) }
+    {
+        self.quiet >= quiet || self.since >= LONGEST
+    }
+
+    /// Whether time passed in so many rounds since an item was answered.
+    pub fn has_passed(&self, rounds: u16) -> bool
+        ensures { result ≡ nat_le rounds self.now.passed }
+    {
+        self.passed >= rounds
+    }
+
+    /// With one round more, in which time was to pass or not.
+    pub fn with(self, idle: bool, round: Round) -> Watch {
+        let quiet = if round.moved {
+            0
+        } else {
+            u8::saturating_add(self.quiet, 1)
+        };
+        let passes = idle && round.moved;
+        let since = if passes {
+            0
+        } else {
+            u16::saturating_add(self.since, 1)
+        };
+        let passed = if round.answered {
+            0
+        } else if passes {
+            u16::saturating_add(self.passed, 1)
+        } else {
+            self.passed
+        };
+        Watch {
+            quiet,
+            since,
+            passed,
         }
     }
 }
@@ -100,6 +192,7 @@ pub fn go_round<T: Visited, G: Gate>(
     let mut round = Round {
         gone: false,
         moved: false,
+        answered: false,
         done: true,
     };
     let count = seats.len();
@@ -111,8 +204,13 @@ pub fn go_round<T: Visited, G: Gate>(
                 return round;
             }
             Found::Busy => round.done = false,
-            Found::Cell { moved, done } => {
+            Found::Cell {
+                moved,
+                answered,
+                done,
+            } => {
                 round.moved = round.moved || moved;
+                round.answered = round.answered || answered;
                 round.done = round.done && done;
             }
         }
@@ -120,9 +218,9 @@ pub fn go_round<T: Visited, G: Gate>(
     round
 }
 
-/// Goes round over the seats, beginning at one of them, until all items of all nodes are answered or a cell is gone.
-/// Time passes at the nodes only in a round after so many in which nothing moved. A worker that moved nothing lets
-/// other threads go on.
+/// Goes round over the seats, beginning at one of them, until all items of all nodes are answered or a cell is gone, or
+/// time passed in so many of its rounds since it last saw an item answered. Time passes at the nodes only in a round
+/// after so many in which nothing moved, or after very many. A worker that moved nothing lets other threads go on.
 fn work<T: Visited, W: Wait, G: Gate>(
     rt: &W,
     alloc: Global,
@@ -130,16 +228,18 @@ fn work<T: Visited, W: Wait, G: Gate>(
     first: usize,
     gate: &G,
 ) {
-    let mut quiet = 0;
+    let mut watch = Watch::new();
     for _ in rt.forever() {
-        let round = go_round(alloc, seats, first, quiet >= QUIET, gate);
+        let idle = watch.is_idle(QUIET);
+        let round = go_round(alloc, seats, first, idle, gate);
         if round.gone || round.done {
             return;
         }
-        if round.moved {
-            quiet = 0;
-        } else {
-            quiet = u8::saturating_add(quiet, 1);
+        watch = watch.with(idle, round);
+        if watch.has_passed(PATIENCE) {
+            return;
+        }
+        if !round.moved {
             thread::yield_now();
         }
     }

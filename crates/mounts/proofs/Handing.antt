@@ -23,14 +23,6 @@ items_more xs ys x more is are =
     let number : x ≡ length ys = is ∙ sym count in
     more ∙ ap (λ (zs : List ℕ). zs ++ x ∷ []) are ∙ ap (λ (n : ℕ). items_to (length xs) ++ n ∷ []) number ∙ sym (items_suc (length xs) (length ys) next)
 
--- all items were called where so many were begun as there are, each of which was called, and no more can be called
-pub all_called : (sent received known : List ℕ) (begun count : ℕ) → sent ≡ items_to (length sent) → received ++ known ≡ sent → begun ≤ length received
-    → begun ≡ count → length sent ≤ count → sent ≡ items_to count
-all_called sent received known begun count are front heard all most =
-    let whole : length received + length known ≡ length sent = sym (length-append received known) ∙ ap (λ (xs : List ℕ). length xs) front in
-    let same : length sent ≡ count = omega arith in
-    are ∙ ap items_to same
-
 -- an item is begun only where one is called that isn't begun
 pub begun_within : (before called now : ℕ) → before ≤ called → now ≤ before + cond (nat_lt before called) 1 0 → now ≤ called
 begun_within before called now le most =

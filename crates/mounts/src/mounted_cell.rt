@@ -171,8 +171,8 @@ impl<N: Member, R: MountName> MountedCell<N, R> {
         Ok((mounted, moved))
     }
 
-    /// Makes at most one turn, and says whether it made one: begins the next item where it was called and is due, else
-    /// takes a packet, else lets time pass where the worker is idle. What it answers in the turn it replies at its end.
+    /// Makes at most one turn, and says whether it made one: lets time pass where the worker is idle, whatever waits;
+    /// elsewhere begins the next item where it was called and is due, else takes a packet. What it answers in the turn it replies at its end.
     /// Where memory is wanting the node is given up with its run.
     pub fn act(self, alloc: Global, idle: bool) -> Mem<(MountedCell<N, R>, bool)>
         ensures place { IfOk result (λ r. r.0.cell.journal.place ≡ self.cell.journal.place) }
@@ -221,5 +221,9 @@ impl<N: Member, R: MountName> Visited for MountedCell<N, R> {
 
     fn is_over(&self) -> bool {
         self.cell.done()
+    }
+
+    fn answers(&self) -> usize {
+        self.cell.answered().len()
     }
 }

@@ -7,6 +7,8 @@ use xfs_base::List;
 
 /// A run with applications, what each called, and what it was replied, in order of clients.
 pub struct Mounted<N> {
+    /// Whether all items of all nodes are answered; else the run was given up.
+    pub full: bool,
     /// The run.
     pub estate: Estate<N>,
     /// For each client the items that were called, in that order.
@@ -30,6 +32,7 @@ impl<N> Mounted<N> {
         ensures { result ≡ (self.estate, self.calls, self.replies) }
     {
         let Mounted {
+            full: _,
             estate,
             calls,
             replies,

@@ -1,10 +1,9 @@
 //! What applications called and were replied, once both ends of their rings are in one thread.
 ghost use Rattle.std.specs.Prelude.{◌≡◌, ◌++◌, ◌∷◌, [], ℕ, List as Seq, length, All, IfOk, IsTrue, OnOk};
 ghost use Rattle.rtrb.specs.Ring.{IsPair, received, sent};
-ghost use Rattle.live_links.specs.Facts.{IsDone, dues_at};
+ghost use Rattle.live_links.specs.Ending.{IsEnded};
 ghost use Rattle.live_links.specs.Parts.{AreParts};
-ghost use Rattle.mounts.specs.Ports.{items_to};
-ghost use Rattle.mounts.specs.Replies.{AreSaid, replied_at};
+ghost use Rattle.mounts.specs.Replies.{AreFirst, AreSaid, replied_at};
 
 use crate::starting::take_last;
 use crate::{Application, MountName, MountedCell, Reply};
@@ -92,15 +91,14 @@ fn is_of<N: Member, R: MountName>(application: &Application<R>, client: &Mounted
     client.cell.place() == application.place
 }
 
-/// The cell of a client, all whose items are answered, and what its application called and was replied. An application
+/// The cell of a client, and what its application called and was replied. An application
 /// of another client is answered like want of memory: no type says at which place it stands.
 fn settle<N: Member, R: MountName>(
     client: MountedCell<N, R>,
     application: Application<R>,
 ) -> Mem<(Cell<N, R>, List<u32>, List<Reply>)>
-    requires { IsDone N.transition N.first R.script client.cell.journal.place client.cell.journal.moments }
     ensures cell { IfOk result (λ r. r.0 ≡ client.cell) }
-    ensures calls { IfOk result (λ r. r.1 ≡ items_to (length (dues_at R.script client.cell.journal.place))) }
+    ensures calls { IfOk result (λ r. AreFirst R.script client.cell.journal.place client.cell.journal.moments r.1) }
     ensures replies { IfOk result (λ r. r.2 ≡ replied_at N.transition N.first R.script client.cell.journal.place client.cell.journal.moments) }
 {
     if !is_of(&application, &client) {
@@ -115,20 +113,22 @@ fn settle<N: Member, R: MountName>(
     Ok((cell, calls, replies))
 }
 
-/// Takes the cells of clients apart, all whose items are answered, and tells what their applications called and were
+/// Takes the cells of clients apart, which have ended as the run has, and tells what their applications called and were
 /// replied. There have to be as many applications.
 pub(crate) fn clients_apart<N: Member, R: MountName>(
     alloc: Global,
     clients: Vec<MountedCell<N, R>>,
     applications: Vec<Application<R>>,
+    full: bool,
 ) -> Mem<(Parts<N>, Told)>
-    requires { All (λ c. IsDone N.transition N.first R.script c.cell.journal.place c.cell.journal.moments) clients.items }
-    ensures parts { IfOk result (λ r. AreParts N.transition N.first R.script R.outs r.0.journals.items r.0.nodes r.0.outs.items r.0.ins.items) }
+    requires { All (λ c. IsEnded N.transition N.first R.script full c.cell.journal.place c.cell.journal.moments) clients.items }
+    ensures full { IfOk result (λ r. r.0.full ≡ full) }
+    ensures parts { IfOk result (λ r. AreParts N.transition N.first R.script R.outs r.0.full r.0.journals.items r.0.nodes r.0.outs.items r.0.ins.items) }
     ensures count { IfOk result (λ r. length r.0.journals.items ≡ length clients.items) }
     ensures replies { IfOk result (λ r. length r.1.replies ≡ length clients.items) }
     ensures told { IfOk result (λ r. AreSaid N.transition N.first R.script r.0.journals.items r.1.calls r.1.replies) }
 {
-    let mut parts = Parts::none(alloc);
+    let mut parts = Parts::none(alloc, full);
     let mut told = Told::none(alloc);
     let mut left = turned_round(applications);
     for client in clients {

@@ -1,7 +1,7 @@
 //! The threads of a run with applications: the workers, and one for each application.
 use crate::{Application, MountName, MountedCell};
 use live_links::Cell;
-use live_run::{QUIET, Round, Seat, go_round};
+use live_run::{PATIENCE, QUIET, Round, Seat, Watch, go_round};
 use std::alloc::Global;
 use std::sync::Wait;
 use std::sync::atomic::{AtomicU64, Ordering};
@@ -10,10 +10,12 @@ use std::thread::Threads;
 use world_base::Member;
 use xfs_base::Gate;
 
-/// A flag by which a thread that finds memory wanting tells all others to return.
+/// A flag by which a thread that finds memory wanting tells all others to return, and by which workers tell that they
+/// have left.
 #[derive(Drop)]
 struct Flag {
     raised: AtomicU64,
+    left: AtomicU64,
 }
 
 impl Flag {
@@ -21,6 +23,7 @@ impl Flag {
     fn new() -> Flag {
         Flag {
             raised: AtomicU64::new(0),
+            left: AtomicU64::new(0),
         }
     }
 
@@ -32,6 +35,16 @@ impl Flag {
     /// Whether it is raised.
     fn is_raised(&self) -> bool {
         self.raised.load(Ordering::SeqCst) > 0
+    }
+
+    /// One worker leaves.
+    fn leave(&self) {
+        self.left.fetch_add(1, Ordering::SeqCst);
+    }
+
+    /// Whether so many have left, so that no reply comes any more while threads run.
+    fn have_left(&self, workers: u8) -> bool {
+        self.left.load(Ordering::SeqCst) >= u64::from(workers)
     }
 }
 
@@ -61,15 +74,17 @@ fn attend<R: MountName, W: Wait, G: Gate>(rt: &W, seat: &Seat<Application<R>>, g
     }
 }
 
-/// An application's thread: it goes on until it has nothing left to do, or memory is wanting somewhere.
+/// An application's thread: it goes on until it has nothing left to do, or all workers have left, or memory is wanting
+/// somewhere.
 fn apply<R: MountName, W: Wait, G: Gate>(
     rt: &W,
     seat: &Seat<Application<R>>,
     flag: &Flag,
+    workers: u8,
     gate: &G,
 ) {
     for _ in rt.forever() {
-        if flag.is_raised() {
+        if flag.is_raised() || flag.have_left(workers) {
             return;
         }
         match attend(rt, seat, gate) {
@@ -120,12 +135,14 @@ fn go_over<N: Member, R: MountName, G: Gate>(
     Round {
         gone: one.gone || other.gone,
         moved: one.moved || other.moved,
+        answered: one.answered || other.answered,
         done: one.done && other.done,
     }
 }
 
-/// A worker's thread: it goes round over the cells until all items of all nodes are answered, or memory is wanting
-/// somewhere. Time passes at the nodes only in a round after so many in which nothing moved.
+/// What a worker does: it goes round over the cells until all items of all nodes are answered, or memory is wanting
+/// somewhere, or time passed in so many of its rounds since it last saw an item answered. Time passes at the nodes only
+/// in a round after so many in which nothing moved, or after very many.
 fn work<N: Member, R: MountName, W: Wait, G: Gate>(
     rt: &W,
     alloc: Global,
@@ -135,19 +152,21 @@ fn work<N: Member, R: MountName, W: Wait, G: Gate>(
     flag: &Flag,
     gate: &G,
 ) {
-    let mut quiet = 0;
+    let mut watch = Watch::new();
     for _ in rt.forever() {
-        let round = go_over(alloc, clients, others, first, quiet >= QUIET, gate);
+        let idle = watch.is_idle(QUIET);
+        let round = go_over(alloc, clients, others, first, idle, gate);
         if round.gone {
             flag.raise();
         }
         if round.done || flag.is_raised() {
             return;
         }
-        if round.moved {
-            quiet = 0;
-        } else {
-            quiet = u8::saturating_add(quiet, 1);
+        watch = watch.with(idle, round);
+        if watch.has_passed(PATIENCE) {
+            return;
+        }
+        if !round.moved {
             thread::yield_now();
         }
     }
@@ -164,20 +183,28 @@ fn work_for_all<N: Member, R: MountName, W: Wait, G: Gate>(
     flag: &Flag,
     gate: &G,
 ) {
-    let mut quiet = 0;
+    let mut watch = Watch::new();
     for _ in rt.forever() {
-        let moved = attend_all(rt, applications, flag, gate);
-        let round = go_over(alloc, clients, others, 0, quiet >= QUIET, gate);
-        if round.gone {
+        let attended = attend_all(rt, applications, flag, gate);
+        let idle = watch.is_idle(QUIET);
+        let cells = go_over(alloc, clients, others, 0, idle, gate);
+        if cells.gone {
             flag.raise();
         }
-        if round.done || flag.is_raised() {
+        if cells.done || flag.is_raised() {
             return;
         }
-        if round.moved || moved {
-            quiet = 0;
-        } else {
-            quiet = u8::saturating_add(quiet, 1);
+        let round = Round {
+            gone: cells.gone,
+            moved: cells.moved || attended,
+            answered: cells.answered,
+            done: cells.done,
+        };
+        watch = watch.with(idle, round);
+        if watch.has_passed(PATIENCE) {
+            return;
+        }
+        if !round.moved {
             thread::yield_now();
         }
     }
@@ -208,16 +235,23 @@ pub(crate) fn run_threads<
         let mut all_started = true;
         for place in 0..applications.len() {
             let seat = &applications[place];
-            if scope.spawn(move || apply(rt, seat, raised, gate)).is_err() {
+            if scope
+                .spawn(move || apply(rt, seat, raised, workers, gate))
+                .is_err()
+            {
                 all_started = false;
             }
         }
         for worker in 0..workers {
             let first = usize::from(worker);
             if scope
-                .spawn(move || work(rt, alloc, clients, others, first, raised, gate))
+                .spawn(move || {
+                    work(rt, alloc, clients, others, first, raised, gate);
+                    raised.leave();
+                })
                 .is_err()
             {
+                raised.leave();
                 all_started = false;
             }
         }

@@ -1,6 +1,7 @@
 -- From what the parts of a call tell to the claim of the whole.
-use Rattle.std.proofs.Common.{◌≡◌, ◌≤◌, ℕ, Bool, true, false, List, [], Option, Some, None, refl, sym, ap, ◌∙◌, inl, inr, subst, arith}
+use Rattle.std.proofs.Common.{◌≡◌, ◌≤◌, ℕ, Bool, true, false, ◌||◌, nat_lt, ◌==◌, List, [], Option, Some, None, refl, sym, ap, ◌∙◌, inl, inr, subst, arith}
 use Rattle.std.specs.Prelude.{IfSome}
+use Rattle.std.proofs.lemmas.Bool.Decides.{nat_tests}
 use Rattle.std.specs.Io.KnownBytes.{Consumes, Keeps}
 use Rattle.board_law.specs.OneRun.{HasRegistry}
 use Rattle.board_play.specs.declared.estate.BoardEstate.{BoardEstate}
@@ -37,13 +38,20 @@ use Rattle.top_call.specs.declared.outcome.Outcome.{Outcome}
 use Rattle.top_call.specs.declared.unread.Unread.{Unread}
 use Rattle.top_call.specs.declared.unread.Unread.TheVariants.{Failed, Memory, Bad}
 use Rattle.top_call.specs.Commands.{reads}
-use Rattle.top_call.specs.Claim.{AnswersLive, Wanted, Writing, Reading, reading, writing, line, refusal, run_answer, IsRead, IsInput, Tells, GivesUp, TellsOrGivesUp, Wants, AnswersOrGivesUp, Ends, IsPlayed, IsPlayedWithBoards, IsPlayedWithDisks, IsRunBy, TellsDisks, TellsLive, ReadsAtMost, boards_in, boards_of, Claim}
+use Rattle.top_call.specs.Claim.{AnswersLive, Wanted, Writing, Reading, reading, writing, line, refusal, run_answer, IsRead, IsInput, Tells, GivesUp, TellsOrGivesUp, Wants, AnswersOrGivesUp, Ends, IsPlayed, IsPlayedWithBoards, IsLiveRun, is_full, IsPlayedWithDisks, IsRunBy, TellsDisks, TellsLive, ReadsAtMost, boards_in, boards_of, Claim}
 use Rattle.top_call.specs.Disks.{DisksGive, DisksIn, LeavesDisks}
 use Rattle.top_call.specs.Input.{limit}
 use Rattle.top_call.specs.Mounts.{LeavesMounts, MountsIn}
 use Rattle.top_call.specs.Spoken.{usage_text}
 use Rattle.top_call.specs.Told.{boards_where, disks_where, lists_where}
 use Rattle.top_call.specs.Unread.{IsScriptRead, IsWhy, TellsWhy}
+use Rattle.top_call.proofs.Answered.{all_answered}
+
+zero_is : (n : ℕ) → n ≡ 0 → (n == 0) ≡ true
+zero_is n is = rw is refl
+
+not_zero : (n : ℕ) → nat_lt 0 n ≡ true → (n == 0) ≡ false
+not_zero n some = grind (arith, nat_tests)
 
 -- known bytes stay as they are where nothing is written
 keeps_same : (o : Option (List ℕ)) → Keeps o o
@@ -180,21 +188,27 @@ module _ {N : Type 0} (step : N → Do → NodeStep N) (first : NodeId → Setup
   disks_answers input script s o of (inl (w, a, t)) = inl (record { wanted = w; wants = inl (script, of, a); told = t })
   disks_answers input script s o of (inr g) = inr g
 
+  -- a run by workers is full just where no item of it is open
+  pub full_is : (full : Bool) (left : ℕ) (agrees : Bool) (e : Estate N) → agrees ≡ (full || nat_lt 0 left) → agrees ≡ true → left ≡ open_items e → IsLive step first full e
+      → full ≡ is_full e
+  full_is true left agrees e is so count live = sym (zero_is (open_items e) (all_answered e.script.lines e.world.acts live.ends.answered))
+  full_is false left agrees e is so count live = sym (not_zero (open_items e) (sym (ap (nat_lt 0) count) ∙ sym is ∙ so))
+
   -- a run by workers was made
-  pub some_lived : (o : Option (Estate N)) (e : Estate N) → IfSome o (λ x. x ≡ e) → IsLive step first e → IfSome o (λ x. IsLive step first x)
+  pub some_lived : (o : Option (Estate N)) (e : Estate N) → IfSome o (λ x. x ≡ e) → IsLiveRun step first e → IfSome o (λ x. IsLiveRun step first x)
   some_lived None e k h = tt
-  some_lived (Some x) e k h = subst (λ y. IsLive step first y) (sym k) h
+  some_lived (Some x) e k h = subst (λ y. IsLiveRun step first y) (sym k) h
 
   -- the text of such a run is told
-  pub live_told : (script : Script) (s : Writing) (o : Outcome N) (e : Estate N) → e.script ≡ script → IsLive step first e → open_items e ≡ 0
+  pub live_told : (script : Script) (s : Writing) (o : Outcome N) (e : Estate N) → e.script ≡ script → IsLiveRun step first e
       → TellsOrGivesUp s o (run_answer (text_of e) e) → TellsLive step first script s o
-  live_told script s o e is live none (inl t) =
-      inl (run_answer (text_of e) e, record { run = e; of_script = is; live = live; none_open = none; answer = refl }, t)
-  live_told script s o e is live none (inr g) = inr g
+  live_told script s o e is live (inl t) =
+      inl (run_answer (text_of e) e, record { run = e; of_script = is; live = live; answer = refl }, t)
+  live_told script s o e is live (inr g) = inr g
 
   -- with an application for each client
   pub some_mounted : (o : Option (Estate N)) (e : Estate N) (calls : List (List ℕ)) (replies : List (List Reply)) (called : Option (List (List ℕ))) (replied : Option (List (List Reply)))
-      → IfSome o (λ x. x ≡ e) → called ≡ lists_where o calls → replied ≡ lists_where o replies → IsMounted step first e calls replies → MountsIn step first o called replied
+      → IfSome o (λ x. x ≡ e) → called ≡ lists_where o calls → replied ≡ lists_where o replies → IsMounted step first (is_full e) e calls replies → MountsIn step first o called replied
   some_mounted None e calls replies called replied k are is m = (are, is)
   some_mounted (Some x) e calls replies called replied k are is m =
       subst (λ y. LeavesMounts step first y called replied) (sym k) (record { calls = calls; replies = replies; calls_are = are; replies_are = is; mounted = m })
@@ -266,19 +280,19 @@ module _ {N : Type 0} (step : N → Do → NodeStep N) (first : NodeId → Setup
   -- of one that asks for a run by workers
   module _ (command : Command) (is : reads (Some command) ≡ true) (no_boards : boards_of step first (Some command) None ≡ None)
       (asks : (input : List ℕ) (w : Wanted N) → AnswersLive step first input w → Wants step first (Some command) input w)
-      (runs : (e : Estate N) → IsLive step first e → IsRunBy step first (Some command) e) (r : Reading) (s : Writing) (o : Outcome N) where
+      (runs : (e : Estate N) → IsLiveRun step first e → IsRunBy step first (Some command) e) (r : Reading) (s : Writing) (o : Outcome N) where
     live_answers : (input : List ℕ) (script : Script) → IsScriptOf true input script → TellsLive step first script s o
         → AnswersOrGivesUp step first (Some command) input s o
     live_answers input script of (inl (w, a, t)) = inl (record { wanted = w; wants = asks input w (inl (script, of, a)); told = t })
     live_answers input script of (inr g) = inr g
 
     -- its input spells a script
-    pub claims_lived : (script : Script) → IsScriptRead true r script → TellsLive step first script s o → IfSome o.estate (λ x. IsLive step first x)
+    pub claims_lived : (script : Script) → IsScriptRead true r script → TellsLive step first script s o → IfSome o.estate (λ x. IsLiveRun step first x)
         → o.boards ≡ boards_of step first (Some command) o.estate → ReadsAtMost r limit → r.faults ≤ r.faults_after → s.faults ≤ s.faults_after
         → Claim step first (Some command) r s o
     claims_lived script (input, read, of) told lived =
         claims_read command r s o input (subst (λ b. IsRead b r input) (sym is) read) (live_answers input script of told)
-        (each_left (λ x. IsLive step first x) (IsRunBy step first (Some command)) runs o.estate lived)
+        (each_left (λ x. IsLiveRun step first x) (IsRunBy step first (Some command)) runs o.estate lived)
 
     -- or none
     pub claims_not_lived : (why : Unread) → IsWhy true r why → TellsWhy s o why

@@ -91,6 +91,10 @@ module _ {N : Type 0} where
   abbrev pub refusal : ℕ → Kind → Wanted N
   refusal number kind = line (refused_text number kind) 3
 
+  -- whether no item of a run is unanswered
+  abbrev pub is_full : Estate N → Bool
+  is_full e = open_items e == 0
+
   -- a run: 1 where an item of it is unanswered
   abbrev pub run_status : Estate N → ℕ
   run_status e = if open_items e == 0 then 0 else 1
@@ -144,12 +148,16 @@ module _ {N : Type 0} (step : N → Do → NodeStep N) (first : NodeId → Setup
       ((script : Script) × IsScriptOf false input script × (w ≡ boards_wanted script))
       ⊎ ((number : ℕ) × (kind : Kind) × IsFirstBad false input number kind × (w ≡ refusal number kind))
 
-  -- what is wanted of a script that workers run: the text of some run of it in which each item is begun at its due, and answered
+  -- a run by workers: a full one where no item is open; where one is, it was given up
+  abbrev pub IsLiveRun : Estate N → Type 0
+  IsLiveRun e = IsLive step first (is_full e) e
+
+  -- what is wanted of a script that workers run: the text of some run of it in which each item is begun at its due; none is left out and each is answered, or, where
+  -- one is open, time passed at each node 256 times or more behind its last answer
   pub record IsLiveAnswer (script : Script) (w : Wanted N) : Type 0 where
     pub run : Estate N
     pub of_script : run.script ≡ script
-    pub live : IsLive step first run
-    pub none_open : open_items run ≡ 0
+    pub live : IsLiveRun run
     pub answer : w ≡ run_answer (text_of run) run
 
   -- It is a whole run of its script, which some text spells, played by one thread: all items are begun in the order of their lines. It is the one that the
@@ -231,10 +239,10 @@ module _ {N : Type 0} (step : N → Do → NodeStep N) (first : NodeId → Setup
     pub determined : e ≡ (board_estate_of step first e.script).estate
     pub played : HasRegistry step first → IsBoardPlayed step first (board_estate_of step first e.script)
 
-  -- what a command runs: by workers, each item begun at its due and answered; else by one thread, with boards, with servers that stop, or plainly
+  -- what a command runs: by workers, each item begun at its due, and all answered or given up; else by one thread, with boards, with servers that stop, or plainly
   abbrev pub IsRunBy : Option Command → Estate N → Type 0
-  IsRunBy (Some (Live workers)) e = IsLive step first e
-  IsRunBy (Some (Mount workers)) e = IsLive step first e
+  IsRunBy (Some (Live workers)) e = IsLiveRun e
+  IsRunBy (Some (Mount workers)) e = IsLiveRun e
   IsRunBy (Some Boards) e = IsPlayedWithBoards e
   IsRunBy (Some Disks) e = IsPlayedWithDisks e
   IsRunBy command e = IsPlayed e
@@ -255,7 +263,7 @@ module _ {N : Type 0} (step : N → Do → NodeStep N) (first : NodeId → Setup
     pub usage : command ≡ None → Tells s o (line usage_text 2)
     -- a command is answered by the text or the counts of its run, its script, its verdict or its refusal; or memory is wanting, or a read failed
     pub ends : Ends command r s o
-    -- what was run is a whole run of its script, by one thread or by workers; or, with boards, a run that stands for one with one registry
+    -- what was run is a whole run of its script, by one thread or by workers, or was given up by these; or, with boards, a run that stands for one with one registry
     pub run : IfSome o.estate (IsRunBy command)
     -- and what happened to nodes and boards is told
     pub boards : o.boards ≡ boards_of command o.estate

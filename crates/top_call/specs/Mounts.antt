@@ -8,6 +8,7 @@ use Rattle.wire_msg.specs.NodeStep.{NodeStep}
 use Rattle.world_base.specs.declared.estate.Estate.{Estate}
 use Rattle.xfs_base.specs.declared.node.NodeId.{NodeId}
 use Rattle.xfs_base.specs.declared.setup.Setup.{Setup}
+use Rattle.top_call.specs.Claim.{is_full}
 use Rattle.top_call.specs.declared.command.Command.{Command}
 use Rattle.top_call.specs.declared.command.Command.TheVariants.{Mount}
 
@@ -16,13 +17,13 @@ abbrev pub NoReplies : Option (List (List ℕ)) → Option (List (List Reply)) �
 NoReplies calls replies = (calls ≡ None) × (replies ≡ None)
 
 module _ {N : Type 0} (step : N → Do → NodeStep N) (first : NodeId → Setup → List Work → N) where
-  -- for each client what was called are its items, in their order, each once, and what was replied is what it answered, in that order, each once
+  -- for each client what was called are its first items, in their order, each once, all of them where no item of the run is open, and what was replied is what it answered, in that order, each once
   pub record LeavesMounts (e : Estate N) (called : Option (List (List ℕ))) (replied : Option (List (List Reply))) : Type 0 where
     pub calls : List (List ℕ)
     pub replies : List (List Reply)
     pub calls_are : called ≡ Some calls
     pub replies_are : replied ≡ Some replies
-    pub mounted : IsMounted step first e calls replies
+    pub mounted : IsMounted step first (is_full e) e calls replies
 
   -- where there is no run, there are none
   abbrev pub MountsIn : Option (Estate N) → Option (List (List ℕ)) → Option (List (List Reply)) → Type 0

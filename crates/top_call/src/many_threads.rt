@@ -1,10 +1,8 @@
 //! What the program does for the words `live W`, over nodes of any kind.
-ghost use Rattle.std.specs.Prelude.{◌≡◌, ◌≤◌, None, Some, IfOk, IfSome};
-ghost use Rattle.live_run.specs.Live.{IsLive};
+ghost use Rattle.std.specs.Prelude.{◌≡◌, ◌≤◌, ◌||◌, nat_lt, None, Some, IfOk, IfSome};
 ghost use Rattle.script_print.specs.Printing.{IsScript};
-ghost use Rattle.transcript.specs.Replies.{open_items};
 ghost use Rattle.top_call.specs.declared.command.Command.TheVariants as commands;
-ghost use Rattle.top_call.specs.Claim.{writing, reading, TellsLive, Claim};
+ghost use Rattle.top_call.specs.Claim.{writing, reading, IsLiveRun, TellsLive, Claim};
 ghost use Rattle.top_call.specs.Mounts.{NoReplies};
 ghost use Rattle.top_call.specs.Told.{IsPlain};
 
@@ -14,13 +12,22 @@ use crate::outside::{Sink, Source};
 use crate::unread::{end_unread, read_script};
 use live_run::live;
 use script_text::Script;
-use std::alloc::Global;
+use std::alloc::{AllocError, Global};
 use std::sync::Wait;
 use std::thread::Threads;
+use transcript::open_items;
 use world_base::{Estate, Member};
 use xfs_base::{Gate, Mem};
 
-/// Runs a script by workers.
+/// Whether a run is full, or some item of it is open.
+pub(crate) fn agrees(full: bool, left: u64) -> bool
+    ensures { result ≡ (full || nat_lt 0 left) }
+{
+    full || left > 0
+}
+
+/// Runs a script by workers. A run that was given up with no item open is answered like want of memory: no type excludes
+/// it.
 fn lived<N: Member + Send, R: Threads + Wait + Sync, G: Gate>(
     rt: &R,
     alloc: Global,
@@ -30,10 +37,12 @@ fn lived<N: Member + Send, R: Threads + Wait + Sync, G: Gate>(
 ) -> Mem<Estate<N>>
     requires { IsScript script.now }
     ensures script { IfOk result (λ estate. estate.script ≡ script.now) }
-    ensures run { IfOk result (λ estate. IsLive N.transition N.first estate) }
-    ensures none_open { IfOk result (λ estate. open_items estate ≡ 0) }
+    ensures run { IfOk result (λ estate. IsLiveRun N.transition N.first estate) }
 {
-    let estate = live::<N, R, G>(rt, alloc, script, workers, gate)?;
+    let (estate, full) = live::<N, R, G>(rt, alloc, script, workers, gate)?;
+    if !agrees(full, open_items(&estate)) {
+        return Err(AllocError);
+    }
     Ok(estate)
 }
 
@@ -48,7 +57,7 @@ fn run_script<N: Member + Send, R: Threads + Wait + Sync, K: Sink, G: Gate>(
 ) -> Outcome<N>
     requires { IsScript script.now }
     ensures told { TellsLive N.transition N.first script.now (writing K.written K.faults sink.old sink.new) result }
-    ensures one_run { IfSome result.estate (λ e. IsLive N.transition N.first e) }
+    ensures one_run { IfSome result.estate (λ e. IsLiveRun N.transition N.first e) }
     ensures plain { IsPlain result }
     ensures later { K.faults sink.old ≤ K.faults sink.new }
 {

@@ -1,31 +1,31 @@
 //! What the program does for the words `mount W`, and for all words that start threads, over nodes of any kind.
 ghost use Rattle.std.specs.Prelude.{◌≡◌, ◌≤◌, true, None, Some, IfOk, IfSome};
-ghost use Rattle.live_run.specs.Live.{IsLive};
 ghost use Rattle.mounts.specs.Mounted.{IsMounted};
 ghost use Rattle.script_print.specs.Printing.{IsScript};
-ghost use Rattle.transcript.specs.Replies.{open_items};
 ghost use Rattle.transcript.specs.Text.{text_of};
 ghost use Rattle.top_call.specs.declared.command.Command.TheVariants as commands;
-ghost use Rattle.top_call.specs.Claim.{writing, reading, run_answer, TellsLive, TellsOrGivesUp, Claim};
+ghost use Rattle.top_call.specs.Claim.{writing, reading, run_answer, IsLiveRun, is_full, TellsLive, TellsOrGivesUp, Claim};
 ghost use Rattle.top_call.specs.Commands.{is_live};
 ghost use Rattle.top_call.specs.Mounts.{MountsIn, MountsOf};
 ghost use Rattle.top_call.specs.Told.{lists_where};
 
 use crate::Outcome;
 use crate::command::Command;
-use crate::many_threads::answer_live;
+use crate::many_threads::{agrees, answer_live};
 use crate::one_thread::{ended, write_run};
 use crate::outside::{Sink, Source};
 use crate::unread::{end_unread, read_script};
 use mounts::Mounted;
 use script_text::Script;
-use std::alloc::Global;
+use std::alloc::{AllocError, Global};
 use std::sync::Wait;
 use std::thread::Threads;
+use transcript::open_items;
 use world_base::Member;
 use xfs_base::{Gate, Mem};
 
-/// Runs a script by workers and applications.
+/// Runs a script by workers and applications. A run that was given up with no item open is answered like want of memory:
+/// no type excludes it.
 fn mounted_run<N: Member + Send, R: Threads + Wait + Sync, G: Gate>(
     rt: &R,
     alloc: Global,
@@ -35,11 +35,13 @@ fn mounted_run<N: Member + Send, R: Threads + Wait + Sync, G: Gate>(
 ) -> Mem<Mounted<N>>
     requires { IsScript script.now }
     ensures script { IfOk result (λ run. run.estate.script ≡ script.now) }
-    ensures run { IfOk result (λ run. IsLive N.transition N.first run.estate) }
-    ensures none_open { IfOk result (λ run. open_items run.estate ≡ 0) }
-    ensures mounted { IfOk result (λ run. IsMounted N.transition N.first run.estate run.calls run.replies) }
+    ensures run { IfOk result (λ run. IsLiveRun N.transition N.first run.estate) }
+    ensures mounted { IfOk result (λ run. IsMounted N.transition N.first (is_full run.estate) run.estate run.calls run.replies) }
 {
     let made = mounts::mounted::<N, R, G>(rt, alloc, script, workers, gate)?;
+    if !agrees(made.full, open_items(&made.estate)) {
+        return Err(AllocError);
+    }
     Ok(made)
 }
 
@@ -69,7 +71,7 @@ fn run_script<N: Member + Send, R: Threads + Wait + Sync, K: Sink, G: Gate>(
 ) -> Outcome<N>
     requires { IsScript script.now }
     ensures told { TellsLive N.transition N.first script.now (writing K.written K.faults sink.old sink.new) result }
-    ensures one_run { IfSome result.estate (λ e. IsLive N.transition N.first e) }
+    ensures one_run { IfSome result.estate (λ e. IsLiveRun N.transition N.first e) }
     ensures mounts { MountsIn N.transition N.first result.estate result.calls result.replies }
     ensures no_boards { result.boards ≡ None }
     ensures no_disks { result.disks ≡ None }

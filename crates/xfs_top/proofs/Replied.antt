@@ -7,7 +7,6 @@ use Rattle.std.proofs.lemmas.Option.{slice_get_within}
 use Rattle.core_world.specs.AnyNode.{any_start, any_step}
 use Rattle.core_world.specs.declared.any_node.AnyNode.{AnyNode}
 use Rattle.live_links.specs.Answered.{answers_by, is_answer_by}
-use Rattle.live_run.specs.Live.{IsLive}
 use Rattle.journals.proofs.Starts.{start_cluster, start_node}
 use Rattle.journals.specs.Journals.{acts_in}
 use Rattle.journals.specs.Merging.{whats_of}
@@ -20,7 +19,7 @@ use Rattle.run_answers.specs.once_law.Runs.{ItemsAnsweredOnce}
 use Rattle.token_protocol.specs.Basics.{In}
 use Rattle.top_call.specs.declared.command.Command.{Command}
 use Rattle.top_call.specs.declared.command.Command.TheVariants.{Audit, Big, Boards, Disks, Gen, Live, Mount, Run}
-use Rattle.top_call.specs.Claim.{IsRunBy}
+use Rattle.top_call.specs.Claim.{IsLiveRun, IsRunBy, is_full}
 use Rattle.top_call.specs.Mounts.{LeavesMounts, MountsOf}
 use Rattle.version_model.specs.declared.act.Act.{Act}
 use Rattle.version_model.specs.declared.act.Act.TheVariants as act
@@ -71,7 +70,7 @@ nothing_yet : (s : Script) → (start_world any_start s).acts ≡ []
 unfolding start_world
 nothing_yet s = refl
 
-module _ (e : Estate AnyNode) (live : IsLive any_step any_start e) (once : ItemsAnsweredOnce e) where
+module _ (e : Estate AnyNode) (live : IsLiveRun any_step any_start e) (once : ItemsAnsweredOnce e) where
   answers_are : (p : ℕ) → p < e.script.setup.clients
       → answers_by (client_at p) e.world.acts ≡ answers_by (client_at p) (acts_in any_step (first_node any_start e.script (client_at p)) (whats_of (client_at p) e.events))
   answers_are p below =
@@ -84,11 +83,11 @@ module _ (e : Estate AnyNode) (live : IsLive any_step any_start e) (once : Items
       let at : slice_get start.nodes p ≡ Some (first_node any_start e.script (client_at p)) =
       start_node any_start e.script p (omega arith) ∙ ap (λ n. Some (first_node any_start e.script n)) name
       in
-      answered_in any_step (client_at p) p start 0 0 e.events e.world (first_node any_start e.script (client_at p)) place at live.rises live.whole.one_run
+      answered_in any_step (client_at p) p start 0 0 e.events e.world (first_node any_start e.script (client_at p)) place at live.rises live.one_run
       (nobody (client_at p) start e.events (λ k f there by item a found. (once.own k f there by item a found).own))
       ∙ ap (λ xs. answers_by (client_at p) xs ++ answers_by (client_at p) (acts_in any_step (first_node any_start e.script (client_at p)) (whats_of (client_at p) e.events))) (nothing_yet e.script)
 
-  are_answers : (calls : List (List ℕ)) (replies : List (List Reply)) → IsMounted any_step any_start e calls replies → AreAnswers e replies
+  are_answers : (calls : List (List ℕ)) (replies : List (List Reply)) → IsMounted any_step any_start (is_full e) e calls replies → AreAnswers e replies
   are_answers calls replies m = record {
     count = m.replies_count;
     each = λ p rs at.

@@ -30,9 +30,10 @@ use Rattle.run_laws.specs.world_reads.Legal.{LegalActs, LegalWithoutLosses}
 use Rattle.run_settled.specs.settled_law.Settled.{BlocksAreSettled}
 use Rattle.run_stripes.specs.boot_law.Boots.{TheCleanerFilesOne}
 use Rattle.run_stripes.specs.stripe_law.ReadBack.{FiledIsReadBack}
-use Rattle.std.specs.Prelude.{◌≡◌, ℕ, Option, Some}
+use Rattle.std.specs.Prelude.{◌≡◌, ℕ, true, Option, Some}
+use Rattle.top_call.specs.Claim.{is_full}
 use Rattle.top_call.specs.declared.command.Command.{Command}
-use Rattle.top_call.specs.declared.command.Command.TheVariants.{Boards}
+use Rattle.top_call.specs.declared.command.Command.TheVariants.{Boards, Live, Mount}
 use Rattle.world_base.specs.declared.estate.Estate.{Estate}
 use Rattle.world_base.specs.Items.{works_of}
 use Rattle.world_base.specs.Runs.{IsWholeRun}
@@ -111,6 +112,13 @@ pub record Headline (e : Estate AnyNode) : Type 0 where
   pub whole : IsWholeRun any_step any_start e
   pub safe : IsSafe e
 
+-- Of a run by workers:
+pub record LiveHeadline (e : Estate AnyNode) : Type 0 where
+  -- where no item of it is open, its events are one run of the xFS nodes, of its script: each node begins its items in order, each once, and none is left out
+  pub whole : is_full e ≡ true → IsWholeRun any_step any_start e
+  -- and whether it was given up or not, all that is said of a run is so of it
+  pub safe : IsSafe e
+
 -- Of a run that was played with three boards in the registry's place, whichever of them stop:
 pub record BoardHeadline (e : Estate AnyNode) : Type 0 where
   -- it is the one that its script determines
@@ -124,4 +132,6 @@ pub record BoardHeadline (e : Estate AnyNode) : Type 0 where
 -- what is claimed of the run of a command
 abbrev pub HeadlineOf : Option Command → Estate AnyNode → Type 0
 HeadlineOf (Some Boards) e = BoardHeadline e
+HeadlineOf (Some (Live workers)) e = LiveHeadline e
+HeadlineOf (Some (Mount workers)) e = LiveHeadline e
 HeadlineOf command e = Headline e

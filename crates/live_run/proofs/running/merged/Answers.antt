@@ -16,19 +16,19 @@ look_all-requires g c =
     let r = c.into_rows-journals.result in
     let e = sym c.into_rows-journals.ensures in
     let count = ap (λ (s : Script). node_count (cluster_of s.setup)) c.requires.script in
-    let all = subst (λ x. AreParts g.N.Actor.transition g.N.Member.first g.R.RunName.script g.R.RunName.outs x.0.items x.1 x.2.items x.3.items) e c.requires.parts in
+    let all = subst (λ x. AreParts g.N.Actor.transition g.N.Member.first g.R.RunName.script g.R.RunName.outs c.args.parts.full x.0.items x.1 x.2.items x.3.items) e c.requires.parts in
     let whole = subst (λ x. length x.0.items ≡ node_count (cluster_of c.args.script.now.setup)) e c.requires.count in
-    are_pairs g.N.Actor.transition g.N.Member.first g.R.RunName.script g.R.RunName.outs r.0.items r.1 r.2.items r.3.items all (whole ∙ count) (c.requires.rings ∙ count)
+    are_pairs g.N.Actor.transition g.N.Member.first g.R.RunName.script g.R.RunName.outs c.args.parts.full r.0.items r.1 r.2.items r.3.items all (whole ∙ count) (c.requires.rings ∙ count)
 
 pub merge-requires-clause-standing : goal.merge-requires-clause-standing
 merge-requires-clause-standing g c =
     let r = c.into_rows-journals.result in
     let e = sym c.into_rows-journals.ensures in
     let count = ap (λ (s : Script). node_count (cluster_of s.setup)) c.requires.script in
-    let all = subst (λ x. AreParts g.N.Actor.transition g.N.Member.first g.R.RunName.script g.R.RunName.outs x.0.items x.1 x.2.items x.3.items) e c.requires.parts in
+    let all = subst (λ x. AreParts g.N.Actor.transition g.N.Member.first g.R.RunName.script g.R.RunName.outs c.args.parts.full x.0.items x.1 x.2.items x.3.items) e c.requires.parts in
     let whole = subst (λ x. length x.0.items ≡ node_count (cluster_of c.args.script.now.setup)) e c.requires.count in
     subst (λ (s : Script). Standing g.N.Actor.transition (start_world g.N.Member.first s) r.0.items) (sym c.requires.script)
-    (stands g.N.Actor.transition g.N.Member.first g.R.RunName.script g.R.RunName.outs r.0.items r.1 r.2.items r.3.items all (whole ∙ count) (c.requires.rings ∙ count)
+    (stands g.N.Actor.transition g.N.Member.first g.R.RunName.script g.R.RunName.outs c.args.parts.full r.0.items r.1 r.2.items r.3.items all (whole ∙ count) (c.requires.rings ∙ count)
     c.look_all.ensures)
 
 pub merge-requires-clause-told : goal.merge-requires-clause-told
@@ -36,20 +36,20 @@ merge-requires-clause-told g c =
     let r = c.into_rows-journals.result in
     let e = sym c.into_rows-journals.ensures in
     let count = ap (λ (s : Script). node_count (cluster_of s.setup)) c.requires.script in
-    let all = subst (λ x. AreParts g.N.Actor.transition g.N.Member.first g.R.RunName.script g.R.RunName.outs x.0.items x.1 x.2.items x.3.items) e c.requires.parts in
+    let all = subst (λ x. AreParts g.N.Actor.transition g.N.Member.first g.R.RunName.script g.R.RunName.outs c.args.parts.full x.0.items x.1 x.2.items x.3.items) e c.requires.parts in
     let whole = subst (λ x. length x.0.items ≡ node_count (cluster_of c.args.script.now.setup)) e c.requires.count in
     subst (λ (s : Script). AreTold g.N.Actor.transition (first_nodes g.N.Member.first s (cluster_of s.setup)) r.0.items r.1) (sym c.requires.script)
-    (are_told g.N.Actor.transition g.N.Member.first g.R.RunName.script g.R.RunName.outs r.0.items r.1 r.2.items r.3.items all (whole ∙ count) (c.requires.rings ∙ count))
+    (are_told g.N.Actor.transition g.N.Member.first g.R.RunName.script g.R.RunName.outs c.args.parts.full r.0.items r.1 r.2.items r.3.items all (whole ∙ count) (c.requires.rings ∙ count))
 
 pub returns-clause-run : goal.returns-clause-run
 returns-clause-run g c =
     let r = c.into_rows-journals.result in
     let e = sym c.into_rows-journals.ensures in
-    let all = subst (λ x. AreParts g.N.Actor.transition g.N.Member.first g.R.RunName.script g.R.RunName.outs x.0.items x.1 x.2.items x.3.items) e c.requires.parts in
-    let here = subst (λ (s : Script). AreParts g.N.Actor.transition g.N.Member.first s g.R.RunName.outs r.0.items r.1 r.2.items r.3.items) (sym c.requires.script) all in
+    let all = subst (λ x. AreParts g.N.Actor.transition g.N.Member.first g.R.RunName.script g.R.RunName.outs c.args.parts.full x.0.items x.1 x.2.items x.3.items) e c.requires.parts in
+    let here = subst (λ (s : Script). AreParts g.N.Actor.transition g.N.Member.first s g.R.RunName.outs c.args.parts.full r.0.items r.1 r.2.items r.3.items) (sym c.requires.script) all in
     let whole = subst (λ x. length x.0.items ≡ node_count (cluster_of c.args.script.now.setup)) e c.requires.count in
     let m = c.merge.ensures in
-    all_live g.N.Actor.transition g.N.Member.first c.args.script.now g.R.RunName.outs r.0.items r.1 r.2.items r.3.items here whole c.requires.setup c.requires.names c.merge.result
+    all_live g.N.Actor.transition g.N.Member.first c.args.script.now g.R.RunName.outs c.args.parts.full r.0.items r.1 r.2.items r.3.items here whole c.requires.setup c.requires.names c.merge.result
     m.script m.run m.rises m.each m.acts
 
 pub returns-clause-each : goal.returns-clause-each

@@ -1,13 +1,12 @@
-use Rattle.std.proofs.Common.{◌≡◌, ◌∙◌, ◌≤◌, ◌++◌, ℕ, sym, ap, subst, length, arith}
+use Rattle.std.proofs.Common.{◌≡◌, ◌∙◌, ◌≤◌, ◌++◌, ℕ, sym, ap, subst, length, length-append, ◌+◌, arith}
 use Rattle.std.specs.Prelude.{List as Seq}
 use Rattle.rtrb.specs.Ring.{IsPair, received, sent}
-use Rattle.journals.specs.Journals.{begins, whats}
 use Rattle.live_links.specs.Facts.{dues_at}
 use Rattle.world_base.specs.declared.due.Due.{Due}
 use Rattle.mounts.specs.declared.mount.Mount.{Mount}
 use Rattle.mounts.specs.declared.port.Port.{Port}
 use Rattle.mounts.specs.Ports.{AreJoined, IsMountAt, IsPortAt}
-use Rattle.mounts.proofs.Handing.{all_called}
+use Rattle.mounts.specs.Replies.{AreFirst}
 use Rattle.mounts.proofs.Joined.{are_joined}
 use Rattle.mounts.proofs.settling.settle.Goals as goal
 
@@ -56,8 +55,10 @@ returns-clause-calls g c =
     let most : length a.calls ≤ length (dues_at script place) =
     let made = ap (λ (xs : Seq ℕ). length xs) a.calls_are in let room = a.mount.room in let slots = a.slots_are in omega arith
     in
-    c.into_parts-mount.ensures.1
-    ∙ all_called a.calls (received k.port.calls) known (begins (whats k.cell.journal.moments)) (length (dues_at script place)) a.items_are front k.begun_are c.requires.begun most
+    let heard : length (received k.port.calls) + length known ≡ length a.calls = sym (length-append (received k.port.calls) known) ∙ ap (λ (xs : Seq ℕ). length xs) front in
+    let begun = k.begun_are in
+    let first : AreFirst script place k.cell.journal.moments a.calls = record { in_order = a.items_are; most = most; begun = omega arith } in
+    subst (λ (cs : Seq ℕ). AreFirst script place k.cell.journal.moments cs) (sym c.into_parts-mount.ensures.1) first
 
 pub returns-clause-replies : goal.returns-clause-replies
 returns-clause-replies g c =

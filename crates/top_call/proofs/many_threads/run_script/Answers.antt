@@ -7,7 +7,7 @@ pub returns-in-Ok-clause-told : goal.returns-in-Ok-clause-told
 returns-in-Ok-clause-told g c =
     let s = writing g.K.Sink.written g.K.Sink.faults c.args.sink.now c.write_run.new.sink in
     let e = c.in-Ok.ensures in
-    live_told g.N.Actor.transition g.N.Member.first c.args.script.now s c.write_run.result c.in-Ok.estate e.script e.run e.none_open c.write_run.ensures.told
+    live_told g.N.Actor.transition g.N.Member.first c.args.script.now s c.write_run.result c.in-Ok.estate e.script e.run c.write_run.ensures.told
 
 pub returns-in-Ok-clause-one_run : goal.returns-in-Ok-clause-one_run
 returns-in-Ok-clause-one_run g c =

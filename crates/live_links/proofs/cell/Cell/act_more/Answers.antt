@@ -5,7 +5,7 @@ use Rattle.live_links.specs.Facts.{first_at}
 use Rattle.live_links.proofs.cell.Cell.act_more.Goals as goal
 
 pub loop-init : goal.loop-init
-loop-init g c = record { place = refl; acted = (0, omega arith, refl); waits = omega arith }
+loop-init g c = record { place = refl; acted = (0, omega arith, refl); waits = refl }
 
 pub loop-preserved : goal.loop-preserved
 loop-preserved g c =
@@ -16,8 +16,6 @@ loop-preserved g c =
     let mid : CellView = record { moments = now.journal.moments; outs = now.outs; ins = now.ins } in
     let new : CellView = record { moments = next.journal.moments; outs = next.outs; ins = next.ins } in
     let le = so_far.acted.1 in
-    let before = so_far.waits in
-    let one = c.in_ok-next.ensures.chosen.waits in
     record {
       place = c.in_ok-next.ensures.place ∙ so_far.place;
       acted = (
@@ -30,5 +28,5 @@ loop-preserved g c =
           subst (λ (k : ℕ). Acted g.N.Actor.transition (first_at g.N.Member.first script k) (cluster_of script.setup) k c.in_ok-next.again mid new) so_far.place c.in_ok-next.ensures.acted,
         ),
       );
-      waits = omega arith;
+      waits = c.in_ok-next.ensures.chosen.waits refl ∙ so_far.waits;
     }

@@ -11,5 +11,5 @@ invariant-loop g l = record {
   place : l.cell.journal.place ≡ l.fn.self.journal.place;
   acted : (count : ℕ) × (count ≤ l.counter) × Acts g.N.Actor.transition (first_at g.N.Member.first g.R.RunName.script l.fn.self.journal.place) (cluster_of g.R.RunName.script.setup) l.fn.self.journal.place count
       (record { moments = l.fn.self.journal.moments; outs = l.fn.self.outs; ins = l.fn.self.ins }) (record { moments = l.cell.journal.moments; outs = l.cell.outs; ins = l.cell.ins });
-  waits : ticks (whats l.cell.journal.moments) ≤ ticks (whats l.fn.self.journal.moments);
+  waits : ticks (whats l.cell.journal.moments) ≡ ticks (whats l.fn.self.journal.moments);
 }

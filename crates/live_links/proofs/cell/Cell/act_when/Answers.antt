@@ -1,4 +1,4 @@
-use Rattle.std.proofs.Common.{true≢false, false, true, refl, sym, ap, subst, cond, arith}
+use Rattle.std.proofs.Common.{true, refl, sym, ap, subst, arith}
 use Rattle.wire_msg.specs.declared.packet.Do.TheVariants.{Begin, Deliver, Tick}
 use Rattle.world_base.specs.Cluster.{cluster_of}
 use Rattle.live_links.specs.Acts.{CellView}
@@ -6,13 +6,13 @@ use Rattle.live_links.specs.Ends.{AreStill}
 use Rattle.live_links.specs.Facts.{dues_at, first_at, name_at}
 use Rattle.journals.specs.Journals.{begins, whats}
 use Rattle.live_links.proofs.Acting.{acted_then}
-use Rattle.live_links.proofs.Answering.{answered_then, begun_then, one_begun, one_ticked, ticked_then}
-use Rattle.live_links.proofs.Choosing.{begin_chosen, else_chosen}
+use Rattle.live_links.proofs.Answering.{answered_then, begun_then, one_begun, unticked_then}
+use Rattle.live_links.proofs.Choosing.{begin_chosen, else_chosen, tick_chosen}
 use Rattle.live_links.proofs.Popping.{received_took, still_none}
 use Rattle.live_links.proofs.cell.Cell.act_when.Goals as goal
 
-pub turn-requires-clause-due : goal.turn-requires-clause-due
-turn-requires-clause-due g c e = c.is_to_begin.ensures.due c.if-is_to_begin.true
+pub turn-requires-then-is_to_begin-clause-due : goal.turn-requires-then-is_to_begin-clause-due
+turn-requires-then-is_to_begin-clause-due g c e = c.is_to_begin.ensures.due c.if-is_to_begin.true
 
 pub take-requires : goal.take-requires
 take-requires g c = received_took c.args.self.ins c.receive.new.self.ins c.in-Some.letter c.in-Some.ensures.taken
@@ -37,17 +37,6 @@ returns-in_ok-taken-in-Some-clause-acted g c =
     (record { moments = s.journal.moments; outs = s.outs; ins = s.ins }) (record { moments = mid.journal.moments; outs = mid.outs; ins = mid.ins })
     (record { moments = new.journal.moments; outs = new.outs; ins = new.ins }) c.receive.ensures.place c.receive.ensures.moments c.receive.ensures.outs c.in-Some.ensures.taken
     c.in_ok-taken-in-Some.ensures.same c.in_ok-taken-in-Some.ensures.turns
-
-pub returns-in_ok-ticked-in-None-clause-acted : goal.returns-in_ok-ticked-in-None-clause-acted
-returns-in_ok-ticked-in-None-clause-acted g c =
-    let script = g.R.RunName.script in
-    let s = c.args.self in
-    let mid = c.receive.new.self in
-    let new = c.in_ok-ticked-in-None.ticked in
-    acted_then g.N.Actor.transition (first_at g.N.Member.first script) (cluster_of script.setup) s.journal.place mid.journal.place Tick 0 0
-    (record { moments = s.journal.moments; outs = s.outs; ins = s.ins }) (record { moments = mid.journal.moments; outs = mid.outs; ins = mid.ins })
-    (record { moments = new.journal.moments; outs = new.outs; ins = new.ins }) c.receive.ensures.place c.receive.ensures.moments c.receive.ensures.outs c.in-None.ensures.taken
-    c.in_ok-ticked-in-None.ensures.same c.in_ok-ticked-in-None.ensures.turns
 
 pub returns-then-is_to_begin-clause-begun : goal.returns-then-is_to_begin-clause-begun
 returns-then-is_to_begin-clause-begun g c =
@@ -83,24 +72,6 @@ returns-in_ok-taken-in-Some-clause-answered g c =
     answered_then g.N.Actor.transition g.N.Member.first script s.journal.place mid.journal.place (Deliver letter.packet) letter.from letter.number s.journal.moments mid.journal.moments
     c.in_ok-taken-in-Some.taken.journal.moments c.receive.ensures.place c.receive.ensures.moments c.in_ok-taken-in-Some.ensures.turns.moments
 
-pub returns-in_ok-ticked-in-None-clause-begun : goal.returns-in_ok-ticked-in-None-clause-begun
-returns-in_ok-ticked-in-None-clause-begun g c =
-    let script = g.R.RunName.script in
-    let mid = c.receive.new.self in
-    let same = ap (λ ms. begins (whats ms)) c.receive.ensures.moments in
-    let most = begun_then g.N.Actor.transition (name_at script mid.journal.place) (first_at g.N.Member.first script mid.journal.place) mid.journal.place Tick 0 0
-    mid.journal.moments c.in_ok-ticked-in-None.ticked.journal.moments 0 c.in_ok-ticked-in-None.ensures.turns.moments (omega arith)
-    in
-    omega arith
-
-pub returns-in_ok-ticked-in-None-clause-answered : goal.returns-in_ok-ticked-in-None-clause-answered
-returns-in_ok-ticked-in-None-clause-answered g c =
-    let script = g.R.RunName.script in
-    let s = c.args.self in
-    let mid = c.receive.new.self in
-    answered_then g.N.Actor.transition g.N.Member.first script s.journal.place mid.journal.place Tick 0 0 s.journal.moments mid.journal.moments
-    c.in_ok-ticked-in-None.ticked.journal.moments c.receive.ensures.place c.receive.ensures.moments c.in_ok-ticked-in-None.ensures.turns.moments
-
 pub returns-then-is_to_begin-clause-chosen : goal.returns-then-is_to_begin-clause-chosen
 returns-then-is_to_begin-clause-chosen g c =
     let script = g.R.RunName.script in
@@ -108,7 +79,7 @@ returns-then-is_to_begin-clause-chosen g c =
     let new = c.in_ok-begun.begun in
     let same = c.in_ok-begun.ensures.same in
     begin_chosen g.N.Actor.transition (first_at g.N.Member.first script) (cluster_of script.setup) s.journal.place (name_at script s.journal.place) (dues_at script s.journal.place) c.args.idle
-    c.args.may_begin (record { moments = s.journal.moments; outs = s.outs; ins = s.ins }) (record { moments = new.journal.moments; outs = new.outs; ins = new.ins })
+    c.args.may_begin (record { moments = s.journal.moments; outs = s.outs; ins = s.ins }) (record { moments = new.journal.moments; outs = new.outs; ins = new.ins }) c.if-idle.false
     (subst (λ is. AreStill s.ins is) (sym same) (still_none s.ins)) c.in_ok-begun.ensures.turns
 
 pub returns-in_ok-taken-in-Some-clause-chosen : goal.returns-in_ok-taken-in-Some-clause-chosen
@@ -117,24 +88,43 @@ returns-in_ok-taken-in-Some-clause-chosen g c =
     let s = c.args.self in
     let mid = c.receive.new.self in
     let new = c.in_ok-taken-in-Some.taken in
-    let bound = cond c.args.idle 1 0 in
     else_chosen g.N.Actor.transition (first_at g.N.Member.first script) (cluster_of script.setup) s.journal.place (name_at script s.journal.place) (dues_at script s.journal.place) c.args.idle
     c.args.may_begin true c.is_to_begin.result (record { moments = s.journal.moments; outs = s.outs; ins = s.ins }) (record { moments = new.journal.moments; outs = new.outs; ins = new.ins })
-    c.is_to_begin.ensures.wherever c.if-is_to_begin.false
-    (ticked_then g.N.Actor.transition (name_at script mid.journal.place) (first_at g.N.Member.first script mid.journal.place) mid.journal.place (Deliver c.in-Some.letter.packet) c.in-Some.letter.from c.in-Some.letter.number s.journal.moments mid.journal.moments
-    new.journal.moments bound c.receive.ensures.moments c.in_ok-taken-in-Some.ensures.turns.moments (omega arith))
-    (λ e. absurd (true≢false e))
+    c.if-idle.false c.is_to_begin.ensures.wherever c.if-is_to_begin.false
+    (unticked_then g.N.Actor.transition (name_at script mid.journal.place) (first_at g.N.Member.first script mid.journal.place) mid.journal.place (Deliver c.in-Some.letter.packet) c.in-Some.letter.from c.in-Some.letter.number s.journal.moments mid.journal.moments
+    new.journal.moments c.receive.ensures.moments c.in_ok-taken-in-Some.ensures.turns.moments refl)
 
-pub returns-in_ok-ticked-in-None-clause-chosen : goal.returns-in_ok-ticked-in-None-clause-chosen
-returns-in_ok-ticked-in-None-clause-chosen g c =
+pub returns-then-idle-clause-acted : goal.returns-then-idle-clause-acted
+returns-then-idle-clause-acted g c =
     let script = g.R.RunName.script in
     let s = c.args.self in
-    let mid = c.receive.new.self in
-    let new = c.in_ok-ticked-in-None.ticked in
-    let bound = cond c.args.idle 1 0 in
-    else_chosen g.N.Actor.transition (first_at g.N.Member.first script) (cluster_of script.setup) s.journal.place (name_at script s.journal.place) (dues_at script s.journal.place) c.args.idle
-    c.args.may_begin true c.is_to_begin.result (record { moments = s.journal.moments; outs = s.outs; ins = s.ins }) (record { moments = new.journal.moments; outs = new.outs; ins = new.ins })
-    c.is_to_begin.ensures.wherever c.if-is_to_begin.false
-    (ticked_then g.N.Actor.transition (name_at script mid.journal.place) (first_at g.N.Member.first script mid.journal.place) mid.journal.place Tick 0 0 s.journal.moments mid.journal.moments
-    new.journal.moments bound c.receive.ensures.moments c.in_ok-ticked-in-None.ensures.turns.moments (one_ticked c.args.idle c.if-not-idle.false))
-    (λ e. absurd (true≢false e))
+    let new = c.in_ok-ticked.ticked in
+    let old : CellView = record { moments = s.journal.moments; outs = s.outs; ins = s.ins } in
+    acted_then g.N.Actor.transition (first_at g.N.Member.first script) (cluster_of script.setup) s.journal.place s.journal.place Tick 0 0 old old
+    (record { moments = new.journal.moments; outs = new.outs; ins = new.ins }) refl refl refl (still_none s.ins) c.in_ok-ticked.ensures.same c.in_ok-ticked.ensures.turns
+
+pub returns-then-idle-clause-begun : goal.returns-then-idle-clause-begun
+returns-then-idle-clause-begun g c =
+    let script = g.R.RunName.script in
+    let s = c.args.self in
+    let most = begun_then g.N.Actor.transition (name_at script s.journal.place) (first_at g.N.Member.first script s.journal.place) s.journal.place Tick 0 0
+    s.journal.moments c.in_ok-ticked.ticked.journal.moments 0 c.in_ok-ticked.ensures.turns.moments (omega arith)
+    in
+    omega arith
+
+pub returns-then-idle-clause-answered : goal.returns-then-idle-clause-answered
+returns-then-idle-clause-answered g c =
+    let script = g.R.RunName.script in
+    let s = c.args.self in
+    answered_then g.N.Actor.transition g.N.Member.first script s.journal.place s.journal.place Tick 0 0 s.journal.moments s.journal.moments c.in_ok-ticked.ticked.journal.moments refl refl
+    c.in_ok-ticked.ensures.turns.moments
+
+pub returns-then-idle-clause-chosen : goal.returns-then-idle-clause-chosen
+returns-then-idle-clause-chosen g c =
+    let script = g.R.RunName.script in
+    let s = c.args.self in
+    let new = c.in_ok-ticked.ticked in
+    let same = c.in_ok-ticked.ensures.same in
+    tick_chosen g.N.Actor.transition (first_at g.N.Member.first script) (cluster_of script.setup) s.journal.place (name_at script s.journal.place) (dues_at script s.journal.place) c.args.idle
+    c.args.may_begin (record { moments = s.journal.moments; outs = s.outs; ins = s.ins }) (record { moments = new.journal.moments; outs = new.outs; ins = new.ins }) c.if-idle.true
+    (subst (λ is. AreStill s.ins is) (sym same) (still_none s.ins)) c.in_ok-ticked.ensures.turns

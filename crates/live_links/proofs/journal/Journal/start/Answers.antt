@@ -6,7 +6,7 @@ use Rattle.world_base.specs.Cluster.{HasNode, node_at}
 use Rattle.world_base.specs.Dues.{dues_of}
 use Rattle.world_base.specs.NextWorld.{first_node}
 use Rattle.world_base.proofs.Standing.{stands}
-use Rattle.live_links.specs.Answered.{answered_at}
+use Rattle.live_links.specs.Answered.{answered_at, waited_at}
 use Rattle.live_links.specs.Facts.{dues_at, first_at, name_at}
 use Rattle.live_links.proofs.Turns.{journal_none}
 use Rattle.live_links.proofs.journal.Journal.start.Goals as goal
@@ -32,4 +32,5 @@ invariant_of-result g c =
           journal_none g.N.Actor.transition (name_at script place) (first_at first script place) c.in_ok-dues.dues c.new.result c.in_ok-node.node.value c.none.result c.new.ensures
           (c.in_ok-node.ensures ∙ ap (first_node first mine) at ∙ ap (λ (s : Script). first_at first s place) c.requires.script) c.none.ensures;
       answered_are = c.new-2.ensures ∙ sym (ap (answered_at g.N.Actor.transition first script place) c.new.ensures);
+      waited_is = sym (ap (waited_at g.N.Actor.transition first script place) c.new.ensures);
     }

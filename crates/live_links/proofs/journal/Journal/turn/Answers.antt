@@ -1,4 +1,4 @@
-use Rattle.std.proofs.Common.{◌≡◌, ◌∙◌, refl, ap, sym, subst, ◌+◌, ◌++◌, ◌||◌, ℕ}
+use Rattle.std.proofs.Common.{◌≡◌, ◌∙◌, refl, ap, sym, subst, ◌+◌, ◌++◌, ◌∷◌, [], ◌||◌, cond, ℕ}
 use Rattle.std.specs.Prelude.{List as Seq}
 use Rattle.version_model.specs.declared.act.Act.{Act}
 use Rattle.wire_msg.specs.NodeStep.{NodeStep}
@@ -7,10 +7,11 @@ use Rattle.world_base.specs.declared.due.Due.{Due}
 use Rattle.journals.specs.declared.moment.Moment.{Moment}
 use Rattle.journals.specs.Answers.{has_answer, knows}
 use Rattle.journals.specs.Journals.{MayBegin, whats}
+use Rattle.live_links.specs.Acts.{ticks}
 use Rattle.live_links.specs.Answered.{answers_by}
 use Rattle.live_links.specs.Ends.{letters_of}
 use Rattle.live_links.specs.Facts.{first_at, name_at}
-use Rattle.live_links.proofs.Answering.{answers_next}
+use Rattle.live_links.proofs.Answering.{answers_next, less_than, waits_next}
 use Rattle.live_links.proofs.Turns.{journal_next, turned_next, turned_none}
 use Rattle.live_links.proofs.journal.Journal.turn.Goals as goal
 
@@ -45,11 +46,16 @@ invariant_of-journal g c =
           (c.in_ok-packets.ensures ∙ ap (λ n. g.N.Actor.transition n c.args.what) c.deref_mut.ensures.value) c.in_ok-shared.ensures refl known
           c.in_ok-note_all.ensures.settled c.in_ok-push.ensures.ok
           (c.in_ok-begun.ensures ∙ ap (λ n. j.begun + n) c.begins_of.ensures)
-          (c.in_ok-sent.ensures ∙ ap (λ n. j.sent + n) c.len.ensures);
+          (c.in_ok-sent.ensures ∙ ap (λ n. j.sent + n) c.len-2.ensures);
       answered_are =
           answers_next g.N.Actor.transition node first j.name j.moments c.push.new.self m j.node.value acts j.answered c.keep_answers.new.kept j.name_is j.is_journal.replay
           (ap (λ (s : NodeStep g.row.N.Denot). s.acts) (c.in_ok-packets.ensures ∙ ap (λ n. g.N.Actor.transition n c.args.what) c.deref_mut.ensures.value))
           c.in_ok-push.ensures.ok j.answered_are (c.in_ok-keep_answers.ensures ∙ ap (λ (done : Seq Act). j.answered ++ answers_by j.name done) c.as_slice-2.ensures);
+      waited_is =
+          waits_next g.N.Actor.transition node first j.name j.moments c.push.new.self m j.node.value acts j.answered c.keep_answers.new.kept j.waited c.in_ok-waited.waited j.name_is
+          j.is_journal.replay (ap (λ (s : NodeStep g.row.N.Denot). s.acts) (c.in_ok-packets.ensures ∙ ap (λ n. g.N.Actor.transition n c.args.what) c.deref_mut.ensures.value))
+          c.in_ok-push.ensures.ok j.waited_is (c.in_ok-keep_answers.ensures ∙ ap (λ (done : Seq Act). j.answered ++ answers_by j.name done) c.as_slice-2.ensures)
+          (c.in_ok-waited.ensures ∙ ap (λ b. cond b 0 (j.waited + ticks (c.args.what ∷ []))) (less_than c.len-before.result c.len.result j.answered c.keep_answers.new.kept c.len-before.ensures c.len.ensures));
     }
 
 pub returns-clause-exact : goal.returns-clause-exact

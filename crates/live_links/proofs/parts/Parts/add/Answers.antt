@@ -19,21 +19,21 @@ returns-clause-parts g c =
     let old = c.args.self.now in
     let place : j.place ≡ length old.journals.items = let a = c.place.ensures in let b = c.len.ensures in let k = old.journals.ok.0 in let t = c.if-place-len.false in omega arith in
     let end = replayed step (first_at first script j.place) (whats j.moments) in
-    let whole : IsPart step first script rings j.place j.moments end cell.outs cell.ins = record {
+    let whole : IsPart step first script rings old.full j.place j.moments end cell.outs cell.ins = record {
       linked = cell.linked;
       stamped = j.is_journal.stamped;
       told = j.is_journal.told;
       ends = refl;
       met = subst (λ (ds : Seq Due). MeetsDues step (name_at script j.place) (first_at first script j.place) ds (whats j.moments)) j.dues_are j.is_journal.met;
-      done = c.requires.done;
+      ended = c.requires.ended;
     }
     in
     let r = c.into_parts-moments.result in
     let e = c.into_parts-moments.ensures in
     let one =
-    part_is step first script rings j.place (length old.journals.items) j.moments c.of.result end r.1 cell.outs r.2 cell.ins r.3 place (c.of.ensures ∙ e.moments) e.node e.outs e.ins whole
+    part_is step first script rings old.full j.place (length old.journals.items) j.moments c.of.result end r.1 cell.outs r.2 cell.ins r.3 place (c.of.ensures ∙ e.moments) e.node e.outs e.ins whole
     in
-    parts_next step first script rings old.journals.items old.nodes old.outs.items old.ins.items c.of.result r.1 r.2 r.3
+    parts_next step first script rings old.full old.journals.items old.nodes old.outs.items old.ins.items c.of.result r.1 r.2 r.3
     c.push.new.self.items c.push-2.new.self c.push-3.new.self.items c.push-4.new.self.items c.requires.parts one c.in_ok-push.ensures.items c.in_ok-push-2.ensures.ok
     c.in_ok-push-3.ensures.items c.in_ok-push-4.ensures.items
 
