@@ -1,8 +1,8 @@
 mod Telling
 mod Foundations
-mod Trails
-mod Calling
-mod Clients
+pub mod Trails
+pub mod Calling
+pub mod Clients
 mod Writing
 mod Versions
 mod Newest

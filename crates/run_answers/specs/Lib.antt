@@ -1,3 +1,4 @@
 pub mod act_law
 pub mod once_law
 pub mod standing_law
+pub mod own_law

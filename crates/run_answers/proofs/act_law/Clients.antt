@@ -52,7 +52,7 @@ use Rattle.run_answers.specs.act_law.Works.{asked_at}
 use Rattle.run_answers.specs.once_law.Ledgers.{IsOpen}
 
 -- the item that is open while a client opens its log is a restart
-abbrev IsRestart : Option Work → Type 0
+abbrev pub IsRestart : Option Work → Type 0
 IsRestart (Some (work.Restart node)) = Unit {0}
 IsRestart _ = ⊥
 

@@ -6,6 +6,7 @@ use Rattle.node_base.specs.declared.effects.Effect.{Effect}
 use Rattle.node_base.specs.declared.effects.Effect.TheVariants.{Send, Answer as Answers, Lose, Does}
 use Rattle.node_base.specs.declared.items.Items.{Items}
 use Rattle.node_base.specs.Effects.{acts_of}
+use Rattle.serving_moves.proofs.item_moves.Keeping.{may_silent}
 use Rattle.serving_moves.specs.item_moves.Moves.{AllPlain, Event, IsPlain, IsSilent, Losses, Move, Moves}
 use Rattle.serving_moves.specs.item_moves.Moves.Event.{GoesOn, Idles, Begins, Cuts}
 use Rattle.serving_moves.specs.item_moves.Moves.Move.{Stays, Ends, Loses}
@@ -42,7 +43,7 @@ module _ (P : ℕ → Answer → Type 0) where
   one_meets losses (Send to b) plain = tt
   one_meets losses (Answers item a) plain = absurd plain
   one_meets losses (Lose name) plain = tt
-  one_meets losses (Does a) plain = plain
+  one_meets losses (Does a) plain = may_silent losses a plain
 
   -- where nothing is answered
   pub plain_meets : (losses : Losses) (outs : List Effect) → AllPlain losses outs → AllMeet P outs

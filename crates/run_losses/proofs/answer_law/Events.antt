@@ -12,6 +12,7 @@ use Rattle.xfs_base.proofs.Alls.{all_append, all_weaker}
 use Rattle.serving_moves.proofs.item_moves.Keeping.{moves_stay, one_number}
 use Rattle.serving_moves.proofs.item_moves.Reading.{event_each}
 use Rattle.serving_moves.specs.item_moves.Moves as moves
+use Rattle.serving_moves.proofs.item_moves.Keeping.{may_silent}
 use Rattle.serving_moves.specs.item_moves.Moves.{Begun, Event, IsPrompt, Losses, MayAnswer, Move, Moves}
 use Rattle.serving_moves.specs.item_moves.Moves.Begun.{AtOnce, Waits}
 use Rattle.serving_moves.specs.item_moves.Moves.Event.{Begins, GoesOn, Idles, Cuts}
@@ -34,7 +35,7 @@ module _ (losses : Losses) (J : Answer → Type 0) (ends : (a : Answer) → J a 
   plain_one (Send to said) plain = tt
   plain_one (Answers item a) plain = absurd plain
   plain_one (Lose name) plain = tt
-  plain_one (Does a) plain = plain
+  plain_one (Does a) plain = may_silent losses a plain
 
   plain_all : (outs : List Effect) → moves.AllPlain losses outs → AllPlain outs
   plain_all outs plain = all_weaker (moves.IsPlain losses) IsPlain plain_one outs plain

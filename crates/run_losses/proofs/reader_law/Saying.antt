@@ -61,7 +61,7 @@ use Rattle.xfs_base.specs.declared.token.Mode.{Mode}
 use Rattle.xfs_base.specs.declared.node.NodeId.{NodeId}
 use Rattle.xfs_base.specs.declared.node.NodeId.TheVariants as nodes
 use Rattle.xfs_base.specs.declared.segment.SegName.{SegName}
-use Rattle.serving_moves.specs.item_moves.Events.{cleaner_losses, client_losses, log_losses}
+use Rattle.serving_moves.specs.item_moves.Events.{cleaner_losses, client_log_losses, client_losses, log_losses}
 use Rattle.serving_moves.specs.item_moves.Moves.{MayTell}
 use Rattle.run_losses.proofs.answer_law.Cleaners as cleaners
 use Rattle.run_losses.proofs.answer_law.Cleaners.{cleaner_turned}
@@ -84,9 +84,13 @@ still_scans : (at : Stage) → MayTell (log_losses at) → is_some (scan_in at) 
 still_scans (stage.Scanning s) may = refl
 still_scans (stage.Settling s) may = absurd may
 
+client_scans : (at : Stage) → MayTell (client_log_losses at) → is_some (scan_in at) ≡ true
+client_scans (stage.Scanning s) may = refl
+client_scans (stage.Settling s) may = absurd may
+
 scans_or_serves : (p : Phase) → MayTell (client_losses p) → (is_some (clients_scan p) ≡ true) ⊎ ((s : Serving) × (p ≡ Serves s))
 scans_or_serves (Down l) may = absurd may
-scans_or_serves (Opening l o) may = inl (still_scans o.stage may)
+scans_or_serves (Opening l o) may = inl (client_scans o.stage may)
 scans_or_serves (Serves s) may = inr (s, refl)
 
 cleaner_scans : (p : cleaner_phases.Phase) → MayTell (cleaner_losses p) → is_some (cleaners_scan p) ≡ true

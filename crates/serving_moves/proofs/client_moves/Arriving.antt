@@ -46,11 +46,9 @@ use Rattle.xfs_base.specs.declared.node.NodeId.TheVariants as node
 use Rattle.xfs_base.specs.Steps.{saying, steps, still}
 use Rattle.xfs_base.proofs.Alls.{all_flat_map, all_map}
 use Rattle.serving_moves.proofs.client_moves.Following.{ends_kept, follows_go, hands_go, reading_kept, takes_back_goes, writes_go}
-use Rattle.serving_moves.proofs.client_moves.Keeping.{first_goes, from_goes, itself, lost, plainly, same_call, stays, steps_go, then_goes, then_kept}
-use Rattle.serving_moves.proofs.item_moves.Keeping.{all_pushed_plain, same}
-use Rattle.serving_moves.specs.client_moves.Moves.{Kept, Moves}
-use Rattle.serving_moves.specs.item_moves.Moves.{AllPlain, IsPlain}
-use Rattle.serving_moves.specs.item_moves.Moves.Losses.{Answering}
+use Rattle.serving_moves.proofs.client_moves.Keeping.{all_pushed_still, same_lasts, first_goes, from_goes, itself, plainly, same_call, stays, steps_go, then_goes, then_kept}
+use Rattle.serving_moves.specs.client_moves.Moves.{AllStill, Comes, IsStill, Kept, Moves}
+use Rattle.serving_moves.specs.client_moves.Moves.Comes.{Moved, Gone as Refused}
 
 -- ---- promises
 
@@ -58,7 +56,7 @@ renews_kept : (s : Serving) (slot epoch : ℕ) → Kept s (renews s slot epoch)
 unfolding renews
 renews_kept s slot epoch =
     by_test (Kept s) (nat_lt (epoch_of s.tokens.epochs slot) epoch) (record s { feed = new_epoch s.feed slot }) s
-    (λ _. record { calls = same_call _; number = refl; items = same _ }) (λ _. itself s)
+    (λ _. record { calls = same_call _; lasts = same_lasts _; number = refl; items = refl }) (λ _. itself s)
 
 promises_keep : (s : Serving) (slot epoch manager : ℕ) → Kept s (promises s slot epoch manager).state
 unfolding promises
@@ -66,7 +64,7 @@ promises_keep s slot epoch manager =
     let t : Serving = renews s slot epoch in
     let u : Serving = record t { managers = manager_set t.managers slot manager; tokens = (client.on_promise t.tokens slot epoch).state } in
     let k : Kept u (ends_reading u) = ends_kept u in
-    then_kept s t (ends_reading u) (renews_kept s slot epoch) (record { calls = k.calls; number = k.number; items = k.items })
+    then_kept s t (ends_reading u) (renews_kept s slot epoch) (record { calls = k.calls; lasts = k.lasts; number = k.number; items = k.items })
 
 followed_goes : (s : Serving) (slot epoch manager : ℕ) → Moves s (follows (promises s slot epoch manager).state (promises s slot epoch manager).outs)
 followed_goes s slot epoch manager =
@@ -105,17 +103,17 @@ supply_goes : (s : Serving) (m : Supply) → Moves s (on_supply s m)
 unfolding on_supply
 supply_goes s m = hands_go s (input.Supplied m.block m.stamp m.inc m.req m.ver m.value)
 
-supplies_plain : (f : Forward) (o : outputs.Out) → AllPlain Answering (supplies f o)
+supplies_plain : (f : Forward) (o : outputs.Out) → AllStill (supplies f o)
 supplies_plain f (output.Supply block ver value) = (tt, tt)
 supplies_plain f _ = tt
 
 forward_goes : (s : Serving) (f : Forward) → Moves s (on_forward s f)
 unfolding on_forward
 forward_goes s f =
-    plainly s (on_forward s f) (record { calls = same_call _; number = refl; items = same _ })
-    (all_flat_map (IsPlain Answering) (supplies f) (supplies_plain f) (client.on_forwarded s.tokens f.block f.stamp f.ver).outs)
+    plainly s (on_forward s f) (record { calls = same_call _; lasts = same_lasts _; number = refl; items = refl })
+    (all_flat_map (IsStill) (supplies f) (supplies_plain f) (client.on_forwarded s.tokens f.block f.stamp f.ver).outs)
 
-again_plain : (s : Serving) (r : Recall) (outs : List outputs.Out) → AllPlain Answering (again s r outs)
+again_plain : (s : Serving) (r : Recall) (outs : List outputs.Out) → AllStill (again s r outs)
 again_plain s r [] = tt
 again_plain s r (o ∷ outs) = (tt, tt)
 
@@ -124,18 +122,18 @@ unfolding on_recall
 recall_goes s r =
     let d = client.on_recalled s.tokens r.block r.stamp r.keep in
     by_test (Moves s) (is_stamp (held_at s r.block).stamp r.stamp) (says_again s r d) (takes_back s r.block r.stamp r.keep)
-    (λ _. plainly s (says_again s r d) (record { calls = same_call _; number = refl; items = same _ }) (again_plain (record s { tokens = d.state }) r d.outs))
+    (λ _. plainly s (says_again s r d) (record { calls = same_call _; lasts = same_lasts _; number = refl; items = refl }) (again_plain (record s { tokens = d.state }) r d.outs))
     (λ _. takes_back_goes s r.block r.stamp r.keep)
 
-gone_goes : (s : Serving) (g : Gone) → Moves s (on_gone s g)
+gone_goes : (s : Serving) (g : Gone) → Comes s (on_gone s g)
 unfolding on_gone
-gone_goes s g = by_test (Moves s) (is_gone s g) (loses s g.block g.seg) (still s) (λ _. lost s g.block g.seg) (λ _. stays s s (itself s))
+gone_goes s g = by_test (Comes s) (is_gone s g) (loses s g.block g.seg) (still s) (λ _. Refused g.block g.seg) (λ _. Moved (stays s s (itself s)))
 
 ack_goes : (s : Serving) (a : DeltaAck) → Moves s (still (on_ack s a))
 unfolding on_ack
 ack_goes s a =
     by_test (λ (t : Serving). Moves s (still t)) (is_acked s a) (record s { feed = acknowledged s.feed a.slot a.applied }) s
-    (λ _. stays s (record s { feed = acknowledged s.feed a.slot a.applied }) (record { calls = same_call _; number = refl; items = same _ }))
+    (λ _. stays s (record s { feed = acknowledged s.feed a.slot a.applied }) (record { calls = same_call _; lasts = same_lasts _; number = refl; items = refl }))
     (λ _. stays s s (itself s))
 
 -- ---- fragments
@@ -169,7 +167,7 @@ unfolding takes_news
 takes_news_goes s news =
     let t : Serving = record s { maps = taken s.maps news } in
     let d : Done = steps hears t news.slots in
-    from_goes s t (saying d.outs (regroups d.state (is_older s.maps news) news.groups)) (record { calls = same_call _; number = refl; items = same _ })
+    from_goes s t (saying d.outs (regroups d.state (is_older s.maps news) news.groups)) (record { calls = same_call _; lasts = same_lasts _; number = refl; items = refl })
     (then_goes t d (regroups d.state (is_older s.maps news) news.groups) (steps_go hears hears_goes t news.slots)
     (regroups_goes d.state (is_older s.maps news) news.groups))
 
@@ -184,36 +182,36 @@ welcome_goes s w =
 
 -- ---- a packet
 
-body_goes : (s : Serving) (from : NodeId) (b : Body) → Moves s (on_body s from b)
-body_goes s from (body.Grant m) = grant_goes s m
-body_goes s from (body.Supply m) = supply_goes s m
-body_goes s from (body.Forward m) = forward_goes s m
-body_goes s from (body.Recall m) = recall_goes s m
+body_goes : (s : Serving) (from : NodeId) (b : Body) → Comes s (on_body s from b)
+body_goes s from (body.Grant m) = Moved (grant_goes s m)
+body_goes s from (body.Supply m) = Moved (supply_goes s m)
+body_goes s from (body.Forward m) = Moved (forward_goes s m)
+body_goes s from (body.Recall m) = Moved (recall_goes s m)
 body_goes s from (body.Gone m) = gone_goes s m
-body_goes s from (body.DeltaAck m) = ack_goes s m
-body_goes s from (body.Poll m) = poll_goes s from m
-body_goes s from (body.Stored m) = writes_go s (log_in.Acked m.name m.index m.generation)
-body_goes s from (body.Fragment m) = on_told_goes s from m.ask (answered.Held m.fragment)
-body_goes s from (body.Missing m) = on_told_goes s from m.ask (answered.Missing m.generation)
-body_goes s from (body.MapNews m) = news_goes s m
-body_goes s from (body.Welcome m) = welcome_goes s m
-body_goes s from _ = stays s s (itself s)
+body_goes s from (body.DeltaAck m) = Moved (ack_goes s m)
+body_goes s from (body.Poll m) = Moved (poll_goes s from m)
+body_goes s from (body.Stored m) = Moved (writes_go s (log_in.Acked m.name m.index m.generation))
+body_goes s from (body.Fragment m) = Moved (on_told_goes s from m.ask (answered.Held m.fragment))
+body_goes s from (body.Missing m) = Moved (on_told_goes s from m.ask (answered.Missing m.generation))
+body_goes s from (body.MapNews m) = Moved (news_goes s m)
+body_goes s from (body.Welcome m) = Moved (welcome_goes s m)
+body_goes s from _ = Moved (stays s s (itself s))
 
 asks_goes : (s : Serving) → Moves s (asks_for_maps s)
 unfolding asks_for_maps
-asks_goes s = plainly s (asks_for_maps s) (record { calls = same_call _; number = refl; items = same _ }) (tt, tt)
+asks_goes s = plainly s (asks_for_maps s) (record { calls = same_call _; lasts = same_lasts _; number = refl; items = refl }) (tt, tt)
 
-pub packet_goes : (s : Serving) (packet : Packet) → Moves s (on_packet s packet)
+pub packet_goes : (s : Serving) (packet : Packet) → Comes s (on_packet s packet)
 unfolding on_packet
 packet_goes s packet =
-    by_test (Moves s) (names_known s.maps packet.body) (on_body s packet.from packet.body) (asks_for_maps s) (λ _. body_goes s packet.from packet.body)
-    (λ _. asks_goes s)
+    by_test (Comes s) (names_known s.maps packet.body) (on_body s packet.from packet.body) (asks_for_maps s) (λ _. body_goes s packet.from packet.body)
+    (λ _. Moved (asks_goes s))
 
 -- ---- time
 
-again_fetched : (o : Option ReadingState) → AllPlain Answering (fetches_again o)
+again_fetched : (o : Option ReadingState) → AllStill (fetches_again o)
 again_fetched None = tt
-again_fetched (Some r) = all_map (IsPlain Answering) (fetch r.target.seg.name r.ask) (λ member. tt) (to_ask r)
+again_fetched (Some r) = all_map (IsStill) (fetch r.target.seg.name r.ask) (λ member. tt) (to_ask r)
 
 pub tick_goes : (s : Serving) → Moves s (on_tick s)
 unfolding on_tick
@@ -225,4 +223,4 @@ tick_goes s =
     then_goes s w (gives l.state (again ++ (l.outs ++ pushed))) (hands_go s input.Tick)
     (first_goes w.state again (gives l.state (l.outs ++ pushed)) (again_fetched (reading_in w.state.call))
     (then_goes w.state l (gives l.state pushed) (writes_go w.state log_in.Tick)
-    (plainly l.state (gives l.state pushed) (itself l.state) (all_pushed_plain Answering l.state.managers l.state.feed))))
+    (plainly l.state (gives l.state pushed) (itself l.state) (all_pushed_still l.state.managers l.state.feed))))

@@ -1,12 +1,19 @@
 -- What a call on blocks makes of a client that serves is a list of moves.
-use Rattle.std.proofs.Common.{ℕ, ◌+◌, ◌==◌, List, [], ◌∷◌, Option, None, is_none, refl}
+use Rattle.std.proofs.Common.{◌≡◌, ℕ, ◌+◌, ◌==◌, cond, Bool, true, false, List, [], ◌∷◌, ◌++◌, Option, Some, None, is_none, refl, sym, ap}
+use Rattle.client_call.specs.Blocks.{value_of}
+use Rattle.coop_cache.specs.Transition.{touched}
+use Rattle.file_plan.specs.declared.block_call.BlockAnswer.{BlockAnswer}
+use Rattle.file_plan.specs.declared.block_call.BlockAnswer.TheVariants as answer
+use Rattle.node_base.specs.declared.effects.Effect.{Effect}
+use Rattle.xfs_base.specs.declared.token.Mode.{Mode}
+use Rattle.xfs_base.specs.Steps.{saying, still}
 use Rattle.client_log.specs.declared.input.In.{In as LogIn}
 use Rattle.client_log.specs.declared.input.In.TheVariants as log_in
 use Rattle.client_call.specs.Fitting.{put_fits}
-use Rattle.client_running.specs.Blocks.{Made, changed, changes, changes_if_fits, got, gets, held_back, is_settled, lets_go, makes, needs, puts, puts_again, puts_at, synced_acts, syncs, wrote}
+use Rattle.client_running.specs.Blocks.{changed, changes, changes_if_fits, got, gets, held_back, is_settled, lets_go, makes, needs, put_of, puts, puts_again, puts_at, syncs, wrote}
 use Rattle.client_serving.specs.declared.serving.Serving.{Serving}
 use Rattle.client_serving.specs.Flights.{held_at, writes}
-use Rattle.client_serving.specs.Follow.{notes_gone, seals}
+use Rattle.client_serving.specs.Follow.{hands, notes_gone, seals}
 use Rattle.client_serving.specs.Sends.{Done, gives}
 use Rattle.file_plan.specs.declared.block_call.BlockCall.{BlockCall}
 use Rattle.file_plan.specs.declared.block_call.BlockCall.TheVariants.{Get, Put, PutAt, Sync}
@@ -14,77 +21,119 @@ use Rattle.node_base.specs.declared.effects.Effect.TheVariants.{Does}
 use Rattle.token_client.specs.declared.input.In.TheVariants as input
 use Rattle.token_client.specs.Held.{may_write}
 use Rattle.token_client.specs.Transition.{on_evict}
-use Rattle.version_model.specs.declared.act.Act.TheVariants.{Wrote}
+use Rattle.version_model.specs.declared.act.Act.TheVariants.{Synced}
 use Rattle.xfs_base.proofs.Booleans.{by_test}
 use Rattle.xfs_base.specs.declared.block.BlockId.{BlockId}
 use Rattle.xfs_base.specs.declared.token.Mode.TheVariants.{Copy, Own}
 use Rattle.xfs_base.specs.Modes.{is_nothing}
 use Rattle.serving_moves.proofs.client_moves.Following.{hands_go, notes_gone_kept, seals_go, writes_go}
-use Rattle.serving_moves.proofs.client_moves.Keeping.{first_goes, from_goes, itself, plainly, same_call, stays, then_goes}
-use Rattle.serving_moves.proofs.item_moves.Keeping.{same}
-use Rattle.serving_moves.specs.client_moves.Moves.{Kept, Moves}
-use Rattle.serving_moves.specs.item_moves.Moves.{AllPlain}
-use Rattle.serving_moves.specs.item_moves.Moves.Losses.{Answering}
+use Rattle.serving_moves.proofs.client_moves.Keeping.{from_goes, itself, same_call, same_lasts, stays}
+use Rattle.serving_moves.specs.client_moves.Moves.{Fits, IsAnswerTo, Kept, MakesSo, Moves, tells}
 
-abbrev MadeSo : Serving → Made → Type 0
-MadeSo s m = Moves s m.done
+-- nothing is answered, or nothing is told by the answer
+mute : (s : Serving) (call : BlockCall) (d : Done) (a : Option BlockAnswer) → tells s.lasting.number call a ≡ [] → Fits call a → Moves s d
+    → MakesSo s call (record { done = d; answer = a })
+mute s call d a none fits moves = record {
+  first = still s;
+  firstly = stays s s (itself s);
+  last = d;
+  lastly = moves;
+  all = ap (λ (outs : List Effect). saying outs d) (sym none);
+  fits = fits;
+}
 
-gets_go : (s : Serving) (block : BlockId) → MadeSo s (gets s block)
+-- that is acted first, and then there are moves
+told_first : (s : Serving) (call : BlockCall) (d : Done) (a : BlockAnswer) → IsAnswerTo call a → Moves s d
+    → MakesSo s call (record { done = saying (tells s.lasting.number call (Some a)) d; answer = Some a })
+told_first s call d a fits moves =
+    record { first = still s; firstly = stays s s (itself s); last = d; lastly = moves; all = refl; fits = fits }
+
+needs_go : (s : Serving) (call : BlockCall) (block : BlockId) (mode : Mode) → MakesSo s call (needs s block mode)
+needs_go s call block mode = mute s call (hands s (input.Need block mode)) None refl tt (hands_go s (input.Need block mode))
+
+gets_go : (s : Serving) (block : BlockId) → MakesSo s (Get block) (gets s block)
 unfolding gets
 gets_go s block =
-    by_test (λ (m : Made). Moves s m.done) (is_nothing (held_at s block).mode) (needs s block Copy) (got s block (held_at s block))
-    (λ _. hands_go s (input.Need block Copy))
-    (λ _. plainly s (got s block (held_at s block)).done (record { calls = same_call _; number = refl; items = same _ }) (tt, tt))
+    by_test (MakesSo s (Get block)) (is_nothing (held_at s block).mode) (needs s block Copy) (got s block (held_at s block))
+    (λ _. needs_go s (Get block) block Copy)
+    (λ _. told_first s (Get block) (still (record s { cache = touched s.cache block })) (answer.Got (held_at s block).ver (value_of (held_at s block))) tt
+    (stays s (record s { cache = touched s.cache block }) (record { calls = same_call _; lasts = same_lasts _; number = refl; items = refl })))
 
-changes_go : (s : Serving) (block : BlockId) (value : Option (List ℕ)) → MadeSo s (changes s block value)
-unfolding changes
-changes_go s block value =
+wrote_go : (s : Serving) (block : BlockId) (value : Option (List ℕ)) → Moves s (put_of (wrote s block value) block value)
+wrote_go s block value =
     let w : Serving = wrote s block value in
     let i : LogIn = log_in.Put block (record { ver = (held_at w block).ver; hop = 0; place = None }) value in
-    let g : Moves s (writes w i) = from_goes s w (writes w i) (record { calls = same_call _; number = refl; items = same _ }) (writes_go w i) in
-    first_goes s (Does (Wrote s.lasting.number block value) ∷ []) (writes w i) (tt, tt) g
+    from_goes s w (writes w i) (record { calls = same_call _; lasts = same_lasts _; number = refl; items = refl }) (writes_go w i)
 
 lets_go_kept : (s : Serving) (block : BlockId) → Kept s (lets_go s block)
 lets_go_kept s block =
     let t : Serving = record s { tokens = (on_evict s.tokens block).state } in
     let k : Kept t (notes_gone t block) = notes_gone_kept t block in
     by_test (Kept s) (is_none (held_at s block).value) (notes_gone t block) s
-    (λ _. record { calls = k.calls; number = k.number; items = k.items }) (λ _. itself s)
+    (λ _. record { calls = k.calls; lasts = k.lasts; number = k.number; items = k.items }) (λ _. itself s)
 
 let_go : (s : Serving) (block : BlockId) → Moves s (gives (lets_go s block) [])
 let_go s block = stays s (lets_go s block) (lets_go_kept s block)
 
-if_fits_go : (s : Serving) (block : BlockId) (value : Option (List ℕ)) → MadeSo s (changes_if_fits s block value)
-unfolding changes_if_fits
-if_fits_go s block value =
-    by_test (λ (m : Made). Moves s m.done) (put_fits block ((held_at s block).ver + 1) value) (changes s block value) (held_back s block)
-    (λ _. changes_go s block value) (λ _. let_go s block)
+put_go : (s : Serving) (block : BlockId) (value : Option (List ℕ)) → MakesSo s (Put block value) (changes_if_fits s block value)
+unfolding changes_if_fits changes
+put_go s block value =
+    by_test (MakesSo s (Put block value)) (put_fits block ((held_at s block).ver + 1) value) (changes s block value) (held_back s block)
+    (λ _. told_first s (Put block value) (put_of (wrote s block value) block value) (answer.Put (held_at (wrote s block value) block).ver) tt
+    (wrote_go s block value)) (λ _. mute s (Put block value) (gives (lets_go s block) []) None refl tt (let_go s block))
 
-puts_go : (s : Serving) (block : BlockId) (value : Option (List ℕ)) → MadeSo s (puts s block value)
+put_at_go : (s : Serving) (block : BlockId) (ver : ℕ) (value : Option (List ℕ)) → MakesSo s (PutAt block ver value) (changes_if_fits s block value)
+unfolding changes_if_fits changes
+put_at_go s block ver value =
+    by_test (MakesSo s (PutAt block ver value)) (put_fits block ((held_at s block).ver + 1) value) (changes s block value) (held_back s block)
+    (λ _. told_first s (PutAt block ver value) (put_of (wrote s block value) block value) (answer.Put (held_at (wrote s block value) block).ver) tt
+    (wrote_go s block value)) (λ _. mute s (PutAt block ver value) (gives (lets_go s block) []) None refl tt (let_go s block))
+
+puts_go : (s : Serving) (block : BlockId) (value : Option (List ℕ)) → MakesSo s (Put block value) (puts s block value)
 unfolding puts
 puts_go s block value =
-    by_test (λ (m : Made). Moves s m.done) (may_write (held_at s block)) (changes_if_fits s block value) (needs s block Own)
-    (λ _. if_fits_go s block value) (λ _. hands_go s (input.Need block Own))
+    by_test (MakesSo s (Put block value)) (may_write (held_at s block)) (changes_if_fits s block value) (needs s block Own)
+    (λ _. put_go s block value) (λ _. needs_go s (Put block value) block Own)
 
-puts_again_go : (s : Serving) (block : BlockId) (ver : ℕ) (value : Option (List ℕ)) → MadeSo s (puts_again s block ver value)
+puts_again_go : (s : Serving) (block : BlockId) (ver : ℕ) (value : Option (List ℕ)) → MakesSo s (PutAt block ver value) (puts_again s block ver value)
 puts_again_go s block ver value =
-    by_test (λ (m : Made). Moves s m.done) ((held_at s block).ver == ver) (changes_if_fits s block value) (changed s block)
-    (λ _. if_fits_go s block value) (λ _. let_go s block)
+    by_test (MakesSo s (PutAt block ver value)) ((held_at s block).ver == ver) (changes_if_fits s block value) (changed s block)
+    (λ _. put_at_go s block ver value)
+    (λ _. mute s (PutAt block ver value) (gives (lets_go s block) []) (Some answer.Changed) refl tt (let_go s block))
 
-puts_at_go : (s : Serving) (block : BlockId) (ver : ℕ) (value : Option (List ℕ)) → MadeSo s (puts_at s block ver value)
+puts_at_go : (s : Serving) (block : BlockId) (ver : ℕ) (value : Option (List ℕ)) → MakesSo s (PutAt block ver value) (puts_at s block ver value)
 unfolding puts_at
 puts_at_go s block ver value =
-    by_test (λ (m : Made). Moves s m.done) (may_write (held_at s block)) (puts_again s block ver value) (needs s block Own)
-    (λ _. puts_again_go s block ver value) (λ _. hands_go s (input.Need block Own))
+    by_test (MakesSo s (PutAt block ver value)) (may_write (held_at s block)) (puts_again s block ver value) (needs s block Own)
+    (λ _. puts_again_go s block ver value) (λ _. needs_go s (PutAt block ver value) block Own)
 
-syncs_go : (s : Serving) → MadeSo s (syncs s)
+seals_number : (s : Serving) → (seals s).state.lasting.number ≡ s.lasting.number
+unfolding seals
+seals_number s = refl
+
+syncs_go : (s : Serving) → MakesSo s Sync (syncs s)
 unfolding syncs
-syncs_go s =
-    let d : Done = seals s in
-    then_goes s d (gives d.state (synced_acts d.state)) (seals_go s)
-    (plainly d.state (gives d.state (synced_acts d.state)) (itself d.state) (by_test (AllPlain Answering) (is_settled d.state) _ [] (λ _. (tt, tt)) (λ _. tt)))
+syncs_go s = record {
+  first = d;
+  firstly = seals_go s;
+  last = still d.state;
+  lastly = stays d.state d.state (itself d.state);
+  all = ap (λ (outs : List Effect). record { state = d.state; outs = d.outs ++ outs }) (by (is_settled d.state));
+  fits = fits (is_settled d.state);
+}
+  where
+    d : Done
+    d = seals s
 
-pub makes_go : (s : Serving) (call : BlockCall) → MadeSo s (makes s call)
+    by : (t : Bool) → cond t (Does (Synced d.state.lasting.number) ∷ []) [] ≡ tells s.lasting.number Sync (cond t (Some answer.Synced) None) ++ []
+    by true = ap (λ (n : ℕ). Does (Synced n) ∷ []) (seals_number s)
+    by false = refl
+
+    fits : (t : Bool) → Fits Sync (cond t (Some answer.Synced) None)
+    fits true = tt
+    fits false = tt
+
+pub makes_go : (s : Serving) (call : BlockCall) → MakesSo s call (makes s call)
 unfolding makes
 makes_go s (Get block) = gets_go s block
 makes_go s (Put block value) = puts_go s block value

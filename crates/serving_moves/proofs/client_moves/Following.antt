@@ -1,5 +1,5 @@
 -- What a client that serves does for its tokens and its log is a list of moves.
-use Rattle.std.proofs.Common.{ℕ, ◌==◌, ◌&&◌, not, Bool, List, [], ◌∷◌, Option, Some, None, is_none, refl, sym, ap}
+use Rattle.std.proofs.Common.{ℕ, ◌==◌, ◌&&◌, not, ◌≡◌, Bool, false, List, [], ◌∷◌, Option, Some, None, is_none, refl, sym, ap}
 use Rattle.std.specs.List.{list_any}
 use Rattle.std.specs.Prelude.{cond, fold}
 use Rattle.client_log.specs.declared.input.In.{In as LogIn}
@@ -28,7 +28,7 @@ use Rattle.node_base.specs.declared.effects.Effect.TheVariants.{Does}
 use Rattle.segment_reading.specs.declared.reading.Next.{Next}
 use Rattle.segment_reading.specs.declared.reading.Next.TheVariants as next
 use Rattle.segment_reading.specs.declared.reading.Stage.{Stage}
-use Rattle.segment_reading.specs.declared.reading.Stage.TheVariants.{Asking, Between, Doubted, Over}
+use Rattle.segment_reading.specs.declared.reading.Stage.TheVariants.{Between}
 use Rattle.segment_reading.specs.declared.target.BlockAt.{BlockAt}
 use Rattle.segment_reading.specs.declared.target.Target.{Target}
 use Rattle.segment_reading.specs.Reading.{ReadingState, begun, on_confirmed, to_ask}
@@ -54,11 +54,8 @@ use Rattle.xfs_base.specs.declared.token.Stamp.{Stamp}
 use Rattle.xfs_base.specs.Modes.{is_held, is_nothing, same_mode}
 use Rattle.xfs_base.specs.Steps.{steps, still}
 use Rattle.xfs_base.proofs.Alls.{all_append, all_flat_map, all_map}
-use Rattle.serving_moves.proofs.client_moves.Keeping.{first_goes, fold_kept, from_goes, itself, left_at, lost, plainly, same_call, stays, steps_go, then_goes, then_kept}
-use Rattle.serving_moves.proofs.item_moves.Keeping.{all_pushed_plain, pushed_plain, same}
-use Rattle.serving_moves.specs.client_moves.Moves.{CallStays, Kept, Moves}
-use Rattle.serving_moves.specs.item_moves.Moves.{AllPlain, IsPlain}
-use Rattle.serving_moves.specs.item_moves.Moves.Losses.{Answering}
+use Rattle.serving_moves.proofs.client_moves.Keeping.{all_pushed_still, pushed_still, same_lasts, first_goes, fold_kept, from_goes, itself, left_at, lost, plainly, same_call, stays, steps_go, then_goes, then_kept}
+use Rattle.serving_moves.specs.client_moves.Moves.{AllStill, CallLasts, CallStays, HasCall, IsStill, Kept, Moves}
 
 -- ---- the reading of the open call
 
@@ -74,18 +71,22 @@ call_reads (Some old) r = λ call fact. (old, (refl, (sym (ap plan_of fact), sym
     step_of None = old.step
     step_of (Some call) = call.step
 
+call_reads_on : (call : Option Call) (r : Option ReadingState) → CallLasts call (call_with call r)
+call_reads_on None r call fact = (call, fact)
+call_reads_on (Some old) r call fact = (record old { reading = r }, refl)
+
 pub reading_kept : (s : Serving) (r : Option ReadingState) → Kept s (with_reading s r)
-reading_kept s r = record { calls = call_reads s.call r; number = refl; items = same _ }
+reading_kept s r = record { calls = call_reads s.call r; lasts = call_reads_on s.call r; number = refl; items = refl }
 
 pub ends_kept : (s : Serving) → Kept s (ends_reading s)
 ends_kept s = reading_kept s (kept_while s.tokens (reading_in s.call))
 
-fetches_plain : (r : ReadingState) → AllPlain Answering (fetches r)
-fetches_plain r = all_map (IsPlain Answering) (fetch r.target.seg.name r.ask) (λ member. tt) (to_ask r)
+fetches_plain : (r : ReadingState) → AllStill (fetches r)
+fetches_plain r = all_map (IsStill) (fetch r.target.seg.name r.ask) (λ member. tt) (to_ask r)
 
-loses_at_go : (s : Serving) (at : Option BlockAt) (name : SegName) → Moves s (loses_at s at name)
-loses_at_go s None name = stays s s (itself s)
-loses_at_go s (Some at) name = lost s at.block name
+loses_at_go : (s : Serving) → HasCall s → (at : Option BlockAt) (name : SegName) → Moves s (loses_at s at name)
+loses_at_go s has None name = stays s s (itself s)
+loses_at_go s has (Some at) name = lost s has at.block name
 
 begins_go : (s : Serving) (target : Target) → Moves s (begins s target)
 unfolding begins
@@ -96,54 +97,63 @@ begins_go s target = by (group_in s.maps.groups target.seg.group)
     by (Some group) =
         let r : ReadingState = begun target group (next_ask s.lasting.questions) in
         plainly s (gives (with_reading (draws s) (Some r)) (fetches r))
-        (record { calls = call_reads s.call (Some r); number = refl; items = same s.lasting.items }) (fetches_plain r)
+        (record { calls = call_reads s.call (Some r); lasts = call_reads_on s.call (Some r); number = refl; items = refl }) (fetches_plain r)
 
-next_goes : (s : Serving) (r : ReadingState) (x : Next) → Moves s (confirmed_next s r x)
-next_goes s r next.Lost = loses_at_go s r.target.block r.target.seg.name
-next_goes s r next.Ask = plainly s (gives (with_reading s (Some r)) (fetches r)) (reading_kept s (Some r)) (fetches_plain r)
-next_goes s r _ = stays s (with_reading s (Some r)) (reading_kept s (Some r))
+next_goes : (s : Serving) → HasCall s → (r : ReadingState) (x : Next) → Moves s (confirmed_next s r x)
+next_goes s has r next.Lost = loses_at_go s has r.target.block r.target.seg.name
+next_goes s has r next.Ask = plainly s (gives (with_reading s (Some r)) (fetches r)) (reading_kept s (Some r)) (fetches_plain r)
+next_goes s has r _ = stays s (with_reading s (Some r)) (reading_kept s (Some r))
 
 drawn_kept : (s : Serving) (stage : Stage) → Kept s (drawn_after s stage)
-drawn_kept s Between = record { calls = same_call _; number = refl; items = same _ }
+drawn_kept s Between = record { calls = same_call _; lasts = same_lasts _; number = refl; items = refl }
 drawn_kept s _ = itself s
 
-confirms_go : (s : Serving) (r : ReadingState) → Moves s (confirms s r)
+drawn_has : (s : Serving) (stage : Stage) → HasCall s → HasCall (drawn_after s stage)
+drawn_has s Between has = has
+drawn_has s _ has = has
+
+confirms_go : (s : Serving) → HasCall s → (r : ReadingState) → Moves s (confirms s r)
 unfolding confirms
-confirms_go s r =
+confirms_go s has r =
     let t : Serving = drawn_after s r.stage in
     let step = on_confirmed r (ask_after s r.ask r.stage) in
-    from_goes s t (confirmed_by t step) (drawn_kept s r.stage) (next_goes t step.state step.next)
+    from_goes s t (confirmed_by t step) (drawn_kept s r.stage) (next_goes t (drawn_has s r.stage has) step.state step.next)
 
-over_goes : (s : Serving) (target : Target) (r : Option ReadingState) → Moves s (reads_over s target r)
-over_goes s target None = begins_go s target
-over_goes s target (Some r) =
-    by_test (Moves s) (same_target r.target target) (confirms s r) (begins s target) (λ _. confirms_go s r) (λ _. begins_go s target)
+over_goes : (s : Serving) → HasCall s → (target : Target) (r : Option ReadingState) → Moves s (reads_over s target r)
+over_goes s has target None = begins_go s target
+over_goes s has target (Some r) =
+    by_test (Moves s) (same_target r.target target) (confirms s r) (begins s target) (λ _. confirms_go s has r) (λ _. begins_go s target)
+
+-- a call that is open is open whatever it reads
+has_read : (call : Option Call) (r : Option ReadingState) → is_none call ≡ false → (new : Call) × (call_with call r ≡ Some new)
+has_read None r is = absurd cc
+has_read (Some call) r is = (record call { reading = r }, refl)
 
 reads_go : (s : Serving) (block : BlockId) (place : Place) → Moves s (reads s block place)
 unfolding reads
 reads_go s block place =
     by_test (Moves s) (is_none s.call) (still s) (reads_over (with_reading s None) (target_of block place) (reading_in s.call)) (λ _. stays s s (itself s))
-    (λ _. from_goes s (with_reading s None) (reads_over (with_reading s None) (target_of block place) (reading_in s.call)) (reading_kept s None)
-    (over_goes (with_reading s None) (target_of block place) (reading_in s.call)))
+    (λ is. from_goes s (with_reading s None) (reads_over (with_reading s None) (target_of block place) (reading_in s.call)) (reading_kept s None)
+    (over_goes (with_reading s None) (has_read s.call None is) (target_of block place) (reading_in s.call)))
 
 -- ---- the cache
 
 evicts_kept : (s : Serving) (o : cache_out.Out) → Kept s (evicts s o)
 unfolding evicts
-evicts_kept s (Victim block) = record { calls = same_call _; number = refl; items = same _ }
+evicts_kept s (Victim block) = record { calls = same_call _; lasts = same_lasts _; number = refl; items = refl }
 
 pub notes_clean_kept : (s : Serving) (block : BlockId) → Kept s (notes_clean s block)
 unfolding notes_clean
 notes_clean_kept s block =
     let t : Serving = record s { cache = (cleaned s.cache block).state } in
     let k : Kept t (fold evicts t (cleaned s.cache block).outs) = fold_kept evicts evicts_kept t (cleaned s.cache block).outs in
-    record { calls = k.calls; number = k.number; items = k.items }
+    record { calls = k.calls; lasts = k.lasts; number = k.number; items = k.items }
 
 pub notes_gone_kept : (s : Serving) (block : BlockId) → Kept s (notes_gone s block)
 unfolding notes_gone
 notes_gone_kept s block =
     by_test (Kept s) (is_nothing (held_of s.tokens.blocks block).mode) (record s { cache = left s.cache block }) s
-    (λ _. record { calls = same_call _; number = refl; items = same _ }) (λ _. itself s)
+    (λ _. record { calls = same_call _; lasts = same_lasts _; number = refl; items = refl }) (λ _. itself s)
 
 notes_copy_kept : (s : Serving) (block : BlockId) → Kept s (notes_copy s block)
 unfolding notes_copy
@@ -152,25 +162,25 @@ notes_copy_kept s block =
 
 -- ---- what the tokens say
 
-stored_plain : (o : LogOut) → AllPlain Answering (stored o)
+stored_plain : (o : LogOut) → AllStill (stored o)
 stored_plain (log_out.Send fragment member) = (tt, tt)
 stored_plain (log_out.Settled end rows) = tt
 
 pub seals_go : (s : Serving) → Moves s (seals s)
 unfolding seals
 seals_go s =
-    plainly s (seals s) (record { calls = same_call _; number = refl; items = same _ }) (all_flat_map (IsPlain Answering) stored stored_plain (log.on_seal s.log).outs)
+    plainly s (seals s) (record { calls = same_call _; lasts = same_lasts _; number = refl; items = refl }) (all_flat_map (IsStill) stored stored_plain (log.on_seal s.log).outs)
 
-wants_plain : (s : Serving) (block : BlockId) (req again : ℕ) (mode : Mode) → AllPlain Answering (wants s block req again mode)
+wants_plain : (s : Serving) (block : BlockId) (req again : ℕ) (mode : Mode) → AllStill (wants s block req again mode)
 wants_plain s block req again mode =
-    all_append (IsPlain Answering) (cond (again == 0) (deltas s block) []) _
-    (by_test (AllPlain Answering) (again == 0) (deltas s block) [] (λ _. pushed_plain Answering s.managers s.feed _) (λ _. tt)) (tt, tt)
+    all_append (IsStill) (cond (again == 0) (deltas s block) []) _
+    (by_test (AllStill) (again == 0) (deltas s block) [] (λ _. pushed_still s.managers s.feed _) (λ _. tt)) (tt, tt)
 
 one_goes : (s : Serving) (o : outputs.Out) → Moves s (follows_one s o)
 unfolding follows_one
 one_goes s (output.Want block req again mode) = plainly s (gives s (wants s block req again mode)) (itself s) (wants_plain s block req again mode)
 one_goes s (output.Gave block stamp) =
-    plainly s (gives s (gaves s block stamp)) (itself s) (all_append (IsPlain Answering) (deltas s block) _ (pushed_plain Answering s.managers s.feed _) (tt, tt))
+    plainly s (gives s (gaves s block stamp)) (itself s) (all_append (IsStill) (deltas s block) _ (pushed_still s.managers s.feed _) (tt, tt))
 one_goes s (output.Flush block) = seals_go s
 one_goes s (output.Read block place) = reads_go s block place
 one_goes s (output.Ready block) = stays s (notes_copy s block) (notes_copy_kept s block)
@@ -185,7 +195,7 @@ unfolding hands
 hands_go s i =
     let t : Serving = record s { tokens = (transition s.tokens i).state } in
     let k : Kept t (ends_reading t) = ends_kept t in
-    from_goes s (ends_reading t) _ (record { calls = k.calls; number = k.number; items = k.items }) (follows_go (ends_reading t) (transition s.tokens i).outs)
+    from_goes s (ends_reading t) _ (record { calls = k.calls; lasts = k.lasts; number = k.number; items = k.items }) (follows_go (ends_reading t) (transition s.tokens i).outs)
 
 pub takes_back_goes : (s : Serving) (block : BlockId) (stamp : Stamp) (keep : Bool) → Moves s (takes_back s block stamp keep)
 unfolding takes_back
@@ -197,7 +207,7 @@ takes_back_goes s block stamp keep =
 
 notes_settled_kept : (s : Serving) (row : BlockId × Entry) → Kept s (notes_settled s row)
 unfolding notes_settled
-notes_settled_kept s row = record { calls = same_call _; number = refl; items = same _ }
+notes_settled_kept s row = record { calls = same_call _; lasts = same_lasts _; number = refl; items = refl }
 
 keeps_clean_kept : (s : Serving) (row : BlockId × Entry) → Kept s (keeps_clean s row)
 unfolding keeps_clean
@@ -220,14 +230,14 @@ fed_kept s end rows =
     let k : Kept s (settled_rows s rows) =
     then_kept s (fold notes_settled s rows) (settled_rows s rows) (fold_kept notes_settled notes_settled_kept s rows)
     (fold_kept keeps_clean keeps_clean_kept (fold notes_settled s rows) rows) in
-    record { calls = k.calls; number = k.number; items = k.items }
+    record { calls = k.calls; lasts = k.lasts; number = k.number; items = k.items }
 
 settles_go : (s : Serving) (end : End) (rows : List (BlockId × Entry)) → Moves s (settles s end rows)
 unfolding settles
 settles_go s end rows =
     let fed : Serving = feeds (settled_rows s rows) end rows in
     first_goes s (Does (Filed (name_of (log_of s.lasting) end)) ∷ pushes_all fed.managers fed.feed)
-    (steps gives_if_clean fed (dirty_in s.tokens.blocks)) (tt, all_pushed_plain Answering fed.managers fed.feed)
+    (steps gives_if_clean fed (dirty_in s.tokens.blocks)) (tt, all_pushed_still fed.managers fed.feed)
     (from_goes s fed (steps gives_if_clean fed (dirty_in s.tokens.blocks)) (fed_kept s end rows)
     (steps_go gives_if_clean if_clean_goes fed (dirty_in s.tokens.blocks)))
 
@@ -245,6 +255,6 @@ writes_go s i =
     let r : log.Done = log.transition s.log i in
     let t : Serving = record s { log = r.state } in
     let a : Moves t (steps writes_one t r.outs) = steps_go writes_one writes_one_goes t r.outs in
-    from_goes s t _ (record { calls = same_call _; number = refl; items = same _ })
+    from_goes s t _ (record { calls = same_call _; lasts = same_lasts _; number = refl; items = refl })
     (then_goes t (steps writes_one t r.outs) (seals_again (steps writes_one t r.outs).state (list_any is_settling r.outs)) a
     (again_goes (steps writes_one t r.outs).state (list_any is_settling r.outs)))

@@ -1,6 +1,6 @@
 -- What a client that serves makes of its items for what comes, for time and for a call on blocks, read off its moves: it answers the open item only where a
 -- segment is lost.
-use Rattle.std.proofs.Common.{◌≡◌, Some, [], ◌∷◌, inl, ℕ, refl}
+use Rattle.std.proofs.Common.{◌≡◌, List, Option, Some, None, [], ◌∷◌, inl, ℕ, refl, sym, subst}
 use Rattle.client_running.specs.Blocks.{makes}
 use Rattle.client_serving.specs.declared.serving.Serving.{Serving}
 use Rattle.client_serving.specs.Follow.{seals}
@@ -8,6 +8,11 @@ use Rattle.client_serving.specs.Packets.{on_packet, on_tick}
 use Rattle.client_serving.specs.Reads.{loses}
 use Rattle.client_serving.specs.Sends.{Done}
 use Rattle.file_plan.specs.declared.block_call.BlockCall.{BlockCall}
+use Rattle.file_plan.specs.declared.block_call.BlockAnswer.{BlockAnswer}
+use Rattle.file_plan.specs.declared.block_call.BlockAnswer.TheVariants.{Got, Synced}
+use Rattle.file_plan.specs.declared.block_call.BlockAnswer.TheVariants.{Put as Written}
+use Rattle.file_plan.specs.declared.block_call.BlockCall.TheVariants.{Get, Put, PutAt, Sync}
+use Rattle.node_base.specs.declared.effects.Effect.{Effect}
 use Rattle.node_base.specs.declared.effects.Effect.TheVariants.{Lose}
 use Rattle.wire_msg.specs.declared.packet.Packet.{Packet}
 use Rattle.xfs_base.specs.declared.block.BlockId.{BlockId}
@@ -17,11 +22,12 @@ use Rattle.node_base.specs.declared.items.Items.{Items}
 use Rattle.serving_moves.proofs.client_moves.Arriving as arriving
 use Rattle.serving_moves.proofs.client_moves.Blocks as blocks
 use Rattle.serving_moves.proofs.client_moves.Following as following
-use Rattle.serving_moves.proofs.client_moves.Keeping.{call_then, no_call}
+use Rattle.serving_moves.proofs.client_moves.Keeping.{all_still_plain, call_then, itself, no_call}
 use Rattle.serving_moves.proofs.client_moves.Reading.{of_moves}
 use Rattle.serving_moves.proofs.item_moves.Keeping as moving
 use Rattle.serving_moves.proofs.item_moves.Keeping.{moves_stay, plainly, then_goes}
-use Rattle.serving_moves.specs.client_moves.Moves.{CallStays, Kept, Moves}
+use Rattle.serving_moves.specs.client_moves.Moves.{AllStill, CallStays, Comes, Kept, MakesSo, Moves, tells}
+use Rattle.serving_moves.specs.client_moves.Moves.Comes.{Moved, Gone}
 use Rattle.serving_moves.specs.item_moves.Moves.{AllPlain, IsNone, ItemsStay}
 use Rattle.serving_moves.specs.item_moves.Moves.Losses.{Answering}
 use Rattle.serving_moves.specs.item_moves.Moves.Move.{Loses}
@@ -42,8 +48,12 @@ pub record Goes (s : Serving) (d : Done) : Type 0 where
   pub calls : CallStays s.call d.state.call
   pub does : moving.Goes Answering IsNone Serving items_of number_of s d
 
-plain_goes : (s : Serving) (d : Done) → Kept s d.state → AllPlain Answering d.outs → Goes s d
-plain_goes s d k plain = record { calls = k.calls; does = plainly s d k.number k.items plain }
+quiet_goes : (s : Serving) (d : Done) → Kept s d.state → AllPlain Answering d.outs → Goes s d
+quiet_goes s d k plain =
+    record { calls = k.calls; does = plainly s d k.number (subst (ItemsStay (items_of s)) (sym k.items) (moving.same (items_of s))) plain }
+
+plain_goes : (s : Serving) (d : Done) → Kept s d.state → AllStill d.outs → Goes s d
+plain_goes s d k still = quiet_goes s d k (all_still_plain d.outs still)
 
 loses_goes : (s : Serving) (block : BlockId) (name : SegName) → Goes s (loses s block name)
 unfolding loses
@@ -56,10 +66,14 @@ both_go : (s : Serving) (d x : Done) → Goes s d → Goes d.state x → Goes s 
 both_go s d x a b = record { calls = call_then s.call d.state.call x.state.call a.calls b.calls; does = then_goes s d x a.does b.does }
 
 moves_go : (s : Serving) (d : Done) → Moves s d → Goes s d
-moves_go = of_moves Goes plain_goes loses_goes both_go
+moves_go = of_moves Goes plain_goes (λ s has. loses_goes s) both_go
+
+comes_go : (s : Serving) (d : Done) → Comes s d → Goes s d
+comes_go s d (Moved moves) = moves_go s d moves
+comes_go s d (Gone block name) = loses_goes s block name
 
 pub packet_goes : (s : Serving) (packet : Packet) → Goes s (on_packet s packet)
-packet_goes s packet = moves_go s (on_packet s packet) (arriving.packet_goes s packet)
+packet_goes s packet = comes_go s (on_packet s packet) (arriving.packet_goes s packet)
 
 pub tick_goes : (s : Serving) → Goes s (on_tick s)
 tick_goes s = moves_go s (on_tick s) (arriving.tick_goes s)
@@ -67,8 +81,23 @@ tick_goes s = moves_go s (on_tick s) (arriving.tick_goes s)
 pub seals_go : (s : Serving) → Goes s (seals s)
 seals_go s = moves_go s (seals s) (following.seals_go s)
 
+told_plain : (client : ℕ) (call : BlockCall) (a : Option BlockAnswer) → AllPlain Answering (tells client call a)
+told_plain client call None = tt
+told_plain client (Get block) (Some (Got ver value)) = (tt, tt)
+told_plain client (Put block value) (Some (Written ver)) = (tt, tt)
+told_plain client (PutAt block named value) (Some (Written ver)) = (tt, tt)
+told_plain client Sync (Some Synced) = (tt, tt)
+told_plain client _ (Some _) = tt
+
 pub makes_go : (s : Serving) (call : BlockCall) → Goes s (makes s call).done
-makes_go s call = moves_go s (makes s call).done (blocks.makes_go s call)
+makes_go s call =
+    let m : MakesSo s call (makes s call) = blocks.makes_go s call in
+    let said : List Effect = tells s.lasting.number call (makes s call).answer in
+    subst (Goes s) (sym m.all)
+    (both_go s m.first (saying said m.last) (moves_go s m.first m.firstly)
+    (both_go m.first.state (record { state = m.first.state; outs = said }) m.last
+    (quiet_goes m.first.state (record { state = m.first.state; outs = said }) (itself m.first.state) (told_plain s.lasting.number call (makes s call).answer))
+    (moves_go m.first.state m.last m.lastly)))
 
 pub items_stay : (s : Serving) (d : Done) → Goes s d → ItemsStay (items_of s) (items_of d.state)
 items_stay s d g = moves_stay Answering IsNone (items_of s) (items_of d.state) d.outs g.does.moves

@@ -42,8 +42,8 @@ use Rattle.serving_moves.proofs.item_moves.ClientServing.{packet_goes, tick_goes
 use Rattle.serving_moves.proofs.item_moves.Keeping as moving
 use Rattle.serving_moves.proofs.item_moves.Keeping.{all_pushed_plain, same, unmoved}
 use Rattle.serving_moves.proofs.item_moves.Openings as openly
-use Rattle.serving_moves.proofs.item_moves.Openings.{goes_on, is_back, is_lost, may_answer}
-use Rattle.serving_moves.specs.item_moves.Events.{client_losses, log_losses}
+use Rattle.serving_moves.proofs.item_moves.Openings.{client_may_answer, client_plain, goes_on, is_back, is_lost, may_answer, may_be_back}
+use Rattle.serving_moves.specs.item_moves.Events.{client_log_losses, client_losses}
 use Rattle.serving_moves.specs.item_moves.Moves.{Falls, IsAny, IsPrompt}
 use Rattle.serving_moves.specs.item_moves.Moves.Begun.{AtOnce, Waits}
 use Rattle.serving_moves.specs.item_moves.Moves.Event.{Begins, GoesOn, Cuts}
@@ -84,18 +84,18 @@ module _ (P : Plan → Type 0) (J : Answer → Type 0) where
         by : (p : Progress) → openly.SaysLoss p w.effects
             → Turned what (Opening l o) (saying w.effects (after_opening (record l { questions = w.questions }) capacity p))
         by (progress.Opening r) says =
-            record { calls = tt; does = record { its_number = refl; event = GoesOn (goes_on (log_losses o.stage) J l.items w.effects g.plain) } }
+            record { calls = tt; does = record { its_number = refl; event = GoesOn (goes_on (client_log_losses o.stage) J l.items w.effects (client_plain o.stage w.effects g.plain)) } }
         by (progress.Opened r) says = record {
           calls = tt;
           does = record {
             its_number = refl;
             event = GoesOn
-                (is_back (log_losses o.stage) J l.items w.effects g.plain done (Does (Back l.number r.chain) ∷ pushes_all r.promised.managers r.feed)
-                (tt, all_pushed_plain (log_losses o.stage) r.promised.managers r.feed));
+                (is_back (client_log_losses o.stage) J l.items w.effects (client_plain o.stage w.effects g.plain) done (Does (Back l.number r.chain) ∷ pushes_all r.promised.managers r.feed)
+                (may_be_back o.stage l.number r.chain, all_pushed_plain (client_log_losses o.stage) r.promised.managers r.feed));
           };
         }
         by (progress.Lost name) says =
-            record { calls = tt; does = record { its_number = refl; event = GoesOn (is_lost (log_losses o.stage) J l.items w.effects g.plain name (may_answer o.stage w.effects name g.plain says) says) } }
+            record { calls = tt; does = record { its_number = refl; event = GoesOn (is_lost (client_log_losses o.stage) J l.items w.effects (client_plain o.stage w.effects g.plain) name (client_may_answer o.stage (may_answer o.stage w.effects name g.plain says)) says) } }
 
   -- ---- an item begins
 

@@ -19,11 +19,13 @@ use Rattle.xfs_base.proofs.Alls.{all_append, all_map, all_weaker}
 use Rattle.xfs_base.proofs.Booleans.{by_test}
 use Rattle.xfs_base.specs.declared.segment.SegName.{SegName}
 use Rattle.xfs_base.specs.Steps.{Stepped, saying, steps, still}
-use Rattle.serving_moves.specs.item_moves.Moves.{AllPlain, Begun, Event, IsBusy, IsPlain, IsPrompt, ItemsStay, Move, Moves, Losses}
+use Rattle.serving_moves.specs.item_moves.Moves.{AllPlain, Begun, IsAside, IsSilent, MayAct, Event, IsBusy, IsPlain, IsPrompt, ItemsStay, Move, Moves, Losses}
+use Rattle.version_model.specs.declared.act.Act.{Act}
+use Rattle.version_model.specs.declared.act.Act.TheVariants as act
 use Rattle.serving_moves.specs.item_moves.Moves.Begun.{AtOnce, Waits}
 use Rattle.serving_moves.specs.item_moves.Moves.Event.{GoesOn}
 use Rattle.serving_moves.specs.item_moves.Moves.Move.{Stays, Ends, Loses}
-use Rattle.serving_moves.specs.item_moves.Moves.Losses.{Silent, Answering}
+use Rattle.serving_moves.specs.item_moves.Moves.Losses.{Silent, Telling, Reading, Answering, Returning}
 use Rattle.serving_moves.specs.item_moves.Moves.Moves.{Last, Then}
 
 pub in_behind : {X : Type 0} (x : X) (xs ys : List X) → In x ys → In x (xs ++ ys)
@@ -64,11 +66,34 @@ no_loss_told (Lose seg ∷ outs) name plain fact = absurd plain.0
 no_loss_told (Does a ∷ outs) name plain (inl e) = absurd cc
 no_loss_told (Does a ∷ outs) name plain (inr fact) = no_loss_told outs name plain.1 fact
 
+aside_silent : (a : Act) → IsAside a → IsSilent a
+aside_silent (act.Filed seg) aside = tt
+aside_silent (act.Dropped seg) aside = tt
+aside_silent _ aside = absurd aside
+
+-- whatever it may act answers nothing
+pub may_silent : (losses : Losses) (a : Act) → MayAct losses a → IsSilent a
+may_silent Silent a may = aside_silent a may
+may_silent Telling a may = aside_silent a may
+may_silent Reading a may = aside_silent a may
+may_silent Answering a may = may
+may_silent Returning a may = may
+
 plain_more : (losses : Losses) (x : Effect) → IsPlain losses x → IsPlain Answering x
 plain_more losses (Send to said) plain = tt
 plain_more losses (Answers item a) plain = plain
 plain_more losses (Lose name) plain = tt
-plain_more losses (Does a) plain = plain
+plain_more losses (Does a) plain = may_silent losses a plain
+
+returning_plain : (x : Effect) → IsPlain Silent x → IsPlain Returning x
+returning_plain (Send to said) plain = tt
+returning_plain (Answers item a) plain = plain
+returning_plain (Lose name) plain = plain
+returning_plain (Does a) plain = aside_silent a plain
+
+-- and where a client returns
+pub all_returning : (outs : List Effect) → AllPlain Silent outs → AllPlain Returning outs
+all_returning outs plain = all_weaker (IsPlain Silent) (IsPlain Returning) returning_plain outs plain
 
 -- what is plain is so where more may be told
 pub all_plain_more : (losses : Losses) (outs : List Effect) → AllPlain losses outs → AllPlain Answering outs

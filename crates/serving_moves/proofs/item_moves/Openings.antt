@@ -1,5 +1,5 @@
 -- The opening of a log answers no item, and where it ends because a segment is lost, it says so; so what it makes of the items of its node.
-use Rattle.std.proofs.Common.{ℕ, ◌&&◌, List, [], ◌∷◌, ◌++◌, Option, Some, None, inl, refl}
+use Rattle.std.proofs.Common.{ℕ, List, [], ◌∷◌, ◌++◌, Option, Some, None, inl, refl}
 use Rattle.client_log.specs.declared.input.In.{In as LogIn}
 use Rattle.client_log.specs.declared.input.In.TheVariants as log_in
 use Rattle.client_log.specs.Transition as log
@@ -42,30 +42,32 @@ use Rattle.version_model.specs.declared.answer.Answer.{Answer}
 use Rattle.version_model.specs.declared.answer.Answer.TheVariants as answer
 use Rattle.xfs_base.proofs.Alls.{all_weaker}
 use Rattle.xfs_base.specs.declared.segment.SegName.{SegName}
-use Rattle.serving_moves.proofs.item_moves.Keeping.{in_behind, no_loss_told, same}
+use Rattle.serving_moves.proofs.item_moves.Keeping.{all_plain_more, all_returning, in_behind, no_loss_told, same}
 use Rattle.node_moves.proofs.OpeningWalk.{Any, Walk, packet_so, tick_so}
 use Rattle.serving_moves.proofs.item_moves.Settling.{packet_settles, stage_plain, tick_settles}
-use Rattle.serving_moves.specs.item_moves.Events.{log_losses}
-use Rattle.serving_moves.specs.item_moves.Moves.{AllPlain, IsPlain, IsSilent, MayAnswer, Moves, Losses}
+use Rattle.serving_moves.specs.item_moves.Events.{client_log_losses, log_losses}
+use Rattle.serving_moves.specs.item_moves.Moves.{AllPlain, IsAside, IsPlain, MayAnswer, Moves, Losses}
 use Rattle.serving_moves.specs.item_moves.Moves.Move.{Stays, Ends, Loses}
 use Rattle.serving_moves.specs.item_moves.Moves.Moves.{Last, Then}
-use Rattle.serving_moves.specs.item_moves.Moves.Losses.{Answering}
+use Rattle.serving_moves.specs.item_moves.Moves.Losses.{Reading, Answering}
 
 -- ---- it answers nothing
 
-act_plain : (a : Act) → MayAct a → IsSilent a
-act_plain (act.Answered node item x) may = may
-act_plain (act.Lost node name) may = may
-act_plain _ may = tt
+act_plain : (a : Act) → MayAct a → IsAside a
+act_plain (act.Filed seg) may = tt
+act_plain _ may = absurd may
 
-one_plain : (owner : Owner) (e : Effect) → MayDo owner e → IsPlain Answering e
+one_plain : (owner : Owner) (e : Effect) → MayDo owner e → IsPlain Reading e
 one_plain owner (Send to said) may = tt
 one_plain owner (Answers item a) may = absurd may
 one_plain owner (Lose name) may = tt
 one_plain owner (Does a) may = act_plain a may
 
+pub behaves_aside : (owner : Owner) (w : Went) → Behaves owner w → AllPlain Reading w.effects
+behaves_aside owner w b = all_weaker (MayDo owner) (IsPlain Reading) (one_plain owner) w.effects b.does
+
 pub behaves_plain : (owner : Owner) (w : Went) → Behaves owner w → AllPlain Answering w.effects
-behaves_plain owner w b = all_weaker (MayDo owner) (IsPlain Answering) (one_plain owner) w.effects b.does
+behaves_plain owner w b = all_plain_more Reading w.effects (behaves_aside owner w b)
 
 -- ---- it says what is lost
 
@@ -160,13 +162,13 @@ pub record Goes (o : Opening) (w : Went) : Type 0 where
 
 pub packet_goes : (o : Opening) (q : Questions) (p : Packet) → Goes o (on_packet o q p)
 packet_goes o q p = record {
-  plain = stage_plain o.stage (on_packet o q p).effects (behaves_plain o.known.owner (on_packet o q p) (behaving.packet_so o q p)) (packet_settles o q p);
+  plain = stage_plain o.stage (on_packet o q p).effects (behaves_aside o.known.owner (on_packet o q p) (behaving.packet_so o q p)) (packet_settles o q p);
   says = packet_so Any (λ k q at w. WentSo w) walk o q p tt;
 }
 
 pub tick_goes : (o : Opening) (q : Questions) → Goes o (on_tick o q)
 tick_goes o q = record {
-  plain = stage_plain o.stage (on_tick o q).effects (behaves_plain o.known.owner (on_tick o q) (behaving.tick_so o q)) (tick_settles o q);
+  plain = stage_plain o.stage (on_tick o q).effects (behaves_aside o.known.owner (on_tick o q) (behaving.tick_so o q)) (tick_settles o q);
   says = tick_so Any (λ k q at w. WentSo w) walk o q;
 }
 
@@ -174,6 +176,19 @@ tick_goes o q = record {
 pub may_answer : (at : Stage) (outs : List Effect) (name : SegName) → AllPlain (log_losses at) outs → In (Lose name) outs → MayAnswer (log_losses at)
 may_answer (stage.Scanning s) outs name plain among = tt
 may_answer (stage.Settling s) outs name plain among = absurd (no_loss_told outs name plain among)
+
+-- the same of a client
+pub client_plain : (at : Stage) (outs : List Effect) → AllPlain (log_losses at) outs → AllPlain (client_log_losses at) outs
+client_plain (stage.Scanning s) outs plain = all_plain_more Reading outs plain
+client_plain (stage.Settling s) outs plain = all_returning outs plain
+
+pub client_may_answer : (at : Stage) → MayAnswer (log_losses at) → MayAnswer (client_log_losses at)
+client_may_answer (stage.Scanning s) may = tt
+client_may_answer (stage.Settling s) may = may
+
+pub may_be_back : (at : Stage) (client : ℕ) (chain : List SegName) → IsPlain (client_log_losses at) (Does (act.Back client chain))
+may_be_back (stage.Scanning s) client chain = tt
+may_be_back (stage.Settling s) client chain = tt
 
 module _ (losses : Losses) (J : Answer → Type 0) (items : Items) (outs : List Effect) (plain : AllPlain losses outs) where
   -- it goes on, or is over, and says so; or a segment is lost

@@ -1,5 +1,5 @@
 -- Once an opening has read its log, and its first segment is in flight, it says of no segment that it is lost.
-use Rattle.std.proofs.Common.{ℕ, ◌&&◌, List, [], ◌∷◌, Option, Some, None, map}
+use Rattle.std.proofs.Common.{List, [], ◌∷◌, Option, Some, None, map}
 use Rattle.std.specs.List.{AllByRecursion}
 use Rattle.client_log.specs.declared.input.In.{In as LogIn}
 use Rattle.client_log.specs.declared.output.Out.{Out as LogOut}
@@ -23,7 +23,7 @@ use Rattle.serving_moves.proofs.item_moves.Keeping.{all_steps}
 use Rattle.node_moves.proofs.OpeningWalk.{Any, Walk, packet_so, tick_so}
 use Rattle.serving_moves.specs.item_moves.Events.{log_losses}
 use Rattle.serving_moves.specs.item_moves.Moves.{AllPlain}
-use Rattle.serving_moves.specs.item_moves.Moves.Losses.{Silent, Answering}
+use Rattle.serving_moves.specs.item_moves.Moves.Losses.{Silent, Reading}
 
 -- ---- effects that say of no segment that it is lost
 
@@ -34,7 +34,7 @@ IsNoLoss _ = Unit {0}
 abbrev pub NoLosses : List Effect → Type 0
 NoLosses outs = AllByRecursion IsNoLoss outs
 
-plain_without : (outs : List Effect) → AllPlain Answering outs → NoLosses outs → AllPlain Silent outs
+plain_without : (outs : List Effect) → AllPlain Reading outs → NoLosses outs → AllPlain Silent outs
 plain_without [] plain none = tt
 plain_without (Send to b ∷ outs) plain none = (tt, plain_without outs plain.1 none.1)
 plain_without (Answers item a ∷ outs) plain none = absurd plain.0
@@ -50,7 +50,7 @@ pub unless_scans : (at : Stage) (outs : List Effect) → NoLosses outs → Unles
 unless_scans (stage.Scanning s) outs none = tt
 unless_scans (stage.Settling s) outs none = none
 
-pub stage_plain : (at : Stage) (outs : List Effect) → AllPlain Answering outs → UnlessScans at outs → AllPlain (log_losses at) outs
+pub stage_plain : (at : Stage) (outs : List Effect) → AllPlain Reading outs → UnlessScans at outs → AllPlain (log_losses at) outs
 stage_plain (stage.Scanning s) outs plain unless = plain
 stage_plain (stage.Settling s) outs plain none = plain_without outs plain none
 

@@ -18,19 +18,24 @@ use Rattle.store_nodes.specs.declared.server.Server.{Server}
 use Rattle.store_nodes.specs.ServerEvents as servers
 use Rattle.wire_msg.specs.declared.packet.Do.{Do}
 use Rattle.serving_moves.specs.item_moves.Moves.{Event, IsAny, IsCleaners, IsCount, IsNone, IsPrompt, IsRebuilt, Losses}
-use Rattle.serving_moves.specs.item_moves.Moves.Losses.{Silent, Telling, Answering}
+use Rattle.serving_moves.specs.item_moves.Moves.Losses.{Silent, Telling, Reading, Answering, Returning}
 
 -- ---- what a node may do of segments that are lost
 
 -- an opening, while it scans its log
 abbrev pub log_losses : Stage → Losses
-log_losses (stage.Scanning s) = Answering
+log_losses (stage.Scanning s) = Reading
 log_losses (stage.Settling s) = Silent
+
+-- one of a client, which acts that it is back as it ends
+abbrev pub client_log_losses : Stage → Losses
+client_log_losses (stage.Scanning s) = Answering
+client_log_losses (stage.Settling s) = Returning
 
 -- a client that opens its log so, or serves
 abbrev pub client_losses : ClientPhase → Losses
 client_losses (client.Down l) = Silent
-client_losses (client.Opening l o) = log_losses o.stage
+client_losses (client.Opening l o) = client_log_losses o.stage
 client_losses (client.Serving s) = Answering
 
 -- the cleaner, while it opens its log so

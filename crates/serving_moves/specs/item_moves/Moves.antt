@@ -24,28 +24,48 @@ IsSilent (act.Answered node item a) = ⊥
 IsSilent (act.Lost node name) = ⊥
 IsSilent _ = Unit {0}
 
--- What a node may do of segments that are lost: say nothing of them, say that one is lost, or say that and answer the open item so.
+-- an act that is done for no item: that a segment is filed, or given up
+abbrev pub IsAside : Act → Type 0
+IsAside (act.Filed seg) = Unit {0}
+IsAside (act.Dropped seg) = Unit {0}
+IsAside _ = ⊥
+
+-- What a node may do of segments that are lost: say nothing of them, say that one is lost, or say that and answer the open item so. It acts nothing else but what
+-- is for no item; but where it is a client that serves, which may answer so, or one that returns, which is silent of them.
 pub data Losses : Type 0 where
   Silent : Losses
   Telling : Losses
+  Reading : Losses
   Answering : Losses
+  Returning : Losses
 
 abbrev pub MayTell : Losses → Type 0
 MayTell Silent = ⊥
 MayTell Telling = Unit {0}
+MayTell Reading = Unit {0}
 MayTell Answering = Unit {0}
+MayTell Returning = ⊥
 
 abbrev pub MayAnswer : Losses → Type 0
 MayAnswer Silent = ⊥
 MayAnswer Telling = ⊥
+MayAnswer Reading = Unit {0}
 MayAnswer Answering = Unit {0}
+MayAnswer Returning = ⊥
+
+abbrev pub MayAct : Losses → Act → Type 0
+MayAct Silent a = IsAside a
+MayAct Telling a = IsAside a
+MayAct Reading a = IsAside a
+MayAct Answering a = IsSilent a
+MayAct Returning a = IsSilent a
 
 -- an effect that answers no item; it says that a segment is lost only where that may be
 abbrev pub IsPlain : Losses → Effect → Type 0
 IsPlain losses (Send to said) = Unit {0}
 IsPlain losses (Answers item a) = ⊥
 IsPlain losses (Lose name) = MayTell losses
-IsPlain losses (Does a) = IsSilent a
+IsPlain losses (Does a) = MayAct losses a
 
 abbrev pub AllPlain : Losses → List Effect → Type 0
 AllPlain losses outs = AllByRecursion (IsPlain losses) outs

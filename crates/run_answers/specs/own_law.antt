@@ -1,0 +1,6 @@
+pub mod Stretch
+pub mod Events
+pub mod Others
+pub mod Runs
+pub mod Whole
+pub mod Answered
