@@ -6,5 +6,5 @@ mod Managers
 mod Servers
 mod Registries
 mod Cleaners
-mod Moments
-mod Runs
+pub mod Moments
+pub mod Runs

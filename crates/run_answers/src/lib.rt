@@ -1,11 +1,13 @@
 //! What a run's answers say, in every run of the nodes: each item is answered at most once, by its own node, after its Begin (`once_law`), what a client
-//! answers it has acted (`act_law`), what any node answers fits where it stands (`standing_law`), and clients act for their items alone (`own_law`). It has no code of
-//! the product: its functions have empty bodies, and their contracts are laws.
+//! answers it has acted (`act_law`), what any node answers fits where it stands (`standing_law`), what is due as an item
+//! begins is answered (`due_law`), and clients act for their items alone (`own_law`). It has no code of the product: its functions have empty bodies, and
+//! their contracts are laws.
 //!
 //! Each module is a law of its own: its definitions stand in `specs/`, its lemmas in `proofs/`, below the module's name.
 #![tactic(auto)]
 
 pub mod act_law;
+pub mod due_law;
 pub mod once_law;
 pub mod own_law;
 pub mod standing_law;

@@ -58,7 +58,7 @@ use Rattle.run_answers.specs.standing_law.Runs.{EachAnswerFits, FitsAt}
 -- ---- what a node is asked
 
 -- it is one of the node
-abbrev IsFor : NodeId → Work → Type 0
+abbrev pub IsFor : NodeId → Work → Type 0
 IsFor node w = actor_of w ≡ Some node
 
 is_its : (node : NodeId) (w : Work) → is_for node w ≡ true → IsFor node w
@@ -75,12 +75,12 @@ all_its node (w ∷ works) =
     (λ its. (is_its node w its, all_its node works)) (λ _. all_its node works)
 
 -- the item that is next is asked for, of the node
-record Asked (node : NodeId) (works : List Work) (number : ℕ) : Type 0 where
-  its : Work
-  there : asked_at works number ≡ Some its
-  for_it : IsFor node its
+pub record Asked (node : NodeId) (works : List Work) (number : ℕ) : Type 0 where
+  pub its : Work
+  pub there : asked_at works number ≡ Some its
+  pub for_it : IsFor node its
 
-next_asked : (lines : List Line) (node : NodeId) (items : Items) → items.works ≡ items_of lines node → (number : ℕ) → next_item items ≡ Some number
+pub next_asked : (lines : List Line) (node : NodeId) (items : Items) → items.works ≡ items_of lines node → (number : ℕ) → next_item items ≡ Some number
     → Asked node (items_of lines node) number
 next_asked lines node items has number next = record { its = its; there = there; for_it = subst (λ o. IfSome o (IsFor node)) found (all_read (IsFor node) works (number - 1) (all_its node (works_of lines))) }
   where

@@ -1,0 +1,4 @@
+mod Standing
+mod Turns
+mod Dues
+mod Runs
