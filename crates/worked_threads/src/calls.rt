@@ -21,6 +21,16 @@ pub const CRASH: &[u8] =
 /// What is answered to it.
 pub const BACK: &[u8] = b"6 v1\n7 ok\n8 v1 \"a\"\n9 ok\n10 ok\n11 v1 \"a\"\nend 6 0\n";
 
+/// A client crashes while others call on files in four groups of servers. What it lost of a manager's word in its crash it
+/// hears only where the manager says it again, as time passes.
+pub const CALLED_BACK: &[u8] =
+    b"xfs 1\nclients 5\nmanagers 3\nservers 5\ngroup2 5 3 1 4 2\nc3 mv /a.txt/home /a\nc1 mk /a.txt\nc3 crash\nc3 restart\n";
+
+/// Two of three servers lose their disks, so that a client's restart is refused as lost; what another asks of a block that
+/// this one owned is never answered.
+pub const REFUSED: &[u8] =
+    b"xfs 1\nclients 2\nmanagers 1\nservers 3\ngroup 1 2 3\nc1 bput 1 0 \"a\"\nc1 sync\nafter 40 s1 lose\nafter 40 s2 lose\nafter 160 c1 crash\nc1 restart\nafter 320 c2 bget 1 0\n";
+
 fn source_of(alloc: Global, input: &[u8]) -> Result<MemSource, AllocError> {
     Ok(MemSource::start(
         List::from_vec(Vec::from_slice(alloc, input)?),
@@ -56,6 +66,22 @@ pub fn answers<R: Threads + Wait + Sync, G: Gate>(
     let mut sink = sink_of(alloc)?;
     let outcome = xfs(rt, alloc, &words, &mut source, &mut sink, gate);
     Ok(outcome.status == status && sink.bytes() == text)
+}
+
+/// Whether the program answers these words, of this input, with this status and a text that ends so.
+pub fn ends<R: Threads + Wait + Sync>(
+    rt: &R,
+    alloc: Global,
+    words: &[&str],
+    input: &[u8],
+    status: u8,
+    end: &[u8],
+) -> Result<bool, AllocError> {
+    let words = words_of(alloc, words)?;
+    let mut source = source_of(alloc, input)?;
+    let mut sink = sink_of(alloc)?;
+    let outcome = xfs(rt, alloc, &words, &mut source, &mut sink, &OpenGate);
+    Ok(outcome.status == status && sink.bytes().ends_with(end))
 }
 
 /// Whether cells in one thread, with no worker, answer this input with status 0 and this text.

@@ -1,4 +1,6 @@
-use crate::calls::{ANSWERS, BACK, CRASH, FILES, answers, answers_alone, is_replied};
+use crate::calls::{
+    ANSWERS, BACK, CALLED_BACK, CRASH, FILES, REFUSED, answers, answers_alone, ends, is_replied,
+};
 use crate::meeting::Meeting;
 use crate::waiting::Waiting;
 use std::test::Fail;
@@ -57,5 +59,39 @@ fn called_while_entered(rt: HostRuntime) -> Result<(), Fail> {
     let gate = Waiting::new();
     assert!(rt; answers(&rt, alloc, &["mount", "2"], FILES, &gate, 0, ANSWERS)?);
     assert!(rt; gate.was_called());
+    Ok(())
+}
+
+/// Time passes at the one node that needs it, whatever waits there: each item is answered.
+#[test]
+fn time_passes_everywhere(rt: HostRuntime) -> Result<(), Fail> {
+    let alloc = rt.alloc();
+    assert!(rt; ends(&rt, alloc, &["live", "1"], CALLED_BACK, 0, b"\nend 4 0\n")?);
+    assert!(rt; ends(&rt, alloc, &["live", "4"], CALLED_BACK, 0, b"\nend 4 0\n")?);
+    assert!(rt; ends(&rt, alloc, &["mount", "1"], CALLED_BACK, 0, b"\nend 4 0\n")?);
+    Ok(())
+}
+
+/// Where a restart is refused as lost, and so what another client asks never comes, one worker gives the run up.
+#[test]
+fn given_up_by_one_worker(rt: HostRuntime) -> Result<(), Fail> {
+    let alloc = rt.alloc();
+    assert!(rt; ends(&rt, alloc, &["live", "1"], REFUSED, 1, b"\n12 open\nend 7 1\n")?);
+    Ok(())
+}
+
+/// So do four workers.
+#[test]
+fn given_up_by_four_workers(rt: HostRuntime) -> Result<(), Fail> {
+    let alloc = rt.alloc();
+    assert!(rt; ends(&rt, alloc, &["live", "4"], REFUSED, 1, b"\n12 open\nend 7 1\n")?);
+    Ok(())
+}
+
+/// The application that waits for that answer is told, and its call returns.
+#[test]
+fn given_up_with_applications(rt: HostRuntime) -> Result<(), Fail> {
+    let alloc = rt.alloc();
+    assert!(rt; ends(&rt, alloc, &["mount", "1"], REFUSED, 1, b"\n12 open\nend 7 1\n")?);
     Ok(())
 }
