@@ -27,9 +27,6 @@ le12 = omega arith
 pub le22 : 2 ≤ 2
 le22 = omega arith
 
-pub le24 : 2 ≤ 4
-le24 = omega arith
-
 pub lt01 : 0 < 1
 lt01 = omega arith
 

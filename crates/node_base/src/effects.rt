@@ -2,10 +2,9 @@
 ghost use Rattle.std.specs.Prelude.{◌≡◌, ◌++◌, ◌∷◌, [], IfOk, OnOk};
 ghost use Rattle.node_base.specs.declared.effects.Effect.TheVariants.{Send, Answer as Answers, Lose, Does};
 ghost use Rattle.node_base.specs.Effects.{packets_of, acts_of, sends_to, packet_of, act_of};
-ghost use Rattle.node_base.specs.Nodes.{servers, others};
+ghost use Rattle.node_base.specs.Nodes.{others};
 
 use crate::Peers;
-use crate::peers::server_nodes;
 use std::alloc::Global;
 use std::marker::Model;
 use version_model::{Act, Answer};
@@ -109,14 +108,6 @@ impl Effects {
             self.send(*node, body.copy(alloc)?)?;
         }
         Ok(())
-    }
-
-    /// Sends the same to each server, in order of their numbers.
-    pub fn send_servers(&mut self, alloc: Global, count: u8, body: &Body) -> Mem<()>
-        ensures { OnOk result (self.new ≡ self.old ++ sends_to (servers count) body.now) }
-    {
-        let nodes = server_nodes(alloc, count)?;
-        self.send_each(alloc, nodes.as_slice(), body)
     }
 
     /// Sends the same to all nodes but this one, in order of nodes.

@@ -119,12 +119,3 @@ fn add_servers(nodes: &mut List<NodeId>, count: u8) -> Mem<()>
     }
     Ok(())
 }
-
-/// The servers, in order.
-pub(crate) fn server_nodes(alloc: Global, count: u8) -> Mem<List<NodeId>>
-    ensures { IfOk result (λ nodes. nodes ≡ servers count) }
-{
-    let mut nodes = List::new(alloc);
-    add_servers(&mut nodes, count)?;
-    Ok(nodes)
-}

@@ -66,9 +66,6 @@ turn_doubled n x =
     let next : suc n ≡ n + 1 = omega arith in
     sym (ap (λ (k : ℕ). doubled_times k x) (sym next) ∙ doubled_more n x)
 
-pub turn_halved : (n by : ℕ) → by / 2 ^ n / 2 ≡ by / 2 ^ (n + 1)
-turn_halved n by = shr-shr by n 1
-
 pub whole_at_end : (n by x : ℕ) → n ≤ 8 → by / 2 ^ n ≡ 0 → product_of n by x ≡ product by x
 unfolding product
 whole_at_end n by x within none =

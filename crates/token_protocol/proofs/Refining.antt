@@ -1,7 +1,7 @@
 -- What a refinement needs of this machine beside its laws: what holds of each place after a change at one, and packets seen one way,
 -- as the packet that they fix, or as some packet.
 -- `Growing` says what only grows, and `StampsSeen` how stamps of several epochs are seen.
-use Rattle.std.proofs.Common.{◌≡◌, ℕ, ◌==◌, inl, inr, true, false, Bool, if◌then◌else◌, List, ◌∷◌, refl, sym, subst, arith}
+use Rattle.std.proofs.Common.{◌≡◌, ℕ, ◌==◌, true, false, Bool, if◌then◌else◌, List, refl, sym, subst, arith}
 use Rattle.std.proofs.lemmas.Bool.Decides.{nat_tests}
 use Rattle.token_protocol.specs.Basics.{put, In}
 
@@ -28,18 +28,6 @@ put_each_two P f g c x y here there d = go (d == c) (λ e. grind (arith, nat_tes
 abbrev pub Included : {X Y : Type 0} → (X → Y → Type 0) → List X → List Y → Type 0
 Included {X = X} {Y = Y} sees sent here = (x : X) (y : Y) → In x sent → sees x y → In y here
 
--- It stays so where more is sent here.
-pub included_more : {X Y : Type 0} (sees : X → Y → Type 0) (sent : List X) (here more : List Y) → Included sees sent here → ((y : Y) → In y here → In y more)
-    → Included sees sent more
-included_more sees sent here more i grows x y fact seen = grows y (i x y fact seen)
-
--- It stays so where a packet is sent, if what that is seen as was sent here.
-pub included_sent : {X Y : Type 0} (sees : X → Y → Type 0) (sent : List X) (here : List Y) (new : X) → Included sees sent here
-    → ((y : Y) → sees new y → In y here)
-    → Included sees (new ∷ sent) here
-included_sent {X = X} sees sent here new i also x y (inl fact) seen = also y (subst (λ (z : X). sees z y) fact seen)
-included_sent sees sent here new i also x y (inr fact) seen = i x y fact seen
-
 -- A Forward and a Supply bear the version alone of the entry that was offered, so the offer that they are seen as is not fixed by them, and `Included`
 -- would be false of them. Each sent packet that speaks of the block is seen as some packet that was sent here.
 abbrev pub Met : {X Y : Type 0} → (X → Type 0) → (X → Y → Type 0) → List X → List Y → Type 0
@@ -49,9 +37,3 @@ Met {X = X} {Y = Y} speaks sees sent here = (x : X) → In x sent → speaks x �
 pub met_more : {X Y : Type 0} (speaks : X → Type 0) (sees : X → Y → Type 0) (sent : List X) (here more : List Y) → Met speaks sees sent here
     → ((y : Y) → In y here → In y more) → Met speaks sees sent more
 met_more speaks sees sent here more i grows x fact says = let m = i x fact says in (m.0, grows m.0 m.1, m.2)
-
--- It stays so where a packet is sent, if some packet that it is seen as was sent here.
-pub met_sent : {X Y : Type 0} (speaks : X → Type 0) (sees : X → Y → Type 0) (sent : List X) (here : List Y) (new : X) → Met speaks sees sent here
-    → (speaks new → (y : Y) × In y here × sees new y) → Met speaks sees (new ∷ sent) here
-met_sent {X = X} {Y = Y} speaks sees sent here new i also x (inl fact) = subst (λ (z : X). speaks z → (y : Y) × In y here × sees z y) (sym fact) also
-met_sent speaks sees sent here new i also x (inr fact) = i x fact

@@ -37,10 +37,6 @@ seg_cmp_exact a b h =
 pub stamp_cmp_total : IsTotalOrder stamp_cmp
 stamp_cmp_total = then_total (on_total (λ (s : Stamp). s.epoch) nat_cmp_total) (on_total (λ (s : Stamp). s.turn) nat_cmp_total)
 
-pub stamp_cmp_exact : CmpEqualImpliesEq stamp_cmp
-stamp_cmp_exact a b h =
-    ap (λ (p : ℕ × ℕ). record { epoch = p.0; turn = p.1 }) (exact_pairs nat_cmp nat_cmp exact_unsigned exact_unsigned (a.epoch, a.turn) (b.epoch, b.turn) h)
-
 greater-is_gt : (o : Ordering) → is_greater o ≡ is_gt o
 greater-is_gt Less = refl
 greater-is_gt Equal = refl

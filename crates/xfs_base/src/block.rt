@@ -1,6 +1,6 @@
 //! Names of files and of their blocks.
 ghost use Rattle.std.specs.Prelude.{◌≡◌, ◌↔◌, IsTrue};
-ghost use Rattle.xfs_base.specs.Blocks.{block_cmp, same_block, slot_of, creator_of, IsRaw};
+ghost use Rattle.xfs_base.specs.Blocks.{block_cmp, same_block, slot_of, creator_of};
 
 use std::cmp::Ordering;
 
@@ -24,14 +24,6 @@ impl Ino {
         ensures { result ≡ creator_of self.0 }
     {
         (self.0 / 8 % 16) as u8
-    }
-
-    /// Whether this is a raw number: not the root, and created by no client. Blocks are written by
-    /// number in raw files alone.
-    pub fn is_raw(self) -> bool
-        ensures { IsTrue result ↔ IsRaw self.0 }
-    {
-        self.0 != 0 && self.creator() == 0
     }
 }
 
