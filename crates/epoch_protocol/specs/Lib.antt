@@ -1,5 +1,8 @@
 pub mod Basics
+pub mod ManagerPhase
+pub mod Stage
 pub mod Manager
+pub mod MemberPhase
 pub mod Member
 pub mod Packets
 pub mod World

@@ -1,5 +1,8 @@
 -- All that there is about the epochs of one slot: the registry, the managers, the members and their packets, and what was once so.
 use Rattle.std.specs.Prelude.{◌≡◌, ℕ, ◌<◌, ◌==◌, if◌then◌else◌, List, []}
+use Rattle.epoch_protocol.specs.ManagerPhase
+use Rattle.epoch_protocol.specs.MemberPhase
+use Rattle.epoch_protocol.specs.Stage
 use Rattle.epoch_protocol.specs.Manager.{Manager, first_boot}
 use Rattle.epoch_protocol.specs.Member.{Member, fresh}
 use Rattle.epoch_protocol.specs.Packets.{Hello, Welcome, News, Poll, Report}
@@ -40,7 +43,7 @@ start n first = record {
   assigned = first;
   kept = λ m. 1;
   named = λ e. first;
-  manager = λ m. if m == first then first_boot 1 2 else first_boot 0 0;
+  manager = λ m. if m == first then first_boot 1 Stage.active else first_boot 0 Stage.away;
   member = λ c. fresh first;
   entered = λ e. if e == 1 then 1 else 0;
   stay_manager = λ e. first;
@@ -58,18 +61,18 @@ start n first = record {
 
 -- The manager is up: it was told of an epoch in its present boot, by the Welcome of that boot or at the start.
 abbrev pub Up : World → ℕ → Type 0
-Up w m = (w.manager m).phase ≡ 2
+Up w m = (w.manager m).phase ≡ ManagerPhase.up
 
 -- The member serves.
 abbrev pub Serving : World → ℕ → Type 0
-Serving w c = (w.member c).phase ≡ 2
+Serving w c = (w.member c).phase ≡ MemberPhase.serving
 
 -- The manager is at work at its epoch: it polls, reads, is active, or its takeover broke.
 pub record AtWork (w : World) (m : ℕ) : Type 0 where
   pub up : Up w m
-  pub stage : 0 < (w.manager m).stage
+  pub stage : Stage.away < (w.manager m).stage
 
 -- The manager is active at its epoch.
 pub record Active (w : World) (m : ℕ) : Type 0 where
   pub up : Up w m
-  pub stage : (w.manager m).stage ≡ 2
+  pub stage : (w.manager m).stage ≡ Stage.active

@@ -5,6 +5,7 @@ use Rattle.token_protocol.specs.Entry.{Entry}
 use Rattle.token_protocol.specs.Packets as token_packets
 use Rattle.token_protocol.specs.Takeover as takeover
 use Rattle.token_protocol.specs.Crashing as crashing
+use Rattle.epoch_protocol.specs.MemberPhase
 use Rattle.epoch_protocol.specs.World as epochs
 use Rattle.epoch_protocol.specs.Packets.{Hello, Poll, News, Welcome}
 use Rattle.epoch_protocol.specs.Kinds.{kind_of}
@@ -20,8 +21,8 @@ pub record TokensTied (e : epochs.World) (t : tokens.World) : Type 0 where
   pub members : t.members ≡ e.members
   pub reigning : t.epoch ≡ e.reigning
   pub promised : (c : ℕ) → c < e.members → (t.client c).promised ≡ (e.member c).promised
-  pub serving : (c : ℕ) → c < e.members → (e.member c).phase ≡ 2 → (t.client c).serving ≡ 1
-  pub down : (c : ℕ) → c < e.members → ((e.member c).phase ≡ 2 → ⊥) → (t.client c).serving ≡ 0
+  pub serving : (c : ℕ) → c < e.members → (e.member c).phase ≡ MemberPhase.serving → (t.client c).serving ≡ 1
+  pub down : (c : ℕ) → c < e.members → ((e.member c).phase ≡ MemberPhase.serving → ⊥) → (t.client c).serving ≡ 0
 
 -- At the start they are tied.
 abbrev pub TokensStart : Type 0

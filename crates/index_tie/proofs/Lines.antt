@@ -5,6 +5,7 @@ use Rattle.std.proofs.lemmas.Bool.Decides.{nat_tests}
 use Rattle.xfs_base.specs.Limits.{block_logs}
 use Rattle.segment_format.specs.declared.segment.Segment.{Segment}
 use Rattle.segment_format.specs.Rows.{rows_of}
+use Rattle.log_protocol.specs.Phase
 use Rattle.log_protocol.specs.State.{State}
 use Rattle.log_protocol.specs.StateLaws.{EndIsHead}
 use Rattle.log_protocol.specs.GrowthLaws.{PastStays}
@@ -71,12 +72,12 @@ filed_names_are_ends logs books l x end are some limit filed seq pass =
     record { filed = omega arith; named = pass ∙ sym (i.pages x filed).pass ∙ sym (ap (λ k. (books l k).name.pass) fact) }
 
 -- the feed has what stands on the line
-same_feed : (l : ℕ) (w : State) (book : ℕ → Segment) → IsLog l w book → w.phase ≡ 4 → (q : ℕ) → w.feed_base < q → q ≤ w.head → w.feed q ≡ w.line q
+same_feed : (l : ℕ) (w : State) (book : ℕ → Segment) → IsLog l w book → w.phase ≡ Phase.serving → (q : ℕ) → w.feed_base < q → q ≤ w.head → w.feed q ≡ w.line q
 same_feed l w book i serves q above within =
     let f = (feed_whole_always w i.reached i.clean serves).filed q above within in
     sym (ap w.line (sym f.1) ∙ (is_end l w book i).filed_line (w.feed q) f.0)
 
-same_feeds : (logs : ℕ → State) (books : ℕ → ℕ → Segment) (l : ℕ) → 0 < l → l ≤ block_logs → IsLog l (logs l) (books l) → (logs l).phase ≡ 4 → (n q : ℕ)
+same_feeds : (logs : ℕ → State) (books : ℕ → ℕ → Segment) (l : ℕ) → 0 < l → l ≤ block_logs → IsLog l (logs l) (books l) → (logs l).phase ≡ Phase.serving → (n q : ℕ)
     → (logs l).feed_base < q → q + n ≤ suc (logs l).head
     → map (feed_at (logs l) (books l)) (range_with_len q n) ≡ map (fed_at (lines logs books) l) (range_with_len q n)
 same_feeds logs books l some limit i serves zero q above within = refl

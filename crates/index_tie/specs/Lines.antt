@@ -9,6 +9,7 @@ use Rattle.segment_format.specs.Rows.{rows_of}
 use Rattle.delta_feed.specs.declared.feed.FiledDeltas.{FiledDeltas}
 use Rattle.delta_feed.specs.declared.input.In.{In}
 use Rattle.delta_feed.specs.History.{end_of, filed_by}
+use Rattle.log_protocol.specs.Phase
 use Rattle.log_protocol.specs.State.{State}
 use Rattle.log_protocol.specs.Step.{Steps}
 use Rattle.log_protocol.specs.LogLaws.{Reached}
@@ -66,7 +67,7 @@ feed_at w book q = record { seq = q; rows = rows_of (book (w.feed q)) }
 -- A serving owner's feed was told of what is filed above its base.
 abbrev pub FeedsAreFed : Type 0
 FeedsAreFed =
-    (logs : ℕ → State) (books : ℕ → ℕ → Segment) (l : ℕ) (inputs : List In) → AreLogs logs books → 0 < l → l ≤ block_logs → (logs l).phase ≡ 4
+    (logs : ℕ → State) (books : ℕ → ℕ → Segment) (l : ℕ) (inputs : List In) → AreLogs logs books → 0 < l → l ≤ block_logs → (logs l).phase ≡ Phase.serving
     → end_of (logs l).feed_base inputs ≡ (logs l).head
     → filed_by (logs l).feed_base inputs ≡ map (feed_at (logs l) (books l)) (range_with_len (suc (logs l).feed_base) ((logs l).head - (logs l).feed_base))
     → IsFed (lines logs books) l (logs l).feed_base inputs

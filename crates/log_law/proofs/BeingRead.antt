@@ -12,6 +12,7 @@ use Rattle.log_scan.specs.declared.stage.Stage.TheVariants.{Reads}
 use Rattle.log_scan.specs.ScanState.{ScanState}
 use Rattle.log_scan.specs.Transition.{name_at, prior_at, target_at, is_bottom}
 use Rattle.log_protocol.proofs.Induction.{always}
+use Rattle.log_protocol.specs.Phase
 use Rattle.log_protocol.specs.LogLaws.{Reached}
 use Rattle.log_protocol.specs.LossLaws.{ReadBy, Whole}
 use Rattle.log_protocol.specs.State.{State}
@@ -79,7 +80,7 @@ module _ (k : Below) (read : ReadWhole) (g : Setting) (n : Net) (h : View g n) (
       by (suc z) e = omega arith
 
   abbrev From : ℕ → Type 0
-  From y = ((2 ≤ h.w.phase) × (h.w.phase ≤ 3) × (y ≡ h.w.base)) ⊎ ((z : ℕ) × (h.w.booked z ≡ 1) × (h.w.prior_of z ≡ y))
+  From y = ((Phase.reading ≤ h.w.phase) × (h.w.phase ≤ Phase.writing) × (y ≡ h.w.base)) ⊎ ((z : ℕ) × (h.w.booked z ≡ 1) × (h.w.prior_of z ≡ y))
 
   -- it is the base, or the prior of what was read before it
   link : (highest y : ℕ) (ts : List Segment) → Chained g h.w h.book highest y ts → From y

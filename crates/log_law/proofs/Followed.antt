@@ -2,6 +2,7 @@
 use Rattle.log_law.proofs.Feeding.{Fed, now_fed}
 use Rattle.log_law.proofs.Gapless.{Gapless, now_gapless, served_head}
 use Rattle.log_law.proofs.Flights.{FlightKept, FlightAt, now_kept, first_kept, now_at, first_at}
+use Rattle.log_protocol.specs.Phase
 use Rattle.log_protocol.specs.Tables.{In}
 use Rattle.log_law.proofs.Always.{begins_seen, keeps}
 use Rattle.log_tie.specs.Seen.{Page, members_of}
@@ -239,11 +240,11 @@ module _ (k : Below) (g : Setting) (none : g.doubts ≡ false) (a : Net) (serves
   -- ---- the premise on losses, where a restart ends
 
   module _ (f : Followed) where
-    while_writing : is_writing n.owner ≡ true → (h.w.phase ≡ 3) × (h.w.pick_low ≡ n.picked)
+    while_writing : is_writing n.owner ≡ true → (h.w.phase ≡ Phase.writing) × (h.w.pick_low ≡ n.picked)
     while_writing t = by n.owner t h.owner h.picked
       where
         by : (p : Owner) → is_writing p ≡ true → OwnerShown g h.w h.book h.hellos p → PickShown h.w.pick_low n.picked p
-            → (h.w.phase ≡ 3) × (h.w.pick_low ≡ n.picked)
+            → (h.w.phase ≡ Phase.writing) × (h.w.pick_low ≡ n.picked)
         by Down e shown picked = contrary e
         by (Opening s) e shown picked = contrary e
         by (Writing chain s) e shown picked = (shown.0.phase, picked)
@@ -306,10 +307,10 @@ module _ (k : Below) (g : Setting) (none : g.doubts ≡ false) (a : Net) (serves
 -- ---- along the run
 
 -- an owner that serves is in phase 4
-pub serving_phase : (g : Setting) (n : Net) (h : View g n) → is_serving n.owner ≡ true → h.w.phase ≡ 4
+pub serving_phase : (g : Setting) (n : Net) (h : View g n) → is_serving n.owner ≡ true → h.w.phase ≡ Phase.serving
 serving_phase g n h t = by n.owner t h.owner
   where
-    by : (p : Owner) → is_serving p ≡ true → OwnerShown g h.w h.book h.hellos p → h.w.phase ≡ 4
+    by : (p : Owner) → is_serving p ≡ true → OwnerShown g h.w h.book h.hellos p → h.w.phase ≡ Phase.serving
     by Down e shown = contrary e
     by (Opening s) e shown = contrary e
     by (Writing chain s) e shown = contrary e

@@ -2,6 +2,7 @@
 use Rattle.std.proofs.Common.{◌≡◌, ℕ, suc, ◌+◌, ◌≤◌, List, [], ◌∷◌, refl, sym, subst, arith, ◌⊎◌, ◌<◌, length}
 use Rattle.segment_format.specs.declared.segment.Segment.{Segment}
 use Rattle.client_log.specs.LogState.{LogState}
+use Rattle.log_protocol.specs.Phase
 use Rattle.log_protocol.specs.Packets.{StorePacket, StoredPacket, FragmentPacket, FencedPacket}
 use Rattle.log_protocol.specs.State.{State}
 use Rattle.log_protocol.specs.Tables.{In}
@@ -100,7 +101,7 @@ module _ (g : Setting) (w u : State) (book : ℕ → Segment) (by : Apart w u) w
   serves_apart : (s : LogState) → Serves g w book s → Serves g u book s
   serves_apart s h = record {
     writes = writes_apart s h.writes;
-    phase = same (λ o. o.phase ≡ 4) h.phase;
+    phase = same (λ o. o.phase ≡ Phase.serving) h.phase;
     end = same (λ o. o.end ≡ point g s.end.seq s.end.pass) h.end;
     end_seq = same (λ o. g.seq_of o.end ≡ s.end.seq) h.end_seq;
     flight = same (λ o. FlightShown g book s.flight s.inc s.end.seq (o.booked o.flight) o.flight o.noted) h.flight;
@@ -113,7 +114,7 @@ module _ (g : Setting) (w u : State) (book : ℕ → Segment) (by : Apart w u) w
   writing_apart : (chain : List Segment) (s : LogState) → WritingShown g w book chain s → WritingShown g u book chain s
   writing_apart chain s h = record {
     writes = writes_apart s h.writes;
-    phase = same (λ o. o.phase ≡ 3) h.phase;
+    phase = same (λ o. o.phase ≡ Phase.writing) h.phase;
     clear = h.clear;
     base = same (λ o. o.base ≡ point g s.end.seq s.end.pass) h.base;
     read = record {
@@ -135,7 +136,7 @@ module _ (g : Setting) (w u : State) (book : ℕ → Segment) (by : Apart w u) w
   by_others = record { opener = same (λ o. opener_of o ≡ opener_of w) refl; fenceds = by.fenceds; registry = by.registry; low = by.low }
 
   pub owner_apart : Below → (hellos : List Asked) (o : Owner) → OwnerShown g w book hellos o → OwnerShown g u book hellos o
-  owner_apart k hellos Down h = same (λ o. o.phase ≡ 0) h
+  owner_apart k hellos Down h = same (λ o. o.phase ≡ Phase.down) h
   owner_apart k hellos (Opening s) h = k.machines.stays g w u book hellos s by_others h
   owner_apart k hellos (Writing chain s) h = (writing_apart chain s h.0, behind_apart s h.1)
   owner_apart k hellos (Serving s) h = (serves_apart s h.0, behind_apart s h.1)

@@ -1,6 +1,7 @@
 -- Members of the newest segment that are hurt: they were so before some steps, or lacked their fragment at a moment among them.
 use Rattle.std.proofs.lemmas.Bool.Decides.{nat_tests}
 use Rattle.std.proofs.Common.{◌≡◌, ⊎_elim, ℕ, zero, suc, ◌≤◌, ◌<◌, ◌⊎◌, refl, sym, ap, ◌∙◌, inl, inr, arith, Bool, true, false, nat_lt}
+use Rattle.log_protocol.specs.Phase
 use Rattle.log_protocol.specs.LogLaws.{Reached}
 use Rattle.log_protocol.specs.State.{State, new_log}
 use Rattle.log_protocol.specs.Step.{Step, Steps}
@@ -12,7 +13,7 @@ use Rattle.log_law.specs.Below.{Below}
 -- ---- an owner that serves is in no span
 
 abbrev Idle : State → Type 0
-Idle w = w.clean ≡ 1 → w.phase ≡ 4 → w.spanning ≡ 0
+Idle w = w.clean ≡ 1 → w.phase ≡ Phase.serving → w.spanning ≡ 0
 
 clash : (n m : ℕ) → n ≡ m → (n ≡ m → ⊥) → ⊥
 clash n m e f = f e

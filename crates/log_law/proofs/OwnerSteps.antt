@@ -1,5 +1,6 @@
 -- What a step makes of the owner of a log: its boot and its phase stay, or it falls, restarts, picks where the log goes on, or comes to write or serve.
 use Rattle.std.proofs.Common.{◌≡◌, suc, ◌≤◌, refl, arith}
+use Rattle.log_protocol.specs.Phase
 use Rattle.log_protocol.specs.State.{State}
 use Rattle.log_protocol.specs.Step.{Step}
 use Rattle.log_protocol.specs.Step.Step.{Crashes, Restarts, Begins, Picks_none, Picks_kept, Picks_prior, Opens, Serves}
@@ -7,10 +8,10 @@ use Rattle.log_protocol.specs.Step.Step.{Crashes, Restarts, Begins, Picks_none, 
 -- and what becomes of the span and of the horizon of the pick
 pub data Turn (v u : State) : Type 0 where
   Rests : u.phase ≡ v.phase → u.incarnation ≡ v.incarnation → u.pick_low ≡ v.pick_low → u.spanning ≡ v.spanning → Turn v u
-  Falls : u.phase ≡ 0 → u.incarnation ≡ v.incarnation → u.pick_low ≡ v.pick_low → Turn v u
+  Falls : u.phase ≡ Phase.down → u.incarnation ≡ v.incarnation → u.pick_low ≡ v.pick_low → Turn v u
   Boots : u.incarnation ≡ suc v.incarnation → Turn v u
-  Picks : v.phase ≡ 1 → u.incarnation ≡ v.incarnation → u.spanning ≡ v.spanning → Turn v u
-  Writes : 3 ≤ u.phase → u.incarnation ≡ v.incarnation → u.pick_low ≡ v.pick_low → Turn v u
+  Picks : v.phase ≡ Phase.gathering → u.incarnation ≡ v.incarnation → u.spanning ≡ v.spanning → Turn v u
+  Writes : Phase.writing ≤ u.phase → u.incarnation ≡ v.incarnation → u.pick_low ≡ v.pick_low → Turn v u
 
 pub turn_of : (v u : State) → Step v u → Turn v u
 turn_of v u Crashes = Falls refl refl refl

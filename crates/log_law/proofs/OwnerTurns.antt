@@ -11,6 +11,7 @@ use Rattle.client_log.specs.declared.input.In.TheVariants as log_in
 use Rattle.client_log.specs.LogState.{LogState}
 use Rattle.client_log.specs.Transition as log
 use Rattle.log_scan.specs.ScanState.{started}
+use Rattle.log_protocol.specs.Phase
 use Rattle.log_protocol.specs.OpeningSteps.{Undoubted, begins}
 use Rattle.log_protocol.specs.OwnerSteps.{crashes}
 use Rattle.log_protocol.specs.ServerSteps.{fences}
@@ -171,7 +172,7 @@ module _ (k : Below) (g : Setting) (n : Net) (h : View g n) where
 
   -- ---- it falls
 
-  abbrev crash : Goes g h.w h.book (λ v later. v.phase ≡ 0) []
+  abbrev crash : Goes g h.w h.book (λ v later. v.phase ≡ Phase.down) []
   crash = record {
     world = crashes h.w;
     later = h.book;
@@ -185,7 +186,7 @@ module _ (k : Below) (g : Setting) (n : Net) (h : View g n) where
   }
 
   pub crash_view : Next g n h (record n { owner = Down; feed = [] })
-  crash_view = next k g n h (λ v later. v.phase ≡ 0) [] crash (record n { owner = Down; feed = [] }) h.hellos [] (record {
+  crash_view = next k g n h (λ v later. v.phase ≡ Phase.down) [] crash (record n { owner = Down; feed = [] }) h.hellos [] (record {
     keeps = record { shelves = refl; registry = refl; low = refl; inc = refl; dropped = refl };
     spelled = h.spelled;
     flown = record { all = h.flown.all; booked = h.flown.booked };
@@ -195,7 +196,7 @@ module _ (k : Below) (g : Setting) (n : Net) (h : View g n) where
     picked = tt;
     sends = refl;
     shown = tt;
-    filed = filed_still k g n h (λ v later. v.phase ≡ 0) [] crash;
+    filed = filed_still k g n h (λ v later. v.phase ≡ Phase.down) [] crash;
     highest = h.highest;
     spans = λ writes serves. refl;
     steady = λ serving. record { served = refl; head = refl; booked = λ x booked boot. booked };

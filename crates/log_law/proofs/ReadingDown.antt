@@ -7,6 +7,7 @@ use Rattle.client_log.specs.History.{settled_ends, EndRisesByOne}
 use Rattle.client_log.specs.LogState.{LogState}
 use Rattle.client_log.specs.Transition as log
 use Rattle.log_flight.specs.Flights.{FlightState}
+use Rattle.log_protocol.specs.Phase
 use Rattle.log_protocol.specs.GrowthLaws.{PastStays}
 use Rattle.log_protocol.proofs.Induction.{always}
 use Rattle.log_protocol.proofs.Invariant.{Invariant}
@@ -54,7 +55,7 @@ module _ (g : Setting) (w : State) (book : ℕ → Segment) where
     chain_numbers paged highest h.0 ts h.5,
   )
 
-  module _ (seqs : w.seq_of ≡ g.seq_of) (i : Invariant w) (reading : w.phase ≡ 2) where
+  module _ (seqs : w.seq_of ≡ g.seq_of) (i : Invariant w) (reading : w.phase ≡ Phase.reading) where
     -- each link of it is of an earlier boot
     earlier : (highest x : ℕ) (ts : List Segment) → Chained g w book highest x ts → 0 < x → w.incarnation_of x < w.incarnation
     earlier highest x [] h some =

@@ -22,6 +22,7 @@ use Rattle.log_scan.specs.declared.stage.Stage.{Stage}
 use Rattle.log_scan.specs.declared.stage.Stage.TheVariants.{Hails, Gathers, Asks, Reads, Over}
 use Rattle.log_scan.specs.ScanState.{ScanState}
 use Rattle.log_scan.specs.Transition as scan
+use Rattle.log_protocol.specs.Phase
 use Rattle.log_protocol.specs.State.{State}
 use Rattle.log_protocol.specs.Tables.{In}
 use Rattle.log_tie.specs.Setting.{Setting}
@@ -148,10 +149,10 @@ module _ (k : Below) (g : Setting) (n : Net) (h : View g n) (s : ScanState) (i :
   incs = ap (λ (o : Others). o.incarnation) t.frame.others ∙ h.inc
 
   -- where it reads back, the horizon of the pick is the one that was kept
-  picks : t.world.phase ≡ 2 → t.world.read_low ≡ d.state.opening.low → (s.stage ≡ Over → ⊥) → t.world.pick_low ≡ picked_by n s d
+  picks : t.world.phase ≡ Phase.reading → t.world.read_low ≡ d.state.opening.low → (s.stage ≡ Over → ⊥) → t.world.pick_low ≡ picked_by n s d
   picks phase low before_end = by s.stage refl as_it_opens.stage (subst (PickShown h.w.pick_low n.picked) fact h.picked)
     where
-      first : h.w.phase ≡ 1 → t.world.pick_low ≡ d.state.opening.low
+      first : h.w.phase ≡ Phase.gathering → t.world.pick_low ≡ d.state.opening.low
       first before = t.shows.2.begins before phase ∙ low
 
       by : (st : Stage) → s.stage ≡ st → StageShown g h.w h.book h.hellos s.opening st → StagePicked h.w.pick_low n.picked st
@@ -180,17 +181,17 @@ module _ (k : Below) (g : Setting) (n : Net) (h : View g n) (s : ScanState) (i :
 
   -- the phases of an opening
   opening_phase : (w : State) (book : ℕ → Segment) (asked : List Asked) (o : OpeningState) (st : Stage) → StageShown g w book asked o st
-      → (0 < w.phase) × (w.phase < 3)
+      → (Phase.down < w.phase) × (w.phase < Phase.writing)
   opening_phase w book asked o Hails shown = (let p = shown.0 in omega arith, let p = shown.0 in omega arith)
   opening_phase w book asked o (Gathers lists) shown = (let p = shown.phase in omega arith, let p = shown.phase in omega arith)
   opening_phase w book asked o (Asks lists) shown = (let p = shown.gathering.phase in omega arith, let p = shown.gathering.phase in omega arith)
   opening_phase w book asked o (Reads b r) shown = (let p = shown.0.phase in omega arith, let p = shown.0.phase in omega arith)
   opening_phase w book asked o Over shown = (let p = shown in omega arith, let p = shown in omega arith)
 
-  phase_before : (0 < h.w.phase) × (h.w.phase < 3)
+  phase_before : (Phase.down < h.w.phase) × (h.w.phase < Phase.writing)
   phase_before = opening_phase h.w h.book h.hellos s.opening s.stage as_it_opens.stage
 
-  phase_after : (0 < t.world.phase) × (t.world.phase < 3)
+  phase_after : (Phase.down < t.world.phase) × (t.world.phase < Phase.writing)
   phase_after = opening_phase t.world t.later hellos d.state.opening d.state.stage t.shows.0.shown.stage
 
   same_boot : t.world.incarnation ≡ h.w.incarnation
@@ -256,7 +257,7 @@ module _ (k : Below) (g : Setting) (n : Net) (h : View g n) (s : ScanState) (i :
     before : t.world.flight ≡ 0
     before = let p = r.read.phase in nothing (k.protocol.owner t.world on.reached).flight_phase p
       where
-        nothing : (0 < t.world.flight → 3 ≤ t.world.phase) → t.world.phase ≡ 2 → t.world.flight ≡ 0
+        nothing : (0 < t.world.flight → Phase.writing ≤ t.world.phase) → t.world.phase ≡ Phase.reading → t.world.flight ≡ 0
         nothing f p = grind (arith, nat_tests)
 
     after : FlightShown g e.later first.state.flight first.state.inc first.state.end.seq (e.world.booked e.world.flight) e.world.flight e.world.noted

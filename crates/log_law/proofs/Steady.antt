@@ -1,5 +1,6 @@
 -- While no opening serves, the last boot that served stays so, with its head, and none of its names is booked any more.
 use Rattle.std.proofs.Common.{◌≡◌, ⊎_elim, ℕ, ◌≤◌, ◌<◌, ◌⊎◌, refl, sym, ap, ◌∙◌, inl, inr, arith}
+use Rattle.log_protocol.specs.Phase
 use Rattle.log_protocol.specs.LogLaws.{Reached}
 use Rattle.log_protocol.specs.State.{State}
 use Rattle.log_protocol.specs.Step.{Step, Steps}
@@ -20,19 +21,19 @@ pub record Steady (w u : State) : Type 0 where
 pub record Opens_on (w v : State) : Type 0 where
   pub served : v.served ≡ w.served
   pub head : v.head ≡ w.head
-  pub phase : v.phase < 4
+  pub phase : v.phase < Phase.serving
   pub boot : w.incarnation ≤ v.incarnation
 
 abbrev Course : State → State → Type 0
 Course w v = Opens_on w v ⊎ ((w.incarnation ≤ v.served) × (w.incarnation ≤ v.incarnation))
 
-carry : (w v u : State) → u.served ≡ v.served → u.head ≡ v.head → (v.phase < 4 → u.phase < 4) → v.incarnation ≤ u.incarnation → Course w v → Course w u
+carry : (w v u : State) → u.served ≡ v.served → u.head ≡ v.head → (v.phase < Phase.serving → u.phase < Phase.serving) → v.incarnation ≤ u.incarnation → Course w v → Course w u
 carry w v u served head phase boot (inl p) =
     inl (record { served = served ∙ p.served; head = head ∙ p.head; phase = phase p.phase; boot = (let a = p.boot in let b = boot in omega arith) })
 carry w v u served head phase boot (inr q) = inr (let a = q.0 in let b = served in omega arith, let a = q.1 in let b = boot in omega arith)
 
 -- a step of an owner that serves
-beyond : (w v u : State) → v.phase ≡ 4 → u.served ≡ v.served → u.incarnation ≡ v.incarnation → Course w v → Course w u
+beyond : (w v u : State) → v.phase ≡ Phase.serving → u.served ≡ v.served → u.incarnation ≡ v.incarnation → Course w v → Course w u
 beyond w v u four served boot (inl p) = absurd (let a = p.phase in omega arith)
 beyond w v u four served boot (inr q) = inr (let a = q.0 in let b = served in omega arith, let a = q.1 in let b = boot in omega arith)
 
@@ -57,7 +58,7 @@ course_step w v u (Opens x text count server can) c = carry w v u refl refl (λ 
 course_step w v u (Serves path lowest sure can) c = wakes w v u (began w v c) (omega arith) (omega arith)
 course_step w v u step c = carry w v u refl refl (λ p. p) (omega arith) c
 
-course : (w v : State) → w.phase < 4 → Steps w v → Course w v
+course : (w v : State) → w.phase < Phase.serving → Steps w v → Course w v
 course w v less Done = inl (record { served = refl; head = refl; phase = less; boot = omega arith })
 course w v less (More {v = u} run step) = course_step w u v step (course w u less run)
 
@@ -100,7 +101,7 @@ own w v (More {v = u} run step) = own_step w u v step (own w u run)
 
 -- ---- an opening that goes on in its boot
 
-pub steady : (k : Below) (w u : State) → Reached w → Steps w u → 0 < w.phase → w.phase < 4 → 0 < u.phase → u.phase < 4 → u.incarnation ≡ w.incarnation
+pub steady : (k : Below) (w u : State) → Reached w → Steps w u → Phase.down < w.phase → w.phase < Phase.serving → Phase.down < u.phase → u.phase < Phase.serving → u.incarnation ≡ w.incarnation
     → Steady w u
 steady k w u reached run some less now_some now_less same = by (course w u less run)
   where

@@ -1,5 +1,6 @@
 -- While an opening goes on in its boot and hasn't begun to write, the span stays as it was: only an opening segment that is written begins one.
 use Rattle.std.proofs.Common.{◌≡◌, suc, ◌≤◌, ◌<◌, ◌⊎◌, refl, ◌∙◌, inl, inr, arith}
+use Rattle.log_protocol.specs.Phase
 use Rattle.log_protocol.specs.State.{State}
 use Rattle.log_protocol.specs.Step.{Steps}
 use Rattle.log_protocol.specs.Step.Steps.{Done, More}
@@ -13,7 +14,7 @@ record Stays (w v : State) : Type 0 where
 
 -- the owner has fallen, or it writes or serves, or another boot has begun
 record Leaves (w v : State) : Type 0 where
-  past : (v.phase ≡ 0) ⊎ ((3 ≤ v.phase) ⊎ (w.incarnation < v.incarnation))
+  past : (v.phase ≡ Phase.down) ⊎ ((Phase.writing ≤ v.phase) ⊎ (w.incarnation < v.incarnation))
   boot : w.incarnation ≤ v.incarnation
 
 abbrev Since : State → State → Type 0
@@ -27,25 +28,25 @@ carry : (w v u : State) → u.spanning ≡ v.spanning → u.phase ≡ v.phase �
 carry w v u span phase boot (inl s) = inl (record { span = span ∙ s.span; boot = (let a = s.boot in let b = boot in omega arith) })
 carry w v u span phase boot (inr l) = inr (record { past = by l.past; boot = (let a = l.boot in let b = boot in omega arith) })
   where
-    by : (v.phase ≡ 0) ⊎ ((3 ≤ v.phase) ⊎ (w.incarnation < v.incarnation)) → (u.phase ≡ 0) ⊎ ((3 ≤ u.phase) ⊎ (w.incarnation < u.incarnation))
+    by : (v.phase ≡ Phase.down) ⊎ ((Phase.writing ≤ v.phase) ⊎ (w.incarnation < v.incarnation)) → (u.phase ≡ Phase.down) ⊎ ((Phase.writing ≤ u.phase) ⊎ (w.incarnation < u.incarnation))
     by (inl none) = inl (phase ∙ none)
     by (inr (inl late)) = inr (inl (let p = phase in omega arith))
     by (inr (inr less)) = inr (inr (let b = boot in omega arith))
 
 -- it falls, writes or serves
-leaves : (w v u : State) → (u.phase ≡ 0) ⊎ (3 ≤ u.phase) → u.incarnation ≡ v.incarnation → Since w v → Since w u
+leaves : (w v u : State) → (u.phase ≡ Phase.down) ⊎ (Phase.writing ≤ u.phase) → u.incarnation ≡ v.incarnation → Since w v → Since w u
 leaves w v u past boot s = inr (record { past = by past; boot = (let a = began w v s in let b = boot in omega arith) })
   where
-    by : (u.phase ≡ 0) ⊎ (3 ≤ u.phase) → (u.phase ≡ 0) ⊎ ((3 ≤ u.phase) ⊎ (w.incarnation < u.incarnation))
+    by : (u.phase ≡ Phase.down) ⊎ (Phase.writing ≤ u.phase) → (u.phase ≡ Phase.down) ⊎ ((Phase.writing ≤ u.phase) ⊎ (w.incarnation < u.incarnation))
     by (inl none) = inl none
     by (inr late) = inr (inl late)
 
 -- it picks
-picks : (w v u : State) → v.phase ≡ 1 → u.spanning ≡ v.spanning → u.incarnation ≡ v.incarnation → Since w v → Since w u
+picks : (w v u : State) → v.phase ≡ Phase.gathering → u.spanning ≡ v.spanning → u.incarnation ≡ v.incarnation → Since w v → Since w u
 picks w v u one span boot (inl s) = inl (record { span = span ∙ s.span; boot = (let a = s.boot in let b = boot in omega arith) })
 picks w v u one span boot (inr l) = inr (record { past = by l.past; boot = (let a = l.boot in let b = boot in omega arith) })
   where
-    by : (v.phase ≡ 0) ⊎ ((3 ≤ v.phase) ⊎ (w.incarnation < v.incarnation)) → (u.phase ≡ 0) ⊎ ((3 ≤ u.phase) ⊎ (w.incarnation < u.incarnation))
+    by : (v.phase ≡ Phase.down) ⊎ ((Phase.writing ≤ v.phase) ⊎ (w.incarnation < v.incarnation)) → (u.phase ≡ Phase.down) ⊎ ((Phase.writing ≤ u.phase) ⊎ (w.incarnation < u.incarnation))
     by (inl none) = absurd (let p = one in omega arith)
     by (inr (inl late)) = absurd (let p = one in omega arith)
     by (inr (inr less)) = inr (inr (let b = boot in omega arith))
@@ -65,10 +66,10 @@ since : (w v : State) → Steps w v → Since w v
 since w v Done = inl (record { span = refl; boot = omega arith })
 since w v (More {v = u} run step) = turn_since w u v (turn_of u v step) (since w u run)
 
-pub unwritten : (w v : State) → Steps w v → v.incarnation ≡ w.incarnation → 0 < v.phase → v.phase < 3 → v.spanning ≡ w.spanning
+pub unwritten : (w v : State) → Steps w v → v.incarnation ≡ w.incarnation → Phase.down < v.phase → v.phase < Phase.writing → v.spanning ≡ w.spanning
 unwritten w v run same some few = by (since w v run)
   where
-    none : (v.phase ≡ 0) ⊎ ((3 ≤ v.phase) ⊎ (w.incarnation < v.incarnation)) → ⊥
+    none : (v.phase ≡ Phase.down) ⊎ ((Phase.writing ≤ v.phase) ⊎ (w.incarnation < v.incarnation)) → ⊥
     none (inl down) = (let a = some in omega arith)
     none (inr (inl late)) = (let a = few in omega arith)
     none (inr (inr less)) = (let a = same in omega arith)

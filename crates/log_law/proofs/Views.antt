@@ -14,6 +14,7 @@ use Rattle.client_log.specs.declared.input.In as log_ins
 use Rattle.client_log.specs.History.{state_after}
 use Rattle.client_log.specs.LogState.{LogState, started}
 use Rattle.log_scan.specs.Transition.{least_horizon}
+use Rattle.log_protocol.specs.Phase
 use Rattle.log_protocol.specs.LogLaws.{Reached}
 use Rattle.log_protocol.specs.State.{State}
 use Rattle.log_protocol.specs.Tables.{In}
@@ -78,7 +79,7 @@ pub record Behind (g : Setting) (w : State) (book : ℕ → Segment) (s : LogSta
   pub grouped : IsGrouped g book w.booked s.end
 
 abbrev pub OwnerShown : Setting → State → (ℕ → Segment) → List Asked → Owner → Type 0
-OwnerShown g w book hellos Down = w.phase ≡ 0
+OwnerShown g w book hellos Down = w.phase ≡ Phase.down
 OwnerShown g w book hellos (Opening s) = ScanShown g w book hellos s
 OwnerShown g w book hellos (Writing chain s) = WritingShown g w book chain s × Behind g w book s
 OwnerShown g w book hellos (Serving s) = Serves g w book s × Behind g w book s

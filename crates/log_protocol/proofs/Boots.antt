@@ -2,6 +2,7 @@
 -- Stands on nothing.
 use Rattle.std.proofs.Common.{◌≡◌, ℕ, suc, ◌<◌, ◌≤◌, arith}
 use Rattle.std.proofs.lemmas.Bool.Decides.{nat_tests}
+use Rattle.log_protocol.specs.Phase
 use Rattle.log_protocol.specs.State.{State, new_log}
 use Rattle.log_protocol.specs.Step.{Step}
 use Rattle.log_protocol.specs.Step.Step.{Loses, Seals, Restripes, Settles, Begins, Picks_none, Picks_kept, Picks_prior, Opens, Serves}
@@ -10,34 +11,34 @@ pub record Boots (w : State) : Type 0 where
   -- no name is of a boot to come
   pub booked_boot : (x : ℕ) → w.booked x ≡ 1 → w.incarnation_of x ≤ w.incarnation
   -- the phase is one of the five
-  pub phase_rank : w.phase ≤ 4
+  pub phase_rank : w.phase ≤ Phase.serving
   -- until it writes its opening segment, the present boot has given no name
-  pub no_name_yet : (x : ℕ) → 0 < w.phase → w.phase < 3 → w.booked x ≡ 1 → w.incarnation_of x < w.incarnation
+  pub no_name_yet : (x : ℕ) → Phase.down < w.phase → w.phase < Phase.writing → w.booked x ≡ 1 → w.incarnation_of x < w.incarnation
   -- while it writes its opening segment, all its names are attempts of that one
-  pub opening_seq_alone : (x : ℕ) → w.phase ≡ 3 → w.booked x ≡ 1 → w.incarnation_of x ≡ w.incarnation → w.seq_of x ≡ w.opening_seq
+  pub opening_seq_alone : (x : ℕ) → w.phase ≡ Phase.writing → w.booked x ≡ 1 → w.incarnation_of x ≡ w.incarnation → w.seq_of x ≡ w.opening_seq
   -- and the flight is the last attempt
-  pub opening_attempt : (x : ℕ) → w.phase ≡ 3 → w.booked x ≡ 1 → w.incarnation_of x ≡ w.incarnation → w.attempt_of x ≤ w.attempt_of w.flight
+  pub opening_attempt : (x : ℕ) → w.phase ≡ Phase.writing → w.booked x ≡ 1 → w.incarnation_of x ≡ w.incarnation → w.attempt_of x ≤ w.attempt_of w.flight
   -- a serving boot with nothing in flight has given no name beyond its end
-  pub written_up_to_end : (x : ℕ) → w.phase ≡ 4 → w.flight ≡ 0 → w.booked x ≡ 1 → w.incarnation_of x ≡ w.incarnation → w.seq_of x ≤ w.seq_of w.end
+  pub written_up_to_end : (x : ℕ) → w.phase ≡ Phase.serving → w.flight ≡ 0 → w.booked x ≡ 1 → w.incarnation_of x ≡ w.incarnation → w.seq_of x ≤ w.seq_of w.end
   -- one with a flight has given at the seq after its end no attempt later than the flight
-  pub written_attempt : (x : ℕ) → w.phase ≡ 4 → 0 < w.flight → w.booked x ≡ 1 → w.incarnation_of x ≡ w.incarnation → w.seq_of x ≡ suc (w.seq_of w.end)
+  pub written_attempt : (x : ℕ) → w.phase ≡ Phase.serving → 0 < w.flight → w.booked x ≡ 1 → w.incarnation_of x ≡ w.incarnation → w.seq_of x ≡ suc (w.seq_of w.end)
       → w.attempt_of x ≤ w.attempt_of w.flight
   -- and nothing beyond that seq
-  pub written_next : (x : ℕ) → w.phase ≡ 4 → w.booked x ≡ 1 → w.incarnation_of x ≡ w.incarnation → w.seq_of x ≤ suc (w.seq_of w.end)
+  pub written_next : (x : ℕ) → w.phase ≡ Phase.serving → w.booked x ≡ 1 → w.incarnation_of x ≡ w.incarnation → w.seq_of x ≤ suc (w.seq_of w.end)
   -- a flight is of the present boot
   pub flight_boot : 0 < w.flight → w.incarnation_of w.flight ≡ w.incarnation
   -- there is one only while it writes its opening segment or serves
-  pub flight_phase : 0 < w.flight → 3 ≤ w.phase
+  pub flight_phase : 0 < w.flight → Phase.writing ≤ w.phase
   -- while it serves, the flight comes after the end
-  pub flight_seq : 0 < w.flight → w.phase ≡ 4 → w.seq_of w.flight ≡ suc (w.seq_of w.end)
+  pub flight_seq : 0 < w.flight → w.phase ≡ Phase.serving → w.seq_of w.flight ≡ suc (w.seq_of w.end)
   -- a flight is booked
   pub flight_booked : 0 < w.flight → w.booked w.flight ≡ 1
   -- an opening segment that is being written is the flight
-  pub opening_flight : w.phase ≡ 3 → 0 < w.flight
+  pub opening_flight : w.phase ≡ Phase.writing → 0 < w.flight
   -- who serves is the last boot that served
-  pub serving : w.phase ≡ 4 → w.incarnation ≡ w.served
+  pub serving : w.phase ≡ Phase.serving → w.incarnation ≡ w.served
   -- who opens its log is a later boot
-  pub not_yet_served : 0 < w.phase → w.phase < 4 → w.served < w.incarnation
+  pub not_yet_served : Phase.down < w.phase → w.phase < Phase.serving → w.served < w.incarnation
   -- no boot served before it began
   pub served_boot : w.served ≤ w.incarnation
 

@@ -2,6 +2,7 @@
 -- Stands on Boots.
 use Rattle.std.proofs.Common.{◌≡◌, ℕ, arith}
 use Rattle.std.proofs.lemmas.Bool.Decides.{nat_tests}
+use Rattle.log_protocol.specs.Phase
 use Rattle.log_protocol.specs.State.{State, new_log}
 use Rattle.log_protocol.specs.OwnerSteps.{CanSeal, seals, CanRestripe, restripes}
 use Rattle.log_protocol.specs.OpeningSteps.{CanOpen, opens}
@@ -14,7 +15,7 @@ pub record Contents (w : State) : Type 0 where
   -- names of one seq and one boot have one content
   pub one_content : (x : ℕ) → w.booked x ≡ 1 → w.content_of x ≡ w.content_at (w.seq_of x) (w.incarnation_of x)
   -- an opening segment tells nothing
-  pub opening_empty : w.phase ≡ 3 → w.content_of w.flight ≡ 0
+  pub opening_empty : w.phase ≡ Phase.writing → w.content_of w.flight ≡ 0
 
 seals_keeps_contents : (w : State) (x text count : ℕ) (server : ℕ → ℕ) (content : ℕ) → CanSeal w x count server → Boots w → Contents w
     → Contents (seals w x text count server content)

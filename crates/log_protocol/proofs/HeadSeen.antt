@@ -1,6 +1,7 @@
 -- The newest filed segment in the lists of an opening: where it isn't below the horizon that was taken, some list names it, and it is never the one
 -- that is discarded.
 use Rattle.std.proofs.Common.{◌≡◌, ℕ, ◌<◌, ◌≤◌, sym, subst, arith}
+use Rattle.log_protocol.specs.Phase
 use Rattle.log_protocol.specs.Packets.{FencedPacket}
 use Rattle.log_protocol.specs.State.{State}
 use Rattle.log_protocol.specs.OpeningSteps.{Gathered, Picked, Undoubted, CanPickNone, CanPickPrior}
@@ -26,7 +27,7 @@ pub record HeadListed (w : State) (list_of : ℕ → FencedPacket) : Type 0 wher
   pub listed : (list_of server).listed (w.line w.head) ≡ 1
 
 -- of an undoubted head that isn't below the horizon, some member's list names it
-pub head_seen : (w : State) (list_of : ℕ → FencedPacket) (low : ℕ) → w.phase ≡ 1 → Gathered w list_of low → ShelfInvariant w → Line w → Spans w → Undoubted w
+pub head_seen : (w : State) (list_of : ℕ → FencedPacket) (low : ℕ) → w.phase ≡ Phase.gathering → Gathered w list_of low → ShelfInvariant w → Line w → Spans w → Undoubted w
     → low ≤ w.head → HeadListed w list_of
 head_seen w list_of low gathering gathered shelf line spans sure above =
     let t = late w list_of low gathered shelf in
@@ -59,7 +60,7 @@ pub record NotBefore (w : State) (low x : ℕ) : Type 0 where
   pub seq : low ≤ w.head → w.incarnation_of x ≡ w.served → w.head ≤ w.seq_of x
   pub same : low ≤ w.head → w.incarnation_of x ≡ w.served → w.seq_of x ≡ w.head → x ≡ w.line w.head
 
-pub picked_not_before : (w : State) (list_of : ℕ → FencedPacket) (low x : ℕ) → w.phase ≡ 1 → Gathered w list_of low → Picked w list_of low x → ShelfInvariant w
+pub picked_not_before : (w : State) (list_of : ℕ → FencedPacket) (low x : ℕ) → w.phase ≡ Phase.gathering → Gathered w list_of low → Picked w list_of low x → ShelfInvariant w
     → Line w → Spans w → Undoubted w → NotBefore w low x
 picked_not_before w list_of low x gathering gathered picked shelf line spans sure = record {
   boot = λ above.
@@ -90,7 +91,7 @@ picked_not_before w list_of low x gathering gathered picked shelf line spans sur
     some above = let a = (late w list_of low gathered shelf).some in omega arith
 
 -- a member of the head whose list lacks it is of a later generation
-pub head_kept : (w : State) (list_of : ℕ → FencedPacket) (low j : ℕ) → w.phase ≡ 1 → Gathered w list_of low → ShelfInvariant w → Line w → Spans w → low ≤ w.head
+pub head_kept : (w : State) (list_of : ℕ → FencedPacket) (low j : ℕ) → w.phase ≡ Phase.gathering → Gathered w list_of low → ShelfInvariant w → Line w → Spans w → low ≤ w.head
     → j < w.member_count (w.line w.head) → (list_of (w.member_server (w.line w.head) j)).listed (w.line w.head) ≡ 0
     → w.member_generation (w.line w.head) j < (list_of (w.member_server (w.line w.head) j)).generation
 head_kept w list_of low j gathering gathered shelf line spans above member lacks =

@@ -2,6 +2,7 @@
 -- Stands on nothing.
 use Rattle.std.proofs.Common.{◌≡◌, ℕ, suc, ◌<◌, ◌≤◌, arith}
 use Rattle.std.proofs.lemmas.Bool.Decides.{nat_tests}
+use Rattle.log_protocol.specs.Phase
 use Rattle.log_protocol.specs.State.{State, new_log}
 use Rattle.log_protocol.specs.Step.{Step}
 use Rattle.log_protocol.specs.Step.Step.{Drops, Raises, Seals, Restripes, Settles, Picks_none, Picks_kept, Picks_prior, Cuts, Opens, Serves}
@@ -18,25 +19,25 @@ pub record Horizons (w : State) : Type 0 where
   -- that of the last opening that served is past
   pub line_past : w.line_low ≤ w.low
   -- and while the log is being opened no later than the last Begin
-  pub line_before : 0 < w.phase → w.phase < 4 → w.line_low ≤ w.begin_low
+  pub line_before : Phase.down < w.phase → w.phase < Phase.serving → w.line_low ≤ w.begin_low
   -- seqs begin at 1
   pub low_some : 1 ≤ w.low
   -- at a Begin too
   pub begin_some : 1 ≤ w.begin_low
   -- an opening picks by a horizon no older than its Begin
-  pub pick_after : 2 ≤ w.phase → w.phase ≤ 3 → w.begin_low ≤ w.pick_low
+  pub pick_after : Phase.reading ≤ w.phase → w.phase ≤ Phase.writing → w.begin_low ≤ w.pick_low
   -- and reads back to one no older than that of its pick
-  pub pick_before : 2 ≤ w.phase → w.phase ≤ 3 → w.pick_low ≤ w.read_low
+  pub pick_before : Phase.reading ≤ w.phase → w.phase ≤ Phase.writing → w.pick_low ≤ w.read_low
   -- that is past
-  pub read_past : 2 ≤ w.phase → w.phase ≤ 3 → w.read_low ≤ w.low
+  pub read_past : Phase.reading ≤ w.phase → w.phase ≤ Phase.writing → w.read_low ≤ w.low
   -- where the pick's horizon was beyond the head, so is the opening segment
-  pub pick_beyond : 2 ≤ w.phase → w.phase ≤ 3 → suc w.head ≤ w.pick_low → suc w.head ≤ w.opening_seq
+  pub pick_beyond : Phase.reading ≤ w.phase → w.phase ≤ Phase.writing → suc w.head ≤ w.pick_low → suc w.head ≤ w.opening_seq
   -- what was dropped is below the least horizon
   pub dropped_below : (x : ℕ) → 0 < w.dropped x → w.seq_of x < w.low
   -- and was booked
   pub dropped_booked : (x : ℕ) → 0 < w.dropped x → w.booked x ≡ 1
   -- a serving owner has in its feed all that checkpoints do not cover
-  pub feed_covered : w.phase ≡ 4 → w.feed_base < w.low
+  pub feed_covered : w.phase ≡ Phase.serving → w.feed_base < w.low
 
 pub step_keeps_horizons : (w u : State) → Step w u → Horizons w → Horizons u
 step_keeps_horizons w u (Drops x can) horizons = grind (arith, nat_tests)

@@ -3,6 +3,7 @@
 -- doubtful opening has served.
 use Rattle.std.proofs.Common.{◌≡◌, ℕ, suc, ◌<◌, ◌≤◌, arith}
 use Rattle.std.proofs.lemmas.Bool.Decides.{nat_tests}
+use Rattle.log_protocol.specs.Phase
 use Rattle.log_protocol.specs.Packets.{StorePacket, StoredPacket, FragmentPacket, FencedPacket}
 use Rattle.log_protocol.specs.State.{State, Names, new_log}
 use Rattle.log_protocol.specs.ServerSteps.{loses, CanHear, hears, CanLearn, learns, CanSend, sends, CanAccept, accepts, CanAcceptAgain, accepts_again, CanTell, tells, CanFill, fills, CanDrop, drops, CanDelete, deletes, CanRaise, raises, CanFence, fences}
@@ -41,7 +42,7 @@ pub record Line (w : State) : Type 0 where
   -- and what it named there has the head as its prior
   pub next_prior : (x : ℕ) → w.booked x ≡ 1 → w.incarnation_of x ≡ w.served → w.seq_of x ≡ suc w.head → w.prior_of x ≡ w.line w.head
   -- the feed of a serving owner is the line above its base
-  pub feed_line : (q : ℕ) → w.phase ≡ 4 → w.feed_base < q → q ≤ w.head → w.feed q ≡ w.line q
+  pub feed_line : (q : ℕ) → w.phase ≡ Phase.serving → w.feed_base < q → q ≤ w.head → w.feed q ≡ w.line q
 
 pub loses_keeps_line : (w : State) (v : ℕ) → ShelfInvariant w → Line w → Line (loses w v)
 loses_keeps_line w v shelf line = grind (arith, nat_tests)

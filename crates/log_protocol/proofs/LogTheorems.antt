@@ -1,5 +1,6 @@
 -- The laws of one log, drawn from the invariant.
 use Rattle.std.proofs.Common.{◌≡◌, ℕ, zero, suc, ◌<◌, ◌≤◌, ◌⊎◌, inl, inr, refl, sym, ap, ◌∙◌, subst, arith}
+use Rattle.log_protocol.specs.Phase
 use Rattle.log_protocol.specs.State.{State}
 use Rattle.log_protocol.specs.LogLaws.{Reached, LogsWhole, OneText, OneLine, AdoptsOne, FeedWhole}
 use Rattle.log_protocol.proofs.Invariant.{Invariant}
@@ -53,7 +54,7 @@ adopts_one_always w reached clean path lowest q writing read beyond below some =
           ∙ (ap (λ z. w.content_at z (w.incarnation_of (path q))) (e ∙ one) ∙ ap (w.content_at (suc w.head)) boot);
     }
 
-pub feed_whole_always : (w : State) → Reached w → w.clean ≡ 1 → w.phase ≡ 4 → FeedWhole w
+pub feed_whole_always : (w : State) → Reached w → w.clean ≡ 1 → w.phase ≡ Phase.serving → FeedWhole w
 feed_whole_always w reached clean serving = let i = always w reached in let l = i.line clean in record {
   covered = i.shelf.horizons.feed_covered serving;
   filed = λ q above highest. let e = l.feed_line q serving above highest in

@@ -2,6 +2,7 @@
 -- Stands on Boots, Lists, Horizons and Secured. The three are one group: an opening's base comes from a prior, and a prior from an end or a base.
 use Rattle.std.proofs.Common.{◌≡◌, ℕ, suc, ◌<◌, ◌≤◌, ◌==◌, if◌then◌else◌, refl, ap, ◌∙◌, arith}
 use Rattle.std.proofs.lemmas.Bool.Decides.{nat_tests}
+use Rattle.log_protocol.specs.Phase
 use Rattle.log_protocol.specs.Packets.{FencedPacket}
 use Rattle.log_protocol.specs.State.{State, Names, new_log}
 use Rattle.log_protocol.specs.OpeningSteps.{CanPickKept, picks_kept, CanPickPrior, picks_prior}
@@ -27,25 +28,25 @@ pub record Priors (w : State) : Type 0 where
   -- a segment without one had nothing before it that checkpoints did not cover
   pub no_prior : (x : ℕ) → w.booked x ≡ 1 → w.prior_of x ≡ 0 → w.seq_of x ≤ w.low_when_booked x
   -- the end of a serving boot is booked
-  pub end_booked : w.phase ≡ 4 → 0 < w.end → w.booked w.end ≡ 1
+  pub end_booked : w.phase ≡ Phase.serving → 0 < w.end → w.booked w.end ≡ 1
   -- and secured whole
-  pub end_secured : (j : ℕ) → w.phase ≡ 4 → 0 < w.end → w.secured w.end j ≡ 1
+  pub end_secured : (j : ℕ) → w.phase ≡ Phase.serving → 0 < w.end → w.secured w.end j ≡ 1
   -- it is the prior of the flight
-  pub flight_end : 0 < w.flight → w.phase ≡ 4 → w.prior_of w.flight ≡ w.end
+  pub flight_end : 0 < w.flight → w.phase ≡ Phase.serving → w.prior_of w.flight ≡ w.end
   -- the base is the prior of the opening segment
-  pub flight_base : w.phase ≡ 3 → w.prior_of w.flight ≡ w.base
+  pub flight_base : w.phase ≡ Phase.writing → w.prior_of w.flight ≡ w.base
   -- an opening segment has a seq
-  pub opening_some : 2 ≤ w.phase → w.phase ≤ 3 → 0 < w.opening_seq
+  pub opening_some : Phase.reading ≤ w.phase → w.phase ≤ Phase.writing → 0 < w.opening_seq
   -- a base is booked,
-  pub base_booked : 2 ≤ w.phase → w.phase ≤ 3 → 0 < w.base → w.booked w.base ≡ 1
+  pub base_booked : Phase.reading ≤ w.phase → w.phase ≤ Phase.writing → 0 < w.base → w.booked w.base ≡ 1
   -- of the seq before the opening segment,
-  pub base_seq : 2 ≤ w.phase → w.phase ≤ 3 → 0 < w.base → suc (w.seq_of w.base) ≡ w.opening_seq
+  pub base_seq : Phase.reading ≤ w.phase → w.phase ≤ Phase.writing → 0 < w.base → suc (w.seq_of w.base) ≡ w.opening_seq
   -- of an earlier boot,
-  pub base_boot : 2 ≤ w.phase → w.phase ≤ 3 → 0 < w.base → w.incarnation_of w.base < w.incarnation
+  pub base_boot : Phase.reading ≤ w.phase → w.phase ≤ Phase.writing → 0 < w.base → w.incarnation_of w.base < w.incarnation
   -- and secured whole
-  pub base_secured : (j : ℕ) → 2 ≤ w.phase → w.phase ≤ 3 → 0 < w.base → w.secured w.base j ≡ 1
+  pub base_secured : (j : ℕ) → Phase.reading ≤ w.phase → w.phase ≤ Phase.writing → 0 < w.base → w.secured w.base j ≡ 1
   -- an opening without one has nothing to read back
-  pub no_base : 2 ≤ w.phase → w.phase ≤ 3 → w.base ≡ 0 → w.opening_seq ≤ w.pick_low
+  pub no_base : Phase.reading ≤ w.phase → w.phase ≤ Phase.writing → w.base ≡ 0 → w.opening_seq ≤ w.pick_low
 
 -- a base for the opening segment: where there is one, it is booked, of the seq before, of an earlier boot, and secured whole
 record IsBase (w : State) (base opening low : ℕ) (secured : ℕ → ℕ → ℕ) : Type 0 where
@@ -59,7 +60,7 @@ record IsBase (w : State) (base opening low : ℕ) (secured : ℕ → ℕ → �
 -- whatever such base a pick takes, the priors stay
 picks_keeps_priors : (w : State) (base opening low : ℕ) (secured : ℕ → ℕ → ℕ) → ((y j : ℕ) → w.secured y j ≡ 1 → secured y j ≡ 1)
     → IsBase w base opening low secured → Priors w
-    → Priors (record w { phase = 2; base = base; opening_seq = opening; read_low = low; pick_low = low; secured = secured })
+    → Priors (record w { phase = Phase.reading; base = base; opening_seq = opening; read_low = low; pick_low = low; secured = secured })
 picks_keeps_priors w base opening low secured more is_base priors = record {
   seq_some = priors.seq_some;
   prior_booked = priors.prior_booked;

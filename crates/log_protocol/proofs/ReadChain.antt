@@ -1,5 +1,6 @@
 -- What an opening reads back: by seq one booked and secured segment of an earlier boot, each the prior of the next.
 use Rattle.std.proofs.Common.{◌≡◌, ℕ, zero, suc, ◌+◌, ◌-◌, ◌<◌, ◌≤◌, sym, subst, arith}
+use Rattle.log_protocol.specs.Phase
 use Rattle.log_protocol.specs.State.{State}
 use Rattle.log_protocol.specs.OpeningSteps.{ReadBack}
 use Rattle.log_protocol.proofs.Horizons.{Horizons}
@@ -19,10 +20,10 @@ pub record Link (w : State) (x q : ℕ) : Type 0 where
   pub boot : w.incarnation_of x < w.incarnation
   pub secured : (j : ℕ) → w.secured x j ≡ 1
 
-pub base_link : (w : State) (q : ℕ) → w.phase ≡ 3 → Priors w → w.pick_low ≤ q → suc q ≡ w.opening_seq → Link w w.base q
+pub base_link : (w : State) (q : ℕ) → w.phase ≡ Phase.writing → Priors w → w.pick_low ≤ q → suc q ≡ w.opening_seq → Link w w.base q
 base_link w q writing priors above next =
-    let a : 2 ≤ w.phase = omega arith in
-    let b : w.phase ≤ 3 = omega arith in
+    let a : Phase.reading ≤ w.phase = omega arith in
+    let b : w.phase ≤ Phase.writing = omega arith in
     let some : 0 < w.base = grind (arith, priors.no_base a b) in
     record {
       booked = priors.base_booked a b some;
@@ -32,14 +33,14 @@ base_link w q writing priors above next =
     }
 
 -- above the horizon a name of the chain has a prior, and was booked when the horizon was no later than now
-pub has_prior : (w : State) (x q : ℕ) → w.phase ≡ 3 → Horizons w → Priors w → w.pick_low ≤ q → Link w x (suc q)
+pub has_prior : (w : State) (x q : ℕ) → w.phase ≡ Phase.writing → Horizons w → Priors w → w.pick_low ≤ q → Link w x (suc q)
     → (w.low_when_booked x ≤ w.pick_low) × (0 < w.prior_of x)
 has_prior w x q writing horizons priors above link =
     let low : w.low_when_booked x ≤ w.pick_low =
     (let c = horizons.low_before x link.booked link.boot in let d = horizons.pick_after (omega arith) (omega arith) in omega arith) in
     (low, grind (arith, priors.no_prior x link.booked, link.seq))
 
-pub prior_link : (w : State) (x q : ℕ) → w.phase ≡ 3 → Horizons w → Priors w → w.pick_low ≤ q → Link w x (suc q) → Link w (w.prior_of x) q
+pub prior_link : (w : State) (x q : ℕ) → w.phase ≡ Phase.writing → Horizons w → Priors w → w.pick_low ≤ q → Link w x (suc q) → Link w (w.prior_of x) q
 prior_link w x q writing horizons priors above link =
     let some = (has_prior w x q writing horizons priors above link).1 in
     record {
@@ -54,7 +55,7 @@ pub picked_above : (w : State) (path : ℕ → ℕ) (lowest q : ℕ) → ReadBac
 picked_above w path lowest q read above = let a = read.picked in omega arith
 
 -- down the chain, by how far q is below the opening segment
-pub link_at : (w : State) (path : ℕ → ℕ) (lowest : ℕ) → w.phase ≡ 3 → Horizons w → Priors w → ReadBack w path lowest → (below q : ℕ) → lowest ≤ q
+pub link_at : (w : State) (path : ℕ → ℕ) (lowest : ℕ) → w.phase ≡ Phase.writing → Horizons w → Priors w → ReadBack w path lowest → (below q : ℕ) → lowest ≤ q
     → suc (q + below) ≡ w.opening_seq → Link w (path q) q
 link_at w path lowest writing horizons priors read zero q above e =
     subst (λ x. Link w x q) (sym (read.last q above (omega arith))) (base_link w q writing priors (picked_above w path lowest q read above) (omega arith))
@@ -63,7 +64,7 @@ link_at w path lowest writing horizons priors read (suc below) q above e =
     (prior_link w (path (suc q)) q writing horizons priors (picked_above w path lowest q read above)
     (link_at w path lowest writing horizons priors read below (suc q) (omega arith) (omega arith)))
 
-pub chain_read : (w : State) (path : ℕ → ℕ) (lowest : ℕ) → w.phase ≡ 3 → Horizons w → Priors w → ReadBack w path lowest → Chain w path lowest
+pub chain_read : (w : State) (path : ℕ → ℕ) (lowest : ℕ) → w.phase ≡ Phase.writing → Horizons w → Priors w → ReadBack w path lowest → Chain w path lowest
 chain_read w path lowest writing horizons priors read =
     record {
       booked = λ q a b. (at q a b).booked;

@@ -2,6 +2,7 @@
 -- Stands on the shelves, Line and Spans. Holds while no doubtful opening has served, and under the premise on losses.
 use Rattle.std.proofs.Common.{◌≡◌, ℕ, suc, ◌<◌, ◌≤◌, arith}
 use Rattle.std.proofs.lemmas.Bool.Decides.{nat_tests}
+use Rattle.log_protocol.specs.Phase
 use Rattle.log_protocol.specs.Packets.{StorePacket, StoredPacket, FragmentPacket, FencedPacket}
 use Rattle.log_protocol.specs.State.{State, new_log}
 use Rattle.log_protocol.specs.ServerSteps.{loses, CanHear, hears, CanLearn, learns, CanSend, sends, CanAccept, accepts, CanAcceptAgain, accepts_again, CanTell, tells, CanFill, fills, CanDrop, drops, CanDelete, deletes, CanRaise, raises, CanFence, fences}
@@ -23,11 +24,11 @@ pub record Rising (w : State) : Type 0 where
   pub root_up : (x : ℕ) → w.booked x ≡ 1 → w.served < w.incarnation_of x → suc w.head < w.seq_of x → w.low_when_booked x ≤ w.head
       → w.served ≤ w.incarnation_of (w.prior_of x)
   -- an opening segment comes after the head
-  pub opening_above : 2 ≤ w.phase → w.phase ≤ 3 → suc w.head ≤ w.opening_seq
+  pub opening_above : Phase.reading ≤ w.phase → w.phase ≤ Phase.writing → suc w.head ≤ w.opening_seq
   -- one just after the head is built on it
-  pub base_root : 2 ≤ w.phase → w.phase ≤ 3 → w.opening_seq ≡ suc w.head → w.pick_low ≤ w.head → w.base ≡ w.line w.head
+  pub base_root : Phase.reading ≤ w.phase → w.phase ≤ Phase.writing → w.opening_seq ≡ suc w.head → w.pick_low ≤ w.head → w.base ≡ w.line w.head
   -- one further is built on a segment of a boot no earlier than the last that served
-  pub base_up : 2 ≤ w.phase → w.phase ≤ 3 → suc w.head < w.opening_seq → w.pick_low ≤ w.head → w.served ≤ w.incarnation_of w.base
+  pub base_up : Phase.reading ≤ w.phase → w.phase ≤ Phase.writing → suc w.head < w.opening_seq → w.pick_low ≤ w.head → w.served ≤ w.incarnation_of w.base
 
 -- the premise on losses held before a loss
 lost_sure : (w : State) (v : ℕ) → Undoubted (loses w v) → Undoubted w

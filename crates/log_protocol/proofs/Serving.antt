@@ -2,6 +2,7 @@
 -- head, and beyond it the new line.
 use Rattle.std.proofs.Common.{◌≡◌, ℕ, zero, suc, ◌+◌, ◌-◌, ◌<◌, ◌≤◌, sym, ap, ◌∙◌, subst, arith}
 use Rattle.std.proofs.lemmas.Bool.Decides.{nat_tests}
+use Rattle.log_protocol.specs.Phase
 use Rattle.log_protocol.specs.State.{State}
 use Rattle.log_protocol.specs.OpeningSteps.{ReadBack, Undoubted, CanServe, serves}
 use Rattle.log_protocol.proofs.ShelfInvariant.{ShelfInvariant}
@@ -15,17 +16,17 @@ record Up (w : State) (x q : ℕ) : Type 0 where
   on_line : q ≤ w.head → x ≡ w.line q
   beyond : suc w.head ≤ q → w.pick_low ≤ w.head → w.served ≤ w.incarnation_of x
 
-base_up : (w : State) (q : ℕ) → w.phase ≡ 3 → (w.pick_low ≤ w.head → Rising w) → w.pick_low ≤ q → suc q ≡ w.opening_seq → Up w w.base q
+base_up : (w : State) (q : ℕ) → w.phase ≡ Phase.writing → (w.pick_low ≤ w.head → Rising w) → w.pick_low ≤ q → suc q ≡ w.opening_seq → Up w w.base q
 base_up w q writing rising above next =
-    let a : 2 ≤ w.phase = omega arith in
-    let b : w.phase ≤ 3 = omega arith in
+    let a : Phase.reading ≤ w.phase = omega arith in
+    let b : w.phase ≤ Phase.writing = omega arith in
     record {
       on_line = λ k. let r = rising (omega arith) in let s = r.opening_above a b in let t : q ≡ w.head =
           omega arith in r.base_root a b (omega arith) (omega arith) ∙ ap w.line (sym t);
       beyond = λ k0 k1. (rising k1).base_up a b (omega arith) k1;
     }
 
-prior_up : (w : State) (x q : ℕ) → w.phase ≡ 3 → ShelfInvariant w → Line w → (w.pick_low ≤ w.head → Rising w) → w.pick_low ≤ q → Link w x (suc q)
+prior_up : (w : State) (x q : ℕ) → w.phase ≡ Phase.writing → ShelfInvariant w → Line w → (w.pick_low ≤ w.head → Rising w) → w.pick_low ≤ q → Link w x (suc q)
     → Up w x (suc q) → Up w (w.prior_of x) q
 prior_up w x q writing shelf line rising above link up =
     let low = (has_prior w x q writing shelf.horizons shelf.priors above link).0 in
@@ -47,7 +48,7 @@ prior_up w x q writing shelf line rising above link up =
       beyond = λ k0 k1. let r = rising k1 in grind (arith, r.root_up x link.booked, line.served_next x link.booked, link.seq, up.beyond);
     }
 
-up_at : (w : State) (path : ℕ → ℕ) (lowest : ℕ) → w.phase ≡ 3 → ShelfInvariant w → Line w → (w.pick_low ≤ w.head → Rising w) → ReadBack w path lowest
+up_at : (w : State) (path : ℕ → ℕ) (lowest : ℕ) → w.phase ≡ Phase.writing → ShelfInvariant w → Line w → (w.pick_low ≤ w.head → Rising w) → ReadBack w path lowest
     → (below q : ℕ) → lowest ≤ q → suc (q + below) ≡ w.opening_seq → Up w (path q) q
 up_at w path lowest writing shelf line rising read zero q above e =
     subst (λ x. Up w x q) (sym (read.last q above (omega arith))) (base_up w q writing rising (picked_above w path lowest q read above) (omega arith))
@@ -58,7 +59,7 @@ up_at w path lowest writing shelf line rising read (suc below) q above e =
     (up_at w path lowest writing shelf line rising read below (suc q) (omega arith) (omega arith)))
 
 -- what was read back is the line as far as the head
-pub chain_on_line : (w : State) (path : ℕ → ℕ) (lowest : ℕ) → w.phase ≡ 3 → ShelfInvariant w → Line w → (w.pick_low ≤ w.head → Rising w)
+pub chain_on_line : (w : State) (path : ℕ → ℕ) (lowest : ℕ) → w.phase ≡ Phase.writing → ShelfInvariant w → Line w → (w.pick_low ≤ w.head → Rising w)
     → ReadBack w path lowest → (q : ℕ) → lowest ≤ q → q < w.opening_seq → q ≤ w.head → path q ≡ w.line q
 chain_on_line w path lowest writing shelf line rising read q a b =
     (up_at w path lowest writing shelf line rising read (w.opening_seq - suc q) q a (omega arith)).on_line
@@ -73,7 +74,7 @@ served_clean w path lowest sure can clean = go sure can.undoubted clean
     go (suc s) f z = (grind (arith, nat_tests), f (grind (arith, nat_tests)))
 
 -- the opening segment comes after the head, whichever way its pick went
-pub opening_after : (w : State) → w.phase ≡ 3 → ShelfInvariant w → (w.pick_low ≤ w.head → Rising w) → suc w.head ≤ w.opening_seq
+pub opening_after : (w : State) → w.phase ≡ Phase.writing → ShelfInvariant w → (w.pick_low ≤ w.head → Rising w) → suc w.head ≤ w.opening_seq
 opening_after w writing shelf rising =
     let seen : w.pick_low ≤ w.head → suc w.head ≤ w.opening_seq = λ k. (rising k).opening_above (omega arith) (omega arith) in
     grind (arith, seen, shelf.horizons.pick_beyond (omega arith) (omega arith))

@@ -2,6 +2,7 @@
 -- Stands on the shelves and Line, and at the step that serves on Rising. Holds while no doubtful opening has served.
 use Rattle.std.proofs.Common.{◌≡◌, ℕ, suc, ◌<◌, ◌≤◌, inl, inr, sym, ap, ◌∙◌, arith}
 use Rattle.std.proofs.lemmas.Bool.Decides.{nat_tests}
+use Rattle.log_protocol.specs.Phase
 use Rattle.log_protocol.specs.Tables.{In}
 use Rattle.log_protocol.specs.Packets.{StorePacket, StoredPacket, FragmentPacket, FencedPacket}
 use Rattle.log_protocol.specs.State.{State, new_log}
@@ -29,7 +30,7 @@ pub record Spans (w : State) : Type 0 where
   -- where no opening segment was written since, no name is of a later boot than the last that served
   pub no_span : (x : ℕ) → w.spanning ≡ 0 → w.booked x ≡ 1 → w.incarnation_of x ≤ w.served
   -- a serving owner is in no span
-  pub no_span_serving : w.phase ≡ 4 → w.spanning ≡ 0
+  pub no_span_serving : w.phase ≡ Phase.serving → w.spanning ≡ 0
   -- what tells something beyond the head is of the last boot that served
   pub content_head : (x : ℕ) → w.booked x ≡ 1 → suc w.head ≤ w.seq_of x → 0 < w.content_of x → w.incarnation_of x ≡ w.served
 

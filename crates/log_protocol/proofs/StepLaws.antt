@@ -1,6 +1,7 @@
 -- Single steps: what is booked is new, what an opening files, and how a member of the head comes to be hurt.
 use Rattle.std.proofs.Common.{◌≡◌, ℕ, zero, suc, ◌<◌, ◌≤◌, ◌⊎◌, inl, inr, refl, arith}
 use Rattle.std.proofs.lemmas.Bool.Decides.{nat_tests}
+use Rattle.log_protocol.specs.Phase
 use Rattle.log_protocol.specs.State.{State}
 use Rattle.log_protocol.specs.ServerSteps.{loses}
 use Rattle.log_protocol.specs.OpeningSteps.{begins, CanServe, serves}
@@ -55,7 +56,7 @@ lost_hurt w v i span hurt = by (w.hurt i) refl
     by (suc h) e = inl (record { span = span; span_low = refl; head = refl; line = refl; hurt = omega arith })
 
 -- a Begin that goes on with a span leaves who was hurt; one that starts a span counts who lacks the head now
-begun_hurt : (w : State) (i : ℕ) → w.phase ≡ 0 → Invariant w → w.clean ≡ 1 → 0 < w.head → (begins w).span_low ≤ w.head → 0 < (begins w).hurt i
+begun_hurt : (w : State) (i : ℕ) → w.phase ≡ Phase.down → Invariant w → w.clean ≡ 1 → 0 < w.head → (begins w).span_low ≤ w.head → 0 < (begins w).hurt i
     → HurtBefore w (begins w) i ⊎ LacksHead (begins w) i
 begun_hurt w i down inv clean some low hurt = by (w.spanning) refl
   where
@@ -82,7 +83,7 @@ fell_in_span w inv clean on =
     record { not_serving = (let r = inv.shelf.boots.phase_rank in let s = (inv.spans clean).no_span_serving in grind (arith)); begun = inr on }
 
 -- so does one whose opening goes on
-opening_in_span : (w : State) → 0 < w.phase → w.phase < 4 → InSpan w
+opening_in_span : (w : State) → Phase.down < w.phase → w.phase < Phase.serving → InSpan w
 opening_in_span w some less = record { not_serving = less; begun = inl some }
 
 no_crash : (n : ℕ) → (0 < 0) ⊎ (0 < n) → 0 < n

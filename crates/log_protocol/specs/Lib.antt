@@ -1,5 +1,6 @@
 pub mod Tables
 pub mod Packets
+pub mod Phase
 pub mod State
 pub mod ServerSteps
 pub mod OwnerSteps

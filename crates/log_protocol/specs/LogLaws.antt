@@ -1,5 +1,6 @@
 -- What is proved of one log at every moment of every run.
 use Rattle.std.specs.Prelude.{◌≡◌, ℕ, suc, ◌<◌, ◌≤◌, ◌⊎◌}
+use Rattle.log_protocol.specs.Phase
 use Rattle.log_protocol.specs.Tables.{In}
 use Rattle.log_protocol.specs.Packets.{StorePacket, FragmentPacket}
 use Rattle.log_protocol.specs.State.{State, Names, new_log}
@@ -38,7 +39,7 @@ pub record InFlightThen (w : State) (x q : ℕ) : Type 0 where
 -- What a reopening adopts: of what it reads back beyond the head, only what the last boot that served had in flight tells anything.
 abbrev pub AdoptsOne : State → Type 0
 AdoptsOne w =
-    (path : ℕ → ℕ) (lowest q : ℕ) → w.phase ≡ 3 → ReadBack w path lowest → w.head < q → q < w.opening_seq → 0 < w.content_of (path q)
+    (path : ℕ → ℕ) (lowest q : ℕ) → w.phase ≡ Phase.writing → ReadBack w path lowest → w.head < q → q < w.opening_seq → 0 < w.content_of (path q)
     → InFlightThen w (path q) q
 
 -- What the feed tells: a serving owner's feed begins no later than the least horizon, and from there to the head it has the filed segments.

@@ -1,5 +1,6 @@
 -- Runs that exist: that the laws speak of something. Each record says that some run reaches a state in which all this was done, and which steps it takes.
 use Rattle.std.specs.Prelude.{◌≡◌, ℕ, List, [], ◌∷◌, ◌++◌}
+use Rattle.log_protocol.specs.Phase
 use Rattle.log_protocol.specs.Tables.{In}
 use Rattle.log_protocol.specs.State.{State}
 use Rattle.log_protocol.specs.StepKinds.{Kind, kinds}
@@ -20,7 +21,7 @@ pub record TailAdopted : Type 0 where
   pub reached : Reached state
   pub steps : kinds reached.run ≡ adopted_steps
   pub clean : state.clean ≡ 1
-  pub serving : state.phase ≡ 4
+  pub serving : state.phase ≡ Phase.serving
   -- the second boot, with three segments filed
   pub boot : state.incarnation ≡ 2
   pub head : state.head ≡ 3
@@ -48,7 +49,7 @@ pub record TailDiscarded : Type 0 where
   pub served : State
   pub reached : Reached served
   pub clean : served.clean ≡ 1
-  pub serving : served.phase ≡ 4
+  pub serving : served.phase ≡ Phase.serving
   pub head : served.head ≡ 2
   -- the tail was booked and a server held it; it isn't filed, and another segment of its seq is
   pub tail : ℕ
@@ -60,7 +61,7 @@ pub record TailDiscarded : Type 0 where
   pub restarted : State
   pub later : Reached restarted
   pub steps : kinds later.run ≡ discarded_steps
-  pub again : (restarted.phase ≡ 4) × (restarted.end ≡ 0)
+  pub again : (restarted.phase ≡ Phase.serving) × (restarted.end ≡ 0)
 
 -- an owner falls before it wrote anything, and its second boot serves
 abbrev pub empty_steps : List Kind
@@ -72,7 +73,7 @@ pub record EmptyOpened : Type 0 where
   pub reached : Reached state
   pub steps : kinds reached.run ≡ empty_steps
   pub clean : state.clean ≡ 1
-  pub serving : state.phase ≡ 4
+  pub serving : state.phase ≡ Phase.serving
   pub boot : state.incarnation ≡ 2
   pub head : state.head ≡ 1
 

@@ -1,5 +1,6 @@
 -- When a segment that two rounds of a reader missed was torn. A round is told by the moments between which its answers were sent.
 use Rattle.std.specs.Prelude.{◌≡◌, ℕ, ◌<◌, ◌≤◌, ◌==◌, if◌then◌else◌, ◌⊎◌}
+use Rattle.log_protocol.specs.Phase
 use Rattle.log_protocol.specs.State.{State}
 use Rattle.log_protocol.specs.Step.{Steps}
 use Rattle.log_protocol.specs.Counting.{count}
@@ -32,7 +33,7 @@ Whole w x = (i : ℕ) → i < w.member_count x → (w.holds (w.member_server x i
 
 -- what an opening reads back: its base, or the prior of a booked segment
 abbrev pub ReadBy : State → ℕ → Type 0
-ReadBy w x = (0 < x) × (((2 ≤ w.phase) × (w.phase ≤ 3) × (x ≡ w.base)) ⊎ ((y : ℕ) × (w.booked y ≡ 1) × (w.prior_of y ≡ x)))
+ReadBy w x = (0 < x) × (((Phase.reading ≤ w.phase) × (w.phase ≤ Phase.writing) × (x ≡ w.base)) ⊎ ((y : ℕ) × (w.booked y ≡ 1) × (w.prior_of y ≡ x)))
 
 -- A segment that two rounds missed was torn, and not dropped, when the first of them ended.
 pub record TornBetween (m : State) (x spare : ℕ) : Type 0 where

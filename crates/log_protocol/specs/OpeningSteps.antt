@@ -1,6 +1,7 @@
 -- How an owner that restarts opens its log again: lists from every server, the pick, reading back, the opening segment, serving.
 -- For each step its guard and, below it, its effect; a guard's lines name the transition that makes them true.
 use Rattle.std.specs.Prelude.{◌≡◌, ℕ, suc, ◌-◌, ◌<◌, ◌≤◌, ◌==◌, nat_lt, if◌then◌else◌, ◌⊎◌}
+use Rattle.log_protocol.specs.Phase
 use Rattle.log_protocol.specs.Tables.{In}
 use Rattle.log_protocol.specs.Packets.{FencedPacket}
 use Rattle.log_protocol.specs.State.{State}
@@ -9,12 +10,12 @@ use Rattle.log_protocol.specs.OwnerSteps.{Group, Settled, books, lacking}
 -- Begin: a restart in the next boot, gathering lists. A span begins here unless one stands.
 pub record CanBegin (w : State) : Type 0 where
   -- a restart is taken by a node that is down
-  pub down : w.phase ≡ 0
+  pub down : w.phase ≡ Phase.down
 
 abbrev pub begins : State → State
 begins w =
     record w {
-      phase = 1;
+      phase = Phase.gathering;
       incarnation = suc w.incarnation;
       begin_low = w.low;
       span_low = if w.spanning == 0 then w.low else w.span_low;
@@ -45,18 +46,18 @@ pub record Picked (w : State) (list_of : ℕ → FencedPacket) (low x : ℕ) : T
 -- Pick none: no listed name is at or above the horizon; the opening segment has that seq and no prior.
 pub record CanPickNone (w : State) (list_of : ℕ → FencedPacket) (low : ℕ) : Type 0 where
   -- picking comes when the opening has gathered
-  pub gathering : w.phase ≡ 1
+  pub gathering : w.phase ≡ Phase.gathering
   pub gathered : Gathered w list_of low
   -- the pick over the kept lists found nothing
   pub nothing : (v y : ℕ) → v < w.servers → (list_of v).listed y ≡ 1 → w.seq_of y < low
 
 abbrev pub picks_none : State → ℕ → State
-picks_none w low = record w { phase = 2; base = 0; opening_seq = low; read_low = low; pick_low = low }
+picks_none w low = record w { phase = Phase.reading; base = 0; opening_seq = low; read_low = low; pick_low = low }
 
 -- Pick and keep: no original member of the picked name lacks it; the log is opened after it.
 pub record CanPickKept (w : State) (list_of : ℕ → FencedPacket) (low x : ℕ) : Type 0 where
   -- picking comes when the opening has gathered
-  pub gathering : w.phase ≡ 1
+  pub gathering : w.phase ≡ Phase.gathering
   pub gathered : Gathered w list_of low
   -- the pick over the kept lists
   pub picked : Picked w list_of low x
@@ -66,12 +67,12 @@ pub record CanPickKept (w : State) (list_of : ℕ → FencedPacket) (low x : ℕ
 
 abbrev pub picks_kept : State → ℕ → ℕ → State
 picks_kept w low x =
-    record w { phase = 2; base = x; opening_seq = suc (w.seq_of x); read_low = low; pick_low = low; secured = λ y i. if y == x then 1 else w.secured y i }
+    record w { phase = Phase.reading; base = x; opening_seq = suc (w.seq_of x); read_low = low; pick_low = low; secured = λ y i. if y == x then 1 else w.secured y i }
 
 -- Pick and discard: an original member of the picked name lacks it; the log is opened in its place, after its prior.
 pub record CanPickPrior (w : State) (list_of : ℕ → FencedPacket) (low x i : ℕ) : Type 0 where
   -- picking comes when the opening has gathered
-  pub gathering : w.phase ≡ 1
+  pub gathering : w.phase ≡ Phase.gathering
   pub gathered : Gathered w list_of low
   -- the pick over the kept lists
   pub picked : Picked w list_of low x
@@ -81,7 +82,7 @@ pub record CanPickPrior (w : State) (list_of : ℕ → FencedPacket) (low x i : 
   pub original : (list_of (w.member_server x i)).generation ≡ w.member_generation x i
 
 abbrev pub picks_prior : State → ℕ → ℕ → State
-picks_prior w low x = record w { phase = 2; base = w.prior_of x; opening_seq = w.seq_of x; read_low = low; pick_low = low }
+picks_prior w low x = record w { phase = Phase.reading; base = w.prior_of x; opening_seq = w.seq_of x; read_low = low; pick_low = low }
 
 -- Cut: a later Welcome of the same opening brings a greater horizon, and reading back ends there.
 pub record CanCut (w : State) (low : ℕ) : Type 0 where
@@ -95,7 +96,7 @@ cuts w low = record w { read_low = low }
 -- Open: the opening segment is written, with nothing in it, after the base.
 pub record CanOpen (w : State) (x count : ℕ) (server : ℕ → ℕ) : Type 0 where
   -- it is written when all was read back
-  pub reading : w.phase ≡ 2
+  pub reading : w.phase ≡ Phase.reading
   -- its name: the opening's seq, this boot, the first attempt
   pub named : 0 < x
   pub next : w.seq_of x ≡ w.opening_seq
@@ -104,7 +105,7 @@ pub record CanOpen (w : State) (x count : ℕ) (server : ℕ → ℕ) : Type 0 w
   pub group : Group w count server
 
 abbrev pub opens : State → ℕ → ℕ → ℕ → (ℕ → ℕ) → State
-opens w x text count server = record (books w x text count server w.base 0) { phase = 3; spanning = 1 }
+opens w x text count server = record (books w x text count server w.base 0) { phase = Phase.writing; spanning = 1 }
 
 -- What an opening read back, by seq: the base, and below each name its prior, down to the seq `lowest`.
 pub record ReadBack (w : State) (path : ℕ → ℕ) (lowest : ℕ) : Type 0 where
@@ -122,7 +123,7 @@ Undoubted w = 0 < w.head → w.span_low ≤ w.head → (i : ℕ) × (i < w.membe
 -- Serve: the opening segment has settled; it and all that was read back are filed, and the owner serves. `sure` is 1 where the premise on losses holds.
 pub record CanServe (w : State) (path : ℕ → ℕ) (lowest sure : ℕ) : Type 0 where
   -- settling looked at an opening segment
-  pub writing : w.phase ≡ 3
+  pub writing : w.phase ≡ Phase.writing
   pub settled : Settled w
   -- this restart isn't doubtful
   pub undoubted : sure ≡ 1 → w.pick_low ≤ w.head → Undoubted w
@@ -139,7 +140,7 @@ serves w path lowest sure =
       line = λ q. if q == w.opening_seq then w.flight else if nat_lt w.head q then path q else w.line q;
       head = w.opening_seq;
       served = w.incarnation;
-      phase = 4;
+      phase = Phase.serving;
       end = w.flight;
       flight = 0;
       spanning = 0;

@@ -1,6 +1,7 @@
 -- What the owner of a log does while it serves, and its falls and restarts: for each step its guard and, below it, its effect.
 -- A guard's lines name the transition that makes them true.
 use Rattle.std.specs.Prelude.{◌≡◌, ℕ, suc, ◌-◌, ◌<◌, ◌==◌, nat_lt, if◌then◌else◌, ◌⊎◌}
+use Rattle.log_protocol.specs.Phase
 use Rattle.log_protocol.specs.Tables.{In, put}
 use Rattle.log_protocol.specs.Packets.{StoredPacket}
 use Rattle.log_protocol.specs.State.{State}
@@ -31,7 +32,7 @@ books w x text count server prior content =
 -- Seal: a serving owner with nothing in flight writes the segment after its end. (The 1996 paper, "LFS": writes are batched into segments of a log.)
 pub record CanSeal (w : State) (x count : ℕ) (server : ℕ → ℕ) : Type 0 where
   -- the seal's own tests
-  pub serving : w.phase ≡ 4
+  pub serving : w.phase ≡ Phase.serving
   pub no_flight : w.flight ≡ 0
   -- the name that the seal makes: end.seq + 1, this boot, the first attempt
   pub named : 0 < x
@@ -80,7 +81,7 @@ lacking w x i = if nat_lt (w.member_generation x i) (w.generation (w.member_serv
 -- Settle: the flight of a serving owner is filed and is its end; the feed takes it.
 pub record CanSettle (w : State) : Type 0 where
   -- settling looks at a flight while the owner serves
-  pub serving : w.phase ≡ 4
+  pub serving : w.phase ≡ Phase.serving
   pub flying : 0 < w.flight
   -- and at its members, after each Stored and each map
   pub settled : Settled w
@@ -100,16 +101,16 @@ settles w =
 
 -- Crash: the owner forgets all but its incarnation.
 abbrev pub crashes : State → State
-crashes w = record w { phase = 0; flight = 0 }
+crashes w = record w { phase = Phase.down; flight = 0 }
 
 -- Restart of a manager's log: no opening; the new boot begins a chain of its own from seq 1. The line of such a log isn't claimed.
 pub record CanRestart (w : State) : Type 0 where
   -- a restart is taken by a node that is down
-  pub down : w.phase ≡ 0
+  pub down : w.phase ≡ Phase.down
 
 abbrev pub restarts : State → State
 restarts w = record w {
-  phase = 4;
+  phase = Phase.serving;
   incarnation = suc w.incarnation;
   begin_low = w.low;
   served = suc w.incarnation;

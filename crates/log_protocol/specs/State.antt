@@ -2,6 +2,7 @@
 -- A name is a number above 0, the code of a segment's seq, its writer's incarnation and the attempt; 0 is no name. Flags are 0 or 1.
 -- A ghost is kept for the proof alone: no transition looks at it, and a guard that names one states a fact from elsewhere.
 use Rattle.std.specs.Prelude.{◌≡◌, ℕ, List, []}
+use Rattle.log_protocol.specs.Phase
 use Rattle.log_protocol.specs.Packets.{StorePacket, StoredPacket, FragmentPacket, FencedPacket}
 
 pub record State : Type 0 where
@@ -43,7 +44,7 @@ pub record State : Type 0 where
   pub storeds : List StoredPacket
   pub fragments : List FragmentPacket
   pub fenceds : List FencedPacket
-  -- the owner: its boot, and its phase by rank (0 down, 1 gathers lists, 2 reads back, 3 writes its opening segment, 4 serves)
+  -- the owner: its boot, and its phase, one of those in `Phase`
   pub incarnation : ℕ
   pub phase : ℕ
   -- the newest segment that this boot filed or adopted, the one in flight, and the members of that one that are noted as stored
@@ -112,7 +113,7 @@ new_log servers seq_of incarnation_of attempt_of = record {
   fragments = [];
   fenceds = [];
   incarnation = 1;
-  phase = 4;
+  phase = Phase.serving;
   end = 0;
   flight = 0;
   noted = λ i. 0;

@@ -1,5 +1,6 @@
 -- What is proved of each state of a run beside the great laws: facts that are small, and that a proof about real nodes reads off this machine.
 use Rattle.std.specs.Prelude.{◌≡◌, ℕ, suc, ◌<◌, ◌≤◌}
+use Rattle.log_protocol.specs.Phase
 use Rattle.log_protocol.specs.Tables.{In}
 use Rattle.log_protocol.specs.Packets.{StorePacket, FragmentPacket, FencedPacket}
 use Rattle.log_protocol.specs.State.{State}
@@ -55,28 +56,28 @@ pub record ShelvesInOrder (w : State) : Type 0 where
 
 -- The owner is in order: how its boot, its end, its flight and its opening stand to one another.
 pub record OwnerInOrder (w : State) : Type 0 where
-  pub phase_rank : w.phase ≤ 4
+  pub phase_rank : w.phase ≤ Phase.serving
   -- who serves is the last boot that served; who opens its log is a later one
-  pub serving : w.phase ≡ 4 → w.incarnation ≡ w.served
-  pub opening : 0 < w.phase → w.phase < 4 → w.served < w.incarnation
+  pub serving : w.phase ≡ Phase.serving → w.incarnation ≡ w.served
+  pub opening : Phase.down < w.phase → w.phase < Phase.serving → w.served < w.incarnation
   -- a flight is a booked name of this boot; a serving owner's comes after its end
-  pub flight_phase : 0 < w.flight → 3 ≤ w.phase
+  pub flight_phase : 0 < w.flight → Phase.writing ≤ w.phase
   pub flight_booked : 0 < w.flight → w.booked w.flight ≡ 1
   pub flight_boot : 0 < w.flight → w.incarnation_of w.flight ≡ w.incarnation
-  pub flight_seq : 0 < w.flight → w.phase ≡ 4 → w.seq_of w.flight ≡ suc (w.seq_of w.end)
-  pub flight_prior : 0 < w.flight → w.phase ≡ 4 → w.prior_of w.flight ≡ w.end
-  pub end_booked : w.phase ≡ 4 → 0 < w.end → w.booked w.end ≡ 1
+  pub flight_seq : 0 < w.flight → w.phase ≡ Phase.serving → w.seq_of w.flight ≡ suc (w.seq_of w.end)
+  pub flight_prior : 0 < w.flight → w.phase ≡ Phase.serving → w.prior_of w.flight ≡ w.end
+  pub end_booked : w.phase ≡ Phase.serving → 0 < w.end → w.booked w.end ≡ 1
   -- an opening segment is in flight while it is written; it comes after its base and tells nothing
-  pub opening_flight : w.phase ≡ 3 → 0 < w.flight
-  pub opening_seq : w.phase ≡ 3 → w.seq_of w.flight ≡ w.opening_seq
-  pub opening_prior : w.phase ≡ 3 → w.prior_of w.flight ≡ w.base
-  pub opening_empty : w.phase ≡ 3 → w.content_of w.flight ≡ 0
+  pub opening_flight : w.phase ≡ Phase.writing → 0 < w.flight
+  pub opening_seq : w.phase ≡ Phase.writing → w.seq_of w.flight ≡ w.opening_seq
+  pub opening_prior : w.phase ≡ Phase.writing → w.prior_of w.flight ≡ w.base
+  pub opening_empty : w.phase ≡ Phase.writing → w.content_of w.flight ≡ 0
   -- a base is booked, of an earlier boot and of the seq before; an opening without one reads nothing back
-  pub opening_some : 2 ≤ w.phase → w.phase ≤ 3 → 0 < w.opening_seq
-  pub base_booked : 2 ≤ w.phase → w.phase ≤ 3 → 0 < w.base → w.booked w.base ≡ 1
-  pub base_seq : 2 ≤ w.phase → w.phase ≤ 3 → 0 < w.base → suc (w.seq_of w.base) ≡ w.opening_seq
-  pub base_boot : 2 ≤ w.phase → w.phase ≤ 3 → 0 < w.base → w.incarnation_of w.base < w.incarnation
-  pub no_base : 2 ≤ w.phase → w.phase ≤ 3 → w.base ≡ 0 → w.opening_seq ≤ w.pick_low
+  pub opening_some : Phase.reading ≤ w.phase → w.phase ≤ Phase.writing → 0 < w.opening_seq
+  pub base_booked : Phase.reading ≤ w.phase → w.phase ≤ Phase.writing → 0 < w.base → w.booked w.base ≡ 1
+  pub base_seq : Phase.reading ≤ w.phase → w.phase ≤ Phase.writing → 0 < w.base → suc (w.seq_of w.base) ≡ w.opening_seq
+  pub base_boot : Phase.reading ≤ w.phase → w.phase ≤ Phase.writing → 0 < w.base → w.incarnation_of w.base < w.incarnation
+  pub no_base : Phase.reading ≤ w.phase → w.phase ≤ Phase.writing → w.base ≡ 0 → w.opening_seq ≤ w.pick_low
 
 -- Horizons are in order: those that are remembered are past, and stand as their moments do.
 pub record HorizonsInOrder (w : State) : Type 0 where
@@ -84,9 +85,9 @@ pub record HorizonsInOrder (w : State) : Type 0 where
   pub begin_some : 1 ≤ w.begin_low
   pub begin_past : w.begin_low ≤ w.low
   pub span_before : w.span_low ≤ w.begin_low
-  pub pick_after : 2 ≤ w.phase → w.phase ≤ 3 → w.begin_low ≤ w.pick_low
-  pub pick_before : 2 ≤ w.phase → w.phase ≤ 3 → w.pick_low ≤ w.read_low
-  pub read_past : 2 ≤ w.phase → w.phase ≤ 3 → w.read_low ≤ w.low
+  pub pick_after : Phase.reading ≤ w.phase → w.phase ≤ Phase.writing → w.begin_low ≤ w.pick_low
+  pub pick_before : Phase.reading ≤ w.phase → w.phase ≤ Phase.writing → w.pick_low ≤ w.read_low
+  pub read_past : Phase.reading ≤ w.phase → w.phase ≤ Phase.writing → w.read_low ≤ w.low
 
 -- The end is the head: in every phase the end of a clean log is the head of its line, and the filed segments are just those of the line.
 pub record EndIsHead (w : State) : Type 0 where

@@ -1,5 +1,6 @@
 -- What is proved of single steps of a run.
 use Rattle.std.specs.Prelude.{◌≡◌, ℕ, ◌<◌, ◌≤◌, ◌⊎◌}
+use Rattle.log_protocol.specs.Phase
 use Rattle.log_protocol.specs.State.{State}
 use Rattle.log_protocol.specs.OwnerSteps.{CanSeal, CanRestripe}
 use Rattle.log_protocol.specs.OpeningSteps.{CanOpen, serves}
@@ -21,8 +22,8 @@ pub record FilesWhatWasRead (w : State) (path : ℕ → ℕ) (lowest sure : ℕ)
 
 -- A span: the owner is down or opens its log, and has begun since it last served.
 pub record InSpan (w : State) : Type 0 where
-  pub not_serving : w.phase < 4
-  pub begun : (0 < w.phase) ⊎ (0 < w.spanning)
+  pub not_serving : w.phase < Phase.serving
+  pub begun : (Phase.down < w.phase) ⊎ (0 < w.spanning)
 
 -- the member was hurt in this span before
 pub record HurtBefore (w u : State) (i : ℕ) : Type 0 where

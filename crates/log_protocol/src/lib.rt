@@ -10,6 +10,7 @@
 ghost use Rattle.std.specs.Prelude.{◌≡◌, ℕ, ◌<◌, ◌≤◌, suc, List, [], ◌∷◌};
 ghost use Rattle.log_protocol.specs.Tables.{put};
 ghost use Rattle.log_protocol.specs.Packets.{FencedPacket};
+ghost use Rattle.log_protocol.specs.Phase as Phase;
 ghost use Rattle.log_protocol.specs.State.{State, Names};
 ghost use Rattle.log_protocol.specs.OpeningSteps.{Picked, Undoubted, CanServe};
 ghost use Rattle.log_protocol.specs.Step.{Step, Steps};
@@ -59,7 +60,7 @@ pub fn what_reopening_adopts()
 /// What a feed has: while no doubtful opening has served, the feed of a serving owner begins no later than the least
 /// horizon, and has from there to the head the filed segment of each seq.
 pub fn feed_is_whole()
-    ensures whole { (w : State) → Reached w → w.clean ≡ 1 → w.phase ≡ 4 → FeedWhole w }
+    ensures whole { (w : State) → Reached w → w.clean ≡ 1 → w.phase ≡ Phase.serving → FeedWhole w }
 {}
 
 /// Undoubted runs are clean: where each opening that served met the premise on losses, of the newest filed segment some

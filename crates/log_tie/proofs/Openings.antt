@@ -23,6 +23,7 @@ use Rattle.client_log.specs.declared.output.Out.TheVariants.{Settled}
 use Rattle.client_log.specs.LogState.{LogState, started}
 use Rattle.client_log.specs.Transition as log
 use Rattle.client_log.specs.Transition.{end_from}
+use Rattle.log_protocol.specs.Phase
 use Rattle.log_protocol.specs.LogLaws.{Reached}
 use Rattle.log_protocol.specs.OpeningSteps.{CanOpen, ReadBack, Undoubted, serves}
 use Rattle.log_protocol.specs.OwnerSteps.{notes}
@@ -191,7 +192,7 @@ module _ (g : Setting) (w : State) (book : ℕ → Segment) (fixed : Fixed g w) 
       some = let b = (always w reached).shelf.boots.not_yet_served (let p = shown.phase in omega arith) (let p = shown.phase in omega arith) in omega arith
 
       v : State
-      v = record (booked_state g w book x f.segment group m w.base 0) { phase = 3; spanning = 1 }
+      v = record (booked_state g w book x f.segment group m w.base 0) { phase = Phase.writing; spanning = 1 }
 
       later : ℕ → Segment
       later = with_page book x f.segment

@@ -9,6 +9,7 @@ use Rattle.group_map.specs.declared.group.Group.{Group}
 use Rattle.group_map.specs.GroupMapState.{GroupMapState}
 use Rattle.group_map.specs.Groups.{group_of}
 use Rattle.stripe_code.specs.Fragments.{meta_of}
+use Rattle.log_protocol.specs.Phase
 use Rattle.log_protocol.specs.Tables.{In}
 use Rattle.log_protocol.specs.Packets.{FencedPacket}
 use Rattle.log_protocol.specs.State.{State}
@@ -162,7 +163,7 @@ module _ (g : Setting) (w : State) (book : ℕ → Segment) (fixed : Fixed g w) 
       let l = its_list ls v (has_metas v y.0 y.1) in
       record { meta = y.0; list = listing_of ls v; among = l.0; held = y.1; named = y.2; up = omega arith }
 
-  pub picks_nothing : w.phase ≡ 1 → counting low ls ≡ [] → CanPickNone w list_of low
+  pub picks_nothing : w.phase ≡ Phase.gathering → counting low ls ≡ [] → CanPickNone w list_of low
   picks_nothing phase none = record { gathering = phase; gathered = gathered; nothing = λ v y b h. below v y h }
     where
       no : (v y : ℕ) → (list_of v).listed y ≡ 1 → low ≤ w.seq_of y → ⊥
@@ -252,7 +253,7 @@ module _ (g : Setting) (w : State) (book : ℕ → Segment) (fixed : Fixed g w) 
         (subst (λ n. w.member_server k.number j < n) fixed.servers
         ((always w reached).shelf.texts.server_known k.number j k.booked (subst (λ n. j < n) (sym its_count) member)))
 
-    pub keeps_it : w.phase ≡ 1 → is_torn ls b.name group.members ≡ false → CanPickKept w list_of low k.number
+    pub keeps_it : w.phase ≡ Phase.gathering → is_torn ls b.name group.members ≡ false → CanPickKept w list_of low k.number
     keeps_it phase none = record { gathering = phase; gathered = gathered; picked = k.picked; whole = λ j member. by j (subst (λ n. j < n) its_count member) }
       where
         by : (j : ℕ) → j < length group.members
@@ -282,7 +283,7 @@ module _ (g : Setting) (w : State) (book : ℕ → Segment) (fixed : Fixed g w) 
                 (sym ((told (server_of group.members j)).generation positive (its_exists j member))
                 ∙ (ap (λ u. (list_of u).generation) (sym (its_server j)) ∙ (same ∙ its_generation j member))))
 
-    pub discards_it : w.phase ≡ 1 → (l : Lacks ls b.name group.members) → CanPickPrior w list_of low k.number l.place
+    pub discards_it : w.phase ≡ Phase.gathering → (l : Lacks ls b.name group.members) → CanPickPrior w list_of low k.number l.place
     discards_it phase l = record {
       gathering = phase;
       gathered = gathered;

@@ -25,6 +25,7 @@ use Rattle.log_scan.specs.declared.stage.Stage.{Stage}
 use Rattle.log_scan.specs.declared.stage.Stage.TheVariants.{Hails, Gathers, Asks, Reads, Over}
 use Rattle.log_scan.specs.Pick.{counting, newest, is_torn, has_list, start_in, start_from, end_at, end_before, end_of_none}
 use Rattle.log_scan.specs.Transition.{Done, goes, stays, can_ask, asks_anew, least_horizon, rises, name_at, is_bottom, read_from, chain_of, fetches, follows, awaits_welcome, server_count, awaits, awaited, gathers, picks_at, picks, confirms_by, confirms, welcomed, on_welcome, with_list, listed, on_fenced, heard_with, heard, on_told, on_tick}
+use Rattle.log_protocol.specs.Phase
 use Rattle.log_protocol.specs.LogLaws.{Reached}
 use Rattle.log_protocol.specs.OpeningSteps.{begins, picks_none, picks_kept, picks_prior, cuts}
 use Rattle.log_protocol.specs.Packets.{FencedPacket}
@@ -91,7 +92,7 @@ module _ (g : Setting) (w : State) (book : ℕ → Segment) (hellos : List Asked
   no_pick : (v : State) → v.phase ≡ w.phase → v.pick_low ≡ w.pick_low → PicksAtHorizon w v
   no_pick v same low = record { begins = λ a b. absurd (clash a b same); stays = λ a. low }
     where
-      clash : w.phase ≡ 1 → v.phase ≡ 2 → v.phase ≡ w.phase → ⊥
+      clash : w.phase ≡ Phase.gathering → v.phase ≡ Phase.reading → v.phase ≡ w.phase → ⊥
       clash a b c = omega arith
 
   -- by none
@@ -300,7 +301,7 @@ module _ (g : Setting) (w : State) (book : ℕ → Segment) (hellos : List Asked
             (max o.low least) lists gathering.kept gathering.phantom k.every k.begun later risen_known b
 
         -- from a start
-        from_start : (v : State) (start : End) → Steps w v → ByOwner g w v book book → BooksNothing w v → Book g v book → v.end ≡ w.end → v.phase ≡ 2
+        from_start : (v : State) (start : End) → Steps w v → ByOwner g w v book book → BooksNothing w v → Book g v book → v.end ≡ w.end → v.phase ≡ Phase.reading
             → Mapped g v (Some m) → v.base ≡ point g start.seq start.pass → v.opening_seq ≡ start.seq + 1 → v.read_low ≡ max o.low least
             → v.pick_low ≡ v.read_low
             → v.incarnation ≡ w.incarnation → v.low ≡ w.low → IsGrouped g book v.booked start → To (follows risen (read_from start))

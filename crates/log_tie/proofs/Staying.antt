@@ -7,6 +7,7 @@ use Rattle.log_scan.specs.declared.opening.Opening.{Opening}
 use Rattle.log_scan.specs.declared.stage.Backward.{Backward}
 use Rattle.log_scan.specs.declared.stage.Stage.{Stage}
 use Rattle.log_scan.specs.declared.stage.Stage.TheVariants.{Hails, Gathers, Asks, Reads, Over}
+use Rattle.log_protocol.specs.Phase
 use Rattle.log_protocol.specs.State.{State}
 use Rattle.log_protocol.specs.Tables.{In}
 use Rattle.log_tie.specs.Setting.{Setting, point, present_at}
@@ -67,7 +68,7 @@ module _ (g : Setting) (w u : State) (book : ℕ → Segment) (hellos : List Ask
 
   gathering_stays : (o : Opening) (bound more : ℕ) (ls : List Listing) → bound ≤ more → Gathering g w book o bound ls → Gathering g u book o more ls
   gathering_stays o bound more ls up k =
-      record { phase = phase_same 1 k.phase; phantom = phantom_stays k.phantom; mapped = mapped_stays o k.mapped; kept = kept_stays bound more ls up k.kept }
+      record { phase = phase_same Phase.gathering k.phase; phantom = phantom_stays k.phantom; mapped = mapped_stays o k.mapped; kept = kept_stays bound more ls up k.kept }
 
   chained_stays : (highest x : ℕ) (ts : List Segment) → Chained g w book highest x ts → Chained g u book highest x ts
   chained_stays highest x [] h = same (λ o. x ≡ o.base) h
@@ -75,7 +76,7 @@ module _ (g : Setting) (w u : State) (book : ℕ → Segment) (hellos : List Ask
 
   reading_stays : (o : Opening) (b : Backward) → ReadingShown g w book o b → ReadingShown g u book o b
   reading_stays o b h = record {
-    phase = phase_same 2 h.phase;
+    phase = phase_same Phase.reading h.phase;
     mapped = mapped_stays o h.mapped;
     base = same (λ z. z.base ≡ point g b.start.seq b.start.pass) h.base;
     begun = same (λ z. IsGrouped g book z.booked b.start) h.begun;
@@ -99,11 +100,11 @@ module _ (g : Setting) (w u : State) (book : ℕ → Segment) (hellos : List Ask
   }
 
   stage_stays : (o : Opening) (stage : Stage) → StageShown g w book hellos o stage → StageShown g u book hellos o stage
-  stage_stays o Hails h = (phase_same 1 h.0, phantom_stays h.1)
+  stage_stays o Hails h = (phase_same Phase.gathering h.0, phantom_stays h.1)
   stage_stays o (Gathers lists) h = gathering_stays o w.low u.low lists by.low h
   stage_stays o (Asks lists) h = asking_stays o lists h
   stage_stays o (Reads b r) h = (reading_stays o b h.0, h.1, same (λ z. LooksFor g book z.booked b.next r) h.2)
-  stage_stays o Over h = phase_same 2 h
+  stage_stays o Over h = phase_same Phase.reading h
 
 pub scan_stays : ScanStays
 scan_stays g w u book hellos s by h = record {

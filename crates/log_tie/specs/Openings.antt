@@ -8,6 +8,7 @@ use Rattle.client_log.specs.declared.input.In as inputs
 use Rattle.client_log.specs.declared.input.In.TheVariants.{Put, Parts, Seal, Acked, Maps, Tick}
 use Rattle.client_log.specs.LogState.{LogState, started}
 use Rattle.client_log.specs.Transition.{has_next, transition}
+use Rattle.log_protocol.specs.Phase
 use Rattle.log_protocol.specs.LogLaws.{Reached}
 use Rattle.log_protocol.specs.OpeningSteps.{Undoubted}
 use Rattle.log_protocol.specs.State.{State}
@@ -41,7 +42,7 @@ pub record ChainShown (g : Setting) (w : State) (book : ℕ → Segment) (highes
 
 -- all is read back, and the owner has this map
 pub record ReadShown (g : Setting) (w : State) (book : ℕ → Segment) (start : End) (chain : List Segment) (groups : GroupMapState) : Type 0 where
-  pub phase : w.phase ≡ 2
+  pub phase : w.phase ≡ Phase.reading
   pub map : IsMap g groups
   pub known : (v : ℕ) → w.owner_generation v ≡ present_at groups v
   pub base : w.base ≡ point g start.seq start.pass
@@ -51,7 +52,7 @@ pub record ReadShown (g : Setting) (w : State) (book : ℕ → Segment) (start :
 -- the opening segment is in flight, and nothing else waits
 pub record WritingShown (g : Setting) (w : State) (book : ℕ → Segment) (chain : List Segment) (s : LogState) : Type 0 where
   pub writes : Writes g w s
-  pub phase : w.phase ≡ 3
+  pub phase : w.phase ≡ Phase.writing
   pub clear : s.dirty ≡ []
   pub base : w.base ≡ point g s.end.seq s.end.pass
   pub read : ChainShown g w book s.end.seq chain

@@ -23,6 +23,7 @@ use Rattle.log_scan.specs.declared.stage.Stage.TheVariants.{Hails, Gathers, Asks
 use Rattle.log_scan.specs.Pick.{has_name, has_list}
 use Rattle.log_scan.specs.ScanState.{ScanState, started}
 use Rattle.log_scan.specs.Transition.{target_at, is_bottom, least_horizon, transition}
+use Rattle.log_protocol.specs.Phase
 use Rattle.log_protocol.specs.LogLaws.{Reached}
 use Rattle.log_protocol.specs.Packets.{FencedPacket}
 use Rattle.log_protocol.specs.State.{State}
@@ -110,7 +111,7 @@ pub record Mapped (g : Setting) (w : State) (groups : Option GroupMapState) : Ty
   pub known : (v : ℕ) → w.owner_generation v ≡ present_at map v
 
 pub record Gathering (g : Setting) (w : State) (book : ℕ → Segment) (o : Opening) (bound : ℕ) (lists : List Listing) : Type 0 where
-  pub phase : w.phase ≡ 1
+  pub phase : w.phase ≡ Phase.gathering
   pub phantom : Phantom w
   pub mapped : Mapped g w o.groups
   pub kept : AllListed g w book bound lists
@@ -131,7 +132,7 @@ LooksFor g book booked e (Some r) = (r.target ≡ target_at g.log e) × RoundSho
 
 -- The chain is read as far as it is kept, from the number that the pick allowed, and the next segment is the one before it.
 pub record ReadingShown (g : Setting) (w : State) (book : ℕ → Segment) (o : Opening) (b : Backward) : Type 0 where
-  pub phase : w.phase ≡ 2
+  pub phase : w.phase ≡ Phase.reading
   pub mapped : Mapped g w o.groups
   pub base : w.base ≡ point g b.start.seq b.start.pass
   pub begun : IsGrouped g book w.booked b.start
@@ -144,11 +145,11 @@ pub record ReadingShown (g : Setting) (w : State) (book : ℕ → Segment) (o : 
   pub grouped : IsGrouped g book w.booked b.next
 
 abbrev pub StageShown : Setting → State → (ℕ → Segment) → List Asked → Opening → Stage → Type 0
-StageShown g w book hellos o Hails = (w.phase ≡ 1) × Phantom w
+StageShown g w book hellos o Hails = (w.phase ≡ Phase.gathering) × Phantom w
 StageShown g w book hellos o (Gathers lists) = Gathering g w book o w.low lists
 StageShown g w book hellos o (Asks lists) = Asking g w book hellos o lists
 StageShown g w book hellos o (Reads b r) = ReadingShown g w book o b × (is_bottom o.low b.next ≡ false) × LooksFor g book w.booked b.next r
-StageShown g w book hellos o Over = w.phase ≡ 2
+StageShown g w book hellos o Over = w.phase ≡ Phase.reading
 
 -- An opening of the log in the owner's boot: no question of that boot has a number above its last one's.
 pub record ScanShown (g : Setting) (w : State) (book : ℕ → Segment) (hellos : List Asked) (s : ScanState) : Type 0 where
@@ -188,8 +189,8 @@ BooksNothing w v = (x : ℕ) → v.booked x ≡ 1 → w.booked x ≡ 1
 
 -- what is picked is picked by the horizon that the opening took last, once
 pub record PicksAtHorizon (w v : State) : Type 0 where
-  pub begins : w.phase ≡ 1 → v.phase ≡ 2 → v.pick_low ≡ v.read_low
-  pub stays : w.phase ≡ 2 → v.pick_low ≡ w.pick_low
+  pub begins : w.phase ≡ Phase.gathering → v.phase ≡ Phase.reading → v.pick_low ≡ v.read_low
+  pub stays : w.phase ≡ Phase.reading → v.pick_low ≡ w.pick_low
 
 -- Each input of an opening is taken by steps of the owner, where what is booked can be read back.
 abbrev pub ScanTakes : Type 0
@@ -210,7 +211,7 @@ pub record Restarted (g : Setting) (w : State) (book : ℕ → Segment) (hellos 
 -- An owner that is down begins to open its log by steps; no question of its next boot was asked, and server 0 holds nothing.
 abbrev pub ScanStarts : Type 0
 ScanStarts =
-    (g : Setting) (w : State) (book : ℕ → Segment) (hellos : List Asked) → Fixed g w → Reached w → Book g w book → w.phase ≡ 0 → ((x : ℕ) → w.holds 0 x ≡ 0)
+    (g : Setting) (w : State) (book : ℕ → Segment) (hellos : List Asked) → Fixed g w → Reached w → Book g w book → w.phase ≡ Phase.down → ((x : ℕ) → w.holds 0 x ≡ 0)
     → ((a : Asked) → In a hellos → a.inc ≤ w.incarnation)
     → Restarted g w book hellos
 

@@ -10,6 +10,7 @@ use Rattle.log_flight.specs.Flights.{FlightState, is_noted}
 use Rattle.client_log.specs.declared.output.Out.{Out}
 use Rattle.client_log.specs.declared.output.Out.TheVariants.{Send, Settled}
 use Rattle.client_log.specs.LogState.{LogState}
+use Rattle.log_protocol.specs.Phase
 use Rattle.log_protocol.specs.Packets.{StorePacket, StoredPacket, FragmentPacket, FencedPacket}
 use Rattle.log_protocol.specs.State.{State}
 use Rattle.log_protocol.specs.Step.{Steps}
@@ -60,7 +61,7 @@ pub record Writes (g : Setting) (w : State) (s : LogState) : Type 0 where
 -- The log of an owner that serves.
 pub record Serves (g : Setting) (w : State) (book : ℕ → Segment) (s : LogState) : Type 0 where
   pub writes : Writes g w s
-  pub phase : w.phase ≡ 4
+  pub phase : w.phase ≡ Phase.serving
   pub end : w.end ≡ point g s.end.seq s.end.pass
   pub end_seq : g.seq_of w.end ≡ s.end.seq
   pub flight : FlightShown g book s.flight s.inc s.end.seq (w.booked w.flight) w.flight w.noted
