@@ -13,7 +13,7 @@ use Rattle.run_answers.specs.act_law.Newest.{VersionsAreNewest}
 use Rattle.run_answers.specs.act_law.Runs.{AnswersAreActs}
 use Rattle.run_answers.specs.once_law.Runs.{ItemsAnsweredOnce}
 use Rattle.run_answers.specs.standing_law.Runs.{AnswersFit}
-use Rattle.run_beliefs.specs.belief_law.Beliefs.{BelievedThroughout}
+use Rattle.run_holdings.specs.belief_law.Beliefs.{BelievedThroughout}
 use Rattle.run_drops.specs.drop_law.Drops.{DeletesBelowHorizons, DropsWhatItDeletes}
 use Rattle.run_losses.specs.answer_law.Runs.{LostAnswersEarned}
 use Rattle.run_losses.specs.earned_law.Earned.{EachLostActIsEarned}
@@ -27,9 +27,9 @@ use Rattle.run_laws.specs.world_logs.Logs.{CleanersLogStands, LogsStand, Manager
 use Rattle.run_laws.specs.world_reads.Holders.{HoldersAreNewestThroughout}
 use Rattle.run_laws.specs.world_reads.Indexes.{IndexesAreItsOwn}
 use Rattle.run_laws.specs.world_reads.Legal.{LegalActs, LegalWithoutLosses}
-use Rattle.run_settled.specs.settled_law.Settled.{BlocksAreSettled}
-use Rattle.run_stripes.specs.boot_law.Boots.{TheCleanerFilesOne}
-use Rattle.run_stripes.specs.stripe_law.ReadBack.{FiledIsReadBack}
+use Rattle.run_holdings.specs.settled_law.Settled.{BlocksAreSettled}
+use Rattle.run_holdings.specs.boot_law.Boots.{TheCleanerFilesOne}
+use Rattle.run_holdings.specs.stripe_law.ReadBack.{FiledIsReadBack}
 use Rattle.std.specs.Prelude.{◌≡◌, ℕ, true, Option, Some}
 use Rattle.top_call.specs.Claim.{is_full}
 use Rattle.top_call.specs.declared.command.Command.{Command}

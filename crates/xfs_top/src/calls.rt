@@ -22,8 +22,11 @@ use run_answers::act_law::{
 };
 use run_answers::once_law::items_are_answered_once;
 use run_answers::standing_law::answers_fit_where_a_node_stands;
-use run_beliefs::belief_law::managers_believe_their_clients;
 use run_drops::drop_law::what_is_deleted_was_dropped;
+use run_holdings::belief_law::managers_believe_their_clients;
+use run_holdings::boot_law::the_cleaner_files_one_segment_of_its_boot;
+use run_holdings::settled_law::what_is_settled_is_the_join;
+use run_holdings::stripe_law::what_is_filed_is_read_back;
 use run_laws::restart_law::without_losses_no_restart_is_doubtful;
 use run_laws::world_law::{
     every_run_has_one_manager, every_run_has_one_owner, what_fell_is_held_by_nobody,
@@ -32,9 +35,6 @@ use run_laws::world_logs::runs_keep_logs;
 use run_laws::world_reads::every_runs_acts_are_legal;
 use run_losses::answer_law::lost_answers_are_said;
 use run_losses::earned_law::each_lost_act_is_earned;
-use run_settled::settled_law::what_is_settled_is_the_join;
-use run_stripes::boot_law::the_cleaner_files_one_segment_of_its_boot;
-use run_stripes::stripe_law::what_is_filed_is_read_back;
 use std::alloc::Global;
 use std::mem;
 use std::sync::Wait;

@@ -1,1 +1,0 @@
-pub mod belief_law

@@ -1,2 +1,0 @@
-pub mod stripe_law
-pub mod boot_law
