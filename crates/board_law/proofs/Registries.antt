@@ -8,7 +8,7 @@ use Rattle.board_protocol.proofs.Prefixes.{completed}
 use Rattle.board.specs.declared.command.Command.{Command}
 use Rattle.board.specs.declared.output.Out.{Out}
 use Rattle.board.specs.declared.output.Out.TheVariants.{Send, Apply}
-use Rattle.board_tie.specs.Follows.{applied_in}
+use Rattle.board_law.specs.board_tie.Follows.{applied_in}
 use Rattle.board_world.specs.declared.replica.Replica.{Replica}
 use Rattle.board_world.specs.BoardTurns.{given_all}
 use Rattle.board_world.specs.Replicas.{applied, applied_all}

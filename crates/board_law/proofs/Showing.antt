@@ -14,9 +14,9 @@ use Rattle.board_protocol.proofs.Prefixes.{completed, no_longer, same}
 use Rattle.board.specs.declared.command.Command.{Command}
 use Rattle.board.specs.Ballots.{owner_of}
 use Rattle.board.specs.State.{BoardState, chosen_part}
-use Rattle.board_tie.specs.Shown.{Shows, owner}
-use Rattle.board_tie.proofs.Beats.{owned}
-use Rattle.board_tie.proofs.Growing.{is_leader}
+use Rattle.board_law.specs.board_tie.Shown.{Shows, owner}
+use Rattle.board_law.proofs.board_tie.Beats.{owned}
+use Rattle.board_law.proofs.board_tie.Growing.{is_leader}
 
 -- the empty list always is
 pub none_chosen : (w : World Command) → Chosen w []

@@ -13,9 +13,9 @@ use Rattle.board_protocol.specs.World.{World, start}
 use Rattle.board.specs.declared.command.Command.{Command}
 use Rattle.board.specs.declared.packet.BoardPacket.{BoardPacket}
 use Rattle.board.specs.State.{chosen_part}
-use Rattle.board_tie.specs.Sent.{Sent}
-use Rattle.board_tie.specs.Shown.{Shows, owner}
-use Rattle.board_tie.proofs.Inputs.{starts_so}
+use Rattle.board_law.specs.board_tie.Sent.{Sent}
+use Rattle.board_law.specs.board_tie.Shown.{Shows, owner}
+use Rattle.board_law.proofs.board_tie.Inputs.{starts_so}
 use Rattle.board_world.specs.declared.board_node.BoardNode.{BoardNode}
 use Rattle.board_world.specs.BoardRuns.{WasMailed}
 use Rattle.board_world.specs.BoardTurns.{first_node}

@@ -21,11 +21,11 @@ use Rattle.board.specs.declared.packet.BoardPacket.{BoardPacket}
 use Rattle.board.specs.State.{chosen_part}
 use Rattle.board.specs.Transition.{Done, transition}
 use Rattle.board.proofs.Applying.{applies_no_more}
-use Rattle.board_tie.specs.Follows.{Follows, applied_in}
-use Rattle.board_tie.specs.Sent.{AllSent, Came, Sent}
-use Rattle.board_tie.specs.Shown.{Shows, owner}
-use Rattle.board_tie.proofs.Inputs.{follows}
-use Rattle.board_tie.proofs.Moves.{sent_later, steps_then}
+use Rattle.board_law.specs.board_tie.Follows.{Follows, applied_in}
+use Rattle.board_law.specs.board_tie.Sent.{AllSent, Came, Sent}
+use Rattle.board_law.specs.board_tie.Shown.{Shows, owner}
+use Rattle.board_law.proofs.board_tie.Inputs.{follows}
+use Rattle.board_law.proofs.board_tie.Moves.{sent_later, steps_then}
 use Rattle.board_world.specs.declared.board_node.BoardNode.{BoardNode}
 use Rattle.board_world.specs.BoardRuns.{WasMailed}
 use Rattle.board_world.specs.BoardTurns.{given_all, mail_in, turn_by, turn_of}

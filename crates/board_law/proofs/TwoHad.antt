@@ -10,8 +10,8 @@ use Rattle.board_protocol.proofs.Prefixes.{through}
 use Rattle.board.specs.Ballots.{owner_of}
 use Rattle.board.specs.State.{BoardState, chosen_part}
 use Rattle.board.specs.declared.command.Command.{Command}
-use Rattle.board_tie.specs.Shown.{owner}
-use Rattle.board_tie.proofs.Growing.{is_leader}
+use Rattle.board_law.specs.board_tie.Shown.{owner}
+use Rattle.board_law.proofs.board_tie.Growing.{is_leader}
 use Rattle.board_world.specs.declared.board_event.BoardEvent.{BoardEvent}
 use Rattle.board_world.specs.BoardRuns.{MailCame}
 use Rattle.board_world.specs.NextBoards.{BoardsState, boards_after, first_boards, next_boards}

@@ -1,2 +1,3 @@
+pub mod board_tie
 pub mod OneList
 pub mod OneRun

@@ -10,7 +10,7 @@ use Rattle.board_protocol.specs.Step.{Steps}
 use Rattle.board_protocol.specs.World as protocol
 use Rattle.board.specs.State.{chosen_part}
 use Rattle.board.specs.declared.command.Command.{Command}
-use Rattle.board_tie.specs.Shown.{Shows, owner}
+use Rattle.board_law.specs.board_tie.Shown.{Shows, owner}
 use Rattle.board_world.specs.declared.board_event.BoardEvent.{BoardEvent}
 use Rattle.board_world.specs.declared.board_node.BoardNode.{BoardNode}
 use Rattle.board_world.specs.declared.replica.Replica.{Replica}

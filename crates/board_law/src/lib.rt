@@ -1,10 +1,12 @@
 //! The law of the boards that stand in the registry's place: whatever is lost, repeated or reordered, and whichever boards stop and start, there is one list of
-//! chosen commands, and a run with boards stands for a run of all nodes with one registry. It has no code: each function below has an empty body, and its
-//! contract is a law.
+//! chosen commands, and a run with boards stands for a run of all nodes with one registry. `board_tie` ties the machine of one board to the abstract protocol. It has
+//! no code: each function has an empty body, and its contract is a law.
 #![tactic(auto)]
 
 ghost use Rattle.board_law.specs.OneList.{BoardsHaveOneList, ChosenListsGrow, WhatTwoHadIsChosen};
 ghost use Rattle.board_law.specs.OneRun.{RunsWithBoardsAreOneRun};
+
+pub mod board_tie;
 
 /// There is one list of chosen commands, at each moment of every run of the boards in which each packet of a board that comes was sent.
 ///

@@ -1,3 +1,4 @@
+pub mod Changes
 pub mod AnyShelf
 pub mod Asking
 pub mod Shelves

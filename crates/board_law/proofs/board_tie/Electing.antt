@@ -16,11 +16,11 @@ use Rattle.board.specs.declared.packet.BoardBody.TheVariants.{Install}
 use Rattle.board.specs.Ballots.{owner_of}
 use Rattle.board.specs.State.{BoardState}
 use Rattle.board.specs.Transition.{send_others, may_lead, is_better, lead_with, lead, on_promised}
-use Rattle.board_tie.specs.Follows.{Follows}
-use Rattle.board_tie.specs.Shown.{Shows, flag, owner}
-use Rattle.board_tie.proofs.Beats.{owned, install_is}
-use Rattle.board_tie.proofs.Growing.{is_up}
-use Rattle.board_tie.proofs.Moves.{stays, changes, others_sent, others_quiet, quiet}
+use Rattle.board_law.specs.board_tie.Follows.{Follows}
+use Rattle.board_law.specs.board_tie.Shown.{Shows, flag, owner}
+use Rattle.board_law.proofs.board_tie.Beats.{owned, install_is}
+use Rattle.board_law.proofs.board_tie.Growing.{is_up}
+use Rattle.board_law.proofs.board_tie.Moves.{stays, changes, others_sent, others_quiet, quiet}
 
 module _ (w : World Command) (place : ℕ) (s : BoardState) (shows : Shows place (w.board place) s) (reached : Steps (start owner) w) (below : place < 3) (up : s.up ≡ true) where
   -- The answer that comes.

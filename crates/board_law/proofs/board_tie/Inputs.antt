@@ -15,16 +15,16 @@ use Rattle.board.specs.declared.packet.BoardBody.TheVariants.{Prepare, Promised,
 use Rattle.board.specs.declared.packet.BoardPacket.{BoardPacket}
 use Rattle.board.specs.State.{BoardState, started}
 use Rattle.board.specs.Transition.{transition, is_ready, is_for, has_short, hears, on_body, on_mail, on_offer, on_beat, stopped, restarted}
-use Rattle.board_tie.specs.Follows.{Follows}
-use Rattle.board_tie.specs.Sent.{Said, Sent, Came}
-use Rattle.board_tie.specs.Shown.{Shows, owner}
-use Rattle.board_tie.proofs.Beats.{beat_follows}
-use Rattle.board_tie.proofs.Electing.{promise_comes}
-use Rattle.board_tie.proofs.Following.{prepare_comes, install_comes, append_comes}
-use Rattle.board_tie.proofs.Growing.{offer_follows}
-use Rattle.board_tie.proofs.Hearing.{accepted_comes}
-use Rattle.board_tie.proofs.Moves.{stays, changes, quiet}
-use Rattle.board_tie.proofs.Showing.{heard_or_not, up_shows}
+use Rattle.board_law.specs.board_tie.Follows.{Follows}
+use Rattle.board_law.specs.board_tie.Sent.{Said, Sent, Came}
+use Rattle.board_law.specs.board_tie.Shown.{Shows, owner}
+use Rattle.board_law.proofs.board_tie.Beats.{beat_follows}
+use Rattle.board_law.proofs.board_tie.Electing.{promise_comes}
+use Rattle.board_law.proofs.board_tie.Following.{prepare_comes, install_comes, append_comes}
+use Rattle.board_law.proofs.board_tie.Growing.{offer_follows}
+use Rattle.board_law.proofs.board_tie.Hearing.{accepted_comes}
+use Rattle.board_law.proofs.board_tie.Moves.{stays, changes, quiet}
+use Rattle.board_law.proofs.board_tie.Showing.{heard_or_not, up_shows}
 
 pub starts_so : (place : ℕ) → place < 3 → Shows place ((start owner).board place) (started (suc place))
 starts_so zero below = record { number = refl; up = refl; promised = refl; ballot = refl; list = refl; waiting = refl; leads = refl; first = refl; second = refl; third = refl; done = refl; applied = refl }

@@ -6,8 +6,8 @@ use Rattle.board.specs.declared.command.Command.{Command}
 use Rattle.board.specs.declared.output.Out.{Out}
 use Rattle.board.specs.declared.output.Out.TheVariants.{Send, Apply}
 use Rattle.board.specs.Transition.{Done}
-use Rattle.board_tie.specs.Sent.{AllSent}
-use Rattle.board_tie.specs.Shown.{Shows}
+use Rattle.board_law.specs.board_tie.Sent.{AllSent}
+use Rattle.board_law.specs.board_tie.Shown.{Shows}
 
 -- The commands that are given to apply, in order.
 abbrev pub applied_in : List Out → List Command

@@ -17,9 +17,9 @@ use Rattle.board.specs.declared.packet.BoardBody.{BoardBody}
 use Rattle.board.specs.declared.packet.BoardBody.TheVariants.{Prepare, Promised, Install, Append, Accepted}
 use Rattle.board.specs.State.{BoardState}
 use Rattle.board.specs.Transition.{Done, send, send_other, send_others}
-use Rattle.board_tie.specs.Follows.{Follows, applied_in}
-use Rattle.board_tie.specs.Sent.{Said, IsSent, AllSent}
-use Rattle.board_tie.specs.Shown.{Shows, owner}
+use Rattle.board_law.specs.board_tie.Follows.{Follows, applied_in}
+use Rattle.board_law.specs.board_tie.Sent.{Said, IsSent, AllSent}
+use Rattle.board_law.specs.board_tie.Shown.{Shows, owner}
 
 -- ---- a function changed at one place
 

@@ -17,13 +17,13 @@ use Rattle.board.specs.Lengths.{greater, noted, greatest}
 use Rattle.board.specs.State.{BoardState}
 use Rattle.board.specs.Transition.{extend_waiting, settled, apply_done, heard_of, on_accepted}
 use Rattle.board.specs.Waiting.{without}
-use Rattle.board_tie.specs.Follows.{Follows, applied_in}
-use Rattle.board_tie.specs.Sent.{AllSent}
-use Rattle.board_tie.specs.Shown.{Shows, shown, owner}
-use Rattle.board_tie.proofs.Beats.{told}
-use Rattle.board_tie.proofs.Growing.{is_up, is_leader, waiting_follows}
-use Rattle.board_tie.proofs.Lists.{leaves}
-use Rattle.board_tie.proofs.Moves.{stays, changes, goes_on}
+use Rattle.board_law.specs.board_tie.Follows.{Follows, applied_in}
+use Rattle.board_law.specs.board_tie.Sent.{AllSent}
+use Rattle.board_law.specs.board_tie.Shown.{Shows, shown, owner}
+use Rattle.board_law.proofs.board_tie.Beats.{told}
+use Rattle.board_law.proofs.board_tie.Growing.{is_up, is_leader, waiting_follows}
+use Rattle.board_law.proofs.board_tie.Lists.{leaves}
+use Rattle.board_law.proofs.board_tie.Moves.{stays, changes, goes_on}
 
 -- ---- lengths
 

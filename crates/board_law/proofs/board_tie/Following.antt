@@ -15,11 +15,11 @@ use Rattle.board.specs.declared.command.Command.{Command}
 use Rattle.board.specs.declared.packet.BoardBody.TheVariants.{Promised, Accepted}
 use Rattle.board.specs.State.{BoardState}
 use Rattle.board.specs.Transition.{answer, raised, on_prepare, install, on_install, append, on_append}
-use Rattle.board_tie.specs.Follows.{Follows}
-use Rattle.board_tie.specs.Shown.{Shows, flag, owner}
-use Rattle.board_tie.proofs.Growing.{is_up}
-use Rattle.board_tie.proofs.Moves.{stays, changes, says, one_sent, quiet}
-use Rattle.board_tie.proofs.Showing.{grown_shows}
+use Rattle.board_law.specs.board_tie.Follows.{Follows}
+use Rattle.board_law.specs.board_tie.Shown.{Shows, flag, owner}
+use Rattle.board_law.proofs.board_tie.Growing.{is_up}
+use Rattle.board_law.proofs.board_tie.Moves.{stays, changes, says, one_sent, quiet}
+use Rattle.board_law.proofs.board_tie.Showing.{grown_shows}
 
 -- A promise that doesn't rise leaves the leader what it is.
 leads_on : (t : Bool) (same : Bool) (leads : ℕ) → leads ≡ flag t → (if same then leads else 0) ≡ flag (t && same)

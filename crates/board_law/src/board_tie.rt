@@ -1,7 +1,6 @@
 //! The tie of the machine of a board to the abstract protocol of three boards: whatever one board does on an input is a
-//! list of the protocol's steps at that board. It has no code of the product: each function below has an empty body,
+//! list of the protocol's steps at that board. It has no code of the product: the function below has an empty body,
 //! and its contract is a law.
-#![tactic(auto)]
 
 ghost use Rattle.std.specs.Prelude.{ℕ, ◌<◌, ◌≡◌, suc};
 ghost use Rattle.board_protocol.specs.Step.{Steps};
@@ -10,9 +9,9 @@ ghost use Rattle.board.specs.declared.command.Command.{Command};
 ghost use Rattle.board.specs.declared.input.In.{In};
 ghost use Rattle.board.specs.State.{BoardState, started};
 ghost use Rattle.board.specs.Transition.{transition};
-ghost use Rattle.board_tie.specs.Follows.{Follows};
-ghost use Rattle.board_tie.specs.Sent.{Came};
-ghost use Rattle.board_tie.specs.Shown.{Shows, owner};
+ghost use Rattle.board_law.specs.board_tie.Follows.{Follows};
+ghost use Rattle.board_law.specs.board_tie.Sent.{Came};
+ghost use Rattle.board_law.specs.board_tie.Shown.{Shows, owner};
 
 /// The tie of a board, at every moment of a run of the protocol.
 ///

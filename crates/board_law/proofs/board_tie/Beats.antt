@@ -23,12 +23,12 @@ use Rattle.board.specs.State.{BoardState}
 use Rattle.board.specs.Transition.{Done, boards, send_others, send_next, send_lacking, send_again, keep_going, on_leader_beat, would_lead, unheard, prepare, on_beat}
 use Rattle.board.specs.Waiting.{first_outside}
 use Rattle.board.proofs.BallotLaws.{next_is_own, next_is_above}
-use Rattle.board_tie.specs.Follows.{Follows}
-use Rattle.board_tie.specs.Shown.{Shows, flag, shown, owner}
-use Rattle.board_tie.proofs.Lists.{outside, next_of, behind}
-use Rattle.board_tie.proofs.Moves.{stays, changes, says, goes_on, steps_then, one_sent, others_sent, others_quiet, quiet}
-use Rattle.board_tie.proofs.Growing.{append_of, is_up, is_leader, keeps_going}
-use Rattle.board_tie.proofs.Showing.{heard_or_not}
+use Rattle.board_law.specs.board_tie.Follows.{Follows}
+use Rattle.board_law.specs.board_tie.Shown.{Shows, flag, shown, owner}
+use Rattle.board_law.proofs.board_tie.Lists.{outside, next_of, behind}
+use Rattle.board_law.proofs.board_tie.Moves.{stays, changes, says, goes_on, steps_then, one_sent, others_sent, others_quiet, quiet}
+use Rattle.board_law.proofs.board_tie.Growing.{append_of, is_up, is_leader, keeps_going}
+use Rattle.board_law.proofs.board_tie.Showing.{heard_or_not}
 
 abbrev pub install_of : ℕ → List Command → packets.Install Command
 install_of ballot list = record { ballot = ballot; list = list }

@@ -14,11 +14,11 @@ use Rattle.board.specs.declared.packet.BoardBody.TheVariants.{Append}
 use Rattle.board.specs.State.{BoardState}
 use Rattle.board.specs.Transition.{send_others, is_whole, extend, extend_by, extend_waiting, on_offer, tick, extend_or_tick, keep_going}
 use Rattle.board.specs.Waiting.{first_outside}
-use Rattle.board_tie.specs.Follows.{Follows}
-use Rattle.board_tie.specs.Shown.{Shows, flag, owner}
-use Rattle.board_tie.proofs.Lists.{outside}
-use Rattle.board_tie.proofs.Moves.{stays, changes, goes_on, others_sent, others_quiet, quiet}
-use Rattle.board_tie.proofs.Showing.{grown_shows, offered_shows}
+use Rattle.board_law.specs.board_tie.Follows.{Follows}
+use Rattle.board_law.specs.board_tie.Shown.{Shows, flag, owner}
+use Rattle.board_law.proofs.board_tie.Lists.{outside}
+use Rattle.board_law.proofs.board_tie.Moves.{stays, changes, goes_on, others_sent, others_quiet, quiet}
+use Rattle.board_law.proofs.board_tie.Showing.{grown_shows, offered_shows}
 
 abbrev pub append_of : ℕ → ℕ → Command → packets.Append Command
 append_of ballot place command = record { ballot = ballot; place = place; command = command }

@@ -3,7 +3,7 @@ use Rattle.std.proofs.Common.{◌≡◌, ℕ, ◌++◌, Bool, List, [], ◌∷�
 use Rattle.board_protocol.specs.Board as protocol
 use Rattle.board.specs.declared.command.Command.{Command}
 use Rattle.board.specs.State.{BoardState}
-use Rattle.board_tie.specs.Shown.{Shows, flag}
+use Rattle.board_law.specs.board_tie.Shown.{Shows, flag}
 
 module _ (place : ℕ) (x : protocol.Board Command) (s : BoardState) (shows : Shows place x s) where
   -- Whether both are up, their lists and what waits may be others at once. The machine also keeps whether it heard of a leader
