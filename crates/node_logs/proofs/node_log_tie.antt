@@ -1,6 +1,6 @@
 pub mod Sights
 pub mod Going
-pub mod Falls
+pub mod OwnerFalls
 pub mod Lists
 mod Rebuilding
 pub mod RebuildEvents

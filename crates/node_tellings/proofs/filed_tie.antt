@@ -16,4 +16,4 @@ mod Managers
 mod Weakening
 mod Registries
 mod Filing
-mod Floors
+mod EpochFloors

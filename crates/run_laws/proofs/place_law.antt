@@ -2,7 +2,7 @@ pub mod Joined
 pub mod Texts
 pub mod Lying
 pub mod Fetching
-pub mod Checking
+pub mod JobChecks
 pub mod Copying
 pub mod Saying
 pub mod SlotSays

@@ -12,7 +12,7 @@ pub mod ManagerTurns
 pub mod RegistryTurns
 pub mod OtherTurns
 pub mod Start
-pub mod Falls
+pub mod WaitingFalls
 pub mod Turns
 pub mod Laws
 pub mod Pasts

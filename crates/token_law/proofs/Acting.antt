@@ -35,7 +35,7 @@ use Rattle.token_law.specs.Net.{Net, acted}
 use Rattle.token_law.specs.Owed.{AllClean, IsNeutral}
 use Rattle.token_law.proofs.Premises.{owed}
 use Rattle.token_law.proofs.Views.{setting, View}
-use Rattle.token_law.proofs.Falls.{shown_up, rebooked_world}
+use Rattle.token_law.proofs.ClientViews.{shown_up, rebooked_world}
 
 -- the world, with this version pinned
 abbrev pub pinning : World → ℕ → World

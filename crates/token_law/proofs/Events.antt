@@ -20,7 +20,7 @@ use Rattle.token_law.proofs.Premises.{owed_on}
 use Rattle.token_law.proofs.Logged.{BooksWhole}
 use Rattle.token_law.proofs.Apart.{FallsKept}
 use Rattle.token_law.proofs.Views.{setting, report_view}
-use Rattle.token_law.proofs.Falls.{crash_view, supply_view}
+use Rattle.token_law.proofs.ClientViews.{crash_view, supply_view}
 use Rattle.token_law.proofs.Settling.{settled_sound}
 use Rattle.token_law.proofs.Filing.{seals_view, files_view, copies_view, filed_view, reopens_view}
 use Rattle.token_law.proofs.Acting.{reads_view, syncs_view, says_view}

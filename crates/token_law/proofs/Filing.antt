@@ -31,7 +31,7 @@ use Rattle.token_law.specs.Owed.{SealsNewest, SealsOriginals}
 use Rattle.token_law.proofs.Premises.{owed, owed_on}
 use Rattle.token_law.proofs.Logged.{flag, row_seen, LogsSeen, Kept, BooksWhole, sealed_seen, sealed_without, filed_seen, discarded_seen, whole_sealed, whole_filed, whole_discarded}
 use Rattle.token_law.proofs.Views.{setting, ClientShown, FellDirty, IsNobody, View, Lasts, told_no_more, lasts_by, carried_on}
-use Rattle.token_law.proofs.Falls.{shown_up, same_manager, rebooked_world}
+use Rattle.token_law.proofs.ClientViews.{shown_up, same_manager, rebooked_world}
 use Rattle.token_law.proofs.Settling.{once_settled, none_settled, settled_here, settled_once, settled_some}
 
 -- the world, with these logs

@@ -27,7 +27,7 @@ use Rattle.token_law.specs.Owed.{IsNeutral}
 use Rattle.token_law.proofs.Acting.{neutral_acts}
 use Rattle.token_law.proofs.Apart.{falls_kept}
 use Rattle.token_law.proofs.Views.{setting, some_one, ClientShown, View}
-use Rattle.token_law.proofs.Falls.{shown_up}
+use Rattle.token_law.proofs.ClientViews.{shown_up}
 use Rattle.token_law.proofs.Start.{always}
 
 owns_two : (mode : Mode) → is_own mode ≡ true → mode_number mode ≡ 2

@@ -8,7 +8,7 @@ use Rattle.act_tie.specs.Shown.{HistoryShown}
 use Rattle.token_client.specs.Held.{is_dirty}
 use Rattle.token_client.specs.State.{held_of}
 use Rattle.token_law.proofs.Apart.{falls_kept}
-use Rattle.token_law.proofs.Falls.{shown_up}
+use Rattle.token_law.proofs.ClientViews.{shown_up}
 use Rattle.token_law.proofs.Laws.{acts_are_legal, seen}
 use Rattle.token_law.proofs.Views.{View}
 use Rattle.token_law.specs.Laws.{DirtyBlocksLead, IsClient, IsGreatestFiled, Leads, Moment, versions_of}

@@ -3,7 +3,7 @@ pub mod Logged
 pub mod Apart
 pub mod Indexes
 pub mod Views
-pub mod Falls
+pub mod ClientViews
 pub mod Settling
 pub mod Filing
 pub mod Acting

@@ -40,7 +40,7 @@ use Rattle.token_law.proofs.Premises.{owed, owed_on, owed_both}
 use Rattle.token_law.proofs.Logged.{Kept, BooksWhole, whole_reopened}
 use Rattle.token_law.proofs.Indexes.{covers_of}
 use Rattle.token_law.proofs.Views.{some_one, View}
-use Rattle.token_law.proofs.Falls.{return_view}
+use Rattle.token_law.proofs.ClientViews.{return_view}
 use Rattle.token_law.proofs.Filing.{empties_view}
 use Rattle.token_law.proofs.SlotViews.{told_carried, slot_view, stale_carried, stale_view}
 use Rattle.token_law.proofs.Standing.{Ran, begun, tick_stale}

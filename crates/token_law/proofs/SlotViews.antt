@@ -21,7 +21,7 @@ use Rattle.act_tie.specs.BlockActs.{acts_of}
 use Rattle.token_law.proofs.Premises.{owed_on}
 use Rattle.token_law.proofs.Logged.{Kept}
 use Rattle.token_law.proofs.Views.{either_in, ClientShown, some_one, Carried, IsNobody, View, lasts_by, carried_on}
-use Rattle.token_law.proofs.Falls.{same_world}
+use Rattle.token_law.proofs.ClientViews.{same_world}
 
 module _ (logs : Bool) (members part : ℕ) (b : BlockId) (n : Net) (v : View logs members part b n) where
   abbrev pub w : World

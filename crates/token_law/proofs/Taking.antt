@@ -42,7 +42,7 @@ use Rattle.token_law.specs.Owed.{ReadsThere}
 use Rattle.token_law.proofs.Premises.{owed, owed_on, owed_both}
 use Rattle.token_law.proofs.Logged.{Kept}
 use Rattle.token_law.proofs.Views.{setting, View, Supplies, end_owed, client_view, quiet_view}
-use Rattle.token_law.proofs.Falls.{shown_up}
+use Rattle.token_law.proofs.ClientViews.{shown_up}
 use Rattle.token_law.proofs.Acting.{apart_blocks}
 use Rattle.token_law.proofs.Standing.{Ran}
 

@@ -3,7 +3,7 @@ use Rattle.std.proofs.Common.{◌≡◌, ℕ, zero, suc, ◌<◌, inl, inr, refl
 use Rattle.std.proofs.lemmas.Bool.Decides.{nat_tests}
 use Rattle.token_protocol.specs.Basics.{In}
 use Rattle.token_protocol.specs.World.{start}
-use Rattle.token_protocol.proofs.Accepting.{accepts}
+use Rattle.token_protocol.proofs.AcceptedOffers.{accepts}
 use Rattle.token_protocol.specs.Step.{Step, Steps}
 use Rattle.token_protocol.specs.Step.Step.{Asks, Offers, Recalls, WritesFirst, TakesPlace, Fetches, Reads, Gives, Notes, Applies, SealsWith, Settles, CrashesDirty, RestartsAdopting, RestartsDiscarding, Promises, Reports, Activates, SealsCopy, SettlesCopy}
 use Rattle.token_protocol.specs.Step.Steps.{Done, More}

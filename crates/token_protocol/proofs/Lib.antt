@@ -5,7 +5,7 @@ pub mod Told
 pub mod Growing
 pub mod StampsSeen
 pub mod Refining
-pub mod Accepting
+pub mod AcceptedOffers
 pub mod ExampleRun
 pub mod OtherExampleRun
 pub mod EveryKind

@@ -2,7 +2,7 @@
 use Rattle.std.proofs.Common.{◌≡◌, inl, inr, refl, true, arith}
 use Rattle.std.proofs.lemmas.Bool.Decides.{nat_tests}
 use Rattle.token_protocol.specs.World.{start}
-use Rattle.token_protocol.proofs.Accepting.{accepts}
+use Rattle.token_protocol.proofs.AcceptedOffers.{accepts}
 use Rattle.token_protocol.specs.Told.{told}
 use Rattle.token_protocol.specs.Kinds.{kinds}
 use Rattle.token_protocol.specs.Step.{Step, Steps}

@@ -53,7 +53,7 @@ use Rattle.log_law.specs.Restarts.{is_down, is_serving}
 use Rattle.log_law.specs.Tails.{then_on}
 use Rattle.node_logs.specs.node_log_tie.Sight.{AskedBy, BodySeen, PacketSeen, EffectSeen}
 use Rattle.node_logs.specs.node_log_tie.Sight.Question.{OfOpening}
-use Rattle.node_logs.proofs.node_log_tie.Falls.{Fall, fall_of}
+use Rattle.node_logs.proofs.node_log_tie.OwnerFalls.{Fall, fall_of}
 use Rattle.node_logs.proofs.node_log_tie.Emptied.{OnlyOrdered, only_deleted}
 use Rattle.node_logs.proofs.node_log_tie.Lists.{answers_send, packets_all}
 use Rattle.node_logs.specs.client_log_tie.ClientEvents.{FliesInBoot, NeverHasLog, ServesStraight, has_log}

@@ -59,7 +59,7 @@ use Rattle.node_logs.specs.client_log_tie.Owner.{Scene, asker, LastsAs, ClientAg
 use Rattle.client_log.specs.LogState.{LogState}
 use Rattle.node_logs.specs.client_log_tie.Texts.{StaysWritten}
 use Rattle.node_logs.specs.opening_law.Questions.{AsksOn, ProgressAsks}
-use Rattle.node_logs.proofs.node_log_tie.Falls.{Fall, fall_of}
+use Rattle.node_logs.proofs.node_log_tie.OwnerFalls.{Fall, fall_of}
 use Rattle.node_logs.proofs.opening_law.Asking.{packet_few, starts_few, tick_few}
 use Rattle.node_logs.specs.client_log_tie.ClientEvents.{StageWritten, StageTells, PhaseWritten, PhaseOwed, PacketOwed, ClientOwed, FliesInBoot, Grown, NeverHasLog, has_log}
 use Rattle.node_logs.specs.client_log_tie.Puts.{PutsOwn}

@@ -5,7 +5,7 @@ use Rattle.slot_beliefs.specs.Beliefs.{share_of}
 use Rattle.token_client.specs.declared.held.Fetch.{Fetch}
 use Rattle.token_client.specs.State.{epoch_of, held_of}
 use Rattle.token_client.specs.Transition.{accepts}
-use Rattle.token_law.proofs.Falls.{shown_up}
+use Rattle.token_law.proofs.ClientViews.{shown_up}
 use Rattle.token_law.proofs.Laws.{seen}
 use Rattle.token_law.proofs.Views.{View, setting, some_one}
 use Rattle.token_law.specs.Laws.{ActiveEpochsPromised, IsClient, Moment, Reigns}

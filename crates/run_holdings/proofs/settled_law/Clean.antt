@@ -13,7 +13,7 @@ use Rattle.run_laws.specs.world_law.Fallen.{Names}
 use Rattle.token_client.specs.Held.{is_dirty}
 use Rattle.token_client.specs.State.{held_of}
 use Rattle.token_law.proofs.Apart.{falls_kept}
-use Rattle.token_law.proofs.Falls.{shown_up}
+use Rattle.token_law.proofs.ClientViews.{shown_up}
 use Rattle.token_law.proofs.Laws.{acts_are_legal}
 use Rattle.token_law.proofs.Start.{always}
 use Rattle.token_law.proofs.Views.{ClientShown, View}

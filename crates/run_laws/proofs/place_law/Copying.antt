@@ -28,7 +28,7 @@ use Rattle.xfs_base.specs.declared.entry.Entry.{Entry}
 use Rattle.xfs_base.specs.declared.entry.Place.{Place}
 use Rattle.xfs_base.specs.declared.segment.SegName.{SegName}
 use Rattle.run_laws.specs.place_law.Copies.{AreExact, CheckLies, FateLies, LiveAnswers, LivesTellCopies, PhaseLies}
-use Rattle.run_laws.proofs.place_law.Checking.{jobs_checks_lie}
+use Rattle.run_laws.proofs.place_law.JobChecks.{jobs_checks_lie}
 use Rattle.run_laws.proofs.place_law.Lying.{LiesAt, lies_there}
 
 -- a name passes the test with itself

@@ -15,7 +15,7 @@ use Rattle.xfs_base.proofs.Orders.{seg_cmp_exact}
 use Rattle.xfs_base.specs.declared.entry.Entry.{Entry}
 use Rattle.xfs_base.specs.declared.segment.SegRef.{SegRef}
 use Rattle.run_laws.specs.place_law.Copies.{AreNamed, CheckLies, ChecksAreOfRows, ChecksLie, PhaseLies}
-use Rattle.run_laws.proofs.place_law.Checking.{jobs_checks_lie}
+use Rattle.run_laws.proofs.place_law.JobChecks.{jobs_checks_lie}
 use Rattle.run_laws.proofs.place_law.Lying.{one_of_nine, rows_there}
 
 module _ (f : Filed) (filed : IsFiled f) (plain : ArePlain f) (named : AreNamed f) (segment : SegRef) where

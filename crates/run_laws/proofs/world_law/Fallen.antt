@@ -8,7 +8,7 @@ use Rattle.token_law.specs.Laws.{FallsAreApart, NobodyHoldsAfterFall}
 use Rattle.world_base.specs.Cluster.{cluster_of}
 use Rattle.world_base.specs.declared.cluster.Cluster.{Cluster}
 use Rattle.world_base.specs.declared.world.World.{World}
-use Rattle.run_laws.proofs.world_law.Falls.{WaitsDirty}
+use Rattle.run_laws.proofs.world_law.WaitingFalls.{WaitsDirty}
 use Rattle.run_laws.proofs.world_law.Laws.{GoodWorld, NodeLaws, front, slot_scene, slot_serves, slot_stands}
 use Rattle.run_laws.proofs.world_law.RegistryTurns.{slot_below}
 use Rattle.run_laws.specs.world_law.Standing.{members}

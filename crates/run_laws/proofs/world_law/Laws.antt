@@ -20,7 +20,7 @@ use Rattle.world_base.specs.declared.event.Event.{Event}
 use Rattle.world_base.specs.declared.world.World.{World}
 use Rattle.world_base.specs.NextWorld.{next_world, start_world}
 use Rattle.world_base.specs.Runs.{IsRun, Leads, MayHappen}
-use Rattle.run_laws.proofs.world_law.Falls.{FallsStand}
+use Rattle.run_laws.proofs.world_law.WaitingFalls.{FallsStand}
 use Rattle.run_laws.proofs.world_law.Places.{behind}
 use Rattle.run_laws.proofs.world_law.RegistryTurns.{slot_below}
 use Rattle.run_laws.specs.world_law.Standing.{Scene, Stands, members}

@@ -38,7 +38,7 @@ use Rattle.world_base.specs.Runs.{MayHappen}
 use Rattle.run_laws.proofs.world_law.ClientTurns as clients
 use Rattle.run_laws.proofs.world_law.ClientTurns.{client_scene, client_turn}
 use Rattle.run_laws.proofs.world_law.Facts.{Grown}
-use Rattle.run_laws.proofs.world_law.Falls.{FallsStand, client_falls, falls_stay}
+use Rattle.run_laws.proofs.world_law.WaitingFalls.{FallsStand, client_falls, falls_stay}
 use Rattle.run_laws.proofs.world_law.Gets.{client_gets, cleaner_gets, manager_gets}
 use Rattle.run_laws.proofs.world_law.ManagerTurns as reigning
 use Rattle.run_laws.proofs.world_law.Leaving.{NoneLeaves, SlotsGo, none_leaves}

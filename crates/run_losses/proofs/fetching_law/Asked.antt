@@ -7,7 +7,7 @@ use Rattle.node_slots.proofs.node_tie.SmallWorld.{with_promise}
 use Rattle.node_slots.specs.node_tie.RegistryEvents.{RegistrySound}
 use Rattle.node_slots.specs.node_tie.Sight.{GrantSeen}
 use Rattle.token_client.specs.State.{TokensState, epoch_of, is_in_slot}
-use Rattle.token_law.proofs.Falls.{shown_up}
+use Rattle.token_law.proofs.ClientViews.{shown_up}
 use Rattle.token_law.proofs.Start.{always}
 use Rattle.token_law.proofs.Views.{View}
 use Rattle.token_law.specs.Laws.{IsClient, Moment}

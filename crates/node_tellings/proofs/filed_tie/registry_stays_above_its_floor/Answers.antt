@@ -1,4 +1,4 @@
-use Rattle.node_tellings.proofs.filed_tie.Floors.{registry_starts_above, registry_keeps_above}
+use Rattle.node_tellings.proofs.filed_tie.EpochFloors.{registry_starts_above, registry_keeps_above}
 use Rattle.node_tellings.proofs.filed_tie.registry_stays_above_its_floor.Goals as goal
 
 pub returns : goal.returns

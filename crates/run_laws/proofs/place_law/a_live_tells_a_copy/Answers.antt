@@ -1,4 +1,4 @@
-use Rattle.run_laws.proofs.place_law.Checking.{jobs_checks_lie}
+use Rattle.run_laws.proofs.place_law.JobChecks.{jobs_checks_lie}
 use Rattle.run_laws.proofs.place_law.Copying.{lives_tell_copies}
 use Rattle.run_laws.proofs.place_law.Placing.{checks_are_of_rows}
 use Rattle.run_laws.proofs.place_law.a_live_tells_a_copy.Goals as goal
