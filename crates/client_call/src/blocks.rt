@@ -1,16 +1,13 @@
 //! Calls on blocks: what they do to the tokens and to the cache, and what they say.
-ghost use Rattle.std.specs.Prelude.{◌≡◌, ◌+◌, ◌++◌, ◌∷◌, [], ◌==◌, ◌&&◌, if◌then◌else◌, is_none, length, IfOk, OnOk, None, Some, true};
+ghost use Rattle.std.specs.Prelude.{◌≡◌, ◌++◌, ◌∷◌, [], ◌==◌, ◌&&◌, if◌then◌else◌, is_none, length, IfOk, OnOk, None, Some};
 ghost use Rattle.client_call.specs.Blocks.{value_of};
-ghost use Rattle.client_call.specs.Fitting.{put_fits};
 ghost use Rattle.coop_cache.specs.Transition.{left};
 ghost use Rattle.file_plan.specs.declared.block_call.BlockAnswer.TheVariants.{Got, Synced as WasSynced};
 ghost use Rattle.node_base.specs.declared.effects.Effect.TheVariants.{Does};
-ghost use Rattle.token_client.specs.Held.{may_write};
 ghost use Rattle.token_client.specs.State.{held_of};
 ghost use Rattle.token_client.specs.Transition.{on_wrote};
 ghost use Rattle.version_model.specs.declared.act.Act.TheVariants.{Read, Synced};
 
-use crate::fitting::{is_value, is_word};
 use client_log::Log;
 use coop_cache::Cache;
 use file_plan::BlockAnswer;
@@ -88,16 +85,6 @@ pub fn is_settled(log: &Log) -> bool
     ensures { result ≡ (is_none log.now.flight && (length log.now.dirty == 0)) }
 {
     log.is_settled()
-}
-
-/// A segment can hold each version of each block that may be written.
-pub fn fits(tokens: &Tokens, block: BlockId, value: &Value)
-    requires { may_write (held_of tokens.now.blocks block) ≡ true }
-    ensures { put_fits block ((held_of tokens.now.blocks block).ver + 1) value.now ≡ true }
-{
-    is_word(block.ino.0);
-    is_word(block.blk);
-    is_value(value);
 }
 
 /// A block has a new version, and is clean no more.

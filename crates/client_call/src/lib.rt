@@ -4,7 +4,7 @@
 
 pub mod blocks;
 pub mod call;
-mod fitting;
+pub mod fitting;
 pub mod reads;
 
 pub use call::{Call, Going, Plan};

@@ -70,7 +70,7 @@ lets_go s block =
     then notes_gone (record s { tokens = (on_evict s.tokens block).state }) block
     else s
 
--- What no segment can hold is never written: the call waits. The types of a program's numbers leave no such call.
+-- What no segment can hold is never written: the call waits. No call of a program is such a one: the types of its numbers leave none.
 abbrev pub held_back : Serving → BlockId → Made
 held_back s block = waits (gives (lets_go s block) [])
 

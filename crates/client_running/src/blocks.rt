@@ -4,7 +4,8 @@ ghost use Rattle.client_running.specs.Blocks.{gets, puts, puts_at, needs, syncs,
 ghost use Rattle.client_serving.specs.Flights.{held_at};
 ghost use Rattle.token_client.specs.Held.{may_write};
 
-use client_call::blocks::{fits, is_settled, note_written, read, synced};
+use client_call::blocks::{is_settled, note_written, read, synced};
+use client_call::fitting::prove_put_fits;
 use client_serving::Serving;
 use file_plan::{BlockAnswer, BlockCall};
 use node_base::Effects;
@@ -127,7 +128,7 @@ fn sync(alloc: Global, effects: &mut Effects, serving: &mut Serving) -> Mem<Opti
     synced(effects, serving.lasting.number, is_settled(&serving.log))
 }
 
-// Writes a block that may be written, as a segment can hold what is put.
+// Writes a block that may be written. The lemma says that a segment can hold what is put, so it is never held back.
 #[tactic(auto, unfolding(crate::specs::Blocks::changes_if_fits, crate::specs::Blocks::changes))]
 fn change(
     alloc: Global,
@@ -141,7 +142,7 @@ fn change(
     ensures effects { OnOk result (effects.new ≡ effects.old ++ (changes_if_fits serving.old block value.now).done.outs) }
     ensures answer { IfOk result (λ answer. answer ≡ (changes_if_fits serving.old block value.now).answer) }
 {
-    fits(&serving.tokens, block, value);
+    prove_put_fits(&serving.tokens, block, value);
     effects.act(Act::Wrote {
         client: serving.lasting.number,
         block,

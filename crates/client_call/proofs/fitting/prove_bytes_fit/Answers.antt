@@ -1,7 +1,7 @@
 -- An element of a slice of bytes is a byte, by its type.
 use Rattle.std.proofs.Common.{arith}
 use Rattle.client_call.proofs.Fitted.{all_bytes}
-use Rattle.client_call.proofs.fitting.are_bytes.Goals as goal
+use Rattle.client_call.proofs.fitting.prove_bytes_fit.Goals as goal
 
 pub returns : goal.returns
 returns c = all_bytes c.args.bytes.now (λ i. omega (arith, c.type_inv.bytes i))

@@ -1,9 +1,0 @@
--- The block's numbers, its version and its value fit, each by its type.
-use Rattle.token_client.specs.State.{held_of}
-use Rattle.client_call.proofs.blocks.fits.Goals as goal
-use Rattle.client_call.proofs.Fitted.{put_fits_so}
-
-pub returns : goal.returns
-returns c =
-    put_fits_so c.args.block (held_of c.args.tokens.now.blocks c.args.block) c.args.value.now c.is_word.ensures c.is_word-2.ensures c.requires
-    c.is_value.ensures
