@@ -38,7 +38,7 @@ some_none x h = absurd (cc)
 
 -- a step keeps the epoch of a slot
 pub epoch_stays : (s : SlotState) (i : slot_inputs.In) → (slot.transition s i).state.epoch ≡ s.epoch
-epoch_stays s (Want client block inc req again mode end) = (takes-transition s (Want client block inc req again mode end) tt).0
+epoch_stays s (Want want end) = (takes-transition s (Want want end) tt).0
 epoch_stays s (Gave client block stamp end) = (takes-transition s (Gave client block stamp end) tt).0
 epoch_stays s (Deltas log first upto rows) = (takes-transition s (Deltas log first upto rows) tt).0
 epoch_stays s (Check block place) = refl
@@ -111,7 +111,7 @@ module _ (part : ℕ) (holds : SegRef → Rows) where
 
   pub gets_other : (n : Net) (e : ℕ) (s : SlotState) (x : slot_inputs.In) → Good part holds n → n.slots e ≡ Some s → IsOfTokens x
       → Good part holds (with_slot n e (slot.transition s x).state)
-  gets_other n e s (Want client block inc req again mode end) g at of = takes n e s (Want client block inc req again mode end) g at (λ b inside. tt)
+  gets_other n e s (Want want end) g at of = takes n e s (Want want end) g at (λ b inside. tt)
   gets_other n e s (Gave client block stamp end) g at of = takes n e s (Gave client block stamp end) g at (λ b inside. tt)
   gets_other n e s (Deltas log first upto rows) g at of = absurd of
   gets_other n e s (Check block place) g at of = absurd of

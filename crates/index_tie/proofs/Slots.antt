@@ -15,7 +15,7 @@ use Rattle.slot_beliefs.specs.Index.{Indexed, indexed, indexed_all}
 use Rattle.slot_beliefs.specs.Recalls.{applied_of, ready_blocks, applied_upto}
 use Rattle.token_manager.specs.declared.input.In.TheVariants.{Want, Gave, Deltas, Check, Tick}
 use Rattle.token_manager.specs.SlotState.{SlotState}
-use Rattle.token_manager.specs.Transition.{want_of, entry_at, joins_on, with_deltas, finished_at}
+use Rattle.token_manager.specs.Transition.{entry_at, joins_on, with_deltas, finished_at}
 use Rattle.token_manager.proofs.Cases.{by_want, by_gave, by_deltas, by_finished_at}
 use Rattle.log_protocol.specs.Tables.{put}
 use Rattle.log_protocol.specs.IndexState.{IndexState, Joins}
@@ -143,9 +143,9 @@ after_answers b f w e s blocks r =
 -- ---- every input
 
 pub applies_are_merges : AppliesAreMerges
-applies_are_merges b f w s (Want client block inc req again mode end) reached filed tells m brings =
+applies_are_merges b f w s (Want want end) reached filed tells m brings =
     let stay = stays b f w s m in
-    by_want (λ d. Runs b f w s.epoch d.state) s (want_of client block inc req again mode) end (stay s (same_itself s))
+    by_want (λ d. Runs b f w s.epoch d.state) s want end (stay s (same_itself s))
     (λ _ _. stay _ (record { epoch = refl; applied = refl; index = refl })) (λ _. stay _ (record { epoch = refl; applied = refl; index = refl }))
 applies_are_merges b f w s (Gave client block stamp end) reached filed tells m brings =
     let stay = stays b f w s m in

@@ -120,7 +120,7 @@ pub record IsMove (b : BlockId) (sent : List Packet) (s : Segment) : Type 0 wher
 
 -- what a slot takes that says nothing of blocks' places
 abbrev pub IsOfTokens : slot_inputs.In → Type 0
-IsOfTokens (Want client block inc req again mode end) = Unit {0}
+IsOfTokens (Want want end) = Unit {0}
 IsOfTokens (Gave client block stamp end) = Unit {0}
 IsOfTokens (Deltas log first upto rows) = ⊥
 IsOfTokens (Check block place) = ⊥

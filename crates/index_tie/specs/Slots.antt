@@ -47,7 +47,7 @@ pub record DeltasTell (b : BlockId) (f : Filed) (l first upto : ℕ) (rows : Lis
 
 -- what the world owes each input: that Deltas tell what their log filed
 abbrev pub Brings : BlockId → Filed → SlotState → inputs.In → Type 0
-Brings b f s (Want client block inc req again mode end) = Unit {0}
+Brings b f s (Want want end) = Unit {0}
 Brings b f s (Gave client block stamp end) = Unit {0}
 Brings b f s (Deltas log first upto rows) = (log.0 - 1 < length s.applied) × DeltasTell b f log.0 first upto rows
 Brings b f s (Check block place) = Unit {0}

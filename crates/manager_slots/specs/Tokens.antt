@@ -17,7 +17,7 @@ use Rattle.xfs_base.specs.Logs.{block_writer}
 use Rattle.xfs_base.specs.Steps.{Stepped, still}
 use Rattle.node_base.specs.declared.effects.Effect.{Effect}
 use Rattle.node_base.specs.declared.effects.Effect.TheVariants.{Send}
-use Rattle.token_manager.specs.Transition.{transition}
+use Rattle.token_manager.specs.Transition.{transition, want_of}
 use Rattle.token_manager.specs.declared.input.In.{In}
 use Rattle.token_manager.specs.declared.input.In.TheVariants as input
 use Rattle.token_manager.specs.declared.output.Out.{Out}
@@ -64,7 +64,7 @@ takes (phase.Broken epoch seg) slot given = still (phase.Broken epoch seg)
 -- ---- the clients
 
 abbrev pub want_input : ℕ → Want → In
-want_input client want = input.Want client want.block want.inc want.req want.again want.mode want.end
+want_input client want = input.Want (want_of client want.block want.inc want.req want.again want.mode) want.end
 
 -- a segment that the slot's index needs is lost
 abbrev pub gone : ℕ → SegName → ℕ → Want → List Effect

@@ -1,10 +1,11 @@
 //! What a manager does for the clients and the cleaner in a slot.
 ghost use Rattle.std.specs.Prelude.{◌≡◌, ◌++◌, OnOk};
 ghost use Rattle.std.specs.List.{flat_map};
-ghost use Rattle.manager_slots.specs.Tokens.{grants, forwards, said, takes, on_want, on_gave, on_deltas, check_said, on_check, on_usage_ask, on_tick};
+ghost use Rattle.manager_slots.specs.Tokens.{grants, forwards, said, takes, want_input, on_want, on_gave, on_deltas, check_said, on_check, on_usage_ask, on_tick};
 
 use crate::slot_phase::SlotPhase;
 use node_base::Effects;
+use slot_beliefs::Wanted;
 use std::alloc::Global;
 use token_manager::{In, Out};
 use wire_msg::{
@@ -37,17 +38,25 @@ pub(crate) fn on_want(
             effects.send(NodeId::Client(client), Body::Gone(gone))
         }
         _ => {
-            let input = In::Want {
-                client,
-                block: want.block,
-                inc: want.inc,
-                req: want.req,
-                again: want.again,
-                mode: want.mode,
-                end: want.end,
-            };
+            let input = want_input(client, want);
             take(alloc, effects, phase, want.block.ino.slot(), input)
         }
+    }
+}
+
+fn want_input(client: u8, want: Want) -> In
+    ensures { result ≡ want_input client want }
+{
+    In::Want {
+        want: Wanted {
+            client,
+            block: want.block,
+            inc: want.inc,
+            req: want.req,
+            again: want.again,
+            mode: want.mode,
+        },
+        end: want.end,
     }
 }
 

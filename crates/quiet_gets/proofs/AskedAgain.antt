@@ -59,7 +59,7 @@ use Rattle.token_client.specs.Repetitions.{repetition}
 use Rattle.token_client.specs.State.{held_of, put_held}
 use Rattle.token_client.specs.declared.held.Held.{Held}
 use Rattle.token_manager.specs.SlotState.{SlotState}
-use Rattle.token_manager.specs.Transition.{entry_at, transition}
+use Rattle.token_manager.specs.Transition.{entry_at, transition, want_of}
 use Rattle.version_model.specs.declared.act.Act.{Act}
 use Rattle.version_model.specs.declared.answer.Answer.TheVariants.{Got}
 use Rattle.version_model.specs.declared.work.Work.{Work}
@@ -273,10 +273,10 @@ module _ (setup : Setup) (works : NodeId → List Work) (k : ℕ) (s : Scene) (t
   turns_left : nat_lt (z.turn + 1 + 1) (2 ^ 64) ≡ true
   turns_left = lt_test (z.turn + 1 + 1) (2 ^ 64) (let low = calm.turn_low in omega (arith, low))
 
-  granted_now : transition (s2.slot i) (input.Want c b 1 req 1 Copy p.end.seq)
+  granted_now : transition (s2.slot i) (input.Want (want_of c b 1 req 1 Copy) p.end.seq)
       ≡ record { state = z_second; outs = out.Grant c b (stamp z.epoch second_turn) 1 req Copy entry ∷ [] }
   granted_now =
-      ap (λ y. transition y (input.Want c b 1 req 1 Copy p.end.seq)) its_slot
+      ap (λ y. transition y (input.Want (want_of c b 1 req 1 Copy) p.end.seq)) its_slot
       ∙ want_again_grants z_first c 1 req p.end.seq b (on.taken_again setup works k s c d few b next asks) still_unowned turns_left
 
   grants_again : Moves setup works u1 (again_packet ∷ all_news setup works) (grant_packet ∷ []) [] u2

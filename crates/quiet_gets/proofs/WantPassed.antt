@@ -15,7 +15,7 @@ use Rattle.xfs_base.specs.declared.block.BlockId.{BlockId}
 
 pub want_passes : (z : SlotState) (c inc req end : ℕ) (b : BlockId) (d : ℕ) (ds : List ℕ) → is_dropped z (want_of c b inc req 0 Copy) end ≡ false
     → others z.beliefs b c true ≡ [] → others z.beliefs b c false ≡ d ∷ ds → has_turns z.turn 1 ≡ true
-    → transition z (input.Want c b inc req 0 Copy end) ≡ record {
+    → transition z (input.Want (want_of c b inc req 0 Copy) end) ≡ record {
       state = record z { beliefs = held_by z.beliefs (holder b c); turn = z.turn + 1 };
       outs = out.Forward d b (stamp z.epoch (z.turn + 1)) c inc req (entry_at z b).ver ∷ [];
     }
@@ -23,7 +23,7 @@ want_passes z c inc req end b d ds taken unowned held room = simp (taken, unowne
 
 pub want_again_grants : (z : SlotState) (c inc req end : ℕ) (b : BlockId) → is_dropped z (want_of c b inc req 1 Copy) end ≡ false
     → others z.beliefs b c true ≡ [] → has_turns z.turn 1 ≡ true
-    → transition z (input.Want c b inc req 1 Copy end) ≡ record {
+    → transition z (input.Want (want_of c b inc req 1 Copy) end) ≡ record {
       state = record z { beliefs = held_by z.beliefs (holder b c); turn = z.turn + 1 };
       outs = out.Grant c b (stamp z.epoch (z.turn + 1)) inc req Copy (entry_at z b) ∷ [];
     }

@@ -34,7 +34,7 @@ module _ (c inc req end : ℕ) (b : BlockId) (mode : Mode) where
   module _ (z : SlotState) where
     -- nobody has to give way
     pub want_finishes : is_dropped z its_want end ≡ false → others z.beliefs b c keeps ≡ [] → has_turns z.turn 1 ≡ true
-        → transition z (input.Want c b inc req 0 mode end) ≡ finished z its_want
+        → transition z (input.Want (want_of c b inc req 0 mode) end) ≡ finished z its_want
     want_finishes taken alone room = rw (taken, alone, room) refl
 
     module _ (o : ℕ) where
@@ -50,7 +50,7 @@ module _ (c inc req end : ℕ) (b : BlockId) (mode : Mode) where
 
       -- one has to
       pub want_recalls : is_dropped z its_want end ≡ false → others z.beliefs b c keeps ≡ o ∷ [] → has_turns z.turn 1 ≡ true → z.jobs ≡ []
-          → transition z (input.Want c b inc req 0 mode end) ≡ record { state = waiting; outs = out.Recall o b its_stamp keeps ∷ [] }
+          → transition z (input.Want (want_of c b inc req 0 mode) end) ≡ record { state = waiting; outs = out.Recall o b its_stamp keeps ∷ [] }
       want_recalls taken one room none = rw (taken, one, room, none) refl
 
       pub none_ready : NoneReady waiting.jobs

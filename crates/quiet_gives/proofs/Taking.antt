@@ -255,9 +255,9 @@ module _ (setup : Setup) (works : NodeId → List Work) (ok : IsSetup setup) (k 
     left_one : has_turns z_then.turn 1 ≡ true
     left_one = lt_test (z_then.turn + 1) (2 ^ 64) (let short = turn_room in omega (arith, short))
 
-    answers_so : transition (m.slot i) (input.Want c b 1 req 0 mode end) ≡ answered_slot hs
+    answers_so : transition (m.slot i) (input.Want (want_of c b 1 req 0 mode) end) ≡ answered_slot hs
     answers_so =
-        ap (λ y. transition y (input.Want c b 1 req 0 mode end)) slot_is
+        ap (λ y. transition y (input.Want (want_of c b 1 req 0 mode) end)) slot_is
         ∙ ap (λ t. cond t (still z_then) (recall_or_finish z_then ask (others z_then.beliefs b c keep))) taken_then
         ∙ ap (recall_or_finish z_then ask) none_m
         ∙ ap (λ t. cond t (finished z_then ask) (still z_then)) left_one

@@ -43,7 +43,7 @@ recalling_slot epoch z want ds =
 pub want_recalls : (z : SlotState) (c inc req end : ℕ) (b : BlockId) (mode : Mode) (d : ℕ) (ds : List ℕ) → z.jobs ≡ []
     → is_dropped z (want_of c b inc req 0 mode) end ≡ false → others z.beliefs b c (not (is_own mode)) ≡ d ∷ ds
     → has_turns z.turn (length (d ∷ ds)) ≡ true
-    → transition z (input.Want c b inc req 0 mode end) ≡ record {
+    → transition z (input.Want (want_of c b inc req 0 mode) end) ≡ record {
       state = recalling_slot z.epoch z (want_of c b inc req 0 mode) (d ∷ ds);
       outs = sent b (recalls z.epoch z.turn (not (is_own mode)) (d ∷ ds));
     }
@@ -114,7 +114,7 @@ module _ (setup : Setup) (works : NodeId → List Work) (b : BlockId) (mode : Mo
     abbrev as_of : ℕ → Done
     as_of epoch = record { state = recalling_slot epoch z its_want (d ∷ ds); outs = sent b (recalls epoch z.turn keeps (d ∷ ds)) }
 
-    turns_so : transition z (input.Want c b 1 req 0 mode end) ≡ record { state = then_; outs = outs }
+    turns_so : transition z (input.Want (want_of c b 1 req 0 mode) end) ≡ record { state = then_; outs = outs }
     turns_so = want_recalls z c 1 req end b mode d ds none taken theirs room ∙ ap as_of epoch_is
 
     comes : manager_step (manager_at setup works manager s.slot) (Deliver want_packet) ≡ record {

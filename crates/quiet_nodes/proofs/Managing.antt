@@ -43,7 +43,7 @@ use Rattle.quiet_nodes.proofs.Slots.{managed_phase, set_phase}
 -- the want of a block that nobody else is believed to hold is granted
 pub want_owns : (z : SlotState) (c inc req end : ℕ) (b : BlockId) → is_dropped z (want_of c b inc req 0 Own) end ≡ false → others z.beliefs b c false ≡ []
     → has_turns z.turn 1 ≡ true
-    → transition z (input.Want c b inc req 0 Own end) ≡ record {
+    → transition z (input.Want (want_of c b inc req 0 Own) end) ≡ record {
       state = record z { beliefs = owned_by z.beliefs (holder b c); turn = z.turn + 1 };
       outs = out.Grant c b (stamp z.epoch (z.turn + 1)) inc req Own (entry_at z b) ∷ [];
     }
@@ -102,7 +102,7 @@ module _ (setup : Setup) (works : NodeId → List Work) (j c clock : ℕ) (slots
 
   -- a Want that comes
   module _ (z : SlotState) (outs : List Out)
-      (is : transition (slots i) (input.Want c want.block want.inc want.req want.again want.mode want.end) ≡ record { state = z; outs = outs }) where
+      (is : transition (slots i) (input.Want (want_of c want.block want.inc want.req want.again want.mode) want.end) ≡ record { state = z; outs = outs }) where
     slot_is : tokens.on_want (managed (slots i)) c want ≡ record { state = managed z; outs = flat_map (said i (slots i).epoch) outs }
     unfolding tokens.on_want tokens.takes
     slot_is = ap (λ (d : Stepped SlotState Out). record { state = managed d.state; outs = flat_map (said i (slots i).epoch) d.outs }) is

@@ -26,7 +26,7 @@ none_owns (e ∷ es) b c none =
 
 pub want_copies : (z : SlotState) (c inc req end : ℕ) (b : BlockId) → is_dropped z (want_of c b inc req 0 Copy) end ≡ false → others z.beliefs b c false ≡ []
     → has_turns z.turn 1 ≡ true
-    → transition z (input.Want c b inc req 0 Copy end) ≡ record {
+    → transition z (input.Want (want_of c b inc req 0 Copy) end) ≡ record {
       state = record z { beliefs = held_by z.beliefs (holder b c); turn = z.turn + 1 };
       outs = out.Grant c b (stamp z.epoch (z.turn + 1)) inc req Copy (entry_at z b) ∷ [];
     }

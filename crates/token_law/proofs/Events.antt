@@ -118,7 +118,7 @@ keeps logs members part n m (GetsDeltas e s log first upto_ rows at known some c
   views = λ b inside. deltas_event logs members part n i b inside (i.views b inside) e s log first upto_ rows at known covers;
 }
 keeps logs members part n m (GetsWant e s c inc req again block mode end at fact) sure i =
-    let x = told.Want c block inc req again mode end in
+    let x = told.Want (slot.want_of c block inc req again mode) end in
     record {
       sound = i.sound;
       ran = ran_put n.slots e (slot.transition s x).state (on s x (i.ran e s at)) i.ran;

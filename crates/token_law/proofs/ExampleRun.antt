@@ -63,7 +63,7 @@ abbrev z0 : SlotState
 z0 = slot.started 1 [] [] zeros
 
 abbrev z1 : SlotState
-z1 = (slot.transition z0 (told.Want 1 example_block 1 1 0 Own 0)).state
+z1 = (slot.transition z0 (told.Want (slot.want_of 1 example_block 1 1 0 Own) 0)).state
 
 abbrev n2 : Net
 n2 = record n1 { slots = put n1.slots 1 (Some z1); sent = GrantSent 1 example_block (at 1) 1 1 Own nothing_there ∷ n1.sent }
@@ -191,7 +191,7 @@ unfolding client.on_need client.new_want
 step7 = Acts 2 0 (input.Need example_block Copy) (serves n6 2 (omega arith) (omega arith) refl) tt
 
 abbrev z3 : SlotState
-z3 = (slot.transition z2 (told.Want 2 example_block 1 1 0 Copy 0)).state
+z3 = (slot.transition z2 (told.Want (slot.want_of 2 example_block 1 1 0 Copy) 0)).state
 
 abbrev n8 : Net
 n8 = record n7 { slots = put n7.slots 1 (Some z3); sent = RecallSent 1 example_block (at 2) true ∷ n7.sent }

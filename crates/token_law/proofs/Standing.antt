@@ -14,7 +14,7 @@ use Rattle.token_manager.specs.declared.input.In.TheVariants.{Want, Gave, Deltas
 use Rattle.token_manager.specs.Laws.{IsGivenOut, RecallsAreGivenOut, state_after}
 use Rattle.token_manager.specs.Recalls.{recall_of, sent, all_sent}
 use Rattle.token_manager.specs.SlotState.{SlotState}
-use Rattle.token_manager.specs.Transition.{started, want_of, with_deltas, finished_at, transition}
+use Rattle.token_manager.specs.Transition.{started, with_deltas, finished_at, transition}
 use Rattle.token_manager.proofs.Cases.{recalled_from, by_want, by_gave, by_deltas, by_finished_at}
 use Rattle.token_manager.proofs.JobsBarGrants.{Waiting, waiting-removed, waiting-put, nobody_waits}
 use Rattle.token_manager.proofs.RecallTurns.{given-all}
@@ -48,10 +48,9 @@ on s x r = record {
 -- ---- its wants stand in order
 
 waiting-transition : (s : SlotState) (x : In) → Waiting s.jobs → Waiting (transition s x).state.jobs
-waiting-transition s (Want client block inc req again mode end) w =
-    let want = want_of client block inc req again mode in
+waiting-transition s (Want want end) w =
     by_want (λ r. Waiting r.state.jobs) s want end w (λ _ _. w)
-    (λ _. waiting-put s.jobs block (record { want = want; awaited = recalls s.epoch s.turn (not (is_own mode)) (recalled_from s want) }) refl w)
+    (λ _. waiting-put s.jobs want.block (record { want = want; awaited = recalls s.epoch s.turn (not (is_own want.mode)) (recalled_from s want) }) refl w)
 waiting-transition s (Gave client block stamp end) w =
     by_gave (λ r. Waiting r.state.jobs) s client block stamp end w (λ job fact _. waiting-removed s.jobs block w)
     (λ job fact. waiting-put s.jobs block (record { want = job.want; awaited = noted job.awaited client stamp end }) (w.own block job fact) w)

@@ -206,7 +206,7 @@ pub data Happens (logs : Bool) (members part : ℕ) : Net → Net → Type 0 whe
   -- a slot gets a Want
   GetsWant : {n : Net} (e : ℕ) (s : SlotState) (c inc req again : ℕ) (block : BlockId) (mode : Mode) (end : ℕ) → n.slots e ≡ Some s
       → In (WantSent c inc req again block mode end) n.sent
-      → Happens logs members part n (after_slot n e (slot.transition s (told.Want c block inc req again mode end)))
+      → Happens logs members part n (after_slot n e (slot.transition s (told.Want (slot.want_of c block inc req again mode) end)))
   -- a slot gets a Gave
   GetsGave : {n : Net} (e : ℕ) (s : SlotState) (c : ℕ) (block : BlockId) (stamp : Stamp) (end : ℕ) → n.slots e ≡ Some s → In (GaveSent c block stamp end) n.sent
       → Happens logs members part n (after_slot n e (slot.transition s (told.Gave c block stamp end)))

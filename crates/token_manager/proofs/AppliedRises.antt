@@ -12,7 +12,7 @@ use Rattle.slot_beliefs.proofs.Counting.{nothing_counted, keeps-counted-all}
 use Rattle.token_manager.specs.declared.input.In.{In}
 use Rattle.token_manager.specs.declared.input.In.TheVariants.{Want, Gave, Deltas, Check, Tick}
 use Rattle.token_manager.specs.SlotState.{SlotState}
-use Rattle.token_manager.specs.Transition.{Done, started, want_of, joins_on, with_deltas, finished_at, transition}
+use Rattle.token_manager.specs.Transition.{Done, started, joins_on, with_deltas, finished_at, transition}
 use Rattle.token_manager.specs.Laws.{state_after}
 use Rattle.token_manager.proofs.Cases.{by_want, by_gave, by_deltas, by_finished_at}
 
@@ -37,8 +37,8 @@ rises-finished s blocks = steps_keep finished_at (λ t. (log : ℕ) → applied_
     (λ log. omega arith)
 
 pub rises-transition : (s : SlotState) (input : In) → Rises s (transition s input)
-rises-transition s (Want client block inc req again mode end) =
-    by_want (Rises s) s (want_of client block inc req again mode) end (λ log. omega arith) (λ _ _ log. omega arith) (λ _ log. omega arith)
+rises-transition s (Want want end) =
+    by_want (Rises s) s want end (λ log. omega arith) (λ _ _ log. omega arith) (λ _ log. omega arith)
 rises-transition s (Gave client block stamp end) =
     by_gave (Rises s) s client block stamp end (λ log. omega arith) (λ _ _ _ log. omega arith) (λ _ _ log. omega arith)
 rises-transition s (Deltas log first upto rows) = by_deltas (Rises s) s log first upto rows (λ of. omega arith) (λ of. omega arith) (λ joins of.
@@ -68,8 +68,8 @@ counted-finished : (s : SlotState) (blocks : List BlockId) → IsCounted s.index
 counted-finished = steps_keep finished_at (λ t. IsCounted t.index) (λ t block counted. by_finished_at Counted t block counted (λ _ _. counted))
 
 counted-transition : (s : SlotState) (input : In) → IsCounted s.index → Counted (transition s input)
-counted-transition s (Want client block inc req again mode end) counted =
-    by_want Counted s (want_of client block inc req again mode) end counted (λ _ _. counted) (λ _. counted)
+counted-transition s (Want want end) counted =
+    by_want Counted s want end counted (λ _ _. counted) (λ _. counted)
 counted-transition s (Gave client block stamp end) counted = by_gave Counted s client block stamp end counted (λ _ _ _. counted) (λ _ _. counted)
 counted-transition s (Deltas log first upto rows) counted =
     by_deltas Counted s log first upto rows counted counted

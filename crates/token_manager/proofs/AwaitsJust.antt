@@ -29,7 +29,7 @@ use Rattle.slot_beliefs.proofs.Shares.{holder_cmp_exact, holder_cmp_total, holde
 use Rattle.token_manager.specs.declared.input.In.{In}
 use Rattle.token_manager.specs.declared.input.In.TheVariants.{Want, Gave, Deltas, Check, Tick}
 use Rattle.token_manager.specs.SlotState.{SlotState}
-use Rattle.token_manager.specs.Transition.{started, want_of, finished, given, gave_one, with_deltas, finished_at, transition}
+use Rattle.token_manager.specs.Transition.{started, finished, given, gave_one, with_deltas, finished_at, transition}
 use Rattle.token_manager.specs.Laws.{OwnsAlone, Awaits, MustGiveWay, IsGuarded, state_after}
 use Rattle.token_manager.proofs.Cases.{recalled_from, by_want, all_given, by_gave_both, by_deltas, let_go, by_finished_at}
 use Rattle.token_manager.proofs.JobsBarGrants.{Waiting, block_laws, waiting-removed, after_removal, was_there, gone, not_waiting}
@@ -366,15 +366,14 @@ exact-steps s applied (b ∷ bs) sound exact ready =
 -- ---- the inputs
 
 exact-transition : (s : SlotState) (input : In) → Sound s → Exact s → Exact (transition s input).state
-exact-transition s (Want client block inc req again mode end) sound exact =
-    let want = want_of client block inc req again mode in
-    let owners = not (is_own mode) in
+exact-transition s (Want want end) sound exact =
+    let owners = not (is_own want.mode) in
     by_want (λ r. Exact r.state) s want end exact
-    (λ going _. exact-finished s want sound.waiting exact (not_waiting (job_at s.jobs block) _ _ going))
+    (λ going _. exact-finished s want sound.waiting exact (not_waiting (job_at s.jobs want.block) _ _ going))
     (λ _. exact-recalled s (record { want = want; awaited = recalls s.epoch s.turn owners (recalled_from s want) }) (s.turn + length (recalled_from s want))
-    (λ c waits. let found = others_from s.beliefs block client c owners sound.sorted (recalls-await s.epoch s.turn owners (recalled_from s want) c waits) in
-    (found.0, must_found (is_own mode) (belief s.beliefs (holder block c)) found.1))
-    (recalls-once s.epoch s.turn owners (recalled_from s want) (others_once s.beliefs block client owners sound.sorted)) exact)
+    (λ c waits. let found = others_from s.beliefs want.block want.client c owners sound.sorted (recalls-await s.epoch s.turn owners (recalled_from s want) c waits) in
+    (found.0, must_found (is_own want.mode) (belief s.beliefs (holder want.block c)) found.1))
+    (recalls-once s.epoch s.turn owners (recalled_from s want) (others_once s.beliefs want.block want.client owners sound.sorted)) exact)
 exact-transition s (Gave client block stamp end) sound exact =
     let w = sound.waiting in
     by_gave_both (λ r. Exact r.state) s client block stamp end exact

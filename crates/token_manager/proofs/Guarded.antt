@@ -32,7 +32,7 @@ use Rattle.slot_beliefs.proofs.Shares.{holder_cmp_exact, holder_cmp_total, holde
 use Rattle.token_manager.specs.declared.input.In.{In}
 use Rattle.token_manager.specs.declared.input.In.TheVariants.{Want, Gave, Deltas, Check, Tick}
 use Rattle.token_manager.specs.SlotState.{SlotState}
-use Rattle.token_manager.specs.Transition.{started, want_of, finished, given, with_deltas, finished_at, transition}
+use Rattle.token_manager.specs.Transition.{started, finished, given, with_deltas, finished_at, transition}
 use Rattle.token_manager.specs.Laws.{OwnsAlone, Awaits}
 use Rattle.token_manager.proofs.Cases.{recalled_from, by_want, all_given, by_gave, by_deltas, let_go, by_finished_at}
 use Rattle.token_manager.proofs.JobsBarGrants.{Waiting, block_laws, after_removal, was_there, gone, waiting-removed, waiting-put, nobody_waits, not_waiting}
@@ -340,14 +340,13 @@ sound-steps s applied (b ∷ bs) sound ready =
 -- ---- the inputs
 
 pub sound-transition : (s : SlotState) (input : In) → Sound s → Sound (transition s input).state
-sound-transition s (Want client block inc req again mode end) sound =
-    let want = want_of client block inc req again mode in
+sound-transition s (Want want end) sound =
     by_want (λ r. Sound r.state) s want end sound
-    (λ going none. sound-finished s want sound (not_waiting (job_at s.jobs block) _ _ going)
+    (λ going none. sound-finished s want sound (not_waiting (job_at s.jobs want.block) _ _ going)
     (λ c apart. not_more _ (λ more. no_first (recalled_from s want) c none (found_by s.beliefs want c apart more))))
-    (λ _. sound-put s block (record { want = want; awaited = recalls s.epoch s.turn (not (is_own mode)) (recalled_from s want) })
+    (λ _. sound-put s want.block (record { want = want; awaited = recalls s.epoch s.turn (not (is_own want.mode)) (recalled_from s want) })
     (s.turn + length (recalled_from s want)) refl
-    (λ c apart more. awaits-recalls s.epoch s.turn (not (is_own mode)) (recalled_from s want) c (found_by s.beliefs want c apart more)) sound)
+    (λ c apart more. awaits-recalls s.epoch s.turn (not (is_own want.mode)) (recalled_from s want) c (found_by s.beliefs want c apart more)) sound)
 sound-transition s (Gave client block stamp end) sound =
     by_gave (λ r. Sound r.state) s client block stamp end sound
     (λ job fact ready. sound-finished (all_given s client block job.want) job.want

@@ -28,7 +28,7 @@ use Rattle.token_manager.specs.declared.input.In.{In}
 use Rattle.token_manager.specs.declared.input.In.TheVariants.{Want, Gave, Deltas, Check, Tick}
 use Rattle.token_manager.specs.Recalls.{sent, all_sent}
 use Rattle.token_manager.specs.SlotState.{SlotState}
-use Rattle.token_manager.specs.Transition.{Done, started, want_of, passers, answer, finished, with_deltas, finished_at, is_place, entry_at, transition}
+use Rattle.token_manager.specs.Transition.{Done, started, passers, answer, finished, with_deltas, finished_at, is_place, entry_at, transition}
 use Rattle.token_manager.specs.Laws.{HandsOut, state_after}
 use Rattle.token_manager.proofs.Cases.{recalled_from, by_want, all_given, by_gave, by_deltas, let_go, by_finished_at}
 
@@ -155,18 +155,17 @@ not_waiting (Some job) true y h = absurd (cc)
 not_waiting (Some job) false y h = absurd (cc)
 
 barred-transition : (s : SlotState) (input : In) → Waiting s.jobs → Barred (transition s input)
-barred-transition s (Want client block inc req again mode end) w =
-    let want = want_of client block inc req again mode in
+barred-transition s (Want want end) w =
     by_want Barred s want end (barred s (still s) (bars-same s w))
     (λ going _. record {
       given = λ b g.
-          let none : job_at s.jobs block ≡ None = not_waiting (job_at s.jobs block) (is_nothing mode) (nat_lt (applied_of s.applied client) end) going in
+          let none : job_at s.jobs want.block ≡ None = not_waiting (job_at s.jobs want.block) (is_nothing want.mode) (nat_lt (applied_of s.applied want.client) end) going in
           subst (λ x. job_at s.jobs x ≡ None) (answer_gives s want (passers s want) b g) none;
       waiting = w;
     })
     (λ _. record {
-      given = λ b g. absurd (sent_gives b block (recalls s.epoch s.turn (not (is_own mode)) (recalled_from s want)) g);
-      waiting = waiting-put s.jobs block (record { want = want; awaited = recalls s.epoch s.turn (not (is_own mode)) (recalled_from s want) }) refl w;
+      given = λ b g. absurd (sent_gives b want.block (recalls s.epoch s.turn (not (is_own want.mode)) (recalled_from s want)) g);
+      waiting = waiting-put s.jobs want.block (record { want = want; awaited = recalls s.epoch s.turn (not (is_own want.mode)) (recalled_from s want) }) refl w;
     })
 barred-transition s (Gave client block stamp end) w =
     by_gave Barred s client block stamp end (barred s (still s) (bars-same s w))

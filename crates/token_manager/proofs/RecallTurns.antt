@@ -20,7 +20,7 @@ use Rattle.slot_beliefs.specs.Recalls.{recalls, answers, noted, ready_blocks, jo
 use Rattle.token_manager.specs.declared.input.In.{In}
 use Rattle.token_manager.specs.declared.input.In.TheVariants.{Want, Gave, Deltas, Check, Tick}
 use Rattle.token_manager.specs.SlotState.{SlotState}
-use Rattle.token_manager.specs.Transition.{started, want_of, with_deltas, finished_at, transition}
+use Rattle.token_manager.specs.Transition.{started, with_deltas, finished_at, transition}
 use Rattle.token_manager.specs.Laws.{IsGivenOut, RecallsAreGivenOut, state_after}
 use Rattle.token_manager.proofs.Cases.{recalled_from, by_want, by_gave, by_deltas, by_finished_at}
 use Rattle.token_manager.proofs.JobsBarGrants.{Waiting, after_removal, was_there, waiting-removed, waiting-put, nobody_waits}
@@ -83,19 +83,18 @@ stands-steps : (s : SlotState) (blocks : List BlockId) → Stands s → Stands (
 stands-steps = steps_keep finished_at Stands (λ t block stands. stands-finished_at t stands block)
 
 stands-transition : (s : SlotState) (input : In) → Stands s → Stands (transition s input).state
-stands-transition s (Want client block inc req again mode end) stands =
-    let want = want_of client block inc req again mode in
+stands-transition s (Want want end) stands =
     let clients : List ℕ = recalled_from s want in
     let last : ℕ = s.turn + length clients in
-    let job : Job = record { want = want; awaited = recalls s.epoch s.turn (not (is_own mode)) clients } in
+    let job : Job = record { want = want; awaited = recalls s.epoch s.turn (not (is_own want.mode)) clients } in
     by_want (λ r. Stands r.state) s want end stands
     (λ _ _. record {
       waiting = stands.waiting;
       given = λ b found fact. given-later s.epoch s.turn (s.turn + 1) found.awaited (omega arith) (stands.given b found fact);
     })
     (λ _. record {
-      waiting = waiting-put s.jobs block job refl stands.waiting;
-      given = given-put s stands block job last (omega arith) (given-recalls s.epoch s.turn last (not (is_own mode)) clients (omega arith));
+      waiting = waiting-put s.jobs want.block job refl stands.waiting;
+      given = given-put s stands want.block job last (omega arith) (given-recalls s.epoch s.turn last (not (is_own want.mode)) clients (omega arith));
     })
 stands-transition s (Gave client block stamp end) stands =
     by_gave (λ r. Stands r.state) s client block stamp end stands

@@ -62,8 +62,8 @@ gives_turns : (s : SlotState) (input : In) → IsNotTick input
 gives_turns s input news = are_counted s.epoch s.turn (transition s input).state.turn (transition s input).outs (takes-transition s input news).1
 
 gives : (s : SlotState) (input : In) → GivesTurns s input
-gives s (Want client block inc req again mode end) =
-    let input : In = Want client block inc req again mode end in record { epoch = (takes-transition s input tt).0; turns = gives_turns s input tt }
+gives s (Want want end) =
+    let input : In = Want want end in record { epoch = (takes-transition s input tt).0; turns = gives_turns s input tt }
 gives s (Gave client block said end) =
     let input : In = Gave client block said end in record { epoch = (takes-transition s input tt).0; turns = gives_turns s input tt }
 gives s (Deltas log first upto rows) =

@@ -11,7 +11,7 @@ use Rattle.token_manager.specs.declared.input.In.{In}
 use Rattle.token_manager.specs.declared.input.In.TheVariants.{Want, Gave, Deltas, Check, Tick}
 use Rattle.token_manager.specs.Recalls.{sent}
 use Rattle.token_manager.specs.SlotState.{SlotState}
-use Rattle.token_manager.specs.Transition.{Done, want_of, passers, answer, with_deltas, finished_at, is_place, entry_at, transition}
+use Rattle.token_manager.specs.Transition.{Done, passers, answer, with_deltas, finished_at, is_place, entry_at, transition}
 use Rattle.token_manager.specs.Laws.{CountsTurns, IsNotTick}
 use Rattle.token_manager.proofs.Cases.{recalled_from, by_want, all_given, by_gave, by_deltas, let_go, by_finished_at}
 
@@ -58,10 +58,9 @@ takes-steps s (b ∷ bs) =
     )
 
 pub takes-transition : (s : SlotState) (input : In) → IsNotTick input → Takes s (transition s input)
-takes-transition s (Want client block inc req again mode end) _ =
-    let want = want_of client block inc req again mode in
+takes-transition s (Want want end) _ =
     by_want (Takes s) s want end (refl, refl) (λ _ _. (refl, takes-answer s want (passers s want)))
-    (λ _. (refl, takes-recalls s.epoch s.turn block (not (is_own mode)) (recalled_from s want)))
+    (λ _. (refl, takes-recalls s.epoch s.turn want.block (not (is_own want.mode)) (recalled_from s want)))
 takes-transition s (Gave client block stamp end) _ =
     by_gave (Takes s) s client block stamp end (refl, refl)
     (λ job fact ready. (refl, takes-answer (all_given s client block job.want) job.want (passers (all_given s client block job.want) job.want)))

@@ -22,7 +22,7 @@ use Rattle.token_manager.specs.declared.output.Out.{Out}
 use Rattle.token_manager.specs.declared.output.Out.TheVariants.{Grant, Forward, Recall, Applied, Live, Dead}
 use Rattle.token_manager.specs.Laws.{IsAnswered, IsTaken, WaitsAt, state_after}
 use Rattle.token_manager.specs.SlotState.{SlotState}
-use Rattle.token_manager.specs.Transition.{Done, has_turns, started, want_of, passers, answer, finish, finished, finished_at, on_want, recall, recall_or_finish, recalled, transition, with_deltas}
+use Rattle.token_manager.specs.Transition.{Done, has_turns, started, passers, answer, finish, finished, finished_at, on_want, recall, recall_or_finish, recalled, transition, with_deltas}
 use Rattle.token_manager.proofs.Cases.{recalled_from, on_want-taken, by_want, all_given, by_gave, by_deltas, let_go, by_finished_at}
 use Rattle.token_manager.proofs.JobsBarGrants.{Waiting, after_removal, block_laws, nobody_waits, not_waiting, waiting-all, waiting-removed}
 
@@ -155,7 +155,7 @@ module _ (block : BlockId) (want : Wanted) where
       h)
 
   met : (s : SlotState) (input : In) → Waiting s.jobs → WaitsAt s block want → Met (transition s input)
-  met s (Want client b inc req again mode end) w h = inr (waits_on s (want_of client b inc req again mode) end h)
+  met s (Want want end) w h = inr (waits_on s want end h)
   met s (Gave client b stamp end) w h =
       by_gave Met s client b stamp end (inr h) (λ job fact _. met_answered s (all_given s client b job.want) b job w fact refl h)
       (λ job fact. inr (met_put s b (record { want = job.want; awaited = noted job.awaited client stamp end }) (same_want s b job fact h) h))

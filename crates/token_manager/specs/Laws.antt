@@ -34,7 +34,7 @@ CountsTurns epoch turn (Dead ∷ outs) last = CountsTurns epoch turn outs last
 
 -- an input other than a tick, which sends again what bears an earlier turn
 abbrev pub IsNotTick : In → Type 0
-IsNotTick (Want client block inc req again mode end) = Unit {0}
+IsNotTick (Want want end) = Unit {0}
 IsNotTick (Gave client block stamp end) = Unit {0}
 IsNotTick (Deltas log first upto rows) = Unit {0}
 IsNotTick (Check block place) = Unit {0}
@@ -52,7 +52,7 @@ stamps_in (Dead ∷ outs) = stamps_in outs
 
 -- the stamps that an input gives out, where these are its outs: a tick gives out none
 abbrev pub given_by : In → List Out → List Stamp
-given_by (Want client block inc req again mode end) outs = stamps_in outs
+given_by (Want want end) outs = stamps_in outs
 given_by (Gave client block stamp end) outs = stamps_in outs
 given_by (Deltas log first upto rows) outs = stamps_in outs
 given_by (Check block place) outs = stamps_in outs

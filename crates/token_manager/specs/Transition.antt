@@ -202,12 +202,13 @@ on_tick s = record { state = s; outs = all_sent s.jobs }
 
 -- ---- all
 
+-- a want by its parts
 abbrev pub want_of : ℕ → BlockId → ℕ → ℕ → ℕ → Mode → Wanted
 want_of client block inc req again mode = record { client = client; block = block; inc = inc; req = req; again = again; mode = mode }
 
 -- what a slot does on an input
 abbrev pub transition : SlotState → In → Done
-transition s (Want client block inc req again mode end) = on_want s (want_of client block inc req again mode) end
+transition s (Want want end) = on_want s want end
 transition s (Gave client block stamp end) = on_gave s client block stamp end
 transition s (Deltas log first upto rows) = on_deltas s log first upto rows
 transition s (Check block place) = on_check s block place

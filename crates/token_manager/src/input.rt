@@ -1,23 +1,14 @@
 //! What a slot takes.
-use xfs_base::{BlockId, Crosses, Entry, List, LogId, Mode, Place, Stamp};
+use slot_beliefs::Wanted;
+use xfs_base::{BlockId, Crosses, Entry, List, LogId, Place, Stamp};
 
 /// What a slot takes.
 #[derive(Drop)]
 pub enum In {
     /// A client wants a block.
     Want {
-        /// The number of the client.
-        client: u8,
-        /// The block.
-        block: BlockId,
-        /// The incarnation of the client.
-        inc: u32,
-        /// The client's number of this want.
-        req: u32,
-        /// How often it was said before.
-        again: u32,
-        /// The wanted mode.
-        mode: Mode,
+        /// What it wants.
+        want: Wanted,
         /// The end of the client's log, which must be applied before the want is answered.
         end: u32,
     },

@@ -196,25 +196,7 @@ impl Slot {
         ensures outs { OnOk result (outs.new ≡ outs.old ++ (transition self.old input.now).outs) }
     {
         match *input {
-            In::Want {
-                client,
-                block,
-                inc,
-                req,
-                again,
-                mode,
-                end,
-            } => {
-                let want = Wanted {
-                    client,
-                    block,
-                    inc,
-                    req,
-                    again,
-                    mode,
-                };
-                self.on_want(alloc, outs, want, end)
-            }
+            In::Want { want, end } => self.on_want(alloc, outs, want, end),
             In::Gave {
                 client,
                 block,

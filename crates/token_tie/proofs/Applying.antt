@@ -283,8 +283,8 @@ module _ (logs : Bool) (b : BlockId) where
 -- each input, of a sound slot
 pub sound_takes : (logs : Bool) (b : BlockId) (w : World) (s : SlotState) (input : inputs.In) → Sound s → Manages b s w → Brings logs b w s input
     → Runs logs b w (transition s input)
-sound_takes logs b w s (Want client block inc req again mode end) sound m brings =
-    takes_want logs b w s client inc req again block mode end sound m brings.0 brings.1
+sound_takes logs b w s (Want want end) sound m brings =
+    takes_want logs b w s want.client want.inc want.req want.again want.block want.mode end sound m brings.0 brings.1
 sound_takes logs b w s (Gave client block stamp end) sound m brings = takes_gave logs b w s client block stamp end sound m brings.0 brings.1
 sound_takes logs b w s (Deltas log first upto rows) sound m brings = takes_deltas logs b w s log first upto rows sound m brings.0 brings.1
 sound_takes logs b w s (Check block place) sound m brings = takes_check logs b w s block place m

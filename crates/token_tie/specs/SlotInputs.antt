@@ -8,7 +8,7 @@ use Rattle.token_manager.specs.declared.input.In as inputs
 use Rattle.token_manager.specs.Laws.{OwnsAlone, state_after}
 use Rattle.token_manager.specs.SlotState.{SlotState}
 use Rattle.token_manager.specs.declared.input.In.TheVariants.{Want, Gave, Deltas, Check, Tick}
-use Rattle.token_manager.specs.Transition.{started, want_of, transition}
+use Rattle.token_manager.specs.Transition.{started, transition}
 use Rattle.delta_index.specs.Index.{entry_of}
 use Rattle.token_protocol.specs.Premises.{Premise, IndexCovers}
 use Rattle.token_protocol.specs.Basics.{In}
@@ -28,7 +28,7 @@ pub record Reached (s : SlotState) : Type 0 where
 
 -- what the world owes each input: that a Want or Gave was sent, and that Deltas tell what their log filed
 abbrev pub Brings : Bool → BlockId → World → SlotState → inputs.In → Type 0
-Brings logs b w s (Want client block inc req again mode end) = (0 < client) × (block ≡ b → In (want_seen (want_of client block inc req again mode) end) w.wants)
+Brings logs b w s (Want want end) = (0 < want.client) × (want.block ≡ b → In (want_seen want end) w.wants)
 Brings logs b w s (Gave client block stamp end) =
     (0 < client) × (block ≡ b → stamp.epoch ≡ w.epoch → In (record { client = client; stamp = stamp.turn; end = end }) w.gaves)
 Brings logs b w s (Deltas log first upto rows) =

@@ -15,7 +15,7 @@ use Rattle.token_manager.specs.declared.output.Out.{Out}
 use Rattle.token_manager.specs.declared.output.Out.TheVariants.{Applied, Live, Dead}
 use Rattle.token_manager.specs.Recalls.{recall_of, sent, all_sent}
 use Rattle.token_manager.specs.SlotState.{SlotState}
-use Rattle.token_manager.specs.Transition.{Done, has_turns, entry_at, passers, answer, finished, finish, recalled, recall, recall_or_finish, is_dropped, on_want, given, gave_last, gave_one, gave_noted, gave_job, on_gave, finished_job, finished_at, with_deltas, apply, can_apply, apply_or_not, joins_on, told_applied, deltas_of, on_deltas, is_place, found, want_of, transition}
+use Rattle.token_manager.specs.Transition.{Done, has_turns, entry_at, passers, answer, finished, finish, recalled, recall, recall_or_finish, is_dropped, on_want, given, gave_last, gave_one, gave_noted, gave_job, on_gave, finished_job, finished_at, with_deltas, apply, can_apply, apply_or_not, joins_on, told_applied, deltas_of, on_deltas, is_place, found, transition}
 use Rattle.xfs_base.proofs.Booleans.{by_test}
 use Rattle.xfs_base.specs.declared.block.BlockId.{BlockId}
 use Rattle.xfs_base.specs.declared.entry.Entry.{Entry}
@@ -148,7 +148,7 @@ module _ (w : GrantLaw) where
   found_on s block place = by_test OutSo (is_place (entry_at s block).place place) (Live (entry_at s block)) Dead (λ _. tt) (λ _. tt)
 
   pub slot_so : (s : SlotState) (i : Input) → InputSo i → StateSo s → Leaves StateSo OutSo (transition s i)
-  slot_so s (input.Want client block inc req again mode end) new h = want_on s (want_of client block inc req again mode) end h
+  slot_so s (input.Want want end) new h = want_on s want end h
   slot_so s (input.Gave client block stamp end) new h = gave_on s client block stamp end h
   slot_so s (input.Deltas log first upto rows) new h = deltas_on s log first upto rows new h
   slot_so s (input.Check block place) new h = record { state = h; outs = (found_on s block place, tt) }

@@ -9,13 +9,13 @@ use Rattle.slot_beliefs.specs.Recalls.{ready_blocks, applied_upto}
 use Rattle.token_manager.specs.declared.input.In.{In}
 use Rattle.token_manager.specs.declared.input.In.TheVariants.{Want, Gave, Deltas, Check, Tick}
 use Rattle.token_manager.specs.SlotState.{SlotState}
-use Rattle.token_manager.specs.Transition.{want_of, with_deltas, transition}
+use Rattle.token_manager.specs.Transition.{with_deltas, transition}
 use Rattle.token_manager.proofs.Cases.{by_want, by_gave, by_deltas}
 
 -- what is of tokens leaves these as they were
 pub tokens_same : (s : SlotState) (i : In) → IsOfTokens i → Same s (transition s i).state
-tokens_same s (Want client block inc req again mode end) of =
-    by_want (λ d. Same s d.state) s (want_of client block inc req again mode) end (same_itself s)
+tokens_same s (Want want end) of =
+    by_want (λ d. Same s d.state) s want end (same_itself s)
     (λ _ _. record { epoch = refl; applied = refl; index = refl }) (λ _. record { epoch = refl; applied = refl; index = refl })
 tokens_same s (Gave client block stamp end) of =
     by_gave (λ d. Same s d.state) s client block stamp end (same_itself s) (λ _ _ _. record { epoch = refl; applied = refl; index = refl })

@@ -117,15 +117,14 @@ module _ (k : ℕ) where
 
   -- an input about a block of the slot
   abbrev pub IsInputOf : In → Type 0
-  IsInputOf (input.Want client block inc req again mode end) = IsOf block
+  IsInputOf (input.Want want end) = IsOf want.block
   IsInputOf (input.Gave client block stamp end) = IsOf block
   IsInputOf _ = Unit {0}
 
   of_takes : (s : SlotState) (given : In) → IsInputOf given → AreOf s.jobs → KeepsTo (slot.transition s given)
-  of_takes s (input.Want client block inc req again mode end) of all =
-      let want = slot.want_of client block inc req again mode in
+  of_takes s (input.Want want end) of all =
       by_want KeepsTo s want end (record { jobs = all; outs = tt }) (λ _ _. of_finished s want all of)
-      (λ _. record { jobs = of_put s.jobs block _ all of of; outs = of_sent block (recalls s.epoch s.turn (not (is_own mode)) (recalled_from s want)) of })
+      (λ _. record { jobs = of_put s.jobs want.block _ all of of; outs = of_sent want.block (recalls s.epoch s.turn (not (is_own want.mode)) (recalled_from s want)) of })
   of_takes s (input.Gave client block stamp end) of all =
       by_gave KeepsTo s client block stamp end (record { jobs = all; outs = tt })
       (λ job fact _. of_finished (all_given s client block job.want) job.want (of_removed (is_at (block_cmp block)) s.jobs all)

@@ -138,7 +138,7 @@ module _ (s : SlotState) (log : LogId) (upto : ℕ) (rows : List (BlockId × Ent
       (λ _. record { state = refl; outs = refl })
 
 takes_alike : (s : SlotState) (given : In) → Alike (slot.transition s given) (slot.transition (without_pages s) given)
-takes_alike s (input.Want client block inc req again mode end) = want_alike s (slot.want_of client block inc req again mode) end
+takes_alike s (input.Want want end) = want_alike s want end
 takes_alike s (input.Gave client block stamp end) = gave_alike s client block stamp end
 takes_alike s (input.Deltas log first upto rows) = deltas_alike s log upto rows first
 takes_alike s (input.Check block place) = record { state = refl; outs = refl }
@@ -165,7 +165,7 @@ steps_stay s blocks = steps_keep slot.finished_at (λ t. (t.epoch ≡ s.epoch) �
     (λ t block h. by_finished_at (λ r. (r.state.epoch ≡ s.epoch) × (length r.state.applied ≡ length s.applied)) t block h (λ job fact. h)) s blocks (refl, refl)
 
 pub takes_stay : (s : SlotState) (given : In) → Stays s (slot.transition s given)
-takes_stay s (input.Want client block inc req again mode end) = by_want (Stays s) s (slot.want_of client block inc req again mode) end (stays_same s)
+takes_stay s (input.Want want end) = by_want (Stays s) s want end (stays_same s)
     (λ _ _. (refl, refl)) (λ _. (refl, refl))
 takes_stay s (input.Gave client block stamp end) = by_gave (Stays s) s client block stamp end (stays_same s) (λ _ _ _. (refl, refl)) (λ _ _. (refl, refl))
 takes_stay s (input.Deltas log first upto rows) = by_deltas (Stays s) s log first upto rows (stays_same s) (refl, refl) (λ _.

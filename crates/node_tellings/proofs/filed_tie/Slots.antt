@@ -10,7 +10,7 @@ use Rattle.slot_beliefs.specs.Recalls.{applied_of, answers, noted, is_ready, rea
 use Rattle.token_manager.specs.declared.input.In.{In as Input}
 use Rattle.token_manager.specs.declared.input.In.TheVariants as input
 use Rattle.token_manager.specs.SlotState.{SlotState}
-use Rattle.token_manager.specs.Transition.{Done, has_turns, finished, finish, recalled, recall, recall_or_finish, is_dropped, on_want, given, gave_last, gave_one, gave_noted, gave_job, on_gave, finished_job, finished_at, with_deltas, apply, can_apply, apply_or_not, joins_on, told_applied, deltas_of, on_deltas, want_of, transition}
+use Rattle.token_manager.specs.Transition.{Done, has_turns, finished, finish, recalled, recall, recall_or_finish, is_dropped, on_want, given, gave_last, gave_one, gave_noted, gave_job, on_gave, finished_job, finished_at, with_deltas, apply, can_apply, apply_or_not, joins_on, told_applied, deltas_of, on_deltas, transition}
 use Rattle.xfs_base.proofs.Booleans.{by_test}
 use Rattle.xfs_base.specs.declared.block.BlockId.{BlockId}
 use Rattle.xfs_base.specs.declared.entry.Entry.{Entry}
@@ -93,7 +93,7 @@ module _ (b : Bounds) (laws : Bounding b) (k : ℕ) where
   InputBounded i = Given (λ log upto rows. b.told log upto) i
 
   pub slot_goes : (s : SlotState) (given_ : Input) → InputBounded given_ → StateBounded s → StateBounded (transition s given_).state
-  slot_goes s (input.Want client block inc req again mode end) told h = want_on s (want_of client block inc req again mode) end h
+  slot_goes s (input.Want want end) told h = want_on s want end h
   slot_goes s (input.Gave client block stamp end) told h = gave_on s client block stamp end h
   slot_goes s (input.Deltas log first upto rows) told h = deltas_on s log first upto rows told h
   slot_goes s (input.Check block place) told h = h

@@ -88,10 +88,9 @@ all_kept s (b ∷ bs) =
 -- ---- all inputs
 
 pub slot_grants : (s : SlotState) (given : In) → AllGranted (slot.transition s given)
-slot_grants s (input.Want client block inc req again mode end) =
-    let want = slot.want_of client block inc req again mode in
+slot_grants s (input.Want want end) =
     by_want AllGranted s want end tt (λ _ _. finished_grants s want)
-    (λ _. sent_none s.epoch s.index.rows block (recalls s.epoch s.turn (not (is_own mode)) (recalled_from s want)))
+    (λ _. sent_none s.epoch s.index.rows want.block (recalls s.epoch s.turn (not (is_own want.mode)) (recalled_from s want)))
 slot_grants s (input.Gave client block stamp end) =
     by_gave AllGranted s client block stamp end tt (λ job fact _. finished_grants (all_given s client block job.want) job.want) (λ job fact. tt)
 slot_grants s (input.Deltas log first upto rows) =
