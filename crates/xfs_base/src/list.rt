@@ -1,5 +1,6 @@
 //! A list that contracts see as the list of its items.
-ghost use Rattle.std.specs.Prelude.{◌≡◌, ◌∷◌, ◌++◌, [], length, slice_get, IfOk, OnOk, OnErr, IsTrue, ◌↔◌, MatchOption, Some, None};
+ghost use Rattle.std.specs.Prelude.{◌≡◌, ◌∷◌, ◌++◌, [], length, slice_get, slice_set, IfOk, OnOk, OnErr, IsTrue, ◌↔◌, MatchOption, Some, None};
+ghost use Rattle.std.specs.Borrow.{LendsIf, sem};
 
 use std::alloc::{AllocError, Global};
 use std::marker::Model;
@@ -29,6 +30,8 @@ impl<T> Model for List<T> {
 }
 
 impl<T> List<T> {
+    ghost use Rattle.xfs_base.specs.contracts.list.List.{the_row};
+
     /// The empty list. It keeps the allocator and takes no memory.
     pub fn new(alloc: Global) -> List<T>
         ensures { result ≡ [] }
@@ -79,6 +82,14 @@ impl<T> List<T> {
         ensures { MatchOption result (slice_get self.now place ≡ None) (λ x. slice_get self.now place ≡ Some x.now) }
     {
         self.vec.as_slice().get(place)
+    }
+
+    /// The item at a place, counted from 0, to be changed where it lies; none past the end.
+    pub fn get_mut(&mut self, place: usize) -> Option<&mut T>
+        ensures* writes_back { sem 𝓛 (LendsIf (the_row T.row) T.row self.entry result (slice_set self.old place) self.old) }
+        ensures value { MatchOption result (slice_get self.old place ≡ None) (λ x. slice_get self.old place ≡ Some x.now) }
+    {
+        self.vec.get_mut(place)
     }
 
     /// Appends an item. Where memory is wanting the list is unchanged.
