@@ -1,5 +1,6 @@
 pub mod Below
 pub mod Entries
+pub mod LoggedRuns
 pub mod Joint
 pub mod Chains
 pub mod References

@@ -15,7 +15,8 @@ use Rattle.run_laws.specs.restart_law.Sure.{UndoubtedRunsAreSure}
 use Rattle.run_laws.specs.world_lines.Lines.{LinesGive}
 use Rattle.run_laws.specs.world_logs.Lines.{HasLines, Texts}
 use Rattle.run_laws.specs.world_reads.Joint.{IsSureUpto, Joint}
-use Rattle.run_laws.specs.world_reads.Moments.{EveryRunStands, first_of}
+use Rattle.run_laws.specs.world_reads.LoggedRuns.{LoggedRun, logged_run}
+use Rattle.run_laws.specs.world_reads.Moments.{EveryRunStands}
 use Rattle.run_holdings.proofs.settled_law.Tables.{clean, dirty}
 use Rattle.run_holdings.specs.settled_law.Settled.{EveryRunsBlocksAreSettled, IsSettledAt}
 use Rattle.token_law.specs.Laws as small
@@ -37,21 +38,23 @@ module _ (below : Below) where
   module _ (base : Setting) (apart : TellsApart base) (e : Estate AnyNode) (setup : IsSetup e.script.setup)
       (run : IsRun any_step any_start e.script e.events e.world) (lines : HasLines base e) (texts : Texts base e lines) (count : ℕ)
       (none : NoDoubtfulRestart e count) where
-    sure : (part : ℕ) → IsSureUpto base e lines texts part (first_of base e lines texts) count
+    abbrev logged : LoggedRun
+    logged = logged_run base e lines texts
+
+    sure : (part : ℕ) → IsSureUpto logged part count
     sure part r there keeps = below.sure base e lines count none r there keeps
 
     settled : (part : ℕ) → part < slot_count → IsSettledAt e texts.text count part
     settled part of_eight =
-        let joint : Joint base e lines texts part (first_of base e lines texts) count =
+        let joint : Joint logged part count =
         (below.runs.moments base apart e setup run lines texts count none).joints part of_eight in
         record {
           filed = joint.idx.net.filed;
-          own = is_own_table below.give below.logs.whole below.logs.one_text below.logs.own below.tokens below.servers base e setup run lines texts part
-              (first_of base e lines texts) count (sure part) joint;
+          own = is_own_table below.give below.logs.whole below.logs.one_text below.logs.own below.tokens below.servers logged setup run part count (sure part) joint;
           named = joint.index_stands.texts_of;
-          clean = clean below.tokens base e lines texts part of_eight (first_of base e lines texts) count joint;
-          dirty = dirty below.tokens base e lines texts part of_eight (first_of base e lines texts) count joint
-              (dirty_blocks_lead below.leads below.tokens base e lines texts part of_eight (first_of base e lines texts) count joint);
+          clean = clean below.tokens logged part of_eight count joint;
+          dirty = dirty below.tokens logged part of_eight count joint
+              (dirty_blocks_lead below.leads below.tokens logged part of_eight count joint);
         }
 
   -- for the lines that each run has, and their texts

@@ -4,9 +4,7 @@ use Rattle.std.proofs.Common.{◌≡◌, ℕ, zero, suc, ◌<◌, ◌≤◌, tru
 use Rattle.std.proofs.lemmas.Bool.{eq-eqb}
 use Rattle.client_node.specs.declared.phase.Phase.{Phase}
 use Rattle.client_node.specs.declared.phase.Phase.TheVariants.{Down, Opening, Serving as Serves}
-use Rattle.core_world.specs.declared.any_node.AnyNode.{AnyNode}
 use Rattle.index_tie.specs.Filed.{Filed}
-use Rattle.log_tie.specs.Setting.{Setting}
 use Rattle.node_slots.specs.node_tie.Promised.{with_promise}
 use Rattle.node_slots.specs.node_index_tie.Sight.{held_in}
 use Rattle.node_slots.specs.node_tie.ClientEvents.{ClientAgrees}
@@ -19,14 +17,13 @@ use Rattle.run_laws.specs.index_reads.Ties.{Tied}
 use Rattle.run_laws.specs.world_law.Fallen.{Names}
 use Rattle.run_laws.specs.world_law.Owners.{moment, node_in, tokens_in, tokens_of}
 use Rattle.run_laws.specs.world_law.Standing.{members}
-use Rattle.run_laws.specs.world_logs.Lines.{HasLines, Texts}
 use Rattle.run_laws.specs.world_reads.Dirty.{DirtyBlocksLead}
 use Rattle.run_laws.specs.world_reads.Holders.{IsNewest}
 use Rattle.run_laws.specs.world_reads.Joint.{Joint, k}
+use Rattle.run_laws.specs.world_reads.LoggedRuns.{LoggedRun}
 use Rattle.run_holdings.proofs.settled_law.Clean.{HasJoin, has_join}
 use Rattle.run_holdings.proofs.settled_law.Rows.{settled_lower, settled_nothing, settled_upper, settled_value}
 use Rattle.run_holdings.specs.settled_law.Settled.{CleanBlocksAreSettled, DirtyBlocksAreSettledBelow, lies_at, settled_entry}
-use Rattle.segment_format.specs.declared.segment.Segment.{Segment}
 use Rattle.token_client.specs.Held.{is_dirty}
 use Rattle.token_client.specs.State.{TokensState, held_of}
 use Rattle.token_law.specs.Laws.{IsClient, versions_of}
@@ -35,15 +32,15 @@ use Rattle.version_model.specs.Effects.{history_after}
 use Rattle.version_model.specs.History.{content_at, nothing_yet}
 use Rattle.world_base.specs.Cluster.{place_of}
 use Rattle.world_base.specs.declared.cluster.Cluster.{Cluster}
-use Rattle.world_base.specs.declared.estate.Estate.{Estate}
 use Rattle.xfs_base.proofs.Booleans.{contrary}
 use Rattle.xfs_base.specs.Blocks.{slot_of}
 use Rattle.xfs_base.specs.declared.block.BlockId.{BlockId}
 use Rattle.xfs_base.specs.declared.node.NodeId.TheVariants.{Client}
 use Rattle.xfs_base.specs.Limits.{slot_count}
 
-module _ (laws : tokens.NodeLaws) (base : Setting) (e : Estate AnyNode) (lines : HasLines base e) (texts : Texts base e lines) (part : ℕ)
-    (of_eight : part < slot_count) (first : ℕ → ℕ → Segment) (count : ℕ) (joint : Joint base e lines texts part first count) where
+module _ (laws : tokens.NodeLaws) (logged : LoggedRun) (part : ℕ) (of_eight : part < slot_count) (count : ℕ) (joint : Joint logged part count) where
+  open logged use {estate as e, texts}
+
   abbrev net : Net
   net = with_promise 1 joint.tok.net
 
@@ -51,13 +48,13 @@ module _ (laws : tokens.NodeLaws) (base : Setting) (e : Estate AnyNode) (lines :
   f = joint.idx.net.filed
 
   abbrev cluster : Cluster
-  cluster = k base e lines texts part first
+  cluster = k logged part
 
   abbrev all_members : ℕ
   all_members = members cluster part
 
   tied : Tied all_members part (held_in part texts.text) net joint.idx.net
-  tied = slot_tied base e lines texts part of_eight first count joint
+  tied = slot_tied logged part of_eight count joint
 
   both : Same net.books f
   both = worlds.same all_members part (held_in part texts.text) net joint.idx.net tied

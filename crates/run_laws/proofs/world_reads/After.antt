@@ -3,23 +3,19 @@ use Rattle.std.proofs.Common.{◌≡◌, ◌⊎◌, ◌≤◌, ◌<◌, ◌==◌
 use Rattle.std.proofs.lemmas.Bool.{eqb-true}
 use Rattle.std.proofs.lemmas.Bool.Decides.{nat_tests}
 use Rattle.std.specs.Prelude.{IfSome}
-use Rattle.core_world.specs.declared.any_node.AnyNode.{AnyNode}
 use Rattle.run_laws.specs.index_reads.Ties.{BooksAre}
 use Rattle.index_tie.specs.Filed.{Filed}
 use Rattle.log_flight.specs.Flights.{FlightState}
 use Rattle.log_law.specs.Restarts.{last_flight}
 use Rattle.log_law.specs.Tails.{then_on}
-use Rattle.log_tie.specs.Setting.{Setting}
 use Rattle.node_slots.specs.node_tie.LogRows.{rows_told}
 use Rattle.node_slots.specs.node_tie.Sight.{SameLog}
 use Rattle.node_slots.specs.owner_index_tie.Filing.{IsSameLog}
 use Rattle.run_laws.specs.reopening_law.Flights.{LastFlew}
-use Rattle.segment_format.specs.declared.segment.Segment.{Segment}
 use Rattle.run_laws.specs.segment_tie.Segments.{TellsOnce}
 use Rattle.token_law.specs.Books.{Books}
-use Rattle.world_base.specs.declared.estate.Estate.{Estate}
 use Rattle.run_laws.specs.world_lines.Lines.{IsLine}
-use Rattle.run_laws.specs.world_logs.Lines.{HasLines, IsLeft, Texts, setting}
+use Rattle.run_laws.specs.world_logs.Lines.{IsLeft, setting}
 use Rattle.run_laws.specs.world_logs.Roles.{Role, log_by, renews}
 use Rattle.run_laws.specs.world_logs.Roles.Role.{OfClient, OfCleaner, OfManager}
 use Rattle.xfs_base.proofs.Booleans.{contrary}
@@ -30,18 +26,21 @@ use Rattle.run_laws.proofs.world_reads.AfterLogs.{flight_left, stays_known}
 use Rattle.run_laws.proofs.world_reads.AfterTells.{tells_same}
 use Rattle.run_laws.specs.world_reads.Joint.{There, WritesKind, flew_at, log_at}
 use Rattle.run_laws.specs.world_reads.Below.{Below}
+use Rattle.run_laws.specs.world_reads.LoggedRuns.{LoggedRun}
 
-module _ (base : Setting) (e : Estate AnyNode) (lines : HasLines base e) (texts : Texts base e lines) (part : ℕ) (first : ℕ → ℕ → Segment) where
+module _ (logged : LoggedRun) (part : ℕ) where
+  open logged use {base, estate as e, lines}
+
   -- some owner has this log
   abbrev pub Owns : ℕ → Role → Type 0
-  Owns l r = There base e lines texts part first r × (renews r ≡ false) × (log_by r ≡ l)
+  Owns l r = There logged part r × (renews r ≡ false) × (log_by r ≡ l)
 
   -- what is known of the log of each owner at a count
-  abbrev pub KnownAt : ℕ → Books → Filed → (r : Role) → There base e lines texts part first r → Type 0
+  abbrev pub KnownAt : ℕ → Books → Filed → (r : Role) → There logged part r → Type 0
   KnownAt count k f r there = OwnAfter (WritesKind r) (log_by r) ((lines r there).stands count).moment k f
 
   abbrev pub AllKnown : ℕ → Books → Filed → Type 0
-  AllKnown count k f = (r : Role) (there : There base e lines texts part first r) → renews r ≡ false → KnownAt count k f r there
+  AllKnown count k f = (r : Role) (there : There logged part r) → renews r ≡ false → KnownAt count k f r there
 
   -- what nobody has nobody files
   pub record NothingElse (k : Books) (f : Filed) : Type 0 where
@@ -52,14 +51,14 @@ module _ (base : Setting) (e : Estate AnyNode) (lines : HasLines base e) (texts 
 
   pub record OfLogs (count : ℕ) (k : Books) (f : Filed) : Type 0 where
     pub books : BooksAre k f
-    pub lined : (r : Role) (there : There base e lines texts part first r) → renews r ≡ false
-        → IsLine (log_by r) (log_at base e lines texts part first r there count) f
-    pub alone : (l : ℕ) → ((r : Role) → There base e lines texts part first r → renews r ≡ false → log_by r ≡ l → ⊥) → f.head l ≡ 0
+    pub lined : (r : Role) (there : There logged part r) → renews r ≡ false
+        → IsLine (log_by r) (log_at logged part r there count) f
+    pub alone : (l : ℕ) → ((r : Role) → There logged part r → renews r ≡ false → log_by r ≡ l → ⊥) → f.head l ≡ 0
     pub tells : (l q : ℕ) → 0 < q → q ≤ f.head l → TellsOnce (f.segment l q)
-    pub flew : (r : Role) (there : There base e lines texts part first r) → renews r ≡ false
-        → LastFlew k (log_by r) (flew_at base e lines texts part first r there count)
-    pub kind : (r : Role) (there : There base e lines texts part first r) → renews r ≡ false
-        → IfSome (flew_at base e lines texts part first r there count) (λ f. WritesKind r f.segment)
+    pub flew : (r : Role) (there : There logged part r) → renews r ≡ false
+        → LastFlew k (log_by r) (flew_at logged part r there count)
+    pub kind : (r : Role) (there : There logged part r) → renews r ≡ false
+        → IfSome (flew_at logged part r there count) (λ f. WritesKind r f.segment)
 
   -- the owner of a log, or none
   whose : (l : ℕ) → ((r : Role) × Owns l r) ⊎ ((r : Role) → Owns l r → ⊥)
@@ -118,13 +117,13 @@ module _ (base : Setting) (e : Estate AnyNode) (lines : HasLines base e) (texts 
 
   -- ---- the log of one that is left as it was
 
-  pub left_flight : Below → (count : ℕ) (r : Role) (there : There base e lines texts part first r)
+  pub left_flight : Below → (count : ℕ) (r : Role) (there : There logged part r)
       → IsLeft ((lines r there).scene count).net ((lines r there).scene (suc count)).net
       → last_flight (then_on ((lines r there).stands count).moment.run ((lines r there).goes count)) ≡ last_flight ((lines r there).stands count).moment.run
   left_flight laws count r there left =
       flight_left laws.reopenings.flights.others_leave_flights (setting base e r) _ _ _ ((lines r there).stands count).moment.run ((lines r there).goes count) left
 
-  pub left_after : Below → (count : ℕ) (k m : Books) (f h : Filed) (r : Role) (there : There base e lines texts part first r)
+  pub left_after : Below → (count : ℕ) (k m : Books) (f h : Filed) (r : Role) (there : There logged part r)
       → IsLeft ((lines r there).scene count).net ((lines r there).scene (suc count)).net → SameLog k m (log_by r) → IsSameLog (log_by r) f h
       → KnownAt count k f r there
       → KnownAt (suc count) m h r there

@@ -10,7 +10,6 @@ use Rattle.cleaner_node.specs.declared.cleaner.Cleaner.{Cleaner as CleanerNode}
 use Rattle.cleaner_node.specs.declared.cleaner.Phase as cleaning
 use Rattle.cleaner_node.specs.declared.cleaner.Phase.TheVariants.{Down, Opening, Serving}
 use Rattle.cleaner_job.specs.declared.job.Job.{Job}
-use Rattle.core_world.specs.declared.any_node.AnyNode.{AnyNode}
 use Rattle.core_world.specs.declared.any_node.AnyNode.TheVariants as any
 use Rattle.index_tie.proofs.Runs.{good_in}
 use Rattle.index_tie.specs.Cleaning.{is_filed_name, IsWithin, ReadFor}
@@ -21,7 +20,6 @@ use Rattle.index_tie.specs.Net.Runs.{On}
 use Rattle.index_tie.specs.Takeovers.{of_log}
 use Rattle.log_owner.specs.Sending.{server_in}
 use Rattle.log_scan.specs.Transition.{least_horizon}
-use Rattle.log_tie.specs.Setting.{Setting}
 use Rattle.node_base.specs.declared.effects.Effect.{Effect}
 use Rattle.node_base.specs.declared.effects.Effect.TheVariants.{Send, Answer, Lose, Does}
 use Rattle.node_slots.specs.node_index_tie.Sight.{held_in}
@@ -53,9 +51,8 @@ use Rattle.wire_msg.specs.declared.body.Body.TheVariants as body
 use Rattle.wire_msg.specs.declared.packet.Do.{Do}
 use Rattle.wire_msg.specs.declared.packet.Do.TheVariants.{Begin, Deliver, Tick}
 use Rattle.wire_msg.specs.declared.packet.Packet.{Packet}
-use Rattle.world_base.specs.declared.estate.Estate.{Estate}
 use Rattle.run_laws.specs.world_law.Owners.{moment, node_named}
-use Rattle.run_laws.specs.world_logs.Lines.{HasLines, Texts, setting}
+use Rattle.run_laws.specs.world_logs.Lines.{setting}
 use Rattle.run_laws.specs.world_logs.Roles.{Role}
 use Rattle.run_laws.proofs.world_reads.CleanerChecked.{BodyMay, BodyReadsMay, DoReadsMay, EffectMay, InputAt, JobMay, PhaseMay, ToldMay, event_asks}
 use Rattle.run_laws.proofs.world_reads.CleanerChecks as phases
@@ -77,6 +74,7 @@ use Rattle.xfs_base.specs.declared.segment.SegRef.{SegRef}
 use Rattle.xfs_base.specs.Steps.{still}
 use Rattle.xfs_base.proofs.Alls.{all_weaker}
 use Rattle.run_laws.specs.world_reads.Below.{Below}
+use Rattle.run_laws.specs.world_reads.LoggedRuns.{LoggedRun}
 
 -- what is so of each where a test passes is so of each, where it passes
 each_where : {X : Type 0} (t : Bool) (P : X → Type 0) (xs : List X) → (t ≡ true → AllByRecursion P xs) → AllByRecursion (λ x. t ≡ true → P x) xs
@@ -103,11 +101,12 @@ then_checks c j segment s reads named some =
     }).state) some)
 
 -- the law of places, and how long horizons stay
-module _ (law : Below) (base : Setting) (e : Estate AnyNode) (lines : HasLines base e) (texts : Texts base e lines) (part : ℕ)
-    (first : ℕ → ℕ → Segment) (count : ℕ) (joint : Joint base e lines texts part first count) (node : CleanerNode)
-    (here : IsHere base e lines texts part first count node) (of_eight : part < 8) (ours : ListsOurs base e lines texts part first count)
-    (reached : AreReached law base e lines texts part first count joint node here) (came : ReadingsCame e.world (moment e count))
-    (named : node_named (moment e count) Cleaner ≡ Some (any.Cleaner node)) where
+module _ (law : Below) (logged : LoggedRun) (part count : ℕ) (joint : Joint logged part count) (node : CleanerNode) (here : IsHere logged part count node)
+    (of_eight : part < 8) (ours : ListsOurs logged part count) (reached : AreReached law logged part count joint node here)
+    (came : ReadingsCame logged.estate.world (moment logged.estate count))
+    (named : node_named (moment logged.estate count) Cleaner ≡ Some (any.Cleaner node)) where
+  open logged use {base, estate as e, texts, first}
+
   abbrev sent : List Packet
   sent = (moment e count).sent
 
@@ -134,11 +133,11 @@ module _ (law : Below) (base : Setting) (e : Estate AnyNode) (lines : HasLines b
 
   -- ---- the segment that the job is about
 
-  module _ (seg : SegRef) (f : Flew base e lines texts part first count seg) (drop : MayBeDropped base e lines texts part first count
+  module _ (seg : SegRef) (f : Flew logged part count seg) (drop : MayBeDropped logged part count
       law.logs.listed ours
       law.logs.written joint reached seg.name) where
     its_within : IsWithin n.filed seg.name
-    its_within = within base e lines texts part first count law.logs.listed ours law.logs.written joint reached seg f drop
+    its_within = within logged part count law.logs.listed ours law.logs.written joint reached seg f drop
 
     its_nine : (0 < seg.name.log.0) × (seg.name.log.0 ≤ 9)
     its_nine = one_of_nine n.filed filed seg.name.log.0 seg.name.seq its_within.some its_within.filed
@@ -152,7 +151,7 @@ module _ (law : Below) (base : Setting) (e : Estate AnyNode) (lines : HasLines b
         seg.name.log.0
         its_nine.0 its_nine.1 in
         let low : seg.name.seq < least_horizon seg.name.log.0 (all_news joint.idx.registry.board) =
-        below base e lines texts part first count law.logs.listed ours law.logs.written joint reached seg f drop in
+        below logged part count law.logs.listed ours law.logs.written joint reached seg f drop in
         let up = p.above in
         record { epoch = p.epoch; promised = p.promised; within = its_within; below = omega arith; lies = lies }
 
@@ -161,7 +160,7 @@ module _ (law : Below) (base : Setting) (e : Estate AnyNode) (lines : HasLines b
     grouped premise =
         let there : Segment = n.filed.segment seg.name.log.0 seg.name.seq in
         let name : seg.name ≡ there.name = tells_apart seg_cmp_exact seg.name there.name premise in
-        its_group base e lines texts part first count law.logs.listed ours seg f
+        its_group logged part count law.logs.listed ours seg f
         ∙ (ap (λ (x : SegName). (texts.text x).group) name
         ∙ ap (λ (s : Segment). s.group) (sym (joint.index_stands.texts_of seg.name.log.0 seg.name.seq its_within.some its_within.filed)))
 
@@ -210,16 +209,16 @@ module _ (law : Below) (base : Setting) (e : Estate AnyNode) (lines : HasLines b
   module _ (v : Emptying) (serves : node.phase ≡ Serving v) (job : Job) (has : v.job ≡ Some job) where
     same_phase : n.job.phase ≡ job.cleaning.phase
     same_phase = ap (λ (s : CleaningState). s.phase)
-        (has_job law base e lines texts part first count joint node here ours reached came named v serves job has)
+        (has_job law logged part count joint node here ours reached came named v serves job has)
 
     about : JobMet (listed_in sent Cleaner) job.cleaning.phase job.hand
-    about = its_about law base e lines texts part first count joint node here ours reached came named v serves job has
+    about = its_about law logged part count joint node here ours reached came named v serves job has
 
-    drops : (p : Phase) → job.cleaning.phase ≡ p → (r : Role) (there : There base e lines texts part first r)
-        → JobPhaseSeen (setting base e r) (log_at base e lines texts part first r there count) p
+    drops : (p : Phase) → job.cleaning.phase ≡ p → (r : Role) (there : There logged part r)
+        → JobPhaseSeen (setting base e r) (log_at logged part r there count) p
     drops p premise r there =
-        subst (JobPhaseSeen (setting base e r) (log_at base e lines texts part first r there count)) premise
-        (job_seen base e lines texts part first count law.logs.listed ours law.logs.written joint reached node here v serves job
+        subst (JobPhaseSeen (setting base e r) (log_at logged part r there count)) premise
+        (job_seen logged part count law.logs.listed ours law.logs.written joint reached node here v serves job
         has r there)
 
     met : (p : Phase) → job.cleaning.phase ≡ p → PhaseMet (listed_in sent Cleaner) p
@@ -228,7 +227,7 @@ module _ (law : Below) (base : Setting) (e : Estate AnyNode) (lines : HasLines b
     -- what it checks
     phase_may : (p : Phase) → job.cleaning.phase ≡ p → phases.PhaseMay may p
     phase_may (Checking j seg checks) premise =
-        checked_may seg (flew_so base e lines texts part first count law.logs.listed ours seg (met (Checking j seg checks) premise).here)
+        checked_may seg (flew_so logged part count law.logs.listed ours seg (met (Checking j seg checks) premise).here)
         (λ r there. (drops (Checking j seg checks) premise r there).1) j checks (same_phase ∙ premise)
     phase_may Greeting premise = tt
     phase_may (Listing l) premise = tt
@@ -240,7 +239,7 @@ module _ (law : Below) (base : Setting) (e : Estate AnyNode) (lines : HasLines b
     -- and what it reads
     found_may : (s : Segment) → ReadFor n.filed (Some s) n.job.phase → (p : Phase) → job.cleaning.phase ≡ p → FoundMay may s p
     found_may s owed (Reading j seg) premise =
-        read_may seg (flew_so base e lines texts part first count law.logs.listed ours seg (met (Reading j seg) premise).here)
+        read_may seg (flew_so logged part count law.logs.listed ours seg (met (Reading j seg) premise).here)
         (λ r there. (drops (Reading j seg) premise r there).1) j s (same_phase ∙ premise) owed
     found_may s owed Greeting premise = tt
     found_may s owed (Listing l) premise = tt
@@ -266,11 +265,11 @@ module _ (law : Below) (base : Setting) (e : Estate AnyNode) (lines : HasLines b
     body_may p among own (body.Fragment m) premise =
         told_may (server_in p.from) m.ask (Held m.fragment)
         (subst (AnswerReads part n v p.from) premise
-        (answer_reads law base e lines texts part first count joint node here ours reached came named v serves p among own))
+        (answer_reads law logged part count joint node here ours reached came named v serves p among own))
     body_may p among own (body.Missing m) premise =
         told_may (server_in p.from) m.ask (Missing m.generation)
         (subst (AnswerReads part n v p.from) premise
-        (answer_reads law base e lines texts part first count joint node here ours reached came named v serves p among own))
+        (answer_reads law logged part count joint node here ours reached came named v serves p among own))
     body_may p among own _ premise = tt
 
   -- ---- the event

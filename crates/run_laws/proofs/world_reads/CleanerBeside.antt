@@ -8,18 +8,15 @@ use Rattle.core_world.specs.AnyNode.{any_start, any_step}
 use Rattle.core_world.specs.declared.any_node.AnyNode.{AnyNode}
 use Rattle.core_world.specs.declared.any_node.AnyNode.TheVariants as any
 use Rattle.log_flight.specs.Flights.{FlightState}
-use Rattle.log_tie.specs.Setting.{Setting}
 use Rattle.node_base.specs.Setups.{IsSetup}
 use Rattle.node_slots.specs.owner_index_tie.CleanerMoves.{ItemMoves}
 use Rattle.run_laws.specs.reopening_law.Reopens.{TellsApart}
-use Rattle.segment_format.specs.declared.segment.Segment.{Segment}
 use Rattle.token_protocol.specs.Basics.{In}
 use Rattle.wire_msg.specs.declared.packet.Do.{Do}
 use Rattle.wire_msg.specs.declared.packet.Do.TheVariants.{Deliver}
 use Rattle.wire_msg.specs.declared.packet.Packet.{Packet}
 use Rattle.world_base.specs.Cluster.{place_of}
 use Rattle.world_base.specs.declared.cluster.Cluster.{Cluster}
-use Rattle.world_base.specs.declared.estate.Estate.{Estate}
 use Rattle.world_base.specs.declared.event.Event.{Event}
 use Rattle.world_base.specs.declared.event.Event.TheVariants as events
 use Rattle.world_base.specs.declared.world.World.{World}
@@ -30,7 +27,7 @@ use Rattle.run_laws.proofs.world_law.ManagerTurns.{delivered}
 use Rattle.run_laws.proofs.world_law.Sent.{was_sent}
 use Rattle.run_laws.specs.world_law.Owners.{moment, node_in, node_named}
 use Rattle.run_laws.specs.world_logs.Horizons.{IsOpened, board_of}
-use Rattle.run_laws.specs.world_logs.Lines.{HasLines, Texts, cluster}
+use Rattle.run_laws.specs.world_logs.Lines.{cluster}
 use Rattle.run_laws.specs.world_logs.Roles.{Role, log_by, renews}
 use Rattle.run_laws.specs.world_logs.Roles.Role.{OfClient, OfCleaner, OfManager}
 use Rattle.run_laws.proofs.world_reads.CleanerFront.{Takes, cleaner_steps, its_cluster, may_happen}
@@ -43,6 +40,7 @@ use Rattle.run_laws.proofs.world_reads.Taking.{Took, took_it}
 use Rattle.run_laws.specs.world_reads.Joint.{IsSureUpto, Joint, There, flew_at}
 use Rattle.xfs_base.specs.declared.node.NodeId.TheVariants.{Cleaner, Registry}
 use Rattle.run_laws.specs.world_reads.Below.{Below}
+use Rattle.run_laws.specs.world_reads.LoggedRuns.{LoggedRun}
 
 -- a packet that is delivered was sent
 delivered_was : (w : World AnyNode) (event : Event) → MayHappen w event → (q : Packet) → what_of event ≡ Deliver q → In q w.sent × (q.to ≡ node_of event)
@@ -52,9 +50,11 @@ delivered_was w (events.Deliver packet) may q gets =
     let fact : packet ≡ q = delivered packet q gets in
     (was_sent w.sent q (subst (λ x. MayHappen w (events.Deliver x)) fact may), ap (λ (x : Packet). x.to) (sym fact))
 
-module _ (law : Below) (base : Setting) (e : Estate AnyNode) (ok : IsSetup e.script.setup)
-    (run : IsRun any_step any_start e.script e.events e.world) (lines : HasLines base e) (texts : Texts base e lines) (part : ℕ) (first : ℕ → ℕ → Segment)
-    (count : ℕ) (joint : Joint base e lines texts part first count) (event : Event) (node : CleanerNode) where
+module _ (law : Below) (logged : LoggedRun) (ok : IsSetup logged.estate.script.setup)
+    (run : IsRun any_step any_start logged.estate.script logged.estate.events logged.estate.world) (part count : ℕ) (joint : Joint logged part count)
+    (event : Event) (node : CleanerNode) where
+  open logged use {base, estate as e, texts, first}
+
   abbrev what : Do
   what = what_of event
 
@@ -65,12 +65,12 @@ module _ (law : Below) (base : Setting) (e : Estate AnyNode) (ok : IsSetup e.scr
     pub happens : slice_get e.events count ≡ Some event
     pub own : node_of event ≡ Cleaner
     pub took : Took (moment e count) event (any.Cleaner node)
-    pub sure : IsSureUpto base e lines texts part first (suc count)
-    pub moved : Moved base e lines texts part first count joint.idx.net
+    pub sure : IsSureUpto logged part (suc count)
+    pub moved : Moved logged part count joint.idx.net
     pub promised : joint.idx.net.promised ≤ joint.tok.net.promised
 
   -- each fragment that a server listed is of a log of the run
-  ours : ListsOurs base e lines texts part first count
+  ours : ListsOurs logged part count
   ours p m among fact meta held = (let o = law.runs.runs_list_their_logs e ok run count p m among fact meta held in record {
     role = o.role;
     there = o.there;
@@ -78,7 +78,7 @@ module _ (law : Below) (base : Setting) (e : Estate AnyNode) (ok : IsSetup e.scr
   })
 
   module _ (x : CleanerEvent) where
-    here : IsHere base e lines texts part first count node
+    here : IsHere logged part count node
     here = subst (λ name. node_in (moment e count).nodes (place_of (cluster base e) name) ≡ Some (any.Cleaner node)) x.own
         (took_it (cluster base e) (moment e count) (its_cluster e count) event (any.Cleaner node) x.took)
 
@@ -92,8 +92,8 @@ module _ (law : Below) (base : Setting) (e : Estate AnyNode) (ok : IsSetup e.scr
       acts_are = x.took.acts;
     }
 
-    steps : Steps base e lines texts part first count node what
-    steps = cleaner_steps base e lines texts part first count event x.happens x.own node here takes_it
+    steps : Steps logged part count node what
+    steps = cleaner_steps logged part count event x.happens x.own node here takes_it
 
     its_name : node_named (moment e count) Cleaner ≡ Some (any.Cleaner node)
     its_name = subst (λ (c : Cluster). node_in (moment e count).nodes (place_of c Cleaner) ≡ Some (any.Cleaner node)) (sym (its_cluster e count)) steps.before
@@ -102,33 +102,33 @@ module _ (law : Below) (base : Setting) (e : Estate AnyNode) (ok : IsSetup e.scr
     registry_named = subst (λ (c : Cluster). node_in (moment e count).nodes (place_of c Registry) ≡ Some (any.Registry joint.idx.registry))
         (sym (its_cluster e count)) joint.index_stands.placed.registry
 
-    opened : (r : Role) → There base e lines texts part first r → renews r ≡ false → IsOpened e.script.setup.clients (log_by r)
+    opened : (r : Role) → There logged part r → renews r ≡ false → IsOpened e.script.setup.clients (log_by r)
     opened (OfClient c) there keeps = inl there
     opened OfCleaner there keeps = inr refl
     opened (OfManager j) there keeps = absurd cc
 
-    reached : AreReached law base e lines texts part first count joint node steps.before
+    reached : AreReached law logged part count joint node steps.before
     reached r there keeps =
         law.runs.runs_reach_horizons e ok run count (log_by r) (opened r there keeps) joint.idx.registry.board (ap board_of registry_named)
 
-    low : PollsAreLow law base e lines texts part first count joint node steps.before
+    low : PollsAreLow law logged part count joint node steps.before
     low v p m serves among fact of late =
         law.tokens.epochs.cleaner_polls_are_low true (cluster base e) part texts.text first (moment e count).nodes (moment e count).sent (moment e count).acts
         joint.tok
         joint.idx v m x.few (record { tokens = joint.tokens_stand; index = joint.index_stands; same = joint.slots })
-        (ap (λ (n : CleanerNode). n.phase) (in_tokens base e lines texts part first count joint node steps.before) ∙ serves)
+        (ap (λ (n : CleanerNode). n.phase) (in_tokens logged part count joint node steps.before) ∙ serves)
         (record { packet = p; among = among; bears = fact; of = of })
         (let same = unwrap_or-slice_get v.promised.epochs part 0 in let upto = late in omega arith) 9 (omega arith) (omega arith)
 
-    moved_is : (f : FlightState) → flew_at base e lines texts part first OfCleaner tt count ≡ Some f
+    moved_is : (f : FlightState) → flew_at logged part OfCleaner tt count ≡ Some f
         → AllByRecursion (ItemMoves part joint.idx.net.sent) f.segment.items
     moved_is f fact = subst (λ o. IfSome o (λ (y : FlightState). AllByRecursion (ItemMoves part joint.idx.net.sent) y.segment.items)) fact x.moved
 
-    pub beside : Beside law base e lines texts part first count joint node what
+    pub beside : Beside law logged part count joint node what
     beside = record {
       of_eight = x.few;
       steps = steps;
-      straight = (its_line base e lines texts part first).straight count event x.happens (sym x.own);
+      straight = (its_line logged part).straight count event x.happens (sym x.own);
       apart = x.apart;
       sure = x.sure;
       brought = λ q gets.

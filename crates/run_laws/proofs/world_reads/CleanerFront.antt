@@ -8,8 +8,6 @@ use Rattle.cleaner_node.specs.CleanerEvents.{cleaner_step}
 use Rattle.cleaner_node.specs.declared.cleaner.Cleaner.{Cleaner as CleanerNode}
 use Rattle.core_world.specs.declared.any_node.AnyNode.{AnyNode}
 use Rattle.core_world.specs.declared.any_node.AnyNode.TheVariants as any
-use Rattle.log_tie.specs.Setting.{Setting}
-use Rattle.segment_format.specs.declared.segment.Segment.{Segment}
 use Rattle.version_model.specs.declared.act.Act.{Act}
 use Rattle.wire_msg.specs.declared.packet.Do.{Do}
 use Rattle.wire_msg.specs.declared.packet.Packet.{Packet}
@@ -25,11 +23,12 @@ use Rattle.run_laws.proofs.world_law.Nodes.{get_set_same}
 use Rattle.run_laws.proofs.world_law.Turning.{next_cluster, next_keeps}
 use Rattle.run_laws.proofs.world_law.Turns.{one_node}
 use Rattle.run_laws.specs.world_law.Owners.{moment, node_in}
-use Rattle.run_laws.specs.world_logs.Lines.{HasLines, Texts, cluster}
+use Rattle.run_laws.specs.world_logs.Lines.{cluster}
 use Rattle.run_laws.proofs.world_reads.CleanerMoment.{IsHere, Steps}
 use Rattle.xfs_base.specs.declared.node.NodeId.{NodeId}
 use Rattle.xfs_base.specs.declared.node.NodeId.TheVariants.{Cleaner}
 use Rattle.run_laws.specs.world_logs.Doings.{acts_by, acts_in, acts_of, did, owns}
+use Rattle.run_laws.specs.world_reads.LoggedRuns.{LoggedRun}
 
 -- ---- the next moment
 
@@ -102,9 +101,10 @@ module _ (w : World AnyNode) (event : Event) where
 
 -- ---- the cleaner
 
-module _ (base : Setting) (e : Estate AnyNode) (lines : HasLines base e) (texts : Texts base e lines) (part : ℕ) (first : ℕ → ℕ → Segment) (count : ℕ)
-    (event : Event) (at : slice_get e.events count ≡ Some event) (whose : node_of event ≡ Cleaner) (node : CleanerNode)
-    (here : IsHere base e lines texts part first count node) where
+module _ (logged : LoggedRun) (part count : ℕ) (event : Event) (at : slice_get logged.estate.events count ≡ Some event) (whose : node_of event ≡ Cleaner)
+    (node : CleanerNode) (here : IsHere logged part count node) where
+  open logged use {base, estate as e}
+
   abbrev w : World AnyNode
   w = moment e count
 
@@ -134,7 +134,7 @@ module _ (base : Setting) (e : Estate AnyNode) (lines : HasLines base e) (texts 
         ∙ (ap (λ xs. drop (length w.acts) xs) (took.acts_are ∙ ap (λ (x : AnyNode). w.acts ++ (any_step x what).acts) node_is)
         ∙ drop-append_seam w.acts (cleaner_step node what).acts))
 
-    pub cleaner_steps : Steps base e lines texts part first count node what
+    pub cleaner_steps : Steps logged part count node what
     cleaner_steps = record {
       before = here;
       after = subst (λ (v : World AnyNode). node_in v.nodes (place_of (cluster base e) Cleaner) ≡ Some (any.Cleaner (cleaner_step node what).node))

@@ -7,13 +7,11 @@ use Rattle.cleaner_node.specs.declared.cleaner.Phase as cleaning
 use Rattle.cleaner_node.specs.declared.cleaner.Phase.TheVariants.{Down, Opening, Serving}
 use Rattle.cleaner_job.specs.declared.job.Job.{Job}
 use Rattle.cleaner_job.specs.Jobs.{hand_of}
-use Rattle.core_world.specs.declared.any_node.AnyNode.{AnyNode}
 use Rattle.core_world.specs.declared.any_node.AnyNode.TheVariants as any
 use Rattle.index_tie.specs.Takeovers.{of_log}
 use Rattle.log_owner.specs.Promised.{epoch_of}
 use Rattle.log_owner.specs.Sending.{server_in}
 use Rattle.log_scan.specs.Transition.{least_horizon}
-use Rattle.log_tie.specs.Setting.{Setting}
 use Rattle.node_slots.specs.owner_index_tie.CleanerEvents.{EmptyingSeen, JobAgrees, PhaseAgrees, PollGets, ReadGets}
 use Rattle.run_laws.specs.place_law.Copies.{HasJob}
 use Rattle.run_laws.specs.place_law.Hands.{AnswerReads}
@@ -34,13 +32,11 @@ use Rattle.wire_msg.specs.declared.deltas.Poll.{Poll}
 use Rattle.wire_msg.specs.declared.packet.Do.{Do}
 use Rattle.wire_msg.specs.declared.packet.Do.TheVariants.{Begin, Deliver, Tick}
 use Rattle.wire_msg.specs.declared.packet.Packet.{Packet}
-use Rattle.world_base.specs.declared.estate.Estate.{Estate}
 use Rattle.run_laws.specs.world_index.Owes.{CleanerBodyOwed, CleanerDoOwed, CleanerPacketOwed}
 use Rattle.run_laws.specs.world_law.Owners.{moment, node_named}
 use Rattle.run_laws.specs.world_lines.Lines.{LineGives}
 use Rattle.run_laws.specs.world_logs.Doings.{did}
 use Rattle.run_laws.specs.world_logs.Horizons.{Reached}
-use Rattle.run_laws.specs.world_logs.Lines.{HasLines, Texts}
 use Rattle.run_laws.specs.world_logs.Roles.{Role, log_by, renews}
 use Rattle.run_laws.specs.world_logs.Roles.Role.{OfCleaner}
 use Rattle.run_laws.proofs.world_reads.CleanerMoment.{IsHere, agrees, its_line, its_scene, its_setting, sure_at}
@@ -50,10 +46,12 @@ use Rattle.run_laws.specs.world_reads.Joint.{IsSureUpto, Joint, There}
 use Rattle.xfs_base.specs.declared.node.NodeId.{NodeId}
 use Rattle.xfs_base.specs.declared.node.NodeId.TheVariants.{Cleaner, Registry}
 use Rattle.run_laws.specs.world_reads.Below.{Below}
+use Rattle.run_laws.specs.world_reads.LoggedRuns.{LoggedRun}
 
-module _ (below : Below) (base : Setting) (e : Estate AnyNode) (lines : HasLines base e) (texts : Texts base e lines) (part : ℕ)
-    (first : ℕ → ℕ → Segment) (count : ℕ) (joint : Joint base e lines texts part first count) (node : CleanerNode)
-    (here : IsHere base e lines texts part first count node) where
+module _ (below : Below) (logged : LoggedRun) (part count : ℕ) (joint : Joint logged part count) (node : CleanerNode)
+    (here : IsHere logged part count node) where
+  open logged use {estate as e, texts}
+
   abbrev sent : List Packet
   sent = (moment e count).sent
 
@@ -65,18 +63,18 @@ module _ (below : Below) (base : Setting) (e : Estate AnyNode) (lines : HasLines
 
   -- horizons that the registry keeps are no further than what was filed
   abbrev pub AreReached : Type 0
-  AreReached = (r : Role) → There base e lines texts part first r → renews r ≡ false
+  AreReached = (r : Role) → There logged part r → renews r ≡ false
       → Reached (did e (log_by r) count) (least_horizon (log_by r) (all_news joint.idx.registry.board))
 
-  module _ (sure : IsSureUpto base e lines texts part first count) (low : PollsAreLow) where
-    gives : LineGives 9 (its_scene base e lines texts part first count).net joint.idx.net.filed
-    gives = below.lines.lines_give texts.text 9 (its_setting base e lines texts part first) (its_scene base e lines texts part first count).net
+  module _ (sure : IsSureUpto logged part count) (low : PollsAreLow) where
+    gives : LineGives 9 (its_scene logged part count).net joint.idx.net.filed
+    gives = below.lines.lines_give texts.text 9 (its_setting logged part) (its_scene logged part count).net
         joint.idx.net.filed
-        (sure_at base e lines texts part first count sure) (joint.lined OfCleaner tt refl)
+        (sure_at logged part count sure) (joint.lined OfCleaner tt refl)
 
-    low_is : (its_scene base e lines texts part first count).net.low ≡ least_horizon 9 (all_news joint.idx.registry.board)
+    low_is : (its_scene logged part count).net.low ≡ least_horizon 9 (all_news joint.idx.registry.board)
     low_is =
-        (((its_line base e lines texts part first).stands count).seen Registry (any.Registry joint.idx.registry) joint.index_stands.placed.registry).low
+        (((its_line logged part).stands count).seen Registry (any.Registry joint.idx.registry) joint.index_stands.placed.registry).low
 
     pub poll_gets : (v : Emptying) (p : Packet) (m : Poll) → node.phase ≡ Serving v → In p sent → p.body ≡ body.Poll m → PollGets part joint.idx.net v m
     poll_gets v p m serves among premise same late some =
@@ -85,10 +83,10 @@ module _ (below : Below) (base : Setting) (e : Estate AnyNode) (lines : HasLines
 
   -- ---- what it reads
 
-  module _ (ours : ListsOurs base e lines texts part first count) (reached : AreReached) (came : ReadingsCame e.world (moment e count))
+  module _ (ours : ListsOurs logged part count) (reached : AreReached) (came : ReadingsCame e.world (moment e count))
       (named : node_named (moment e count) Cleaner ≡ Some (any.Cleaner node)) (v : Emptying) (serves : node.phase ≡ Serving v) where
     seen : EmptyingSeen part joint.idx.net v.log v.feed v.promised v.job
-    seen = (subst (PhaseAgrees part joint.idx.net texts.text) serves (agrees base e lines texts part first count joint node here).phase).0
+    seen = (subst (PhaseAgrees part joint.idx.net texts.text) serves (agrees logged part count joint node here).phase).0
 
     job_is : (epoch : ℕ) (o : Option Job) (job : Job) → JobAgrees part joint.idx.net epoch o → o ≡ Some job → joint.idx.net.job ≡ job.cleaning
     job_is epoch None job seen premise = absurd cc
@@ -112,14 +110,14 @@ module _ (below : Below) (base : Setting) (e : Estate AnyNode) (lines : HasLines
         let its = its_about job has in
         let phase : joint.idx.net.job.phase ≡ job.cleaning.phase = ap (λ (s : CleaningState). s.phase) (has_job job has) in
         below.reads.places.hands_read_texts part texts.text sent (cuts_at e.world) joint.idx.net v p
-        (filed_known base e lines texts part first count joint)
+        (filed_known logged part count joint)
         (record {
           job = has_job;
           came = its_reading;
-          within = reads_within base e lines texts part first count below.logs.listed ours below.logs.written joint reached node
+          within = reads_within logged part count below.logs.listed ours below.logs.written joint reached node
               here v serves job has
               joint.idx.net.job.phase phase (subst (PhaseMet (listed_in sent Cleaner)) (sym phase) its.about);
-          refers = refers base e lines texts part first count below.logs.listed ours (hand_of v.job)
+          refers = refers logged part count below.logs.listed ours (hand_of v.job)
               (subst (HandMet (listed_in sent Cleaner)) (sym (ap hand_of has)) its.hand);
         })
         among own
@@ -148,8 +146,8 @@ module _ (below : Below) (base : Setting) (e : Estate AnyNode) (lines : HasLines
 
   -- ---- whatever happens to it
 
-  pub cleaner_gets : IsSureUpto base e lines texts part first count → PollsAreLow
-      → ListsOurs base e lines texts part first count → AreReached → ReadingsCame e.world (moment e count)
+  pub cleaner_gets : IsSureUpto logged part count → PollsAreLow
+      → ListsOurs logged part count → AreReached → ReadingsCame e.world (moment e count)
       → node_named (moment e count) Cleaner ≡ Some (any.Cleaner node) → (what : Do)
       → ((q : Packet) → what ≡ Deliver q → In q sent × (q.to ≡ Cleaner)) → CleanerDoOwed part texts.text joint.idx.net node.phase what
   cleaner_gets sure low ours reached came named Begin fact = tt

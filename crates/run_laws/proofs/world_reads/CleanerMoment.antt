@@ -3,7 +3,6 @@ use Rattle.std.proofs.Common.{◌≡◌, ℕ, suc, ◌++◌, Some, refl, sym, ap
 use Rattle.cleaner_node.specs.CleanerEvents.{cleaner_step, takes}
 use Rattle.cleaner_node.specs.declared.cleaner.Cleaner.{Cleaner as CleanerNode}
 use Rattle.node_logs.specs.client_log_tie.Owner.{Scene}
-use Rattle.core_world.specs.declared.any_node.AnyNode.{AnyNode}
 use Rattle.core_world.specs.declared.any_node.AnyNode.TheVariants as any
 use Rattle.log_law.specs.Laws.{Moment}
 use Rattle.log_law.specs.Restarts.{IsSureRun}
@@ -11,27 +10,28 @@ use Rattle.log_tie.specs.Setting.{Setting}
 use Rattle.node_base.specs.Effects.{acts_of}
 use Rattle.node_slots.specs.node_tie.CleanerLogs.{its_log}
 use Rattle.node_slots.specs.owner_index_tie.CleanerEvents.{CleanerAgrees}
-use Rattle.segment_format.specs.declared.segment.Segment.{Segment}
 use Rattle.run_laws.specs.segment_tie.Cleaners.{CleanerWrites}
 use Rattle.wire_msg.specs.declared.packet.Do.{Do}
 use Rattle.world_base.specs.Cluster.{place_of}
-use Rattle.world_base.specs.declared.estate.Estate.{Estate}
 use Rattle.run_laws.specs.world_index.Asking.{CleanerAsks}
 use Rattle.run_laws.specs.world_index.Standing.{WasAsked}
 use Rattle.run_laws.specs.world_law.Owners.{moment, node_in}
 use Rattle.run_laws.specs.world_lines.Lines.{IsSure}
 use Rattle.run_laws.specs.world_logs.Doings.{did}
-use Rattle.run_laws.specs.world_logs.Lines.{HasLines, Line, Texts, cluster, setting}
+use Rattle.run_laws.specs.world_logs.Lines.{Line, cluster, setting}
 use Rattle.run_laws.specs.world_logs.Roles.Role.{OfCleaner}
 use Rattle.run_laws.specs.world_logs.Standing.{CleanerOwns}
 use Rattle.run_laws.proofs.world_reads.Stepping.{sure_before}
 use Rattle.run_laws.specs.world_reads.Joint.{IsSureUpto, Joint}
+use Rattle.run_laws.specs.world_reads.LoggedRuns.{LoggedRun}
 use Rattle.xfs_base.specs.declared.node.NodeId.TheVariants.{Cleaner}
 
 pub same_cleaner : (a b : CleanerNode) → Some (any.Cleaner a) ≡ Some (any.Cleaner b) → a ≡ b
 same_cleaner a b fact = cc
 
-module _ (base : Setting) (e : Estate AnyNode) (lines : HasLines base e) (texts : Texts base e lines) (part : ℕ) (first : ℕ → ℕ → Segment) where
+module _ (logged : LoggedRun) (part : ℕ) where
+  open logged use {base, estate as e, lines, texts}
+
   abbrev pub its_line : Line base e OfCleaner
   its_line = lines OfCleaner tt
 
@@ -57,7 +57,7 @@ module _ (base : Setting) (e : Estate AnyNode) (lines : HasLines base e) (texts 
     pub after : IsHere (suc count) (cleaner_step node what).node
     pub did : did e its_log (suc count) ≡ did e its_log count ++ acts_of Cleaner (takes node.peers node.phase what).outs
 
-  pub sure_at : (count : ℕ) → IsSureUpto base e lines texts part first count → IsSure texts.text 9 its_setting (its_scene count).net
+  pub sure_at : (count : ℕ) → IsSureUpto logged part count → IsSure texts.text 9 its_setting (its_scene count).net
   sure_at count sure = record {
     own = refl;
     trusted = refl;
@@ -67,14 +67,14 @@ module _ (base : Setting) (e : Estate AnyNode) (lines : HasLines base e) (texts 
   }
 
   -- what is sure after an event was sure before it
-  pub upto_before : (count : ℕ) → IsSureUpto base e lines texts part first (suc count) → IsSureUpto base e lines texts part first count
+  pub upto_before : (count : ℕ) → IsSureUpto logged part (suc count) → IsSureUpto logged part count
   upto_before count sure r there keeps =
       sure_before ((lines r there).stands count).moment.run ((lines r there).goes count)
       (subst (λ (m : Moment (setting base e r) ((lines r there).scene (suc count)).net). IsSureRun m.run) ((lines r there).joined count) (sure r there keeps))
 
   -- ---- the small worlds of the slot
 
-  module _ (count : ℕ) (joint : Joint base e lines texts part first count) (node : CleanerNode) (here : IsHere count node) where
+  module _ (count : ℕ) (joint : Joint logged part count) (node : CleanerNode) (here : IsHere count node) where
     pub in_index : joint.idx.cleaner ≡ node
     in_index = same_cleaner joint.idx.cleaner node (sym joint.index_stands.placed.cleaner ∙ here)
 

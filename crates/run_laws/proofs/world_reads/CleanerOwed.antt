@@ -12,7 +12,6 @@ use Rattle.cleaner_job.specs.declared.lasting.Lasting.{Lasting}
 use Rattle.cleaner_job.specs.Lasting.{lasting_room}
 use Rattle.node_logs.specs.client_log_tie.ClientEvents.{ServesStraight}
 use Rattle.node_logs.specs.client_log_tie.Owner.{Scene, SeesStage}
-use Rattle.core_world.specs.declared.any_node.AnyNode.{AnyNode}
 use Rattle.core_world.specs.declared.any_node.AnyNode.TheVariants as any
 use Rattle.index_tie.proofs.Tables.{second_of}
 use Rattle.log_flight.specs.Flights.{FlightState}
@@ -30,12 +29,10 @@ use Rattle.node_slots.specs.owner_index_tie.CleanerMoves.{ItemMoves}
 use Rattle.node_slots.specs.owner_index_tie.Filing.{FilesOwed}
 use Rattle.run_laws.specs.reading_law.Readings.{ReadingsCame}
 use Rattle.run_laws.specs.reopening_law.Reopens.{TellsApart}
-use Rattle.segment_format.specs.declared.segment.Segment.{Segment}
 use Rattle.token_protocol.specs.Basics.{In}
 use Rattle.wire_msg.specs.declared.packet.Do.{Do}
 use Rattle.wire_msg.specs.declared.packet.Do.TheVariants.{Begin, Deliver, Tick}
 use Rattle.wire_msg.specs.declared.packet.Packet.{Packet}
-use Rattle.world_base.specs.declared.estate.Estate.{Estate}
 use Rattle.run_laws.proofs.world_index.Gets as gets
 use Rattle.run_laws.proofs.world_index.Senders.{IsSentBy, kinds_of_tokens}
 use Rattle.run_laws.specs.world_index.Owes.{CleanerDoOwed, CleanerTold, IndexOwes}
@@ -43,7 +40,7 @@ use Rattle.run_laws.specs.world_index.Standing.{SentBy}
 use Rattle.run_laws.proofs.world_law.Gets as token_gets
 use Rattle.run_laws.specs.world_law.Standing as tokens
 use Rattle.run_laws.specs.world_law.Owners.{moment, node_named}
-use Rattle.run_laws.specs.world_logs.Lines.{HasLines, Texts, cluster}
+use Rattle.run_laws.specs.world_logs.Lines.{cluster}
 use Rattle.run_laws.specs.world_logs.Roles.Role.{OfCleaner}
 use Rattle.run_laws.proofs.world_reads.AfterOwners.{never_files}
 use Rattle.run_laws.proofs.world_reads.CleanerAsking.{asks}
@@ -61,6 +58,7 @@ use Rattle.xfs_base.specs.declared.node.NodeId.TheVariants.{Cleaner}
 use Rattle.xfs_base.specs.Limits.{counter_room, u32_end}
 use Rattle.xfs_base.specs.Steps.{still}
 use Rattle.run_laws.specs.world_reads.Below.{Below}
+use Rattle.run_laws.specs.world_reads.LoggedRuns.{LoggedRun}
 
 -- ---- counters
 
@@ -78,24 +76,25 @@ room_below (Serving v) h = lasting_below v.lasting (and_first (lasting_room v.la
 
 -- ---- the event
 
-module _ (law : Below) (base : Setting) (e : Estate AnyNode) (lines : HasLines base e) (texts : Texts base e lines) (part : ℕ)
-    (first : ℕ → ℕ → Segment) (count : ℕ) (joint : Joint base e lines texts part first count) (node : CleanerNode) (what : Do) where
+module _ (law : Below) (logged : LoggedRun) (part count : ℕ) (joint : Joint logged part count) (node : CleanerNode) (what : Do) where
+  open logged use {base, estate as e, texts}
+
   -- What stands beside the event: the cleaner takes it; what comes to it was sent to it; and what the laws of one run say of its log, of horizons, of Polls, of
   -- readers and of lists.
   pub record Beside : Type 0 where
     pub of_eight : part < 8
-    pub steps : Steps base e lines texts part first count node what
-    pub straight : ServesStraight ((its_line base e lines texts part first).goes count)
-    pub apart : TellsApart (its_setting base e lines texts part first)
-    pub sure : IsSureUpto base e lines texts part first (suc count)
+    pub steps : Steps logged part count node what
+    pub straight : ServesStraight ((its_line logged part).goes count)
+    pub apart : TellsApart (its_setting logged part)
+    pub sure : IsSureUpto logged part (suc count)
     pub brought : (q : Packet) → what ≡ Deliver q → In q (moment e count).sent × (q.to ≡ Cleaner)
     pub named : node_named (moment e count) Cleaner ≡ Some (any.Cleaner node)
     pub came : ReadingsCame e.world (moment e count)
-    pub ours : ListsOurs base e lines texts part first count
-    pub reached : AreReached law base e lines texts part first count joint node steps.before
-    pub low : PollsAreLow law base e lines texts part first count joint node steps.before
+    pub ours : ListsOurs logged part count
+    pub reached : AreReached law logged part count joint node steps.before
+    pub low : PollsAreLow law logged part count joint node steps.before
     -- what it had in flight when it served last is moved; and the index knows of no later promise than tokens
-    pub moved : (f : FlightState) → flew_at base e lines texts part first OfCleaner tt count ≡ Some f
+    pub moved : (f : FlightState) → flew_at logged part OfCleaner tt count ≡ Some f
         → AllByRecursion (ItemMoves part joint.idx.net.sent) f.segment.items
     pub promised : joint.idx.net.promised ≤ joint.tok.net.promised
 
@@ -104,13 +103,13 @@ module _ (law : Below) (base : Setting) (e : Estate AnyNode) (lines : HasLines b
     sent = (moment e count).sent
 
     abbrev g : Setting
-    g = its_setting base e lines texts part first
+    g = its_setting logged part
 
     abbrev w : Scene
-    w = its_scene base e lines texts part first count
+    w = its_scene logged part count
 
     abbrev x : Scene
-    x = its_scene base e lines texts part first (suc count)
+    x = its_scene logged part (suc count)
 
     abbrev p : cleaning.Phase
     p = node.phase
@@ -121,14 +120,14 @@ module _ (law : Below) (base : Setting) (e : Estate AnyNode) (lines : HasLines b
     abbrev q : cleaning.Phase
     q = (takes node.peers p what).state
 
-    before : IsHere base e lines texts part first count node
+    before : IsHere logged part count node
     before = beside.steps.before
 
     sees : cleaner_log.CleanerAgrees g w p
-    sees = (owns base e lines texts part first count node before).agrees
+    sees = (owns logged part count node before).agrees
 
     sees_then : cleaner_log.CleanerAgrees g x q
-    sees_then = (owns base e lines texts part first (suc count) _ beside.steps.after).agrees
+    sees_then = (owns logged part (suc count) _ beside.steps.after).agrees
 
     -- ---- its log
 
@@ -143,8 +142,7 @@ module _ (law : Below) (base : Setting) (e : Estate AnyNode) (lines : HasLines b
     -- where it serves no more nothing is filed
     away_then : (r : cleaning.Phase) → q ≡ r → is_serving x.net.owner ≡ false → x.net.filed ≡ w.net.filed
     away_then r fact away =
-        never_files law.logs.unfiled g w.net x.net (its_moment base e lines texts part first count) ((its_line base e lines texts part
-        first).goes count)
+        never_files law.logs.unfiled g w.net x.net (its_moment logged part count) ((its_line logged part).goes count)
         (beside.straight.never away)
 
     still_down : (l : Lasting) → q ≡ Down l → x.net.filed ≡ w.net.filed
@@ -158,19 +156,19 @@ module _ (law : Below) (base : Setting) (e : Estate AnyNode) (lines : HasLines b
     not_up : (l : Lasting) → p ≡ Down l → (v : Emptying) → q ≡ Serving v → ⊥
     not_up l fact v serves =
         let down = (subst (cleaner_log.CleanerAgrees g w) fact sees).1 in
-        let c = comes g refl w.net x.net ((its_line base e lines texts part first).goes count) beside.straight (ap is_serving down)
+        let c = comes g refl w.net x.net ((its_line logged part).goes count) beside.straight (ap is_serving down)
         (owner_serves x q sees_then v serves) in
         contrary (sym (ap is_writing down) ∙ c.writes)
 
     -- ---- what it asks and gets
 
     asked : AllByRecursion (EffectOwed part joint.idx.net) outs
-    asked = asks law base e lines texts part first count joint node before beside.of_eight beside.ours beside.reached beside.came beside.named what
+    asked = asks law logged part count joint node before beside.of_eight beside.ours beside.reached beside.came beside.named what
         beside.brought
 
     gets_so : CleanerDoOwed part texts.text joint.idx.net p what
-    gets_so = cleaner_gets law base e lines texts part first count joint node before
-        (upto_before base e lines texts part first count beside.sure) beside.low beside.ours
+    gets_so = cleaner_gets law logged part count joint node before
+        (upto_before logged part count beside.sure) beside.low beside.ours
         beside.reached beside.came beside.named what beside.brought
 
     known : (k : Packet) → what ≡ Deliver k → SentBy part joint.idx.net joint.idx.asked k.from k.body × IsSentBy k.from k.body
@@ -180,8 +178,8 @@ module _ (law : Below) (base : Setting) (e : Estate AnyNode) (lines : HasLines b
 
     event_gets : (lasting_of p).questions.last < u32_end → EventGets part joint.idx.net p what
     event_gets room =
-        gets.cleaner_gets part texts.text joint.idx.asked joint.idx.net p what (agrees base e lines texts part first count joint node before).phase
-        (sight.asks base e lines texts part first count joint node before) room known gets_so
+        gets.cleaner_gets part texts.text joint.idx.asked joint.idx.net p what (agrees logged part count joint node before).phase
+        (sight.asks logged part count joint node before) room known gets_so
 
     -- ---- what it files
 
@@ -196,16 +194,16 @@ module _ (law : Below) (base : Setting) (e : Estate AnyNode) (lines : HasLines b
     serving_so : (v : Emptying) → p ≡ Serving v → FilesOwed (NewFor part texts.text joint.idx.net p) texts.text 9 joint.idx.net.filed outs
     serving_so v fact =
         nothing (phase_room p) refl
-        (λ room. serving_files law base e lines texts part first count joint node what beside.steps beside.sure v fact beside.of_eight
+        (λ room. serving_files law logged part count joint node what beside.steps beside.sure v fact beside.of_eight
         (event_gets (room_below p room)) asked)
 
     still_so : x.net.filed ≡ w.net.filed → FilesOwed (NewFor part texts.text joint.idx.net p) texts.text 9 joint.idx.net.filed outs
-    still_so same = still_files law base e lines texts part first count joint node what beside.steps beside.sure same
+    still_so same = still_files law logged part count joint node what beside.steps beside.sure same
 
     restart_so : (l : Lasting) (o : openings.Opening) (v : Emptying) → p ≡ Opening l o → q ≡ Serving v
         → FilesOwed (NewFor part texts.text joint.idx.net p) texts.text 9 joint.idx.net.filed outs
     restart_so l o v opens serves =
-        restart_files law base e lines texts part first count joint node what beside.steps beside.sure beside.straight beside.apart l o v opens
+        restart_files law logged part count joint node what beside.steps beside.sure beside.straight beside.apart l o v opens
         serves beside.moved
 
     files_so : (r : cleaning.Phase) → p ≡ r → (s : cleaning.Phase) → q ≡ s
@@ -229,7 +227,7 @@ module _ (law : Below) (base : Setting) (e : Estate AnyNode) (lines : HasLines b
         joint.tok.net beside.of_eight st.cleaner.0 tt false joint.tok.cleaner what st.cleaner.1 (owed what refl) tt tt in
         subst (λ (c : CleanerNode). CleanerGoes part joint.tok.net.promised (tokens.epoch_now (cluster base e) part joint.tok) c.phase
         (takes c.peers c.phase what).state (takes c.peers c.phase what).outs)
-        (in_tokens base e lines texts part first count joint node before) goes.0
+        (in_tokens logged part count joint node before) goes.0
       where
         owed : (d : Do) → what ≡ d
             → token.CleanerOwed part joint.tok.net.promised (tokens.epoch_now (cluster base e) part joint.tok) joint.tok.cleaner.phase d
@@ -245,7 +243,7 @@ module _ (law : Below) (base : Setting) (e : Estate AnyNode) (lines : HasLines b
 
     reopens_so : (r : cleaning.Phase) → p ≡ r → (s : cleaning.Phase) → q ≡ s → ReopensOn part texts.text joint.idx.net p q
     reopens_so (Opening l o) fact (Serving v) then_is =
-        reopens_on law base e lines texts part first count joint node what beside.steps beside.straight beside.apart beside.sure
+        reopens_on law logged part count joint node what beside.steps beside.straight beside.apart beside.sure
         l o v fact then_is (tokens.epoch_now (cluster base e) part joint.tok) token_goes
         beside.promised
     reopens_so (Opening l o) fact (Down m) then_is = at_both (Opening l o) (Down m) fact then_is tt
@@ -261,7 +259,7 @@ module _ (law : Below) (base : Setting) (e : Estate AnyNode) (lines : HasLines b
       asks = asked;
       reopens = reopens_so p refl q refl;
       gets = gets_so;
-      writes = writes_texts law.writing.cleaner_writes_texts base e lines texts part first count node what beside.steps joint.idx.net;
+      writes = writes_texts law.writing.cleaner_writes_texts logged part count node what beside.steps joint.idx.net;
     }
 
     -- what its event is owed

@@ -14,7 +14,6 @@ use Rattle.cleaner_job.specs.declared.lasting.Lasting.{Lasting}
 use Rattle.client_log.specs.LogState.{LogState}
 use Rattle.node_logs.specs.client_log_tie.ClientEvents.{ServesStraight}
 use Rattle.node_logs.specs.client_log_tie.Owner.{Scene, SeesLog}
-use Rattle.core_world.specs.declared.any_node.AnyNode.{AnyNode}
 use Rattle.log_law.specs.Events.{Runs}
 use Rattle.log_law.specs.Events.Runs.{On}
 use Rattle.log_law.specs.Laws.{Moment}
@@ -40,14 +39,13 @@ use Rattle.segment_format.specs.Rows.{row_of, rows_of}
 use Rattle.version_model.specs.Effects.{holds_flight}
 use Rattle.wire_msg.specs.declared.packet.Do.{Do}
 use Rattle.wire_msg.specs.declared.packet.Do.TheVariants.{Begin, Deliver, Tick}
-use Rattle.world_base.specs.declared.estate.Estate.{Estate}
 use Rattle.run_laws.specs.world_lines.Lines.{IsLine}
-use Rattle.run_laws.specs.world_logs.Lines.{HasLines, Texts}
 use Rattle.run_laws.specs.world_logs.Roles.Role.{OfCleaner}
 use Rattle.run_laws.proofs.world_reads.CleanerMoment.{Steps, its_line, its_moment, its_scene, its_setting, owns}
 use Rattle.run_laws.proofs.world_reads.CleanerReopens.{ComesBack, comes_back}
 use Rattle.run_laws.specs.world_reads.Joint.{IsSureUpto, Joint}
 use Rattle.run_laws.specs.world_reads.Below.{Below}
+use Rattle.run_laws.specs.world_reads.LoggedRuns.{LoggedRun}
 
 -- what a segment that has a text says of blocks fits its types
 items_fit : (s : Segment) (items : List Item) → AllByRecursion FitsItem items → RowsFit (filter_map (row_of s) items)
@@ -59,34 +57,35 @@ items_fit s (Part slot rows ∷ items) all = items_fit s items all.1
 rows_fit : (s : Segment) → Fits s → RowsFit (rows_of s)
 rows_fit s fits = items_fit s s.items fits.items
 
-module _ (below : Below) (base : Setting) (e : Estate AnyNode) (lines : HasLines base e) (texts : Texts base e lines) (part : ℕ)
-    (first : ℕ → ℕ → Segment) (count : ℕ) (joint : Joint base e lines texts part first count) (node : CleanerNode) (what : Do)
-    (steps : Steps base e lines texts part first count node what) (straight : ServesStraight ((its_line base e lines texts part first).goes count))
-    (apart : TellsApart (its_setting base e lines texts part first)) (sure : IsSureUpto base e lines texts part first (suc count))
-    (l : Lasting) (o : openings.Opening) (v : Emptying) (opens : node.phase ≡ Opening l o) (serves : (takes node.peers node.phase what).state ≡ Serving v) where
+module _ (below : Below) (logged : LoggedRun) (part count : ℕ) (joint : Joint logged part count) (node : CleanerNode) (what : Do)
+    (steps : Steps logged part count node what) (straight : ServesStraight ((its_line logged part).goes count)) (apart : TellsApart (its_setting logged part))
+    (sure : IsSureUpto logged part (suc count)) (l : Lasting) (o : openings.Opening) (v : Emptying) (opens : node.phase ≡ Opening l o)
+    (serves : (takes node.peers node.phase what).state ≡ Serving v) where
+  open logged use {texts}
+
   abbrev g : Setting
-  g = its_setting base e lines texts part first
+  g = its_setting logged part
 
   abbrev w : Scene
-  w = its_scene base e lines texts part first count
+  w = its_scene logged part count
 
   abbrev x : Scene
-  x = its_scene base e lines texts part first (suc count)
+  x = its_scene logged part (suc count)
 
   abbrev at : Moment g w.net
-  at = its_moment base e lines texts part first count
+  at = its_moment logged part count
 
   abbrev runs : Runs g w.net x.net
-  runs = (its_line base e lines texts part first).goes count
+  runs = (its_line logged part).goes count
 
   pub came : ComesBack (comes_to o l.questions what) v
   came = comes_back v l o node.peers what (subst (λ (p : cleaning.Phase). (takes node.peers p what).state ≡ Serving v) opens serves)
 
   before : cleaner_log.Opens g w l o
-  before = subst (cleaner_log.CleanerAgrees g w) opens (owns base e lines texts part first count node steps.before).agrees
+  before = subst (cleaner_log.CleanerAgrees g w) opens (owns logged part count node steps.before).agrees
 
   after : cleaner_log.Stands g x v
-  after = subst (cleaner_log.CleanerAgrees g x) serves (owns base e lines texts part first (suc count) _ steps.after).agrees
+  after = subst (cleaner_log.CleanerAgrees g x) serves (owns logged part (suc count) _ steps.after).agrees
 
   ends_so : (d : Do) → EndsSo g cleaner_log.its_number o (comes_to o l.questions d)
   ends_so (Deliver p) = (below.reopenings.openings_end_by_one g cleaner_log.its_number o l.questions).0 p
@@ -100,7 +99,7 @@ module _ (below : Below) (base : Setting) (e : Estate AnyNode) (lines : HasLines
   pub calm : IsSureRun (On at.run one.happens)
   calm =
       subst (λ (r : Runs g w.net x.net). IsSureRun (then_on at.run r)) one.one
-      (subst (λ (m : Moment g x.net). IsSureRun m.run) ((its_line base e lines texts part first).joined count) (sure OfCleaner tt refl))
+      (subst (λ (m : Moment g x.net). IsSureRun m.run) ((its_line logged part).joined count) (sure OfCleaner tt refl))
 
   pub reopens : Reopens g w.net x.net one.settling.chain one.settling.log came.opened.log
   reopens = record {

@@ -8,7 +8,6 @@ use Rattle.cleaner_node.specs.declared.cleaner.Phase as cleaning
 use Rattle.cleaner_node.specs.declared.cleaner.Phase.TheVariants.{Opening, Serving}
 use Rattle.cleaner_job.specs.declared.lasting.Lasting.{Lasting}
 use Rattle.node_logs.specs.client_log_tie.ClientEvents.{ServesStraight}
-use Rattle.core_world.specs.declared.any_node.AnyNode.{AnyNode}
 use Rattle.node_tellings.specs.entry_tie.Told as entries
 use Rattle.index_tie.specs.Filed.{rows_at}
 use Rattle.log_owner.specs.declared.opened.Opened.{Opened}
@@ -16,7 +15,6 @@ use Rattle.log_owner.specs.declared.opened.Progress.{Progress}
 use Rattle.log_owner.specs.declared.opened.Progress.TheVariants as progress
 use Rattle.log_owner.specs.declared.opening.Opening as openings
 use Rattle.log_owner.specs.Opening as opening
-use Rattle.log_tie.specs.Setting.{Setting}
 use Rattle.node_base.specs.declared.peers.Peers.{Peers}
 use Rattle.node_base.specs.Shape.{is_well_formed}
 use Rattle.node_slots.specs.node_index_tie.Sight.{held_in}
@@ -26,23 +24,22 @@ use Rattle.run_laws.specs.place_law.Copies.{AreExact, AsksOfHand, HasJob, LivesA
 use Rattle.run_laws.specs.index_reads.Ties.{Tied}
 use Rattle.run_laws.specs.reopening_law.Openings.{comes_to}
 use Rattle.run_laws.specs.reopening_law.Reopens.{TellsApart}
-use Rattle.segment_format.specs.declared.segment.Segment.{Segment}
 use Rattle.token_protocol.specs.Basics.{In}
 use Rattle.wire_msg.specs.declared.body.Body.TheVariants as body
 use Rattle.wire_msg.specs.declared.cleaning.Live.{Live}
 use Rattle.wire_msg.specs.declared.packet.Do.{Do}
 use Rattle.wire_msg.specs.declared.packet.Do.TheVariants.{Begin, Deliver, Tick}
 use Rattle.wire_msg.specs.declared.packet.Packet.{Packet}
-use Rattle.world_base.specs.declared.estate.Estate.{Estate}
 use Rattle.run_laws.specs.world_law.Standing as owners
 use Rattle.run_laws.specs.world_law.Owners.{moment}
-use Rattle.run_laws.specs.world_logs.Lines.{HasLines, Texts, cluster}
+use Rattle.run_laws.specs.world_logs.Lines.{cluster}
 use Rattle.run_laws.proofs.world_reads.CleanerMoment.{Steps, its_line, its_setting}
 use Rattle.run_laws.proofs.world_reads.CleanerReopening.{came, reopens_at}
 use Rattle.run_laws.proofs.world_reads.Tying.{slot_tied}
 use Rattle.run_laws.specs.world_reads.Joint.{IsSureUpto, Joint}
 use Rattle.xfs_base.specs.Steps.{still}
 use Rattle.run_laws.specs.world_reads.Below.{Below}
+use Rattle.run_laws.specs.world_reads.LoggedRuns.{LoggedRun}
 
 -- ---- the node
 
@@ -78,13 +75,14 @@ module _ (l : Lasting) (o : openings.Opening) (peers : Peers) (r : Opened) where
 
 -- ---- beside one run
 
-module _ (below : Below) (base : Setting) (e : Estate AnyNode) (lines : HasLines base e) (texts : Texts base e lines)
-    (part : ℕ) (first : ℕ → ℕ → Segment) (count : ℕ) (joint : Joint base e lines texts part first count) (node : CleanerNode) (what : Do) where
+module _ (below : Below) (logged : LoggedRun) (part count : ℕ) (joint : Joint logged part count) (node : CleanerNode) (what : Do) where
+  open logged use {base, estate as e, texts}
+
   abbrev sent : List Packet
   sent = (moment e count).sent
 
-  module _ (steps : Steps base e lines texts part first count node what) (straight : ServesStraight ((its_line base e lines texts part first).goes count))
-      (apart : TellsApart (its_setting base e lines texts part first)) (sure : IsSureUpto base e lines texts part first (suc count))
+  module _ (steps : Steps logged part count node what) (straight : ServesStraight ((its_line logged part).goes count))
+      (apart : TellsApart (its_setting logged part)) (sure : IsSureUpto logged part (suc count))
       (taken : IsTaken node.peers node.phase what) (l : Lasting) (o : openings.Opening)
       (opens : node.phase ≡ Opening l o) where
     one_opened : (a b : Opened) → progress.Opened a ≡ progress.Opened b → a ≡ b
@@ -96,8 +94,8 @@ module _ (below : Below) (base : Setting) (e : Estate AnyNode) (lines : HasLines
         let s = serves_then l o node.peers r what (subst (λ (p : cleaning.Phase). IsTaken node.peers p what) opens taken) fact in
         let serves : (takes node.peers node.phase what).state ≡ Serving s.0 =
         subst (λ (p : cleaning.Phase). (takes node.peers p what).state ≡ Serving s.0) (sym opens) s.1 in
-        let c = came below base e lines texts part first count joint node what steps straight apart sure l o s.0 opens serves in
-        let at = reopens_at below base e lines texts part first count joint node what steps straight apart sure l o s.0 opens serves in
+        let c = came below logged part count joint node what steps straight apart sure l o s.0 opens serves in
+        let at = reopens_at below logged part count joint node what steps straight apart sure l o s.0 opens serves in
         (_, subst (ReopensAt joint.tok.net.books _) (one_opened c.opened r (sym c.comes ∙ fact)) at)
 
   -- ---- a Live
@@ -105,7 +103,7 @@ module _ (below : Below) (base : Setting) (e : Estate AnyNode) (lines : HasLines
   module _ (of_eight : part < 8) (exact : AreExact joint.idx.net.filed) (answers : LivesAnswer sent) (v : Emptying) (has : HasJob joint.idx.net v)
       (asks : AsksOfHand sent v) where
     tied : Tied (owners.members (cluster base e) part) part (held_in part texts.text) (with_promise 1 joint.tok.net) joint.idx.net
-    tied = slot_tied base e lines texts part of_eight first count joint
+    tied = slot_tied logged part of_eight count joint
 
     pub live_told : (p : Packet) (m : Live) → In p sent → p.body ≡ body.Live m → LiveTold joint.tok.net.books v m
     live_told p m among fact =

@@ -10,7 +10,6 @@ use Rattle.cleaner_job.specs.declared.lasting.Lasting.{Lasting}
 use Rattle.client_log.specs.LogState.{LogState}
 use Rattle.client_node.specs.Crash.{flight_of}
 use Rattle.core_world.specs.AnyNode.{any_start, any_step}
-use Rattle.core_world.specs.declared.any_node.AnyNode.{AnyNode}
 use Rattle.core_world.specs.declared.any_node.AnyNode.TheVariants as any
 use Rattle.log_law.specs.Net.Owner.{Writing}
 use Rattle.log_law.specs.Restarts.{last_flight}
@@ -19,7 +18,6 @@ use Rattle.log_owner.specs.declared.opened.Opened.{Opened}
 use Rattle.log_owner.specs.declared.opened.Progress.{Progress}
 use Rattle.log_owner.specs.declared.opened.Progress.TheVariants as progress
 use Rattle.log_owner.specs.declared.opening.Opening as openings
-use Rattle.log_tie.specs.Setting.{Setting}
 use Rattle.node_base.specs.Setups.{IsSetup}
 use Rattle.node_slots.specs.node_tie.CleanerEvents as token
 use Rattle.node_slots.specs.node_tie.CleanerLogs.{CleanerTold, EndsAt, PacketTold, ReopensAt, ServingTold}
@@ -32,10 +30,8 @@ use Rattle.wire_msg.specs.declared.body.Body.TheVariants as body
 use Rattle.wire_msg.specs.declared.packet.Do.{Do}
 use Rattle.wire_msg.specs.declared.packet.Do.TheVariants.{Begin, Deliver, Tick}
 use Rattle.wire_msg.specs.declared.packet.Packet.{Packet}
-use Rattle.world_base.specs.declared.estate.Estate.{Estate}
 use Rattle.world_base.specs.Runs.{IsRun}
 use Rattle.run_laws.specs.world_law.Owes.{TurnOwes}
-use Rattle.run_laws.specs.world_logs.Lines.{HasLines, Texts}
 use Rattle.run_laws.proofs.world_reads.CleanerGets.{has_job}
 use Rattle.run_laws.proofs.world_reads.CleanerHand.{asks_of_hand}
 use Rattle.run_laws.proofs.world_reads.CleanerMoment.{its_moment, its_scene}
@@ -46,11 +42,13 @@ use Rattle.run_laws.proofs.world_reads.CleanerTelling.{IsTaken, live_told, serve
 use Rattle.run_laws.specs.world_reads.Joint.{Joint}
 use Rattle.xfs_base.specs.declared.node.NodeId.TheVariants.{Cleaner}
 use Rattle.run_laws.specs.world_reads.Below.{Below}
+use Rattle.run_laws.specs.world_reads.LoggedRuns.{LoggedRun}
 
-module _ (law : Below) (base : Setting) (e : Estate AnyNode) (ok : IsSetup e.script.setup) (run : IsRun any_step any_start e.script e.events e.world)
-    (lines : HasLines base e) (texts : Texts base e lines) (part : ℕ) (first : ℕ → ℕ → Segment) (count : ℕ)
-    (joint : Joint base e lines texts part first count) (node : CleanerNode) (what : Do)
-    (beside : Beside law base e lines texts part first count joint node what) where
+module _ (law : Below) (logged : LoggedRun) (ok : IsSetup logged.estate.script.setup)
+    (run : IsRun any_step any_start logged.estate.script logged.estate.events logged.estate.world) (part count : ℕ) (joint : Joint logged part count)
+    (node : CleanerNode) (what : Do) (beside : Beside law logged part count joint node what) where
+  open logged use {estate as e}
+
   abbrev p : cleaning.Phase
   p = node.phase
 
@@ -62,7 +60,7 @@ module _ (law : Below) (base : Setting) (e : Estate AnyNode) (ok : IsSetup e.scr
   -- whether it adopts what was in flight; where it doesn't end nothing is said
   adopted_by : (r : cleaning.Phase) → p ≡ r → (s : cleaning.Phase) → q ≡ s → Bool
   adopted_by (Opening l o) fact (Serving v) then_is =
-      has_flight (reopens law base e lines texts part first count joint node what beside.steps beside.straight beside.apart beside.sure
+      has_flight (reopens law logged part count joint node what beside.steps beside.straight beside.apart beside.sure
       l o v fact then_is)
   adopted_by (Opening l o) fact (Down m) then_is = false
   adopted_by (Opening l o) fact (Opening m z) then_is = false
@@ -74,15 +72,15 @@ module _ (law : Below) (base : Setting) (e : Estate AnyNode) (ok : IsSetup e.scr
 
   -- where it ends it does just where the chain that was read back has that
   pub adopts_flight : (l : Lasting) (o : openings.Opening) (v : Emptying) → p ≡ Opening l o → q ≡ Serving v → (chain : List Segment) (s : LogState)
-      → (its_scene base e lines texts part first count).net.owner ≡ Writing chain s
-      → adopted ≡ holds_flight (names_in chain) (flight_of (last_flight (its_moment base e lines texts part first count).run))
+      → (its_scene logged part count).net.owner ≡ Writing chain s
+      → adopted ≡ holds_flight (names_in chain) (flight_of (last_flight (its_moment logged part count).run))
   unfolding adopted adopted_by
   adopts_flight l o v opens serves chain s writes = by p refl q refl opens serves
     where
       by : (r : cleaning.Phase) (fact : p ≡ r) (t : cleaning.Phase) (then_is : q ≡ t) → r ≡ Opening l o → t ≡ Serving v
-          → adopted_by r fact t then_is ≡ holds_flight (names_in chain) (flight_of (last_flight (its_moment base e lines texts part first count).run))
+          → adopted_by r fact t then_is ≡ holds_flight (names_in chain) (flight_of (last_flight (its_moment logged part count).run))
       by (Opening a z) fact (Serving u) then_is opens serves =
-          adopts law base e lines texts part first count joint node what beside.steps beside.straight beside.apart beside.sure a z u fact
+          adopts law logged part count joint node what beside.steps beside.straight beside.apart beside.sure a z u fact
           then_is chain s writes
       by (Opening a z) fact (Down m) then_is opens serves = absurd (cc)
       by (Opening a z) fact (Opening m y) then_is opens serves = absurd (cc)
@@ -116,10 +114,10 @@ module _ (law : Below) (base : Setting) (e : Estate AnyNode) (ok : IsSetup e.scr
     ends_so l o fact s then_is (progress.Opening z) comes = tt
     ends_so l o fact s then_is (progress.Lost seg) comes = tt
     ends_so l o fact (Serving v) then_is (progress.Opened r) comes =
-        let c = came law base e lines texts part first count joint node what beside.steps beside.straight beside.apart beside.sure
+        let c = came law logged part count joint node what beside.steps beside.straight beside.apart beside.sure
         l o v fact then_is in
         subst (ReopensAt joint.tok.net.books (adopted_by (Opening l o) fact (Serving v) then_is)) (one_opened c.opened r (sym c.comes ∙ comes))
-        (reopens_at law base e lines texts part first count joint node what beside.steps beside.straight beside.apart beside.sure
+        (reopens_at law logged part count joint node what beside.steps beside.straight beside.apart beside.sure
         l o v fact then_is)
     ends_so l o fact (Down m) then_is (progress.Opened r) comes =
         (let u = up_then l o r fact comes in absurd (down_is m u.0 (sym then_is ∙ u.1)))
@@ -130,9 +128,9 @@ module _ (law : Below) (base : Setting) (e : Estate AnyNode) (ok : IsSetup e.scr
 
     serving_told : (v : Emptying) → p ≡ Serving v → (k : Packet) → what ≡ Deliver k → (m : Body) → k.body ≡ m → ServingTold joint.tok.net.books v m
     serving_told v fact k brings (body.Live m) bears =
-        live_told law base e lines texts part first count joint node what beside.of_eight
+        live_told law logged part count joint node what beside.of_eight
         (all_exact joint.idx.net.filed joint.tells) (law.reads.places.runs_answer e count ok run) v
-        (has_job law base e lines texts part first count joint node
+        (has_job law logged part count joint node
         beside.steps.before beside.ours beside.reached beside.came beside.named v fact)
         (asks_of_hand law.tokens.nodes e ok run count node beside.steps.before v fact taken.room) k m (beside.brought k brings).0 bears
     serving_told v fact k brings _ bears = tt

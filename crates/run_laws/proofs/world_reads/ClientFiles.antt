@@ -11,7 +11,6 @@ use Rattle.client_node.specs.declared.phase.Phase.TheVariants as clients
 use Rattle.client_node.specs.declared.phase.Phase.{Phase}
 use Rattle.client_node.specs.Phases.{takes}
 use Rattle.client_serving.specs.declared.serving.Serving.{Serving as ServingClient}
-use Rattle.core_world.specs.declared.any_node.AnyNode.{AnyNode}
 use Rattle.core_world.specs.declared.any_node.AnyNode.TheVariants as any
 use Rattle.run_laws.specs.index_reads.Clients.{NothingIsNewer}
 use Rattle.run_laws.specs.index_reads.Ties.{Tied}
@@ -43,14 +42,12 @@ use Rattle.segment_format.specs.declared.segment.Segment.{Segment}
 use Rattle.segment_format.specs.Rows.{row_of, rows_of}
 use Rattle.version_model.specs.declared.act.Act.{Act}
 use Rattle.version_model.specs.declared.act.Act.TheVariants.{Filed as ActsFiled}
-use Rattle.world_base.specs.declared.estate.Estate.{Estate}
 use Rattle.world_base.specs.declared.event.Event.{Event}
 use Rattle.world_base.specs.Events.{what_of}
 use Rattle.run_laws.specs.world_index.Standing as index
 use Rattle.run_laws.specs.world_lines.Filing.{FlightSays}
 use Rattle.run_laws.specs.world_lines.Lines.{IsLine, IsSure, SaysBlocks}
 use Rattle.run_laws.specs.world_lines.Turns.{ActSo, ActsFile, AllNew, AllSo, EffectSo, NewAct, NewEffect}
-use Rattle.run_laws.specs.world_logs.Lines.{HasLines, Texts}
 use Rattle.run_laws.specs.world_logs.Roles.Role.{OfClient}
 use Rattle.run_laws.specs.world_logs.Standing.{OwnerSeen}
 use Rattle.run_laws.proofs.world_reads.ClientLog as log
@@ -62,6 +59,7 @@ use Rattle.xfs_base.proofs.Booleans.{by_test}
 use Rattle.xfs_base.specs.declared.segment.SegName.{SegName}
 use Rattle.xfs_base.specs.Logs.{cleaners_number}
 use Rattle.run_laws.specs.world_reads.Below.{Below}
+use Rattle.run_laws.specs.world_reads.LoggedRuns.{LoggedRun}
 
 -- ---- what is new, in what is filed on the way
 
@@ -109,17 +107,18 @@ module _ (nothing : NothingIsNewer) (part : ℕ) (texts : Named) (l : ℕ) (f : 
 
 -- ---- an event of a client
 
-module _ (base : Setting) (e : Estate AnyNode) (lines : HasLines base e) (texts : Texts base e lines) (part : ℕ) (first : ℕ → ℕ → Segment) (count c : ℕ)
-    (there : There base e lines texts part first (OfClient c)) (laws : Below) (event : Event) (node : ClientNode)
-    (x : ClientEvent base e lines texts part first count c there event node) where
+module _ (logged : LoggedRun) (part : ℕ) (count c : ℕ) (there : There logged part (OfClient c)) (laws : Below) (event : Event) (node : ClientNode)
+    (x : ClientEvent logged part count c there event node) where
+  open logged use {base, lines, texts, first}
+
   abbrev g : Setting
-  g = log.g base e lines texts part first count c there
+  g = log.g logged part count c there
 
   abbrev w : Scene
-  w = log.before base e lines texts part first count c there
+  w = log.before logged part count c there
 
   abbrev v : Scene
-  v = log.after base e lines texts part first count c there
+  v = log.after logged part count c there
 
   abbrev i : index.Scene
   i = x.joint.idx
@@ -128,13 +127,13 @@ module _ (base : Setting) (e : Estate AnyNode) (lines : HasLines base e) (texts 
   outs = (takes node (what_of event)).outs
 
   abbrev at : Moment g w.net
-  at = log.at base e lines texts part first count c there laws event node x
+  at = log.at logged part count c there laws event node x
 
   abbrev sees : OwnerSeen g w c node.phase
-  sees = log.sees base e lines texts part first count c there laws event node x
+  sees = log.sees logged part count c there laws event node x
 
   abbrev sure : IsSure texts.text c g w.net
-  sure = log.is_sure base e lines texts part first count c there laws event node x
+  sure = log.is_sure logged part count c there laws event node x
 
   abbrev goes : Runs g w.net v.net
   goes = (lines (OfClient c) there).goes count
@@ -142,7 +141,7 @@ module _ (base : Setting) (e : Estate AnyNode) (lines : HasLines base e) (texts 
   abbrev filed : Filed
   filed = i.net.filed
 
-  pub member : c < index.members (k base e lines texts part first)
+  pub member : c < index.members (k logged part)
   member = (let h = there.1 in omega arith)
 
   pub below : c < cleaners_number
@@ -160,14 +159,14 @@ module _ (base : Setting) (e : Estate AnyNode) (lines : HasLines base e) (texts 
   -- it is the client of both small worlds
   pub indexed : i.client c ≡ node
   indexed = one_client (i.client c) node
-      (sym (x.joint.index_stands.placed.clients c there.0 member) ∙ log.here base e lines texts part first count c there laws event node x)
+      (sym (x.joint.index_stands.placed.clients c there.0 member) ∙ log.here logged part count c there laws event node x)
 
   pub agrees : ClientAgrees part texts.text i.net c node.phase
   agrees = subst (λ (a : ClientNode). ClientAgrees part texts.text i.net c a.phase) indexed (x.joint.index_stands.clients c there.0 member)
 
   -- ---- what was in flight is news
 
-  pub tied : Tied (index.members (k base e lines texts part first)) part (held_in part texts.text) (with_promise 1 x.joint.tok.net) i.net
+  pub tied : Tied (index.members (k logged part)) part (held_in part texts.text) (with_promise 1 x.joint.tok.net) i.net
   tied = record {
     some = omega arith;
     few = x.joint.index_stands.few;
@@ -192,8 +191,8 @@ module _ (base : Setting) (e : Estate AnyNode) (lines : HasLines base e) (texts 
   pub flight_news : (flight : FlightState) → last_flight at.run ≡ Some flight → (t : Segment) → In t v.net.flown → t.items ≡ flight.segment.items
       → IsNewerAtSlot part filed t
   flight_news flight fact t flown same =
-      let z = log.original base e lines texts part first count c there laws event node x t flown in
-      laws.index.flights_are_news (index.members (k base e lines texts part first)) part (held_in part texts.text) (with_promise 1 x.joint.tok.net) i.net c
+      let z = log.original logged part count c there laws event node x t flown in
+      laws.index.flights_are_news (index.members (k logged part)) part (held_in part texts.text) (with_promise 1 x.joint.tok.net) i.net c
       t tied
       (record { some = there.0; within = member })
       (record {
@@ -208,7 +207,7 @@ module _ (base : Setting) (e : Estate AnyNode) (lines : HasLines base e) (texts 
   -- it says of blocks, as all that was in flight in its log does
   says_so : (t : Segment) → In t v.net.flown → SaysBlocks t
   says_so t flown =
-      let z = (log.original base e lines texts part first count c there laws event node x t flown).tells in
+      let z = (log.original logged part count c there laws event node x t flown).tells in
       record { versions = z.versioned; no_parts = z.no_parts }
 
   flight_says : (s : ServingClient) → node.phase ≡ clients.Serving s → FlightSays s.log
@@ -218,11 +217,11 @@ module _ (base : Setting) (e : Estate AnyNode) (lines : HasLines base e) (texts 
     where
       by : (o : Option FlightState) → IfSome o (λ f. In f.segment w.net.flown) → IfSome o (λ f. SaysBlocks f.segment)
       by None flown = tt
-      by (Some f) flown = says_so f.segment (log.flown_then base e lines texts part first count c there laws event node x f.segment flown)
+      by (Some f) flown = says_so f.segment (log.flown_then logged part count c there laws event node x f.segment flown)
 
   named_says : (name : SegName) → In name v.net.filed → SaysBlocks (texts.text name)
   named_says name filed =
-      let t = (laws.logs.whole g v.net (log.then base e lines texts part first count c there laws event node x)).flown name filed in
+      let t = (laws.logs.whole g v.net (log.then logged part count c there laws event node x)).flown name filed in
       subst SaysBlocks (sym (ap texts.text (sym t.2) ∙ texts.flown (OfClient c) there (suc count) t.0 t.1)) (says_so t.0 t.1)
 
   abbrev Known : SegName → Type 0
@@ -237,7 +236,7 @@ module _ (base : Setting) (e : Estate AnyNode) (lines : HasLines base e) (texts 
       let fact : last_flight at.run ≡ Some f.0 = served_last g _ w.net at.run s serves ∙ f.1 in
       let held = subst (λ (o : Option FlightState). IfSome o (λ y. In y.segment w.net.flown)) f.1
       (subst (OwnerFlew w.net.flown) serves (laws.logs.held g w.net at)) in
-      let flown = log.flown_then base e lines texts part first count c there laws event node x f.0.segment held in
+      let flown = log.flown_then logged part count c there laws event node x f.0.segment held in
       let text : texts.text name ≡ f.0.segment = ap texts.text (sym f.2) ∙ text_is f.0.segment flown in
       inr (inr (
         ap (λ (y : SegName). y.seq) (sym f.2) ∙ (flight_next f.0 fact).0,
@@ -269,14 +268,14 @@ module _ (base : Setting) (e : Estate AnyNode) (lines : HasLines base e) (texts 
       by true serves =
           let z = comes g refl w.net v.net goes straight away serves in
           let calm = subst (λ (r : Runs g w.net v.net). IsSureRun (then_on at.run r)) z.one
-          (log.goes_sure base e lines texts part first count c there laws event node x) in
+          (log.goes_sure logged part count c there laws event node x) in
           ⊎_elim before (tail_known name) (laws.logs.only g w.net v.net refl at z.happens calm (z.writes, serves) name fact)
 
   module _ (gets : EventGets part texts.text i.net c node.phase (what_of event)) where
     pub acts_file : ActsFile v.net outs
     acts_file = laws.filing.clients_acts_file part texts.text g c w v i.net node (what_of event) there.0 below sure sees.room flight_says sees.agrees agrees
         gets goes straight
-        (log.acts_filed base e lines texts part first count c there laws event node x)
+        (log.acts_filed logged part count c there laws event node x)
 
     known : AllSo Known outs
     known = by node.phase refl
@@ -284,7 +283,7 @@ module _ (base : Setting) (e : Estate AnyNode) (lines : HasLines base e) (texts 
         resting : is_serving w.net.owner ≡ false → AllSo Known outs
         resting away =
             all_then (λ name. In name v.net.filed) Known (resting_known away) outs
-            (log.acts_filed base e lines texts part first count c there laws event node x)
+            (log.acts_filed logged part count c there laws event node x)
 
         seen : (p : Phase) → node.phase ≡ p → client_log.ClientAgrees g c w p
         seen p fact = subst (client_log.ClientAgrees g c w) fact sees.agrees
@@ -303,8 +302,8 @@ module _ (base : Setting) (e : Estate AnyNode) (lines : HasLines base e) (texts 
 
     -- it is owed
     pub files_owed : FilesOwed (IsNewerAtSlot part) texts.text c filed outs
-    files_owed = laws.filing.clients_files_are_owed part texts.text c g v.net filed outs (log.is_sure_then base e lines texts part first count c there laws
+    files_owed = laws.filing.clients_files_are_owed part texts.text c g v.net filed outs (log.is_sure_then logged part count c there laws
         event node x) acts_file
         (all_then (λ name. In name v.net.filed) (λ name. SaysBlocks (texts.text name)) named_says outs
-        (log.acts_filed base e lines texts part first count c there laws event node x))
+        (log.acts_filed logged part count c there laws event node x))
         (all_new laws.index.nothing_is_news part texts.text c filed outs known)

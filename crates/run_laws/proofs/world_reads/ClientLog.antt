@@ -19,7 +19,6 @@ use Rattle.run_laws.specs.segment_tie.Segments.{IsOriginal}
 use Rattle.version_model.specs.declared.act.Act.TheVariants.{Filed as ActsFiled}
 use Rattle.wire_msg.specs.declared.packet.Do.{Do}
 use Rattle.world_base.specs.Cluster.{cluster_of, place_of}
-use Rattle.world_base.specs.declared.estate.Estate.{Estate}
 use Rattle.world_base.specs.declared.event.Event.{Event}
 use Rattle.world_base.specs.declared.world.World.{World}
 use Rattle.world_base.specs.Events.{node_of, what_of}
@@ -29,7 +28,7 @@ use Rattle.run_laws.specs.world_lines.Lines.{IsSure}
 use Rattle.run_laws.specs.world_lines.Turns.{AllSo}
 use Rattle.run_laws.proofs.world_logs.Line.{grows}
 use Rattle.run_laws.specs.world_logs.Doings.{owns}
-use Rattle.run_laws.specs.world_logs.Lines.{HasLines, Line, Texts, setting}
+use Rattle.run_laws.specs.world_logs.Lines.{Line, setting}
 use Rattle.run_laws.specs.world_logs.Roles.Role.{OfClient}
 use Rattle.run_laws.specs.world_logs.Standing.{OwnerSeen}
 use Rattle.run_laws.proofs.world_reads.Stepping.{sure_before}
@@ -39,9 +38,11 @@ use Rattle.xfs_base.specs.declared.node.NodeId.TheVariants.{Client}
 use Rattle.xfs_base.proofs.Booleans.{equal_itself}
 use Rattle.xfs_base.specs.Limits.{slot_count}
 use Rattle.run_laws.specs.world_reads.Below.{Below}
+use Rattle.run_laws.specs.world_reads.LoggedRuns.{LoggedRun}
 
-module _ (base : Setting) (e : Estate AnyNode) (lines : HasLines base e) (texts : Texts base e lines) (part : ℕ) (first : ℕ → ℕ → Segment) (count c : ℕ)
-    (there : There base e lines texts part first (OfClient c)) where
+module _ (logged : LoggedRun) (part : ℕ) (count c : ℕ) (there : There logged part (OfClient c)) where
+  open logged use {base, estate as e, lines, texts}
+
   abbrev pub line : Line base e (OfClient c)
   line = lines (OfClient c) there
 
@@ -64,8 +65,8 @@ module _ (base : Setting) (e : Estate AnyNode) (lines : HasLines base e) (texts 
     pub cluster : (moment e count).cluster ≡ cluster_of e.script.setup
     pub own : node_of event ≡ Client c
     pub took : Took (moment e count) event (any.Client node)
-    pub joint : Joint base e lines texts part first count
-    pub sure : IsSureUpto base e lines texts part first (suc count)
+    pub joint : Joint logged part count
+    pub sure : IsSureUpto logged part (suc count)
 
   module _ (laws : Below) (event : Event) (node : ClientNode) (x : ClientEvent event node) where
     abbrev pub at : Moment g before.net

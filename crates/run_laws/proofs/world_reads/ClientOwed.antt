@@ -11,7 +11,6 @@ use Rattle.client_node.specs.declared.phase.Phase.{Phase}
 use Rattle.client_node.specs.Phases.{Went_to, takes}
 use Rattle.client_serving.specs.declared.lasting.Lasting.{Lasting}
 use Rattle.client_serving.specs.declared.serving.Serving.{Serving as ServingClient}
-use Rattle.core_world.specs.declared.any_node.AnyNode.{AnyNode}
 use Rattle.core_world.specs.declared.any_node.AnyNode.TheVariants as any
 use Rattle.index_tie.specs.Filed.{Filed}
 use Rattle.index_tie.specs.Takeovers.{of_log}
@@ -45,12 +44,10 @@ use Rattle.wire_msg.specs.declared.deltas.Poll.{Poll}
 use Rattle.wire_msg.specs.declared.packet.Do.{Do}
 use Rattle.wire_msg.specs.declared.packet.Do.TheVariants.{Begin, Deliver, Tick}
 use Rattle.wire_msg.specs.declared.packet.Packet.{Packet}
-use Rattle.world_base.specs.declared.estate.Estate.{Estate}
 use Rattle.world_base.specs.declared.event.Event.{Event}
 use Rattle.world_base.specs.Events.{node_of, what_of}
 use Rattle.run_laws.specs.world_index.Owes.{IndexOwes}
 use Rattle.run_laws.specs.world_index.Standing as index
-use Rattle.run_laws.specs.world_logs.Lines.{HasLines, Texts}
 use Rattle.run_laws.specs.world_logs.Roles.Role.{OfClient}
 use Rattle.run_laws.specs.world_logs.Standing.{OwnerSeen}
 use Rattle.run_laws.proofs.world_reads.ClientFiles as files
@@ -60,6 +57,7 @@ use Rattle.run_laws.proofs.world_reads.Stepping.{comes}
 use Rattle.run_laws.specs.world_reads.Joint.{There}
 use Rattle.xfs_base.specs.declared.node.NodeId.TheVariants.{Registry}
 use Rattle.run_laws.specs.world_reads.Below.{Below}
+use Rattle.run_laws.specs.world_reads.LoggedRuns.{LoggedRun}
 
 -- what a segment that has a text says of blocks fits its types
 items_fit : (s : Segment) (items : List Item) → AllByRecursion FitsItem items → RowsFit (filter_map (row_of s) items)
@@ -68,17 +66,18 @@ items_fit s (Block block value ∷ items) all = items_fit s items all.1
 items_fit s (Delta block ver hop item ∷ items) all = (all.0.0.1, items_fit s items all.1)
 items_fit s (Part slot rows ∷ items) all = items_fit s items all.1
 
-module _ (base : Setting) (e : Estate AnyNode) (lines : HasLines base e) (texts : Texts base e lines) (part : ℕ) (first : ℕ → ℕ → Segment) (count c : ℕ)
-    (there : There base e lines texts part first (OfClient c)) (laws : Below) (event : Event) (node : ClientNode)
-    (x : ClientEvent base e lines texts part first count c there event node) where
+module _ (logged : LoggedRun) (part : ℕ) (count c : ℕ) (there : There logged part (OfClient c)) (laws : Below) (event : Event) (node : ClientNode)
+    (x : ClientEvent logged part count c there event node) where
+  open logged use {lines, texts}
+
   abbrev g : Setting
-  g = log.g base e lines texts part first count c there
+  g = log.g logged part count c there
 
   abbrev w : Scene
-  w = log.before base e lines texts part first count c there
+  w = log.before logged part count c there
 
   abbrev v : Scene
-  v = log.after base e lines texts part first count c there
+  v = log.after logged part count c there
 
   abbrev i : index.Scene
   i = x.joint.idx
@@ -93,13 +92,13 @@ module _ (base : Setting) (e : Estate AnyNode) (lines : HasLines base e) (texts 
   goes = (lines (OfClient c) there).goes count
 
   abbrev at : Moment g w.net
-  at = log.at base e lines texts part first count c there laws event node x
+  at = log.at logged part count c there laws event node x
 
   abbrev sees : OwnerSeen g w c node.phase
-  sees = log.sees base e lines texts part first count c there laws event node x
+  sees = log.sees logged part count c there laws event node x
 
   abbrev sees_then : OwnerSeen g v c went.state
-  sees_then = log.sees_then base e lines texts part first count c there laws event node x
+  sees_then = log.sees_then logged part count c there laws event node x
 
   abbrev filed : Filed
   filed = i.net.filed
@@ -121,8 +120,8 @@ module _ (base : Setting) (e : Estate AnyNode) (lines : HasLines base e) (texts 
       → PollGets part texts.text i.net c s.tokens m
   poll_gets low packet m s fact bears serves of late some =
       let least = low packet m s fact bears of serves late in
-      (laws.lines.lines_give texts.text c g w.net filed (log.is_sure base e lines texts part first count c there laws event node x)
-      (files.line base e lines texts part first count c there laws event node x)).linked (of_log (i.net.horizon m.epoch) c) (filed.head c) some
+      (laws.lines.lines_give texts.text c g w.net filed (log.is_sure logged part count c there laws event node x)
+      (files.line logged part count c there laws event node x)).linked (of_log (i.net.horizon m.epoch) c) (filed.head c) some
       (let r = registry.low in omega arith) (omega arith)
 
   pub gets : PollsAreLow → EventGets part texts.text i.net c node.phase what
@@ -146,13 +145,13 @@ module _ (base : Setting) (e : Estate AnyNode) (lines : HasLines base e) (texts 
   -- ---- what it has in flight
 
   pub writes : WritesTexts part texts.text i.net c went.state
-  writes = laws.writing.clients_write_texts texts.text g c v went.state part i.net (log.then base e lines texts part first count c there laws event node x)
+  writes = laws.writing.clients_write_texts texts.text g c v went.state part i.net (log.then logged part count c there laws event node x)
       (λ s fact. texts.flown (OfClient c) there (suc count) s fact) sees_then.agrees
 
   -- ---- a reopening
 
   pub filed_of : FiledOf c filed w.net
-  filed_of = (let l = files.line base e lines texts part first count c there laws event node x in record {
+  filed_of = (let l = files.line logged part count c there laws event node x in record {
     flew = l.lined.flown;
     filed = l.lined.filed;
     seq = l.lined.seq;
@@ -174,10 +173,10 @@ module _ (base : Setting) (e : Estate AnyNode) (lines : HasLines base e) (texts 
     pub ends : (st : Settling) → o.stage ≡ stage.Settling st → Ends st s.log
     ends st fact =
         let here = subst (client_log.SeesStage g c w o.known l.questions.last) fact stage_sees in
-        let z = comes g refl w.net v.net goes (files.straight base e lines texts part first count c there laws event node x) (ap is_serving here.owner)
+        let z = comes g refl w.net v.net goes (files.straight logged part count c there laws event node x) (ap is_serving here.owner)
         (ap is_serving serves) in
         let calm = subst (λ (r : Runs g w.net v.net). IsSureRun (then_on at.run r)) z.one
-        (log.goes_sure base e lines texts part first count c there laws event node x) in
+        (log.goes_sure logged part count c there laws event node x) in
         record {
           reopens = record {
             sure = refl;
@@ -220,7 +219,7 @@ module _ (base : Setting) (e : Estate AnyNode) (lines : HasLines base e) (texts 
 
   pub client_owed : PollsAreLow → ClientOwed part texts.text i.net c node.phase what went
   client_owed low = record {
-    files = files.files_owed base e lines texts part first count c there laws event node x (gets low);
+    files = files.files_owed logged part count c there laws event node x (gets low);
     reopens = reopens;
     gets = gets low;
     writes = writes;

@@ -9,7 +9,6 @@ use Rattle.client_node.specs.declared.phase.Phase.{Phase}
 use Rattle.client_node.specs.Phases.{Went_to, takes}
 use Rattle.client_serving.specs.declared.lasting.Lasting.{Lasting}
 use Rattle.client_serving.specs.declared.serving.Serving.{Serving as ServingClient}
-use Rattle.core_world.specs.declared.any_node.AnyNode.{AnyNode}
 use Rattle.core_world.specs.declared.any_node.AnyNode.TheVariants as any
 use Rattle.node_tellings.specs.entry_tie.ClientTells as entries
 use Rattle.node_tellings.specs.entry_tie.Told.{told_by_rows}
@@ -34,18 +33,15 @@ use Rattle.run_laws.specs.reopening_law.Falls.{FallKnown, FellWith}
 use Rattle.run_laws.specs.reopening_law.Flights.{LastFlew}
 use Rattle.run_laws.specs.reopening_law.Openings as reopening
 use Rattle.run_laws.specs.reopening_law.Openings.{ComesBack, EndsByOne, comes_to}
-use Rattle.segment_format.specs.declared.segment.Segment.{Segment}
 use Rattle.version_model.specs.declared.act.Act.{Act}
 use Rattle.wire_msg.specs.declared.packet.Do.{Do}
 use Rattle.wire_msg.specs.declared.packet.Do.TheVariants.{Begin, Deliver, Tick}
 use Rattle.wire_msg.specs.declared.packet.Packet.{Packet}
-use Rattle.world_base.specs.declared.estate.Estate.{Estate}
 use Rattle.world_base.specs.declared.event.Event.{Event}
 use Rattle.world_base.specs.Events.{what_of}
 use Rattle.run_laws.specs.world_law.Standing as tokens
 use Rattle.run_laws.specs.world_law.Owes.{ClientTold}
 use Rattle.run_laws.specs.world_law.Owners.{moment}
-use Rattle.run_laws.specs.world_logs.Lines.{HasLines, Texts}
 use Rattle.run_laws.specs.world_logs.Roles.Role.{OfClient}
 use Rattle.run_laws.proofs.world_reads.ClientFiles as files
 use Rattle.run_laws.proofs.world_reads.ClientLog as log
@@ -55,18 +51,20 @@ use Rattle.run_laws.specs.world_reads.Joint.{There}
 use Rattle.xfs_base.specs.declared.node.NodeId.TheVariants.{Client}
 use Rattle.xfs_base.specs.Limits.{block_logs}
 use Rattle.run_laws.specs.world_reads.Below.{Below}
+use Rattle.run_laws.specs.world_reads.LoggedRuns.{LoggedRun}
 
-module _ (base : Setting) (e : Estate AnyNode) (lines : HasLines base e) (texts : Texts base e lines) (part : ℕ) (first : ℕ → ℕ → Segment) (count c : ℕ)
-    (there : There base e lines texts part first (OfClient c)) (laws : Below) (event : Event) (node : ClientNode)
-    (x : ClientEvent base e lines texts part first count c there event node) where
+module _ (logged : LoggedRun) (part : ℕ) (count c : ℕ) (there : There logged part (OfClient c)) (laws : Below) (event : Event) (node : ClientNode)
+    (x : ClientEvent logged part count c there event node) where
+  open logged use {estate as e, lines, texts}
+
   abbrev g : Setting
-  g = log.g base e lines texts part first count c there
+  g = log.g logged part count c there
 
   abbrev w : Scene
-  w = log.before base e lines texts part first count c there
+  w = log.before logged part count c there
 
   abbrev v : Scene
-  v = log.after base e lines texts part first count c there
+  v = log.after logged part count c there
 
   abbrev t : tokens.Scene
   t = x.joint.tok
@@ -84,7 +82,7 @@ module _ (base : Setting) (e : Estate AnyNode) (lines : HasLines base e) (texts 
   goes = (lines (OfClient c) there).goes count
 
   abbrev at : Moment g w.net
-  at = log.at base e lines texts part first count c there laws event node x
+  at = log.at logged part count c there laws event node x
 
   one_client : (a b : ClientNode) → Some (any.Client a) ≡ Some (any.Client b) → a ≡ b
   one_client a b same = cc
@@ -92,13 +90,13 @@ module _ (base : Setting) (e : Estate AnyNode) (lines : HasLines base e) (texts 
   -- it is the client of the small world of tokens
   is_node : t.client c ≡ node
   is_node = one_client (t.client c) node
-      (sym (x.joint.tokens_stand.placed.clients c there.0 (files.member base e lines texts part first count c there laws event node x))
-      ∙ log.here base e lines texts part first count c there laws event node x)
+      (sym (x.joint.tokens_stand.placed.clients c there.0 (files.member logged part count c there laws event node x))
+      ∙ log.here logged part count c there laws event node x)
 
   -- ---- a reopening that ends
 
   below : c ≤ block_logs
-  below = (let b = files.below base e lines texts part first count c there laws event node x in omega arith)
+  below = (let b = files.below logged part count c there laws event node x in omega arith)
 
   books_then : (m : Moment g w.net) → m ≡ at → LastFlew t.net.books c (last_flight m.run)
   books_then m same = subst (λ (m : Moment g w.net). LastFlew t.net.books c (last_flight m.run)) (sym same) (x.joint.flew (OfClient c) there refl)
@@ -121,18 +119,18 @@ module _ (base : Setting) (e : Estate AnyNode) (lines : HasLines base e) (texts 
 
     by_one : EndsByOne g w v goes o back.opened
     by_one =
-        let sees = subst (client_log.ClientAgrees g c w) opening (log.sees base e lines texts part first count c there laws event node x).agrees in
-        let sees_then = subst (client_log.ClientAgrees g c v) serving (log.sees_then base e lines texts part first count c there laws event node x).agrees in
+        let sees = subst (client_log.ClientAgrees g c w) opening (log.sees logged part count c there laws event node x).agrees in
+        let sees_then = subst (client_log.ClientAgrees g c v) serving (log.sees_then logged part count c there laws event node x).agrees in
         ends_by_do what (comes_to o l.questions what) refl back.opened back.comes w v l.questions.last goes sees.1
-        (subst (client_log.SeesLog g c v) back.log sees_then.1) (files.straight base e lines texts part first count c there laws event node x)
+        (subst (client_log.SeesLog g c v) back.log sees_then.1) (files.straight logged part count c there laws event node x)
 
     pub reopens_so : ReopensSo t.net.books t.net.acts c back.opened
     reopens_so =
-        let re = laws.reopenings.ends_are_reopenings g w v goes o back.opened by_one refl x.apart at (log.goes_sure base e lines texts part first count c there
+        let re = laws.reopenings.ends_are_reopenings g w v goes o back.opened by_one refl x.apart at (log.goes_sure logged part count c there
         laws event node x) in
         laws.reopenings.clients_reopen_so g w.net v.net by_one.settling.chain by_one.settling.log back.opened.log re.0 t.net.books c filed
         (record {
-          filed = owed.filed_of base e lines texts part first count c there laws event node x;
+          filed = owed.filed_of logged part count c there laws event node x;
           books = record {
             end = x.joint.books.end c there.0 below;
             rows = λ q some limit. x.joint.books.rows c q there.0 below some limit;

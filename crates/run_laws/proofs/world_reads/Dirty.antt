@@ -1,12 +1,9 @@
 -- A block that a client has dirty leads what is filed: so it does in the small world of tokens, whose books and the index's table tell of the same logs.
 use Rattle.std.proofs.Common.{◌≡◌, ℕ, zero, suc, ◌<◌, ◌≤◌, true, Some, refl, subst, arith}
 use Rattle.std.proofs.lemmas.Bool.{eq-eqb}
-use Rattle.core_world.specs.declared.any_node.AnyNode.{AnyNode}
 use Rattle.index_tie.specs.Filed.{row_at}
-use Rattle.log_tie.specs.Setting.{Setting}
 use Rattle.node_slots.proofs.node_tie.SmallWorld.{with_promise}
 use Rattle.node_slots.specs.node_index_tie.Sight.{held_in}
-use Rattle.segment_format.specs.declared.segment.Segment.{Segment}
 use Rattle.token_client.specs.Held.{is_dirty}
 use Rattle.token_client.specs.State.{TokensState, held_of}
 use Rattle.token_law.specs.Books.{said}
@@ -15,7 +12,6 @@ use Rattle.token_law.specs.Net.{Net}
 use Rattle.version_model.specs.Effects.{history_after}
 use Rattle.version_model.specs.History.{nothing_yet}
 use Rattle.world_base.specs.Cluster.{place_of}
-use Rattle.world_base.specs.declared.estate.Estate.{Estate}
 use Rattle.run_laws.proofs.index_reads.Sayings.{Same, of_log, same_version}
 use Rattle.run_laws.proofs.index_reads.Worlds.{begins, same}
 use Rattle.run_laws.proofs.world_law.Laws as tokens
@@ -24,24 +20,26 @@ use Rattle.run_laws.proofs.world_reads.Tying.{slot_tied}
 use Rattle.run_laws.specs.index_reads.Ties.{Tied}
 use Rattle.run_laws.specs.world_law.Owners.{moment, node_in, tokens_of}
 use Rattle.run_laws.specs.world_law.Standing.{members}
-use Rattle.run_laws.specs.world_logs.Lines.{HasLines, Texts}
 use Rattle.run_laws.specs.world_reads.Dirty.{DirtyBlocksLead, LeadsFiled, OwnsFrom}
 use Rattle.run_laws.specs.world_reads.Joint.{Joint, k}
+use Rattle.run_laws.specs.world_reads.LoggedRuns.{LoggedRun}
 use Rattle.xfs_base.specs.Blocks.{slot_of}
 use Rattle.xfs_base.specs.declared.block.BlockId.{BlockId}
 use Rattle.xfs_base.specs.declared.node.NodeId.TheVariants.{Client}
 use Rattle.xfs_base.specs.Limits.{slot_count, block_logs}
 
-module _ (law : small.DirtyBlocksLead) (laws : tokens.NodeLaws) (base : Setting) (e : Estate AnyNode) (lines : HasLines base e) (texts : Texts base e lines)
-    (part : ℕ) (of_eight : part < slot_count) (first : ℕ → ℕ → Segment) (count : ℕ) (joint : Joint base e lines texts part first count) where
+module _ (law : small.DirtyBlocksLead) (laws : tokens.NodeLaws) (logged : LoggedRun) (part : ℕ) (of_eight : part < slot_count) (count : ℕ)
+    (joint : Joint logged part count) where
+  open logged use {estate as e, texts}
+
   abbrev net : Net
   net = with_promise 1 joint.tok.net
 
   abbrev all_members : ℕ
-  all_members = members (k base e lines texts part first) part
+  all_members = members (k logged part) part
 
   tied : Tied all_members part (held_in part texts.text) net joint.idx.net
-  tied = slot_tied base e lines texts part of_eight first count joint
+  tied = slot_tied logged part of_eight count joint
 
   both : Same net.books joint.idx.net.filed
   both = same all_members part (held_in part texts.text) net joint.idx.net tied
@@ -66,7 +64,7 @@ module _ (law : small.DirtyBlocksLead) (laws : tokens.NodeLaws) (base : Setting)
             omega arith
 
   abbrev Serves : ℕ → TokensState → Type 0
-  Serves c t = tokens.ServesThere laws (k base e lines texts part first) part of_eight joint.tok c t
+  Serves c t = tokens.ServesThere laws (k logged part) part of_eight joint.tok c t
 
   leads : (b : BlockId) (c : ℕ) (t : TokensState) → slot_of b.ino.0 ≡ part → Serves c t → is_dirty (held_of (net.tokens c).blocks b) ≡ true
       → LeadsFiled (moment e count) joint.idx.net.filed b c (net.tokens c)
@@ -82,7 +80,7 @@ module _ (law : small.DirtyBlocksLead) (laws : tokens.NodeLaws) (base : Setting)
   dirty_blocks_lead b c t inside serves dirty =
       let w = moment e count in
       let there : Serves c t =
-      tokens.serves_there laws (k base e lines texts part first) part of_eight w.nodes w.sent w.acts joint.tok joint.tokens_stand c t
+      tokens.serves_there laws (k logged part) part of_eight w.nodes w.sent w.acts joint.tok joint.tokens_stand c t
       (subst (λ cluster. tokens_of (node_in w.nodes (place_of cluster (Client c))) ≡ Some t) (moment_cluster e count) serves) in
       subst (λ (s : TokensState). is_dirty (held_of s.blocks b) ≡ true → LeadsFiled w joint.idx.net.filed b c s) there.tokens
       (leads b c t inside there) dirty

@@ -22,18 +22,18 @@ use Rattle.segment_format.specs.Rows.{rows_of}
 use Rattle.token_protocol.specs.Basics.{In}
 use Rattle.version_model.specs.declared.act.Act.{Act}
 use Rattle.version_model.specs.declared.act.Act.TheVariants.{Filed as ActsFiled}
-use Rattle.world_base.specs.declared.estate.Estate.{Estate}
 use Rattle.world_base.specs.declared.event.Event.{Event}
 use Rattle.world_base.specs.Events.{node_of, what_of}
 use Rattle.run_laws.specs.world_law.Owners.{moment}
 use Rattle.run_laws.specs.world_lines.Lines.{IsLine, IsSure, LineGives, LinesGive}
 use Rattle.run_laws.proofs.world_logs.Line.{grows}
 use Rattle.run_laws.specs.world_logs.Doings.{owns}
-use Rattle.run_laws.specs.world_logs.Lines.{HasLines, Line, Texts, setting}
+use Rattle.run_laws.specs.world_logs.Lines.{Line, setting}
 use Rattle.run_laws.specs.world_logs.Roles.{Role, log_by}
 use Rattle.run_laws.proofs.world_reads.EntriesRise.{rows_filed}
 use Rattle.run_laws.proofs.world_reads.Taking.{Took, did_then}
 use Rattle.run_laws.specs.world_reads.Joint.{There, log_at}
+use Rattle.run_laws.specs.world_reads.LoggedRuns.{LoggedRun}
 use Rattle.xfs_base.proofs.Members.{contains_cases}
 use Rattle.xfs_base.specs.declared.block.BlockId.{BlockId}
 use Rattle.xfs_base.specs.declared.entry.Entry.{Entry}
@@ -63,8 +63,9 @@ segment_told h l q s some limit fact =
       says = subst (λ (rows : List (BlockId × Entry)). Contains rows row) (sym (rows_filed h l q some limit ∙ ap rows_of fact)) says;
     })) (rows_of s) (contains_all (rows_of s))
 
-module _ (base : Setting) (e : Estate AnyNode) (lines : HasLines base e) (texts : Texts base e lines) (part : ℕ) (first : ℕ → ℕ → Segment) (count : ℕ)
-    (r : Role) (there : There base e lines texts part first r) where
+module _ (logged : LoggedRun) (part count : ℕ) (r : Role) (there : There logged part r) where
+  open logged use {base, estate as e, lines, texts}
+
   abbrev line : Line base e r
   line = lines r there
 
@@ -75,10 +76,10 @@ module _ (base : Setting) (e : Estate AnyNode) (lines : HasLines base e) (texts 
   l = log_by r
 
   abbrev net : Net
-  net = log_at base e lines texts part first r there count
+  net = log_at logged part r there count
 
   abbrev later : Net
-  later = log_at base e lines texts part first r there (suc count)
+  later = log_at logged part r there (suc count)
 
   -- An event of the owner, after which its log is sure and has its line in what is filed.
   pub record OwnsEvent (event : Event) (node : AnyNode) (h : Filed) : Type 0 where

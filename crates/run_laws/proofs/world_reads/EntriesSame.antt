@@ -1,7 +1,6 @@
 -- Logs are sure where no restart was doubtful; and what is filed at a count is the same in the small world of each slot.
 use Rattle.std.proofs.Common.{◌≡◌, ◌≤◌, ◌<◌, ℕ, false, refl, sym, ap, subst, ◌∙◌, arith}
 use Rattle.std.specs.Prelude.{Contains}
-use Rattle.core_world.specs.declared.any_node.AnyNode.{AnyNode}
 use Rattle.node_tellings.specs.entry_tie.Told.{AreMore}
 use Rattle.index_tie.proofs.Rows.{by_filed}
 use Rattle.index_tie.specs.Filed.{Filed, rows_at}
@@ -9,13 +8,13 @@ use Rattle.log_law.specs.Net.{Net}
 use Rattle.log_tie.specs.Setting.{Setting}
 use Rattle.segment_format.specs.declared.segment.Segment.{Segment}
 use Rattle.segment_format.specs.Rows.{rows_of}
-use Rattle.world_base.specs.declared.estate.Estate.{Estate}
 use Rattle.run_laws.specs.world_lines.Lines.{IsLine, IsSure, LinesGive}
-use Rattle.run_laws.specs.world_logs.Lines.{HasLines, Texts, setting}
+use Rattle.run_laws.specs.world_logs.Lines.{setting}
 use Rattle.run_laws.specs.world_logs.Roles.{Role, log_by, renews}
 use Rattle.run_laws.proofs.world_reads.EntriesRise.{rows_filed}
 use Rattle.run_laws.proofs.world_reads.KnownLogs.{HasLog, filed_log}
 use Rattle.run_laws.specs.world_reads.Joint.{IsSureUpto, Joint, There, log_at}
+use Rattle.run_laws.specs.world_reads.LoggedRuns.{LoggedRun}
 use Rattle.xfs_base.proofs.Members.{contains_nothing}
 use Rattle.xfs_base.specs.declared.block.BlockId.{BlockId}
 use Rattle.xfs_base.specs.declared.entry.Entry.{Entry}
@@ -45,11 +44,12 @@ module _ (give : LinesGive) (texts : SegName → Segment) (l : ℕ) (g : Setting
             ∙ (ap texts (sym one) ∙ sure.are_texts (f.segment l q) (its.lined.flown q some limit));
       }
 
-module _ (base : Setting) (e : Estate AnyNode) (lines : HasLines base e) (texts : Texts base e lines) (part : ℕ) (first : ℕ → ℕ → Segment)
-    (give : LinesGive) (count : ℕ) (sure : IsSureUpto base e lines texts part first count) where
+module _ (logged : LoggedRun) (part : ℕ) (give : LinesGive) (count : ℕ) (sure : IsSureUpto logged part count) where
+  open logged use {base, estate as e, lines, texts}
+
   -- the log of a client, or of the cleaner, is sure
-  pub sure_log : (r : Role) (there : There base e lines texts part first r) → renews r ≡ false
-      → IsSure texts.text (log_by r) (setting base e r) (log_at base e lines texts part first r there count)
+  pub sure_log : (r : Role) (there : There logged part r) → renews r ≡ false
+      → IsSure texts.text (log_by r) (setting base e r) (log_at logged part r there count)
   sure_log r there keeps = record {
     own = refl;
     trusted = keeps;
@@ -59,7 +59,7 @@ module _ (base : Setting) (e : Estate AnyNode) (lines : HasLines base e) (texts 
   }
 
   -- so what is filed in the small world of another slot is filed in that of this one
-  module _ (joint : Joint base e lines texts part first count) (slot : ℕ) (its : Joint base e lines texts slot first count) where
+  module _ (joint : Joint logged part count) (slot : ℕ) (its : Joint logged slot count) where
     abbrev f : Filed
     f = its.idx.net.filed
 
@@ -70,12 +70,12 @@ module _ (base : Setting) (e : Estate AnyNode) (lines : HasLines base e) (texts 
     says_same row l q =
         by_filed (λ rows. Contains rows row → Contains (rows_at h l q) row) f l q here (λ fact. absurd (contains_nothing row fact))
       where
-        at_log : (k : ℕ) (r : Role) (there : There base e lines texts part first r) → renews r ≡ false → log_by r ≡ k → 0 < q → q ≤ f.head k
+        at_log : (k : ℕ) (r : Role) (there : There logged part r) → renews r ≡ false → log_by r ≡ k → 0 < q → q ≤ f.head k
             → Contains (rows_of (f.segment k q)) row → Contains (rows_at h k q) row
         at_log k r there keeps fact some limit says =
             subst (λ x. q ≤ f.head x → Contains (rows_of (f.segment x q)) row → Contains (rows_at h x q) row) fact
             (λ m c.
-            let t = is_there give texts.text (log_by r) (setting base e r) (log_at base e lines texts part first r there count) f h (sure_log r there keeps)
+            let t = is_there give texts.text (log_by r) (setting base e r) (log_at logged part r there count) f h (sure_log r there keeps)
             (its.lined r there keeps) (joint.lined r there keeps) q some m
             in
             subst (λ rows. Contains rows row) (sym (rows_filed h (log_by r) q some t.limit))
@@ -83,7 +83,7 @@ module _ (base : Setting) (e : Estate AnyNode) (lines : HasLines base e) (texts 
 
         here : 0 < q → q ≤ f.head l → Contains (rows_of (f.segment l q)) row → Contains (rows_at h l q) row
         here some limit says =
-            let has : HasLog base e lines texts slot first l = filed_log base e lines texts slot first count its l q some limit in
+            let has : HasLog logged slot l = filed_log logged slot count its l q some limit in
             at_log l has.role has.there has.keeps has.numbered some limit says
 
     pub same_rows : AreMore (rows_at f) (rows_at h)

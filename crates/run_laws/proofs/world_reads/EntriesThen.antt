@@ -32,7 +32,6 @@ use Rattle.log_owner.specs.declared.known.Known.{Known as KnownMaps}
 use Rattle.log_owner.specs.declared.opening.Stage.{Stage}
 use Rattle.log_owner.specs.declared.opening.Stage.TheVariants as stage
 use Rattle.log_owner.specs.Sending.{name_of}
-use Rattle.log_tie.specs.Setting.{Setting}
 use Rattle.node_logs.specs.manager_log_tie.Owner as manager_log
 use Rattle.manager_node.specs.declared.manager.Manager.{Manager as ManagerNode}
 use Rattle.manager_node.specs.declared.phase.Phase as managers
@@ -42,7 +41,6 @@ use Rattle.manager_slots.specs.Lasting.{log_of}
 use Rattle.node_slots.specs.node_index_tie.ManagerEvents.{ManagerAgrees}
 use Rattle.node_slots.specs.node_index_tie.Sight.{held_in}
 use Rattle.node_tellings.specs.part_tie.ManagerNames.{PhaseFlies}
-use Rattle.segment_format.specs.declared.segment.Segment.{Segment}
 use Rattle.token_protocol.specs.Basics.{In}
 use Rattle.version_model.specs.declared.act.Act.{Act}
 use Rattle.version_model.specs.declared.act.Act.TheVariants as act
@@ -51,7 +49,6 @@ use Rattle.wire_msg.specs.declared.packet.Do.TheVariants.{Deliver}
 use Rattle.wire_msg.specs.declared.packet.Packet.{Packet}
 use Rattle.world_base.specs.Cluster.{cluster_of, place_of}
 use Rattle.world_base.specs.declared.cluster.Cluster.{Cluster}
-use Rattle.world_base.specs.declared.estate.Estate.{Estate}
 use Rattle.world_base.specs.declared.event.Event.{Event}
 use Rattle.world_base.specs.declared.event.Event.TheVariants as events
 use Rattle.world_base.specs.declared.world.World.{World}
@@ -67,7 +64,7 @@ use Rattle.run_laws.specs.world_law.Owners.{moment, node_in}
 use Rattle.run_laws.specs.world_lines.Lines.{IsLine}
 use Rattle.run_laws.proofs.world_logs.Line.{grows}
 use Rattle.run_laws.specs.world_logs.Doings.{did, owns}
-use Rattle.run_laws.specs.world_logs.Lines.{HasLines, Line, Texts, setting}
+use Rattle.run_laws.specs.world_logs.Lines.{Line, setting}
 use Rattle.run_laws.specs.world_logs.Roles.{Role, log_by, renews}
 use Rattle.run_laws.specs.world_logs.Roles.Role.{OfClient, OfCleaner, OfManager}
 use Rattle.run_laws.proofs.world_reads.CleanerFront.{its_cluster, may_happen}
@@ -90,19 +87,22 @@ use Rattle.xfs_base.proofs.Booleans.{equal_itself}
 use Rattle.xfs_base.specs.Limits.{slot_count}
 use Rattle.xfs_base.specs.Logs.{cleaners_number}
 use Rattle.run_laws.specs.world_reads.Below.{Below}
+use Rattle.run_laws.specs.world_reads.LoggedRuns.{LoggedRun}
 
-module _ (base : Setting) (e : Estate AnyNode) (lines : HasLines base e) (texts : Texts base e lines) (part : ℕ) (first : ℕ → ℕ → Segment) (count : ℕ) where
+module _ (logged : LoggedRun) (part count : ℕ) where
+  open logged use {base, estate as e, lines, texts, first}
+
   -- An event of a run, after which so much is filed: the moment before it stands to the small worlds of each slot of the map, up to the one after it all
   -- restarts were sure, and there each log has its line in what is filed.
   pub record EntryEvent (event : Event) (h : Filed) : Type 0 where
     pub of_map : part < slot_count
     pub happens : slice_get e.events count ≡ Some event
     pub run : IsRun any_step any_start e.script e.events e.world
-    pub joints : (slot : ℕ) → slot < slot_count → Joint base e lines texts slot first count
-    pub sure : IsSureUpto base e lines texts part first (suc count)
+    pub joints : (slot : ℕ) → slot < slot_count → Joint logged slot count
+    pub sure : IsSureUpto logged part (suc count)
     pub more : IsMore (joints part of_map).idx.net.filed h
-    pub lined : (r : Role) (there : There base e lines texts part first r) → renews r ≡ false
-        → IsLine (log_by r) (log_at base e lines texts part first r there (suc count)) h
+    pub lined : (r : Role) (there : There logged part r) → renews r ≡ false
+        → IsLine (log_by r) (log_at logged part r there (suc count)) h
     -- what is named as a part of a checkpoint is a segment of a manager's log, which tells what is told
     pub named : PartsNamed (PartKnown base e lines count (rows_at (joints part of_map).idx.net.filed)) (moment e count).nodes (moment e count).sent
     -- what is sent is of those who may send it, as the small world of tokens knows
@@ -118,7 +118,7 @@ module _ (base : Setting) (e : Estate AnyNode) (lines : HasLines base e) (texts 
     abbrev w : World AnyNode
     w = moment e count
 
-    abbrev joint : Joint base e lines texts part first count
+    abbrev joint : Joint logged part count
     joint = x.joints part x.of_map
 
     abbrev told : Told
@@ -141,8 +141,8 @@ module _ (base : Setting) (e : Estate AnyNode) (lines : HasLines base e) (texts 
 
     -- ---- the owner of a log
 
-    module _ (r : Role) (there : There base e lines texts part first r) (keeps : renews r ≡ false) (node : AnyNode) (took : Took w event node)
-        (owned : OwnsEvent base e lines texts part first count r there event node h) where
+    module _ (r : Role) (there : There logged part r) (keeps : renews r ≡ false) (node : AnyNode) (took : Took w event node)
+        (owned : OwnsEvent logged part count r there event node h) where
       abbrev scene : Scene
       scene = (lines r there).scene count
 
@@ -152,14 +152,14 @@ module _ (base : Setting) (e : Estate AnyNode) (lines : HasLines base e) (texts 
       stage_owed : (c : ℕ) (known : KnownMaps) (last : ℕ) (st : Stage) → SeesStage (setting base e r) c scene known last st → StageOwed told acts st
       stage_owed c known last (stage.Scanning s) sees = tt
       stage_owed c known last (stage.Settling s) sees =
-          chain_told base e lines texts part first count r there laws.lines.lines_give laws.logs.held laws.logs.own event
+          chain_told logged part count r there laws.lines.lines_give laws.logs.held laws.logs.own event
           node h owned s.chain s.log sees.owner
 
       client_phase : (c : ℕ) → c ≡ log_by r → (p : clients.Phase) → client_log.ClientAgrees (setting base e r) c scene p → client_entries.PhaseOwed told acts p
       client_phase c its (client.Down l) agrees = tt
       client_phase c its (client.Opening l o) agrees = stage_owed c o.known l.questions.last o.stage agrees.1
       client_phase c its (client.Serving s) agrees =
-          flight_told base e lines texts part first count r there laws.lines.lines_give laws.logs.held laws.logs.own event
+          flight_told logged part count r there laws.lines.lines_give laws.logs.held laws.logs.own event
           node h owned (record { 0 = s.lasting.number })
           (ap (λ (n : ℕ). record { 0 = n }) (agrees.0.number ∙ its)) s.log agrees.1.owner
 
@@ -167,7 +167,7 @@ module _ (base : Setting) (e : Estate AnyNode) (lines : HasLines base e) (texts 
       cleaner_phase its (cleaning.Down l) agrees = tt
       cleaner_phase its (cleaning.Opening l o) agrees = stage_owed cleaners_number o.known l.questions.last o.stage agrees.sees
       cleaner_phase its (cleaning.Serving s) agrees =
-          flight_told base e lines texts part first count r there laws.lines.lines_give laws.logs.held laws.logs.own event
+          flight_told logged part count r there laws.lines.lines_give laws.logs.held laws.logs.own event
           node h owned (record { 0 = 9 })
           (ap (λ (n : ℕ). record { 0 = n }) (sym its)) s.log agrees.log.owner
 
@@ -183,13 +183,13 @@ module _ (base : Setting) (e : Estate AnyNode) (lines : HasLines base e) (texts 
       is_named : (name : NodeId) → node_of event ≡ name → (y : AnyNode) → node_in w.nodes (place_of k name) ≡ Some y → y ≡ node
       is_named name own y here = one_node y node (sym here ∙ (ap (node_in w.nodes) (at_place name own) ∙ took.stands))
 
-      owns_event : (r : Role) (there : There base e lines texts part first r) → renews r ≡ false → owns (log_by r) (node_of event) ≡ true
-          → OwnsEvent base e lines texts part first count r there event node h
+      owns_event : (r : Role) (there : There logged part r) → renews r ≡ false → owns (log_by r) (node_of event) ≡ true
+          → OwnsEvent logged part count r there event node h
       owns_event r there keeps own = record {
         happens = x.happens;
         own = own;
         took = took;
-        sure = sure_log base e lines texts part first laws.lines.lines_give (suc count) x.sure r there keeps;
+        sure = sure_log logged part laws.lines.lines_give (suc count) x.sure r there keeps;
         lined = x.lined r there keeps;
       }
 
@@ -210,7 +210,7 @@ module _ (base : Setting) (e : Estate AnyNode) (lines : HasLines base e) (texts 
 
           owed : ClientOwed told it what (client_step it what).acts
           owed = client_phase (OfClient c) (b.some, b.within) refl (any.Client it) (subst (Took w event) (sym same) took)
-              (subst (λ y. OwnsEvent base e lines texts part first count (OfClient c) (b.some, b.within) event y h) (sym same)
+              (subst (λ y. OwnsEvent logged part count (OfClient c) (b.some, b.within) event y h) (sym same)
               (owns_event (OfClient c) (b.some, b.within) refl (ap (owns c) own ∙ equal_itself c))) c refl it.phase
               (((lines (OfClient c) (b.some, b.within)).stands count).seen (Client c) (any.Client it) here refl).agrees
 
@@ -228,7 +228,7 @@ module _ (base : Setting) (e : Estate AnyNode) (lines : HasLines base e) (texts 
 
           owed : CleanerOwed told it what (cleaner_step it what).acts
           owed = cleaner_phase OfCleaner tt refl (any.Cleaner it) (subst (Took w event) (sym same) took)
-              (subst (λ y. OwnsEvent base e lines texts part first count OfCleaner tt event y h) (sym same)
+              (subst (λ y. OwnsEvent logged part count OfCleaner tt event y h) (sym same)
               (owns_event OfCleaner tt refl (ap (owns cleaners_number) own))) refl it.phase
               (((lines OfCleaner tt).stands count).seen Cleaner (any.Cleaner it) here).agrees
 
@@ -262,7 +262,7 @@ module _ (base : Setting) (e : Estate AnyNode) (lines : HasLines base e) (texts 
                 net = its.idx.net;
                 asked = its.idx.asked;
                 more = λ block entry fact. rows_more joint.idx.net.filed h x.more block entry
-                    (same_rows base e lines texts part first laws.lines.lines_give count (upto_before base e lines texts part first count x.sure) joint slot
+                    (same_rows logged part laws.lines.lines_give count (upto_before logged part count x.sure) joint slot
                     its block
                     entry fact);
                 filed = (good_in slot (held_in slot texts.text) first its.idx.net its.index_stands.runs).filed;

@@ -3,10 +3,7 @@ use Rattle.std.proofs.Common.{◌≡◌, ℕ, ◌<◌, Bool, true, false, if◌t
 use Rattle.act_tie.proofs.Onward.{acts_on, apart_on}
 use Rattle.act_tie.specs.BlockActs.{acts_of}
 use Rattle.act_tie.specs.Shown.{FallsApart}
-use Rattle.core_world.specs.declared.any_node.AnyNode.{AnyNode}
-use Rattle.log_tie.specs.Setting.{Setting}
 use Rattle.node_slots.proofs.node_tie.SmallWorld.{with_promise}
-use Rattle.segment_format.specs.declared.segment.Segment.{Segment}
 use Rattle.token_client.specs.State.{TokensState, held_of}
 use Rattle.token_law.specs.Laws.{ActsAreLegal}
 use Rattle.token_law.specs.Net.{Net, Runs, acted, opening}
@@ -19,17 +16,16 @@ use Rattle.version_model.specs.Effects.{after_act, history_after}
 use Rattle.version_model.specs.History.{Content, History, nothing_yet}
 use Rattle.version_model.specs.Legal.{AreLegalFrom, IsLegalIn}
 use Rattle.world_base.specs.Cluster.{place_of}
-use Rattle.world_base.specs.declared.estate.Estate.{Estate}
 use Rattle.run_laws.proofs.world_law.Laws as tokens
 use Rattle.run_laws.proofs.world_law.RegistryTurns.{slot_below}
 use Rattle.run_laws.proofs.world_reads.LegalJoints.{of_block}
 use Rattle.run_laws.proofs.world_reads.TurnRun.{moment_cluster}
 use Rattle.run_laws.specs.world_law.Owners.{moment, node_in, tokens_of}
 use Rattle.run_laws.specs.world_law.Standing.{members}
-use Rattle.run_laws.specs.world_logs.Lines.{HasLines, Texts}
 use Rattle.run_laws.specs.world_reads.TokensBelow.{BlocksMakeLegal}
 use Rattle.run_laws.specs.world_reads.Holders.{HoldersAreNewest, IsNewest, history_at}
 use Rattle.run_laws.specs.world_reads.Joint.{Joint, k}
+use Rattle.run_laws.specs.world_reads.LoggedRuns.{LoggedRun}
 use Rattle.xfs_base.proofs.BlockOrder.{same_block_exact}
 use Rattle.xfs_base.proofs.Booleans.{contrary, equal_itself}
 use Rattle.xfs_base.specs.Blocks.{same_block, slot_of}
@@ -48,9 +44,10 @@ untold : {X : Type 0} (t : Bool) (xs : List X) → t ≡ false → (if t then xs
 untold true xs fact = contrary (sym fact)
 untold false xs fact = refl
 
-module _ (law : ActsAreLegal) (blocks : BlocksMakeLegal) (laws : tokens.NodeLaws) (base : Setting) (e : Estate AnyNode) (lines : HasLines base e)
-    (texts : Texts base e lines) (first : ℕ → ℕ → Segment) (count : ℕ) (apart : FallsApart (moment e count).acts)
-    (joints : (part : ℕ) → part < slot_count → Joint base e lines texts part first count) where
+module _ (law : ActsAreLegal) (blocks : BlocksMakeLegal) (laws : tokens.NodeLaws) (logged : LoggedRun) (count : ℕ)
+    (apart : FallsApart (moment logged.estate count).acts) (joints : (part : ℕ) → part < slot_count → Joint logged part count) where
+  open logged use {estate as e}
+
   abbrev all : List Act
   all = (moment e count).acts
 
@@ -58,14 +55,14 @@ module _ (law : ActsAreLegal) (blocks : BlocksMakeLegal) (laws : tokens.NodeLaws
     abbrev part : ℕ
     part = slot_of b.ino.0
 
-    abbrev joint : Joint base e lines texts part first count
+    abbrev joint : Joint logged part count
     joint = joints part (slot_below b.ino.0)
 
     abbrev net : Net
     net = with_promise 1 joint.tok.net
 
     abbrev Serves : ℕ → TokensState → Type 0
-    Serves c t = tokens.ServesThere laws (k base e lines texts part first) part (slot_below b.ino.0) joint.tok c t
+    Serves c t = tokens.ServesThere laws (k logged part) part (slot_below b.ino.0) joint.tok c t
 
     -- the client reads the block
     module _ (c : ℕ) (t : TokensState) (value : Content) (there : Serves c t) (held : is_held (held_of (net.tokens c).blocks b).mode ≡ true)
@@ -73,13 +70,13 @@ module _ (law : ActsAreLegal) (blocks : BlocksMakeLegal) (laws : tokens.NodeLaws
       abbrev read : Act
       read = act.Read c b (held_of (net.tokens c).blocks b).ver value
 
-      runs : Runs true (members (k base e lines texts part first) part) part opening (acted net (read ∷ []))
+      runs : Runs true (members (k logged part) part) part opening (acted net (read ∷ []))
       runs = On joint.tokens_stand.runs (Reads c b value there.client.some there.client.within there.up held has)
 
       own : LegalActs (acts_of b (all ++ read ∷ []))
       own =
           subst (λ acts. LegalActs (acts_of b (acts ++ read ∷ []))) joint.tokens_stand.acts
-          (law (members (k base e lines texts part first) part) part (acted net (read ∷ [])) b (record { run = runs; inside = equal_itself part }))
+          (law (members (k logged part) part) part (acted net (read ∷ [])) b (record { run = runs; inside = equal_itself part }))
 
       each : (other : BlockId) → LegalActs (acts_of other (all ++ read ∷ []))
       each other = by (same_block b other) refl
@@ -89,7 +86,7 @@ module _ (law : ActsAreLegal) (blocks : BlocksMakeLegal) (laws : tokens.NodeLaws
           by false fact =
               subst LegalActs
               (sym (acts_on other all read ∙ ap (λ more. acts_of other all ++ more) (untold (same_block b other) _ fact) ∙ append-nil (acts_of other all)))
-              (of_block law blocks base e lines texts first count apart joints other)
+              (of_block law blocks logged count apart joints other)
 
       newest : IsNewest (history_at (moment e count) b) (held_of (net.tokens c).blocks b).ver value
       newest =
@@ -100,7 +97,7 @@ module _ (law : ActsAreLegal) (blocks : BlocksMakeLegal) (laws : tokens.NodeLaws
   holders_are_newest b c t value serves held has =
       let w = moment e count in
       let there : Serves b c t =
-      tokens.serves_there laws (k base e lines texts (part b) first) (part b) (slot_below b.ino.0) w.nodes w.sent w.acts (joint b).tok (joint b).tokens_stand c t
+      tokens.serves_there laws (k logged (part b)) (part b) (slot_below b.ino.0) w.nodes w.sent w.acts (joint b).tok (joint b).tokens_stand c t
       (subst (λ cluster. tokens_of (node_in w.nodes (place_of cluster (Client c))) ≡ Some t) (moment_cluster e count) serves) in
       subst
       (λ (s : TokensState). is_held (held_of s.blocks b).mode ≡ true → (held_of s.blocks b).value ≡ Some value

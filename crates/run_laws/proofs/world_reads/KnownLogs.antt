@@ -3,7 +3,6 @@
 use Rattle.std.proofs.Common.{◌≡◌, ◌≤◌, ◌<◌, ◌==◌, ◌⊎◌, ◌&&◌, ℕ, nat_le, nat_lt, Bool, true, false, List, Option, None, Some, filter, length, inl, inr, refl, sym, ap, subst, ◌∙◌, arith}
 use Rattle.std.proofs.lemmas.Bool.{eqb-true}
 use Rattle.std.proofs.lemmas.Bool.Decides.{nat_tests}
-use Rattle.core_world.specs.declared.any_node.AnyNode.{AnyNode}
 use Rattle.group_map.specs.declared.group.Group.{Group}
 use Rattle.index_tie.proofs.Runs.{good_in}
 use Rattle.log_law.specs.Held.{WhatIsListedFlew}
@@ -20,14 +19,14 @@ use Rattle.wire_msg.specs.declared.body.Body.{Body}
 use Rattle.wire_msg.specs.declared.body.Body.TheVariants as body
 use Rattle.wire_msg.specs.declared.packet.Packet.{Packet}
 use Rattle.wire_msg.specs.declared.storage.Listed.{Listed}
-use Rattle.world_base.specs.declared.estate.Estate.{Estate}
 use Rattle.run_laws.specs.world_law.Owners.{moment}
-use Rattle.run_laws.specs.world_logs.Lines.{HasLines, Texts, setting}
+use Rattle.run_laws.specs.world_logs.Lines.{setting}
 use Rattle.run_laws.specs.world_logs.Roles.{Role, asker_by, log_by, renews}
 use Rattle.run_laws.specs.world_logs.Roles.Role.{OfClient, OfCleaner, OfManager}
 use Rattle.run_laws.specs.world_logs.Settings.{stripe_by}
 use Rattle.run_laws.specs.world_logs.Shelves.{group_at}
 use Rattle.run_laws.specs.world_reads.Joint.{Joint, There, log_at}
+use Rattle.run_laws.specs.world_reads.LoggedRuns.{LoggedRun}
 use Rattle.xfs_base.specs.declared.fragment.FragMeta.{FragMeta}
 use Rattle.xfs_base.specs.declared.segment.LogId.{LogId}
 use Rattle.xfs_base.specs.declared.segment.SegName.{SegName}
@@ -44,16 +43,18 @@ parity_alike : (o : Option Group) → (cut_of o).parity ≡ (stripe_by o).parity
 parity_alike None = refl
 parity_alike (Some group) = refl
 
-module _ (base : Setting) (e : Estate AnyNode) (lines : HasLines base e) (texts : Texts base e lines) (part : ℕ) (first : ℕ → ℕ → Segment) where
+module _ (logged : LoggedRun) (part : ℕ) where
+  open logged use {base, estate as e, lines, texts, first}
+
   -- the log of this number is a client's or the cleaner's
   pub record HasLog (l : ℕ) : Type 0 where
     pub role : Role
-    pub there : There base e lines texts part first role
+    pub there : There logged part role
     pub keeps : renews role ≡ false
     pub numbered : log_by role ≡ l
 
   abbrev Nobody : ℕ → Type 0
-  Nobody l = (r : Role) → There base e lines texts part first r → renews r ≡ false → log_by r ≡ l → ⊥
+  Nobody l = (r : Role) → There logged part r → renews r ≡ false → log_by r ≡ l → ⊥
 
   abbrev clients : ℕ
   clients = e.script.setup.clients
@@ -61,7 +62,7 @@ module _ (base : Setting) (e : Estate AnyNode) (lines : HasLines base e) (texts 
   somebody : (l : ℕ) → HasLog l ⊎ Nobody l
   somebody l = by (l == cleaners_number) refl (nat_lt 0 l && nat_le l clients) refl
     where
-      none : (r : Role) → (l == cleaners_number) ≡ false → (nat_lt 0 l && nat_le l clients) ≡ false → There base e lines texts part first r → renews r ≡ false
+      none : (r : Role) → (l == cleaners_number) ≡ false → (nat_lt 0 l && nat_le l clients) ≡ false → There logged part r → renews r ≡ false
           → log_by r ≡ l → ⊥
       none (OfClient c) other out there keeps fact =
           (let some = there.0 in let limit = there.1 in let same : c ≡ l = fact in
@@ -81,20 +82,20 @@ module _ (base : Setting) (e : Estate AnyNode) (lines : HasLines base e) (texts 
 
     -- ---- one log
 
-    module _ (r : Role) (there : There base e lines texts part first r) where
+    module _ (r : Role) (there : There logged part r) where
       abbrev g : Setting
       g = setting base e r
 
       body_seen : (p : Packet) (m : Body) → In p sent → p.body ≡ m
-          → BodySeen g (asker_by r ((lines r there).scene count)) (log_at base e lines texts part first r there count) p.from p.to m
+          → BodySeen g (asker_by r ((lines r there).scene count)) (log_at logged part r there count) p.from p.to m
       body_seen p m among fact =
-          subst (BodySeen g (asker_by r ((lines r there).scene count)) (log_at base e lines texts part first r there count) p.from p.to) fact
+          subst (BodySeen g (asker_by r ((lines r there).scene count)) (log_at logged part r there count) p.from p.to) fact
           (((lines r there).stands count).facts p among)
 
       pub log_known : LogKnown texts.text sent (cuts_at e.world) (record { 0 = log_by r })
       log_known = record {
         setting = g;
-        net = log_at base e lines texts part first r there count;
+        net = log_at logged part r there count;
         own = refl;
         moment = ((lines r there).stands count).moment;
         texts_of = texts.flown r there count;
@@ -109,15 +110,15 @@ module _ (base : Setting) (e : Estate AnyNode) (lines : HasLines base e) (texts 
       -- what a server listed of it flew
       pub listed_flew : WhatIsListedFlew → (p : Packet) (m : Listed) → In p sent → p.body ≡ body.Listed m → (meta : FragMeta) → In meta m.held
           → meta.name.log ≡ record { 0 = log_by r }
-          → (s : Segment) × In s (log_at base e lines texts part first r there count).flown × (meta.name ≡ s.name) × (meta.group ≡ s.group)
+          → (s : Segment) × In s (log_at logged part r there count).flown × (meta.name ≡ s.name) × (meta.group ≡ s.group)
       listed_flew flew p m among fact meta held own =
-          flew g (log_at base e lines texts part first r there count) ((lines r there).stands count).moment
+          flew g (log_at logged part r there count) ((lines r there).stands count).moment
           (filter (λ (x : FragMeta). is_of_log g x.name) m.held) (body_seen p (body.Listed m) among fact) meta
           (in_filter (λ (x : FragMeta). is_of_log g x.name) meta m.held held (of_its_log meta.name own))
 
     -- ---- all logs
 
-    module _ (joint : Joint base e lines texts part first count) where
+    module _ (joint : Joint logged part count) where
       pub filed_log : (l q : ℕ) → 0 < q → q ≤ joint.idx.net.filed.head l → HasLog l
       filed_log l q some limit = by (somebody l)
         where

@@ -2,38 +2,35 @@
 use Rattle.std.proofs.Common.{ℕ, ◌<◌, subst}
 use Rattle.act_tie.specs.BlockActs.{acts_of}
 use Rattle.act_tie.specs.Shown.{FallsApart}
-use Rattle.core_world.specs.declared.any_node.AnyNode.{AnyNode}
-use Rattle.log_tie.specs.Setting.{Setting}
 use Rattle.node_slots.proofs.node_tie.SmallWorld.{with_promise}
-use Rattle.segment_format.specs.declared.segment.Segment.{Segment}
 use Rattle.token_law.specs.Laws.{ActsAreLegal}
 use Rattle.token_protocol.specs.Acts.{LegalActs}
 use Rattle.version_model.specs.Legal.{AreLegal}
-use Rattle.world_base.specs.declared.estate.Estate.{Estate}
 use Rattle.run_laws.proofs.world_law.RegistryTurns.{slot_below}
 use Rattle.run_laws.specs.world_law.Standing.{members}
 use Rattle.run_laws.specs.world_law.Owners.{moment}
-use Rattle.run_laws.specs.world_logs.Lines.{HasLines, Texts}
 use Rattle.run_laws.specs.world_reads.TokensBelow.{BlocksMakeLegal}
 use Rattle.run_laws.specs.world_reads.Joint.{Joint, k}
+use Rattle.run_laws.specs.world_reads.LoggedRuns.{LoggedRun}
 use Rattle.xfs_base.specs.Blocks.{slot_of}
 use Rattle.xfs_base.specs.declared.block.BlockId.{BlockId}
 use Rattle.xfs_base.proofs.Booleans.{equal_itself}
 use Rattle.xfs_base.specs.Limits.{slot_count}
 
-module _ (law : ActsAreLegal) (blocks : BlocksMakeLegal) (base : Setting) (e : Estate AnyNode) (lines : HasLines base e) (texts : Texts base e lines)
-    (first : ℕ → ℕ → Segment) (count : ℕ) (apart : FallsApart (moment e count).acts)
-    (joints : (part : ℕ) → part < slot_count → Joint base e lines texts part first count) where
+module _ (law : ActsAreLegal) (blocks : BlocksMakeLegal) (logged : LoggedRun) (count : ℕ) (apart : FallsApart (moment logged.estate count).acts)
+    (joints : (part : ℕ) → part < slot_count → Joint logged part count) where
+  open logged use {estate as e}
+
   pub of_block : (b : BlockId) → LegalActs (acts_of b (moment e count).acts)
   of_block b =
       subst (λ acts. LegalActs (acts_of b acts)) joint.tokens_stand.acts
-      (law (members (k base e lines texts part first) part) part (with_promise 1 joint.tok.net) b
+      (law (members (k logged part) part) part (with_promise 1 joint.tok.net) b
       (record { run = joint.tokens_stand.runs; inside = equal_itself part }))
     where
       part : ℕ
       part = slot_of b.ino.0
 
-      joint : Joint base e lines texts part first count
+      joint : Joint logged part count
       joint = joints part (slot_below b.ino.0)
 
   pub acts_are_legal : AreLegal (moment e count).acts

@@ -27,38 +27,42 @@ use Rattle.run_laws.specs.world_reads.Holders.{EveryRunsHoldersAreNewest}
 use Rattle.run_laws.specs.world_reads.Indexes.{EveryRunKeepsItsIndexes, EveryRunsIndexesAreItsOwn, KeepsItsIndexes}
 use Rattle.run_laws.specs.world_reads.Joint.{IsSureUpto, Joint}
 use Rattle.run_laws.specs.world_reads.Legal.{EveryRunWithoutLossesIsLegal, EveryRunsActsAreLegal}
-use Rattle.run_laws.specs.world_reads.Moments.{EveryMomentStands, MomentStands, first_of}
+use Rattle.run_laws.specs.world_reads.LoggedRuns.{LoggedRun, logged_run}
+use Rattle.run_laws.specs.world_reads.Moments.{EveryMomentStands, MomentStands}
 
 module _ (below : Below) where
   module _ (base : Setting) (apart : TellsApart base) (e : Estate AnyNode) (setup : IsSetup e.script.setup)
       (run : IsRun any_step any_start e.script e.events e.world) (lines : HasLines base e) (texts : Texts base e lines) (count : ℕ)
       (none : NoDoubtfulRestart e count) where
+    abbrev logged : LoggedRun
+    logged = logged_run base e lines texts
+
     stands : MomentStands base e lines texts count
     stands =
-        let w = whole_at below base e lines texts (first_of base e lines texts) apart setup run count
+        let w = whole_at below logged apart setup run count
         (λ r there keeps. below.runs.undoubted_runs_are_sure base e lines count none r there keeps) in
         record { joints = w.joints; references = w.references; named = w.named; comes = w.comes }
 
     legal : AreLegal (moment e count).acts
     legal =
-        acts_are_legal below.tokens.acts_are_legal below.tokens.blocks_make_legal base e lines texts (first_of base e lines texts) count
+        acts_are_legal below.tokens.acts_are_legal below.tokens.blocks_make_legal logged count
         (below.tokens.every_run_has_falls_apart e setup run count) stands.joints
 
-    sure : (part : ℕ) → IsSureUpto base e lines texts part (first_of base e lines texts) count
+    sure : (part : ℕ) → IsSureUpto logged part count
     sure part r there keeps_on = below.runs.undoubted_runs_are_sure base e lines count none r there keeps_on
 
     kept : (part : ℕ) → part < slot_count → KeepsItsIndexes e count part texts.text
     kept part of_eight =
-        let joint : Joint base e lines texts part (first_of base e lines texts) count = stands.joints part of_eight in
+        let joint : Joint logged part count = stands.joints part of_eight in
         record {
           filed = joint.idx.net.filed;
           own = is_own_table below.lines.lines_give below.logs.whole below.logs.one_text below.logs.own
-              below.tokens.nodes below.index.nodes.server base e setup run lines texts part (first_of base e lines texts) count (sure part) joint;
+              below.tokens.nodes below.index.nodes.server logged setup run part count (sure part) joint;
           named = joint.index_stands.texts_of;
-          keeps = keeps below.index.nodes below.tokens.nodes (cluster_of e.script.setup) part of_eight texts.text (first_of base e lines texts)
+          keeps = keeps below.index.nodes below.tokens.nodes (cluster_of e.script.setup) part of_eight texts.text logged.first
               below.index.each_index_is_the_join below.index.managers_cover_their_horizon below.index.newest_is_never_deleted (moment e count)
               (moment_cluster e count) joint.idx joint.index_stands;
-          leads = dirty_blocks_lead below.tokens.dirty_blocks_lead below.tokens.nodes base e lines texts part of_eight (first_of base e lines texts) count
+          leads = dirty_blocks_lead below.tokens.dirty_blocks_lead below.tokens.nodes logged part of_eight count
               joint;
         }
 
@@ -81,7 +85,7 @@ module _ (below : Below) where
       let apart = below.writing.items.telling_setting.1 in
       let lines = below.runs.runs_have_lines base e setup run in
       let texts = below.runs.lines_have_texts base e setup lines in
-      holders_are_newest below.tokens.acts_are_legal below.tokens.blocks_make_legal below.tokens.nodes base e lines texts (first_of base e lines texts) count
+      holders_are_newest below.tokens.acts_are_legal below.tokens.blocks_make_legal below.tokens.nodes (logged_run base e lines texts) count
       (below.tokens.every_run_has_falls_apart e setup run count) (stands base apart e setup run lines texts count none).joints
 
   pub every_runs_indexes_are_its_own : EveryRunsIndexesAreItsOwn

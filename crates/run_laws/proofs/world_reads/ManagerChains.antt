@@ -3,14 +3,12 @@
 use Rattle.std.proofs.Common.{◌≡◌, ◌==◌, ℕ, ◌-◌, true, false, cond, List, [], ◌∷◌, length, Option, None, Some, inl, inr, refl, sym, ap, subst, ◌∙◌}
 use Rattle.std.specs.Prelude.{Contains}
 use Rattle.std.specs.List.{AllByRecursion}
-use Rattle.core_world.specs.declared.any_node.AnyNode.{AnyNode}
 use Rattle.group_map.specs.declared.group.Group.{Group}
 use Rattle.log_law.specs.Groups.{PriorsNameGroups}
 use Rattle.log_law.specs.Laws.{OneNameOneText}
 use Rattle.log_law.specs.Net.Packet.{FragmentSent}
 use Rattle.log_law.specs.Places.{APlaceNamesOneContent}
 use Rattle.log_protocol.specs.Tables.{In}
-use Rattle.log_tie.specs.Setting.{Setting}
 use Rattle.log_tie.specs.Shelves.{is_of_log}
 use Rattle.node_logs.specs.node_log_tie.Sight.{BodySeen}
 use Rattle.run_laws.proofs.place_law.Joined.{HasFragment, has_fragment, joined}
@@ -26,14 +24,14 @@ use Rattle.takeover.specs.Sources.{back_from, goes_back, prior_of}
 use Rattle.wire_msg.specs.declared.body.Body.TheVariants as body
 use Rattle.wire_msg.specs.declared.packet.Packet.{Packet}
 use Rattle.wire_msg.specs.declared.storage.Found.{Found}
-use Rattle.world_base.specs.declared.estate.Estate.{Estate}
 use Rattle.run_laws.specs.world_law.Owners.{moment}
-use Rattle.run_laws.specs.world_logs.Lines.{HasLines, Texts, setting}
+use Rattle.run_laws.specs.world_logs.Lines.{setting}
 use Rattle.run_laws.specs.world_logs.Roles.{Role, asker_by}
 use Rattle.run_laws.specs.world_logs.Settings.{stripe_by}
 use Rattle.run_laws.specs.world_logs.Shelves.{group_at}
 use Rattle.run_laws.specs.world_reads.Joint.{There, log_at}
 use Rattle.run_laws.specs.world_reads.References.{Flew, OfSomeLog}
+use Rattle.run_laws.specs.world_reads.LoggedRuns.{LoggedRun}
 use Rattle.xfs_base.specs.declared.fragment.Fragment.{Fragment}
 use Rattle.xfs_base.specs.declared.node.NodeId.{NodeId}
 use Rattle.xfs_base.specs.declared.segment.LogId.{LogId}
@@ -65,8 +63,9 @@ pub parity_alike : (o : Option Group) → (cut_of o).parity ≡ (stripe_by o).pa
 parity_alike None = refl
 parity_alike (Some group) = refl
 
-module _ (base : Setting) (e : Estate AnyNode) (lines : HasLines base e) (texts : Texts base e lines) (part : ℕ) (first : ℕ → ℕ → Segment) (count : ℕ)
-    (to : NodeId) where
+module _ (logged : LoggedRun) (part count : ℕ) (to : NodeId) where
+  open logged use {base, estate as e, lines, texts}
+
   abbrev sent : List Packet
   sent = (moment e count).sent
 
@@ -79,11 +78,11 @@ module _ (base : Setting) (e : Estate AnyNode) (lines : HasLines base e) (texts 
 
   -- The segment is of a log of the run, and whatever flew there under its name is over the group with which it is referred to.
   pub record Refers (seg : SegRef) : Type 0 where
-    pub of : OfSomeLog base e lines texts part first count seg.name
-    pub grouped : (t : Segment) → In t (log_at base e lines texts part first of.role of.there count).flown → t.name ≡ seg.name → t.group ≡ seg.group
+    pub of : OfSomeLog logged part count seg.name
+    pub grouped : (t : Segment) → In t (log_at logged part of.role of.there count).flown → t.name ≡ seg.name → t.group ≡ seg.group
 
   -- so it is of what flew, with its group
-  pub flew_refers : (seg : SegRef) → Flew base e lines texts part first count seg → Refers seg
+  pub flew_refers : (seg : SegRef) → Flew logged part count seg → Refers seg
   flew_refers seg f = record {
     of = f.of;
     grouped = λ t among named. (let same : t ≡ f.segment =
@@ -93,18 +92,18 @@ module _ (base : Setting) (e : Estate AnyNode) (lines : HasLines base e) (texts 
   }
 
   -- a fragment that was sent, as the log of this owner has it
-  pub its_fragment : (r : Role) (there : There base e lines texts part first r) (p : Packet) (m : Found) → In p sent → p.body ≡ body.Fragment m
+  pub its_fragment : (r : Role) (there : There logged part r) (p : Packet) (m : Found) → In p sent → p.body ≡ body.Fragment m
       → is_of_log (setting base e r) m.fragment.meta.name ≡ true
-      → In (FragmentSent m.fragment) (log_at base e lines texts part first r there count).sent
+      → In (FragmentSent m.fragment) (log_at logged part r there count).sent
   its_fragment r there p m among fact =
-      subst (BodySeen (setting base e r) (asker_by r ((lines r there).scene count)) (log_at base e lines texts part first r there count) p.from p.to) fact
+      subst (BodySeen (setting base e r) (asker_by r ((lines r there).scene count)) (log_at logged part r there count) p.from p.to) fact
       (((lines r there).stands count).facts p among)
 
   -- its log is known
-  abbrev pub known : (name : SegName) → OfSomeLog base e lines texts part first count name → LogKnown texts.text sent (cuts_at e.world) name.log
+  abbrev pub known : (name : SegName) → OfSomeLog logged part count name → LogKnown texts.text sent (cuts_at e.world) name.log
   known name o = record {
     setting = setting base e o.role;
-    net = log_at base e lines texts part first o.role o.there count;
+    net = log_at logged part o.role o.there count;
     own = sym o.own;
     moment = ((lines o.role o.there).stands count).moment;
     texts_of = texts.flown o.role o.there count;
@@ -163,6 +162,6 @@ module _ (base : Setting) (e : Estate AnyNode) (lines : HasLines base e) (texts 
         subst Refers (sym (leads_to at s source back)) (refers_below one place at.seg (down from above at r before) s reads priors)
 
     -- where the sources of a takeover flew, what it reads at present is referred to so
-    pub refers_down : (sources : List Source) → ((source : Source) → Contains sources source → Flew base e lines texts part first count source.seg)
+    pub refers_down : (sources : List Source) → ((source : Source) → Contains sources source → Flew logged part count source.seg)
         → (source : Source) → LeadsDown (answered_in sent to) striped sources source → Refers source.seg
     refers_down sources flew source d = down d.first d.segments source (flew_refers d.first.seg (flew d.first d.among)) d.down

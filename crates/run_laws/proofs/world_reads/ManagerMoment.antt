@@ -16,14 +16,12 @@ use Rattle.node_slots.specs.node_index_tie.ManagerEvents.{WritesTexts}
 use Rattle.run_laws.specs.reading_law.Readings.{ReadingsCame, cuts_at}
 use Rattle.node_tellings.specs.reading_tie.Arrivals.{answered_in, cut_by}
 use Rattle.node_tellings.specs.reading_tie.ManagerReads.{ManagerHolds}
-use Rattle.segment_format.specs.declared.segment.Segment.{Segment}
 use Rattle.token_protocol.specs.Basics.{In}
 use Rattle.wire_msg.specs.declared.packet.Do.{Do}
 use Rattle.wire_msg.specs.declared.packet.Do.TheVariants.{Deliver}
 use Rattle.wire_msg.specs.declared.packet.Packet.{Packet}
 use Rattle.world_base.specs.Cluster.{cluster_of, place_of}
 use Rattle.world_base.specs.declared.cluster.Cluster.{Cluster}
-use Rattle.world_base.specs.declared.estate.Estate.{Estate}
 use Rattle.world_base.specs.declared.event.Event.{Event}
 use Rattle.world_base.specs.declared.event.Event.TheVariants as events
 use Rattle.world_base.specs.declared.world.World.{World}
@@ -37,10 +35,11 @@ use Rattle.run_laws.proofs.world_law.Sent.{was_sent}
 use Rattle.run_laws.specs.world_law.Standing as tokens
 use Rattle.run_laws.specs.world_law.Owners.{moment, node_in, node_named}
 use Rattle.run_laws.specs.world_lines.Flights.{ManagersWriteTexts}
-use Rattle.run_laws.specs.world_logs.Lines.{HasLines, Line, Texts, cluster, setting}
+use Rattle.run_laws.specs.world_logs.Lines.{Line, cluster, setting}
 use Rattle.run_laws.specs.world_logs.Roles.Role.{OfManager}
 use Rattle.run_laws.proofs.world_reads.Taking.{Took, moment_next, node_then, took_it}
 use Rattle.run_laws.specs.world_reads.Joint.{Joint, There}
+use Rattle.run_laws.specs.world_reads.LoggedRuns.{LoggedRun}
 use Rattle.xfs_base.specs.declared.node.NodeId.TheVariants.{Manager}
 use Rattle.xfs_base.specs.Limits.{slot_count}
 
@@ -57,7 +56,9 @@ brought_by w (events.Deliver packet) may q fact =
     let same : packet ≡ q = delivered packet q fact in
     (was_sent w.sent q (subst (λ x. MayHappen w (events.Deliver x)) same may), ap (λ (x : Packet). x.to) (sym same))
 
-module _ (base : Setting) (e : Estate AnyNode) (lines : HasLines base e) (texts : Texts base e lines) (part : ℕ) (first : ℕ → ℕ → Segment) (count : ℕ) where
+module _ (logged : LoggedRun) (part count : ℕ) where
+  open logged use {base, estate as e, lines, texts, first}
+
   abbrev pub k : Cluster
   k = cluster base e
 
@@ -67,7 +68,7 @@ module _ (base : Setting) (e : Estate AnyNode) (lines : HasLines base e) (texts 
   pub record Coming (event : Event) : Type 0 where
     pub cluster : (moment e count).cluster ≡ cluster_of e.script.setup
     pub may : MayHappen (moment e count) event
-    pub joint : Joint base e lines texts part first count
+    pub joint : Joint logged part count
 
   module _ (event : Event) (x : Coming event) where
     pub both_stand : BothStand true k part texts.text first (moment e count).nodes (moment e count).sent (moment e count).acts x.joint.tok x.joint.idx
@@ -83,7 +84,7 @@ module _ (base : Setting) (e : Estate AnyNode) (lines : HasLines base e) (texts 
 
   -- ---- the manager
 
-  module _ (j : ℕ) (there : There base e lines texts part first (OfManager j)) where
+  module _ (j : ℕ) (there : There logged part (OfManager j)) where
     abbrev pub line : Line base e (OfManager j)
     line = lines (OfManager j) there
 
@@ -107,7 +108,7 @@ module _ (base : Setting) (e : Estate AnyNode) (lines : HasLines base e) (texts 
       abbrev pub what : Do
       what = what_of event
 
-      abbrev pub joint : Joint base e lines texts part first count
+      abbrev pub joint : Joint logged part count
       joint = x.coming.joint
 
       pub here : node_in (moment e count).nodes (place_of k (Manager j)) ≡ Some (any.Manager node)

@@ -5,7 +5,6 @@ use Rattle.std.specs.List.{AllByRecursion}
 use Rattle.std.proofs.lemmas.Bool.{eqb-true}
 use Rattle.core_world.specs.declared.any_node.AnyNode.{AnyNode}
 use Rattle.core_world.specs.declared.any_node.AnyNode.TheVariants as any
-use Rattle.log_tie.specs.Setting.{Setting}
 use Rattle.manager_node.specs.declared.manager.Manager.{Manager as ManagerNode}
 use Rattle.manager_node.specs.declared.phase.Phase.{Phase}
 use Rattle.manager_node.specs.declared.phase.Phase.TheVariants.{Down, Waiting, Serving as Serves}
@@ -22,7 +21,6 @@ use Rattle.takeover.specs.declared.report.Report.{Report as Heard}
 use Rattle.token_protocol.specs.Basics.{In}
 use Rattle.world_base.specs.Cluster.{place_of}
 use Rattle.world_base.specs.declared.cluster.Cluster.{Cluster}
-use Rattle.world_base.specs.declared.estate.Estate.{Estate}
 use Rattle.world_base.specs.declared.event.Event.{Event}
 use Rattle.world_base.specs.Events.{node_of, what_of}
 use Rattle.run_laws.specs.world_index.Owes.{IndexOwes, TokensGive}
@@ -32,7 +30,7 @@ use Rattle.run_laws.proofs.world_law.Sent.{in_list}
 use Rattle.run_laws.specs.world_law.Standing as tokens
 use Rattle.run_laws.specs.world_law.Owes.{TurnOwes}
 use Rattle.run_laws.specs.world_law.Owners.{moment}
-use Rattle.run_laws.specs.world_logs.Lines.{HasLines, Texts, cluster}
+use Rattle.run_laws.specs.world_logs.Lines.{cluster}
 use Rattle.run_laws.specs.world_logs.Roles.Role.{OfManager}
 use Rattle.run_laws.proofs.world_reads.ManagerMoment as manager
 use Rattle.run_laws.proofs.world_reads.ManagerMoment.{Coming, ManagerEvent}
@@ -50,6 +48,7 @@ use Rattle.xfs_base.specs.declared.segment.SegRef.{SegRef}
 use Rattle.xfs_base.specs.Logs.{block_writer, cleaners_number}
 use Rattle.xfs_base.specs.Limits.{slot_count}
 use Rattle.run_laws.specs.world_reads.Below.{Below}
+use Rattle.run_laws.specs.world_reads.LoggedRuns.{LoggedRun}
 
 pub one_contained : {X : Type 0} (P : X → Type 0) (xs : List X) (x : X) → AllByRecursion P xs → Contains xs x → P x
 one_contained P [] x all fact = absurd (contains_nothing x fact)
@@ -60,25 +59,27 @@ one_among P [] x all fact = absurd fact
 one_among P (y ∷ xs) x all (inl fact) = subst P (sym fact) all.0
 one_among P (y ∷ xs) x all (inr later) = one_among P xs x all.1 later
 
-module _ (base : Setting) (e : Estate AnyNode) (lines : HasLines base e) (texts : Texts base e lines) (part : ℕ) (first : ℕ → ℕ → Segment) (count : ℕ) where
+module _ (logged : LoggedRun) (part count : ℕ) where
+  open logged use {base, estate as e, texts}
+
   abbrev r : References
-  r = its base e lines texts part first count
+  r = its logged part count
 
   -- what the owner of log l reported
-  of_writer : (l : ℕ) (end : End) → ReportFlew base e lines texts part first count (block_writer l) end → EndFlew base e lines texts part first count l end
+  of_writer : (l : ℕ) (end : End) → ReportFlew logged part count (block_writer l) end → EndFlew logged part count l end
   of_writer l end h = by (l == cleaners_number) refl h
     where
-      by : (t : Bool) → (l == cleaners_number) ≡ t → ReportFlew base e lines texts part first count (cond t Cleaner (Client l)) end
-          → EndFlew base e lines texts part first count l end
-      by true fact k = subst (λ x. EndFlew base e lines texts part first count x end) (sym (eqb-true l cleaners_number fact)) k
+      by : (t : Bool) → (l == cleaners_number) ≡ t → ReportFlew logged part count (cond t Cleaner (Client l)) end
+          → EndFlew logged part count l end
+      by true fact k = subst (λ x. EndFlew logged part count x end) (sym (eqb-true l cleaners_number fact)) k
       by false fact k = k
 
   module _ (t : Taking) (refers : TakeRefers r t.take) where
-    pub parts_flew : (ref : SegRef) → Contains t.take.news.parts ref → Flew base e lines texts part first count ref
-    parts_flew ref fact = one_contained (Flew base e lines texts part first count) t.take.news.parts ref refers.parts_refer fact
+    pub parts_flew : (ref : SegRef) → Contains t.take.news.parts ref → Flew logged part count ref
+    parts_flew ref fact = one_contained (Flew logged part count) t.take.news.parts ref refers.parts_refer fact
 
     -- the text of the name of an end that flew is of the group that it bears
-    its_group : (l : ℕ) (end : End) → 0 < end.seq → EndFlew base e lines texts part first count l end
+    its_group : (l : ℕ) (end : End) → 0 < end.seq → EndFlew logged part count l end
         → end.group ≡ (texts.text (record { log = record { 0 = l }; seq = end.seq; pass = end.pass })).group
     its_group l end some (inl none) = absurd (omega arith)
     its_group l end some (inr f) =
@@ -87,52 +88,53 @@ module _ (base : Setting) (e : Estate AnyNode) (lines : HasLines base e) (texts 
     pub ends_bear : (l : ℕ) (x : Heard) → In x t.take.reports → x.from ≡ block_writer l → 0 < x.end.seq
         → x.end.group ≡ (texts.text (record { log = record { 0 = l }; seq = x.end.seq; pass = x.end.pass })).group
     ends_bear l x among from some =
-        its_group l x.end some (of_writer l x.end (subst (λ node. ReportFlew base e lines texts part first count node x.end) from
+        its_group l x.end some (of_writer l x.end (subst (λ node. ReportFlew logged part count node x.end) from
         (one_among (ReportRefers r) t.take.reports x refers.reported among)))
 
-  module _ (j : ℕ) (there : There base e lines texts part first (OfManager j)) (event : Event) (node : ManagerNode)
-      (x : ManagerEvent base e lines texts part first count j there event node) (stands : ReferencesStand base e lines texts part first count) where
+  module _ (j : ℕ) (there : There logged part (OfManager j)) (event : Event) (node : ManagerNode)
+      (x : ManagerEvent logged part count j there event node) (stands : ReferencesStand logged part count) where
     refers : PhaseRefers r node.phase
     refers = stands.each_node (any.Manager node) (in_list (moment e count).nodes x.took.place (any.Manager node) x.took.stands)
 
     -- the sources of the slot's takeover flew
-    pub flew : SourcesFlew base e lines texts part first count j there (slot_in part node.phase)
+    pub flew : SourcesFlew logged part count j there (slot_in part node.phase)
     flew = by node.phase refl
       where
         never : (epoch : ℕ) (t : Taking) → phase.Away epoch ≡ phase.Taking t → ⊥
         never epoch t h = absurd cc
 
-        by : (p : Phase) → node.phase ≡ p → SourcesFlew base e lines texts part first count j there (slot_in part p)
+        by : (p : Phase) → node.phase ≡ p → SourcesFlew logged part count j there (slot_in part p)
         by (Serves s) serves t fact =
             let placed = (subst (places.ManagerAgrees part texts.text x.coming.joint.idx.net) serves
-            (manager.index_sees base e lines texts part first count j there event node x)).0 in
+            (manager.index_sees logged part count j there event node x)).0 in
             let agrees : places.PhaseAgrees part texts.text x.coming.joint.idx.net (desk_of s placed.given) (phase.Taking t) =
             subst (places.PhaseAgrees part texts.text x.coming.joint.idx.net (desk_of s placed.given)) fact placed.here in
             let held : TakeRefers r t.take =
             subst (SlotRefers r) fact (at_slot (SlotRefers r) s.slots part (subst (PhaseRefers r) serves refers).slots tt) in
-            sources_flew base e lines texts part first count x.coming.joint t agrees (parts_flew t held)
+            sources_flew logged part count x.coming.joint t agrees (parts_flew t held)
             (λ l some limit y among from more. ends_bear t held l y among from more)
         by (Waiting kept hello) serves t fact = absurd (never 0 t fact)
         by (Down kept) serves t fact = absurd (never 0 t fact)
 
     pub index_owed : Below → IndexOwes part texts.text x.coming.joint.idx.asked x.coming.joint.idx.net (node_of event) (any.Manager node) (what_of event)
-    index_owed laws = reading.manager_owed base e lines texts part first count j there laws event node x flew
+    index_owed laws = reading.manager_owed logged part count j there laws event node x flew
 
     pub turn_owed : Below → (adopted : Bool) (limit : ℕ)
         → TurnOwes true adopted (tokens.members (cluster base e) part) part limit x.coming.joint.tok.net (node_of event) (any.Manager node) (what_of event)
-    turn_owed laws adopted limit = telling.turn_owed base e lines texts part first count j there laws event node x flew adopted limit
+    turn_owed laws adopted limit = telling.turn_owed logged part count j there laws event node x flew adopted limit
 
 -- ---- all of it, of an event that a manager takes
 
-module _ (base : Setting) (e : Estate AnyNode) (lines : HasLines base e) (texts : Texts base e lines) (part : ℕ) (first : ℕ → ℕ → Segment) (count : ℕ)
-    (laws : Below) (few : part < slot_count) (event : Event) (fact : slice_get e.events count ≡ Some event)
-    (coming : Coming base e lines texts part first count event) (came : ReadingsCame e.world (moment e count))
-    (stands : ReferencesStand base e lines texts part first count) where
+module _ (logged : LoggedRun) (part count : ℕ) (laws : Below) (few : part < slot_count) (event : Event)
+    (fact : slice_get logged.estate.events count ≡ Some event) (coming : Coming logged part count event)
+    (came : ReadingsCame logged.estate.world (moment logged.estate count)) (stands : ReferencesStand logged part count) where
+  open logged use {base, estate as e, texts}
+
   abbrev k : Cluster
   k = cluster base e
 
   -- the run has this manager
-  is_there : (j : ℕ) (node : AnyNode) → node_of event ≡ Manager j → Took (moment e count) event node → There base e lines texts part first (OfManager j)
+  is_there : (j : ℕ) (node : AnyNode) → node_of event ≡ Manager j → Took (moment e count) event node → There logged part (OfManager j)
   is_there j node own took =
       let at : place_of k (node_of event) ≡ Some took.place =
       subst (λ (c : Cluster). place_of c (node_of event) ≡ Some took.place) coming.cluster took.placed in
@@ -149,12 +151,12 @@ module _ (base : Setting) (e : Estate AnyNode) (lines : HasLines base e) (texts 
 
   pub manager_owes : (j : ℕ) (node : ManagerNode) → node_of event ≡ Manager j → Took (moment e count) event (any.Manager node) → ManagerOwes node
   manager_owes j node own took =
-      let there : There base e lines texts part first (OfManager j) = is_there j (any.Manager node) own took in
-      let x : ManagerEvent base e lines texts part first count j there event node =
+      let there : There logged part (OfManager j) = is_there j (any.Manager node) own took in
+      let x : ManagerEvent logged part count j there event node =
       record { few = few; happens = fact; coming = coming; own = own; took = took; came = came } in
       record {
-        index = index_owed base e lines texts part first count j there event node x stands laws;
-        turn = λ adopted limit. turn_owed base e lines texts part first count j there event node x stands laws adopted limit;
-        given = manager.tokens_given base e lines texts part first count event coming laws.tokens.epochs.tokens_are_given (any.Manager node)
+        index = index_owed logged part count j there event node x stands laws;
+        turn = λ adopted limit. turn_owed logged part count j there event node x stands laws adopted limit;
+        given = manager.tokens_given logged part count event coming laws.tokens.epochs.tokens_are_given (any.Manager node)
             (took_it k (moment e count) coming.cluster event (any.Manager node) took);
       }

@@ -3,10 +3,8 @@
 use Rattle.std.proofs.Common.{◌≡◌, ℕ, zero, suc, List, [], ◌∷◌, Option, None, Some, refl, sym, ap, subst}
 use Rattle.std.specs.Prelude.{Contains}
 use Rattle.std.specs.List.{AllByRecursion}
-use Rattle.core_world.specs.declared.any_node.AnyNode.{AnyNode}
 use Rattle.core_world.specs.declared.any_node.AnyNode.TheVariants as any
 use Rattle.log_owner.specs.Sending.{server_in}
-use Rattle.log_tie.specs.Setting.{Setting}
 use Rattle.manager_node.specs.declared.manager.Manager.{Manager as ManagerNode}
 use Rattle.manager_node.specs.declared.phase.Phase.{Phase}
 use Rattle.manager_node.specs.declared.phase.Phase.TheVariants.{Down, Waiting, Serving as Serves}
@@ -38,12 +36,10 @@ use Rattle.wire_msg.specs.declared.packet.Do.TheVariants.{Begin, Deliver, Tick}
 use Rattle.wire_msg.specs.declared.packet.Packet.{Packet}
 use Rattle.wire_msg.specs.declared.storage.Found.{Found}
 use Rattle.wire_msg.specs.declared.storage.Missing.{Missing as Absent}
-use Rattle.world_base.specs.declared.estate.Estate.{Estate}
 use Rattle.world_base.specs.declared.event.Event.{Event}
 use Rattle.world_base.specs.Events.{node_of, what_of}
 use Rattle.run_laws.specs.world_index.Owes.{BodyReads, DoReads, IndexOwes, ManagerTold, PacketReads}
 use Rattle.run_laws.specs.world_law.Owners.{moment}
-use Rattle.run_laws.specs.world_logs.Lines.{HasLines, Texts}
 use Rattle.run_laws.specs.world_logs.Roles.Role.{OfManager}
 use Rattle.run_laws.proofs.world_reads.ManagerChains.{Refers, known, names_its_group, refers_down}
 use Rattle.run_laws.proofs.world_reads.ManagerMoment as manager
@@ -53,6 +49,7 @@ use Rattle.run_laws.specs.world_reads.References.{Flew}
 use Rattle.xfs_base.specs.declared.node.NodeId.{NodeId}
 use Rattle.xfs_base.specs.declared.node.NodeId.TheVariants.{Client, Manager, Server, Cleaner, Registry}
 use Rattle.run_laws.specs.world_reads.Below.{Below}
+use Rattle.run_laws.specs.world_reads.LoggedRuns.{LoggedRun}
 
 -- what holds of each phase of a table, and of one that is away, holds of the slot of this number
 pub at_slot : (P : SlotPhase → Type 0) (table : List SlotPhase) (slot : ℕ) → AllByRecursion P table → P (phase.Away 0) → P (phase_at table slot)
@@ -60,27 +57,28 @@ at_slot P [] slot all away = away
 at_slot P (p ∷ table) zero all away = all.0
 at_slot P (p ∷ table) (suc slot) all away = at_slot P table slot all.1 away
 
-module _ (base : Setting) (e : Estate AnyNode) (lines : HasLines base e) (texts : Texts base e lines) (part : ℕ) (first : ℕ → ℕ → Segment) (count j : ℕ)
-    (there : There base e lines texts part first (OfManager j)) where
+module _ (logged : LoggedRun) (part : ℕ) (count j : ℕ) (there : There logged part (OfManager j)) where
+  open logged use {estate as e, texts}
+
   abbrev sent : List Packet
   sent = (moment e count).sent
 
   -- Each source of a takeover, a part of a checkpoint or the reported end of a log, flew in a log of the run, over the group with which it is referred to.
   abbrev pub SourcesFlew : SlotPhase → Type 0
   SourcesFlew p = (t : Taking) → p ≡ phase.Taking t → (source : Source) → Contains (sources_of t.take.news t.take.reports) source
-      → Flew base e lines texts part first count source.seg
+      → Flew logged part count source.seg
 
   module _ (laws : Below) where
     -- what an answer completes that came to the manager's takeover
     module _ (t : Taking) (holds : TakeHolds (answered_in sent (Manager j)) (cut_by (cuts_at e.world)) t.take)
-        (flew : (source : Source) → Contains (sources_of t.take.news t.take.reports) source → Flew base e lines texts part first count source.seg)
+        (flew : (source : Source) → Contains (sources_of t.take.news t.take.reports) source → Flew logged part count source.seg)
         (ask own server : ℕ) (answer : Told) (answered : AnsweredIn sent (Manager j) ask server answer) (s : Segment) where
       of_present : (p : Present) → t.take.present ≡ Some p → PresentHolds (answered_in sent (Manager j)) (cut_by (cuts_at e.world)) t.take p
           → completes_at t.take t.take.present own server answer ≡ Some s → IsRead part texts.text s
       of_present p at stands done = by p.reading refl (subst (λ o. completes_at t.take o own server answer ≡ Some s) at done)
         where
-          refers : Refers base e lines texts part first count (Manager j) p.source.seg
-          refers = refers_down base e lines texts part first count (Manager j) laws.logs.one_text laws.logs.content
+          refers : Refers logged part count (Manager j) p.source.seg
+          refers = refers_down logged part count (Manager j) laws.logs.one_text laws.logs.content
               laws.logs.priors (sources_of t.take.news t.take.reports) flew
               p.source stands.leads
 
@@ -90,8 +88,8 @@ module _ (base : Setting) (e : Estate AnyNode) (lines : HasLines base e) (texts 
               let reads : ReadsJoined (to_any (answered_in sent (Manager j))) (cut_by (cuts_at e.world)) p.source.seg s =
               laws.reads.takeovers_read_what_came sent (Manager j) (cuts_at e.world) t.take p r ask own server answer s holds at fact answered h in
               laws.reads.places.takeovers_read_texts part texts.text sent (Manager j) (cuts_at e.world) t.take p ask own server answer s holds at answered
-              (known base e lines texts part first count (Manager j) p.source.seg.name refers.of)
-              (names_its_group base e lines texts part first count (Manager j) laws.logs.one_text laws.logs.content p.source.seg
+              (known logged part count (Manager j) p.source.seg.name refers.of)
+              (names_its_group logged part count (Manager j) laws.logs.one_text laws.logs.content p.source.seg
               refers s reads) done
 
       pub is_read : completes_at t.take t.take.present own server answer ≡ Some s → IsRead part texts.text s
@@ -109,7 +107,7 @@ module _ (base : Setting) (e : Estate AnyNode) (lines : HasLines base e) (texts 
 
     -- ---- an event
 
-    module _ (event : Event) (node : ManagerNode) (x : ManagerEvent base e lines texts part first count j there event node) where
+    module _ (event : Event) (node : ManagerNode) (x : ManagerEvent logged part count j there event node) where
       abbrev what : Do
       what = what_of event
 
@@ -120,7 +118,7 @@ module _ (base : Setting) (e : Estate AnyNode) (lines : HasLines base e) (texts 
 
         holds_so : PhaseHolds (answered_in sent (Manager j)) (cut_by (cuts_at e.world)) (Serves s)
         holds_so = subst (PhaseHolds (answered_in sent (Manager j)) (cut_by (cuts_at e.world))) serves
-            (manager.holds base e lines texts part first count j there event node x)
+            (manager.holds logged part count j there event node x)
 
         slot_holds : SlotHolds (answered_in sent (Manager j)) (cut_by (cuts_at e.world)) p
         slot_holds = at_slot (SlotHolds (answered_in sent (Manager j)) (cut_by (cuts_at e.world))) s.slots part holds_so.slots tt
@@ -162,7 +160,7 @@ module _ (base : Setting) (e : Estate AnyNode) (lines : HasLines base e) (texts 
       packet_reads : SourcesFlew (slot_in part node.phase) → (q : Packet) → what ≡ Deliver q → (p : Phase) → node.phase ≡ p
           → PacketReads part texts.text x.coming.joint.idx.asked j x.coming.joint.idx.net p q
       packet_reads flew q fact (Serves s) serves =
-          let b = manager.brought base e lines texts part first count j there event node x q fact in
+          let b = manager.brought logged part count j there event node x q fact in
           body_reads s serves flew q b.0 b.1 q.body refl
       packet_reads flew q fact (Waiting kept hello) serves = tt
       packet_reads flew q fact (Down kept) serves = tt
@@ -181,7 +179,7 @@ module _ (base : Setting) (e : Estate AnyNode) (lines : HasLines base e) (texts 
           → ManagerTold part texts.text x.coming.joint.idx.asked j x.coming.joint.idx.net node.phase what (happens node what).state
       manager_told flew = record {
         reads = reads flew;
-        writes = manager.writes base e lines texts part first count j there event node x
+        writes = manager.writes logged part count j there event node x
             laws.writing.managers_write_texts;
       }
 

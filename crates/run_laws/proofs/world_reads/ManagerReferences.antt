@@ -4,12 +4,10 @@ use Rattle.std.proofs.Common.{inl, inr, ℕ, suc, List, [], ◌∷◌, map, sym,
 use Rattle.core_world.specs.AnyNode.{any_start}
 use Rattle.core_world.specs.declared.any_node.AnyNode.{AnyNode}
 use Rattle.core_world.specs.declared.any_node.AnyNode.TheVariants as any
-use Rattle.log_tie.specs.Setting.{Setting}
 use Rattle.node_tellings.proofs.reference_tie.Managers.{managers_start}
 use Rattle.node_tellings.proofs.reference_tie.Registries.{registry_starts}
 use Rattle.node_tellings.proofs.reference_tie.Rising.{managers_rise, packets_rise, registry_rises}
 use Rattle.node_tellings.specs.reference_tie.References.{References, Weaker}
-use Rattle.segment_format.specs.declared.segment.Segment.{Segment}
 use Rattle.token_protocol.specs.Basics.{In}
 use Rattle.version_model.specs.declared.work.Work.{Work}
 use Rattle.wire_msg.specs.declared.packet.Packet.{Packet}
@@ -17,8 +15,8 @@ use Rattle.world_base.specs.Cluster.{cluster_of, nodes_of}
 use Rattle.world_base.specs.declared.estate.Estate.{Estate}
 use Rattle.world_base.specs.NextWorld.{first_node, start_world}
 use Rattle.run_laws.proofs.world_logs.Line.{grows}
-use Rattle.run_laws.specs.world_logs.Lines.{HasLines, Texts}
 use Rattle.run_laws.specs.world_reads.References.{AllRefer, AnyRefers, EndFlew, Flew, ReferencesStand, ReportFlew, its}
+use Rattle.run_laws.specs.world_reads.LoggedRuns.{LoggedRun}
 use Rattle.xfs_base.specs.declared.node.NodeId.{NodeId}
 use Rattle.xfs_base.specs.declared.node.NodeId.TheVariants.{Client, Manager, Server, Cleaner, Registry}
 use Rattle.xfs_base.specs.declared.segment.End.{End}
@@ -63,9 +61,11 @@ all_begin r e = record {
 
 -- ---- beside one run
 
-module _ (base : Setting) (e : Estate AnyNode) (lines : HasLines base e) (texts : Texts base e lines) (part : ℕ) (first : ℕ → ℕ → Segment) where
+module _ (logged : LoggedRun) (part : ℕ) where
+  open logged use {base, estate as e, lines}
+
   -- what flew flew later, too
-  flew_then : (count : ℕ) (seg : SegRef) → Flew base e lines texts part first count seg → Flew base e lines texts part first (suc count) seg
+  flew_then : (count : ℕ) (seg : SegRef) → Flew logged part count seg → Flew logged part (suc count) seg
   flew_then count seg f = record {
     of = record { role = f.of.role; there = f.of.there; own = f.of.own };
     segment = f.segment;
@@ -74,20 +74,20 @@ module _ (base : Setting) (e : Estate AnyNode) (lines : HasLines base e) (texts 
     grouped = f.grouped;
   }
 
-  end_then : (count l : ℕ) (end : End) → EndFlew base e lines texts part first count l end → EndFlew base e lines texts part first (suc count) l end
+  end_then : (count l : ℕ) (end : End) → EndFlew logged part count l end → EndFlew logged part (suc count) l end
   end_then count l end (inl none) = inl none
   end_then count l end (inr f) = inr (flew_then count _ f)
 
-  report_then : (count : ℕ) (from : NodeId) (end : End) → ReportFlew base e lines texts part first count from end
-      → ReportFlew base e lines texts part first (suc count) from end
+  report_then : (count : ℕ) (from : NodeId) (end : End) → ReportFlew logged part count from end
+      → ReportFlew logged part (suc count) from end
   report_then count (Client c) end h = end_then count c end h
   report_then count (Manager j) end h = tt
   report_then count (Server v) end h = tt
   report_then count Cleaner end h = end_then count cleaners_number end h
   report_then count Registry end h = tt
 
-  pub weaker_then : (count : ℕ) → Weaker (its base e lines texts part first count) (its base e lines texts part first (suc count))
+  pub weaker_then : (count : ℕ) → Weaker (its logged part count) (its logged part (suc count))
   weaker_then count = record { part = flew_then count; end = report_then count }
 
-  pub references_begin : ReferencesStand base e lines texts part first 0
-  references_begin = all_begin (its base e lines texts part first 0) e
+  pub references_begin : ReferencesStand logged part 0
+  references_begin = all_begin (its logged part 0) e

@@ -43,7 +43,6 @@ use Rattle.node_tellings.proofs.reference_tie.Registries.{registry_keeps}
 use Rattle.node_tellings.specs.reference_tie.Managers.{FlightRefers, PhaseFlies}
 use Rattle.node_tellings.specs.reference_tie.Owners.{ReportsEnd, ReportsOf}
 use Rattle.node_tellings.specs.reference_tie.References.{BodyRefers, DoRefers, PacketRefers, References}
-use Rattle.segment_format.specs.declared.segment.Segment.{Segment}
 use Rattle.store_nodes.specs.ServerEvents.{takes}
 use Rattle.token_protocol.specs.Basics.{In}
 use Rattle.wire_msg.specs.declared.body.Body.{Body}
@@ -53,7 +52,6 @@ use Rattle.wire_msg.specs.declared.packet.Do.TheVariants.{Begin, Deliver, Tick}
 use Rattle.wire_msg.specs.declared.packet.Packet.{Packet}
 use Rattle.world_base.specs.Cluster.{place_of}
 use Rattle.world_base.specs.declared.cluster.Cluster.{Cluster}
-use Rattle.world_base.specs.declared.estate.Estate.{Estate}
 use Rattle.world_base.specs.declared.event.Event.{Event}
 use Rattle.world_base.specs.declared.world.World.{World}
 use Rattle.world_base.specs.Events.{node_of, what_of}
@@ -63,7 +61,7 @@ use Rattle.run_laws.proofs.world_law.Sent.{in_append, in_list}
 use Rattle.run_laws.proofs.world_law.Turning.{next_keeps}
 use Rattle.run_laws.proofs.world_law.Turns.{one_node}
 use Rattle.run_laws.specs.world_law.Owners.{moment, node_in}
-use Rattle.run_laws.specs.world_logs.Lines.{HasLines, Texts, cluster, setting}
+use Rattle.run_laws.specs.world_logs.Lines.{cluster, setting}
 use Rattle.run_laws.specs.world_logs.Roles.{Role, log_by, renews}
 use Rattle.run_laws.specs.world_logs.Roles.Role.{OfClient, OfCleaner, OfManager}
 use Rattle.run_laws.proofs.world_reads.ManagerMoment.{Coming, brought_by}
@@ -77,6 +75,7 @@ use Rattle.xfs_base.specs.declared.segment.End.{End}
 use Rattle.xfs_base.specs.declared.segment.LogId.{LogId}
 use Rattle.xfs_base.specs.Logs.{cleaners_number}
 use Rattle.run_laws.specs.world_reads.Below.{Below}
+use Rattle.run_laws.specs.world_reads.LoggedRuns.{LoggedRun}
 
 -- ---- lists
 
@@ -126,22 +125,23 @@ module _ (r : References) (v : ℕ) where
   server_refers (Lose seg ∷ outs) all = server_refers outs (λ i d less. all (suc i) d (omega arith))
   server_refers (Does act ∷ outs) all = server_refers outs (λ i d less. all (suc i) d (omega arith))
 
-module _ (base : Setting) (e : Estate AnyNode) (lines : HasLines base e) (texts : Texts base e lines) (part : ℕ) (first : ℕ → ℕ → Segment) (count : ℕ)
-    (laws : Below) (joint : Joint base e lines texts part first count) (sure : IsSureUpto base e lines texts part first count) where
+module _ (logged : LoggedRun) (part count : ℕ) (laws : Below) (joint : Joint logged part count) (sure : IsSureUpto logged part count) where
+  open logged use {base, estate as e, lines, texts}
+
   abbrev k : Cluster
   k = cluster base e
 
   abbrev r : References
-  r = its base e lines texts part first count
+  r = its logged part count
 
   -- ---- the end of a log that is served
 
   -- of a log that goes on where its owner restarts, it is none, or flew
-  end_flew : (role : Role) (there : There base e lines texts part first role) → renews role ≡ false → (n : ℕ) (s : LogState)
-      → SeesLog (setting base e role) n ((lines role there).scene count) s → EndFlew base e lines texts part first count (log_by role) s.end
+  end_flew : (role : Role) (there : There logged part role) → renews role ≡ false → (n : ℕ) (s : LogState)
+      → SeesLog (setting base e role) n ((lines role there).scene count) s → EndFlew logged part count (log_by role) s.end
   end_flew role there goes_on n s sees = by s.end.seq refl
     where
-      by : (q : ℕ) → s.end.seq ≡ q → EndFlew base e lines texts part first count (log_by role) s.end
+      by : (q : ℕ) → s.end.seq ≡ q → EndFlew logged part count (log_by role) s.end
       by zero fact = inl fact
       by (suc q) fact =
           let at = ((lines role there).stands count).moment in
@@ -165,13 +165,13 @@ module _ (base : Setting) (e : Estate AnyNode) (lines : HasLines base e) (texts 
     pub record Reported : Type 0 where
       end : End
       is_end : (s : S) → phase ≡ serving s → (its_log s).end ≡ end
-      flew : EndFlew base e lines texts part first count l end
+      flew : EndFlew logged part count l end
 
     -- while it doesn't serve any will do
     none_reported : ((s : S) → phase ≡ serving s → ⊥) → Reported
     none_reported never = record { end = no_end; is_end = λ s serves. absurd (never s serves); flew = inl refl }
 
-    log_reported : (s : S) → phase ≡ serving s → EndFlew base e lines texts part first count l (its_log s).end → Reported
+    log_reported : (s : S) → phase ≡ serving s → EndFlew logged part count l (its_log s).end → Reported
     log_reported s fact flew = record {
       end = (its_log s).end;
       is_end = λ t serves. ap (λ x. (its_log x).end) (one t s (sym serves ∙ fact));
@@ -185,7 +185,7 @@ module _ (base : Setting) (e : Estate AnyNode) (lines : HasLines base e) (texts 
     pub node_refers : AnyRefers r (any_step node what).node
     pub packets : AllByRecursion (PacketRefers r) (any_step node what).packets
 
-  module _ (c : ℕ) (there : There base e lines texts part first (OfClient c)) (node : ClientNode) (what : Do)
+  module _ (c : ℕ) (there : There logged part (OfClient c)) (node : ClientNode) (what : Do)
       (here : node_in (moment e count).nodes (place_of k (Client c)) ≡ Some (any.Client node)) where
     abbrev g : Setting
     g = setting base e (OfClient c)
@@ -248,7 +248,7 @@ module _ (base : Setting) (e : Estate AnyNode) (lines : HasLines base e) (texts 
           (cleaner_reports cleaner_reported.end node what cleaner_reported.is_end);
     }
 
-  module _ (j : ℕ) (there : There base e lines texts part first (OfManager j)) (node : ManagerNode) (what : Do)
+  module _ (j : ℕ) (there : There logged part (OfManager j)) (node : ManagerNode) (what : Do)
       (here : node_in (moment e count).nodes (place_of k (Manager j)) ≡ Some (any.Manager node)) where
     abbrev gm : Setting
     gm = setting base e (OfManager j)
@@ -279,7 +279,7 @@ module _ (base : Setting) (e : Estate AnyNode) (lines : HasLines base e) (texts 
 
         by : (o : Option FlightState) → s.log.flight ≡ o → IfSome o (λ f. f.segment.name.log ≡ gm.log)
             → IfSome o (λ (f : FlightState). tables.In f.segment wm.net.flown)
-            → IfSome o (λ (f : FlightState). Flew base e lines texts part first count (part_at s.writer.log (end_from f.segment)))
+            → IfSome o (λ (f : FlightState). Flew logged part count (part_at s.writer.log (end_from f.segment)))
         by None fact own flew = tt
         by (Some f) fact own flew = record {
           of = record { role = OfManager j; there = there; own = same };
@@ -342,7 +342,7 @@ module _ (base : Setting) (e : Estate AnyNode) (lines : HasLines base e) (texts 
 
   -- ---- an event
 
-  told_so : (event : Event) → Coming base e lines texts part first count event → ReferencesStand base e lines texts part first count
+  told_so : (event : Event) → Coming logged part count event → ReferencesStand logged part count
       → DoRefers r (what_of event)
   told_so event x all = by (what_of event) refl
     where
@@ -351,7 +351,7 @@ module _ (base : Setting) (e : Estate AnyNode) (lines : HasLines base e) (texts 
       by (Deliver q) fact = all.each_packet q (brought_by (moment e count) event x.may q fact).0
       by Tick fact = tt
 
-  next_refers : (event : Event) → Coming base e lines texts part first count event → ReferencesStand base e lines texts part first count
+  next_refers : (event : Event) → Coming logged part count event → ReferencesStand logged part count
       → AllRefer r (next_world any_step (moment e count) event).nodes (next_world any_step (moment e count) event).sent
   next_refers event x all =
       next_keeps any_step (λ nodes sent acts. AllRefer r nodes sent) (moment e count) event all
@@ -368,18 +368,18 @@ module _ (base : Setting) (e : Estate AnyNode) (lines : HasLines base e) (texts 
       })
 
   -- What Joint carries goes on.
-  pub references_go_on : (event : Event) → slice_get e.events count ≡ Some event → Coming base e lines texts part first count event
-      → ReferencesStand base e lines texts part first count
-      → ReferencesStand base e lines texts part first (suc count)
+  pub references_go_on : (event : Event) → slice_get e.events count ≡ Some event → Coming logged part count event
+      → ReferencesStand logged part count
+      → ReferencesStand logged part (suc count)
   references_go_on event fact x all =
-      all_rise r (its base e lines texts part first (suc count)) (weaker_then base e lines texts part first count) (moment e (suc count)).nodes
+      all_rise r (its logged part (suc count)) (weaker_then logged part count) (moment e (suc count)).nodes
       (moment e (suc count)).sent
       (subst (λ (w : World AnyNode). AllRefer r w.nodes w.sent) (sym (moment_next e count event fact)) (next_refers event x all))
 
   -- so it does where nothing happens any more
-  pub references_stay : moment e (suc count) ≡ moment e count → ReferencesStand base e lines texts part first count
-      → ReferencesStand base e lines texts part first (suc count)
+  pub references_stay : moment e (suc count) ≡ moment e count → ReferencesStand logged part count
+      → ReferencesStand logged part (suc count)
   references_stay same all =
-      all_rise r (its base e lines texts part first (suc count)) (weaker_then base e lines texts part first count) (moment e (suc count)).nodes
+      all_rise r (its logged part (suc count)) (weaker_then logged part count) (moment e (suc count)).nodes
       (moment e (suc count)).sent
       (subst (λ (w : World AnyNode). AllRefer r w.nodes w.sent) (sym same) all)

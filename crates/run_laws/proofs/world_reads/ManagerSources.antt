@@ -6,12 +6,10 @@ use Rattle.std.specs.List.{flat_map, range_with_len}
 use Rattle.std.proofs.lemmas.Bool.{eqb-true}
 use Rattle.std.proofs.lemmas.Bool.Decides.{nat_tests}
 use Rattle.std.proofs.lemmas.List.Elements.{Contains-append_cases}
-use Rattle.core_world.specs.declared.any_node.AnyNode.{AnyNode}
 use Rattle.index_tie.proofs.Takeovers.{of_log_in}
 use Rattle.index_tie.specs.Filed.{Filed}
 use Rattle.index_tie.specs.Net.{Net}
 use Rattle.index_tie.specs.Takeovers.{IsEnd, of_log}
-use Rattle.log_tie.specs.Setting.{Setting}
 use Rattle.manager_slots.specs.declared.slot_phase.Taking.{Taking}
 use Rattle.node_slots.proofs.node_index_tie.Reading.{end_from_is}
 use Rattle.node_slots.specs.node_index_tie.ManagerEvents.{TakingAgrees}
@@ -25,11 +23,10 @@ use Rattle.takeover.specs.declared.source.Source.{Source}
 use Rattle.takeover.specs.Reports.{end_of, horizon_at}
 use Rattle.takeover.specs.Sources.{from_end, log_source, log_sources, part_source, sources_of}
 use Rattle.token_protocol.specs.Basics.{In}
-use Rattle.world_base.specs.declared.estate.Estate.{Estate}
-use Rattle.run_laws.specs.world_logs.Lines.{HasLines, Texts}
 use Rattle.run_laws.proofs.world_reads.KnownLogs.{filed_known, filed_log}
 use Rattle.run_laws.specs.world_reads.Joint.{Joint, log_at}
 use Rattle.run_laws.specs.world_reads.References.{Flew}
+use Rattle.run_laws.specs.world_reads.LoggedRuns.{LoggedRun}
 use Rattle.xfs_base.proofs.Members.{contains_cases, contains_first, contains_nothing, contains_rest}
 use Rattle.xfs_base.specs.declared.news.SlotNews.{SlotNews}
 use Rattle.xfs_base.specs.declared.node.NodeId.TheVariants.{Client, Cleaner}
@@ -98,8 +95,9 @@ name_is n l q p log seq pass =
     ap (λ x. record { log = record { 0 = x }; seq = q; pass = p }) (sym log)
     ∙ (ap (λ x. record { log = n.log; seq = x; pass = p }) (sym seq) ∙ ap (λ x. record { log = n.log; seq = n.seq; pass = x }) pass)
 
-module _ (base : Setting) (e : Estate AnyNode) (lines : HasLines base e) (texts : Texts base e lines) (part : ℕ) (first : ℕ → ℕ → Segment) (count : ℕ)
-    (joint : Joint base e lines texts part first count) where
+module _ (logged : LoggedRun) (part count : ℕ) (joint : Joint logged part count) where
+  open logged use {texts}
+
   abbrev filed : Filed
   filed = joint.idx.net.filed
 
@@ -110,7 +108,7 @@ module _ (base : Setting) (e : Estate AnyNode) (lines : HasLines base e) (texts 
   module _ (t : Taking) where
     -- each part of the checkpoint that it reads flew in a log of the run, over the group with which it is referred to
     abbrev pub PartsFlew : Type 0
-    PartsFlew = (ref : SegRef) → Contains t.take.news.parts ref → Flew base e lines texts part first count ref
+    PartsFlew = (ref : SegRef) → Contains t.take.news.parts ref → Flew logged part count ref
 
     -- and each end that was reported to it bears the group of the text that it names
     abbrev pub EndsBearGroups : Type 0
@@ -119,14 +117,14 @@ module _ (base : Setting) (e : Estate AnyNode) (lines : HasLines base e) (texts 
 
     -- a filed end, over the group of its text, flew
     end_flew : (l : ℕ) (end : End) → 0 < end.seq → IsEnd filed l end → end.group ≡ (texts.text (named_by l end)).group
-        → Flew base e lines texts part first count (record { name = named_by l end; group = end.group })
+        → Flew logged part count (record { name = named_by l end; group = end.group })
     end_flew l end more fact group =
-        let h = filed_log base e lines texts part first count joint l end.seq more fact.filed in
+        let h = filed_log logged part count joint l end.seq more fact.filed in
         let s : Segment = filed.segment l end.seq in
-        let each = (filed_known base e lines texts part first count joint).filed.each l end.seq more fact.filed in
+        let each = (filed_known logged part count joint).filed.each l end.seq more fact.filed in
         let named : named_by l end ≡ s.name = name_is s.name l end.seq end.pass each.log each.seq fact.named in
-        let among : In s (log_at base e lines texts part first h.role h.there count).flown =
-        subst (λ x. In (filed.segment x end.seq) (log_at base e lines texts part first h.role h.there count).flown) h.numbered
+        let among : In s (log_at logged part h.role h.there count).flown =
+        subst (λ x. In (filed.segment x end.seq) (log_at logged part h.role h.there count).flown) h.numbered
         ((joint.lined h.role h.there h.keeps).lined.flown end.seq more (subst (λ x. end.seq ≤ filed.head x) (sym h.numbered) fact.filed)) in
         record {
           of = record { role = h.role; there = h.there; own = ap (λ x. record { 0 = x }) (sym h.numbered) };
@@ -166,26 +164,26 @@ module _ (base : Setting) (e : Estate AnyNode) (lines : HasLines base e) (texts 
           }))
 
       log_flew : EndsBearGroups → (l : ℕ) → 0 < l → l ≤ block_logs → (source : Source) → Contains (log_sources t.take.news.horizon t.take.reports l) source
-          → Flew base e lines texts part first count source.seg
+          → Flew logged part count source.seg
       log_flew groups l some limit source h =
           let f = from_end_is l (horizon_at t.take.news.horizon l) (end_of t.take.reports l) source h in
           let same : of_log t.take.news.horizon l ≡ horizon_at t.take.news.horizon l = of_log_in t.take.news.horizon l some limit in
           let one = from_one l some limit in
           let above = f.above in
           let good = good_end groups l some limit (omega arith) in
-          subst (λ (x : Source). Flew base e lines texts part first count x.seg) f.from_log
+          subst (λ (x : Source). Flew logged part count x.seg) f.from_log
           (end_flew l (end_of t.take.reports l) (omega arith) good.filed good.group)
 
       pub sources_flew : PartsFlew → EndsBearGroups → (source : Source) → Contains (sources_of t.take.news t.take.reports) source
-          → Flew base e lines texts part first count source.seg
+          → Flew logged part count source.seg
       sources_flew parts groups source h = ⊎_elim of_parts of_logs
           (Contains-append_cases (map part_source t.take.news.parts) (flat_map (log_sources t.take.news.horizon t.take.reports) (range_with_len 1 block_logs)) source h)
         where
-          of_parts : Contains (map part_source t.take.news.parts) source → Flew base e lines texts part first count source.seg
+          of_parts : Contains (map part_source t.take.news.parts) source → Flew logged part count source.seg
           of_parts fact = (let z = in_map part_source t.take.news.parts source fact in
-              subst (λ (x : Source). Flew base e lines texts part first count x.seg) z.2 (parts z.0 z.1))
+              subst (λ (x : Source). Flew logged part count x.seg) z.2 (parts z.0 z.1))
 
           of_logs : Contains (flat_map (log_sources t.take.news.horizon t.take.reports) (range_with_len 1 block_logs)) source
-              → Flew base e lines texts part first count source.seg
+              → Flew logged part count source.seg
           of_logs fact = (let z = in_flat_map (log_sources t.take.news.horizon t.take.reports) (range_with_len 1 block_logs) source fact in
               let r = in_range 1 block_logs z.0 z.1 in log_flew groups z.0 (omega arith) (omega arith) source z.2)

@@ -1,11 +1,9 @@
 -- What an event of a manager is owed to the small world of tokens: Deltas that come cover the index of the slot that they join on to, and a takeover that ends
 -- gathered what was filed.
 use Rattle.std.proofs.Common.{◌≡◌, ℕ, true, Bool, None, Some, refl, sym, ap, subst, ◌∙◌, arith}
-use Rattle.core_world.specs.declared.any_node.AnyNode.{AnyNode}
 use Rattle.core_world.specs.declared.any_node.AnyNode.TheVariants as any
 use Rattle.run_laws.proofs.index_reads.Gathers.{completes}
 use Rattle.run_laws.specs.index_reads.Ties.{Tied}
-use Rattle.log_tie.specs.Setting.{Setting}
 use Rattle.manager_node.specs.declared.manager.Manager.{Manager as ManagerNode}
 use Rattle.manager_node.specs.declared.phase.Phase.{Phase}
 use Rattle.manager_node.specs.declared.phase.Phase.TheVariants.{Down, Waiting, Serving as Serves}
@@ -24,7 +22,6 @@ use Rattle.node_slots.proofs.node_tie.ManagerTakes.{Brings}
 use Rattle.node_slots.proofs.node_tie.SmallWorld.{with_promise}
 use Rattle.node_slots.specs.node_tie.ManagerEvents as owners
 use Rattle.node_slots.specs.node_tie.ManagerEvents.{phase_at, slot_in}
-use Rattle.segment_format.specs.declared.segment.Segment.{Segment}
 use Rattle.takeover.specs.declared.input.In.{In as Input}
 use Rattle.takeover.specs.declared.input.In.TheVariants.{Got, Missing as Lacks}
 use Rattle.takeover.specs.declared.report.Report.{Report as Heard}
@@ -40,7 +37,6 @@ use Rattle.wire_msg.specs.declared.packet.Packet.{Packet}
 use Rattle.wire_msg.specs.declared.storage.Found.{Found}
 use Rattle.wire_msg.specs.declared.storage.Missing.{Missing as Absent}
 use Rattle.world_base.specs.Cluster.{place_of}
-use Rattle.world_base.specs.declared.estate.Estate.{Estate}
 use Rattle.world_base.specs.declared.event.Event.{Event}
 use Rattle.world_base.specs.Events.{node_of, what_of}
 use Rattle.run_laws.proofs.world_index.Gets.{manager_gets}
@@ -50,7 +46,6 @@ use Rattle.run_laws.specs.world_index.Standing as index
 use Rattle.run_laws.specs.world_law.Standing as standing
 use Rattle.run_laws.specs.world_law.Owes.{ManagerTold, ServingTold, SlotTold, TurnOwes}
 use Rattle.run_laws.specs.world_law.Owners.{moment, node_in}
-use Rattle.run_laws.specs.world_logs.Lines.{HasLines, Texts}
 use Rattle.run_laws.specs.world_logs.Roles.Role.{OfManager}
 use Rattle.run_laws.proofs.world_reads.ManagerMoment as manager
 use Rattle.run_laws.proofs.world_reads.ManagerMoment.{ManagerEvent}
@@ -60,13 +55,15 @@ use Rattle.run_laws.specs.world_reads.Joint.{There}
 use Rattle.xfs_base.specs.declared.node.NodeId.{NodeId}
 use Rattle.xfs_base.specs.declared.node.NodeId.TheVariants.{Client, Manager, Server, Cleaner, Registry}
 use Rattle.run_laws.specs.world_reads.Below.{Below}
+use Rattle.run_laws.specs.world_reads.LoggedRuns.{LoggedRun}
 
 none_some : {X : Type 0} (x : X) → None ≡ Some x → ⊥
 none_some x h = absurd cc
 
-module _ (base : Setting) (e : Estate AnyNode) (lines : HasLines base e) (texts : Texts base e lines) (part : ℕ) (first : ℕ → ℕ → Segment) (count j : ℕ)
-    (there : There base e lines texts part first (OfManager j)) (laws : Below) (event : Event) (node : ManagerNode)
-    (x : ManagerEvent base e lines texts part first count j there event node) where
+module _ (logged : LoggedRun) (part : ℕ) (count j : ℕ) (there : There logged part (OfManager j)) (laws : Below) (event : Event) (node : ManagerNode)
+    (x : ManagerEvent logged part count j there event node) where
+  open logged use {estate as e, texts, first}
+
   abbrev what : Do
   what = what_of event
 
@@ -81,7 +78,7 @@ module _ (base : Setting) (e : Estate AnyNode) (lines : HasLines base e) (texts 
   i = x.coming.joint.idx
 
   abbrev members : ℕ
-  members = standing.members (manager.k base e lines texts part first count) part
+  members = standing.members (manager.k logged part count) part
 
   pub tied : Tied members part (held_in part texts.text) run_to i.net
   tied = record {
@@ -103,10 +100,10 @@ module _ (base : Setting) (e : Estate AnyNode) (lines : HasLines base e) (texts 
 
     owned : owners.PhaseAgrees members part t p
     owned = (subst (owners.ManagerAgrees members part t j) serves
-        (manager.tokens_see base e lines texts part first count j there event node x).agrees).table.here
+        (manager.tokens_see logged part count j there event node x).agrees).table.here
 
     placed : places.ServingAgrees part texts.text i.net s
-    placed = (subst (places.ManagerAgrees part texts.text i.net) serves (manager.index_sees base e lines texts part first count j there event node x)).0
+    placed = (subst (places.ManagerAgrees part texts.text i.net) serves (manager.index_sees logged part count j there event node x)).0
 
     abbrev desk : Desk
     desk = desk_of s placed.given
@@ -224,21 +221,21 @@ module _ (base : Setting) (e : Estate AnyNode) (lines : HasLines base e) (texts 
   serving_told (Down kept) serves q gets = tt
 
   -- where it is owed what it is owed to the small world of the index
-  module _ (flew : SourcesFlew base e lines texts part first count j there (slot_in part node.phase)) where
-    given : ManagerGiven part j i.net (manager.k base e lines texts part first count).managers (index.holder part i) node.phase what
+  module _ (flew : SourcesFlew logged part count j there (slot_in part node.phase)) where
+    given : ManagerGiven part j i.net (manager.k logged part count).managers (index.holder part i) node.phase what
     given = subst
-        (λ name. TokensGive part (manager.k base e lines texts part first count).managers (index.holder part i) i.net name (any.Manager node) what) x.own
-        (manager.tokens_given base e lines texts part first count event x.coming laws.tokens.epochs.tokens_are_given (any.Manager node)
-        (subst (λ name. node_in (moment e count).nodes (place_of (manager.k base e lines texts part first count) name) ≡ Some (any.Manager node)) (sym x.own)
-        (manager.here base e lines texts part first count j there event node x)))
+        (λ name. TokensGive part (manager.k logged part count).managers (index.holder part i) i.net name (any.Manager node) what) x.own
+        (manager.tokens_given logged part count event x.coming laws.tokens.epochs.tokens_are_given (any.Manager node)
+        (subst (λ name. node_in (moment e count).nodes (place_of (manager.k logged part count) name) ≡ Some (any.Manager node)) (sym x.own)
+        (manager.here logged part count j there event node x)))
 
     gets : places.EventGets part texts.text i.asked j i.net node.phase what
     gets = manager_gets part texts.text i.asked i.net j node.phase what
-        (λ q fact. (let b = manager.brought base e lines texts part first count j there event node x q fact in (
+        (λ q fact. (let b = manager.brought logged part count j there event node x q fact in (
           x.coming.joint.index_stands.facts q b.0,
-          kinds_of_tokens (manager.k base e lines texts part first count) part x.coming.joint.tok q (x.coming.joint.tokens_stand.facts q b.0),
+          kinds_of_tokens (manager.k logged part count) part x.coming.joint.tok q (x.coming.joint.tokens_stand.facts q b.0),
         )))
-        (reading.reads base e lines texts part first count j there laws event node x flew) given.free
+        (reading.reads logged part count j there laws event node x flew) given.free
 
     pub manager_told : ManagerTold members part t node.phase what
     manager_told = by what gets

@@ -2,11 +2,8 @@
 use Rattle.std.proofs.Common.{◌≡◌, ℕ, suc, ◌<◌, List, [], ◌∷◌, inl, inr, refl, subst}
 use Rattle.std.specs.List.{AllByRecursion}
 use Rattle.core_world.specs.AnyNode.{any_start, any_step}
-use Rattle.core_world.specs.declared.any_node.AnyNode.{AnyNode}
-use Rattle.log_tie.specs.Setting.{Setting}
 use Rattle.node_slots.specs.node_index_tie.Sight.{held_in}
 use Rattle.run_laws.specs.reopening_law.Reopens.{TellsApart}
-use Rattle.segment_format.specs.declared.segment.Segment.{Segment}
 use Rattle.run_laws.specs.segment_tie.Cleaners.{TellsVersion}
 use Rattle.run_laws.specs.segment_tie.Runs.{PacketTellsVersion}
 use Rattle.token_protocol.specs.Basics.{In}
@@ -14,13 +11,11 @@ use Rattle.wire_msg.specs.declared.body.Body.{Body}
 use Rattle.wire_msg.specs.declared.body.Body.TheVariants as body
 use Rattle.wire_msg.specs.declared.cleaning.Live.{Live}
 use Rattle.wire_msg.specs.declared.packet.Packet.{Packet}
-use Rattle.world_base.specs.declared.estate.Estate.{Estate}
 use Rattle.world_base.specs.Runs.{IsRun}
 use Rattle.run_laws.proofs.world_index.Senders.{IsSentBy, kinds_of_tokens}
 use Rattle.run_laws.specs.world_index.Standing.{SentBy}
 use Rattle.run_laws.proofs.world_law.RegistryTurns.{slot_below}
 use Rattle.run_laws.specs.world_law.Owners.{moment}
-use Rattle.run_laws.specs.world_logs.Lines.{HasLines, Texts}
 use Rattle.run_laws.proofs.world_reads.TurnBoth.{Both}
 use Rattle.run_laws.proofs.world_reads.TurnLives.{lives_lie}
 use Rattle.run_laws.proofs.world_reads.TurnNext.{Grows}
@@ -31,16 +26,19 @@ use Rattle.xfs_base.specs.declared.node.NodeId.{NodeId}
 use Rattle.xfs_base.specs.declared.node.NodeId.TheVariants.{Client, Manager, Server, Cleaner, Registry}
 use Rattle.xfs_base.specs.Limits.{slot_count}
 use Rattle.run_laws.specs.world_reads.Below.{Below}
+use Rattle.run_laws.specs.world_reads.LoggedRuns.{LoggedRun}
 
 all_from : {X : Type 0} (P : X → Type 0) (xs : List X) → ((x : X) → In x xs → P x) → AllByRecursion P xs
 all_from P [] each = tt
 all_from P (x ∷ xs) each = (each x (inl refl), all_from P xs (λ y among. each y (inr among)))
 
-module _ (laws : Below) (base : Setting) (e : Estate AnyNode) (lines : HasLines base e) (texts : Texts base e lines) (first : ℕ → ℕ → Segment) where
+module _ (laws : Below) (logged : LoggedRun) where
+  open logged use {base, estate as e, texts, first}
+
   -- ---- what managers told of blocks that live
 
-  module _ (count : ℕ) (both : (part : ℕ) → part < slot_count → Both base e lines texts part first count) where
-    live_tells : (part : ℕ) (b : Both base e lines texts part first count) (m : Live) → slot_of m.block.ino.0 ≡ part → (from : NodeId)
+  module _ (count : ℕ) (both : (part : ℕ) → part < slot_count → Both logged part count) where
+    live_tells : (part : ℕ) (b : Both logged part count) (m : Live) → slot_of m.block.ino.0 ≡ part → (from : NodeId)
         → IsSentBy from (body.Live m)
         → SentBy part b.idx.net b.idx.asked from (body.Live m) → 0 < m.entry.ver
     live_tells part b m inside (Manager j) kind told =
@@ -55,7 +53,7 @@ module _ (laws : Below) (base : Setting) (e : Estate AnyNode) (lines : HasLines 
         let part = slot_of m.block.ino.0 in
         let b = both part (slot_below m.block.ino.0) in
         live_tells part b m refl p.from
-        (subst (IsSentBy p.from) fact (kinds_of_tokens (k base e lines texts part first) part b.tok p (b.tokens_stand.facts p among)))
+        (subst (IsSentBy p.from) fact (kinds_of_tokens (k logged part) part b.tok p (b.tokens_stand.facts p among)))
         (subst (SentBy part b.idx.net b.idx.asked p.from) fact (b.index_stands.facts p among))
     body_tells p among _ fact = tt
 
@@ -66,21 +64,21 @@ module _ (laws : Below) (base : Setting) (e : Estate AnyNode) (lines : HasLines 
 
   -- no restart that ended was doubtful up to this count; this is said of no slot
   abbrev pub IsSure : ℕ → Type 0
-  IsSure count = IsSureUpto base e lines texts 0 first count
+  IsSure count = IsSureUpto logged 0 count
 
   abbrev pub Joints : ℕ → Type 0
-  Joints count = (part : ℕ) → part < slot_count → Joint base e lines texts part first count
+  Joints count = (part : ℕ) → part < slot_count → Joint logged part count
 
   module _ (apart : TellsApart base) (run : IsRun any_step any_start e.script e.events e.world) where
     -- what is owed of the event at this count, of each slot
     abbrev pub Steps : (count : ℕ) → Joints count → IsSure (suc count) → Type 0
     Steps count joints sure = (part : ℕ) (of_eight : part < slot_count)
-        → Step laws base e lines texts part first of_eight apart run count (joints part of_eight) sure
+        → Step laws logged part of_eight apart run count (joints part of_eight) sure
 
     -- so the moment after it stands, too
     pub next_all : (count : ℕ) (joints : Joints count) (sure : IsSure (suc count)) → Steps count joints sure → (part : ℕ) (of_eight : part < slot_count)
-        → Grows base e lines texts part first count (joints part of_eight)
+        → Grows logged part count (joints part of_eight)
     next_all count joints sure steps part of_eight =
-        joint_then laws base e lines texts part first of_eight apart run count (joints part of_eight) sure (steps part of_eight)
+        joint_then laws logged part of_eight apart run count (joints part of_eight) sure (steps part of_eight)
         (lives_tell (suc count) (λ part of_eight.
-        both_then laws base e lines texts part first of_eight apart run count (joints part of_eight) sure (steps part of_eight)))
+        both_then laws logged part of_eight apart run count (joints part of_eight) sure (steps part of_eight)))

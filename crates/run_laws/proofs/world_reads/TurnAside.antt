@@ -9,7 +9,6 @@ use Rattle.client_node.specs.Phases.{lasting_of, takes}
 use Rattle.core_world.specs.AnyNode.{any_step}
 use Rattle.core_world.specs.declared.any_node.AnyNode.{AnyNode}
 use Rattle.core_world.specs.declared.any_node.AnyNode.TheVariants as any
-use Rattle.log_tie.specs.Setting.{Setting}
 use Rattle.manager_node.specs.Events.{happens}
 use Rattle.manager_node.specs.Phases as managers
 use Rattle.node_base.specs.Effects.{acts_of}
@@ -19,7 +18,6 @@ use Rattle.node_slots.specs.node_tie.ClientEvents.{ClientAgrees, ClientGoes, Cli
 use Rattle.node_slots.specs.node_tie.ManagerEvents.{EventGets as ManagerEventGets}
 use Rattle.node_slots.specs.node_tie.Sight.{ManagerDoes}
 use Rattle.run_laws.specs.reopening_law.Falls.{IsAside}
-use Rattle.segment_format.specs.declared.segment.Segment.{Segment}
 use Rattle.store_nodes.specs.declared.server.Server.{Server as ServerNode}
 use Rattle.registry_node.specs.Events.{registry_step}
 use Rattle.store_nodes.specs.ServerEvents.{server_step}
@@ -30,7 +28,6 @@ use Rattle.wire_msg.specs.declared.packet.Do.TheVariants.{Begin, Deliver, Tick}
 use Rattle.wire_msg.specs.declared.packet.Packet.{Packet}
 use Rattle.world_base.specs.Cluster.{place_of}
 use Rattle.world_base.specs.declared.cluster.Cluster.{Cluster}
-use Rattle.world_base.specs.declared.estate.Estate.{Estate}
 use Rattle.world_base.specs.declared.event.Event.{Event}
 use Rattle.world_base.specs.Events.{node_of, what_of}
 use Rattle.world_base.specs.Runs.{MayHappen}
@@ -41,7 +38,6 @@ use Rattle.run_laws.specs.world_law.Standing.{Fact, epoch_now, members}
 use Rattle.run_laws.proofs.world_law.Turns.{one_node}
 use Rattle.run_laws.specs.world_law.Owes.{ClientTold, ManagerTold, TurnOwes}
 use Rattle.run_laws.specs.world_law.Owners.{moment, node_in}
-use Rattle.run_laws.specs.world_logs.Lines.{HasLines, Texts}
 use Rattle.run_laws.proofs.world_reads.AfterFalls.{all_aside, client_aside}
 use Rattle.run_laws.proofs.world_reads.Taking.{Took, took_it}
 use Rattle.run_laws.proofs.world_reads.TurnBoth.{Both, delivered_to, sent_before}
@@ -50,20 +46,22 @@ use Rattle.xfs_base.specs.declared.node.NodeId.{NodeId}
 use Rattle.xfs_base.specs.declared.node.NodeId.TheVariants.{Client, Manager, Server, Cleaner, Registry}
 use Rattle.xfs_base.specs.Limits.{slot_count}
 use Rattle.run_laws.specs.world_reads.Below.{Below}
+use Rattle.run_laws.specs.world_reads.LoggedRuns.{LoggedRun}
 
 client_number : (logs : Bool) (part c : ℕ) (n : Net) (p : Phase) → ClientAgrees logs part c n p → (lasting_of p).number ≡ c
 client_number logs part c n (Down l) h = h.number
 client_number logs part c n (Opening l o) h = h.number
 client_number logs part c n (Serves s) h = h.number
 
-module _ (laws : Below) (base : Setting) (e : Estate AnyNode) (lines : HasLines base e) (texts : Texts base e lines) (part : ℕ)
-    (first : ℕ → ℕ → Segment) (of_eight : part < slot_count) (count : ℕ) (event : Event) (cluster : (moment e count).cluster ≡ k base e lines texts part first)
-    (may : MayHappen (moment e count) event) (b : Both base e lines texts part first count) (c : ℕ) (down : b.tok.net.up c ≡ false)
-    (away : Client c ≡ node_of event → ⊥) (node : AnyNode) (took : Took (moment e count) event node) (adopted : Bool)
-    (owed : TurnOwes true adopted (members (k base e lines texts part first) part) part (epoch_now (k base e lines texts part first) part b.tok) b.tok.net
+module _ (laws : Below) (logged : LoggedRun) (part : ℕ) (of_eight : part < slot_count) (count : ℕ) (event : Event)
+    (cluster : (moment logged.estate count).cluster ≡ k logged part) (may : MayHappen (moment logged.estate count) event) (b : Both logged part count) (c : ℕ)
+    (down : b.tok.net.up c ≡ false) (away : Client c ≡ node_of event → ⊥) (node : AnyNode) (took : Took (moment logged.estate count) event node)
+    (adopted : Bool) (owed : TurnOwes true adopted (members (k logged part) part) part (epoch_now (k logged part) part b.tok) b.tok.net
     (node_of event) node (what_of event)) where
+  open logged use {estate as e}
+
   abbrev cl : Cluster
-  cl = k base e lines texts part first
+  cl = k logged part
 
   abbrev s : tokens.Scene
   s = b.tok

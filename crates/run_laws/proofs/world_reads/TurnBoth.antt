@@ -9,9 +9,7 @@ use Rattle.cleaner_node.specs.declared.cleaner.Phase.TheVariants.{Opening, Servi
 use Rattle.cleaner_job.specs.declared.lasting.Lasting.{Lasting}
 use Rattle.run_laws.specs.epoch_law.Slots.{BothStand, SameSlots}
 use Rattle.log_owner.specs.declared.opening.Opening as openings
-use Rattle.log_tie.specs.Setting.{Setting}
 use Rattle.node_slots.specs.node_tie.RegistryEvents.{RegistrySound}
-use Rattle.segment_format.specs.declared.segment.Segment.{Segment}
 use Rattle.token_protocol.specs.Basics.{In}
 use Rattle.version_model.specs.declared.act.Act.{Act}
 use Rattle.wire_msg.specs.declared.packet.Do.{Do}
@@ -19,7 +17,6 @@ use Rattle.wire_msg.specs.declared.packet.Do.TheVariants.{Deliver}
 use Rattle.wire_msg.specs.declared.packet.Packet.{Packet}
 use Rattle.world_base.specs.Cluster.{place_of}
 use Rattle.world_base.specs.declared.cluster.Cluster.{Cluster}
-use Rattle.world_base.specs.declared.estate.Estate.{Estate}
 use Rattle.world_base.specs.declared.event.Event.{Event}
 use Rattle.world_base.specs.declared.event.Event.TheVariants as events
 use Rattle.world_base.specs.declared.world.World.{World}
@@ -39,7 +36,6 @@ use Rattle.run_laws.proofs.world_law.Turning.{next_keeps}
 use Rattle.run_laws.proofs.world_law.Turns as token_turns
 use Rattle.run_laws.specs.world_law.Owes.{BooksGo, TurnOwes}
 use Rattle.run_laws.specs.world_law.Owners.{moment, node_in}
-use Rattle.run_laws.specs.world_logs.Lines.{HasLines, Texts}
 use Rattle.run_laws.specs.world_logs.Roles.Role.{OfCleaner}
 use Rattle.run_laws.proofs.world_reads.AfterCleaner.{AdoptsWhatFlew}
 use Rattle.run_laws.proofs.world_reads.Taking.{NothingHappens, Took, moment_next}
@@ -48,6 +44,7 @@ use Rattle.xfs_base.specs.declared.node.NodeId.{NodeId}
 use Rattle.xfs_base.specs.declared.node.NodeId.TheVariants.{Cleaner}
 use Rattle.xfs_base.specs.Limits.{slot_count}
 use Rattle.run_laws.specs.world_reads.Below.{Below}
+use Rattle.run_laws.specs.world_reads.LoggedRuns.{LoggedRun}
 
 -- what is delivered was sent
 pub sent_before : (w : World AnyNode) (event : Event) → MayHappen w event → (q : Packet) → what_of event ≡ Deliver q → In q w.sent
@@ -66,9 +63,11 @@ pub same_moment : (P : List AnyNode → List Packet → List Act → Type 0) (a 
     → P a x u → P b y v
 same_moment P a b x y u v nodes sent acts premise = subst (λ n. P n y v) nodes (subst (λ s. P a s v) sent (subst (λ d. P a x d) acts premise))
 
-module _ (base : Setting) (e : Estate AnyNode) (lines : HasLines base e) (texts : Texts base e lines) (part : ℕ) (first : ℕ → ℕ → Segment) where
+module _ (logged : LoggedRun) (part : ℕ) where
+  open logged use {estate as e, lines, texts, first}
+
   abbrev c : Cluster
-  c = k base e lines texts part first
+  c = k logged part
 
   -- a moment of a run that stands to both
   pub record Both (count : ℕ) : Type 0 where
@@ -79,7 +78,7 @@ module _ (base : Setting) (e : Estate AnyNode) (lines : HasLines base e) (texts 
     pub slots : SameSlots tok.net idx.net
     pub entered : Entered c part tok idx.net
 
-  abbrev pub both_of : (count : ℕ) → Joint base e lines texts part first count → Both count
+  abbrev pub both_of : (count : ℕ) → Joint logged part count → Both count
   both_of count joint = record {
     tok = joint.tok;
     tokens_stand = joint.tokens_stand;

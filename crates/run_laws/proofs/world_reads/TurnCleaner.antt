@@ -28,7 +28,6 @@ use Rattle.node_slots.specs.node_tie.CleanerEvents.{CleanerStands}
 use Rattle.node_slots.specs.node_tie.CleanerLogs.{CleanerCopies, its_log}
 use Rattle.node_slots.specs.owner_index_tie.CleanerEvents as owner
 use Rattle.run_laws.specs.reopening_law.Reopens.{TellsApart}
-use Rattle.segment_format.specs.declared.segment.Segment.{Segment}
 use Rattle.run_laws.specs.segment_tie.Cleaners.{CleanerWrites}
 use Rattle.run_laws.specs.segment_tie.Segments.{IsCopies}
 use Rattle.token_protocol.specs.Basics as basics
@@ -38,7 +37,6 @@ use Rattle.wire_msg.specs.declared.packet.Do.TheVariants.{Deliver}
 use Rattle.wire_msg.specs.declared.packet.Packet.{Packet}
 use Rattle.world_base.specs.Cluster.{place_of}
 use Rattle.world_base.specs.declared.cluster.Cluster.{Cluster}
-use Rattle.world_base.specs.declared.estate.Estate.{Estate}
 use Rattle.world_base.specs.declared.event.Event.{Event}
 use Rattle.world_base.specs.declared.world.World.{World}
 use Rattle.world_base.specs.Events.{node_of, what_of}
@@ -55,7 +53,7 @@ use Rattle.run_laws.specs.world_law.Owners.{moment, node_in}
 use Rattle.run_laws.specs.world_lines.Lines.{IsSure, SaysBlocks}
 use Rattle.run_laws.specs.world_lines.Turns.{AllSo}
 use Rattle.run_laws.specs.world_logs.Doings.{owns}
-use Rattle.run_laws.specs.world_logs.Lines.{HasLines, Line, Texts, setting}
+use Rattle.run_laws.specs.world_logs.Lines.{Line, setting}
 use Rattle.run_laws.specs.world_logs.Roles.Role.{OfCleaner}
 use Rattle.run_laws.proofs.world_reads.After.{AllKnown, KnownAt}
 use Rattle.run_laws.proofs.world_reads.AfterCleaner as after
@@ -74,6 +72,7 @@ use Rattle.xfs_base.specs.Limits.{counter_room, u32_end, slot_count}
 use Rattle.xfs_base.specs.Steps.{still}
 use Rattle.xfs_base.proofs.Booleans.{and_first, and_second}
 use Rattle.run_laws.specs.world_reads.Below.{Below}
+use Rattle.run_laws.specs.world_reads.LoggedRuns.{LoggedRun}
 
 -- ---- counters
 
@@ -88,15 +87,15 @@ room_below (Down l) h = lasting_below l h
 room_below (Opening l o) h = lasting_below l (and_first (lasting_room l) _ h)
 room_below (Serves e) h = lasting_below e.lasting (and_first (lasting_room e.lasting) _ h)
 
-module _ (laws : Below) (base : Setting) (e : Estate AnyNode) (lines : HasLines base e) (texts : Texts base e lines) (part : ℕ)
-    (first : ℕ → ℕ → Segment) (of_eight : part < slot_count) (apart : TellsApart base) (count : ℕ) (event : Event) (at_event : slice_get e.events count ≡ Some event)
-    (cluster : (moment e count).cluster ≡ k base e lines texts part first) (may : MayHappen (moment e count) event)
-    (b : Both base e lines texts part first count) (sure : IsSureUpto base e lines texts part first (suc count))
-    (own : node_of event ≡ Cleaner) (x : CleanerNode)
-    (took : Took (moment e count) event (any.Cleaner x)) (owed : IsOwed base e lines texts part first count event b (any.Cleaner x))
-    (turned : Turned base e lines texts part first count event b (any.Cleaner x) owed) where
+module _ (laws : Below) (logged : LoggedRun) (part : ℕ) (of_eight : part < slot_count) (apart : TellsApart logged.base) (count : ℕ) (event : Event)
+    (at_event : slice_get logged.estate.events count ≡ Some event) (cluster : (moment logged.estate count).cluster ≡ k logged part)
+    (may : MayHappen (moment logged.estate count) event) (b : Both logged part count) (sure : IsSureUpto logged part (suc count))
+    (own : node_of event ≡ Cleaner) (x : CleanerNode) (took : Took (moment logged.estate count) event (any.Cleaner x))
+    (owed : IsOwed logged part count event b (any.Cleaner x)) (turned : Turned logged part count event b (any.Cleaner x) owed) where
+  open logged use {base, estate as e, lines, texts}
+
   abbrev cl : Cluster
-  cl = k base e lines texts part first
+  cl = k logged part
 
   abbrev g : Setting
   g = setting base e OfCleaner
@@ -125,7 +124,7 @@ module _ (laws : Below) (base : Setting) (e : Estate AnyNode) (lines : HasLines 
   abbrev outs : List Effect
   outs = went.outs
 
-  abbrev d : Both base e lines texts part first (suc count)
+  abbrev d : Both logged part (suc count)
   d = turned.then
 
   -- ---- the cleaner before and after
@@ -133,7 +132,7 @@ module _ (laws : Below) (base : Setting) (e : Estate AnyNode) (lines : HasLines 
   is_cleaner : b.tok.cleaner ≡ x
   is_cleaner =
       same_cleaner b.tok.cleaner x
-      (sym (now.cleaner_here base e lines texts part first count b)
+      (sym (now.cleaner_here logged part count b)
       ∙ subst (λ name. node_in (moment e count).nodes (place_of cl name) ≡ Some (any.Cleaner x)) own
       (took_it cl (moment e count) cluster event (any.Cleaner x) took))
 
@@ -146,31 +145,31 @@ module _ (laws : Below) (base : Setting) (e : Estate AnyNode) (lines : HasLines 
 
   is_then : d.tok.cleaner ≡ (cleaner_step x what).node
   is_then = same_cleaner d.tok.cleaner (cleaner_step x what).node
-      (sym (now.cleaner_here base e lines texts part first (suc count) d) ∙ here_then)
+      (sym (now.cleaner_here logged part (suc count) d) ∙ here_then)
 
   sees : log_tie.CleanerAgrees g w x.phase
-  sees = subst (λ (a : CleanerNode). log_tie.CleanerAgrees g w a.phase) is_cleaner (now.cleaner_owns base e lines texts part first count b).agrees
+  sees = subst (λ (a : CleanerNode). log_tie.CleanerAgrees g w a.phase) is_cleaner (now.cleaner_owns logged part count b).agrees
 
   then_sees : log_tie.CleanerAgrees g v went.state
-  then_sees = subst (λ (a : CleanerNode). log_tie.CleanerAgrees g v a.phase) is_then (now.cleaner_owns base e lines texts part first (suc count) d).agrees
+  then_sees = subst (λ (a : CleanerNode). log_tie.CleanerAgrees g v a.phase) is_then (now.cleaner_owns logged part (suc count) d).agrees
 
   held : CleanerCopies b.tok.net.books x.phase
-  held = subst (λ (a : CleanerNode). CleanerCopies b.tok.net.books a.phase) is_cleaner (now.cleaner_copies base e lines texts part first count b)
+  held = subst (λ (a : CleanerNode). CleanerCopies b.tok.net.books a.phase) is_cleaner (now.cleaner_copies logged part count b)
 
   then_held : CleanerCopies d.tok.net.books went.state
-  then_held = subst (λ (a : CleanerNode). CleanerCopies d.tok.net.books a.phase) is_then (now.cleaner_copies base e lines texts part first (suc count) d)
+  then_held = subst (λ (a : CleanerNode). CleanerCopies d.tok.net.books a.phase) is_then (now.cleaner_copies logged part (suc count) d)
 
   indexed : owner.CleanerAgrees part b.idx.net texts.text x.phase
   indexed = subst (λ (a : CleanerNode). owner.CleanerAgrees part b.idx.net texts.text a.phase) is_cleaner
-      (now.cleaner_indexed base e lines texts part first count b)
+      (now.cleaner_indexed logged part count b)
 
   then_indexed : owner.CleanerAgrees part d.idx.net texts.text went.state
   then_indexed = subst (λ (a : CleanerNode). owner.CleanerAgrees part d.idx.net texts.text a.phase) is_then
-      (now.cleaner_indexed base e lines texts part first (suc count) d)
+      (now.cleaner_indexed logged part (suc count) d)
 
   asks : CleanerAsks (WasAsked b.idx.asked) x.phase
   asks = subst (λ (a : CleanerNode). CleanerAsks (WasAsked b.idx.asked) a.phase)
-      (sym (now.cleaner_in_index base e lines texts part first count b) ∙ is_cleaner) b.index_stands.asks
+      (sym (now.cleaner_in_index logged part count b) ∙ is_cleaner) b.index_stands.asks
 
   -- ---- its log
 
@@ -178,10 +177,10 @@ module _ (laws : Below) (base : Setting) (e : Estate AnyNode) (lines : HasLines 
   straight = line.straight count event at_event (sym own)
 
   sure_before : IsSure texts.text its_log g w.net
-  sure_before = sure_at base e lines texts part first count (upto_before base e lines texts part first count sure)
+  sure_before = sure_at logged part count (upto_before logged part count sure)
 
   sure_then : IsSure texts.text its_log g v.net
-  sure_then = sure_at base e lines texts part first (suc count) sure
+  sure_then = sure_at logged part (suc count) sure
 
   calm : IsSureRun (then_on at.run goes)
   calm = subst (λ (m : Moment g v.net). IsSureRun m.run) (line.joined count) (sure OfCleaner tt refl)
@@ -212,7 +211,7 @@ module _ (laws : Below) (base : Setting) (e : Estate AnyNode) (lines : HasLines 
 
       by : (t : Bool) → phase_room x.phase ≡ t → AllSo (IsFlight v.log) outs
       by true room = (laws.filing.cleaner_files_its_flights part texts.text g w b.idx.net x what v of_eight sure_before
-          (now.cleaner_owns base e lines texts part first count b).room
+          (now.cleaner_owns logged part count b).room
           (subst (λ (o : Option FlightState). IfSome o (λ f. SaysBlocks f.segment)) flies (says (last_flight at.run) kind)) sees fact indexed
           (cleaner_gets part texts.text b.idx.asked b.idx.net x.phase what indexed.phase asks (room_below x.phase room) known index_owed.gets)
           index_owed.asks).flights
@@ -224,14 +223,14 @@ module _ (laws : Below) (base : Setting) (e : Estate AnyNode) (lines : HasLines 
   books : BooksGo true owed.adopted b.tok.net d.tok.net Cleaner (any.Cleaner x) what
   books = subst (λ name. BooksGo true owed.adopted b.tok.net d.tok.net name (any.Cleaner x) what) own turned.books
 
-  adopts : AdoptsThere base e lines texts part first count event b Cleaner (any.Cleaner x) owed.adopted
-  adopts = subst (λ name. AdoptsThere base e lines texts part first count event b name (any.Cleaner x) owed.adopted) own owed.adopts
+  adopts : AdoptsThere logged part count event b Cleaner (any.Cleaner x) owed.adopted
+  adopts = subst (λ name. AdoptsThere logged part count event b name (any.Cleaner x) owed.adopted) own owed.adopts
 
   -- what is known of its log then
-  pub cleaner_known : CleanerWrites d.tok.cleaner.phase → AllKnown base e lines texts part first count b.tok.net.books b.idx.net.filed
-      → KnownAt base e lines texts part first (suc count) d.tok.net.books d.idx.net.filed OfCleaner tt
+  pub cleaner_known : CleanerWrites d.tok.cleaner.phase → AllKnown logged part count b.tok.net.books b.idx.net.filed
+      → KnownAt logged part (suc count) d.tok.net.books d.idx.net.filed OfCleaner tt
   cleaner_known writes all =
-      let its : KnownAt base e lines texts part first count b.tok.net.books b.idx.net.filed OfCleaner tt = all OfCleaner tt refl in
+      let its : KnownAt logged part count b.tok.net.books b.idx.net.filed OfCleaner tt = all OfCleaner tt refl in
       subst (λ (m : Moment g v.net). OwnAfter IsCopies its_log m d.tok.net.books d.idx.net.filed) (sym (line.joined count))
       (after.cleaner_after laws part texts.text g refl apart w v at goes straight sure_then calm x what sees then_sees b.tok.net d.tok.net held then_held
       owed.adopted books.own adopts b.idx.net d.idx.net indexed then_indexed makes.filed turned.grown.filed acts_filed (flights its.kind)

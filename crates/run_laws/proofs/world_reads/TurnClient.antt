@@ -25,7 +25,6 @@ use Rattle.node_slots.specs.node_tie.ClientEvents as tokens
 use Rattle.node_slots.specs.owner_index_tie.ClientEvents as owner
 use Rattle.run_laws.specs.reopening_law.Falls.{FallKnown}
 use Rattle.run_laws.specs.reopening_law.Reopens.{TellsApart}
-use Rattle.segment_format.specs.declared.segment.Segment.{Segment}
 use Rattle.run_laws.specs.segment_tie.Clients.{ClientWrites}
 use Rattle.run_laws.specs.segment_tie.Segments.{IsOriginal}
 use Rattle.version_model.specs.declared.act.Act.{Act}
@@ -33,7 +32,6 @@ use Rattle.version_model.specs.declared.act.Act.TheVariants.{Filed as ActsFiled}
 use Rattle.wire_msg.specs.declared.packet.Do.{Do}
 use Rattle.world_base.specs.Cluster.{place_of}
 use Rattle.world_base.specs.declared.cluster.Cluster.{Cluster}
-use Rattle.world_base.specs.declared.estate.Estate.{Estate}
 use Rattle.world_base.specs.declared.event.Event.{Event}
 use Rattle.world_base.specs.declared.world.World.{World}
 use Rattle.world_base.specs.Events.{node_of, what_of}
@@ -45,7 +43,7 @@ use Rattle.run_laws.specs.world_law.Owners.{moment, node_in}
 use Rattle.run_laws.specs.world_lines.Lines.{IsSure, SaysBlocks}
 use Rattle.run_laws.specs.world_lines.Turns.{AllSo}
 use Rattle.run_laws.specs.world_logs.Doings.{owns}
-use Rattle.run_laws.specs.world_logs.Lines.{HasLines, Line, Texts, setting}
+use Rattle.run_laws.specs.world_logs.Lines.{Line, setting}
 use Rattle.run_laws.specs.world_logs.Roles.Role.{OfClient}
 use Rattle.run_laws.proofs.world_reads.After.{AllKnown, KnownAt}
 use Rattle.run_laws.proofs.world_reads.AfterClients as after
@@ -61,16 +59,17 @@ use Rattle.run_laws.specs.world_reads.Joint.{IsSureUpto, There, flew_at, k}
 use Rattle.xfs_base.specs.declared.node.NodeId.TheVariants.{Client}
 use Rattle.xfs_base.proofs.Booleans.{equal_itself}
 use Rattle.run_laws.specs.world_reads.Below.{Below}
+use Rattle.run_laws.specs.world_reads.LoggedRuns.{LoggedRun}
 
-module _ (laws : Below) (base : Setting) (e : Estate AnyNode) (lines : HasLines base e) (texts : Texts base e lines) (part : ℕ)
-    (first : ℕ → ℕ → Segment) (apart : TellsApart base) (count : ℕ) (event : Event) (at_event : slice_get e.events count ≡ Some event)
-    (cluster : (moment e count).cluster ≡ k base e lines texts part first) (b : Both base e lines texts part first count)
-    (sure : IsSureUpto base e lines texts part first (suc count)) (c : ℕ) (there : There base e lines texts part first (OfClient c))
-    (own : node_of event ≡ Client c) (x : ClientNode) (took : Took (moment e count) event (any.Client x))
-    (owed : IsOwed base e lines texts part first count event b (any.Client x))
-    (turned : Turned base e lines texts part first count event b (any.Client x) owed) where
+module _ (laws : Below) (logged : LoggedRun) (part : ℕ) (apart : TellsApart logged.base) (count : ℕ) (event : Event)
+    (at_event : slice_get logged.estate.events count ≡ Some event) (cluster : (moment logged.estate count).cluster ≡ k logged part) (b : Both logged part count)
+    (sure : IsSureUpto logged part (suc count)) (c : ℕ) (there : There logged part (OfClient c)) (own : node_of event ≡ Client c) (x : ClientNode)
+    (took : Took (moment logged.estate count) event (any.Client x)) (owed : IsOwed logged part count event b (any.Client x))
+    (turned : Turned logged part count event b (any.Client x) owed) where
+  open logged use {base, estate as e, lines, texts}
+
   abbrev cl : Cluster
-  cl = k base e lines texts part first
+  cl = k logged part
 
   abbrev g : Setting
   g = setting base e (OfClient c)
@@ -96,7 +95,7 @@ module _ (laws : Below) (base : Setting) (e : Estate AnyNode) (lines : HasLines 
   abbrev outs : List Effect
   outs = (takes x what).outs
 
-  abbrev d : Both base e lines texts part first (suc count)
+  abbrev d : Both logged part (suc count)
   d = turned.then
 
   -- ---- the client before and after
@@ -104,7 +103,7 @@ module _ (laws : Below) (base : Setting) (e : Estate AnyNode) (lines : HasLines 
   is_client : b.tok.client c ≡ x
   is_client =
       same_client (b.tok.client c) x
-      (sym (now.client_here base e lines texts part first count b c there)
+      (sym (now.client_here logged part count b c there)
       ∙ subst (λ name. node_in (moment e count).nodes (place_of cl name) ≡ Some (any.Client x)) own
       (took_it cl (moment e count) cluster event (any.Client x) took))
 
@@ -117,30 +116,30 @@ module _ (laws : Below) (base : Setting) (e : Estate AnyNode) (lines : HasLines 
 
   is_then : d.tok.client c ≡ (client_step x what).node
   is_then = same_client (d.tok.client c) (client_step x what).node
-      (sym (now.client_here base e lines texts part first (suc count) d c there) ∙ here_then)
+      (sym (now.client_here logged part (suc count) d c there) ∙ here_then)
 
   sees : log_tie.ClientAgrees g c w x.phase
-  sees = subst (λ (a : ClientNode). log_tie.ClientAgrees g c w a.phase) is_client (now.client_sees base e lines texts part first count b c there).agrees
+  sees = subst (λ (a : ClientNode). log_tie.ClientAgrees g c w a.phase) is_client (now.client_sees logged part count b c there).agrees
 
   then_sees : log_tie.ClientAgrees g c v (takes x what).state
   then_sees = subst (λ (a : ClientNode). log_tie.ClientAgrees g c v a.phase) is_then
-      (now.client_sees base e lines texts part first (suc count) d c there).agrees
+      (now.client_sees logged part (suc count) d c there).agrees
 
   held : tokens.ClientAgrees true part c b.tok.net x.phase
   held = subst (λ (a : ClientNode). tokens.ClientAgrees true part c b.tok.net a.phase) is_client
-      (now.client_held base e lines texts part first count b c there)
+      (now.client_held logged part count b c there)
 
   then_held : tokens.ClientAgrees true part c d.tok.net (takes x what).state
   then_held = subst (λ (a : ClientNode). tokens.ClientAgrees true part c d.tok.net a.phase) is_then
-      (now.client_held base e lines texts part first (suc count) d c there)
+      (now.client_held logged part (suc count) d c there)
 
   indexed : owner.ClientAgrees part texts.text b.idx.net c x.phase
   indexed = subst (λ (a : ClientNode). owner.ClientAgrees part texts.text b.idx.net c a.phase) is_client
-      (now.client_indexed base e lines texts part first count b c there)
+      (now.client_indexed logged part count b c there)
 
   then_indexed : owner.ClientAgrees part texts.text d.idx.net c (takes x what).state
   then_indexed = subst (λ (a : ClientNode). owner.ClientAgrees part texts.text d.idx.net c a.phase) is_then
-      (now.client_indexed base e lines texts part first (suc count) d c there)
+      (now.client_indexed logged part (suc count) d c there)
 
   -- ---- its log
 
@@ -148,10 +147,10 @@ module _ (laws : Below) (base : Setting) (e : Estate AnyNode) (lines : HasLines 
   straight = line.straight count event at_event (sym own)
 
   sure_before : IsSure texts.text c g w.net
-  sure_before = now.client_sure base e lines texts part first count b c there (upto_before base e lines texts part first count sure)
+  sure_before = now.client_sure logged part count b c there (upto_before logged part count sure)
 
   sure_then : IsSure texts.text c g v.net
-  sure_then = now.client_sure base e lines texts part first (suc count) d c there sure
+  sure_then = now.client_sure logged part (suc count) d c there sure
 
   calm : IsSureRun (then_on at.run goes)
   calm = subst (λ (m : Moment g v.net). IsSureRun m.run) (line.joined count) (sure (OfClient c) there refl)
@@ -172,9 +171,9 @@ module _ (laws : Below) (base : Setting) (e : Estate AnyNode) (lines : HasLines 
   flights : IfSome (last_flight at.run) (λ f. IsOriginal f.segment) → (s : serving.Serving) → x.phase ≡ Serves s → AllSo (IsFlight s.log) outs
   flights kind s fact =
       let flies = served_last g _ w.net at.run s.log (subst (log_tie.ClientAgrees g c w) fact sees).1.owner in
-      (laws.filing.clients_file_their_flights part texts.text g c w b.idx.net x what s there.0 (now.below base e lines texts part first count b c there)
+      (laws.filing.clients_file_their_flights part texts.text g c w b.idx.net x what s there.0 (now.below logged part count b c there)
       sure_before
-      (now.client_sees base e lines texts part first count b c there).room
+      (now.client_sees logged part count b c there).room
       (subst (λ (o : Option FlightState). IfSome o (λ f. SaysBlocks f.segment)) flies
       (says (last_flight at.run) kind)) sees fact indexed index_owed.gets).flights
 
@@ -184,9 +183,9 @@ module _ (laws : Below) (base : Setting) (e : Estate AnyNode) (lines : HasLines 
   books : BooksGo true owed.adopted b.tok.net d.tok.net (Client c) (any.Client x) what
   books = subst (λ name. BooksGo true owed.adopted b.tok.net d.tok.net name (any.Client x) what) own turned.books
 
-  module _ (writes : ClientWrites (d.tok.client c).phase) (all : AllKnown base e lines texts part first count b.tok.net.books b.idx.net.filed)
-      (fell : FallKnown (moment e count).acts c (flew_at base e lines texts part first (OfClient c) there count) (b.tok.client c).phase) where
-    its : KnownAt base e lines texts part first count b.tok.net.books b.idx.net.filed (OfClient c) there
+  module _ (writes : ClientWrites (d.tok.client c).phase) (all : AllKnown logged part count b.tok.net.books b.idx.net.filed)
+      (fell : FallKnown (moment e count).acts c (flew_at logged part (OfClient c) there count) (b.tok.client c).phase) where
+    its : KnownAt logged part count b.tok.net.books b.idx.net.filed (OfClient c) there
     its = all (OfClient c) there refl
 
     fall : FallKnown b.tok.net.acts c (last_flight at.run) x.phase
@@ -197,7 +196,7 @@ module _ (laws : Below) (base : Setting) (e : Estate AnyNode) (lines : HasLines 
     writes_then = subst (λ (a : ClientNode). ClientWrites a.phase) is_then writes
 
     -- what is known of its log then
-    pub client_known : KnownAt base e lines texts part first (suc count) d.tok.net.books d.idx.net.filed (OfClient c) there
+    pub client_known : KnownAt logged part (suc count) d.tok.net.books d.idx.net.filed (OfClient c) there
     client_known =
         subst (λ (m : Moment g v.net). OwnAfter IsOriginal c m d.tok.net.books d.idx.net.filed) (sym (line.joined count))
         (after.client_after laws part texts.text c g refl apart w v at goes straight sure_then calm x what sees then_sees b.tok.net d.tok.net held
@@ -216,9 +215,9 @@ module _ (laws : Below) (base : Setting) (e : Estate AnyNode) (lines : HasLines 
         ∙ sym (ap (λ (y : World AnyNode). y.acts) (moment_next e count event at_event) ∙ took.acts))
 
     pub client_fell : tokens.IsAway (d.tok.client c).phase
-        → FallKnown (moment e (suc count)).acts c (flew_at base e lines texts part first (OfClient c) there (suc count)) (d.tok.client c).phase
+        → FallKnown (moment e (suc count)).acts c (flew_at logged part (OfClient c) there (suc count)) (d.tok.client c).phase
     client_fell gone =
-        subst (λ (a : ClientNode). FallKnown (moment e (suc count)).acts c (flew_at base e lines texts part first (OfClient c) there (suc count)) a.phase)
+        subst (λ (a : ClientNode). FallKnown (moment e (suc count)).acts c (flew_at logged part (OfClient c) there (suc count)) a.phase)
         (sym is_then)
         (subst (λ (m : Moment g v.net). FallKnown (moment e (suc count)).acts c (last_flight m.run) (takes x what).state) (sym (line.joined count))
         (subst (λ (acts : List Act). FallKnown acts c (last_flight (then_on at.run goes)) (takes x what).state) acts_then

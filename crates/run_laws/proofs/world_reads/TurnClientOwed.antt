@@ -7,25 +7,21 @@ use Rattle.client_node.specs.Phases.{after_opening, happens, on_deliver, on_time
 use Rattle.client_serving.specs.declared.lasting.Lasting.{Lasting}
 use Rattle.client_serving.specs.declared.serving.Serving.{Serving}
 use Rattle.core_world.specs.AnyNode.{any_start, any_step}
-use Rattle.core_world.specs.declared.any_node.AnyNode.{AnyNode}
 use Rattle.core_world.specs.declared.any_node.AnyNode.TheVariants as any
 use Rattle.log_owner.specs.declared.opened.Opened.{Opened}
 use Rattle.log_owner.specs.declared.opened.Progress.{Progress}
 use Rattle.log_owner.specs.declared.opened.Progress.TheVariants as progress
 use Rattle.log_owner.specs.declared.opening.Opening.{Opening}
 use Rattle.log_owner.specs.Opening as opening
-use Rattle.log_tie.specs.Setting.{Setting}
 use Rattle.node_base.specs.Setups.{IsSetup}
 use Rattle.node_slots.specs.node_tie.ClientEvents.{IsTaken}
 use Rattle.run_laws.specs.reopening_law.Openings.{comes_to}
 use Rattle.run_laws.specs.reopening_law.Reopens.{TellsApart}
-use Rattle.segment_format.specs.declared.segment.Segment.{Segment}
 use Rattle.wire_msg.specs.declared.packet.Do.{Do}
 use Rattle.wire_msg.specs.declared.packet.Do.TheVariants.{Begin, Deliver, Tick}
 use Rattle.wire_msg.specs.declared.packet.Packet.{Packet}
 use Rattle.world_base.specs.Cluster.{place_of}
 use Rattle.world_base.specs.declared.cluster.Cluster.{Cluster}
-use Rattle.world_base.specs.declared.estate.Estate.{Estate}
 use Rattle.world_base.specs.declared.event.Event.{Event}
 use Rattle.world_base.specs.Events.{node_of, what_of}
 use Rattle.world_base.specs.Runs.{IsRun, MayHappen}
@@ -33,7 +29,6 @@ use Rattle.run_laws.proofs.world_law.Places.{behind}
 use Rattle.run_laws.proofs.world_law.Sent.{in_list}
 use Rattle.run_laws.specs.world_law.Standing.{epoch_now}
 use Rattle.run_laws.specs.world_law.Owners.{moment, node_in, node_named}
-use Rattle.run_laws.specs.world_logs.Lines.{HasLines, Texts}
 use Rattle.run_laws.specs.world_logs.Roles.Role.{OfClient}
 use Rattle.run_laws.proofs.world_reads.ClientLog.{ClientEvent}
 use Rattle.run_laws.proofs.world_reads.ClientOwed as owed
@@ -50,6 +45,7 @@ use Rattle.xfs_base.specs.declared.node.NodeId.TheVariants.{Client}
 use Rattle.xfs_base.specs.Steps.{still}
 use Rattle.xfs_base.specs.Limits.{slot_count}
 use Rattle.run_laws.specs.world_reads.Below.{Below}
+use Rattle.run_laws.specs.world_reads.LoggedRuns.{LoggedRun}
 
 -- ---- where the opening of its log ends the client serves then
 
@@ -91,23 +87,24 @@ module _ (node : ClientNode) (l : Lasting) (o : Opening) (opens : node.phase ≡
 
 -- ---- beside one run
 
-module _ (below : Below) (base : Setting) (e : Estate AnyNode) (lines : HasLines base e) (texts : Texts base e lines) (part : ℕ)
-    (first : ℕ → ℕ → Segment) (of_eight : part < slot_count) (apart : TellsApart base) (setup : IsSetup e.script.setup)
-    (run : IsRun any_step any_start e.script e.events e.world) (count : ℕ) (joint : Joint base e lines texts part first count)
-    (sure : IsSureUpto base e lines texts part first (suc count)) (event : Event) (at : slice_get e.events count ≡ Some event)
-    (may : MayHappen (moment e count) event) (c : ℕ) (node : ClientNode) (own : node_of event ≡ Client c)
-    (took : Took (moment e count) event (any.Client node)) where
-  abbrev cl : Cluster
-  cl = k base e lines texts part first
+module _ (below : Below) (logged : LoggedRun) (part : ℕ) (of_eight : part < slot_count) (apart : TellsApart logged.base)
+    (setup : IsSetup logged.estate.script.setup) (run : IsRun any_step any_start logged.estate.script logged.estate.events logged.estate.world) (count : ℕ)
+    (joint : Joint logged part count) (sure : IsSureUpto logged part (suc count)) (event : Event) (at : slice_get logged.estate.events count ≡ Some event)
+    (may : MayHappen (moment logged.estate count) event) (c : ℕ) (node : ClientNode) (own : node_of event ≡ Client c)
+    (took : Took (moment logged.estate count) event (any.Client node)) where
+  open logged use {estate as e, texts, first}
 
-  there : There base e lines texts part first (OfClient c)
+  abbrev cl : Cluster
+  cl = k logged part
+
+  there : There logged part (OfClient c)
   there =
       let place : place_of cl (Client c) ≡ Some took.place = subst (λ name. place_of cl name ≡ Some took.place) own
       (subst (λ x. place_of x (node_of event) ≡ Some took.place) (moment_cluster e count) took.placed) in
       let i = behind 0 cl.clients c took.place place in
       (i.some, i.within)
 
-  abbrev x : ClientEvent base e lines texts part first count c there event node
+  abbrev x : ClientEvent logged part count c there event node
   x = record {
     few = of_eight;
     apart = apart;
@@ -125,32 +122,32 @@ module _ (below : Below) (base : Setting) (e : Estate AnyNode) (lines : HasLines
 
   is_node : joint.tok.client c ≡ node
   is_node = same_client (joint.tok.client c) node
-      (sym (now.client_here base e lines texts part first count (both_of base e lines texts part first count joint) c there) ∙ here)
+      (sym (now.client_here logged part count (both_of logged part count joint) c there) ∙ here)
 
   named : node_named (moment e count) (Client c) ≡ Some (any.Client node)
   named = subst (λ cluster. node_in (moment e count).nodes (place_of cluster (Client c)) ≡ Some (any.Client node)) (sym (moment_cluster e count)) here
 
   -- ---- Polls
 
-  low : owed.PollsAreLow base e lines texts part first count c there below event node x
+  low : owed.PollsAreLow logged part count c there below event node x
   low packet m s fact bears inside serves late =
       below.tokens.epochs.client_polls_are_low true cl part texts.text first (moment e count).nodes (moment e count).sent (moment e count).acts joint.tok joint.idx
       c s m of_eight
       (record { tokens = joint.tokens_stand; index = joint.index_stands; same = joint.slots }) there.0
-      (now.member base e lines texts part first count (both_of base e lines texts part first count joint) c there)
+      (now.member logged part count (both_of logged part count joint) c there)
       (ap (λ (a : ClientNode). a.phase) is_node ∙ serves)
       (record { packet = packet; among = sent_before (moment e count) event may packet fact; bears = bears; of = inside }) late c there.0
-      (let less = now.below base e lines texts part first count (both_of base e lines texts part first count joint) c there in omega arith)
+      (let less = now.below logged part count (both_of logged part count joint) c there in omega arith)
 
   -- what the small world of the index is owed
-  pub client_owed : IndexOwed base e lines texts part first count event (both_of base e lines texts part first count joint) (Client c) (any.Client node)
-  client_owed = owed.client_owed base e lines texts part first count c there below event node x low
+  pub client_owed : IndexOwed logged part count event (both_of logged part count joint) (Client c) (any.Client node)
+  client_owed = owed.client_owed logged part count c there below event node x low
 
   -- ---- what it reads
 
-  reading : told.Reading base e lines texts part first count c there below event node x
+  reading : told.Reading logged part count c there below event node x
   reading = record {
-    known = filed_known base e lines texts part first count joint;
+    known = filed_known logged part count joint;
     told = joint.entries.holds (any.Client node) (in_list (moment e count).nodes took.place (any.Client node) took.stands);
     came = (below.reads.runs_read_what_came e setup run count).nodes (Client c) (any.Client node) named;
     its = below.reads.places.runs_read_their_fetches e count c node named;
@@ -159,8 +156,8 @@ module _ (below : Below) (base : Setting) (e : Estate AnyNode) (lines : HasLines
 
   -- and what that of tokens is
   pub client_told : (adopted : Bool)
-      → TokensOwed base e lines texts part first count event (both_of base e lines texts part first count joint) adopted (Client c)
+      → TokensOwed logged part count event (both_of logged part count joint) adopted (Client c)
       (any.Client node)
   client_told adopted taken =
-      told.client_told base e lines texts part first count c there below event node x
+      told.client_told logged part count c there below event node x
       (λ l o r opens ends. serves_then node l o opens r (what_of event) taken ends) reading (epoch_now cl part joint.tok)

@@ -4,7 +4,6 @@ use Rattle.core_world.specs.AnyNode.{any_step}
 use Rattle.core_world.specs.declared.any_node.AnyNode.{AnyNode}
 use Rattle.core_world.specs.declared.any_node.AnyNode.TheVariants as any
 use Rattle.index_tie.specs.Net.{Net}
-use Rattle.log_tie.specs.Setting.{Setting}
 use Rattle.manager_node.specs.declared.manager.Manager.{Manager as ManagerNode}
 use Rattle.manager_node.specs.Events.{happens, manager_step}
 use Rattle.node_slots.specs.node_index_tie.Sight.{Texts as AllTexts}
@@ -16,7 +15,6 @@ use Rattle.wire_msg.specs.declared.packet.Do.{Do}
 use Rattle.wire_msg.specs.declared.packet.Packet.{Packet}
 use Rattle.world_base.specs.Cluster.{place_of}
 use Rattle.world_base.specs.declared.cluster.Cluster.{Cluster}
-use Rattle.world_base.specs.declared.estate.Estate.{Estate}
 use Rattle.world_base.specs.declared.event.Event.{Event}
 use Rattle.world_base.specs.declared.world.World.{World}
 use Rattle.world_base.specs.Events.{node_of, what_of}
@@ -26,11 +24,11 @@ use Rattle.run_laws.specs.world_index.Standing as index
 use Rattle.run_laws.proofs.world_law.Places.{behind}
 use Rattle.run_laws.specs.world_law.Standing as tokens
 use Rattle.run_laws.specs.world_law.Owners.{moment, node_in}
-use Rattle.run_laws.specs.world_logs.Lines.{HasLines, Texts}
 use Rattle.run_laws.proofs.world_reads.Taking.{Took, moment_next, node_then}
 use Rattle.run_laws.proofs.world_reads.TurnBoth.{Both, IsOwed, Turned}
 use Rattle.run_laws.specs.world_reads.Chains.{Follows, IsManaged}
 use Rattle.run_laws.specs.world_reads.Joint.{k}
+use Rattle.run_laws.specs.world_reads.LoggedRuns.{LoggedRun}
 use Rattle.xfs_base.specs.declared.node.NodeId.{NodeId}
 use Rattle.xfs_base.specs.declared.node.NodeId.TheVariants.{Client, Manager, Cleaner, Registry}
 
@@ -55,12 +53,14 @@ follows_itself c part texts first nodes sent t s st = record {
 same_manager : (a b : ManagerNode) → Some (any.Manager a) ≡ Some (any.Manager b) → a ≡ b
 same_manager a b fact = cc
 
-module _ (base : Setting) (e : Estate AnyNode) (lines : HasLines base e) (texts : Texts base e lines) (part : ℕ) (first : ℕ → ℕ → Segment) (count : ℕ)
-    (event : Event) (at : slice_get e.events count ≡ Some event) (clusters : (moment e count).cluster ≡ k base e lines texts part first)
-    (b : Both base e lines texts part first count) (node : AnyNode) (took : Took (moment e count) event node)
-    (owed : IsOwed base e lines texts part first count event b node) (turned : Turned base e lines texts part first count event b node owed) where
+module _ (logged : LoggedRun) (part count : ℕ) (event : Event) (at : slice_get logged.estate.events count ≡ Some event)
+    (clusters : (moment logged.estate count).cluster ≡ k logged part) (b : Both logged part count) (node : AnyNode)
+    (took : Took (moment logged.estate count) event node) (owed : IsOwed logged part count event b node)
+    (turned : Turned logged part count event b node owed) where
+  open logged use {estate as e, texts}
+
   abbrev cl : Cluster
-  cl = k base e lines texts part first
+  cl = k logged part
 
   abbrev what : Do
   what = what_of event

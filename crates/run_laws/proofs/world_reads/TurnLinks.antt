@@ -9,7 +9,6 @@ use Rattle.cleaner_node.specs.declared.cleaner.Phase.TheVariants as cleaners
 use Rattle.client_node.specs.declared.phase.Phase.TheVariants as clients
 use Rattle.client_node.specs.declared.phase.Phase.{Phase}
 use Rattle.client_serving.specs.declared.serving.Serving.{Serving}
-use Rattle.core_world.specs.declared.any_node.AnyNode.{AnyNode}
 use Rattle.index_tie.specs.Net as index
 use Rattle.index_tie.specs.Takeovers.{Linked, of_log}
 use Rattle.log_law.specs.Net as log
@@ -20,15 +19,13 @@ use Rattle.node_logs.specs.node_log_tie.RegistryEvents.{RegistrySeen}
 use Rattle.node_slots.proofs.node_tie.SmallWorld.{with_promise}
 use Rattle.node_slots.specs.node_tie.CleanerEvents.{CleanerStands}
 use Rattle.node_slots.specs.node_tie.ClientEvents.{ClientAgrees}
-use Rattle.segment_format.specs.declared.segment.Segment.{Segment}
 use Rattle.token_client.specs.State.{TokensState, epoch_of, is_in_slot}
 use Rattle.token_manager.specs.SlotState.{SlotState}
 use Rattle.world_base.specs.declared.cluster.Cluster.{Cluster}
-use Rattle.world_base.specs.declared.estate.Estate.{Estate}
 use Rattle.run_laws.specs.world_law.Standing.{epoch_now, members}
 use Rattle.run_laws.specs.world_lines.Lines.{IsLine, IsSure}
 use Rattle.run_laws.specs.world_lines.Polls.{ClientLinked, CleanerLinked, LinkedSince}
-use Rattle.run_laws.specs.world_logs.Lines.{HasLines, Texts, setting}
+use Rattle.run_laws.specs.world_logs.Lines.{setting}
 use Rattle.run_laws.specs.world_logs.Roles.Role.{OfClient, OfCleaner}
 use Rattle.run_laws.proofs.world_reads.CleanerMoment.{sure_at}
 use Rattle.run_laws.proofs.world_reads.TurnBoth.{Both}
@@ -40,14 +37,16 @@ use Rattle.xfs_base.proofs.Booleans.{equal_itself}
 use Rattle.xfs_base.specs.Limits.{slot_count, block_logs}
 use Rattle.xfs_base.specs.Logs.{cleaners_number}
 use Rattle.run_laws.specs.world_reads.Below.{Below}
+use Rattle.run_laws.specs.world_reads.LoggedRuns.{LoggedRun}
 
 difference : (a b : ℕ) → a < b → a + (b - a) ≡ b
 difference a b less = omega arith
 
-module _ (laws : Below) (base : Setting) (e : Estate AnyNode) (lines : HasLines base e) (texts : Texts base e lines) (part : ℕ)
-    (first : ℕ → ℕ → Segment) (of_eight : part < slot_count) (count : ℕ) (b : Both base e lines texts part first count) where
+module _ (laws : Below) (logged : LoggedRun) (part : ℕ) (of_eight : part < slot_count) (count : ℕ) (b : Both logged part count) where
+  open logged use {base, estate as e, lines, texts, first}
+
   abbrev cl : Cluster
-  cl = k base e lines texts part first
+  cl = k logged part
 
   abbrev n : index.Net
   n = b.idx.net
@@ -100,18 +99,18 @@ module _ (laws : Below) (base : Setting) (e : Estate AnyNode) (lines : HasLines 
   of_slot : is_in_slot part some_block ≡ true
   of_slot = ap (λ n. n == part) (mod-eq_of_lt of_eight) ∙ equal_itself part
 
-  of_client : (c : ℕ) (there : There base e lines texts part first (OfClient c)) (s : Serving) → (b.tok.client c).phase ≡ clients.Serving s → (x : ℕ)
+  of_client : (c : ℕ) (there : There logged part (OfClient c)) (s : Serving) → (b.tok.client c).phase ≡ clients.Serving s → (x : ℕ)
       (z : SlotState) → b.tok.net.slots x ≡ Some z
       → x ≤ epoch_of s.tokens.epochs part
   of_client c there s fact x z at =
-      let agreed = subst (ClientAgrees true part c b.tok.net) fact (now.client_held base e lines texts part first count b c there) in
+      let agreed = subst (ClientAgrees true part c b.tok.net) fact (now.client_held logged part count b c there) in
       subst (λ (y : TokensState). x ≤ epoch_of y.epochs part) agreed.tokens
       (laws.tokens.active_epochs_promised true (members cl part) part (with_promise 1 b.tok.net) some_block (record {
         run = b.tokens_stand.runs;
         inside =
             of_slot;
       }) x z at c
-      (record { some = there.0; within = now.member base e lines texts part first count b c there }))
+      (record { some = there.0; within = now.member logged part count b c there }))
 
   of_cleaner : (v : Emptying) → b.tok.cleaner.phase ≡ cleaners.Serving v → (x : ℕ) (z : SlotState) → b.tok.net.slots x ≡ Some z
       → x ≤ owner.epoch_of v.promised part
@@ -124,17 +123,17 @@ module _ (laws : Below) (base : Setting) (e : Estate AnyNode) (lines : HasLines 
 
   -- ---- owners
 
-  module _ (sure : IsSureUpto base e lines texts part first count)
-      (known : LogsKnown base e lines texts part first count b) where
-    pub clients_linked : (c : ℕ) (there : There base e lines texts part first (OfClient c)) → ClientLinked part n c (b.tok.client c).phase
+  module _ (sure : IsSureUpto logged part count)
+      (known : LogsKnown logged part count b) where
+    pub clients_linked : (c : ℕ) (there : There logged part (OfClient c)) → ClientLinked part n c (b.tok.client c).phase
     clients_linked c there = by (b.tok.client c).phase refl
       where
         by : (p : Phase) → (b.tok.client c).phase ≡ p → ClientLinked part n c p
         by (clients.Serving s) fact =
             linked_from (epoch_of s.tokens.epochs part) (of_client c there s fact) c (setting base e (OfClient c)) ((lines (OfClient c) there).scene count).net
-            there.0 (let less = now.below base e lines texts part first count b c there in omega arith)
-            (now.client_sure base e lines texts part first count b c there sure) (known.all (OfClient c) there refl).known.line
-            (now.registry_seen base e lines texts part first count b (OfClient c) there)
+            there.0 (let less = now.below logged part count b c there in omega arith)
+            (now.client_sure logged part count b c there sure) (known.all (OfClient c) there refl).known.line
+            (now.registry_seen logged part count b (OfClient c) there)
         by (clients.Opening l o) fact = tt
         by (clients.Down l) fact = tt
 
@@ -144,7 +143,7 @@ module _ (laws : Below) (base : Setting) (e : Estate AnyNode) (lines : HasLines 
         by : (p : cleaning.Phase) → b.tok.cleaner.phase ≡ p → CleanerLinked part n p
         by (cleaners.Serving v) fact =
             linked_from (owner.epoch_of v.promised part) (of_cleaner v fact) cleaners_number (setting base e OfCleaner) ((lines OfCleaner tt).scene count).net (omega arith)
-            (omega arith) (sure_at base e lines texts part first count sure) (known.all OfCleaner tt refl).known.line
-            (now.registry_seen base e lines texts part first count b OfCleaner tt)
+            (omega arith) (sure_at logged part count sure) (known.all OfCleaner tt refl).known.line
+            (now.registry_seen logged part count b OfCleaner tt)
         by (cleaners.Opening l o) fact = tt
         by (cleaners.Down l) fact = tt

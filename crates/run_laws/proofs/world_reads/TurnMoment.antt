@@ -2,27 +2,24 @@
 use Rattle.std.proofs.Common.{◌≡◌, ℕ, ◌<◌, true, Some, refl, sym, subst, ◌∙◌, arith}
 use Rattle.cleaner_node.specs.declared.cleaner.Cleaner.{Cleaner as CleanerNode}
 use Rattle.client_node.specs.declared.client.Client.{Client as ClientNode}
-use Rattle.core_world.specs.declared.any_node.AnyNode.{AnyNode}
 use Rattle.core_world.specs.declared.any_node.AnyNode.TheVariants as any
-use Rattle.log_tie.specs.Setting.{Setting}
 use Rattle.node_logs.specs.node_log_tie.RegistryEvents.{RegistrySeen}
 use Rattle.node_slots.specs.node_tie.CleanerLogs.{CleanerCopies}
 use Rattle.node_slots.specs.node_tie.ClientEvents as tokens
 use Rattle.node_slots.specs.owner_index_tie.CleanerEvents as cleaner_index
 use Rattle.node_slots.specs.owner_index_tie.ClientEvents as client_index
-use Rattle.segment_format.specs.declared.segment.Segment.{Segment}
 use Rattle.world_base.specs.Cluster.{place_of}
 use Rattle.world_base.specs.declared.cluster.Cluster.{Cluster}
-use Rattle.world_base.specs.declared.estate.Estate.{Estate}
 use Rattle.run_laws.specs.world_law.Standing.{members}
 use Rattle.run_laws.specs.world_law.Owners.{moment, node_in}
 use Rattle.run_laws.specs.world_lines.Lines.{IsSure}
-use Rattle.run_laws.specs.world_logs.Lines.{HasLines, Texts, setting}
+use Rattle.run_laws.specs.world_logs.Lines.{setting}
 use Rattle.run_laws.specs.world_logs.Roles.{Role}
 use Rattle.run_laws.specs.world_logs.Roles.Role.{OfClient, OfCleaner}
 use Rattle.run_laws.specs.world_logs.Standing.{CleanerOwns, OwnerSeen}
 use Rattle.run_laws.proofs.world_reads.TurnBoth.{Both}
 use Rattle.run_laws.specs.world_reads.Joint.{IsSureUpto, There, k}
+use Rattle.run_laws.specs.world_reads.LoggedRuns.{LoggedRun}
 use Rattle.xfs_base.specs.declared.node.NodeId.TheVariants.{Client, Cleaner, Registry}
 use Rattle.xfs_base.specs.Logs.{cleaners_number}
 
@@ -32,14 +29,15 @@ same_client a b fact = cc
 pub same_cleaner : (a b : CleanerNode) → Some (any.Cleaner a) ≡ Some (any.Cleaner b) → a ≡ b
 same_cleaner a b fact = cc
 
-module _ (base : Setting) (e : Estate AnyNode) (lines : HasLines base e) (texts : Texts base e lines) (part : ℕ) (first : ℕ → ℕ → Segment) (count : ℕ)
-    (b : Both base e lines texts part first count) where
+module _ (logged : LoggedRun) (part count : ℕ) (b : Both logged part count) where
+  open logged use {base, estate as e, lines, texts}
+
   abbrev cl : Cluster
-  cl = k base e lines texts part first
+  cl = k logged part
 
   -- ---- clients
 
-  module _ (c : ℕ) (there : There base e lines texts part first (OfClient c)) where
+  module _ (c : ℕ) (there : There logged part (OfClient c)) where
     pub member : c < members cl part
     member = (let h = there.1 in omega arith)
 
@@ -64,7 +62,7 @@ module _ (base : Setting) (e : Estate AnyNode) (lines : HasLines base e) (texts 
         (b.index_stands.clients c there.0 member)
 
     -- its log is sure
-    pub client_sure : IsSureUpto base e lines texts part first count
+    pub client_sure : IsSureUpto logged part count
         → IsSure texts.text c (setting base e (OfClient c)) ((lines (OfClient c) there).scene count).net
     client_sure sure = record {
       own = refl;
@@ -93,6 +91,6 @@ module _ (base : Setting) (e : Estate AnyNode) (lines : HasLines base e) (texts 
 
   -- ---- the registry
 
-  pub registry_seen : (r : Role) (there : There base e lines texts part first r)
+  pub registry_seen : (r : Role) (there : There logged part r)
       → RegistrySeen (setting base e r) ((lines r there).scene count).net b.idx.registry.board
   registry_seen r there = ((lines r there).stands count).seen Registry (any.Registry b.idx.registry) b.index_stands.placed.registry

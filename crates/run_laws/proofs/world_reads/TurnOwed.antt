@@ -4,28 +4,26 @@ use Rattle.cleaner_node.specs.declared.cleaner.Cleaner.{Cleaner as CleanerNode}
 use Rattle.client_node.specs.declared.client.Client.{Client as ClientNode}
 use Rattle.core_world.specs.declared.any_node.AnyNode.{AnyNode}
 use Rattle.core_world.specs.declared.any_node.AnyNode.TheVariants as any
-use Rattle.log_tie.specs.Setting.{Setting}
 use Rattle.manager_node.specs.declared.manager.Manager.{Manager as ManagerNode}
-use Rattle.segment_format.specs.declared.segment.Segment.{Segment}
 use Rattle.world_base.specs.declared.cluster.Cluster.{Cluster}
-use Rattle.world_base.specs.declared.estate.Estate.{Estate}
 use Rattle.world_base.specs.declared.event.Event.{Event}
 use Rattle.world_base.specs.Events.{node_of, what_of}
 use Rattle.run_laws.specs.world_index.Owes.{IndexOwes}
 use Rattle.run_laws.specs.world_law.Standing as tokens
 use Rattle.run_laws.specs.world_law.Owes.{NodeTold}
 use Rattle.run_laws.specs.world_law.Owners.{moment}
-use Rattle.run_laws.specs.world_logs.Lines.{HasLines, Texts}
 use Rattle.run_laws.proofs.world_reads.Taking.{Took}
 use Rattle.run_laws.proofs.world_reads.TurnBoth.{AdoptsThere, Both, IsOwed, IsOwedAs}
 use Rattle.run_laws.specs.world_reads.Joint.{k}
+use Rattle.run_laws.specs.world_reads.LoggedRuns.{LoggedRun}
 use Rattle.xfs_base.specs.declared.node.NodeId.{NodeId}
 use Rattle.xfs_base.specs.declared.node.NodeId.TheVariants.{Client, Manager, Cleaner}
 
-module _ (base : Setting) (e : Estate AnyNode) (lines : HasLines base e) (texts : Texts base e lines) (part : ℕ) (first : ℕ → ℕ → Segment) (count : ℕ)
-    (event : Event) (b : Both base e lines texts part first count) where
+module _ (logged : LoggedRun) (part count : ℕ) (event : Event) (b : Both logged part count) where
+  open logged use {estate as e, texts}
+
   abbrev cl : Cluster
-  cl = k base e lines texts part first
+  cl = k logged part
 
   abbrev pub IndexOwed : NodeId → AnyNode → Type 0
   IndexOwed name node = IndexOwes part texts.text b.idx.asked b.idx.net name node (what_of event)
@@ -37,7 +35,7 @@ module _ (base : Setting) (e : Estate AnyNode) (lines : HasLines base e) (texts 
   -- of the cleaner it is said whether an opening that ends has what was in flight, which it has where what was read back has that
   pub record CleanerOwed (node : CleanerNode) : Type 0 where
     pub adopted : Bool
-    pub adopts : AdoptsThere base e lines texts part first count event b Cleaner (any.Cleaner node) adopted
+    pub adopts : AdoptsThere logged part count event b Cleaner (any.Cleaner node) adopted
     pub told : TokensOwed adopted Cleaner (any.Cleaner node)
 
   -- what is owed, whichever node takes the event
@@ -56,7 +54,7 @@ module _ (base : Setting) (e : Estate AnyNode) (lines : HasLines base e) (texts 
 
   module _ (all : AllOwed) where
     by : (name : NodeId) → node_of event ≡ name → (node : AnyNode) → Took (moment e count) event node
-        → IsOwedAs base e lines texts part first count event b name node
+        → IsOwedAs logged part count event b name node
     by (Client c) own (any.Client x) took =
         record { adopted = false; adopts = tt; tokens = all.client_told c x own took; index = all.client_owed c x own took }
     by (Manager j) own (any.Manager x) took =
@@ -66,5 +64,5 @@ module _ (base : Setting) (e : Estate AnyNode) (lines : HasLines base e) (texts 
         record { adopted = told.adopted; adopts = told.adopts; tokens = told.told; index = all.cleaner_owed x own took }
     by name own node took = record { adopted = false; adopts = tt; tokens = tt; index = tt }
 
-    pub is_owed : (node : AnyNode) → Took (moment e count) event node → IsOwed base e lines texts part first count event b node
+    pub is_owed : (node : AnyNode) → Took (moment e count) event node → IsOwed logged part count event b node
     is_owed node took = by (node_of event) refl node took

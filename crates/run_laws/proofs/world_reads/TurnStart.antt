@@ -5,7 +5,6 @@ use Rattle.std.specs.Prelude.{IfSome}
 use Rattle.xfs_base.specs.Limits.{slot_count}
 use Rattle.xfs_base.specs.Logs.{cleaners_number}
 use Rattle.core_world.specs.AnyNode.{any_start, any_step}
-use Rattle.core_world.specs.declared.any_node.AnyNode.{AnyNode}
 use Rattle.index_tie.specs.Filed.{rows_at}
 use Rattle.index_tie.specs.Net as index
 use Rattle.log_flight.specs.Flights.{FlightState}
@@ -24,7 +23,6 @@ use Rattle.segment_format.specs.declared.segment.Segment.{Segment}
 use Rattle.run_laws.specs.segment_tie.Runs.{PacketTellsVersion}
 use Rattle.token_law.specs.Books.{no_books}
 use Rattle.world_base.specs.declared.cluster.Cluster.{Cluster}
-use Rattle.world_base.specs.declared.estate.Estate.{Estate}
 use Rattle.world_base.specs.NextWorld.{first_nodes, start_world}
 use Rattle.world_base.specs.Runs.{IsRun}
 use Rattle.run_laws.proofs.world_index.Start as index_start
@@ -34,7 +32,7 @@ use Rattle.run_laws.proofs.world_law.Start as token_start
 use Rattle.run_laws.specs.world_law.Owners.{moment}
 use Rattle.run_laws.specs.world_lines.Lines.{IsLine}
 use Rattle.run_laws.specs.world_lines.Turns.{LinesBegin}
-use Rattle.run_laws.specs.world_logs.Lines.{HasLines, IsBegun, Texts, setting}
+use Rattle.run_laws.specs.world_logs.Lines.{IsBegun, setting}
 use Rattle.run_laws.specs.world_logs.Roles.{log_by}
 use Rattle.run_laws.specs.world_logs.Roles.Role.{OfCleaner}
 use Rattle.run_laws.proofs.world_reads.AfterOwn.{OwnAfter}
@@ -47,6 +45,7 @@ use Rattle.run_laws.proofs.world_reads.TurnRun.{moment_cluster}
 use Rattle.run_laws.specs.world_reads.Entries.{EntriesStand}
 use Rattle.run_laws.specs.world_reads.Joint.{IsSureUpto, Joint, WritesKind, flew_at, k}
 use Rattle.run_laws.specs.world_reads.Below.{Below}
+use Rattle.run_laws.specs.world_reads.LoggedRuns.{LoggedRun}
 
 -- of a log that has just begun nothing is known to be filed, and nothing was in flight
 module _ (begin : LinesBegin) (first : ℕ → ℕ → Segment) (l : ℕ) (Kind : Segment → Type 0) where
@@ -75,12 +74,13 @@ module _ (begin : LinesBegin) (first : ℕ → ℕ → Segment) (l : ℕ) (Kind 
         kind = subst (λ (o : Option FlightState). IfSome o (λ x. Kind x.segment)) (sym none) tt;
       }
 
-module _ (laws : Below) (base : Setting) (e : Estate AnyNode) (lines : HasLines base e) (texts : Texts base e lines) (part : ℕ)
-    (first : ℕ → ℕ → Segment) (of_eight : part < slot_count) (setup : IsSetup e.script.setup) where
-  abbrev cl : Cluster
-  cl = k base e lines texts part first
+module _ (laws : Below) (logged : LoggedRun) (part : ℕ) (of_eight : part < slot_count) (setup : IsSetup logged.estate.script.setup) where
+  open logged use {base, estate as e, lines, texts, first}
 
-  pub start_both : Both base e lines texts part first 0
+  abbrev cl : Cluster
+  cl = k logged part
+
+  pub start_both : Both logged part 0
   unfolding start_world
   start_both = record {
     tok = token_start.start_scene true laws.tokens.nodes.starts_asking laws.tokens.nodes.first_manager laws.tokens.nodes.cleaner_starts
@@ -100,19 +100,19 @@ module _ (laws : Below) (base : Setting) (e : Estate AnyNode) (lines : HasLines 
       tokens_start = token_start.start_stands true laws.tokens.nodes.starts_asking laws.tokens.nodes.first_manager laws.tokens.nodes.cleaner_starts
           laws.tokens.nodes.begins e.script setup.clients.1 setup.managers.0 part of_eight
 
-  start_logs : LogsKnown base e lines texts part first 0 start_both
+  start_logs : LogsKnown logged part 0 start_both
   unfolding start_both
   start_logs = record {
     all = λ r there keeps. begun_known laws.lines.lines_begin first (log_by r) (WritesKind r) _ _ ((lines r there).stands 0).moment (lines r there).begins;
     none = record { head = λ l free. refl; end = λ l some limit free. refl };
   }
 
-  start_falls : FallsKnown base e lines texts part first 0 start_both
+  start_falls : FallsKnown logged part 0 start_both
   unfolding start_both
-  start_falls c there = fell_serving base e lines texts part first 0 start_both c there _ refl
+  start_falls c there = fell_serving logged part 0 start_both c there _ refl
 
   -- nothing flies, and nothing was sent
-  start_flight : flew_at base e lines texts part first OfCleaner tt 0 ≡ None
+  start_flight : flew_at logged part OfCleaner tt 0 ≡ None
   start_flight =
       let at = ((lines OfCleaner tt).stands 0).moment in
       begun_flight laws.lines.lines_begin first cleaners_number (WritesKind OfCleaner) (setting base e OfCleaner) (log.opening (setting base e OfCleaner)
@@ -121,13 +121,13 @@ module _ (laws : Below) (base : Setting) (e : Estate AnyNode) (lines : HasLines 
       at.run (lines OfCleaner tt).begins
 
   -- no restart has ended yet
-  pub start_sure : IsSureUpto base e lines texts part first 0
+  pub start_sure : IsSureUpto logged part 0
   start_sure r there keeps =
       begun_sure laws.lines.lines_begin first (log_by r) (WritesKind r) (setting base e r) _ _ ((lines r there).stands 0).moment.run (lines r there).begins
 
   module _ (apart : TellsApart base) (run : IsRun any_step any_start e.script e.events e.world)
       (entries : EntriesStand (rows_at (index.opening first).filed) (moment e 0).nodes (moment e 0).sent) where
-    start_known : IsKnown laws base e lines texts part first of_eight apart run (moment_cluster e) 0 start_both
+    start_known : IsKnown laws logged part of_eight apart run (moment_cluster e) 0 start_both
     unfolding start_both
     start_known = record {
       logs = start_logs;
@@ -142,5 +142,5 @@ module _ (laws : Below) (base : Setting) (e : Estate AnyNode) (lines : HasLines 
     unfolding start_world
     nothing_sent = tt
 
-    pub start_joint : Joint base e lines texts part first 0
-    start_joint = joint_of laws base e lines texts part first of_eight apart run (moment_cluster e) 0 start_both start_sure nothing_sent start_known
+    pub start_joint : Joint logged part 0
+    start_joint = joint_of laws logged part of_eight apart run (moment_cluster e) 0 start_both start_sure nothing_sent start_known

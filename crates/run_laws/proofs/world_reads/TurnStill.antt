@@ -10,22 +10,18 @@ use Rattle.cleaner_node.specs.declared.cleaner.Phase.TheVariants as cleaners
 use Rattle.node_logs.specs.client_log_tie.Owner as client_log
 use Rattle.client_node.specs.declared.phase.Phase as clienting
 use Rattle.client_node.specs.declared.phase.Phase.TheVariants as clients
-use Rattle.core_world.specs.declared.any_node.AnyNode.{AnyNode}
 use Rattle.log_law.specs.Events.{Runs}
 use Rattle.log_law.specs.Laws.{Moment}
 use Rattle.log_law.specs.Net.Owner.{Serving}
 use Rattle.log_law.specs.Restarts.{last_flight}
 use Rattle.log_law.specs.Tails.{then_on}
-use Rattle.log_tie.specs.Setting.{Setting}
 use Rattle.node_slots.specs.node_tie.RegistryEvents.{RegistrySound}
-use Rattle.segment_format.specs.declared.segment.Segment.{Segment}
 use Rattle.world_base.specs.declared.cluster.Cluster.{Cluster}
-use Rattle.world_base.specs.declared.estate.Estate.{Estate}
 use Rattle.run_laws.specs.world_index.Standing as index
 use Rattle.run_laws.specs.world_law.Standing as tokens
 use Rattle.run_laws.specs.world_law.Owners.{moment}
 use Rattle.run_laws.specs.world_lines.Lines.{IsSure}
-use Rattle.run_laws.specs.world_logs.Lines.{HasLines, IsLeft, Texts, setting}
+use Rattle.run_laws.specs.world_logs.Lines.{IsLeft, setting}
 use Rattle.run_laws.specs.world_logs.Roles.{Role, log_by, renews}
 use Rattle.run_laws.specs.world_logs.Roles.Role.{OfClient, OfCleaner, OfManager}
 use Rattle.run_laws.proofs.world_reads.After.{AllKnown, KnownAt, left_after, left_flight}
@@ -41,10 +37,13 @@ use Rattle.run_laws.proofs.world_reads.TurnMoment as now
 use Rattle.run_laws.specs.world_reads.Joint.{IsSureUpto, There, WritesKind, flew_at, k}
 use Rattle.xfs_base.proofs.Booleans.{contrary}
 use Rattle.run_laws.specs.world_reads.Below.{Below}
+use Rattle.run_laws.specs.world_reads.LoggedRuns.{LoggedRun}
 
-module _ (base : Setting) (e : Estate AnyNode) (lines : HasLines base e) (texts : Texts base e lines) (part : ℕ) (first : ℕ → ℕ → Segment) (count : ℕ) where
+module _ (logged : LoggedRun) (part count : ℕ) where
+  open logged use {base, estate as e, lines, texts, first}
+
   abbrev cl : Cluster
-  cl = k base e lines texts part first
+  cl = k logged part
 
   -- no node changes, and nothing is sent or done
   pub record Rests : Type 0 where
@@ -53,11 +52,11 @@ module _ (base : Setting) (e : Estate AnyNode) (lines : HasLines base e) (texts 
     pub acts : (moment e (suc count)).acts ≡ (moment e count).acts
 
   -- the small world of each log is left as it was, or its owner was to take the event
-  abbrev pub IsStill : (r : Role) → There base e lines texts part first r → Type 0
+  abbrev pub IsStill : (r : Role) → There logged part r → Type 0
   IsStill r there = IsLeft ((lines r there).scene count).net ((lines r there).scene (suc count)).net ⊎ ServesStraight ((lines r there).goes count)
 
-  module _ (rests : Rests) (b : Both base e lines texts part first count) where
-    abbrev pub rested : Both base e lines texts part first (suc count)
+  module _ (rests : Rests) (b : Both logged part count) where
+    abbrev pub rested : Both logged part (suc count)
     rested = record {
       tok = b.tok;
       tokens_stand = same_moment (λ n s a. tokens.Stands true cl part n s a RegistrySound b.tok) _ (moment e (suc count)).nodes _ (moment e (suc count)).sent _
@@ -69,24 +68,24 @@ module _ (base : Setting) (e : Estate AnyNode) (lines : HasLines base e) (texts 
       entered = b.entered;
     }
 
-    abbrev at : (r : Role) (there : There base e lines texts part first r) → Moment (setting base e r) ((lines r there).scene count).net
+    abbrev at : (r : Role) (there : There logged part r) → Moment (setting base e r) ((lines r there).scene count).net
     at r there = ((lines r there).stands count).moment
 
-    abbrev goes : (r : Role) (there : There base e lines texts part first r) → Runs (setting base e r) ((lines r there).scene count).net
+    abbrev goes : (r : Role) (there : There logged part r) → Runs (setting base e r) ((lines r there).scene count).net
         ((lines r there).scene (suc count)).net
     goes r there = (lines r there).goes count
 
-    abbrev SameFlight : (r : Role) → There base e lines texts part first r → Type 0
+    abbrev SameFlight : (r : Role) → There logged part r → Type 0
     SameFlight r there = last_flight (then_on (at r there).run (goes r there)) ≡ last_flight (at r there).run
 
-    module _ (laws : Below) (stays : (r : Role) (there : There base e lines texts part first r) → renews r ≡ false → IsStill r there) where
+    module _ (laws : Below) (stays : (r : Role) (there : There logged part r) → renews r ≡ false → IsStill r there) where
       -- ---- what was in flight
 
-      client_flight : (c : ℕ) (there : There base e lines texts part first (OfClient c)) → ServesStraight (goes (OfClient c) there)
+      client_flight : (c : ℕ) (there : There logged part (OfClient c)) → ServesStraight (goes (OfClient c) there)
           → SameFlight (OfClient c) there
       client_flight c there straight =
-          by (b.tok.client c).phase (now.client_sees base e lines texts part first count b c there).agrees
-          (now.client_sees base e lines texts part first (suc count) rested c there).agrees
+          by (b.tok.client c).phase (now.client_sees logged part count b c there).agrees
+          (now.client_sees logged part (suc count) rested c there).agrees
         where
           by : (p : clienting.Phase) → client_log.ClientAgrees (setting base e (OfClient c)) c ((lines (OfClient c) there).scene count) p
               → client_log.ClientAgrees (setting base e (OfClient c)) c ((lines (OfClient c) there).scene (suc count)) p → SameFlight (OfClient c) there
@@ -101,8 +100,8 @@ module _ (base : Setting) (e : Estate AnyNode) (lines : HasLines base e) (texts 
 
       cleaner_flight : ServesStraight (goes OfCleaner tt) → SameFlight OfCleaner tt
       cleaner_flight straight =
-          by b.tok.cleaner.phase (now.cleaner_owns base e lines texts part first count b).agrees
-          (now.cleaner_owns base e lines texts part first (suc count) rested).agrees
+          by b.tok.cleaner.phase (now.cleaner_owns logged part count b).agrees
+          (now.cleaner_owns logged part (suc count) rested).agrees
         where
           by : (p : cleaning.Phase) → cleaner_log.CleanerAgrees (setting base e OfCleaner) ((lines OfCleaner tt).scene count) p
               → cleaner_log.CleanerAgrees (setting base e OfCleaner) ((lines OfCleaner tt).scene (suc count)) p → SameFlight OfCleaner tt
@@ -115,34 +114,34 @@ module _ (base : Setting) (e : Estate AnyNode) (lines : HasLines base e) (texts 
               still.away_flight (setting base e OfCleaner) _ _ (at OfCleaner tt) (goes OfCleaner tt) straight
               (cleaner_away part texts.text (setting base e OfCleaner) ((lines OfCleaner tt).scene (suc count)) b.idx.net (cleaners.Opening l o) up tt)
 
-      same_flight : (r : Role) (there : There base e lines texts part first r) → renews r ≡ false → SameFlight r there
-      same_flight (OfClient c) there keeps = ⊎_elim (λ left. left_flight base e lines texts part first laws count (OfClient c) there left)
+      same_flight : (r : Role) (there : There logged part r) → renews r ≡ false → SameFlight r there
+      same_flight (OfClient c) there keeps = ⊎_elim (λ left. left_flight logged part laws count (OfClient c) there left)
           (λ straight. client_flight c there straight) (stays (OfClient c) there keeps)
-      same_flight OfCleaner there keeps = ⊎_elim (λ left. left_flight base e lines texts part first laws count OfCleaner tt left)
+      same_flight OfCleaner there keeps = ⊎_elim (λ left. left_flight logged part laws count OfCleaner tt left)
           (λ straight. cleaner_flight straight) (stays OfCleaner tt keeps)
       same_flight (OfManager j) there keeps = contrary (sym keeps)
 
-      pub flew_still : (r : Role) (there : There base e lines texts part first r) → renews r ≡ false
-          → flew_at base e lines texts part first r there (suc count) ≡ flew_at base e lines texts part first r there count
+      pub flew_still : (r : Role) (there : There logged part r) → renews r ≡ false
+          → flew_at logged part r there (suc count) ≡ flew_at logged part r there count
       flew_still r there keeps =
           ap (λ (m : Moment (setting base e r) ((lines r there).scene (suc count)).net). last_flight m.run) ((lines r there).joined count)
           ∙ same_flight r there keeps
 
       -- ---- what is known of logs
 
-      module _ (sure : IsSureUpto base e lines texts part first (suc count))
-          (known : LogsKnown base e lines texts part first count b) where
-        left : (r : Role) (there : There base e lines texts part first r) → renews r ≡ false
+      module _ (sure : IsSureUpto logged part (suc count))
+          (known : LogsKnown logged part count b) where
+        left : (r : Role) (there : There logged part r) → renews r ≡ false
             → IsLeft ((lines r there).scene count).net ((lines r there).scene (suc count)).net
-            → KnownAt base e lines texts part first (suc count) b.tok.net.books b.idx.net.filed r there
+            → KnownAt logged part (suc count) b.tok.net.books b.idx.net.filed r there
         left r there keeps fact =
-            left_after base e lines texts part first laws count b.tok.net.books b.tok.net.books b.idx.net.filed b.idx.net.filed r there fact
+            left_after logged part laws count b.tok.net.books b.tok.net.books b.idx.net.filed b.idx.net.filed r there fact
             (same_log b.tok.net.books (log_by r)) (same_filing b.idx.net.filed (log_by r)) (known.all r there keeps)
 
-        own : (r : Role) (there : There base e lines texts part first r) → renews r ≡ false → ServesStraight (goes r there)
+        own : (r : Role) (there : There logged part r) → renews r ≡ false → ServesStraight (goes r there)
             → IsSure texts.text (log_by r) (setting base e r) ((lines r there).scene (suc count)).net
             → ((s : LogState) → ((lines r there).scene (suc count)).net.owner ≡ Serving s → s.end.seq ≡ b.idx.net.filed.head (log_by r))
-            → KnownAt base e lines texts part first (suc count) b.tok.net.books b.idx.net.filed r there
+            → KnownAt logged part (suc count) b.tok.net.books b.idx.net.filed r there
         own r there keeps straight is_sure end =
             let its = known.all r there keeps in
             subst (λ (m : Moment (setting base e r) ((lines r there).scene (suc count)).net). OwnAfter (WritesKind r) (log_by r) m b.tok.net.books
@@ -153,21 +152,21 @@ module _ (base : Setting) (e : Estate AnyNode) (lines : HasLines base e) (texts 
               kind = subst (λ (y : Option FlightState). IfSome y (λ x. WritesKind r x.segment)) (sym (same_flight r there keeps)) its.kind;
             })
 
-        all_still : AllKnown base e lines texts part first (suc count) b.tok.net.books b.idx.net.filed
+        all_still : AllKnown logged part (suc count) b.tok.net.books b.idx.net.filed
         all_still (OfClient c) there keeps = ⊎_elim (λ fact. left (OfClient c) there keeps fact)
             (λ straight. own (OfClient c) there keeps straight
-            (now.client_sure base e lines texts part first (suc count) rested c there sure)
+            (now.client_sure logged part (suc count) rested c there sure)
             (client_end part texts.text (setting base e (OfClient c)) c ((lines (OfClient c) there).scene (suc count)) b.idx.net (b.tok.client c).phase
-            (now.client_sees base e lines texts part first (suc count) rested c there).agrees
-            (now.client_indexed base e lines texts part first (suc count) rested c there)))
+            (now.client_sees logged part (suc count) rested c there).agrees
+            (now.client_indexed logged part (suc count) rested c there)))
             (stays (OfClient c) there keeps)
         all_still OfCleaner there keeps = ⊎_elim (λ fact. left OfCleaner tt keeps fact)
-            (λ straight. own OfCleaner tt keeps straight (sure_at base e lines texts part first (suc count) sure)
+            (λ straight. own OfCleaner tt keeps straight (sure_at logged part (suc count) sure)
             (cleaner_end part texts.text (setting base e OfCleaner) ((lines OfCleaner tt).scene (suc count)) b.idx.net b.tok.cleaner.phase
-            (now.cleaner_owns base e lines texts part first (suc count) rested).agrees
-            (now.cleaner_indexed base e lines texts part first (suc count) rested).phase))
+            (now.cleaner_owns logged part (suc count) rested).agrees
+            (now.cleaner_indexed logged part (suc count) rested).phase))
             (stays OfCleaner tt keeps)
         all_still (OfManager j) there keeps = contrary (sym keeps)
 
-        pub known_still : LogsKnown base e lines texts part first (suc count) rested
+        pub known_still : LogsKnown logged part (suc count) rested
         known_still = record { all = all_still; none = known.none }

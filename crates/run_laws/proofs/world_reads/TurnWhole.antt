@@ -9,14 +9,11 @@ use Rattle.node_tellings.specs.entry_tie.Told.{AreMore}
 use Rattle.index_tie.specs.Filed.{Filed, rows_at}
 use Rattle.index_tie.specs.Growth.{IsMore}
 use Rattle.index_tie.specs.Net as index
-use Rattle.log_tie.specs.Setting.{Setting}
 use Rattle.manager_node.specs.declared.manager.Manager.{Manager as ManagerNode}
 use Rattle.node_base.specs.Setups.{IsSetup}
 use Rattle.run_laws.specs.reopening_law.Reopens.{TellsApart}
-use Rattle.segment_format.specs.declared.segment.Segment.{Segment}
 use Rattle.token_protocol.specs.Basics.{In}
 use Rattle.wire_msg.specs.declared.packet.Packet.{Packet}
-use Rattle.world_base.specs.declared.estate.Estate.{Estate}
 use Rattle.world_base.specs.declared.event.Event.{Event}
 use Rattle.world_base.specs.declared.world.World.{World}
 use Rattle.world_base.specs.Events.{node_of, what_of}
@@ -27,7 +24,6 @@ use Rattle.run_laws.specs.world_index.Owes.{DoReads}
 use Rattle.run_laws.specs.world_law.Standing.{epoch_now}
 use Rattle.run_laws.specs.world_law.Owners.{moment}
 use Rattle.run_laws.specs.world_lines.Lines.{IsLine}
-use Rattle.run_laws.specs.world_logs.Lines.{HasLines, Texts}
 use Rattle.run_laws.specs.world_logs.Roles.{Role, log_by, renews}
 use Rattle.run_laws.proofs.world_reads.CleanerMoment.{upto_before}
 use Rattle.run_laws.proofs.world_reads.EntriesNames.{names_begin, names_rise}
@@ -55,14 +51,17 @@ use Rattle.run_laws.specs.world_reads.References.{ReferencesStand}
 use Rattle.xfs_base.specs.declared.node.NodeId.TheVariants.{Manager}
 use Rattle.xfs_base.specs.Limits.{slot_count}
 use Rattle.run_laws.specs.world_reads.Below.{Below}
+use Rattle.run_laws.specs.world_reads.LoggedRuns.{LoggedRun}
 
-module _ (laws : Below) (base : Setting) (e : Estate AnyNode) (lines : HasLines base e) (texts : Texts base e lines) (first : ℕ → ℕ → Segment)
-    (apart : TellsApart base) (setup : IsSetup e.script.setup) (run : IsRun any_step any_start e.script e.events e.world) where
+module _ (laws : Below) (logged : LoggedRun) (apart : TellsApart logged.base) (setup : IsSetup logged.estate.script.setup)
+    (run : IsRun any_step any_start logged.estate.script logged.estate.events logged.estate.world) where
+  open logged use {base, estate as e, lines, texts, first}
+
   abbrev Sure : ℕ → Type 0
-  Sure count = IsSure laws base e lines texts first count
+  Sure count = IsSure laws logged count
 
   abbrev All : ℕ → Type 0
-  All count = Joints laws base e lines texts first count
+  All count = Joints laws logged count
 
   -- what is named as a part of a checkpoint is a segment of a manager's log, which tells what these filed segments say
   abbrev Named : ℕ → Filed → Type 0
@@ -71,49 +70,49 @@ module _ (laws : Below) (base : Setting) (e : Estate AnyNode) (lines : HasLines 
   -- a moment that stands to all small worlds
   pub record Whole (count : ℕ) : Type 0 where
     pub joints : All count
-    pub references : (part : ℕ) → part < slot_count → ReferencesStand base e lines texts part first count
+    pub references : (part : ℕ) → part < slot_count → ReferencesStand logged part count
     pub named : (part : ℕ) (of_eight : part < slot_count) → Named count (joints part of_eight).idx.net.filed
-    pub comes : (part : ℕ) (of_eight : part < slot_count) → Comes base e lines texts part first count (joints part of_eight)
+    pub comes : (part : ℕ) (of_eight : part < slot_count) → Comes logged part count (joints part of_eight)
 
   -- ---- an event
 
   module _ (count : ℕ) (whole : Whole count) (sure : Sure (suc count)) (event : Event) (at : slice_get e.events count ≡ Some event)
       (may : MayHappen (moment e count) event) where
-    abbrev joint : (part : ℕ) → part < slot_count → Joint base e lines texts part first count
+    abbrev joint : (part : ℕ) → part < slot_count → Joint logged part count
     joint part of_eight = whole.joints part of_eight
 
-    abbrev comes : (part : ℕ) (of_eight : part < slot_count) → Coming base e lines texts part first count event
+    abbrev comes : (part : ℕ) (of_eight : part < slot_count) → Coming logged part count event
     comes part of_eight = record { cluster = moment_cluster e count; may = may; joint = whole.joints part of_eight }
 
     module _ (part : ℕ) (of_eight : part < slot_count) where
       manager : (j : ℕ) (node : ManagerNode) → node_of event ≡ Manager j → Took (moment e count) event (any.Manager node)
-          → ManagerOwes base e lines texts part first count laws of_eight event at (comes part of_eight)
+          → ManagerOwes logged part count laws of_eight event at (comes part of_eight)
           (laws.reads.runs_read_what_came e setup run count) (whole.references part of_eight) node
       manager j node own took =
-          manager_owes base e lines texts part first count laws of_eight event at (comes part of_eight)
+          manager_owes logged part count laws of_eight event at (comes part of_eight)
           (laws.reads.runs_read_what_came e setup run count) (whole.references part of_eight) j node own took
 
       manager_owed : (j : ℕ) (node : ManagerNode) → node_of event ≡ Manager j → Took (moment e count) event (any.Manager node)
-          → IndexOwed base e lines texts part first count event (both_of base e lines texts part first count (joint part of_eight)) (Manager j)
+          → IndexOwed logged part count event (both_of logged part count (joint part of_eight)) (Manager j)
           (any.Manager node)
       manager_owed j node own took =
-          subst (λ name. IndexOwed base e lines texts part first count event (both_of base e lines texts part first count (joint part of_eight)) name
+          subst (λ name. IndexOwed logged part count event (both_of logged part count (joint part of_eight)) name
           (any.Manager node)) own (manager j node own took).index
 
-      owed : AllOwed base e lines texts part first count event (both_of base e lines texts part first count (joint part of_eight))
+      owed : AllOwed logged part count event (both_of logged part count (joint part of_eight))
       owed = record {
-        client_owed = λ c node own took. client.client_owed laws base e lines texts part first of_eight apart setup run count (joint part of_eight) sure
+        client_owed = λ c node own took. client.client_owed laws logged part of_eight apart setup run count (joint part of_eight) sure
             event at may c node own took;
-        client_told = λ c node own took. client.client_told laws base e lines texts part first of_eight apart setup run count (joint part of_eight) sure
+        client_told = λ c node own took. client.client_told laws logged part of_eight apart setup run count (joint part of_eight) sure
             event at may c node own took false;
         manager_owed = manager_owed;
         manager_told = λ j node own took.
-            subst (λ name. TokensOwed base e lines texts part first count event (both_of base e lines texts part first count (joint part of_eight)) false name
+            subst (λ name. TokensOwed logged part count event (both_of logged part count (joint part of_eight)) false name
             (any.Manager node)) own
-            ((manager j node own took).turn false (epoch_now (k base e lines texts part first) part (joint part of_eight).tok));
-        cleaner_owed = λ node own took. cleaner.cleaner_owed laws base e lines texts part first of_eight apart setup run count
+            ((manager j node own took).turn false (epoch_now (k logged part) part (joint part of_eight).tok));
+        cleaner_owed = λ node own took. cleaner.cleaner_owed laws logged part of_eight apart setup run count
             (joint part of_eight) sure event at node own took;
-        cleaner_told = λ node own took. cleaner.cleaner_told laws base e lines texts part first of_eight apart setup run count
+        cleaner_told = λ node own took. cleaner.cleaner_told laws logged part of_eight apart setup run count
             (joint part of_eight) sure event at node own took;
       }
 
@@ -126,9 +125,9 @@ module _ (laws : Below) (base : Setting) (e : Estate AnyNode) (lines : HasLines 
 
     -- where so much is filed then
     entry : (part : ℕ) (of_eight : part < slot_count) (h : Filed) → IsMore (joint part of_eight).idx.net.filed h
-        → ((r : Role) (there : There base e lines texts part first r) → renews r ≡ false
-        → IsLine (log_by r) (log_at base e lines texts part first r there (suc count)) h)
-        → ((p : Packet) → In p (moment e (suc count)).sent → IsKind p) → EntryEvent base e lines texts part first count event h
+        → ((r : Role) (there : There logged part r) → renews r ≡ false
+        → IsLine (log_by r) (log_at logged part r there (suc count)) h)
+        → ((p : Packet) → In p (moment e (suc count)).sent → IsKind p) → EntryEvent logged part count event h
     entry part of_eight h more lined kinds = record {
       of_map = of_eight;
       happens = at;
@@ -143,41 +142,41 @@ module _ (laws : Below) (base : Setting) (e : Estate AnyNode) (lines : HasLines 
     }
 
     tells : (part : ℕ) (of_eight : part < slot_count) (node : AnyNode) (took : Took (moment e count) event node)
-        → (turned : Turned base e lines texts part first count event (both_of base e lines texts part first count (joint part of_eight)) node
-        (is_owed base e lines texts part first count event (both_of base e lines texts part first count (joint part of_eight)) (owed part of_eight) node took))
-        → LogsKnown base e lines texts part first (suc count) turned.then
+        → (turned : Turned logged part count event (both_of logged part count (joint part of_eight)) node
+        (is_owed logged part count event (both_of logged part count (joint part of_eight)) (owed part of_eight) node took))
+        → LogsKnown logged part (suc count) turned.then
         → EntriesStand (rows_at turned.then.idx.net.filed) (moment e (suc count)).nodes (moment e (suc count)).sent
     tells part of_eight node took turned logs =
-        entries_then base e lines texts part first count laws event turned.then.idx.net.filed
+        entries_then logged part count laws event turned.then.idx.net.filed
         (entry part of_eight turned.then.idx.net.filed turned.grown.filed (λ r there keeps. (logs.all r there keeps).known.line)
-        (λ p among. kinds_of_tokens (k base e lines texts part first) part turned.then.tok p (turned.then.tokens_stand.facts p among)))
+        (λ p among. kinds_of_tokens (k logged part) part turned.then.tok p (turned.then.tokens_stand.facts p among)))
 
     -- each event gets what it is owed
     pub step : (part : ℕ) (of_eight : part < slot_count)
-        → StepIsOwed laws base e lines texts part first of_eight apart run count (joint part of_eight) sure event at may
+        → StepIsOwed laws logged part of_eight apart run count (joint part of_eight) sure event at may
     step part of_eight = record { owed = owed part of_eight; tells = tells part of_eight }
 
     -- what is named then, and what is referred to
-    named_so : (part : ℕ) (of_eight : part < slot_count) (next : Grows base e lines texts part first count (joint part of_eight))
+    named_so : (part : ℕ) (of_eight : part < slot_count) (next : Grows logged part count (joint part of_eight))
         → Named (suc count) next.joint.idx.net.filed
     named_so part of_eight next =
-        named_then base e lines texts part first count laws event next.joint.idx.net.filed
+        named_then logged part count laws event next.joint.idx.net.filed
         (entry part of_eight next.joint.idx.net.filed next.more next.joint.lined
-        (λ p among. kinds_of_tokens (k base e lines texts part first) part next.joint.tok p (next.joint.tokens_stand.facts p among)))
+        (λ p among. kinds_of_tokens (k logged part) part next.joint.tok p (next.joint.tokens_stand.facts p among)))
 
-    references_so : (part : ℕ) → part < slot_count → ReferencesStand base e lines texts part first (suc count)
+    references_so : (part : ℕ) → part < slot_count → ReferencesStand logged part (suc count)
     references_so part of_eight =
-        references_go_on base e lines texts part first count laws (joint part of_eight) (upto_before base e lines texts part first count sure) event
+        references_go_on logged part count laws (joint part of_eight) (upto_before logged part count sure) event
         at (comes part of_eight) (whole.references part of_eight)
 
   -- ---- the next moment
 
   module _ (count : ℕ) (whole : Whole count) (sure : Sure (suc count)) where
-    steps : Steps laws base e lines texts first apart run count whole.joints sure
+    steps : Steps laws logged apart run count whole.joints sure
     steps part of_eight event at may = step count whole sure event at may part of_eight
 
-    next : (part : ℕ) (of_eight : part < slot_count) → Grows base e lines texts part first count (whole.joints part of_eight)
-    next = next_all laws base e lines texts first apart run count whole.joints sure steps
+    next : (part : ℕ) (of_eight : part < slot_count) → Grows logged part count (whole.joints part of_eight)
+    next = next_all laws logged apart run count whole.joints sure steps
 
     same_end : slice_get e.events count ≡ None → moment e (suc count) ≡ moment e count
     same_end none = ap (fold (next_world any_step) (start_world any_start e.script)) (past_end e.events count none)
@@ -200,13 +199,13 @@ module _ (laws : Below) (base : Setting) (e : Estate AnyNode) (lines : HasLines 
         by (Some event) at =
             named_so count whole sure event at (may_at e.events count event (start_world any_start e.script) e.world run at) part of_eight (next part of_eight)
 
-    references_next : (part : ℕ) → part < slot_count → ReferencesStand base e lines texts part first (suc count)
+    references_next : (part : ℕ) → part < slot_count → ReferencesStand logged part (suc count)
     references_next part of_eight = by (slice_get e.events count) refl
       where
-        by : (o : Option Event) → slice_get e.events count ≡ o → ReferencesStand base e lines texts part first (suc count)
+        by : (o : Option Event) → slice_get e.events count ≡ o → ReferencesStand logged part (suc count)
         by None none =
-            references_stay base e lines texts part first count laws (whole.joints part of_eight)
-            (upto_before base e lines texts part first count sure) (same_end none) (whole.references part of_eight)
+            references_stay logged part count laws (whole.joints part of_eight)
+            (upto_before logged part count sure) (same_end none) (whole.references part of_eight)
         by (Some event) at =
             references_so count whole sure event at (may_at e.events count event (start_world any_start e.script) e.world run at) part of_eight
 
@@ -222,9 +221,9 @@ module _ (laws : Below) (base : Setting) (e : Estate AnyNode) (lines : HasLines 
 
   whole_begins : Whole 0
   whole_begins = record {
-    joints = λ part of_eight. start_joint laws base e lines texts part first of_eight setup apart run
+    joints = λ part of_eight. start_joint laws logged part of_eight setup apart run
         (entries_begin laws.reads.kinds (rows_at (index.opening first).filed) e);
-    references = λ part of_eight. references_begin base e lines texts part first;
+    references = λ part of_eight. references_begin logged part;
     named = λ part of_eight. names_begin _ e;
     comes = λ part of_eight. tt;
   }
@@ -232,4 +231,4 @@ module _ (laws : Below) (base : Setting) (e : Estate AnyNode) (lines : HasLines 
   -- up to which no restart that ended was doubtful
   pub whole_at : (count : ℕ) → Sure count → Whole count
   whole_at zero sure = whole_begins
-  whole_at (suc count) sure = whole_next count (whole_at count (upto_before base e lines texts 0 first count sure)) sure
+  whole_at (suc count) sure = whole_next count (whole_at count (upto_before logged 0 count sure)) sure

@@ -1,18 +1,15 @@
 -- How the moments of a run follow each other in the small worlds of tokens and of the index of one slot, while no restart that ended was doubtful.
 use Rattle.std.specs.Prelude.{◌≡◌, ◌<◌, ◌≤◌, ℕ, zero, suc, None, Some}
-use Rattle.core_world.specs.declared.any_node.AnyNode.{AnyNode}
 use Rattle.index_tie.specs.Net.{Net}
-use Rattle.log_tie.specs.Setting.{Setting}
 use Rattle.node_slots.specs.node_tie.ManagerEvents.{ManagedAt, slot_in}
-use Rattle.segment_format.specs.declared.segment.Segment.{Segment}
 use Rattle.token_manager.specs.SlotState.{SlotState}
 use Rattle.world_base.specs.declared.cluster.Cluster.{Cluster}
-use Rattle.world_base.specs.declared.estate.Estate.{Estate}
 use Rattle.run_laws.specs.world_index.Growth.{Grown}
 use Rattle.run_laws.specs.world_law.Standing as tokens
 use Rattle.run_laws.specs.world_law.Since.{Since}
-use Rattle.run_laws.specs.world_logs.Lines.{HasLines, Texts, cluster}
+use Rattle.run_laws.specs.world_logs.Lines.{cluster}
 use Rattle.run_laws.specs.world_reads.Joint.{Joint}
+use Rattle.run_laws.specs.world_reads.LoggedRuns.{LoggedRun}
 
 module _ (k : Cluster) (part : ℕ) where
   -- a manager manages the slot at this epoch
@@ -29,9 +26,9 @@ module _ (k : Cluster) (part : ℕ) where
     pub came : (epoch : ℕ) (z : SlotState) → m.slots epoch ≡ Some z → n.slots epoch ≡ None → IsManaged u epoch
 
 -- A moment that stands to all small worlds comes of the start: each moment up to it stands so, and follows the one before it.
-abbrev pub Comes : (base : Setting) (e : Estate AnyNode) (lines : HasLines base e) (texts : Texts base e lines) (part : ℕ) (first : ℕ → ℕ → Segment)
-    → (count : ℕ) → Joint base e lines texts part first count → Type 0
-Comes base e lines texts part first zero joint = Unit {0}
-Comes base e lines texts part first (suc count) joint =
-    (before : Joint base e lines texts part first count) × Comes base e lines texts part first count before
-    × Follows (cluster base e) part before.tok before.idx.net joint.tok joint.idx.net
+abbrev pub Comes : (logged : LoggedRun) (part : ℕ)
+    → (count : ℕ) → Joint logged part count → Type 0
+Comes logged part zero joint = Unit {0}
+Comes logged part (suc count) joint =
+    (before : Joint logged part count) × Comes logged part count before
+    × Follows (cluster logged.base logged.estate) part before.tok before.idx.net joint.tok joint.idx.net

@@ -1,13 +1,11 @@
 -- How a moment of a run stands to the small worlds of tokens and of the index of one slot, and to those of all logs, while no restart that ended was doubtful.
 use Rattle.std.specs.Prelude.{◌≡◌, ℕ, ◌≤◌, ◌<◌, Option, None, IfSome, true, false}
 use Rattle.std.specs.List.{AllByRecursion}
-use Rattle.core_world.specs.declared.any_node.AnyNode.{AnyNode}
 use Rattle.run_laws.specs.index_reads.Ties.{BooksAre}
 use Rattle.index_tie.specs.Filed.{Filed, rows_at}
 use Rattle.log_flight.specs.Flights.{FlightState}
 use Rattle.log_law.specs.Net.{Net as LogNet}
 use Rattle.log_law.specs.Restarts.{IsSureRun, last_flight}
-use Rattle.log_tie.specs.Setting.{Setting}
 use Rattle.node_slots.specs.node_tie.RegistryEvents.{RegistrySound}
 use Rattle.node_slots.specs.owner_index_tie.CleanerMoves.{ItemMoves}
 use Rattle.run_laws.specs.reopening_law.Falls.{FallKnown}
@@ -19,7 +17,6 @@ use Rattle.run_laws.specs.segment_tie.Segments.{IsCopies, IsOriginal, TellsOnce}
 use Rattle.token_protocol.specs.Basics.{In}
 use Rattle.version_model.specs.declared.act.Act.TheVariants as act
 use Rattle.world_base.specs.declared.cluster.Cluster.{Cluster}
-use Rattle.world_base.specs.declared.estate.Estate.{Estate}
 use Rattle.run_laws.specs.world_index.Growth.{Entered}
 use Rattle.run_laws.specs.world_index.Standing as index
 use Rattle.run_laws.specs.world_law.Standing as tokens
@@ -27,10 +24,11 @@ use Rattle.run_laws.specs.world_law.Owners.{moment}
 use Rattle.run_laws.specs.world_lines.Lines.{IsLine}
 use Rattle.run_laws.specs.world_lines.Polls.{ClientLinked, CleanerLinked}
 use Rattle.run_laws.specs.world_logs.Doings.{did}
-use Rattle.run_laws.specs.world_logs.Lines.{HasLines, Texts, cluster}
+use Rattle.run_laws.specs.world_logs.Lines.{cluster}
 use Rattle.run_laws.specs.world_logs.Roles.{IsThere, Role, log_by, renews}
 use Rattle.run_laws.specs.world_logs.Roles.Role.{OfClient, OfCleaner, OfManager}
 use Rattle.run_laws.specs.world_reads.Entries.{EntriesStand}
+use Rattle.run_laws.specs.world_reads.LoggedRuns.{LoggedRun}
 
 -- what an owner of a log writes is of its kind; of managers' logs nothing is said here
 abbrev pub WritesKind : Role → Segment → Type 0
@@ -38,7 +36,9 @@ WritesKind (OfClient c) s = IsOriginal s
 WritesKind OfCleaner s = IsCopies s
 WritesKind (OfManager j) s = Unit {0}
 
-module _ (base : Setting) (e : Estate AnyNode) (lines : HasLines base e) (texts : Texts base e lines) (part : ℕ) (first : ℕ → ℕ → Segment) where
+module _ (logged : LoggedRun) (part : ℕ) where
+  open logged use {base, estate as e, lines, texts, first}
+
   abbrev pub k : Cluster
   k = cluster base e
 

@@ -10,7 +10,6 @@ use Rattle.node_base.specs.Setups.{IsSetup}
 use Rattle.run_laws.specs.reopening_law.Reopens.{TellsApart}
 use Rattle.run_laws.specs.restart_law.Restarts.{NoDoubtfulRestart}
 use Rattle.run_laws.specs.segment_tie.Settings.{TellingSetting}
-use Rattle.segment_format.specs.declared.segment.Segment.{Segment}
 use Rattle.world_base.specs.declared.estate.Estate.{Estate}
 use Rattle.world_base.specs.Runs.{IsRun}
 use Rattle.run_laws.specs.world_law.Owners.{moment}
@@ -18,20 +17,17 @@ use Rattle.run_laws.specs.world_logs.Lines.{HasLines, LinesHaveTexts, RunsHaveLi
 use Rattle.run_laws.specs.world_reads.Chains.{Comes}
 use Rattle.run_laws.specs.world_reads.Entries.{PartKnown, PartsNamed}
 use Rattle.run_laws.specs.world_reads.Joint.{Joint}
+use Rattle.run_laws.specs.world_reads.LoggedRuns.{logged_run}
 use Rattle.run_laws.specs.world_reads.References.{ReferencesStand}
 
--- what the index begins with under each name is the text of that
-abbrev pub first_of : (base : Setting) (e : Estate AnyNode) (lines : HasLines base e) → Texts base e lines → ℕ → ℕ → Segment
-first_of base e lines texts l q = texts.text (record { log = record { 0 = l }; seq = q; pass = record { inc = 0; att = 0 } })
-
 pub record MomentStands (base : Setting) (e : Estate AnyNode) (lines : HasLines base e) (texts : Texts base e lines) (count : ℕ) : Type 0 where
-  pub joints : (part : ℕ) → part < slot_count → Joint base e lines texts part (first_of base e lines texts) count
-  pub references : (part : ℕ) → part < slot_count → ReferencesStand base e lines texts part (first_of base e lines texts) count
+  pub joints : (part : ℕ) → part < slot_count → Joint (logged_run base e lines texts) part count
+  pub references : (part : ℕ) → part < slot_count → ReferencesStand (logged_run base e lines texts) part count
   -- what is named as a part of a checkpoint is a segment of a manager's log, which the manager acted to be filed
   pub named : (part : ℕ) (of_eight : part < slot_count)
       → PartsNamed (PartKnown base e lines count (rows_at (joints part of_eight).idx.net.filed)) (moment e count).nodes (moment e count).sent
   -- and the moment comes of the start
-  pub comes : (part : ℕ) (of_eight : part < slot_count) → Comes base e lines texts part (first_of base e lines texts) count (joints part of_eight)
+  pub comes : (part : ℕ) (of_eight : part < slot_count) → Comes (logged_run base e lines texts) part count (joints part of_eight)
 
 -- So each moment does, for any lines of the run's logs and the one text that each name has there.
 abbrev pub EveryMomentStands : Type 0

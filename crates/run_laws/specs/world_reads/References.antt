@@ -4,18 +4,16 @@ use Rattle.std.specs.Prelude.{◌≡◌, ◌⊎◌, ℕ, List}
 use Rattle.core_world.specs.declared.any_node.AnyNode.{AnyNode}
 use Rattle.core_world.specs.declared.any_node.AnyNode.TheVariants as any
 use Rattle.log_protocol.specs.Tables as tables
-use Rattle.log_tie.specs.Setting.{Setting}
 use Rattle.node_tellings.specs.reference_tie.Managers.{ManagerRefers}
 use Rattle.node_tellings.specs.reference_tie.References.{PacketRefers, References}
 use Rattle.node_tellings.specs.reference_tie.Registries.{RegistryRefers}
 use Rattle.segment_format.specs.declared.segment.Segment.{Segment}
 use Rattle.token_protocol.specs.Basics.{In}
 use Rattle.wire_msg.specs.declared.packet.Packet.{Packet}
-use Rattle.world_base.specs.declared.estate.Estate.{Estate}
 use Rattle.run_laws.specs.world_law.Owners.{moment}
-use Rattle.run_laws.specs.world_logs.Lines.{HasLines, Texts}
 use Rattle.run_laws.specs.world_logs.Roles.{Role, log_by}
 use Rattle.run_laws.specs.world_reads.Joint.{There, log_at}
+use Rattle.run_laws.specs.world_reads.LoggedRuns.{LoggedRun}
 use Rattle.xfs_base.specs.declared.node.NodeId.{NodeId}
 use Rattle.xfs_base.specs.declared.node.NodeId.TheVariants.{Client, Manager, Server, Cleaner, Registry}
 use Rattle.xfs_base.specs.declared.segment.End.{End}
@@ -36,19 +34,21 @@ pub record AllRefer (r : References) (nodes : List AnyNode) (sent : List Packet)
   pub each_node : (node : AnyNode) → In node nodes → AnyRefers r node
   pub each_packet : (p : Packet) → In p sent → PacketRefers r p
 
-module _ (base : Setting) (e : Estate AnyNode) (lines : HasLines base e) (texts : Texts base e lines) (part : ℕ) (first : ℕ → ℕ → Segment) where
+module _ (logged : LoggedRun) (part : ℕ) where
+  open logged use {estate as e}
+
   module _ (count : ℕ) where
     -- the segment of this name is of a log of the run
     pub record OfSomeLog (name : SegName) : Type 0 where
       pub role : Role
-      pub there : There base e lines texts part first role
+      pub there : There logged part role
       pub own : name.log ≡ record { 0 = log_by role }
 
     -- What is referred to flew in its log, with its group.
     pub record Flew (seg : SegRef) : Type 0 where
       pub of : OfSomeLog seg.name
       pub segment : Segment
-      pub among : tables.In segment (log_at base e lines texts part first of.role of.there count).flown
+      pub among : tables.In segment (log_at logged part of.role of.there count).flown
       pub named : seg.name ≡ segment.name
       pub grouped : seg.group ≡ segment.group
 

@@ -8,7 +8,8 @@ use Rattle.run_losses.specs.missing_law.Stored.{IsStoredAs}
 use Rattle.run_losses.specs.source_law.Sources.{WasFiled}
 use Rattle.run_laws.specs.world_law.Owners.{moment}
 use Rattle.run_laws.specs.world_logs.Logs.{NotDeleted}
-use Rattle.run_laws.specs.world_reads.Moments.{EveryRunStands, first_of}
+use Rattle.run_laws.specs.world_reads.LoggedRuns.{logged_run}
+use Rattle.run_laws.specs.world_reads.Moments.{EveryRunStands}
 use Rattle.xfs_base.specs.declared.segment.SegRef.{SegRef}
 use Rattle.xfs_base.specs.Limits.{slot_count}
 
@@ -28,7 +29,7 @@ calls_read_what_was_filed below e ok run count none c some limit item segment x 
     let stands = below.runs.moments base below.runs.setting.1 e ok run lines texts count none in
     let block = below.blocks e ok run c some limit count x.reading x.reads in
     subst (λ (ref : SegRef). WasFiled e count ref.name) x.of
-    (was_filed base e run lines texts (first_of base e lines texts) count (stands.joints 0 some_slot) c x.reading x.reads block.0 block.1)
+    (was_filed (logged_run base e lines texts) run count (stands.joints 0 some_slot) c x.reading x.reads block.0 block.1)
 
 pub calls_read_what_is_stored : Below → CallsReadWhatIsStored
 calls_read_what_is_stored below e ok run count none c some limit item segment x kept =
@@ -38,4 +39,4 @@ calls_read_what_is_stored below e ok run count none c some limit item segment x 
     let stands = below.runs.moments base below.runs.setting.1 e ok run lines texts count none in
     let block = below.blocks e ok run c some limit count x.reading x.reads in
     subst (λ (ref : SegRef). NotDeleted (moment e count) ref.name → IsStoredAs e count ref) x.of
-    (is_stored base e run lines texts (first_of base e lines texts) count (stands.joints 0 some_slot) c x.reading x.reads block.0 block.1 below.stored) kept
+    (is_stored (logged_run base e lines texts) run count (stands.joints 0 some_slot) c x.reading x.reads block.0 block.1 below.stored) kept

@@ -15,7 +15,6 @@ use Rattle.run_losses.specs.fetching_law.Fetchings.{serving_in, serving_of, what
 use Rattle.run_laws.specs.index_reads.Ties.{ArePlain}
 use Rattle.index_tie.specs.Filed.{Filed, rows_at}
 use Rattle.log_protocol.specs.Tables as tables
-use Rattle.log_tie.specs.Setting.{Setting}
 use Rattle.loss_law.specs.Losses.{ref_of}
 use Rattle.run_losses.proofs.missing_law.Servers.{StoredLaws, flown_is_stored}
 use Rattle.run_losses.specs.missing_law.Stored.{IsStoredAs}
@@ -27,16 +26,15 @@ use Rattle.run_losses.specs.source_law.Sources.{WasFiled}
 use Rattle.token_protocol.specs.Basics.{In}
 use Rattle.version_model.specs.declared.act.Act.TheVariants as act
 use Rattle.world_base.specs.Cluster.{place_of}
-use Rattle.world_base.specs.declared.estate.Estate.{Estate}
 use Rattle.world_base.specs.Runs.{IsRun}
 use Rattle.run_laws.proofs.world_law.Sent.{in_list}
 use Rattle.run_laws.specs.world_law.Owners.{moment, node_in, node_named}
 use Rattle.run_laws.specs.world_logs.Doings.{did}
-use Rattle.run_laws.specs.world_logs.Lines.{HasLines, Texts}
 use Rattle.run_laws.specs.world_logs.Logs.{NotDeleted}
 use Rattle.run_laws.specs.world_logs.Roles.{log_by}
 use Rattle.run_laws.proofs.world_reads.KnownLogs.{HasLog, filed_known, filed_log}
 use Rattle.run_laws.specs.world_reads.Joint.{Joint}
+use Rattle.run_laws.specs.world_reads.LoggedRuns.{LoggedRun}
 use Rattle.xfs_base.specs.declared.entry.Entry.{Entry}
 use Rattle.xfs_base.specs.declared.entry.Place.{Place}
 use Rattle.xfs_base.specs.declared.node.NodeId.TheVariants.{Client}
@@ -65,9 +63,11 @@ is_reading (Some (any.Server node)) r fact = absurd (let clash : None ≡ Some r
 is_reading (Some (any.Cleaner node)) r fact = absurd (let clash : None ≡ Some r = fact in cc)
 is_reading (Some (any.Registry node)) r fact = absurd (let clash : None ≡ Some r = fact in cc)
 
-module _ (base : Setting) (e : Estate AnyNode) (run : IsRun any_step any_start e.script e.events e.world) (lines : HasLines base e)
-    (texts : Texts base e lines) (first : ℕ → ℕ → Segment) (count : ℕ) (joint : Joint base e lines texts 0 first count) (c : ℕ) (r : ReadingState)
-    (fact : what_is_read (serving_of (node_named (moment e count) (Client c))) ≡ Some r) (at : BlockAt) (looks : r.target.block ≡ Some at) where
+module _ (logged : LoggedRun) (run : IsRun any_step any_start logged.estate.script logged.estate.events logged.estate.world) (count : ℕ)
+    (joint : Joint logged 0 count) (c : ℕ) (r : ReadingState) (fact : what_is_read (serving_of (node_named (moment logged.estate count) (Client c))) ≡ Some r)
+    (at : BlockAt) (looks : r.target.block ≡ Some at) where
+  open logged use {base, estate as e, lines}
+
   abbrev f : Filed
   f = joint.idx.net.filed
 
@@ -111,14 +111,14 @@ module _ (base : Setting) (e : Estate AnyNode) (run : IsRun any_step any_start e
 
   lies : LiesAt f joint.tok.net.books at.block entry place l q
   lies =
-      lies_there f joint.tok.net.books at.block entry place (filed_known base e lines texts 0 first count joint).filed joint.books plain refl
+      lies_there f joint.tok.net.books at.block entry place (filed_known logged 0 count joint).filed joint.books plain refl
       lies_told.there.place_told
 
   abbrev s : Segment
   s = joint.idx.net.filed.segment r.target.seg.name.log.0 r.target.seg.name.seq
 
-  h : HasLog base e lines texts 0 first l
-  h = filed_log base e lines texts 0 first count joint l q lies.some lies.limit
+  h : HasLog logged 0 l
+  h = filed_log logged 0 count joint l q lies.some lies.limit
 
   most_there : q ≤ joint.idx.net.filed.head (log_by h.role)
   most_there = subst (λ x. q ≤ joint.idx.net.filed.head x) (sym h.numbered) lies.limit

@@ -51,7 +51,8 @@ use Rattle.run_laws.specs.world_law.Owners.{moment, node_in, tokens_of}
 use Rattle.run_laws.specs.world_lines.Lines.{LinesGive}
 use Rattle.run_laws.specs.world_logs.Lines.{HasLines, Texts}
 use Rattle.run_laws.specs.world_reads.Joint.{Joint, k}
-use Rattle.run_laws.specs.world_reads.Moments.{EveryRunStands, first_of}
+use Rattle.run_laws.specs.world_reads.LoggedRuns.{LoggedRun, logged_run}
+use Rattle.run_laws.specs.world_reads.Moments.{EveryRunStands}
 use Rattle.xfs_base.specs.Blocks.{slot_of}
 use Rattle.xfs_base.specs.declared.entry.Entry.{Entry}
 use Rattle.xfs_base.specs.declared.entry.Place.{Place}
@@ -91,11 +92,11 @@ grant_seen c part s to m Registry h inside = absurd h
 
 module _ (below : Below) (base : Setting) (apart : TellsApart base) (e : Estate AnyNode) (setup : IsSetup e.script.setup)
     (run : IsRun any_step any_start e.script e.events e.world) (lines : HasLines base e) (texts : Texts base e lines) where
-  abbrev first : ℕ → ℕ → Segment
-  first l q = first_of base e lines texts l q
+  abbrev logged : LoggedRun
+  logged = logged_run base e lines texts
 
   abbrev cl : Cluster
-  cl = k base e lines texts 0 first
+  cl = k logged 0
 
   module _ (count : ℕ) (none : NoDoubtfulRestart e count) (c : ℕ) (packet : Packet) (place : Place)
       (a : WouldAccept (moment e count) c packet place) (before : ℕ) (s : SentIn e packet before count) where
@@ -111,12 +112,12 @@ module _ (below : Below) (base : Setting) (apart : TellsApart base) (e : Estate 
     limit : after ≤ count
     limit = (let less = s.until in omega arith)
 
-    abbrev then : Joint base e lines texts part first after
+    abbrev then : Joint logged part after
     then =
         let undoubted : NoDoubtfulRestart e after = λ r n less. none r n (let high = limit in omega arith) in
         (below.runs.moments base apart e setup run lines texts after undoubted).joints part (slot_below m.block.ino.0)
 
-    abbrev now : Joint base e lines texts part first count
+    abbrev now : Joint logged part count
     now = (below.runs.moments base apart e setup run lines texts count none).joints part (slot_below m.block.ino.0)
 
     abbrev f : Filed
@@ -138,7 +139,7 @@ module _ (below : Below) (base : Setting) (apart : TellsApart base) (e : Estate 
 
     there : then.idx.net.slots slot.epoch ≡ Some slot
     there =
-        managed_there cl part texts.text first (moment e after).nodes (moment e after).sent then.idx then.index_stands granted.number granted.some granted.limit
+        managed_there cl part texts.text logged.first (moment e after).nodes (moment e after).sent then.idx then.index_stands granted.number granted.some granted.limit
         granted.manager granted.there slot granted.tells.managed
 
     -- the client has promised its epoch, and no later one
@@ -161,7 +162,7 @@ module _ (below : Below) (base : Setting) (apart : TellsApart base) (e : Estate 
     -- ---- where the Grant leads
 
     filed : IsFiled f
-    filed = (good_in part (held_in part texts.text) first then.idx.net then.index_stands.runs).filed
+    filed = (good_in part (held_in part texts.text) logged.first then.idx.net then.index_stands.runs).filed
 
     plain : ArePlain f
     plain l q some_log nine some high = (then.tells l q some high).plain
@@ -197,8 +198,8 @@ module _ (below : Below) (base : Setting) (apart : TellsApart base) (e : Estate 
     -- ---- a newer version that is filed
 
     module _ (l q : ℕ) (some : 0 < q) (high : q ≤ f.head l) (newer : m.entry.ver < (join (rows_of (f.segment l q)) m.block).ver) where
-      still : IsStill base e lines texts part first below.give after count limit (below.undoubted base e lines count none) then now l q
-      still = filed_still base e lines texts part first below.give after count limit (below.undoubted base e lines count none) then now l q some high
+      still : IsStill logged part below.give after count limit (below.undoubted base e lines count none) then now l q
+      still = filed_still logged part below.give after count limit (below.undoubted base e lines count none) then now l q some high
 
       nine : (0 < l) × (l ≤ block_logs)
       nine = one_of_nine f filed l q some high
@@ -233,11 +234,11 @@ module _ (below : Below) (base : Setting) (apart : TellsApart base) (e : Estate 
         let sent_by : In p (moment e after).sent = sent_later e p before after (let since = s.since in omega arith) sent in
         let deleted : tables.In place.seg.name then.idx.net.deleted =
         subst (λ name. tables.In name then.idx.net.deleted) same
-        (was_to_be_deleted cl part texts.text first (moment e after).nodes (moment e after).sent then.idx then.index_stands then.tok p d sent_by
+        (was_to_be_deleted cl part texts.text logged.first (moment e after).nodes (moment e after).sent then.idx then.index_stands then.tok p d sent_by
         (then.tokens_stand.facts p sent_by) fact) in
         none_newer (subst (IsOutdated m.block f) granted.tells.entry
         (below.outdated part (held_in part texts.text) then.idx.net m.block slot.epoch slot place
-        (record { any = first; run = then.index_stands.runs; inside = refl }) there reigns (ap (λ (x : Entry). x.place) granted.tells.entry ∙ a.leads)
+        (record { any = logged.first; run = then.index_stands.runs; inside = refl }) there reigns (ap (λ (x : Entry). x.place) granted.tells.entry ∙ a.leads)
         deleted named has))
 
   pub stood_before : (count : ℕ) → NoDoubtfulRestart e count → (c : ℕ) (packet : Packet) (place : Place) → WouldAccept (moment e count) c packet place

@@ -1,26 +1,25 @@
 -- What is filed at a moment of a run is filed at each later one, up to which no restart that ended was doubtful, under the same number and the same name.
 use Rattle.std.proofs.Common.{◌≡◌, ℕ, zero, suc, ◌+◌, ◌-◌, ◌<◌, ◌≤◌, false, sym, ap, subst, ◌∙◌, arith}
-use Rattle.core_world.specs.declared.any_node.AnyNode.{AnyNode}
 use Rattle.index_tie.specs.Filed.{Filed}
 use Rattle.log_law.proofs.Filing.{Grown, grown}
 use Rattle.log_law.specs.Net.{Net}
-use Rattle.log_tie.specs.Setting.{Setting}
-use Rattle.segment_format.specs.declared.segment.Segment.{Segment}
-use Rattle.world_base.specs.declared.estate.Estate.{Estate}
 use Rattle.run_laws.specs.world_lines.Lines.{LinesGive}
-use Rattle.run_laws.specs.world_logs.Lines.{HasLines, Texts, setting}
+use Rattle.run_laws.specs.world_logs.Lines.{setting}
 use Rattle.run_laws.specs.world_logs.Roles.{Role, log_by, renews}
 use Rattle.run_laws.proofs.world_reads.EntriesSame.{sure_log}
 use Rattle.run_laws.specs.world_reads.Joint.{IsSureUpto, Joint, There, log_at}
+use Rattle.run_laws.specs.world_reads.LoggedRuns.{LoggedRun}
 use Rattle.run_laws.proofs.world_reads.KnownLogs.{HasLog, filed_log}
 use Rattle.xfs_base.specs.declared.segment.SegName.{SegName}
 
-module _ (base : Setting) (e : Estate AnyNode) (lines : HasLines base e) (texts : Texts base e lines) (part : ℕ) (first : ℕ → ℕ → Segment) where
+module _ (logged : LoggedRun) (part : ℕ) where
+  open logged use {base, estate as e, lines, texts}
+
   -- ---- one log
 
-  module _ (r : Role) (there : There base e lines texts part first r) where
+  module _ (r : Role) (there : There logged part r) where
     abbrev at_count : ℕ → Net
-    at_count count = log_at base e lines texts part first r there count
+    at_count count = log_at logged part r there count
 
     more_grown : (more count : ℕ) → Grown (at_count count) (at_count (more + count))
     more_grown zero count =
@@ -44,8 +43,8 @@ module _ (base : Setting) (e : Estate AnyNode) (lines : HasLines base e) (texts 
 
   -- ---- all logs
 
-  module _ (give : LinesGive) (count later : ℕ) (low : count ≤ later) (sure : IsSureUpto base e lines texts part first later)
-      (then : Joint base e lines texts part first count) (now : Joint base e lines texts part first later) where
+  module _ (give : LinesGive) (count later : ℕ) (low : count ≤ later) (sure : IsSureUpto logged part later)
+      (then : Joint logged part count) (now : Joint logged part later) where
     abbrev f : Filed
     f = then.idx.net.filed
 
@@ -56,7 +55,7 @@ module _ (base : Setting) (e : Estate AnyNode) (lines : HasLines base e) (texts 
       pub limit : q ≤ h.head l
       pub same : h.segment l q ≡ f.segment l q
 
-    of_log : (r : Role) (there : There base e lines texts part first r) → renews r ≡ false → (q : ℕ) → 0 < q → q ≤ f.head (log_by r) → IsStill (log_by r) q
+    of_log : (r : Role) (there : There logged part r) → renews r ≡ false → (q : ℕ) → 0 < q → q ≤ f.head (log_by r) → IsStill (log_by r) q
     of_log r there keeps q some limit =
         let l = log_by r in
         let its = then.lined r there keeps in
@@ -68,7 +67,7 @@ module _ (base : Setting) (e : Estate AnyNode) (lines : HasLines base e) (texts 
         let within : q ≤ h.head l = (let place = (other.all name filed).1 in omega arith) in
         let one : name ≡ (h.segment l q).name =
         subst (λ x. name ≡ (h.segment l x).name) number
-        ((give texts.text l (setting base e r) (at_count r there later) h (sure_log base e lines texts part first give later sure r there keeps) other).one
+        ((give texts.text l (setting base e r) (at_count r there later) h (sure_log logged part give later sure r there keeps) other).one
         name filed)
         in
         record {
@@ -79,5 +78,5 @@ module _ (base : Setting) (e : Estate AnyNode) (lines : HasLines base e) (texts 
 
     pub filed_still : (l q : ℕ) → 0 < q → q ≤ f.head l → IsStill l q
     filed_still l q some limit =
-        let has : HasLog base e lines texts part first l = filed_log base e lines texts part first count then l q some limit in
+        let has : HasLog logged part l = filed_log logged part count then l q some limit in
         subst (λ x. q ≤ f.head x → IsStill x q) has.numbered (λ within. of_log has.role has.there has.keeps q some within) limit

@@ -17,7 +17,8 @@ use Rattle.run_laws.specs.world_logs.Lines.{HasLines, Texts}
 use Rattle.run_laws.specs.world_logs.Logs.{NotDeleted}
 use Rattle.run_laws.specs.world_logs.Roles.{IsThere}
 use Rattle.run_laws.specs.world_logs.Roles.Role.{OfManager}
-use Rattle.run_laws.specs.world_reads.Moments.{EveryRunStands, MomentStands, first_of}
+use Rattle.run_laws.specs.world_reads.LoggedRuns.{LoggedRun, logged_run}
+use Rattle.run_laws.specs.world_reads.Moments.{EveryRunStands, MomentStands}
 use Rattle.xfs_base.specs.declared.segment.SegRef.{SegRef}
 use Rattle.xfs_base.specs.Limits.{slot_count}
 
@@ -38,22 +39,25 @@ module _ (below : Below) (e : Estate AnyNode) (ok : IsSetup e.script.setup) (run
   abbrev texts : Texts base e lines
   texts = below.runs.texts base e ok lines
 
+  abbrev logged : LoggedRun
+  logged = logged_run base e lines texts
+
   moment_stands : MomentStands base e lines texts count
   moment_stands = below.runs.moments base below.runs.setting.1 e ok run lines texts count none
 
   less : slot < slot_count
   less =
-      slot_of_map base e lines texts 0 (first_of base e lines texts) count (moment_stands.joints 0 (omega arith)) j there slot r.taking r.takes
+      slot_of_map logged 0 count (moment_stands.joints 0 (omega arith)) j there slot r.taking r.takes
 
   was_filed : WasFiled e count ref.name
   was_filed =
-      reads_filed below.laws base e run lines texts slot (first_of base e lines texts) count (moment_stands.joints slot less)
+      reads_filed below.laws logged run slot count (moment_stands.joints slot less)
       (moment_stands.references slot less)
       (below.came e ok run count) (moment_stands.named slot less) j there epoch ref r
 
   is_stored : NotDeleted (moment e count) ref.name → IsStoredAs e count ref
   is_stored =
-      reads_stored below.laws base e run lines texts slot (first_of base e lines texts) count (moment_stands.joints slot less)
+      reads_stored below.laws logged run slot count (moment_stands.joints slot less)
       (moment_stands.references slot less)
       (below.came e ok run count) (moment_stands.named slot less) j there epoch ref r
 

@@ -11,7 +11,6 @@ use Rattle.log_law.specs.Groups.{PriorsNameGroups}
 use Rattle.log_law.specs.Laws.{OneNameOneText}
 use Rattle.log_law.specs.Places.{APlaceNamesOneContent}
 use Rattle.log_protocol.specs.Tables as tables
-use Rattle.log_tie.specs.Setting.{Setting}
 use Rattle.loss_law.specs.Losses.{ref_of}
 use Rattle.manager_node.specs.declared.manager.Manager.{Manager as ManagerNode}
 use Rattle.manager_node.specs.declared.phase.Phase.{Phase}
@@ -42,14 +41,12 @@ use Rattle.run_losses.specs.taking_law.Takings.{Reads, slot_at, slot_of}
 use Rattle.token_protocol.specs.Basics.{In}
 use Rattle.version_model.specs.declared.act.Act.TheVariants as act
 use Rattle.world_base.specs.Cluster.{cluster_of, place_of}
-use Rattle.world_base.specs.declared.estate.Estate.{Estate}
 use Rattle.world_base.specs.Runs.{IsRun}
 use Rattle.run_laws.proofs.world_law.Laws.{one_node}
 use Rattle.run_laws.proofs.world_law.Sent.{in_list}
 use Rattle.run_laws.specs.world_law.Owners.{moment, node_in, node_named}
 use Rattle.run_laws.proofs.world_logs.Roles.{high_log}
 use Rattle.run_laws.specs.world_logs.Doings.{did}
-use Rattle.run_laws.specs.world_logs.Lines.{HasLines, Texts}
 use Rattle.run_laws.specs.world_logs.Logs.{NotDeleted}
 use Rattle.run_laws.specs.world_logs.Roles.{IsThere, Role, log_by, renews}
 use Rattle.run_laws.specs.world_logs.Roles.Role.{OfClient, OfCleaner, OfManager}
@@ -62,6 +59,7 @@ use Rattle.run_laws.proofs.world_reads.TurnRun.{moment_cluster}
 use Rattle.run_laws.specs.world_reads.Entries.{PartKnown, PartsNamed}
 use Rattle.run_laws.specs.world_reads.Joint.{Joint}
 use Rattle.run_laws.specs.world_reads.References.{Flew, ReferencesStand, its}
+use Rattle.run_laws.specs.world_reads.LoggedRuns.{LoggedRun}
 use Rattle.xfs_base.specs.declared.node.NodeId.TheVariants.{Manager}
 use Rattle.xfs_base.specs.declared.segment.LogId.{LogId}
 use Rattle.xfs_base.specs.declared.segment.SegName.{SegName}
@@ -148,13 +146,15 @@ pub record Laws : Type 0 where
   pub priors : PriorsNameGroups
   pub stored : StoredLaws
 
-module _ (laws : Laws) (base : Setting) (e : Estate AnyNode) (run : IsRun any_step any_start e.script e.events e.world) (lines : HasLines base e)
-    (texts : Texts base e lines) (slot : ℕ) (first : ℕ → ℕ → Segment) (count : ℕ) (joint : Joint base e lines texts slot first count)
-    (stand : ReferencesStand base e lines texts slot first count) (came : ReadingsCame e.world (moment e count))
-    (named : PartsNamed (PartKnown base e lines count (rows_at joint.idx.net.filed)) (moment e count).nodes (moment e count).sent) (j : ℕ)
-    (there : IsThere e.script.setup.clients e.script.setup.managers (OfManager j)) where
+module _ (laws : Laws) (logged : LoggedRun) (run : IsRun any_step any_start logged.estate.script logged.estate.events logged.estate.world) (slot : ℕ)
+    (count : ℕ) (joint : Joint logged slot count) (stand : ReferencesStand logged slot count)
+    (came : ReadingsCame logged.estate.world (moment logged.estate count))
+    (named : PartsNamed (PartKnown logged.base logged.estate logged.lines count (rows_at joint.idx.net.filed)) (moment logged.estate count).nodes (moment logged.estate count).sent)
+    (j : ℕ) (there : IsThere logged.estate.script.setup.clients logged.estate.script.setup.managers (OfManager j)) where
+  open logged use {base, estate as e, lines, texts}
+
   abbrev r : References
-  r = its base e lines texts slot first count
+  r = its logged slot count
 
   abbrev filed : Filed
   filed = joint.idx.net.filed
@@ -187,11 +187,11 @@ module _ (laws : Laws) (base : Setting) (e : Estate AnyNode) (run : IsRun any_st
         let placed = (subst (places.ManagerAgrees slot texts.text joint.idx.net) serving.serves index_sees).0 in
         subst (places.PhaseAgrees slot texts.text joint.idx.net (desk_of serving.serving placed.given)) serving.takes placed.here
 
-    lies : ReadsThere slot texts.text joint.idx.net (filed_known base e lines texts slot first count joint).filed
-        (filed_known base e lines texts slot first count joint).texts_of t.epoch t.take agrees (record { source = source; reading = Some reading })
+    lies : ReadsThere slot texts.text joint.idx.net (filed_known logged slot count joint).filed
+        (filed_known logged slot count joint).texts_of t.epoch t.take agrees (record { source = source; reading = Some reading })
     lies =
-        reads_there slot texts.text joint.idx.net (filed_known base e lines texts slot first count joint).filed
-        (filed_known base e lines texts slot first count joint).texts_of t.epoch t.take agrees (record { source = source; reading = Some reading }) present
+        reads_there slot texts.text joint.idx.net (filed_known logged slot count joint).filed
+        (filed_known logged slot count joint).texts_of t.epoch t.take agrees (record { source = source; reading = Some reading }) present
 
     -- ---- over which group
 
@@ -207,21 +207,21 @@ module _ (laws : Laws) (base : Setting) (e : Estate AnyNode) (run : IsRun any_st
         at_slot (SlotRefers r) serving.serving.slots slot t
         (subst (PhaseRefers r) serving.serves (stand.each_node (any.Manager its_node.node) in_nodes)).slots serving.takes
 
-    flew : (x : Source) → Contains (sources_of t.take.news t.take.reports) x → Flew base e lines texts slot first count x.seg
-    flew = sources_flew base e lines texts slot first count joint t agrees (parts_flew base e lines texts slot first count t take_refers)
-        (λ l low high x among from some. ends_bear base e lines texts slot first count t take_refers l x among from some)
+    flew : (x : Source) → Contains (sources_of t.take.news t.take.reports) x → Flew logged slot count x.seg
+    flew = sources_flew logged slot count joint t agrees (parts_flew logged slot count t take_refers)
+        (λ l low high x among from some. ends_bear logged slot count t take_refers l x among from some)
 
     holds : TakeHolds (answered_in (moment e count).sent (Manager j)) (cut_by (cuts_at e.world)) t.take
     holds =
         take_holds (answered_in (moment e count).sent (Manager j)) (cut_by (cuts_at e.world)) its_node.node.phase
         (came.nodes (Manager j) (any.Manager its_node.node) its_node.kind) slot t its_node.takes
 
-    refers : Refers base e lines texts slot first count (Manager j) source.seg
+    refers : Refers logged slot count (Manager j) source.seg
     refers =
         let stands : PresentHolds (answered_in (moment e count).sent (Manager j)) (cut_by (cuts_at e.world)) t.take
         (record { source = source; reading = Some reading }) =
         subst (StandsBy (answered_in (moment e count).sent (Manager j)) (cut_by (cuts_at e.world)) t.take) present holds.stands in
-        refers_down base e lines texts slot first count (Manager j) laws.one laws.place laws.priors (sources_of t.take.news t.take.reports) flew source
+        refers_down logged slot count (Manager j) laws.one laws.place laws.priors (sources_of t.take.news t.take.reports) flew source
         stands.leads
 
     -- ---- what flew and was filed is stored
@@ -237,8 +237,8 @@ module _ (laws : Laws) (base : Setting) (e : Estate AnyNode) (run : IsRun any_st
     -- ---- a segment of a log
 
     module _ (f : ReadsFiled (joint.idx.net.filed) source) where
-      h : HasLog base e lines texts slot first f.log
-      h = filed_log base e lines texts slot first count joint f.log f.seq f.some f.limit
+      h : HasLog logged slot f.log
+      h = filed_log logged slot count joint f.log f.seq f.some f.limit
 
       abbrev s : Segment
       s = joint.idx.net.filed.segment f.log f.seq
@@ -262,7 +262,7 @@ module _ (laws : Laws) (base : Setting) (e : Estate AnyNode) (run : IsRun any_st
           (joint.acted h.role h.there h.keeps f.seq f.some most_there)
 
       its_log : (joint.idx.net.filed.segment f.log f.seq).name.log.0 ≡ f.log
-      its_log = ((filed_known base e lines texts slot first count joint).filed.each f.log f.seq f.some f.limit).log
+      its_log = ((filed_known logged slot count joint).filed.each f.log f.seq f.some f.limit).log
 
       same_log : log_by h.role ≡ log_by refers.of.role
       same_log = h.numbered ∙ (sym its_log ∙ (ap (λ (n : SegName). n.log.0) (sym f.named) ∙ ap (λ (x : LogId). x.0) refers.of.own))
@@ -340,9 +340,11 @@ within [] slot t fact = absurd (never t fact)
 within (p ∷ table) zero t fact = omega arith
 within (p ∷ table) (suc slot) t fact = (let less = within table slot t fact in omega arith)
 
-module _ (base : Setting) (e : Estate AnyNode) (lines : HasLines base e) (texts : Texts base e lines) (part : ℕ) (first : ℕ → ℕ → Segment) (count : ℕ)
-    (joint : Joint base e lines texts part first count) (j : ℕ) (there : IsThere e.script.setup.clients e.script.setup.managers (OfManager j)) (slot : ℕ)
-    (t : Taking) (fact : slot_at e j slot count ≡ phase.Taking t) where
+module _ (logged : LoggedRun) (part count : ℕ) (joint : Joint logged part count) (j : ℕ)
+    (there : IsThere logged.estate.script.setup.clients logged.estate.script.setup.managers (OfManager j)) (slot : ℕ) (t : Taking)
+    (fact : slot_at logged.estate j slot count ≡ phase.Taking t) where
+  open logged use {estate as e, texts}
+
   it_takes : IsTaking slot (node_named (moment e count) (Manager j)) t
   it_takes = is_taking slot (node_named (moment e count) (Manager j)) t fact
 

@@ -8,7 +8,6 @@ use Rattle.core_world.specs.declared.any_node.AnyNode.{AnyNode}
 use Rattle.core_world.specs.declared.any_node.AnyNode.TheVariants as any
 use Rattle.run_losses.specs.fetching_law.Fetchings.{serving_at, serving_in, serving_of}
 use Rattle.index_tie.specs.Takeovers.{of_log}
-use Rattle.log_tie.specs.Setting.{Setting}
 use Rattle.manager_node.specs.declared.manager.Manager.{Manager as ManagerNode}
 use Rattle.manager_node.specs.declared.phase.Phase.{Phase}
 use Rattle.manager_node.specs.declared.phase.Phase.TheVariants.{Down, Waiting, Serving as Serves}
@@ -20,7 +19,6 @@ use Rattle.node_slots.specs.node_index_tie.Pages.{desk_of}
 use Rattle.node_slots.specs.node_tie.ManagerEvents.{phase_at, slot_in}
 use Rattle.node_tellings.specs.part_tie.ManagerNames.{PhaseNames, SlotNames}
 use Rattle.node_tellings.specs.part_tie.Names.{Known}
-use Rattle.segment_format.specs.declared.segment.Segment.{Segment}
 use Rattle.takeover.specs.declared.source.Present.{Present}
 use Rattle.run_losses.specs.taking_law.Takings.{slot_at, slot_of}
 use Rattle.token_protocol.specs.Basics.{In}
@@ -32,7 +30,6 @@ use Rattle.run_laws.proofs.world_law.Places.{behind}
 use Rattle.run_laws.proofs.world_law.Sent.{in_list}
 use Rattle.run_laws.specs.world_law.Standing.{members}
 use Rattle.run_laws.specs.world_law.Owners.{moment, node_in}
-use Rattle.run_laws.specs.world_logs.Lines.{HasLines, Texts}
 use Rattle.run_laws.specs.world_logs.Roles.{IsThere}
 use Rattle.run_laws.specs.world_logs.Roles.Role.{OfManager}
 use Rattle.run_laws.proofs.world_reads.EntriesSources.{ReadsFiled, ReadsPart, reads_there}
@@ -40,6 +37,7 @@ use Rattle.run_laws.proofs.world_reads.KnownLogs.{filed_known}
 use Rattle.run_laws.proofs.world_reads.ManagerOwed.{one_among}
 use Rattle.run_laws.specs.world_reads.Entries.{PartsNamed}
 use Rattle.run_laws.specs.world_reads.Joint.{Joint, k}
+use Rattle.run_laws.specs.world_reads.LoggedRuns.{LoggedRun}
 use Rattle.xfs_base.specs.declared.node.NodeId.TheVariants.{Client, Manager}
 use Rattle.xfs_base.specs.declared.segment.SegRef.{SegRef}
 use Rattle.run_losses.proofs.standing_law.Lowest.{IsLow, part_or_low}
@@ -79,10 +77,11 @@ named_of known (Serves s) slot t names fact = at_slot (SlotNames known) s.slots 
 named_of known (Down kept) slot t names fact = absurd (away_takes_not t fact)
 named_of known (Waiting kept hello) slot t names fact = absurd (away_takes_not t fact)
 
-module _ (base : Setting) (e : Estate AnyNode) (lines : HasLines base e) (texts : Texts base e lines) (part : ℕ) (first : ℕ → ℕ → Segment) (count : ℕ)
-    (b : Joint base e lines texts part first count) where
+module _ (logged : LoggedRun) (part count : ℕ) (b : Joint logged part count) where
+  open logged use {estate as e, texts}
+
   abbrev cl : Cluster
-  cl = k base e lines texts part first
+  cl = k logged part
 
   -- ---- a manager that takes the slot over
 
@@ -114,8 +113,8 @@ module _ (base : Setting) (e : Estate AnyNode) (lines : HasLines base e) (texts 
     -- what it reads is a part that its news name, or was filed
     pub part_or_filed : (p : Present) → t.take.present ≡ Some p → ReadsPart t.take.news.parts p.source ⊎ ReadsFiled b.idx.net.filed p.source
     part_or_filed p reads =
-        (reads_there part texts.text b.idx.net (filed_known base e lines texts part first count b).filed
-        (filed_known base e lines texts part first count b).texts_of t.epoch t.take agrees p reads).lies
+        (reads_there part texts.text b.idx.net (filed_known logged part count b).filed
+        (filed_known logged part count b).texts_of t.epoch t.take agrees p reads).lies
 
     -- and a part, or of a log that is read down to the horizon
     part_or_log : (p : Present) → t.take.present ≡ Some p

@@ -6,7 +6,6 @@ use Rattle.core_world.specs.AnyNode.{any_start, any_step}
 use Rattle.core_world.specs.declared.any_node.AnyNode.{AnyNode}
 use Rattle.core_world.specs.declared.any_node.AnyNode.TheVariants as any
 use Rattle.index_tie.specs.Takeovers.{of_log}
-use Rattle.log_tie.specs.Setting.{Setting}
 use Rattle.manager_node.specs.declared.manager.Manager.{Manager as ManagerNode}
 use Rattle.manager_node.specs.declared.phase.Phase.{Phase}
 use Rattle.manager_node.specs.declared.phase.Phase.TheVariants.{Down, Waiting, Serving as Serves}
@@ -16,7 +15,6 @@ use Rattle.manager_slots.specs.declared.slot_phase.SlotPhase.{SlotPhase}
 use Rattle.manager_slots.specs.declared.slot_phase.SlotPhase.TheVariants as phase
 use Rattle.node_logs.proofs.node_log_tie.Others.{same_or_other}
 use Rattle.node_slots.specs.node_tie.ManagerEvents.{EventGets, HeldAt, ManagedAt, ManagerEventGoes, ManagerGoes, epoch_in, is_serving, is_waiting, slot_in}
-use Rattle.segment_format.specs.declared.segment.Segment.{Segment}
 use Rattle.run_losses.specs.taking_law.Takings.{slot_at, slot_of}
 use Rattle.token_law.specs.Net.{Net}
 use Rattle.token_manager.specs.SlotState.{SlotState}
@@ -26,7 +24,6 @@ use Rattle.wire_msg.specs.declared.packet.Do.{Do}
 use Rattle.wire_msg.specs.declared.packet.Do.TheVariants.{Begin, Deliver, Tick}
 use Rattle.world_base.specs.Cluster.{place_of}
 use Rattle.world_base.specs.declared.cluster.Cluster.{Cluster}
-use Rattle.world_base.specs.declared.estate.Estate.{Estate}
 use Rattle.world_base.specs.declared.event.Event.{Event}
 use Rattle.world_base.specs.declared.world.World.{World}
 use Rattle.world_base.specs.Events.{node_of, what_of}
@@ -36,11 +33,11 @@ use Rattle.run_laws.proofs.world_law.Nodes.{here, there}
 use Rattle.run_laws.proofs.world_law.RegistryTurns.{held_known}
 use Rattle.run_laws.specs.world_law.Standing.{Been, ManagerSees, PastAt, epoch_now, members}
 use Rattle.run_laws.specs.world_law.Owners.{moment, node_in}
-use Rattle.run_laws.specs.world_logs.Lines.{HasLines, Texts}
 use Rattle.run_laws.specs.world_logs.Roles.{IsThere}
 use Rattle.run_laws.specs.world_logs.Roles.Role.{OfManager}
 use Rattle.run_laws.specs.world_reads.Chains.{Comes, Follows, IsManaged}
 use Rattle.run_laws.specs.world_reads.Joint.{Joint, k}
+use Rattle.run_laws.specs.world_reads.LoggedRuns.{LoggedRun}
 use Rattle.xfs_base.specs.declared.node.NodeId.TheVariants.{Manager}
 use Rattle.xfs_base.specs.declared.segment.SegName.{SegName}
 use Rattle.xfs_base.specs.Limits.{slot_count}
@@ -108,13 +105,14 @@ none_anew c part limit j n p what w go e life past same apart held = ⊎_elim (�
         let low : epoch_in part (Serves s) < e = subst (λ (x : Phase). epoch_in part x < e) fact less in
         omega arith
 
-module _ (law : ManagerEventGoes) (base : Setting) (e : Estate AnyNode) (run : IsRun any_step any_start e.script e.events e.world) (lines : HasLines base e)
-    (texts : Texts base e lines) (part : ℕ) (of_eight : part < slot_count) (first : ℕ → ℕ → Segment) (j : ℕ)
-    (is_there : IsThere e.script.setup.clients e.script.setup.managers (OfManager j)) where
-  abbrev cl : Cluster
-  cl = k base e lines texts part first
+module _ (law : ManagerEventGoes) (logged : LoggedRun) (run : IsRun any_step any_start logged.estate.script logged.estate.events logged.estate.world) (part : ℕ)
+    (of_eight : part < slot_count) (j : ℕ) (is_there : IsThere logged.estate.script.setup.clients logged.estate.script.setup.managers (OfManager j)) where
+  open logged use {estate as e}
 
-  module _ (count : ℕ) (b : Joint base e lines texts part first count) where
+  abbrev cl : Cluster
+  cl = k logged part
+
+  module _ (count : ℕ) (b : Joint logged part count) where
     pub node_there : node_in (moment e count).nodes (place_of cl (Manager j)) ≡ Some (any.Manager (b.tok.manager j))
     node_there = b.tokens_stand.placed.managers j is_there.0 is_there.1
 
@@ -148,7 +146,7 @@ module _ (law : ManagerEventGoes) (base : Setting) (e : Estate AnyNode) (run : I
 
   -- ---- from one moment to the next
 
-  module _ (count : ℕ) (b : Joint base e lines texts part first count) (d : Joint base e lines texts part first (suc count)) where
+  module _ (count : ℕ) (b : Joint logged part count) (d : Joint logged part (suc count)) where
     -- nothing happens to the manager, or it has its turn
     pub record ItsTurn : Type 0 where
       pub event : Event
@@ -213,7 +211,7 @@ module _ (law : ManagerEventGoes) (base : Setting) (e : Estate AnyNode) (run : I
   module _ (epoch l seq : ℕ) where
     -- It was given to the manager, which was at it in its present life or in an earlier one, and doesn't hold the slot in it; nobody manages the slot in it,
     -- and the horizon with which it began is no further than this number.
-    pub record Lapsed (count : ℕ) (d : Joint base e lines texts part first count) : Type 0 where
+    pub record Lapsed (count : ℕ) (d : Joint logged part count) : Type 0 where
       pub free : d.idx.net.slots epoch ≡ None
       pub begun : epoch ≤ d.idx.net.epoch
       pub low : of_log (d.idx.net.horizon epoch) l ≤ seq
@@ -222,7 +220,7 @@ module _ (law : ManagerEventGoes) (base : Setting) (e : Estate AnyNode) (run : I
       pub past : PastAt cl part (d.tok.manager j).phase (d.tok.since epoch) epoch
       pub apart : HeldAt (slot_in part (d.tok.manager j).phase) epoch → ⊥
 
-    module _ (count : ℕ) (b : Joint base e lines texts part first count) (d : Joint base e lines texts part first (suc count))
+    module _ (count : ℕ) (b : Joint logged part count) (d : Joint logged part (suc count))
         (f : Follows cl part b.tok b.idx.net d.tok d.idx.net) where
       -- it lapses, or had
       on : b.idx.net.slots epoch ≡ None → epoch ≤ b.idx.net.epoch → of_log (b.idx.net.horizon epoch) l ≤ seq → b.tok.lord epoch ≡ j
@@ -282,18 +280,18 @@ module _ (law : ManagerEventGoes) (base : Setting) (e : Estate AnyNode) (run : I
     -- ---- at each later moment
 
     module _ (at : ℕ) (name : SegName) (was : HeldAt (slot_at e j part at) epoch) (broken : slot_at e j part (suc at) ≡ phase.Broken epoch name)
-        (free : (b : Joint base e lines texts part first at) → b.idx.net.slots epoch ≡ None)
-        (begun : (b : Joint base e lines texts part first at) → epoch ≤ b.idx.net.epoch)
-        (low : (b : Joint base e lines texts part first at) → of_log (b.idx.net.horizon epoch) l ≤ seq) where
+        (free : (b : Joint logged part at) → b.idx.net.slots epoch ≡ None)
+        (begun : (b : Joint logged part at) → epoch ≤ b.idx.net.epoch)
+        (low : (b : Joint logged part at) → of_log (b.idx.net.horizon epoch) l ≤ seq) where
       -- at the moment after a count, which follows the one there
-      next : (count : ℕ) → at < suc count → (b : Joint base e lines texts part first count) (d : Joint base e lines texts part first (suc count))
+      next : (count : ℕ) → at < suc count → (b : Joint logged part count) (d : Joint logged part (suc count))
           → Follows cl part b.tok b.idx.net d.tok d.idx.net → (at < count → Lapsed count b) → Lapsed (suc count) d
       next count less b d f before = by (at == count) refl
         where
-          first_so : (c : ℕ) → at ≡ c → (x : Joint base e lines texts part first c) (y : Joint base e lines texts part first (suc c))
+          first_so : (c : ℕ) → at ≡ c → (x : Joint logged part c) (y : Joint logged part (suc c))
               → Follows cl part x.tok x.idx.net y.tok y.idx.net → Lapsed (suc c) y
           first_so c same =
-              subst (λ i. (x : Joint base e lines texts part first i) (y : Joint base e lines texts part first (suc i))
+              subst (λ i. (x : Joint logged part i) (y : Joint logged part (suc i))
               → Follows cl part x.tok x.idx.net y.tok y.idx.net → Lapsed (suc i) y) same
               (λ x y g. lapses at x y g (free x) (begun x) (low x) name was broken)
 
@@ -301,7 +299,7 @@ module _ (law : ManagerEventGoes) (base : Setting) (e : Estate AnyNode) (run : I
           by true fact = first_so count (eqb-true at count fact) b d f
           by false fact = goes_on count b d f (before (earlier_count at count fact less))
 
-      pub lapsed : (count : ℕ) → at < count → (d : Joint base e lines texts part first count) → Comes base e lines texts part first count d
+      pub lapsed : (count : ℕ) → at < count → (d : Joint logged part count) → Comes logged part count d
           → Lapsed count d
       lapsed zero less d comes = absurd (omega arith)
       lapsed (suc count) less d comes = next count less comes.0 d comes.2 (λ earlier. lapsed count earlier comes.0 comes.1)

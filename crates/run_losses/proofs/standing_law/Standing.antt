@@ -24,7 +24,6 @@ use Rattle.run_laws.proofs.place_law.Lying.{one_of_nine}
 use Rattle.registry.specs.Board.{all_news}
 use Rattle.registry.specs.BoardState.{BoardState}
 use Rattle.run_laws.specs.restart_law.Restarts.{NoDoubtfulRestart}
-use Rattle.segment_format.specs.declared.segment.Segment.{Segment}
 use Rattle.takeover.specs.declared.source.Present.{Present}
 use Rattle.takeover.specs.declared.source.Source.{Source}
 use Rattle.run_losses.specs.source_law.Sources.{TakeoversReadWhatIsStored, TakeoversReadWhatWasFiled}
@@ -54,7 +53,8 @@ use Rattle.run_laws.proofs.world_reads.TurnBoth.{both_of}
 use Rattle.run_laws.proofs.world_reads.TurnMoment.{registry_seen}
 use Rattle.run_laws.specs.world_reads.Entries.{PartKnown}
 use Rattle.run_laws.specs.world_reads.Joint.{Joint, k}
-use Rattle.run_laws.specs.world_reads.Moments.{EveryRunStands, MomentStands, first_of}
+use Rattle.run_laws.specs.world_reads.LoggedRuns.{LoggedRun, logged_run}
+use Rattle.run_laws.specs.world_reads.Moments.{EveryRunStands, MomentStands}
 use Rattle.xfs_base.specs.Blocks.{slot_of}
 use Rattle.xfs_base.specs.declared.segment.LogId.{LogId}
 use Rattle.xfs_base.specs.declared.segment.SegName.{SegName}
@@ -94,8 +94,8 @@ module _ (below : Below) (e : Estate AnyNode) (setup : IsSetup e.script.setup) (
   texts : Texts base e lines
   texts = below.runs.texts base e setup lines
 
-  abbrev first : ℕ → ℕ → Segment
-  first l q = first_of base e lines texts l q
+  abbrev logged : LoggedRun
+  logged = logged_run base e lines texts
 
   stands : (when : ℕ) → NoDoubtfulRestart e when → MomentStands base e lines texts when
   stands when undoubted = below.runs.moments base below.runs.setting.1 e setup run lines texts when undoubted
@@ -135,7 +135,7 @@ module _ (below : Below) (e : Estate AnyNode) (setup : IsSetup e.script.setup) (
   abbrev present : Present
   present = record { source = reads.source; reading = Some reads.reading }
 
-  abbrev then : Joint base e lines texts part first when
+  abbrev then : Joint logged part when
   then = (stands when earlier).joints part of_eight
 
   named_is : name ≡ reads.source.seg.name
@@ -143,7 +143,7 @@ module _ (below : Below) (e : Estate AnyNode) (setup : IsSetup e.script.setup) (
 
   -- ---- the moment of the Gone
 
-  abbrev now : Joint base e lines texts part first count
+  abbrev now : Joint logged part count
   now = (stands count none).joints part of_eight
 
   abbrev board : BoardState
@@ -154,63 +154,63 @@ module _ (below : Below) (e : Estate AnyNode) (setup : IsSetup e.script.setup) (
     no_part : ReadsPart reads.taking.take.news.parts reads.source → ⊥
     no_part x =
         let known : PartKnown base e lines when (rows_at then.idx.net.filed) x.ref =
-        parts_known base e lines texts part first when then j is_there reads.taking reads.takes (PartKnown base e lines when (rows_at then.idx.net.filed))
+        parts_known logged part when then j is_there reads.taking reads.takes (PartKnown base e lines when (rows_at then.idx.net.filed))
         ((stands when earlier).named part of_eight) x.ref x.among in
         let its : name ≡ known.segment.name = named_is ∙ (ap (λ (y : Source). y.seg.name) x.of_part ∙ sym known.named) in
         none_deleted below.written base e lines known.manager known.there when count board
-        (registry_seen base e lines texts part first count (both_of base e lines texts part first count now) (OfManager known.manager) known.there)
+        (registry_seen logged part count (both_of logged part count now) (OfManager known.manager) known.there)
         known.segment known.flew p d among fact (same ∙ its)
 
     abbrev l : ℕ
     l = reads.source.seg.name.log.0
 
     -- the epoch lapsed
-    abbrev Then : Joint base e lines texts part first when → Type 0
+    abbrev Then : Joint logged part when → Type 0
     Then b = of_log (b.idx.net.horizon epoch) l ≤ was.segment.name.seq
 
-    low_then : (b : Joint base e lines texts part first when) → Then b
+    low_then : (b : Joint logged part when) → Then b
     low_then b =
         subst (λ x. of_log (b.idx.net.horizon x) l ≤ was.segment.name.seq) reads.of_epoch
-        (horizon_below base e lines texts part first when b j is_there reads.taking reads.takes present reads.present no_part l refl was.segment.name.seq
+        (horizon_below logged part when b j is_there reads.taking reads.takes present reads.present no_part l refl was.segment.name.seq
         reads.above)
 
-    lapsed_now : Lapsed below.manager base e run lines texts part of_eight first j is_there epoch l was.segment.name.seq count now
+    lapsed_now : Lapsed below.manager logged run part of_eight j is_there epoch l was.segment.name.seq count now
     lapsed_now =
-        lapsed below.manager base e run lines texts part of_eight first j is_there epoch l was.segment.name.seq when name
+        lapsed below.manager logged run part of_eight j is_there epoch l was.segment.name.seq when name
         (taking_held (slot_at e j part when) reads.taking epoch reads.takes reads.of_epoch) told.said.broke
         (λ b. subst (λ x. b.idx.net.slots x ≡ None) reads.of_epoch
-        (nobody_yet base e lines texts part first when b j is_there reads.taking reads.takes))
-        (λ b. subst (λ x. x ≤ b.idx.net.epoch) reads.of_epoch (has_begun base e lines texts part first when b j is_there reads.taking reads.takes)) low_then
+        (nobody_yet logged part when b j is_there reads.taking reads.takes))
+        (λ b. subst (λ x. x ≤ b.idx.net.epoch) reads.of_epoch (has_begun logged part when b j is_there reads.taking reads.takes)) low_then
         count told.said.before now ((stands count none).comes part of_eight)
 
     -- nobody manages the slot in a later epoch than the client has promised
     promised : epoch_of s.tokens.epochs part ≡ epoch
     promised = subst (λ (o : Option Serving). promised_in part o ≡ epoch) serves told.promised
 
-    both : BothStand true (k base e lines texts part first) part texts.text first (moment e count).nodes (moment e count).sent (moment e count).acts now.tok
+    both : BothStand true (k logged part) part texts.text logged.first (moment e count).nodes (moment e count).sent (moment e count).acts now.tok
         now.idx
     both = record { tokens = now.tokens_stand; index = now.index_stands; same = now.slots }
 
     bound : (d : ℕ) (z : SlotState) → now.tok.net.slots d ≡ Some z → d ≤ epoch
     bound d z there =
-        let x : ServesThere base e lines texts part first count now c s = serves_there base e lines texts part first count now c s serves in
+        let x : ServesThere logged part count now c s = serves_there logged part count now c s serves in
         subst (λ y. d ≤ y) promised
-        (of_client below.managed below.promised true (k base e lines texts part first) part texts.text first (moment e count).nodes (moment e count).sent
+        (of_client below.managed below.promised true (k logged part) part texts.text logged.first (moment e count).nodes (moment e count).sent
         (moment e count).acts now.tok now.idx of_eight both c s x.some x.less x.serves d z there)
 
     -- what is filed is at the horizon of its log or above
     no_filed : ReadsFiled then.idx.net.filed reads.source → ⊥
     no_filed f =
-        let h : HasLog base e lines texts part first f.log = filed_log base e lines texts part first when then f.log f.seq f.some f.limit in
+        let h : HasLog logged part f.log = filed_log logged part when then f.log f.seq f.some f.limit in
         let of_its : reads.source.seg.name.log.0 ≡ f.log =
-        ap (λ (n : SegName). n.log.0) f.named ∙ ((filed_known base e lines texts part first when then).filed.each f.log f.seq f.some f.limit).log in
+        ap (λ (n : SegName). n.log.0) f.named ∙ ((filed_known logged part when then).filed.each f.log f.seq f.some f.limit).log in
         let own : name.log ≡ record { 0 = log_by h.role } =
         same_log name.log (record { 0 = log_by h.role }) (ap (λ (n : SegName). n.log.0) named_is ∙ (of_its ∙ sym h.numbered)) in
         let gone = deleted_below base e lines h.role h.there count board
-        (registry_seen base e lines texts part first count (both_of base e lines texts part first count now) h.role h.there) name own p d among fact same in
-        let nine = one_of_nine then.idx.net.filed (filed_known base e lines texts part first when then).filed f.log f.seq f.some f.limit in
+        (registry_seen logged part count (both_of logged part count now) h.role h.there) name own p d among fact same in
+        let nine = one_of_nine then.idx.net.filed (filed_known logged part when then).filed f.log f.seq f.some f.limit in
         let low : least_horizon (log_by h.role) (all_news board) ≤ of_log (now.idx.net.horizon epoch) (log_by h.role) =
-        polled_low below.managed below.promised true (k base e lines texts part first) part texts.text first (moment e count).nodes
+        polled_low below.managed below.promised true (k logged part) part texts.text logged.first (moment e count).nodes
         (moment e count).sent (moment e count).acts now.tok now.idx of_eight both epoch bound lapsed_now.begun (log_by h.role)
         (subst (λ x. 0 < x) (sym h.numbered) nine.0) (subst (λ x. x ≤ block_logs) (sym h.numbered) nine.1) in
         let high : of_log (now.idx.net.horizon epoch) (log_by h.role) ≤ was.segment.name.seq =
@@ -220,7 +220,7 @@ module _ (below : Below) (e : Estate AnyNode) (setup : IsSetup e.script.setup) (
 
     not_deleted : ⊥
     not_deleted =
-        ⊎_elim no_part no_filed (part_or_filed base e lines texts part first when then j is_there reads.taking reads.takes present reads.present)
+        ⊎_elim no_part no_filed (part_or_filed logged part when then j is_there reads.taking reads.takes present reads.present)
 
   pub stood : NotDeleted (moment e count) name
   stood packet m sent fact same = not_deleted packet m (was_sent (moment e count).sent packet sent) fact same
