@@ -27,7 +27,7 @@ module _ {N : Type 0} (step : N → Do → NodeStep N) (setup : Setup) (p : Play
     pub shows_first : Shows setup first (flow.begins step t node).state (flow.begins step t node).outs
     pub are : first.events ≡ p.events ++ Begin node ∷ []
     pub deliveries : first.schedule.deliveries ≡ max_deliveries
-    pub rounds : 16 ≤ first.schedule.rounds
+    pub rounds : 40 ≤ first.schedule.rounds
     pub sends : length first.world.sent ≡ length p.world.sent + length (flow.begins step t node).outs
 
   module _ (is_blind : IsBlind step) (shows : Shows setup p t []) (has : HasNode setup node) (room : length p.events + 1 < 2 ^ 64)
@@ -99,5 +99,5 @@ module _ {N : Type 0} (step : N → Do → NodeStep N) (setup : Setup) (p : Play
           sends = did.sends;
         }
       where
-        at_least : (a b : ℕ) → 16 ≤ 16 + a + 4 * b
+        at_least : (a b : ℕ) → 40 ≤ 40 + a + 4 * b
         at_least a b = omega arith

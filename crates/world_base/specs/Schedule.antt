@@ -44,7 +44,7 @@ with_room deliveries rounds s = record s { deliveries = deliveries; rounds = rou
 
 -- the queue is drained: as many deliveries as a line may have, and rounds by what is lost and unanswered
 abbrev pub drained : ℕ → ScheduleState → ScheduleState
-drained unanswered s = with_room max_deliveries (16 + s.lose + 4 * unanswered) s
+drained unanswered s = with_room max_deliveries (40 + s.lose + 4 * unanswered) s
 
 -- an item was begun: the queue is drained, unless the packets are held back
 unfoldable pub item_begun : ℕ → ScheduleState → ScheduleState

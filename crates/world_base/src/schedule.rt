@@ -16,7 +16,7 @@ pub mod mixer;
 use mixer::{drawn_place, mixer_of};
 
 /// How often time passes for one line, apart from what is lost and unanswered.
-const ROUNDS: u128 = 16;
+const ROUNDS: u128 = 40;
 
 /// How often more it may pass for each unanswered item.
 const ROUNDS_AN_ITEM: u128 = 4;
