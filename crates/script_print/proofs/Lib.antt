@@ -7,5 +7,6 @@ pub mod ItemLines
 pub mod LineReads
 pub mod Loops
 pub mod Printings
+mod Runs
 pub mod SetupLines
 pub mod Spelled

@@ -68,13 +68,19 @@ fn add_byte(out: &mut Text, b: u8) -> Mem<()>
     }
 }
 
-/// Appends the bytes of a text.
+/// Appends the bytes of a text; those that stand for themselves, in runs.
 fn add_body(out: &mut Text, bytes: &[u8]) -> Mem<()>
     ensures { OnOk result (out.new ≡ out.old ++ text_body bytes.now) }
 {
-    for b in bytes {
-        add_byte(out, *b)?;
+    let mut from = 0;
+    for at in 0..bytes.len() {
+        if !is_plain(bytes[at]) {
+            out.add(&bytes[from..at])?;
+            add_byte(out, bytes[at])?;
+            from = at + 1;
+        }
     }
+    out.add(&bytes[from..])?;
     Ok(())
 }
 

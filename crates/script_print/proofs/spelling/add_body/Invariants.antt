@@ -1,6 +1,6 @@
-use Rattle.std.proofs.Common.{◌≡◌, ◌++◌, drop}
-use Rattle.script_print.specs.Printing.{text_body}
+use Rattle.script_print.proofs.Runs.{Appended}
 use Rattle.script_print.proofs.spelling.add_body.Given as goal
 
-abbrev pub invariant-loop-b : goal.invariant-loop-b
-invariant-loop-b l = l.out ++ text_body (drop l.b-index l.bytes) ≡ l.fn.out ++ text_body l.bytes
+-- what stands before a run is appended, and what is in it stands for itself
+abbrev pub invariant-loop-at : goal.invariant-loop-at
+invariant-loop-at l = Appended l.fn.out l.out l.bytes l.from l.at
