@@ -19,7 +19,8 @@ use Rattle.token_protocol.specs.Acts.Act.{Wrote as WroteBlock, Read as ReadBlock
 use Rattle.token_protocol.proofs.Told.{history_through}
 use Rattle.act_tie.specs.Number.{number}
 use Rattle.act_tie.specs.BlockActs.{fall_of, acts_of_fall, block_acts, acts_from, acts_of}
-use Rattle.act_tie.specs.Shown.{BlockShown, HistoryShown, IsApart, AreApartFrom, FallsApart}
+use Rattle.act_tie.specs.Shown.{BlockShown, HistoryShown}
+use Rattle.version_model.specs.Falls.{AreApartFrom, FallsApart, IsApart}
 use Rattle.act_tie.proofs.Injection.{number-same}
 use Rattle.act_tie.proofs.Falling.{all_found}
 use Rattle.act_tie.proofs.Acting.{wrote_shown, read_shown, synced_shown, fell_shown, back_shown}

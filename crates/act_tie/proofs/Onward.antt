@@ -5,7 +5,7 @@ use Rattle.version_model.specs.declared.act.Act.{Act}
 use Rattle.version_model.specs.History.{History, nothing_yet}
 use Rattle.version_model.specs.Effects.{after_act, history_after}
 use Rattle.act_tie.specs.BlockActs.{block_acts, acts_from, acts_of}
-use Rattle.act_tie.specs.Shown.{IsApart, AreApartFrom}
+use Rattle.version_model.specs.Falls.{AreApartFrom, IsApart}
 
 from_on : (b : BlockId) (acts : List Act) (a : Act) (h : History) → acts_from b h (acts ++ a ∷ []) ≡ acts_from b h acts ++ block_acts b (history_after acts h) a
 from_on b [] a h = append-nil (block_acts b h a)

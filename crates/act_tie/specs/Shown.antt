@@ -1,37 +1,15 @@
 -- How the history of a block in a run is seen in the history that the acts of the block make; and that the falls of a run are apart.
 use Rattle.std.specs.Prelude.{◌≡◌, ℕ, suc, List, [], ◌∷◌, length, slice_get, Option, Some, None}
 use Rattle.xfs_base.specs.declared.block.BlockId.{BlockId}
-use Rattle.version_model.specs.declared.act.Act.{Act}
-use Rattle.version_model.specs.declared.act.Act.TheVariants.{Wrote, Read, Synced, Fell, Back, Lost, Filed, Dropped, Answered}
 use Rattle.version_model.specs.declared.act.Fall.{Fall}
 use Rattle.version_model.specs.declared.history.Version.{Version}
 use Rattle.version_model.specs.declared.history.BlockHistory.{BlockHistory}
 use Rattle.version_model.specs.declared.history.FallTold.{FallTold}
-use Rattle.version_model.specs.History.{History, nothing_yet}
-use Rattle.version_model.specs.Effects.{after_act}
+use Rattle.version_model.specs.History.{History}
 use Rattle.version_model.specs.Legal.{NamesNoBlockTwice}
 use Rattle.token_protocol.specs.Acts as block
 use Rattle.act_tie.specs.BlockActs.{fall_of}
 use Rattle.act_tie.specs.Number.{number}
-
--- A client falls only while no fall of it waits, and a fall names no block twice. Every other act is apart.
-abbrev pub IsApart : Act → History → Type 0
-IsApart (Wrote client block value) h = Unit {0}
-IsApart (Read client block ver value) h = Unit {0}
-IsApart (Synced client) h = Unit {0}
-IsApart (Fell client flight falls) h = (h.told client ≡ []) × NamesNoBlockTwice falls
-IsApart (Back client chain) h = Unit {0}
-IsApart (Lost node seg) h = Unit {0}
-IsApart (Filed seg) h = Unit {0}
-IsApart (Dropped seg) h = Unit {0}
-IsApart (Answered node item answer) h = Unit {0}
-
-abbrev pub AreApartFrom : History → List Act → Type 0
-AreApartFrom h [] = Unit {0}
-AreApartFrom h (a ∷ acts) = IsApart a h × AreApartFrom (after_act a h) acts
-
-abbrev pub FallsApart : List Act → Type 0
-FallsApart acts = AreApartFrom nothing_yet acts
 
 -- A client fell with the block where its fall names it, to these versions.
 abbrev pub FallShown : Option Fall → ℕ → ℕ → ℕ → Type 0

@@ -12,7 +12,8 @@ ghost use Rattle.version_model.specs.Legal.{AreLegal};
 ghost use Rattle.token_protocol.specs.Acts.{LegalActs, history};
 ghost use Rattle.act_tie.specs.BlockActs.{acts_of};
 ghost use Rattle.act_tie.specs.Number.{number};
-ghost use Rattle.act_tie.specs.Shown.{FallsApart, HistoryShown};
+ghost use Rattle.act_tie.specs.Shown.{HistoryShown};
+ghost use Rattle.version_model.specs.Falls.{FallsApart};
 
 /// A value and its number: what is absent is 0, and two values that have one number are one value.
 pub fn numbers()

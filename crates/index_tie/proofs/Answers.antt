@@ -15,7 +15,8 @@ use Rattle.token_manager.specs.declared.output.Out.TheVariants.{Live, Dead}
 use Rattle.token_manager.specs.Transition.{entry_at, is_place}
 use Rattle.log_protocol.specs.IndexState as index
 use Rattle.log_protocol.proofs.IndexInduction.{index_is_join_always, index_in_bounds_always}
-use Rattle.index_tie.specs.Filed.{Filed, row_at, Names}
+use Rattle.index_tie.specs.Filed.{Names}
+use Rattle.headline.specs.Filed.{Filed, row_at}
 use Rattle.index_tie.specs.Cleaning.{IsRow, LiveIsFiled, MovesAreCopies, DeadsAreBeats}
 use Rattle.index_tie.proofs.Rows.{row_versioned}
 

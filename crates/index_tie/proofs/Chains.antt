@@ -22,7 +22,8 @@ use Rattle.takeover.specs.declared.source.Source.{Source}
 use Rattle.takeover.specs.ReadBack.{IsReadBack, told_along}
 use Rattle.takeover.specs.Rows.{is_of, part_rows, told_of}
 use Rattle.takeover.specs.Sources.{log_source, prior_of, goes_back, back_from}
-use Rattle.index_tie.specs.Filed.{Filed, rows_at, rows_between, IsNoPart, IsSegment, IsFiled}
+use Rattle.index_tie.specs.Filed.{IsFiled}
+use Rattle.headline.specs.Filed.{Filed, IsNoPart, IsSegment, rows_at, rows_between}
 use Rattle.index_tie.specs.Takeovers.{IsEnd, Linked, IsItsText}
 use Rattle.index_tie.proofs.Tables.{first_of}
 

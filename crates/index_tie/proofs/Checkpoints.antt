@@ -23,7 +23,8 @@ use Rattle.checkpoint.proofs.Covering.{is_the_index}
 use Rattle.log_protocol.specs.IndexSteps.IndexStep.{Keeps as Keep}
 use Rattle.log_protocol.proofs.IndexInduction.{index_is_join_always, index_in_bounds_always}
 use Rattle.index_tie.specs.Filed.{Names}
-use Rattle.index_tie.specs.Takeovers.{of_log, below}
+use Rattle.index_tie.specs.Takeovers.{below}
+use Rattle.headline.specs.Indexes.{of_log}
 use Rattle.index_tie.specs.Checkpoints.{PartsCover, TellsPart, PartsAreRead, PartsTellTheirRows, horizon_seen, CheckpointsAreKept}
 use Rattle.index_tie.proofs.Takeovers.{by_log, of_log_in, of_log_out, joins_at}
 use Rattle.index_tie.proofs.Tables.{at_same, first_of, second_of}

@@ -38,8 +38,8 @@ use Rattle.log_protocol.specs.IndexSteps.{IndexSteps, promises, counts, drops_ro
 use Rattle.log_protocol.specs.IndexSteps.IndexSteps.{Done as Ended, More}
 use Rattle.log_protocol.specs.IndexSteps.IndexStep.{Promises, Counts, Drops_row}
 use Rattle.log_protocol.proofs.IndexRunsGoOn.{index_steps_on}
-use Rattle.index_tie.specs.Filed.{Filed}
-use Rattle.index_tie.specs.Cleaning.{is_filed_name, has_block, IsWithin, IsChecked, IsDropped, Known, promise_of, Cleans, NoLower, ReadFor, ToldFor, Owes, DeletesDropped, uncleaned, Cleaned, MovesAndDrops}
+use Rattle.headline.specs.Filed.{Filed, has_block, is_filed_name}
+use Rattle.index_tie.specs.Cleaning.{IsWithin, IsChecked, IsDropped, Known, promise_of, Cleans, NoLower, ReadFor, ToldFor, Owes, DeletesDropped, uncleaned, Cleaned, MovesAndDrops}
 use Rattle.index_tie.proofs.CheckLists.{blocks-checks, blocks-map, all-map, all-each, of_dead, live_stays, moved_stays, live_block, dead_block, none_dead}
 use Rattle.index_tie.proofs.Tables.{at_same}
 

@@ -18,7 +18,8 @@ use Rattle.token_manager.proofs.Turns.{takes-transition}
 use Rattle.log_protocol.specs.IndexState.{IndexState}
 use Rattle.log_protocol.specs.IndexLaws.{IndexReached}
 use Rattle.log_protocol.proofs.IndexInduction.{index_is_join_always}
-use Rattle.index_tie.specs.Filed.{Filed, row_at, IsSegment, Tells}
+use Rattle.index_tie.specs.Filed.{Tells}
+use Rattle.headline.specs.Filed.{Filed, IsSegment, row_at}
 use Rattle.index_tie.specs.Growth.{with_segment, said_of, Files}
 use Rattle.index_tie.specs.Slots.{Manages, Runs, DeltasTell, Brings}
 use Rattle.index_tie.specs.Net.{Net, with_slot, IsNewer, IsMove, IsOfTokens}

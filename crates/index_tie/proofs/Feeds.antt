@@ -14,7 +14,7 @@ use Rattle.delta_feed.specs.RangeLaws.{TellsRange, IsTrueRange}
 use Rattle.delta_feed.specs.Transition.{transition}
 use Rattle.delta_feed.proofs.RangeRows.{between_more, between_same}
 use Rattle.delta_feed.proofs.Ranges.{ranges_true}
-use Rattle.index_tie.specs.Filed.{Filed, rows_at, rows_between}
+use Rattle.headline.specs.Filed.{Filed, rows_at, rows_between}
 use Rattle.index_tie.specs.Feeds.{fed_at, RangesTellWhatIsFiled}
 
 -- segments from within the range on

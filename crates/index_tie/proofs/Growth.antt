@@ -16,7 +16,8 @@ use Rattle.log_protocol.specs.IndexState as index
 use Rattle.log_protocol.specs.IndexSteps.{files, files_none, copies}
 use Rattle.log_protocol.specs.IndexSteps.IndexSteps.{Done as Ended, More}
 use Rattle.log_protocol.specs.IndexSteps.IndexStep.{Files as File, Files_none, Copies}
-use Rattle.index_tie.specs.Filed.{Filed, rows_at, row_at, rows_between, IsSegment, IsFiled, Tells, Names}
+use Rattle.index_tie.specs.Filed.{IsFiled, Tells, Names}
+use Rattle.headline.specs.Filed.{Filed, IsSegment, row_at, rows_at, rows_between}
 use Rattle.index_tie.specs.Takeovers.{below}
 use Rattle.index_tie.specs.Growth.{with_segment, said_of, IsCopy, Files, ClientsFile, CleanerFiles, IsMore, SlotsStay, PartsStay, DeltasStay, MoreIsFiled}
 use Rattle.index_tie.proofs.Rows.{Versioned, versioned_of, join_has, by_filed}

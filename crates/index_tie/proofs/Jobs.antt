@@ -27,8 +27,8 @@ use Rattle.log_protocol.specs.IndexState.{IndexState}
 use Rattle.log_protocol.specs.IndexSteps.{promises}
 use Rattle.log_protocol.specs.IndexSteps.IndexSteps.{Done as Ended, More}
 use Rattle.log_protocol.specs.IndexSteps.IndexStep.{Promises}
-use Rattle.index_tie.specs.Filed.{Filed}
-use Rattle.index_tie.specs.Cleaning.{is_filed_name, IsDropped, ReadFor, ToldFor, DeletesDropped, Cleaned, promise_of}
+use Rattle.headline.specs.Filed.{Filed, is_filed_name}
+use Rattle.index_tie.specs.Cleaning.{IsDropped, ReadFor, ToldFor, DeletesDropped, Cleaned, promise_of}
 use Rattle.index_tie.specs.Net.{Net, with_job, deletes_of, IsOther, IsInHand}
 use Rattle.index_tie.specs.Net.Packet.{AnsweredDead}
 use Rattle.index_tie.proofs.Cleaning.{polled_at, StaysOn, RisesOn, heard_at, welcome_rises, promise_rises, promise_stays, usage_stays, live_answered, dead_answered, read_stays, maps_stay, listed_stays, moved_stays_on, deleted_stays, tick_stays}

@@ -18,9 +18,9 @@ use Rattle.stripe_cleaner.specs.CleaningState.{started}
 use Rattle.stripe_cleaner.specs.Histories.{blocks_of}
 use Rattle.stripe_cleaner.specs.Job.{counted, same_name}
 use Rattle.stripe_cleaner.specs.Promises.{promised_at}
-use Rattle.index_tie.specs.Filed.{Filed}
+use Rattle.headline.specs.Filed.{Filed, has_block, is_filed_name}
 use Rattle.index_tie.specs.Growth.{IsMore}
-use Rattle.index_tie.specs.Cleaning.{is_filed_name, has_block, IsWithin, IsDropped, Known, promise_of, JobsStay, JobsBegin}
+use Rattle.index_tie.specs.Cleaning.{IsWithin, IsDropped, Known, promise_of, JobsStay, JobsBegin}
 
 pub jobs_begin : JobsBegin
 jobs_begin b f w count = record { promised = inl (none_yet (slot_of b.ino.0)); known = tt }

@@ -18,8 +18,9 @@ use Rattle.token_manager.specs.Transition.{entry_at}
 use Rattle.log_protocol.specs.IndexState.{IndexState}
 use Rattle.log_protocol.specs.IndexBoundLaws.{RowsInPlace}
 use Rattle.log_protocol.proofs.IndexInduction.{index_is_join_always, index_in_bounds_always, cleaning_loses_nothing_always, dead_stays_always, rows_in_place_always}
-use Rattle.index_tie.specs.Filed.{row_at}
-use Rattle.index_tie.specs.Laws.{IsAppliedRow, IndexesAreJoins, IsExact, PlacesAreExact, DroppedIsOutdated, NewestIsKept}
+use Rattle.headline.specs.Filed.{row_at}
+use Rattle.index_tie.specs.Laws.{IndexesAreJoins, IsExact, PlacesAreExact, DroppedIsOutdated, NewestIsKept}
+use Rattle.headline.specs.Indexes.{IsAppliedRow}
 use Rattle.index_tie.proofs.Growth.{is_filed}
 use Rattle.index_tie.proofs.Rows.{join_has, by_filed}
 

@@ -13,7 +13,7 @@ use Rattle.log_protocol.proofs.Interval.{past_stays_always}
 use Rattle.log_protocol.proofs.LogTheorems.{one_line_always, feed_whole_always}
 use Rattle.log_protocol.proofs.StateLaws.{end_is_head_always, book_always, horizons_always}
 use Rattle.index_tie.specs.Feeds.{fed_at}
-use Rattle.index_tie.specs.Filed.{rows_at, IsSegment}
+use Rattle.headline.specs.Filed.{IsSegment, rows_at}
 use Rattle.index_tie.specs.Lines.{pass_of, IsLog, lines, LinesAreFiled, LinesAreLinked, FiledNamesAreEnds, feed_at, FeedsAreFed, LinesGrow}
 use Rattle.index_tie.proofs.Takeovers.{by_log}
 use Rattle.index_tie.proofs.Tables.{first_of, second_of}

@@ -41,11 +41,13 @@ use Rattle.log_protocol.specs.IndexState.{IndexState}
 use Rattle.log_protocol.specs.IndexSteps.{IndexSteps, CanBeat, beats, keeps_horizon, moves}
 use Rattle.log_protocol.specs.IndexSteps.IndexSteps.{Done as Ended, More}
 use Rattle.log_protocol.specs.IndexSteps.IndexStep.{Beats, Moves}
-use Rattle.index_tie.specs.Filed.{Filed, row_at, IsFiled, Tells}
+use Rattle.index_tie.specs.Filed.{IsFiled, Tells}
+use Rattle.headline.specs.Filed.{Filed, is_filed_name, row_at}
 use Rattle.index_tie.specs.Slots.{Manages}
-use Rattle.index_tie.specs.Takeovers.{of_log, Covers, MayBegin, TakeoverTold}
+use Rattle.index_tie.specs.Takeovers.{Covers, MayBegin, TakeoverTold}
+use Rattle.headline.specs.Indexes.{of_log}
 use Rattle.index_tie.specs.Checkpoints.{IsNext, horizon_seen}
-use Rattle.index_tie.specs.Cleaning.{IsRow, is_filed_name, IsWithin, promise_of}
+use Rattle.index_tie.specs.Cleaning.{IsRow, IsWithin, promise_of}
 use Rattle.index_tie.specs.Net.{Net, Packet, with_slot, with_packet, answer_packets, HasRead}
 use Rattle.index_tie.specs.Net.Packet.{CheckpointPlanned, CheckpointDone, CleanerReported, Checked, AnsweredLive, AnsweredDead}
 use Rattle.index_tie.proofs.Answers.{live_is_filed, deads_are_beats}

@@ -12,7 +12,8 @@ use Rattle.delta_index.proofs.JoinAlgebra.{join-append, join-cons, join-one}
 use Rattle.log_protocol.specs.IndexState.{IndexState}
 use Rattle.log_protocol.specs.IndexState as index
 use Rattle.log_protocol.specs.IndexMerge as merge
-use Rattle.index_tie.specs.Filed.{Filed, rows_at, row_at, rows_between, IsFiled, Tells, Names}
+use Rattle.index_tie.specs.Filed.{IsFiled, Tells, Names}
+use Rattle.headline.specs.Filed.{Filed, row_at, rows_at, rows_between}
 
 -- one of two
 pub one_of : (P : Entry → Type 0) (a b : Entry) → P a → P b → P (first_greatest a b)

@@ -29,7 +29,7 @@ use Rattle.takeover.specs.Reports.{no_end, end_of}
 use Rattle.takeover.specs.Transition as takeover
 use Rattle.token_manager.specs.declared.input.In.TheVariants.{Deltas}
 use Rattle.token_manager.specs.Transition.{started, cleaned, transition}
-use Rattle.index_tie.specs.Filed.{IsSegment}
+use Rattle.headline.specs.Filed.{IsSegment}
 use Rattle.index_tie.specs.Growth.{with_segment}
 use Rattle.index_tie.specs.Slots.{DeltasTell}
 use Rattle.index_tie.specs.Net.{Net, IsNewer, HasRead, Runs, with_packet, with_slot, opening, ones, zeros}

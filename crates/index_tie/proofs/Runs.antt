@@ -21,7 +21,8 @@ use Rattle.log_protocol.specs.IndexSteps.{activates}
 use Rattle.log_protocol.specs.IndexSteps.IndexSteps.{Done as Ended, More}
 use Rattle.log_protocol.specs.IndexSteps.IndexStep.{Activates as Activate}
 use Rattle.log_protocol.proofs.IndexInduction.{index_in_bounds_always, dead_stays_always}
-use Rattle.index_tie.specs.Filed.{Filed, row_at, Tells}
+use Rattle.index_tie.specs.Filed.{Tells}
+use Rattle.headline.specs.Filed.{Filed, row_at}
 use Rattle.index_tie.specs.Slots.{Manages}
 use Rattle.index_tie.specs.Takeovers.{below}
 use Rattle.index_tie.specs.Cleaning.{IsDropped}

@@ -27,7 +27,8 @@ use Rattle.log_protocol.specs.IndexSteps.IndexSteps.{Done as Ended, More}
 use Rattle.log_protocol.specs.IndexSteps.IndexStep.{Merges}
 use Rattle.log_protocol.proofs.IndexInduction.{index_is_join_always, index_in_bounds_always}
 use Rattle.log_protocol.proofs.IndexMerge.{merging_joins}
-use Rattle.index_tie.specs.Filed.{Filed, IsFiled, Tells, Names}
+use Rattle.index_tie.specs.Filed.{IsFiled, Tells, Names}
+use Rattle.headline.specs.Filed.{Filed}
 use Rattle.index_tie.specs.Slots.{Manages, ByManager, Runs, DeltasTell, AppliesAreMerges}
 use Rattle.index_tie.proofs.Rows.{names_merged, ranged_between}
 use Rattle.index_tie.proofs.Tables.{at_same, at_other, put_each}

@@ -50,9 +50,11 @@ use Rattle.log_protocol.specs.IndexSteps.IndexSteps.{Done as Ended, More}
 use Rattle.log_protocol.specs.IndexSteps.IndexStep.{Activates}
 use Rattle.log_protocol.proofs.IndexInduction.{index_in_bounds_always}
 use Rattle.log_protocol.proofs.IndexMerge.{merging_joins}
-use Rattle.index_tie.specs.Filed.{Filed, rows_between, IsFiled, Tells, Names}
+use Rattle.index_tie.specs.Filed.{IsFiled, Tells, Names}
+use Rattle.headline.specs.Filed.{Filed, rows_between}
 use Rattle.index_tie.specs.Slots.{Runs}
-use Rattle.index_tie.specs.Takeovers.{of_log, below, Covers, IsEnd, Linked, IsItsText, TakeoverTold, MayBegin, TakeoversAreActivations}
+use Rattle.index_tie.specs.Takeovers.{below, Covers, IsEnd, Linked, IsItsText, TakeoverTold, MayBegin, TakeoversAreActivations}
+use Rattle.headline.specs.Indexes.{of_log}
 use Rattle.index_tie.proofs.Chains.{log_tells}
 use Rattle.index_tie.proofs.Rows.{names_merged, ranged_between}
 use Rattle.index_tie.proofs.Slots.{rows-indexed_all, framed, shown}

@@ -21,11 +21,13 @@ use Rattle.log_protocol.specs.IndexLaws.{IndexReached}
 use Rattle.log_protocol.specs.IndexSteps.{IndexSteps}
 use Rattle.log_protocol.proofs.IndexGrowth.{index_past_stays_always}
 use Rattle.log_protocol.proofs.IndexRunsGoOn.{index_reached_on}
-use Rattle.index_tie.specs.Filed.{Filed, row_at, IsFiled, Tells}
+use Rattle.index_tie.specs.Filed.{IsFiled, Tells}
+use Rattle.headline.specs.Filed.{Filed, is_filed_name, row_at}
 use Rattle.index_tie.specs.Growth.{IsMore}
 use Rattle.index_tie.specs.Slots.{Manages}
-use Rattle.index_tie.specs.Takeovers.{of_log, Covers}
-use Rattle.index_tie.specs.Cleaning.{IsRow, is_filed_name, IsWithin, IsDropped, Cleans}
+use Rattle.index_tie.specs.Takeovers.{Covers}
+use Rattle.headline.specs.Indexes.{of_log}
+use Rattle.index_tie.specs.Cleaning.{IsRow, IsWithin, IsDropped, Cleans}
 use Rattle.index_tie.specs.Net.{Net, Packet}
 use Rattle.index_tie.specs.Net.Packet.{CheckpointPlanned, CheckpointDone, CleanerReported, Checked, AnsweredLive, AnsweredDead}
 use Rattle.index_tie.proofs.JobsStay.{dropped_stays}

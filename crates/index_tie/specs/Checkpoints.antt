@@ -17,9 +17,11 @@ use Rattle.checkpoint.specs.WriterState.{Rows, items_of}
 use Rattle.log_protocol.specs.IndexState.{IndexState}
 use Rattle.log_protocol.specs.IndexLaws.{IndexReached}
 use Rattle.log_protocol.specs.IndexSteps.{IndexStep, keeps_horizon}
-use Rattle.index_tie.specs.Filed.{Filed, IsFiled, Tells}
+use Rattle.index_tie.specs.Filed.{IsFiled, Tells}
+use Rattle.headline.specs.Filed.{Filed}
 use Rattle.index_tie.specs.Slots.{Manages}
-use Rattle.index_tie.specs.Takeovers.{of_log, Covers}
+use Rattle.index_tie.specs.Takeovers.{Covers}
+use Rattle.headline.specs.Indexes.{of_log}
 
 -- a horizon begins, in each log, where what the slot has applied ends
 abbrev pub IsNext : SlotState → List ℕ → Type 0

@@ -1,24 +1,22 @@
 -- How a job of the cleaner is seen in the index of one block, what it needs of the world, and the laws: what is live is copied, what is dead is beaten and
 -- counted, and what is deleted was dropped.
-use Rattle.std.specs.Prelude.{◌≡◌, ℕ, ◌<◌, ◌≤◌, ◌⊎◌, Bool, true, List, [], ◌∷◌, map, Option, Some}
-use Rattle.std.specs.List.{AllByRecursion, list_any}
+use Rattle.std.specs.Prelude.{◌≡◌, ℕ, ◌<◌, ◌≤◌, ◌⊎◌, true, List, [], ◌∷◌, map, Option, Some}
+use Rattle.std.specs.List.{AllByRecursion}
 use Rattle.segment_format.specs.declared.segment.Segment.{Segment}
 use Rattle.xfs_base.specs.declared.block.BlockId.{BlockId}
 use Rattle.xfs_base.specs.declared.entry.Entry.{Entry}
 use Rattle.xfs_base.specs.declared.entry.Place.{Place}
 use Rattle.xfs_base.specs.declared.segment.SegName.{SegName}
-use Rattle.xfs_base.specs.Blocks.{slot_of, same_block}
+use Rattle.xfs_base.specs.Blocks.{slot_of}
 use Rattle.stripe_cleaner.specs.declared.checks.Check.{Check}
 use Rattle.stripe_cleaner.specs.declared.input.In as inputs
 use Rattle.stripe_cleaner.specs.declared.input.In.TheVariants as input
 use Rattle.stripe_cleaner.specs.declared.output.Out as outputs
-use Rattle.stripe_cleaner.specs.declared.output.Out.TheVariants as output
 use Rattle.stripe_cleaner.specs.declared.phase.Phase.{Phase}
 use Rattle.stripe_cleaner.specs.declared.phase.Phase.TheVariants.{Reading, Checking}
 use Rattle.stripe_cleaner.specs.Checks.{moved_once, is_dead}
 use Rattle.stripe_cleaner.specs.CleaningState.{CleaningState, started}
 use Rattle.stripe_cleaner.specs.Histories.{KnownOf, DeletesOf, blocks_of}
-use Rattle.stripe_cleaner.specs.Job.{same_name}
 use Rattle.stripe_cleaner.specs.Promises.{promised_at}
 use Rattle.stripe_cleaner.specs.Transition as job
 use Rattle.token_manager.specs.declared.input.In.TheVariants as told
@@ -28,7 +26,8 @@ use Rattle.token_manager.specs.Transition as slot
 use Rattle.log_protocol.specs.IndexState.{IndexState}
 use Rattle.log_protocol.specs.IndexLaws.{IndexReached}
 use Rattle.log_protocol.specs.IndexSteps.{CanBeat, IndexSteps}
-use Rattle.index_tie.specs.Filed.{Filed, row_at, IsFiled, Tells}
+use Rattle.index_tie.specs.Filed.{IsFiled, Tells}
+use Rattle.headline.specs.Filed.{Filed, has_block, is_filed_name, row_at}
 use Rattle.index_tie.specs.Growth.{IsCopy, IsMore}
 use Rattle.index_tie.specs.Slots.{Manages}
 
@@ -61,14 +60,6 @@ DeadsAreBeats =
     → (slot.transition s (told.Check b place)).outs ≡ telling.Dead ∷ [] → CanBeat w d s.epoch l q
 
 -- ---- the job
-
--- whether a name is that of the filed segment of its log and seq
-abbrev pub is_filed_name : Filed → SegName → Bool
-is_filed_name f name = same_name name (f.segment name.log.0 name.seq).name
-
--- whether that segment has a Block of this block
-abbrev pub has_block : BlockId → Filed → SegName → Bool
-has_block b f name = list_any (same_block b) (blocks_of (f.segment name.log.0 name.seq).items)
 
 -- the log had filed this seq
 pub record IsWithin (f : Filed) (name : SegName) : Type 0 where

@@ -10,7 +10,7 @@ use Rattle.delta_feed.specs.declared.input.In.{In}
 use Rattle.delta_feed.specs.declared.output.Out.TheVariants.{Range}
 use Rattle.delta_feed.specs.History.{state_after, end_of, filed_by}
 use Rattle.delta_feed.specs.Transition.{transition}
-use Rattle.index_tie.specs.Filed.{Filed, rows_at}
+use Rattle.headline.specs.Filed.{Filed, rows_at}
 use Rattle.index_tie.specs.Slots.{DeltasTell}
 
 -- a filed segment, as a feed has it

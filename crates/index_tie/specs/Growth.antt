@@ -11,7 +11,8 @@ use Rattle.log_protocol.specs.Tables.{put}
 use Rattle.log_protocol.specs.IndexState.{IndexState}
 use Rattle.log_protocol.specs.IndexLaws.{IndexReached}
 use Rattle.log_protocol.specs.IndexSteps.{IndexSteps}
-use Rattle.index_tie.specs.Filed.{Filed, row_at, IsSegment, IsFiled, Tells}
+use Rattle.index_tie.specs.Filed.{IsFiled, Tells}
+use Rattle.headline.specs.Filed.{Filed, IsSegment, row_at}
 use Rattle.index_tie.specs.Slots.{Manages, DeltasTell}
 use Rattle.index_tie.specs.Takeovers.{Covers}
 

@@ -1,31 +1,17 @@
 -- What the index comes to, in the words of the machines: entries are joins, their places are exact, and cleaning loses nothing.
-use Rattle.std.specs.Prelude.{◌≡◌, ℕ, ◌<◌, ◌≤◌, ◌⊎◌, false, Some}
+use Rattle.std.specs.Prelude.{◌≡◌, ℕ, ◌<◌, ◌≤◌, Some}
 use Rattle.xfs_base.specs.declared.block.BlockId.{BlockId}
 use Rattle.xfs_base.specs.declared.entry.Entry.{Entry}
 use Rattle.xfs_base.specs.declared.entry.Place.{Place}
-use Rattle.delta_index.specs.Entries.{no_entry, is_newer, HasSameRank}
-use Rattle.slot_beliefs.specs.Recalls.{applied_of}
 use Rattle.token_manager.specs.SlotState.{SlotState}
 use Rattle.token_manager.specs.Transition.{entry_at}
 use Rattle.log_protocol.specs.IndexState.{IndexState}
 use Rattle.log_protocol.specs.IndexLaws.{IndexReached}
-use Rattle.index_tie.specs.Filed.{Filed, row_at, IsFiled, Tells, Names}
+use Rattle.index_tie.specs.Filed.{IsFiled, Tells, Names}
+use Rattle.headline.specs.Filed.{Filed, row_at}
 use Rattle.log_protocol.specs.IndexState as index
 use Rattle.index_tie.specs.Slots.{Manages}
-
--- an entry is a row that the slot has applied, and the earliest of its version and hop
-pub record IsAppliedRow (b : BlockId) (f : Filed) (s : SlotState) (entry : Entry) : Type 0 where
-  pub log : ℕ
-  pub seq : ℕ
-  pub some : 0 < log
-  pub applied : seq ≤ applied_of s.applied log
-  pub is_row : entry ≡ row_at f b log seq
-  pub earliest : (l q : ℕ) → 0 < l → q ≤ applied_of s.applied l → HasSameRank (row_at f b l q) entry → seq ≤ q
-
--- What the index of a slot holds of the block is the join of what the slot has applied: none of it is newer, and it is one of it, or no entry.
-pub record IsJoinOfApplied (b : BlockId) (f : Filed) (s : SlotState) : Type 0 where
-  pub newest : (l q : ℕ) → 0 < l → q ≤ applied_of s.applied l → is_newer (row_at f b l q) (entry_at s b) ≡ false
-  pub one : (entry_at s b ≡ no_entry) ⊎ IsAppliedRow b f s (entry_at s b)
+use Rattle.headline.specs.Indexes.{IsJoinOfApplied, IsNewest}
 
 -- The index of each active slot is the join of what it has applied.
 abbrev pub IndexesAreJoins : Type 0
@@ -60,12 +46,6 @@ DroppedIsOutdated =
     (b : BlockId) (f : Filed) (w : IndexState) (s : SlotState) (place : Place) → IndexReached w → IsFiled f → Tells b f w → Manages b f w s
     → (entry_at s b).place ≡ Some place
     → w.dropped place.seg.name.log.0 place.seg.name.seq ≡ 1 → w.dead_at place.seg.name.log.0 place.seg.name.seq ≤ s.epoch → IsOutdated b f (entry_at s b)
-
--- a row of the block that no filed one is newer than, and the earliest of its version and hop
-pub record IsNewest (b : BlockId) (f : Filed) (l q : ℕ) : Type 0 where
-  pub some : 0 < (row_at f b l q).ver
-  pub newest : (m r : ℕ) → is_newer (row_at f b m r) (row_at f b l q) ≡ false
-  pub earliest : (m r : ℕ) → HasSameRank (row_at f b m r) (row_at f b l q) → q ≤ r
 
 -- Cleaning loses nothing: the newest row was not dropped.
 abbrev pub NewestIsKept : Type 0

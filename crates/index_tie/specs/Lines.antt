@@ -14,7 +14,8 @@ use Rattle.log_protocol.specs.State.{State}
 use Rattle.log_protocol.specs.Step.{Steps}
 use Rattle.log_protocol.specs.LogLaws.{Reached}
 use Rattle.index_tie.specs.Feeds.{IsFed}
-use Rattle.index_tie.specs.Filed.{Filed, IsNoPart, IsFiled}
+use Rattle.index_tie.specs.Filed.{IsFiled}
+use Rattle.headline.specs.Filed.{Filed, IsNoPart}
 use Rattle.index_tie.specs.Growth.{IsMore}
 use Rattle.index_tie.specs.Takeovers.{IsEnd, Linked}
 

@@ -45,11 +45,12 @@ use Rattle.token_manager.specs.SlotState.{SlotState}
 use Rattle.token_manager.specs.Transition as slot
 use Rattle.log_protocol.specs.Tables.{In, put}
 use Rattle.index_tie.specs.Checkpoints.{IsNext, TellsPart}
-use Rattle.index_tie.specs.Cleaning.{is_filed_name, IsWithin, ReadFor}
-use Rattle.index_tie.specs.Filed.{Filed, row_at, IsSegment}
+use Rattle.index_tie.specs.Cleaning.{IsWithin, ReadFor}
+use Rattle.headline.specs.Filed.{Filed, IsSegment, is_filed_name, row_at}
 use Rattle.index_tie.specs.Growth.{with_segment, said_of}
 use Rattle.index_tie.specs.Slots.{DeltasTell}
-use Rattle.index_tie.specs.Takeovers.{of_log, IsEnd, Linked, IsItsText}
+use Rattle.index_tie.specs.Takeovers.{IsEnd, Linked, IsItsText}
+use Rattle.headline.specs.Indexes.{of_log}
 
 -- A checkpoint that an epoch's manager plans, with what happened to the slot's pages before and with its horizon; a checkpoint of an epoch, with its
 -- horizon and its parts; a Report of the cleaner, with the epoch that it has promised and the end of its log; a Check of a job, by the job's number,

@@ -12,11 +12,11 @@ use Rattle.slot_beliefs.specs.Recalls.{applied_of}
 use Rattle.token_manager.specs.SlotState.{SlotState}
 use Rattle.token_manager.specs.Transition.{entry_at}
 use Rattle.log_protocol.specs.Tables.{In}
-use Rattle.index_tie.specs.Cleaning.{is_filed_name, has_block}
-use Rattle.index_tie.specs.Laws.{IsJoinOfApplied, IsNewest, IsOutdated}
+use Rattle.headline.specs.Filed.{has_block, is_filed_name}
+use Rattle.index_tie.specs.Laws.{IsOutdated}
+use Rattle.headline.specs.Indexes.{IsJoinOfApplied, IsNewest, of_log}
 use Rattle.index_tie.specs.Net.{Net, Runs, opening}
 use Rattle.index_tie.specs.Net.Packet.{CheckpointDone}
-use Rattle.index_tie.specs.Takeovers.{of_log}
 
 -- a moment of a run, and a block of the slot
 pub record Moment (part : ℕ) (holds : SegRef → Rows) (n : Net) (b : BlockId) : Type 0 where

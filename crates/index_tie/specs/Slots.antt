@@ -12,7 +12,8 @@ use Rattle.token_manager.specs.Transition.{entry_at, transition}
 use Rattle.log_protocol.specs.IndexState.{IndexState}
 use Rattle.log_protocol.specs.IndexLaws.{IndexReached}
 use Rattle.log_protocol.specs.IndexSteps.{IndexSteps}
-use Rattle.index_tie.specs.Filed.{Filed, rows_between, IsFiled, Tells, Names}
+use Rattle.index_tie.specs.Filed.{IsFiled, Tells, Names}
+use Rattle.headline.specs.Filed.{Filed, rows_between}
 
 -- The slot is seen as the manager of its epoch, at this block.
 pub record Manages (b : BlockId) (f : Filed) (w : IndexState) (s : SlotState) : Type 0 where

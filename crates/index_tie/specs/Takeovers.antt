@@ -1,5 +1,5 @@
 -- What a takeover needs of the world, and the law: a slot that is handed out is an activation.
-use Rattle.std.specs.Prelude.{◌≡◌, ℕ, suc, ◌-◌, ◌<◌, ◌≤◌, ◌&&◌, nat_lt, nat_le, List, length, take, slice_index, Contains, if◌then◌else◌}
+use Rattle.std.specs.Prelude.{◌≡◌, ℕ, suc, ◌-◌, ◌<◌, ◌≤◌, List, length, take, Contains}
 use Rattle.std.specs.List.{AllByRecursion}
 use Rattle.group_map.specs.GroupMapState.{GroupMapState}
 use Rattle.xfs_base.specs.declared.block.BlockId.{BlockId}
@@ -23,12 +23,10 @@ use Rattle.token_manager.specs.Transition.{started}
 use Rattle.log_protocol.specs.IndexState.{IndexState, Joins}
 use Rattle.log_protocol.specs.IndexState as index
 use Rattle.log_protocol.specs.IndexLaws.{IndexReached}
-use Rattle.index_tie.specs.Filed.{Filed, IsFiled, Tells, Names}
+use Rattle.index_tie.specs.Filed.{IsFiled, Tells, Names}
+use Rattle.headline.specs.Filed.{Filed}
 use Rattle.index_tie.specs.Slots.{Runs}
-
--- what a list by log, from log 1 on, has of a log; 0 of a number that is none of logs 1 to 9
-abbrev pub of_log : List ℕ → ℕ → ℕ
-of_log numbers l = if nat_lt 0 l && nat_le l block_logs then slice_index numbers (l - 1) else 0
+use Rattle.headline.specs.Indexes.{of_log}
 
 -- the last seq of each log that lies below a horizon
 abbrev pub below : List ℕ → ℕ → ℕ

@@ -58,3 +58,10 @@ is_of f name index generation = same_name name f.segment.name && is_member f.gro
 
 abbrev pub noting : FlightState → ℕ → FlightState
 noting f index = record f { noted = slice_set f.noted index true }
+
+-- the server and the generation of the member at a place
+abbrev pub server_of : List Member → ℕ → ℕ
+server_of members place = (slice_index_or members place no_member).server
+
+abbrev pub generation_of : List Member → ℕ → ℕ
+generation_of members place = (slice_index_or members place no_member).generation

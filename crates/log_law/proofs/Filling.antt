@@ -9,7 +9,8 @@ use Rattle.stripe_code.specs.Fragments.{meta_of, fragment_at}
 use Rattle.stripe_code.specs.Round.{bytes_in, parts_in, count_of}
 use Rattle.stripe_code.specs.Stripe.{stripe_of}
 use Rattle.log_protocol.specs.Tables.{In}
-use Rattle.log_tie.specs.Setting.{Setting, name_of, server_of}
+use Rattle.log_tie.specs.Setting.{Setting, name_of}
+use Rattle.log_flight.specs.Flights.{server_of}
 use Rattle.log_tie.specs.Seen.{Page}
 use Rattle.log_tie.specs.Scans.{AllMetas}
 use Rattle.log_tie.specs.Shelves.{FillSeen}

@@ -5,12 +5,12 @@ use Rattle.std.proofs.Common.{◌≡◌, ℕ, suc, true, false, length, Option, 
 use Rattle.xfs_base.specs.declared.segment.SegName.{SegName}
 use Rattle.segment_format.specs.declared.segment.Segment.{Segment}
 use Rattle.group_map.specs.declared.group.Group as groups
-use Rattle.log_flight.specs.Flights.{FlightState, group_for}
+use Rattle.log_flight.specs.Flights.{FlightState, group_for, server_of}
 use Rattle.client_log.specs.LogState.{LogState}
 use Rattle.log_protocol.specs.LogLaws.{Reached}
 use Rattle.log_protocol.specs.State.{State}
 use Rattle.log_protocol.specs.Step.{Steps}
-use Rattle.log_tie.specs.Setting.{Setting, server_of}
+use Rattle.log_tie.specs.Setting.{Setting}
 use Rattle.log_tie.specs.Seen.{FlightShown, Serves, Fixed}
 use Rattle.log_tie.proofs.Booking.{stripe_group}
 use Rattle.log_law.specs.Net.{Owner, Net}

@@ -19,7 +19,8 @@ use Rattle.log_protocol.specs.LogLaws.{Reached}
 use Rattle.log_protocol.specs.State.{State}
 use Rattle.log_protocol.specs.Step.Steps.{Done}
 use Rattle.log_protocol.specs.StepLaws.{InSpan, HurtBefore}
-use Rattle.log_tie.specs.Setting.{Setting, name_of, server_of}
+use Rattle.log_tie.specs.Setting.{Setting, name_of}
+use Rattle.log_flight.specs.Flights.{server_of}
 use Rattle.log_tie.specs.Shelves.{Kept}
 use Rattle.log_tie.proofs.Names.{one_number}
 use Rattle.log_law.specs.Laws.{Moment}

@@ -6,7 +6,8 @@ use Rattle.xfs_base.specs.declared.segment.SegName.{SegName}
 use Rattle.segment_format.specs.declared.segment.Segment.{Segment}
 use Rattle.fragment_store.specs.ShelfState.{held_at}
 use Rattle.log_protocol.specs.Tables.{In}
-use Rattle.log_tie.specs.Setting.{Setting, name_of, server_of, fragment_of}
+use Rattle.log_tie.specs.Setting.{Setting, name_of, fragment_of}
+use Rattle.log_flight.specs.Flights.{server_of}
 use Rattle.log_tie.specs.Seen.{Page, members_of, StoreSeen}
 use Rattle.log_tie.specs.Shelves.{Kept}
 use Rattle.log_tie.proofs.Names.{one_number, name_coded}

@@ -30,7 +30,8 @@ use Rattle.log_scan.specs.ScanState.{ScanState, started}
 use Rattle.log_scan.specs.Transition as scan
 use Rattle.log_scan.specs.Transition.{least_horizon}
 use Rattle.log_protocol.specs.Tables.{put, In}
-use Rattle.log_tie.specs.Setting.{Setting, server_of}
+use Rattle.log_tie.specs.Setting.{Setting}
+use Rattle.log_flight.specs.Flights.{server_of}
 use Rattle.log_tie.specs.Shelves.{is_of_log, Deed, shelf_after}
 use Rattle.log_tie.specs.Shelves.Deed.{Stores, Fetches, Fences, Deletes, Fills, Loses}
 use Rattle.log_tie.specs.Scans.{WholeMap}

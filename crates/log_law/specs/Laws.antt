@@ -1,7 +1,7 @@
 -- What holds of the small world at every moment of every run.
 use Rattle.log_law.specs.Net.Owner.{Writing, Serving}
 use Rattle.client_log.specs.LogState.{LogState}
-use Rattle.log_flight.specs.Flights.{FlightState}
+use Rattle.log_flight.specs.Flights.{FlightState, generation_of, server_of}
 use Rattle.log_law.specs.Restarts.{IsSureRun, last_flight}
 use Rattle.std.specs.Prelude.{◌≡◌, ℕ, ◌<◌, ◌⊎◌, length, Some, suc, false, ◌≤◌, List}
 use Rattle.xfs_base.specs.declared.fragment.Fragment.{Fragment}
@@ -10,7 +10,7 @@ use Rattle.segment_format.specs.declared.segment.Segment.{Segment}
 use Rattle.group_map.specs.GroupMapState.{GroupMapState}
 use Rattle.fragment_store.specs.ShelfState.{held_at}
 use Rattle.log_protocol.specs.Tables.{In}
-use Rattle.log_tie.specs.Setting.{Setting, server_of, generation_of, fragment_of}
+use Rattle.log_tie.specs.Setting.{Setting, fragment_of}
 use Rattle.log_tie.specs.Seen.{members_of}
 use Rattle.log_tie.specs.Scans.{WholeMap}
 use Rattle.log_law.specs.Net.{Net, opening}

@@ -1,11 +1,11 @@
 -- Restarts of the owner: how long one takes, and when it is doubtful.
-use Rattle.log_flight.specs.Flights.{FlightState}
+use Rattle.log_flight.specs.Flights.{FlightState, server_of}
 use Rattle.std.specs.Prelude.{◌≡◌, ℕ, ◌<◌, ◌≤◌, ◌⊎◌, Bool, true, false, length, None, Option}
 use Rattle.xfs_base.specs.declared.segment.SegName.{SegName}
 use Rattle.segment_format.specs.declared.segment.Segment.{Segment}
 use Rattle.fragment_store.specs.ShelfState.{held_at}
 use Rattle.log_protocol.specs.Tables.{In}
-use Rattle.log_tie.specs.Setting.{Setting, server_of}
+use Rattle.log_tie.specs.Setting.{Setting}
 use Rattle.log_tie.specs.Seen.{members_of}
 use Rattle.log_law.specs.Net.{Owner, Net}
 use Rattle.log_law.specs.Net.Owner.{Down, Opening, Writing, Serving}

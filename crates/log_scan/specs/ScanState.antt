@@ -1,9 +1,12 @@
 -- What an opening keeps.
-use Rattle.std.specs.Prelude.{ℕ, None}
+use Rattle.std.specs.Prelude.{ℕ, None, Some, ◌≡◌}
 use Rattle.xfs_base.specs.declared.segment.LogId.{LogId}
 use Rattle.log_scan.specs.declared.opening.Opening.{Opening}
 use Rattle.log_scan.specs.declared.stage.Stage.{Stage}
-use Rattle.log_scan.specs.declared.stage.Stage.TheVariants.{Hails}
+use Rattle.log_scan.specs.declared.stage.Stage.TheVariants.{Hails, Reads}
+use Rattle.segment_reading.specs.Reading.{ReadingState}
+use Rattle.log_scan.specs.declared.stage.Backward.{Backward}
+use Rattle.xfs_base.specs.declared.segment.SegRef.{SegRef}
 
 -- what it keeps wherever it stands, and where it stands
 pub record ScanState : Type 0 where
@@ -16,3 +19,7 @@ begun log inc = record { log = log; inc = inc; ask = 1; low = 1; groups = None }
 
 abbrev pub started : LogId → ℕ → ScanState
 started log inc = record { opening = begun log inc; stage = Hails }
+
+-- this is the segment that an opening reads
+abbrev pub IsRead : Stage → SegRef → Type 0
+IsRead stage segment = (b : Backward) × (r : ReadingState) × (stage ≡ Reads b (Some r)) × (r.target.seg ≡ segment)

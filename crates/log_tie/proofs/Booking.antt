@@ -9,7 +9,8 @@ use Rattle.segment_format.specs.declared.segment.Segment.{Segment}
 use Rattle.segment_format.specs.Text.{text_of}
 use Rattle.group_map.specs.declared.group.Group as groups
 use Rattle.group_map.specs.GroupMapState.{GroupMapState}
-use Rattle.log_tie.specs.Setting.{Setting, Stripe, stripe_of_group, server_of, generation_of, present_at, name_of, point, IsStripe}
+use Rattle.log_tie.specs.Setting.{Setting, Stripe, stripe_of_group, present_at, name_of, point, IsStripe}
+use Rattle.log_flight.specs.Flights.{generation_of, server_of}
 use Rattle.log_tie.specs.Seen.{Page, Book, ByOwner}
 use Rattle.xfs_base.proofs.Booleans.{contrary, equal_itself}
 

@@ -8,8 +8,8 @@ use Rattle.group_map.specs.declared.group.Member.{Member}
 use Rattle.group_map.specs.GroupMapState.{GroupMapState}
 use Rattle.group_map.specs.Groups.{group_of}
 use Rattle.log_flight.specs.Fate.{has_server}
-use Rattle.log_flight.specs.Flights.{group_for, no_group}
-use Rattle.log_tie.specs.Setting.{Setting, IsStripe, IsMap, server_of, generation_of, present_at, stripe_of_group}
+use Rattle.log_flight.specs.Flights.{generation_of, group_for, no_group, server_of}
+use Rattle.log_tie.specs.Setting.{Setting, IsStripe, IsMap, present_at, stripe_of_group}
 use Rattle.log_tie.specs.Exist.{SomeSetting}
 use Rattle.stripe_code.specs.Stripe.{IsCut}
 

@@ -13,7 +13,7 @@ use Rattle.xfs_base.specs.Segments.{same_name}
 use Rattle.log_protocol.specs.Tables.{In}
 use Rattle.log_scan.specs.declared.listing.Listing.{Listing}
 use Rattle.log_scan.specs.Pick.{above, counting, has_name, has_list, lacks, is_torn}
-use Rattle.log_tie.specs.Setting.{server_of, generation_of}
+use Rattle.log_flight.specs.Flights.{generation_of, server_of}
 use Rattle.xfs_base.proofs.SegmentNames.{one_name, same_itself}
 
 -- ---- two words for membership

@@ -16,7 +16,7 @@ use Rattle.log_flight.specs.declared.flight.Fate.{Fate}
 use Rattle.log_flight.specs.declared.flight.Fate.TheVariants.{Restripe, Settle, Wait}
 use Rattle.log_flight.specs.Fate.{fate_of, lost_count, all_done}
 use Rattle.log_flight.specs.Flights as flights
-use Rattle.log_flight.specs.Flights.{FlightState}
+use Rattle.log_flight.specs.Flights.{FlightState, server_of}
 use Rattle.client_log.specs.declared.input.In.TheVariants.{Put, Parts, Seal, Acked, Maps, Tick}
 use Rattle.client_log.specs.declared.output.Out.{Out}
 use Rattle.client_log.specs.declared.output.Out.TheVariants.{Settled}
@@ -35,7 +35,7 @@ use Rattle.log_protocol.specs.Step.Step.{Opens, Serves as ServesStep, Notes, Lea
 use Rattle.log_protocol.specs.Step.Steps.{Done, More}
 use Rattle.log_protocol.proofs.Induction.{always}
 use Rattle.log_protocol.proofs.NewNames.{new_opening}
-use Rattle.log_tie.specs.Setting.{Setting, stripe_of_group, server_of, present_at, name_of, point, IsStripe}
+use Rattle.log_tie.specs.Setting.{Setting, stripe_of_group, present_at, name_of, point, IsStripe}
 use Rattle.log_tie.specs.Seen.{Book, Flying, Serves, ByOwner, Goes, Fixed, Standing}
 use Rattle.log_tie.specs.Inputs.{StoredSeen, MapSeen}
 use Rattle.log_tie.specs.Openings.{Chained, AllFrom, ChainShown, ReadShown, WritingShown, AllFiled, OpeningShown, OpensByStep, OpeningTakes}

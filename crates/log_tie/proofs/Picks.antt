@@ -21,7 +21,8 @@ use Rattle.log_scan.specs.Linked.{IsNoNewer, IsPicked}
 use Rattle.log_scan.specs.Pick.{counting, newest, has_name, has_list, is_torn}
 use Rattle.log_scan.proofs.Newest.{search_is}
 use Rattle.log_scan.proofs.Picked.{picked_is}
-use Rattle.log_tie.specs.Setting.{Setting, Stripe, server_of, generation_of, name_of}
+use Rattle.log_tie.specs.Setting.{Setting, Stripe, name_of}
+use Rattle.log_flight.specs.Flights.{generation_of, server_of}
 use Rattle.log_tie.specs.Seen.{Book, Fixed, members_of}
 use Rattle.log_tie.specs.Shelves.{flag}
 use Rattle.log_tie.specs.Scans.{WholeMap, AllMetas, FencedSeen, AllListed, Phantom}

@@ -16,11 +16,11 @@ use Rattle.log_protocol.proofs.Induction.{always}
 use Rattle.log_protocol.proofs.NewNames.{new_seal}
 use Rattle.group_map.specs.declared.group.Group as groups
 use Rattle.log_flight.specs.Flights as flights
-use Rattle.log_flight.specs.Flights.{FlightState, is_noted, none_noted}
+use Rattle.log_flight.specs.Flights.{FlightState, is_noted, none_noted, server_of}
 use Rattle.client_log.specs.LogState.{LogState}
 use Rattle.client_log.specs.Transition as log
 use Rattle.xfs_base.proofs.Booleans.{contrary}
-use Rattle.log_tie.specs.Setting.{Setting, stripe_of_group, server_of, point, IsStripe}
+use Rattle.log_tie.specs.Setting.{Setting, stripe_of_group, point, IsStripe}
 use Rattle.log_tie.specs.Seen.{Book, Serves, ByOwner, BooksItsFlight, Goes, Fixed}
 use Rattle.log_tie.proofs.Names.{some_number, name_coded}
 use Rattle.log_tie.proofs.Frames.{steps_through}

@@ -8,12 +8,12 @@ use Rattle.log_protocol.specs.Step.Step.{Sends}
 use Rattle.log_protocol.specs.Step.Steps.{Done, More}
 use Rattle.segment_format.specs.declared.segment.Segment.{Segment}
 use Rattle.group_map.specs.declared.group.Member.{Member}
-use Rattle.log_flight.specs.Flights.{FlightState, is_noted}
+use Rattle.log_flight.specs.Flights.{FlightState, generation_of, is_noted, server_of}
 use Rattle.log_flight.specs.Fragments.{piece}
 use Rattle.client_log.specs.declared.output.Out.{Out}
 use Rattle.client_log.specs.declared.output.Out.TheVariants.{Send}
 use Rattle.client_log.specs.Transition.{sends, all_sends}
-use Rattle.log_tie.specs.Setting.{Setting, Stripe, stripe_of_group, fragment_over, server_of, generation_of}
+use Rattle.log_tie.specs.Setting.{Setting, Stripe, stripe_of_group, fragment_over}
 use Rattle.log_tie.specs.Seen.{Page, Book, members_of, AllSaid}
 
 module _ (g : Setting) (w : State) (book : ℕ → Segment) where

@@ -17,7 +17,7 @@ use Rattle.group_map.specs.declared.group.Member.{Member}
 use Rattle.group_map.specs.GroupMapState.{GroupMapState}
 use Rattle.log_flight.specs.Fate.{has_server, is_lost, all_done, is_done}
 use Rattle.log_flight.specs.Flights as flights
-use Rattle.log_flight.specs.Flights.{FlightState, is_noted}
+use Rattle.log_flight.specs.Flights.{FlightState, generation_of, is_noted, server_of}
 use Rattle.client_log.specs.declared.output.Out.{Out}
 use Rattle.client_log.specs.declared.output.Out.TheVariants.{Settled as Out_Settled}
 use Rattle.client_log.specs.LogState.{LogState}
@@ -26,7 +26,7 @@ use Rattle.client_log.specs.Transition.{end_from}
 use Rattle.xfs_base.specs.declared.block.BlockId.{BlockId}
 use Rattle.xfs_base.specs.declared.entry.Entry.{Entry}
 use Rattle.xfs_base.proofs.Booleans.{contrary, and_first, and_second}
-use Rattle.log_tie.specs.Setting.{Setting, Stripe, server_of, generation_of, present_at, name_of, point, IsStripe}
+use Rattle.log_tie.specs.Setting.{Setting, Stripe, present_at, name_of, point, IsStripe}
 use Rattle.log_tie.specs.Seen.{Page, Book, Flying, Writes, Serves, ByOwner, Goes, Fixed, standing_of}
 use Rattle.log_tie.proofs.Names.{coded, some_number, name_coded, point_some}
 use Rattle.log_tie.proofs.Frames.{by_nothing}

@@ -29,7 +29,8 @@ use Rattle.log_protocol.specs.Packets.{FencedPacket}
 use Rattle.log_protocol.specs.State.{State}
 use Rattle.log_protocol.specs.Step.{Steps}
 use Rattle.log_protocol.specs.Tables.{In}
-use Rattle.log_tie.specs.Setting.{Setting, server_of, stripe_of_group, present_at, name_of, point}
+use Rattle.log_tie.specs.Setting.{Setting, stripe_of_group, present_at, name_of, point}
+use Rattle.log_flight.specs.Flights.{server_of}
 use Rattle.log_tie.specs.Seen.{Book, Fixed, Goes}
 use Rattle.log_tie.specs.Inputs.{MapSeen}
 use Rattle.log_tie.specs.Shelves.{flag, is_of_log, IsPiece}

@@ -6,7 +6,7 @@ use Rattle.xfs_base.specs.declared.segment.SegName.{SegName}
 use Rattle.segment_format.specs.declared.segment.Segment.{Segment}
 use Rattle.segment_format.specs.Text.{text_of}
 use Rattle.group_map.specs.declared.group.Member.{Member}
-use Rattle.log_flight.specs.Flights.{FlightState, is_noted}
+use Rattle.log_flight.specs.Flights.{FlightState, generation_of, is_noted, server_of}
 use Rattle.client_log.specs.declared.output.Out.{Out}
 use Rattle.client_log.specs.declared.output.Out.TheVariants.{Send, Settled}
 use Rattle.client_log.specs.LogState.{LogState}
@@ -15,7 +15,7 @@ use Rattle.log_protocol.specs.Packets.{StorePacket, StoredPacket, FragmentPacket
 use Rattle.log_protocol.specs.State.{State}
 use Rattle.log_protocol.specs.Step.{Steps}
 use Rattle.log_protocol.specs.Tables.{In}
-use Rattle.log_tie.specs.Setting.{Setting, stripe_of_group, server_of, generation_of, present_at, name_of, point, fragment_of, IsMap}
+use Rattle.log_tie.specs.Setting.{Setting, stripe_of_group, present_at, name_of, point, fragment_of, IsMap}
 
 abbrev pub members_of : Setting → Segment → List Member
 members_of g s = (g.stripe s.group).members

@@ -1,5 +1,5 @@
 -- What is fixed while one log is looked at: which log, how its names and contents are numbers, and what each group id names.
-use Rattle.std.specs.Prelude.{◌≡◌, ℕ, suc, ◌<◌, ◌==◌, Bool, if◌then◌else◌, List, [], length, slice_index_or}
+use Rattle.std.specs.Prelude.{◌≡◌, ℕ, suc, ◌<◌, ◌==◌, Bool, if◌then◌else◌, List, [], length}
 use Rattle.xfs_base.specs.declared.fragment.Fragment.{Fragment}
 use Rattle.xfs_base.specs.declared.segment.LogId.{LogId}
 use Rattle.xfs_base.specs.declared.segment.Pass.{Pass}
@@ -12,7 +12,7 @@ use Rattle.group_map.specs.declared.group.Member.{Member}
 use Rattle.group_map.specs.GroupMapState.{GroupMapState}
 use Rattle.group_map.specs.Groups.{generation_at}
 use Rattle.log_flight.specs.Fate.{has_server}
-use Rattle.log_flight.specs.Flights.{no_member, group_for}
+use Rattle.log_flight.specs.Flights.{generation_of, group_for, server_of}
 use Rattle.log_protocol.specs.State.{Names}
 
 -- over which members a segment is striped, and how many of its fragments are parity
@@ -22,13 +22,6 @@ pub record Stripe : Type 0 where
 
 abbrev pub stripe_of_group : Group → Stripe
 stripe_of_group group = record { members = group.members; parity = group.parity }
-
--- the server and the generation of the member at a place
-abbrev pub server_of : List Member → ℕ → ℕ
-server_of members place = (slice_index_or members place no_member).server
-
-abbrev pub generation_of : List Member → ℕ → ℕ
-generation_of members place = (slice_index_or members place no_member).generation
 
 -- the generation of a server as the map has it; of no server it is 0
 abbrev pub present_at : GroupMapState → ℕ → ℕ

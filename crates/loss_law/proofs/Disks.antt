@@ -19,7 +19,8 @@ use Rattle.log_law.specs.Events.{Runs}
 use Rattle.log_law.specs.Events.Runs.{Begun, On}
 use Rattle.log_law.specs.BeingRead.{IsWhole, WhatIsReadIsWhole}
 use Rattle.log_law.specs.Laws.{Moment, Holds, IsLater, LogsStayWhole}
-use Rattle.loss_law.specs.Losses.{Once, is_opening, IsTorn, IsLost, ref_of, disks_lost, ATornSegmentLostDisks, FragmentsGoWithDisks}
+use Rattle.loss_law.specs.Losses.{Once, is_opening, IsTorn, IsLost, disks_lost, ATornSegmentLostDisks, FragmentsGoWithDisks}
+use Rattle.segment_format.specs.References.{ref_of}
 use Rattle.loss_law.proofs.Counting.{counted_places}
 use Rattle.loss_law.proofs.Events.{first_base}
 use Rattle.loss_law.proofs.Interval.{HeldOn, passed}

@@ -18,7 +18,7 @@ use Rattle.log_scan.specs.declared.output.Out.TheVariants.{Hello}
 use Rattle.log_scan.specs.declared.stage.Backward.{Backward}
 use Rattle.log_scan.specs.declared.stage.Stage.{Stage}
 use Rattle.log_scan.specs.declared.stage.Stage.TheVariants.{Hails, Gathers, Asks, Reads, Over}
-use Rattle.log_scan.specs.ScanState.{ScanState}
+use Rattle.log_scan.specs.ScanState.{IsRead, ScanState}
 use Rattle.log_scan.specs.Transition as scan
 use Rattle.log_scan.specs.Transition.{Done, goes, stays, least_horizon}
 use Rattle.log_protocol.specs.Tables.{In}
@@ -28,7 +28,7 @@ use Rattle.log_law.specs.Net.Packet.{MapSent, WelcomeSent}
 use Rattle.log_law.specs.Net.Owner.{Opening}
 use Rattle.log_law.specs.Events.{CameToScan, Happens, Runs}
 use Rattle.log_law.specs.Events.Runs.{On}
-use Rattle.loss_law.specs.Losses.{IsRead, is_opening, IsTorn, IsTrue}
+use Rattle.loss_law.specs.Losses.{is_opening, IsTorn, IsTrue}
 use Rattle.loss_law.proofs.Pairs.{ToldSo}
 use Rattle.loss_law.proofs.Growing.{AreNamed, Base, Grows}
 use Rattle.loss_law.proofs.Interval.{Between}

@@ -10,7 +10,7 @@ use Rattle.segment_reading.specs.Reading.{ReadingState}
 use Rattle.log_scan.specs.declared.stage.Backward.{Backward}
 use Rattle.log_scan.specs.declared.stage.Stage.{Stage}
 use Rattle.log_scan.specs.declared.stage.Stage.TheVariants.{Hails, Gathers, Asks, Reads, Over}
-use Rattle.log_scan.specs.ScanState.{ScanState}
+use Rattle.log_scan.specs.ScanState.{IsRead, ScanState}
 use Rattle.log_scan.specs.Transition.{least_horizon}
 use Rattle.log_protocol.specs.Tables.{In}
 use Rattle.log_tie.specs.Setting.{Setting}
@@ -19,7 +19,7 @@ use Rattle.log_law.specs.Net.Packet.{HelloSent, WelcomeSent}
 use Rattle.log_law.specs.Net.Owner.{Opening}
 use Rattle.log_law.specs.Events.{Happens, Runs}
 use Rattle.log_law.specs.Events.Runs.{Begun, On}
-use Rattle.loss_law.specs.Losses.{Once, has_drawn, LacksIn, IsTorn, IsRead}
+use Rattle.loss_law.specs.Losses.{Once, has_drawn, LacksIn, IsTorn}
 use Rattle.loss_law.proofs.Counting.{Each, servers_of}
 use Rattle.loss_law.proofs.Pairs.{Single, AllAsked, AllSo, so_on}
 use Rattle.loss_law.proofs.Growing.{Base, Grows, sent_then}

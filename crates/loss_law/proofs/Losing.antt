@@ -5,7 +5,7 @@ use Rattle.xfs_base.specs.declared.segment.SegRef.{SegRef}
 use Rattle.log_scan.specs.declared.input.In.{In as Input}
 use Rattle.log_scan.specs.declared.output.Out.{Out}
 use Rattle.log_scan.specs.declared.output.Out.TheVariants.{Hello, Fence, Fetch, Chain, Lost}
-use Rattle.log_scan.specs.ScanState.{ScanState, started}
+use Rattle.log_scan.specs.ScanState.{IsRead, ScanState, started}
 use Rattle.log_scan.specs.Transition as scan
 use Rattle.client_log.specs.Transition as log
 use Rattle.log_protocol.specs.Tables.{In}
@@ -16,7 +16,7 @@ use Rattle.log_law.specs.Events.{CameToScan, Happens, Runs}
 use Rattle.log_law.specs.Events.Happens.{Acts, Writes, Opens, Crashes, Restarts, Renews, Serves, Bars, Lists, Hears, Raises, Publishes, Welcomes, Drops}
 use Rattle.log_law.specs.Events.Runs.{Begun, On}
 use Rattle.log_law.specs.BeingRead.{WhatIsReadIsWhole}
-use Rattle.loss_law.specs.Losses.{Once, IsRead, IsTorn, is_opening, Takes, IsTrue, MissingsTrue, AReopeningLosesWhatIsTorn}
+use Rattle.loss_law.specs.Losses.{Once, IsTorn, is_opening, Takes, IsTrue, MissingsTrue, AReopeningLosesWhatIsTorn}
 use Rattle.loss_law.proofs.Growing.{Base}
 use Rattle.loss_law.proofs.Events.{first_base, opened_to, same_boot, writes_none, grows, base_then}
 use Rattle.loss_law.proofs.Kept.{IsReading, StageKept, Kept, WasTorn, once_now, stage_on}

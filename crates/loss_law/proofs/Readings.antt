@@ -30,7 +30,7 @@ use Rattle.log_scan.specs.declared.output.Out.TheVariants.{Hello, Fence, Fetch, 
 use Rattle.log_scan.specs.declared.stage.Backward.{Backward}
 use Rattle.log_scan.specs.declared.stage.Stage.TheVariants.{Reads, Over}
 use Rattle.log_scan.specs.Pick.{known_group, start_of}
-use Rattle.log_scan.specs.ScanState.{ScanState}
+use Rattle.log_scan.specs.ScanState.{IsRead, ScanState}
 use Rattle.log_scan.specs.Transition as scan
 use Rattle.log_scan.specs.Transition.{Done, goes, least_horizon}
 use Rattle.log_protocol.specs.Tables.{In}
@@ -40,7 +40,7 @@ use Rattle.log_law.specs.Net.Packet.{HelloSent, WelcomeSent}
 use Rattle.log_law.specs.Net.Owner.{Opening}
 use Rattle.log_law.specs.Events.{Happens, Runs}
 use Rattle.log_law.specs.Events.Runs.{Begun, On}
-use Rattle.loss_law.specs.Losses.{Once, is_opening, has_drawn, LacksIn, IsRead, IsTorn}
+use Rattle.loss_law.specs.Losses.{Once, is_opening, has_drawn, LacksIn, IsTorn}
 use Rattle.loss_law.proofs.Counting.{Apart, Each, servers_of, Among}
 use Rattle.loss_law.proofs.Pairs.{ToldSo, AllSo, each_on, apart_missing, each_missing, among_missing}
 use Rattle.loss_law.proofs.Growing.{AskedBy, AreNamed, Base, Grows, sent_then}

@@ -10,9 +10,8 @@ use Rattle.log_scan.specs.declared.input.In.{In as Input}
 use Rattle.log_scan.specs.declared.input.In.TheVariants.{Missing}
 use Rattle.log_scan.specs.declared.output.Out.TheVariants.{Lost}
 use Rattle.log_scan.specs.declared.stage.Backward.{Backward}
-use Rattle.log_scan.specs.declared.stage.Stage.{Stage}
 use Rattle.log_scan.specs.declared.stage.Stage.TheVariants.{Reads}
-use Rattle.log_scan.specs.ScanState.{ScanState}
+use Rattle.log_scan.specs.ScanState.{IsRead, ScanState}
 use Rattle.log_scan.specs.Transition.{transition}
 use Rattle.log_protocol.specs.Tables.{In}
 use Rattle.log_tie.specs.Setting.{Setting}
@@ -23,6 +22,7 @@ use Rattle.log_law.specs.Events.Happens.{Opens}
 use Rattle.log_law.specs.Events.Runs.{Begun, On}
 use Rattle.log_law.specs.BeingRead.{IsWhole}
 use Rattle.log_law.specs.Laws.{Moment}
+use Rattle.segment_format.specs.References.{ref_of}
 
 -- ---- moments
 
@@ -80,10 +80,6 @@ pub record IsTorn (g : Setting) (segment : SegRef) (n : Net) : Type 0 where
   pub torn : (g.stripe segment.group).parity < lacking g n segment
   pub kept : In segment.name n.dropped → ⊥
 
--- a segment, over its group
-abbrev pub ref_of : Segment → SegRef
-ref_of s = record { name = s.name; group = s.group }
-
 -- how many members of a segment's group have lost their disk since the group was made
 abbrev pub disks_lost : Setting → Net → SegRef → ℕ
 disks_lost g n segment = count_by (λ m. nat_lt m.generation (n.shelves m.server).generation) (g.stripe segment.group).members
@@ -95,10 +91,6 @@ pub record IsLost (g : Setting) (segment : SegRef) (n : Net) : Type 0 where
   pub disks : (g.stripe segment.group).parity < disks_lost g n segment
 
 -- ---- when an opening says so
-
--- this is the segment that an opening reads
-abbrev pub IsRead : Stage → SegRef → Type 0
-IsRead stage segment = (b : Backward) × (r : ReadingState) × (stage ≡ Reads b (Some r)) × (r.target.seg ≡ segment)
 
 -- The name is that of the segment that is read, over the group that its successor names or the pick told, and at some moment of this opening it was lost.
 pub record IsEarned (g : Setting) {n m : Net} (run : Runs g n m) (s : ScanState) (name : SegName) : Type 0 where

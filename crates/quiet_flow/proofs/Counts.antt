@@ -13,7 +13,7 @@ use Rattle.world_base.specs.Runs.{begun_in}
 use Rattle.xfs_base.proofs.NodeOrder.{same_node_is}
 use Rattle.xfs_base.specs.declared.node.NodeId.{NodeId}
 use Rattle.xfs_base.specs.Nodes.{same_node}
-use Rattle.quiet_flow.specs.Follow.{is_delivery, is_tick_of}
+use Rattle.headline.specs.Bounds.{is_delivery, is_tick_of}
 
 module _ {X : Type 0} (test : X → Bool) where
   pub count_both : (xs ys : List X) → count_by test (xs ++ ys) ≡ count_by test xs + count_by test ys

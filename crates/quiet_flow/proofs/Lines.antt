@@ -23,7 +23,8 @@ use Rattle.xfs_base.specs.declared.node.NodeId.{NodeId}
 use Rattle.xfs_base.specs.declared.setup.Setup.{Setup}
 use Rattle.xfs_base.specs.Limits.{max_deliveries}
 use Rattle.quiet_flow.specs.Flow.{Drains, Stage, begins, rounds}
-use Rattle.quiet_flow.specs.Follow.{AreAt, Follows, IsBlind, IsShort, LineEnds, Shows, is_delivery, is_tick_of}
+use Rattle.quiet_flow.specs.Follow.{AreAt, Follows, IsBlind, IsShort, LineEnds, Shows}
+use Rattle.headline.specs.Bounds.{is_delivery, is_tick_of}
 use Rattle.quiet_flow.proofs.Beginning.{Started, starts_line}
 use Rattle.quiet_flow.proofs.Counts.{all_deliveries, count_both, no_deliveries, no_ticks, none_begun, none_begun_in_round, ticks_once}
 use Rattle.quiet_flow.proofs.Following.{follows}

@@ -1,5 +1,5 @@
 -- How a play stands to the flow of packets: its nodes, its acts and what is on its way are those of a stage; numbers and clocks are all that it has beside.
-use Rattle.std.specs.Prelude.{◌≡◌, ◌≤◌, ◌+◌, ℕ, Bool, true, false, All, List, [], ◌∷◌, ◌++◌, length, map, slice_get, Option, Some, None}
+use Rattle.std.specs.Prelude.{◌≡◌, ◌≤◌, ◌+◌, ℕ, false, All, List, [], ◌∷◌, ◌++◌, length, map, slice_get, Option, Some, None}
 use Rattle.std.specs.List.{count_by}
 use Rattle.play.specs.declared.player.Player.{Player}
 use Rattle.play.specs.Plays.{goes_on, plays_line}
@@ -10,13 +10,13 @@ use Rattle.wire_msg.specs.declared.packet.Packet.{Packet}
 use Rattle.wire_msg.specs.NodeStep.{NodeStep}
 use Rattle.world_base.specs.Cluster.{HasNode, cluster_of, node_count, place_of}
 use Rattle.world_base.specs.declared.event.Event.{Event}
-use Rattle.world_base.specs.declared.event.Event.TheVariants.{Begin, Deliver, Tick}
+use Rattle.world_base.specs.declared.event.Event.TheVariants.{Begin, Deliver}
 use Rattle.world_base.specs.Runs.{begun_in}
 use Rattle.world_base.specs.Schedule.{ScheduleState}
 use Rattle.xfs_base.specs.declared.node.NodeId.{NodeId}
 use Rattle.xfs_base.specs.declared.setup.Setup.{Setup}
-use Rattle.xfs_base.specs.Nodes.{same_node}
 use Rattle.quiet_flow.specs.Flow.{Stage, unclocked}
+use Rattle.headline.specs.Bounds.{is_delivery, is_tick_of}
 
 -- no node looks at the clock of a packet that comes
 abbrev pub IsBlind : {N : Type 0} → (N → Do → NodeStep N) → Type 0
@@ -62,16 +62,6 @@ pub record Shows {N : Type 0} (setup : Setup) (p : Player N) (t : Stage N) (wait
   pub waits : AreAt p.world.sent p.schedule.queue waiting
 
 -- ---- what happens
-
-abbrev pub is_delivery : Event → Bool
-is_delivery (Begin node) = false
-is_delivery (Deliver packet) = true
-is_delivery (Tick node) = false
-
-abbrev pub is_tick_of : NodeId → Event → Bool
-is_tick_of name (Begin node) = false
-is_tick_of name (Deliver packet) = false
-is_tick_of name (Tick node) = same_node node name
 
 -- From one play to another, in which nothing is on its way, by deliveries alone: so many at most, and all that was on its way or was sent meanwhile is
 -- delivered once.

@@ -31,7 +31,8 @@ use Rattle.quiet_nodes.specs.Scene.{Scene}
 use Rattle.quiet_script.proofs.Answered.{items_counted, items_more}
 use Rattle.quiet_script.proofs.Induction.{script_answers}
 use Rattle.quiet_script.specs.Lines.{EndsLater, EndsSoon, LeadsOn}
-use Rattle.quiet_script.specs.Quiet.{IsOrderly, IsQuiet, is_client, is_in_range, is_quiet, most_deliveries}
+use Rattle.quiet_script.specs.Quiet.{IsOrderly, is_client, is_in_range}
+use Rattle.headline.specs.Bounds.{IsQuiet, is_quiet, most_deliveries}
 use Rattle.quiet_run.proofs.Asking.{AllAsk, asks_later, asks_then, in_order, start_asks}
 use Rattle.quiet_run.specs.Runs.{EachLineLeadsOn, QuietScriptsAreAnswered}
 

@@ -29,7 +29,8 @@ use Rattle.quiet_gives.proofs.PutsFromDirty.{puts_from_dirty}
 use Rattle.quiet_run.proofs.Few.{ends_later_more, fetching_few, sealing_few, tail_few}
 use Rattle.quiet_run.proofs.Leading.{each_quiet, scripts_are_answered}
 use Rattle.quiet_run.specs.Runs.{EachLineLeadsOn, QuietScriptsAreAnswered}
-use Rattle.quiet_script.specs.Quiet.{is_in_range, is_quiet, most_deliveries}
+use Rattle.quiet_script.specs.Quiet.{is_in_range}
+use Rattle.headline.specs.Bounds.{is_quiet, most_deliveries}
 use Rattle.slot_beliefs.specs.Beliefs.{others}
 use Rattle.slot_beliefs.specs.declared.job.Holder.{Holder}
 use Rattle.token_client.specs.Held.{is_dirty}

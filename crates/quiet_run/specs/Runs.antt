@@ -15,7 +15,8 @@ use Rattle.quiet_gets.specs.Passing.{AreInOrder}
 use Rattle.quiet_law.specs.Drained.{Drained, most_steps}
 use Rattle.quiet_law.specs.Lines.{Ends, EndsAfterRound, IsNext, Stands}
 use Rattle.quiet_nodes.specs.Scene.{Scene}
-use Rattle.quiet_script.specs.Quiet.{AnswersWithinBounds, IsOrderly, IsQuiet, is_in_range, is_quiet, most_deliveries}
+use Rattle.quiet_script.specs.Quiet.{IsOrderly, is_in_range}
+use Rattle.headline.specs.Bounds.{AnswersWithinBounds, IsQuiet, is_quiet, most_deliveries}
 
 -- each quiet line of a client leads from one drained state, in which what clients know of blocks stands in order, to the next, two steps later
 abbrev pub EachLineLeadsOn : Type 0

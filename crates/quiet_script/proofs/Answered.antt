@@ -14,7 +14,7 @@ use Rattle.xfs_base.specs.declared.node.NodeId.{NodeId}
 use Rattle.xfs_base.specs.Nodes.{same_node}
 use Rattle.quiet_flow.proofs.Counts.{count_both, count_hit, count_next}
 use Rattle.quiet_script.specs.Lines.{AnswersOne}
-use Rattle.quiet_script.specs.Quiet.{is_answer_of}
+use Rattle.headline.specs.Bounds.{is_answer_of}
 
 -- ---- acts
 

@@ -23,9 +23,9 @@ use Rattle.xfs_base.specs.Limits.{max_lines}
 use Rattle.quiet_flow.proofs.Counts.{count_both, count_miss}
 use Rattle.quiet_flow.proofs.Lines.{line_ends, line_ends_after_round}
 use Rattle.quiet_flow.specs.Flow.{Stage}
-use Rattle.quiet_flow.specs.Follow.{IsBlind, LineEnds, Shows, is_delivery}
+use Rattle.quiet_flow.specs.Follow.{IsBlind, LineEnds, Shows}
+use Rattle.headline.specs.Bounds.{AnswersWithinBounds, IsWithin, is_answer_of, is_delivery, most_deliveries}
 use Rattle.quiet_script.specs.Lines.{AnswersOne, EndsLater, EndsSoon, LeadsOn, LinesLeadOn, start_stage}
-use Rattle.quiet_script.specs.Quiet.{AnswersWithinBounds, IsWithin, is_answer_of, most_deliveries}
 use Rattle.quiet_script.proofs.Answered.{EachOnce, answers_more, each_once_more, same_answers}
 use Rattle.quiet_script.proofs.Starting.{starts_shown}
 use Rattle.quiet_script.proofs.Within.{none_within, within_more}

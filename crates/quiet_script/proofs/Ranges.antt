@@ -29,7 +29,8 @@ use Rattle.xfs_base.specs.declared.block.BlockId.{BlockId}
 use Rattle.xfs_base.specs.declared.setup.Setup.{Setup}
 use Rattle.xfs_base.specs.Blocks.{IsRaw}
 use Rattle.xfs_base.specs.Limits.{max_value, u32_end}
-use Rattle.quiet_script.specs.Quiet.{IsOrderly, IsQuiet, has_length, has_numbers, is_byte, is_client, is_in_range, is_quiet}
+use Rattle.quiet_script.specs.Quiet.{IsOrderly, has_length, has_numbers, is_byte, is_client, is_in_range}
+use Rattle.headline.specs.Bounds.{IsQuiet, is_quiet}
 
 -- ---- parts of a line
 

@@ -6,8 +6,8 @@ use Rattle.world_base.specs.declared.event.Event.TheVariants.{Begin, Deliver, Ti
 use Rattle.world_base.specs.Runs.{begun_in}
 use Rattle.xfs_base.specs.declared.node.NodeId.{NodeId}
 use Rattle.quiet_flow.proofs.Counts.{count_part}
-use Rattle.quiet_flow.specs.Follow.{IsShort, is_delivery, is_tick_of}
-use Rattle.quiet_script.specs.Quiet.{IsWithin, most_deliveries}
+use Rattle.quiet_flow.specs.Follow.{IsShort}
+use Rattle.headline.specs.Bounds.{IsWithin, is_delivery, is_tick_of, most_deliveries}
 
 abbrev head_or : Event → List Event → Event
 head_or e [] = e

@@ -15,7 +15,7 @@ use Rattle.world_base.specs.NextWorld.{first_node}
 use Rattle.xfs_base.specs.declared.node.NodeId.{NodeId}
 use Rattle.xfs_base.specs.declared.setup.Setup.{Setup}
 use Rattle.quiet_flow.specs.Flow.{Drains, Stage, begins, rounds}
-use Rattle.quiet_script.specs.Quiet.{most_deliveries}
+use Rattle.headline.specs.Bounds.{most_deliveries}
 
 -- what is acted beyond this has one answer, that of this item of this node
 pub record AnswersOne (done more : List Act) (node : NodeId) (item : ℕ) : Type 0 where

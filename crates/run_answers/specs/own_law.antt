@@ -1,4 +1,3 @@
-pub mod Stretch
 pub mod Events
 pub mod Others
 pub mod Runs

@@ -1,6 +1,6 @@
 //! Answers of clients and of the cleaner tell of acts, those of calls on files are what their plans say, and what is cut is cut by a crash. It has no code of the
-//! product: the functions below stand for the laws that their contracts state. `specs/act_law/Founded.antt` says what stands behind an answer, and
-//! `specs/act_law/Runs.antt` says it of runs; of calls on files `Planned.antt` and `Files.antt` there do.
+//! product: the functions below stand for the laws that their contracts state. `specs/Answers.antt` of `headline` says what stands behind an answer,
+//! `specs/Files.antt` there what does behind one of a call on files.
 
 ghost use Rattle.run_answers.specs.act_law.Files.{EachFileAnswerIsPlanned};
 ghost use Rattle.run_answers.specs.act_law.Newest.{EachVersionIsNewest};

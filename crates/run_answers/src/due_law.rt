@@ -1,6 +1,6 @@
 //! A node serves until a crash of it begins, and what is due at the Begin of an item is answered in that event. It has no code of the product: the functions
-//! below stand for the laws that their contracts state. `specs/due_law/Turns.antt` says how a node stands behind an event, and `specs/due_law/Dues.antt`
-//! what it must answer as an item begins, and `specs/due_law/Runs.antt` says it of runs.
+//! below stand for the laws that their contracts state. `specs/Dues.antt` of `headline` says how a node stands behind an event, and
+//! what it must answer as an item begins.
 
 ghost use Rattle.run_answers.specs.due_law.Turns.{EachStartServes, EachEventKeepsStanding};
 ghost use Rattle.run_answers.specs.due_law.Dues.{EachItemIsDue};

@@ -3,7 +3,8 @@
 //! begins is answered (`due_law`), and clients act for their items alone (`own_law`). It has no code of the product: its functions have empty bodies, and
 //! their contracts are laws.
 //!
-//! Each module is a law of its own: its definitions stand in `specs/`, its lemmas in `proofs/`, below the module's name.
+//! Each module is a law of its own: what it says of a run stands in the crate `headline`, what else it says in `specs/`, its lemmas in `proofs/`, below the
+//! module's name.
 #![tactic(auto)]
 
 pub mod act_law;

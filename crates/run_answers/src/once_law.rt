@@ -1,5 +1,5 @@
 //! Each item is answered at most once, by its own node, after its Begin. It has no code of the product: the function below stands for the law that its contract
-//! states. `specs/once_law/Ledgers.antt` says it of one event, and `specs/once_law/Runs.antt` of runs.
+//! states. `specs/once_law/Ledgers.antt` says it of one event, and `specs/Items.antt` of `headline` of runs.
 
 ghost use Rattle.run_answers.specs.once_law.Ledgers.{EachEventKeepsLedger};
 ghost use Rattle.run_answers.specs.once_law.Runs.{EachItemIsAnsweredOnce};

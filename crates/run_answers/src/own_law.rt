@@ -1,6 +1,6 @@
-//! Acts belong to items. It has no code of the product: the function below stands for the law that its contract states. `specs/own_law/Stretch.antt` says what a
-//! client acts for its open call, `specs/own_law/Events.antt` what it acts in one event, and `specs/own_law/Others.antt` what no other node acts;
-//! `specs/own_law/Runs.antt` and `specs/own_law/Whole.antt` say it of runs.
+//! Acts belong to items. It has no code of the product: the function below stands for the law that its contract states. `specs/Calls.antt` of
+//! `headline` says what a client acts for its open call and in one event, `specs/ItemActs.antt` there says it of runs, and `specs/own_law/Others.antt` here what no
+//! other node acts.
 
 ghost use Rattle.run_answers.specs.own_law.Answered.{EachCallIsAnswered};
 ghost use Rattle.run_answers.specs.own_law.Events.{EachClientActsForItems};

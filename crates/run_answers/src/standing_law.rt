@@ -1,6 +1,5 @@
 //! What a node answers fits where it stands. It has no code of the product: the function below stands for the law that its contract states.
-//! `specs/standing_law/Standings.antt` says where a node stands, `specs/standing_law/Fits.antt` what it may answer then, and `specs/standing_law/Runs.antt` says
-//! it of runs.
+//! `specs/Standings.antt` of `headline` says where a node stands, and what it may answer then.
 
 ghost use Rattle.run_answers.specs.standing_law.Runs.{EachAnswerFits};
 

@@ -1,5 +1,5 @@
 //! What servers are told to delete was dropped, and is below its horizon, in every run of the nodes' world. It has no code of the product: the
-//! function below calls the laws that it stands on, and its contracts are laws. `specs/drop_law/Drops.antt` says it in words of the nodes.
+//! function below calls the laws that it stands on, and its contracts are laws. `specs/Deletions.antt` of `headline` says it in words of the nodes.
 
 ghost use Rattle.run_drops.specs.drop_law.Drops.{EveryRunDeletesBelowHorizons, EveryRunDropsWhatItDeletes};
 

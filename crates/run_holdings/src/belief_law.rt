@@ -1,5 +1,5 @@
 //! What managers believe of clients covers what these hold and would still accept, in every run of the nodes' world. It has no code of the product: the function
-//! below calls the laws that it stands on, and its contract is a law. `specs/belief_law/Beliefs.antt` says it in words of the nodes.
+//! below calls the laws that it stands on, and its contract is a law. `specs/Beliefs.antt` of `headline` says it in words of the nodes.
 
 ghost use Rattle.run_holdings.specs.belief_law.Beliefs.{EveryRunsManagersBelieve};
 

@@ -1,5 +1,5 @@
 //! Where the cleaner comes back, the segment that was filed then is the first of its incarnation. It has no code of the product: the function below calls the laws
-//! that it stands on, and its contract is a law. `specs/boot_law/Boots.antt` says it of runs.
+//! that it stands on, and its contract is a law. `specs/Boots.antt` of `headline` says it of runs.
 
 ghost use Rattle.run_holdings.specs.boot_law.Boots.{EveryRunFilesOne};
 

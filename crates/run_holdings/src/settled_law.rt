@@ -1,5 +1,5 @@
 //! What is settled of each block is the newest of what logs filed, in every run of the nodes' world. It has no code of the product: the function below calls the
-//! laws that it stands on, and its contract is a law. `specs/settled_law/Settled.antt` says it in words of the nodes.
+//! laws that it stands on, and its contract is a law. `specs/Settled.antt` of `headline` says it in words of the nodes.
 
 ghost use Rattle.run_holdings.specs.settled_law.Settled.{EveryRunsBlocksAreSettled};
 

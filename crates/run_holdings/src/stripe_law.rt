@@ -1,5 +1,5 @@
 //! What is filed is read back from what servers hold, in every run of the nodes' world. It has no code of the product: each function below calls the laws that it
-//! stands on, and its contract is a law. `specs/stripe_law/ReadBack.antt` says it in words of the nodes.
+//! stands on, and its contract is a law. `specs/Stripes.antt` of `headline` says it in words of the nodes.
 
 ghost use Rattle.run_holdings.specs.stripe_law.ReadBack.{WhatIsFiledIsReadBack};
 

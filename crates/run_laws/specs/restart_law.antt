@@ -1,4 +1,3 @@
-pub mod Restarts
 pub mod Sure
 pub mod Below
 pub mod Unlost

@@ -1,6 +1,4 @@
-pub mod Doings
 pub mod Horizons
-pub mod Shelves
 pub mod Logs
 pub mod Roles
 pub mod Settings

@@ -5,10 +5,8 @@ pub mod Joint
 pub mod Chains
 pub mod References
 pub mod Moments
-pub mod OwnTable
 pub mod Legal
 pub mod Holders
-pub mod Dirty
 pub mod Indexes
 pub mod TokensBelow
 pub mod Readings

@@ -1,5 +1,5 @@
 //! Doubtful restarts: while no restart of the nodes was doubtful, none is in the small world of any log, so that its line is sure; and where no disk is lost no
-//! restart is doubtful. It has no code: each function calls the laws that it stands on, and its contract is a law. `specs/restart_law/Restarts.antt` says when
+//! restart is doubtful. It has no code: each function calls the laws that it stands on, and its contract is a law. `specs/Restarts.antt` of `headline` says when
 //! a restart is doubtful.
 
 ghost use Rattle.run_laws.specs.restart_law.Below.{Below};

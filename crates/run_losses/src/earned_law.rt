@@ -1,5 +1,5 @@
 //! Only what is gone is refused as lost, in every run of the nodes' world. It has no code of the product: the function below calls the laws that it stands
-//! on, and its contract is a law. `specs/Earned.antt` says it in words of the nodes.
+//! on, and its contract is a law. `specs/Losses.antt` of `headline` says when it is.
 
 ghost use Rattle.run_losses.specs.earned_law.Earned.{LostActsAreEarned};
 

@@ -4,6 +4,7 @@ pub mod Ranges
 pub mod Reading
 pub mod ReadingFields
 pub mod ReadingItems
+pub mod References
 pub mod Rows
 pub mod Rule
 pub mod Text

@@ -14,7 +14,8 @@ use Rattle.version_model.specs.Effects.{history_after}
 use Rattle.version_model.specs.History.{greatest_by, nothing_yet}
 use Rattle.act_tie.specs.BlockActs.{acts_of}
 use Rattle.act_tie.specs.Number.{number}
-use Rattle.act_tie.specs.Shown.{FallsApart, HistoryShown}
+use Rattle.act_tie.specs.Shown.{HistoryShown}
+use Rattle.version_model.specs.Falls.{FallsApart}
 use Rattle.act_tie.proofs.Legality.{are_shown}
 use Rattle.act_tie.proofs.Onward.{acts_on}
 use Rattle.token_client.specs.State.{held_of}

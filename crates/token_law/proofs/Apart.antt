@@ -11,7 +11,7 @@ use Rattle.version_model.specs.declared.history.FallTold.{FallTold}
 use Rattle.version_model.specs.Effects.{change, pin, settle, holds_flight, after_act, history_after}
 use Rattle.version_model.specs.History.{History, is_by_other, nothing_yet}
 use Rattle.version_model.specs.Legal.{NamesNoBlockTwice}
-use Rattle.act_tie.specs.Shown.{FallsApart, IsApart}
+use Rattle.version_model.specs.Falls.{FallsApart, IsApart}
 use Rattle.act_tie.proofs.Falling.{settled_told}
 use Rattle.version_model.proofs.Onward.{history_through}
 use Rattle.act_tie.proofs.Onward.{apart_on}

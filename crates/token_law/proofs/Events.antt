@@ -13,7 +13,7 @@ use Rattle.token_protocol.specs.Premises.{Premise}
 use Rattle.token_protocol.proofs.Refining.{put_each}
 use Rattle.token_tie.specs.Inputs as laws
 use Rattle.token_tie.proofs.ClientLaws.{takes_inputs}
-use Rattle.act_tie.specs.Shown.{FallsApart}
+use Rattle.version_model.specs.Falls.{FallsApart}
 use Rattle.token_law.specs.Net.{Net, all_settled, Happens}
 use Rattle.token_law.specs.Net.Happens.{Acts, Elsewhere, Reports, GetsCopy, GetsOwn, Declines, GetsRecall, GetsForward, GetsSupply, Fetches, Reads, Syncs, Seals, Files, GetsDeltas, GetsWant, GetsGave, Ticks, Crashes, Returns, SealsCopies, FilesCopies, Reopens, Activates, Says}
 use Rattle.token_law.proofs.Premises.{owed_on}

@@ -5,7 +5,7 @@ use Rattle.xfs_base.specs.declared.block.BlockId.{BlockId}
 use Rattle.xfs_base.specs.declared.token.Mode.{Mode}
 use Rattle.xfs_base.specs.declared.token.Mode.TheVariants.{Nothing, Copy, Own}
 use Rattle.xfs_base.specs.Blocks.{slot_of}
-use Rattle.xfs_base.specs.Modes.{is_held, is_own}
+use Rattle.xfs_base.specs.Modes.{is_held, is_own, mode_number}
 use Rattle.xfs_base.proofs.Booleans.{contrary}
 use Rattle.slot_beliefs.specs.Beliefs.{share_of}
 use Rattle.token_client.specs.State.{held_of, epoch_of}
@@ -17,7 +17,7 @@ use Rattle.token_protocol.specs.Entry as abstract
 use Rattle.token_protocol.proofs.Told.{acts_legal}
 use Rattle.token_protocol.proofs.Invariant.{Owned, owned, always as invariant}
 use Rattle.token_protocol.proofs.Laws.{single_owner, epoch_promised, beliefs_cover, acceptable_believed, no_holder_after_fall, flights_new, join_is_join, acceptable_joins}
-use Rattle.token_tie.specs.Seen.{mode_number, local_of, entry_seen}
+use Rattle.token_tie.specs.Seen.{local_of, entry_seen}
 use Rattle.token_tie.proofs.Leaves.{taking}
 use Rattle.token_law.specs.Laws.{Moment, IsClient, Reigns, OneOwner, ActiveEpochsPromised, HoldingsBelieved, GrantsBelieved, NobodyHoldsAfterFall, ActsAreLegal, FallsAreApart, FlightsAreNewer, GrantsAreOfTheNewest}
 use Rattle.token_law.specs.Net.{Net, Happens, Runs, opening}

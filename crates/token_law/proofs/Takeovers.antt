@@ -25,7 +25,8 @@ use Rattle.token_protocol.specs.Step.Steps.{More}
 use Rattle.token_protocol.specs.Told.{told}
 use Rattle.token_protocol.specs.World.{World, start}
 use Rattle.token_protocol.proofs.Invariant.{owned}
-use Rattle.token_tie.specs.Seen.{mode_number, local_of, entry_seen}
+use Rattle.token_tie.specs.Seen.{local_of, entry_seen}
+use Rattle.xfs_base.specs.Modes.{mode_number}
 use Rattle.token_law.specs.Net.{Packet, Net}
 use Rattle.token_law.specs.Net.Packet.{WantSent, GrantSent, RecallSent, GaveSent, ForwardSent, SupplySent, ReportSent}
 use Rattle.token_protocol.specs.Entry as abstract_entry

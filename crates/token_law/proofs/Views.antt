@@ -27,7 +27,8 @@ use Rattle.act_tie.specs.BlockActs.{acts_of}
 use Rattle.act_tie.specs.Number.{number}
 use Rattle.token_protocol.specs.Step.Steps.{More}
 use Rattle.token_protocol.specs.World.{World, start}
-use Rattle.token_tie.specs.Seen.{Setting, Shows, SentOffer, SentRecall, mode_number, local_of, entry_seen}
+use Rattle.token_tie.specs.Seen.{Setting, Shows, SentOffer, SentRecall, local_of, entry_seen}
+use Rattle.xfs_base.specs.Modes.{mode_number}
 use Rattle.token_tie.specs.Taken.{ByClient, AllSaid, Acted, Took}
 use Rattle.token_tie.specs.Managed.{want_seen, JobShown, Manages}
 use Rattle.token_law.specs.Net.{Packet, Net, client_packets, after_client}

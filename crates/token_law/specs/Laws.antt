@@ -4,16 +4,15 @@ use Rattle.xfs_base.specs.declared.block.BlockId.{BlockId}
 use Rattle.xfs_base.specs.declared.entry.Entry.{Entry}
 use Rattle.xfs_base.specs.declared.token.Mode.{Mode}
 use Rattle.xfs_base.specs.declared.token.Stamp.{Stamp}
-use Rattle.xfs_base.specs.Modes.{is_held, is_own}
+use Rattle.xfs_base.specs.Modes.{is_held, is_own, mode_number}
 use Rattle.slot_beliefs.specs.Beliefs.{share_of}
 use Rattle.token_client.specs.Held.{is_dirty}
 use Rattle.token_client.specs.State.{held_of, epoch_of, is_in_slot}
 use Rattle.token_client.specs.Transition.{accepts}
 use Rattle.token_manager.specs.SlotState.{SlotState}
 use Rattle.token_protocol.specs.Basics.{In}
-use Rattle.token_tie.specs.Seen.{mode_number}
 use Rattle.act_tie.specs.BlockActs.{acts_of}
-use Rattle.act_tie.specs.Shown.{FallsApart}
+use Rattle.version_model.specs.Falls.{FallsApart}
 use Rattle.token_protocol.specs.Acts.{LegalActs}
 use Rattle.version_model.specs.declared.history.Version.{Version}
 use Rattle.version_model.specs.Effects.{history_after}

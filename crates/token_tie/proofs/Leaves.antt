@@ -26,10 +26,10 @@ use Rattle.token_protocol.specs.Using.{writes, evicts}
 use Rattle.token_protocol.specs.Giving.{MayGive, gives, gives_again}
 use Rattle.token_protocol.specs.Takeover.{promises}
 use Rattle.token_protocol.proofs.StampsSeen.{taken, equal, stamped, promised}
-use Rattle.token_tie.specs.Seen.{WantShown, FetchShown, ValueShown, SentOffer, SentRecall, offer_seen, recall_seen, Setting, Local, Shows, mode_number, kept, located, stamp_seen, node_seen}
+use Rattle.token_tie.specs.Seen.{WantShown, FetchShown, ValueShown, SentOffer, SentRecall, offer_seen, recall_seen, Setting, Local, Shows, kept, located, stamp_seen, node_seen}
+use Rattle.xfs_base.specs.Modes.{is_held, is_own, mode_number}
 use Rattle.token_tie.specs.Taken.{Acts, Goes, AllSaid}
 use Rattle.token_tie.proofs.Frames.{acts_by, goes_saying}
-use Rattle.xfs_base.specs.Modes.{is_held, is_own}
 use Rattle.xfs_base.specs.Stamps.{is_later}
 use Rattle.xfs_base.proofs.Booleans.{and_first, and_second, by_test}
 use Rattle.token_tie.proofs.SmallFacts.{put_back, some_rank, most_rank, own_rank, later_exceeds, wanted_rank, restamped, given_rank, unfetching}

@@ -37,12 +37,12 @@ use Rattle.token_protocol.specs.Step.Steps.{Done as Ended, More}
 use Rattle.token_protocol.specs.Step.Step.{Offers, Recalls, Turns}
 use Rattle.token_protocol.specs.World.{World}
 use Rattle.token_protocol.proofs.Refining.{put_each}
-use Rattle.token_tie.specs.Seen.{mode_number, kept, entry_seen, SentOffer, SentRecall}
+use Rattle.token_tie.specs.Seen.{kept, entry_seen, SentOffer, SentRecall}
+use Rattle.xfs_base.specs.Modes.{is_nothing, is_own, mode_number}
 use Rattle.token_tie.specs.Managed.{want_seen, AllAwaited, Idle, JobShown, Manages, ByManager, AllTold, Runs}
 use Rattle.token_protocol.specs.Told.{told as acts_told}
 use Rattle.token_protocol.proofs.Told.{steps_through}
 use Rattle.token_tie.proofs.Frames.{put_here, put_there, both_quiet}
-use Rattle.xfs_base.specs.Modes.{is_nothing, is_own}
 use Rattle.std.specs.Prelude.{Contains}
 use Rattle.xfs_base.proofs.Booleans.{contrary}
 

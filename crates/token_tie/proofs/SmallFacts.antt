@@ -12,8 +12,8 @@ use Rattle.token_protocol.specs.Basics.{put}
 use Rattle.token_protocol.specs.Client.{Client}
 use Rattle.token_protocol.specs.Entry as abstract_entry
 use Rattle.token_protocol.specs.Stamps.{Node, Seen, Exceeds}
-use Rattle.token_tie.specs.Seen.{WantShown, FetchShown, mode_number, kept, stamp_seen}
-use Rattle.xfs_base.specs.Modes.{is_held, is_own, same_mode}
+use Rattle.token_tie.specs.Seen.{WantShown, FetchShown, kept, stamp_seen}
+use Rattle.xfs_base.specs.Modes.{is_held, is_own, mode_number, same_mode}
 use Rattle.xfs_base.specs.Stamps.{is_later}
 use Rattle.xfs_base.proofs.Booleans.{and_first, and_second, contrary}
 

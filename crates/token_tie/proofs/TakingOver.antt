@@ -23,9 +23,9 @@ use Rattle.token_client.specs.State.{held_of, held_in, is_in_slot}
 use Rattle.token_client.specs.Transition.{is_promised}
 use Rattle.token_client.proofs.Promises.{Agrees, agrees-itself}
 use Rattle.token_protocol.proofs.StampsSeen.{activated}
-use Rattle.token_tie.specs.Seen.{ValueShown, mode_number, node_seen}
+use Rattle.token_tie.specs.Seen.{ValueShown, node_seen}
+use Rattle.xfs_base.specs.Modes.{is_held, is_nothing, is_own, mode_number, same_mode}
 use Rattle.token_tie.specs.Epochs.{SuppliesNewest, RestartShows, ActivationShows, ActivationManages, reported, all_reported, ReportsBelieved}
-use Rattle.xfs_base.specs.Modes.{is_held, is_nothing, is_own, same_mode}
 use Rattle.token_client.proofs.Tables.{InOrder}
 use Rattle.xfs_base.proofs.Booleans.{and_first, and_second, by_test, contrary}
 use Rattle.std.specs.Prelude.{Contains}

@@ -19,7 +19,8 @@ use Rattle.token_protocol.specs.Laws.{HasNewest}
 use Rattle.token_protocol.specs.Packets as packets
 use Rattle.token_protocol.specs.Takeover.{activates}
 use Rattle.token_protocol.specs.World.{World}
-use Rattle.token_tie.specs.Seen.{Setting, Local, Shows, mode_number, local_of, entry_seen}
+use Rattle.token_tie.specs.Seen.{Setting, Local, Shows, local_of, entry_seen}
+use Rattle.xfs_base.specs.Modes.{mode_number}
 use Rattle.token_tie.specs.Managed.{Manages}
 use Rattle.std.specs.List.Sorted.{IsStrictlySortedBy}
 use Rattle.std.specs.Map.{keys_of}

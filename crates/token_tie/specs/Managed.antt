@@ -19,8 +19,8 @@ use Rattle.token_protocol.specs.Packets as packets
 use Rattle.token_protocol.specs.Step.{Steps}
 use Rattle.token_protocol.specs.Told.{told as acts_told}
 use Rattle.token_protocol.specs.World.{World}
-use Rattle.token_tie.specs.Seen.{mode_number, kept, entry_seen, SentOffer, SentRecall}
-use Rattle.xfs_base.specs.Modes.{is_nothing, is_own}
+use Rattle.token_tie.specs.Seen.{kept, entry_seen, SentOffer, SentRecall}
+use Rattle.xfs_base.specs.Modes.{is_nothing, is_own, mode_number}
 
 -- a want with the end that it named
 abbrev pub want_seen : Wanted → ℕ → packets.Want

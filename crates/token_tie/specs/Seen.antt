@@ -4,7 +4,6 @@ use Rattle.xfs_base.specs.declared.block.BlockId.{BlockId}
 use Rattle.xfs_base.specs.declared.entry.Entry.{Entry}
 use Rattle.xfs_base.specs.declared.entry.Place.{Place}
 use Rattle.xfs_base.specs.declared.token.Mode.{Mode}
-use Rattle.xfs_base.specs.declared.token.Mode.TheVariants.{Nothing, Copy, Own}
 use Rattle.xfs_base.specs.declared.token.Stamp.{Stamp}
 use Rattle.xfs_base.specs.Blocks.{slot_of}
 use Rattle.token_client.specs.declared.held.Fetch.{Fetch}
@@ -18,7 +17,7 @@ use Rattle.token_protocol.specs.Stamps.{Node, Seen}
 use Rattle.token_protocol.specs.World.{World}
 use Rattle.token_protocol.specs.Entry as abstract_entry
 use Rattle.token_protocol.specs.Stamps as abstract_stamps
-use Rattle.xfs_base.specs.Modes.{is_held}
+use Rattle.xfs_base.specs.Modes.{is_held, mode_number}
 
 -- What one relation is about: how values are seen as numbers, the block, the client's number in the abstract world, and its incarnation.
 pub record Setting : Type 0 where
@@ -27,12 +26,6 @@ pub record Setting : Type 0 where
   pub block : BlockId
   pub client : ℕ
   pub incarnation : ℕ
-
--- modes are ranks
-abbrev pub mode_number : Mode → ℕ
-mode_number Nothing = 0
-mode_number Copy = 1
-mode_number Own = 2
 
 -- what a Recall lets a client keep
 abbrev pub kept : Bool → ℕ

@@ -10,7 +10,8 @@ use Rattle.token_protocol.specs.Packets as packets
 use Rattle.token_protocol.specs.Step.{Steps}
 use Rattle.token_protocol.specs.Told.{told}
 use Rattle.token_protocol.specs.World.{World}
-use Rattle.token_tie.specs.Seen.{Setting, Local, Shows, local_of, mode_number}
+use Rattle.token_tie.specs.Seen.{Setting, Local, Shows, local_of}
+use Rattle.xfs_base.specs.Modes.{mode_number}
 
 -- the world, but for what a client's steps change
 abbrev pub rest : World → World

@@ -1,4 +1,5 @@
 pub mod Effects
+pub mod Falls
 pub mod History
 pub mod Legal
 pub mod Shown

@@ -1,5 +1,5 @@
 -- What a mode lets a client do.
-use Rattle.std.specs.Prelude.{Bool, true, false}
+use Rattle.std.specs.Prelude.{Bool, true, false, ℕ}
 use Rattle.xfs_base.specs.declared.token.Mode.{Mode}
 use Rattle.xfs_base.specs.declared.token.Mode.TheVariants.{Nothing, Copy, Own}
 
@@ -38,3 +38,9 @@ abbrev pub allows : Mode → Mode → Bool
 allows mode Nothing = true
 allows mode Copy = is_held mode
 allows mode Own = is_own mode
+
+-- modes are ranks
+abbrev pub mode_number : Mode → ℕ
+mode_number Nothing = 0
+mode_number Copy = 1
+mode_number Own = 2

@@ -5,7 +5,7 @@ use Rattle.core_world.specs.AnyNode.{any_start, any_step}
 use Rattle.core_world.specs.declared.any_node.AnyNode.{AnyNode}
 use Rattle.quiet_run.specs.Runs.{QuietScriptsAreAnswered}
 use Rattle.quiet_script.specs.Laws.{AcceptedIsOrderly}
-use Rattle.quiet_script.specs.Quiet.{AnswersWithinBounds, QuietIsAnswered}
+use Rattle.headline.specs.Bounds.{AnswersWithinBounds, QuietIsAnswered}
 use Rattle.top_call.specs.declared.command.Command.{Command}
 use Rattle.top_call.specs.declared.command.Command.TheVariants.{Audit, Big, Boards, Disks, Gen, Live, Mount, Run}
 use Rattle.top_call.specs.Claim.{IsPlayed, IsRunBy}

@@ -15,7 +15,7 @@ use Rattle.mounts.specs.Mounted.{IsMounted, client_at}
 use Rattle.mounts.specs.Replies.{replies_of}
 use Rattle.mounts.proofs.Acted.{NobodyElse, added, answered_in}
 use Rattle.mounts.proofs.Said.{client_there}
-use Rattle.run_answers.specs.once_law.Runs.{ItemsAnsweredOnce}
+use Rattle.headline.specs.Items.{ItemsAnsweredOnce}
 use Rattle.token_protocol.specs.Basics.{In}
 use Rattle.top_call.specs.declared.command.Command.{Command}
 use Rattle.top_call.specs.declared.command.Command.TheVariants.{Audit, Big, Boards, Disks, Gen, Live, Mount, Run}

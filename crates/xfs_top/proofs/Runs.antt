@@ -12,7 +12,8 @@ use Rattle.top_call.specs.declared.command.Command.TheVariants.{Audit, Big, Boar
 use Rattle.top_call.specs.Claim.{IsLiveRun, IsPlayedWithBoards, IsRunBy}
 use Rattle.world_base.specs.declared.estate.Estate.{Estate}
 use Rattle.world_base.specs.Runs.{IsRun, IsWholeRun}
-use Rattle.xfs_top.specs.Headline.{BoardHeadline, Headline, HeadlineOf, IsSafe, LiveHeadline}
+use Rattle.xfs_top.specs.Headline.{BoardHeadline, Headline, HeadlineOf, LiveHeadline}
+use Rattle.headline.specs.Safe.{IsSafe}
 
 -- the registry is among the nodes
 has_registry : HasRegistry any_step any_start

@@ -1,6 +1,6 @@
 -- What is claimed of the answers of a run that a call of the program played by one thread, and when they come.
 use Rattle.core_world.specs.declared.any_node.AnyNode.{AnyNode}
-use Rattle.quiet_script.specs.Quiet.{QuietIsAnswered}
+use Rattle.headline.specs.Bounds.{QuietIsAnswered}
 use Rattle.std.specs.Prelude.{Option, Some}
 use Rattle.top_call.specs.declared.command.Command.{Command}
 use Rattle.top_call.specs.declared.command.Command.TheVariants.{Boards, Disks, Live, Mount}

@@ -11,7 +11,8 @@ ghost use Rattle.node_base.specs.Setups.{IsSetup};
 ghost use Rattle.world_base.specs.declared.estate.Estate.{Estate};
 ghost use Rattle.world_base.specs.Runs.{IsRun};
 ghost use Rattle.xfs_top.specs.Bounds.{BoundsOf};
-ghost use Rattle.xfs_top.specs.Headline.{HeadlineOf, IsSafe};
+ghost use Rattle.xfs_top.specs.Headline.{HeadlineOf};
+ghost use Rattle.headline.specs.Safe.{IsSafe};
 ghost use Rattle.xfs_top.specs.Replies.{AreAnswers};
 
 use core_world::AnyNode;
@@ -73,7 +74,7 @@ fn every_run_is_safe()
 /// - `untouched`: words by which nothing is read, those that are no form and those by which a script is drawn, leave
 ///   the source as it was.
 /// - `headline`: what is so of the run that was played, whatever messages were lost, repeated or reordered and
-///   whichever nodes stopped, with the premises named there (`specs/Headline.antt`): it is one run of the xFS nodes in
+///   whichever nodes stopped, with the premises named there (`specs/Headline.antt`, and `specs/Safe.antt` of `headline`): it is one run of the xFS nodes in
 ///   which no block has two owners, and only what is gone is refused as lost; up to the first doubtful restart each act
 ///   Read is of its block's newest version, and no fall goes below what was synced or read elsewhere. Of `boards` it is
 ///   said of the run with one registry that the run with three boards stands for, whichever of them stopped.

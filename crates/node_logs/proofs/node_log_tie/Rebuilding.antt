@@ -26,7 +26,7 @@ use Rattle.stripe_code.specs.declared.round.Told.TheVariants.{Held, Missing}
 use Rattle.stripe_code.specs.Fragments.{fragment_at}
 use Rattle.stripe_code.specs.Round.{RoundSoFar, asks, has_answered, told_fits, taken, state_of}
 use Rattle.stripe_code.specs.Stripe.{IsCut, stripe_of}
-use Rattle.log_flight.specs.Flights.{no_member}
+use Rattle.log_flight.specs.Flights.{no_member, server_of}
 use Rattle.group_rebuild.specs.declared.output.Out.{Out}
 use Rattle.group_rebuild.specs.declared.output.Out.TheVariants as out
 use Rattle.group_rebuild.specs.declared.reads.Present.{Present}
@@ -34,7 +34,7 @@ use Rattle.group_rebuild.specs.declared.wanted.Wanted.{Wanted}
 use Rattle.group_rebuild.specs.Reads.{ReadsState, one_more, fetches, go_on, is_of, counts, judged, answered, on_answer}
 use Rattle.group_rebuild.specs.Wanted.{in_group, of_group, wanted_of, wanted_in, refilled}
 use Rattle.log_protocol.specs.Tables.{In}
-use Rattle.log_tie.specs.Setting.{Setting, server_of, Stripe, stripe_of_group}
+use Rattle.log_tie.specs.Setting.{Setting, Stripe, stripe_of_group}
 use Rattle.log_tie.specs.Shelves.{is_of_log}
 use Rattle.log_law.specs.Net.{Net}
 use Rattle.log_law.specs.Net.Packet.{FragmentSent}

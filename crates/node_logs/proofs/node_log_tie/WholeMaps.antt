@@ -19,8 +19,8 @@ use Rattle.group_map.proofs.Numbers.{IsCurrent-chosen}
 use Rattle.group_map.proofs.Presence.{is_present}
 use Rattle.stripe_code.specs.Stripe.{IsCut}
 use Rattle.log_flight.specs.Fate.{has_server}
-use Rattle.log_flight.specs.Flights.{no_group, no_member, group_for}
-use Rattle.log_tie.specs.Setting.{Setting, server_of, present_at, IsStripe, IsMap}
+use Rattle.log_flight.specs.Flights.{group_for, no_group, no_member, server_of}
+use Rattle.log_tie.specs.Setting.{Setting, present_at, IsStripe, IsMap}
 use Rattle.log_tie.specs.Scans.{WholeMap}
 use Rattle.node_logs.specs.node_log_tie.RegistryEvents.{NamesGroups}
 

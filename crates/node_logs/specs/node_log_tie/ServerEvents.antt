@@ -22,7 +22,8 @@ use Rattle.store_nodes.specs.declared.server.Server as nodes
 use Rattle.store_nodes.specs.declared.server.Rebuilding.{Rebuilding}
 use Rattle.store_nodes.specs.ServerEvents.{server_start, server_step}
 use Rattle.log_protocol.specs.Tables.{In}
-use Rattle.log_tie.specs.Setting.{Setting, server_of, stripe_of_group}
+use Rattle.log_tie.specs.Setting.{Setting, stripe_of_group}
+use Rattle.log_flight.specs.Flights.{server_of}
 use Rattle.log_tie.specs.Shelves.{is_of_log}
 use Rattle.log_law.specs.Net.{Net}
 use Rattle.log_law.specs.Net.Packet.{ListedSent, MapSent}

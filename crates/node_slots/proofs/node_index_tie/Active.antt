@@ -34,7 +34,8 @@ use Rattle.wire_msg.specs.declared.deltas.Deltas.{Deltas}
 use Rattle.wire_msg.specs.declared.tokens.Want.{Want}
 use Rattle.node_slots.specs.node_index_tie.ManagerEvents.{PhaseAgrees, ActiveAgrees}
 use Rattle.node_slots.specs.node_index_tie.Pages.{Paged}
-use Rattle.node_slots.specs.node_index_tie.Sight.{Texts, Questions, held_in, DeltasKnown, CheckKnown}
+use Rattle.node_slots.specs.node_index_tie.Sight.{Questions, held_in, DeltasKnown, CheckKnown}
+use Rattle.headline.specs.Filed.{Texts}
 use Rattle.node_slots.proofs.node_index_tie.Agreeing.{phase_on}
 use Rattle.node_slots.proofs.node_index_tie.Inputs.{tokens_same, deltas_take}
 use Rattle.node_slots.proofs.node_index_tie.Moves.{Brought, AllDone, Sees, some_none, grows_slot, grows_sent, put_here, sees_same, sees_sent, sees_slot}

@@ -8,13 +8,14 @@ use Rattle.manager_slots.specs.declared.slot_phase.SlotPhase.{SlotPhase}
 use Rattle.manager_slots.specs.declared.slot_phase.SlotPhase.TheVariants as phase
 use Rattle.manager_serving.specs.declared.checkpointing.Checkpointing.{Checkpointing}
 use Rattle.manager_serving.specs.declared.serving.Serving.{Serving}
-use Rattle.node_slots.specs.node_tie.ManagerEvents.{phase_at, HeldAt}
+use Rattle.node_slots.specs.node_tie.ManagerEvents.{HeldAt}
+use Rattle.headline.specs.Managers.{phase_at}
 use Rattle.slot_beliefs.specs.Index.{pages_of}
 use Rattle.takeover.specs.TakeState.{TakeState}
 use Rattle.wire_msg.specs.declared.registry.CkptDone.{CkptDone}
 use Rattle.node_slots.specs.node_index_tie.ManagerEvents.{TakingAgrees, ActiveAgrees, PhaseAgrees, ServingAgrees}
 use Rattle.node_slots.specs.node_index_tie.Pages.{WriterAgrees, DoneIn, DoneSeen}
-use Rattle.node_slots.specs.node_index_tie.Sight.{Texts}
+use Rattle.headline.specs.Filed.{Texts}
 use Rattle.node_slots.proofs.node_index_tie.Moves.{Grows, report_on, news_on}
 use Rattle.node_slots.proofs.node_index_tie.Puts.{paged_on, seen_on}
 

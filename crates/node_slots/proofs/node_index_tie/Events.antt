@@ -29,7 +29,8 @@ use Rattle.node_base.specs.declared.effects.Effect.TheVariants.{Answer as Answer
 use Rattle.node_base.specs.declared.items.Items.{Items}
 use Rattle.node_base.specs.declared.maps.Maps.{Maps}
 use Rattle.node_base.specs.declared.peers.Peers.{Peers}
-use Rattle.node_slots.specs.node_tie.ManagerEvents.{phase_at, HeldAt, Names, NamedBy}
+use Rattle.node_slots.specs.node_tie.ManagerEvents.{HeldAt, Names, NamedBy}
+use Rattle.headline.specs.Managers.{phase_at}
 use Rattle.version_model.specs.declared.answer.Answer.{Answer}
 use Rattle.version_model.specs.declared.answer.Answer.TheVariants as answer
 use Rattle.version_model.specs.declared.work.Work.{Work}
@@ -42,7 +43,8 @@ use Rattle.wire_msg.specs.declared.packet.Packet.{Packet as Sent}
 use Rattle.wire_msg.specs.declared.registry.Welcome.{Welcome}
 use Rattle.node_slots.specs.node_index_tie.ManagerEvents.{PhaseAgrees, ServingAgrees, ManagerAgrees, AllNewsGets, WaitingGets, PacketGets, EventGets, WritesTexts, ManagerGoes, ManagerEventGoes}
 use Rattle.node_slots.specs.node_index_tie.Pages.{FlightIsText}
-use Rattle.node_slots.specs.node_index_tie.Sight.{Texts, Questions, AreTexts, ManagerDoes}
+use Rattle.node_slots.specs.node_index_tie.Sight.{Questions, ManagerDoes}
+use Rattle.headline.specs.Filed.{AreTexts, Texts}
 use Rattle.node_slots.proofs.node_tie.SlotTables.{unknown_at}
 use Rattle.node_slots.proofs.node_index_tie.Hearing.{MayEnd, tick_serves, hears_serves, news_serves}
 use Rattle.node_slots.proofs.node_index_tie.Moves.{Brought, AllDone, some_none}

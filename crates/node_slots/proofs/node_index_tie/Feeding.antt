@@ -17,7 +17,7 @@ use Rattle.delta_feed.specs.declared.input.In.{In}
 use Rattle.delta_feed.specs.declared.input.In.TheVariants.{Settled, Ack, NewEpoch, Push, Tick}
 use Rattle.delta_feed.proofs.AfterInputs.{greatest-max}
 use Rattle.index_tie.specs.Feeds.{fed_at}
-use Rattle.index_tie.specs.Filed.{Filed, rows_at}
+use Rattle.headline.specs.Filed.{Filed, rows_at}
 use Rattle.index_tie.specs.Growth.{with_segment}
 use Rattle.index_tie.specs.Net.{Net}
 use Rattle.index_tie.proofs.Growth.{rows_stay, more_is_filed}

@@ -23,7 +23,8 @@ use Rattle.group_map.specs.GroupMapState.{GroupMapState}
 use Rattle.index_tie.specs.Net.{Net, Happens, with_slot, HasRead}
 use Rattle.index_tie.specs.Net.Packet.{CleanerReported}
 use Rattle.index_tie.specs.Net.Happens.{Activates}
-use Rattle.index_tie.specs.Takeovers.{of_log, IsEnd, Linked}
+use Rattle.index_tie.specs.Takeovers.{IsEnd, Linked}
+use Rattle.headline.specs.Indexes.{of_log}
 use Rattle.index_tie.proofs.Takeovers.{applied_in, of_log_in, nine}
 use Rattle.log_protocol.specs.Tables.{In}
 use Rattle.manager_slots.specs.Slots.{epoch_of, managed}
@@ -53,7 +54,8 @@ use Rattle.token_manager.specs.Transition.{started as slot_started}
 use Rattle.token_protocol.specs.Basics.{In as Among}
 use Rattle.wire_msg.specs.declared.deltas.Report.{Report}
 use Rattle.node_slots.specs.node_index_tie.ManagerEvents.{TakingAgrees, PhaseAgrees, completes}
-use Rattle.node_slots.specs.node_index_tie.Sight.{Texts, Questions, held_in, RowsFit, IsRead, AreTexts, EndKnown, ReportKnown, NewsKnown}
+use Rattle.node_slots.specs.node_index_tie.Sight.{Questions, held_in, RowsFit, IsRead, EndKnown, ReportKnown, NewsKnown}
+use Rattle.headline.specs.Filed.{AreTexts, Texts}
 use Rattle.node_slots.proofs.node_index_tie.Active.{Event, event_same}
 use Rattle.node_slots.proofs.node_index_tie.Moves.{Brought, AllDone, put_here, grows_slot, sees_quiet, sees_slot}
 use Rattle.node_slots.proofs.node_index_tie.Puts.{paged_first, paged_on}

@@ -22,7 +22,8 @@ use Rattle.manager_serving.specs.Serving.{and_then, asker_of, with_slots, with_a
 use Rattle.manager_serving.specs.declared.serving.Serving.{Serving}
 use Rattle.node_base.specs.Known.{names_known}
 use Rattle.node_base.specs.Maps.{fits, is_older, taken}
-use Rattle.node_slots.specs.node_tie.ManagerEvents.{phase_at, NamedBy}
+use Rattle.node_slots.specs.node_tie.ManagerEvents.{NamedBy}
+use Rattle.headline.specs.Managers.{phase_at}
 use Rattle.takeover.specs.declared.input.In.{In as TakeoverIn}
 use Rattle.takeover.specs.declared.input.In.TheVariants.{Got, Missing}
 use Rattle.takeover.specs.declared.report.Report.{Report as Heard}
@@ -43,7 +44,8 @@ use Rattle.wire_msg.specs.declared.tokens.Gave.{Gave}
 use Rattle.wire_msg.specs.declared.tokens.Want.{Want}
 use Rattle.node_slots.specs.node_index_tie.ManagerEvents.{ServingAgrees, DeltasGets, AllNewsGets, AnswerGets, FoundGets, AbsentGets, ServingGets}
 use Rattle.node_slots.specs.node_index_tie.Pages.{desk_of, FlightIsText}
-use Rattle.node_slots.specs.node_index_tie.Sight.{Texts, Questions, AreTexts, CheckKnown, ReportKnown}
+use Rattle.node_slots.specs.node_index_tie.Sight.{Questions, CheckKnown, ReportKnown}
+use Rattle.headline.specs.Filed.{AreTexts, Texts}
 use Rattle.xfs_base.specs.Blocks.{slot_of}
 use Rattle.xfs_base.specs.Limits.{slot_count}
 use Rattle.xfs_base.specs.Logs.{cleaner_log}

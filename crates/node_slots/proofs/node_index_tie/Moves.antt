@@ -9,7 +9,8 @@ use Rattle.xfs_base.proofs.Alls.{all_append, all_weaker}
 use Rattle.xfs_base.specs.Logs.{cleaners_number}
 use Rattle.index_tie.specs.Net.{Net, Packet, Happens, Runs, with_slot}
 use Rattle.index_tie.specs.Net.Runs.{Begun, On}
-use Rattle.index_tie.specs.Takeovers.{of_log, IsEnd, Linked}
+use Rattle.index_tie.specs.Takeovers.{IsEnd, Linked}
+use Rattle.headline.specs.Indexes.{of_log}
 use Rattle.index_tie.proofs.Tables.{at_same, at_other, put_each}
 use Rattle.log_protocol.specs.Tables.{In, put}
 use Rattle.manager_slots.specs.Slots.{epoch_of}
@@ -22,7 +23,8 @@ use Rattle.token_manager.specs.SlotState.{SlotState}
 use Rattle.wire_msg.specs.declared.body.Body.{Body}
 use Rattle.wire_msg.specs.declared.body.Body.TheVariants as body
 use Rattle.node_slots.specs.node_index_tie.ManagerEvents.{rest}
-use Rattle.node_slots.specs.node_index_tie.Sight.{Texts, Questions, held_in, EndKnown, ReportKnown, NewsKnown, ManagerSends, ManagerDoes}
+use Rattle.node_slots.specs.node_index_tie.Sight.{Questions, held_in, EndKnown, ReportKnown, NewsKnown, ManagerSends, ManagerDoes}
+use Rattle.headline.specs.Filed.{Texts}
 
 -- ---- lists
 

@@ -21,7 +21,7 @@ use Rattle.delta_feed.specs.declared.output.Out.{Out}
 use Rattle.delta_feed.specs.declared.output.Out.TheVariants.{Range}
 use Rattle.delta_feed.proofs.AfterInputs.{is_after}
 use Rattle.index_tie.specs.Feeds.{fed_at}
-use Rattle.index_tie.specs.Filed.{Filed, rows_at}
+use Rattle.headline.specs.Filed.{Filed, rows_at}
 use Rattle.index_tie.specs.Net.{Net}
 use Rattle.index_tie.proofs.Feeds.{ranges_tell}
 use Rattle.log_owner.specs.Sending.{range, pushes, pushes_all}

@@ -29,7 +29,8 @@ use Rattle.manager_slots.specs.declared.slot_phase.SlotPhase.{SlotPhase}
 use Rattle.manager_slots.specs.declared.slot_phase.SlotPhase.TheVariants as phase
 use Rattle.manager_serving.specs.Checkpoints as node
 use Rattle.manager_serving.specs.declared.serving.Serving.{Serving}
-use Rattle.node_slots.specs.node_tie.ManagerEvents.{phase_at, HeldAt, ManagedAt}
+use Rattle.node_slots.specs.node_tie.ManagerEvents.{HeldAt, ManagedAt}
+use Rattle.headline.specs.Managers.{phase_at}
 use Rattle.slot_beliefs.specs.Index.{Indexed, pages_of, cleaned_index}
 use Rattle.slot_beliefs.specs.Recalls.{applied_of}
 use Rattle.token_manager.specs.SlotState.{SlotState}
@@ -37,7 +38,8 @@ use Rattle.token_manager.specs.Transition as slot
 use Rattle.node_slots.specs.node_index_tie.ManagerEvents.{ActiveAgrees, PhaseAgrees, ServingAgrees}
 use Rattle.node_slots.specs.node_index_tie.Pages.{checkpointed, desk_of, IsWork, Paged, WorkSeen, WriterAgrees}
 use Rattle.node_slots.specs.node_index_tie.Pages.Paged.{Covered, Written, Ended}
-use Rattle.node_slots.specs.node_index_tie.Sight.{Texts, Questions, held_in}
+use Rattle.node_slots.specs.node_index_tie.Sight.{Questions, held_in}
+use Rattle.headline.specs.Filed.{Texts}
 use Rattle.node_slots.proofs.node_index_tie.Agreeing.{writer_on, done_seen}
 use Rattle.node_slots.proofs.node_index_tie.Moves.{Brought, Sees, Grows, managed_as, some_none, grows_then, grows_sent, grows_slot, put_here, put_there, sees_quiet, sees_slot, sees_then}
 use Rattle.node_slots.proofs.node_index_tie.Tables.{by_part}

@@ -11,7 +11,8 @@ use Rattle.slot_beliefs.specs.Index.{Indexed, nothing_indexed, pages_of, indexed
 use Rattle.slot_beliefs.proofs.Counting.{pages-indexed}
 use Rattle.node_slots.specs.node_index_tie.Pages.{put_all, checkpointed, Desk, IsWork, Paged, WorkSeen}
 use Rattle.node_slots.specs.node_index_tie.Pages.Paged.{Covered, Written, Ended}
-use Rattle.node_slots.specs.node_index_tie.Sight.{Texts, held_in, RowsFit}
+use Rattle.node_slots.specs.node_index_tie.Sight.{held_in, RowsFit}
+use Rattle.headline.specs.Filed.{Texts}
 use Rattle.node_slots.proofs.node_index_tie.Moves.{Grows}
 
 -- ---- the pages of an index

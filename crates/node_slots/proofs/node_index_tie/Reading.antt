@@ -25,11 +25,11 @@ use Rattle.takeover.specs.declared.report.Report.{Report as Heard}
 use Rattle.takeover.specs.declared.source.Present.{Present}
 use Rattle.takeover.specs.declared.source.Source.{Source}
 use Rattle.index_tie.specs.Checkpoints.{TellsPart}
-use Rattle.index_tie.specs.Filed.{Filed}
+use Rattle.headline.specs.Filed.{AreTexts, Filed, Texts}
 use Rattle.index_tie.specs.Takeovers.{IsItsText}
 use Rattle.token_protocol.specs.Basics.{In as Among}
 use Rattle.node_slots.specs.node_index_tie.ManagerEvents.{completes_in, completes_at, completes}
-use Rattle.node_slots.specs.node_index_tie.Sight.{Texts, held_in, RowsFit, IsRead, AreTexts}
+use Rattle.node_slots.specs.node_index_tie.Sight.{held_in, RowsFit, IsRead}
 
 -- ---- one input more
 

@@ -13,13 +13,13 @@ use Rattle.index_tie.specs.Net.Happens.{Keeps, Moves}
 use Rattle.index_tie.specs.Net.Packet.{CheckpointDone}
 use Rattle.log_protocol.specs.Tables.{In}
 use Rattle.index_tie.specs.Net.Runs.{Begun, On}
-use Rattle.index_tie.specs.Takeovers.{of_log}
+use Rattle.headline.specs.Indexes.{epoch_in, of_log}
 use Rattle.index_tie.proofs.Tables.{first_of, second_of}
 use Rattle.index_tie.proofs.Takeovers.{of_log_in, of_log_out, by_log}
 use Rattle.node_moves.proofs.registry_moves.Keeping.{Keeps as Keeping, event_keeps}
 use Rattle.node_moves.specs.server_moves.Moves.{Came}
 use Rattle.index_tie.proofs.Runs.{one_at}
-use Rattle.node_slots.specs.node_tie.RegistryEvents.{epoch_in, RegistrySound}
+use Rattle.node_slots.specs.node_tie.RegistryEvents.{RegistrySound}
 use Rattle.node_slots.proofs.node_tie.RegistryNode.{registry_goes, registry_begins}
 use Rattle.registry.specs.Board.{manager_restarted, server_lost, moved, is_kept, checkpointed, slot_news, all_news}
 use Rattle.registry.specs.BoardState.{BoardState}
@@ -34,7 +34,8 @@ use Rattle.wire_msg.specs.declared.packet.Do.{Do}
 use Rattle.wire_msg.specs.declared.packet.Packet.{Packet}
 use Rattle.wire_msg.specs.declared.registry.CkptDone.{CkptDone}
 use Rattle.node_slots.specs.node_index_tie.RegistryEvents.{IsHorizon, RegistryAgrees, BodyGets, DoGets, RegistryOwed, NewsTold, RegistryGoes, RegistryEventGoes, RegistryStarts}
-use Rattle.node_slots.specs.node_index_tie.Sight.{Texts, held_in}
+use Rattle.node_slots.specs.node_index_tie.Sight.{held_in}
+use Rattle.headline.specs.Filed.{Texts}
 
 -- ---- the checkpoints of the slots
 

@@ -17,14 +17,15 @@ use Rattle.manager_serving.specs.declared.checkpointing.Checkpointing.{Checkpoin
 use Rattle.manager_serving.specs.declared.serving.Serving.{Serving}
 use Rattle.node_base.specs.Beginning.{answers_unanswered}
 use Rattle.node_base.specs.declared.effects.Effect.TheVariants.{Answer as Answers}
-use Rattle.node_slots.specs.node_tie.ManagerEvents.{phase_at}
+use Rattle.headline.specs.Managers.{phase_at}
 use Rattle.version_model.specs.declared.answer.Answer.{Answer}
 use Rattle.version_model.specs.declared.answer.Answer.TheVariants as answer
 use Rattle.wire_msg.specs.declared.registry.CkptAck.{CkptAck}
 use Rattle.wire_msg.specs.declared.registry.CkptDone.{CkptDone}
 use Rattle.node_slots.specs.node_index_tie.ManagerEvents.{ServingAgrees}
 use Rattle.node_slots.specs.node_index_tie.Pages.{desk_of, DoneIn, DoneSeen}
-use Rattle.node_slots.specs.node_index_tie.Sight.{Texts, Questions}
+use Rattle.node_slots.specs.node_index_tie.Sight.{Questions}
+use Rattle.headline.specs.Filed.{Texts}
 use Rattle.node_slots.proofs.node_index_tie.Moves.{Brought, AllDone, some_none, sees_quiet}
 use Rattle.node_slots.proofs.node_index_tie.Planning.{begins_serves}
 use Rattle.node_slots.proofs.node_index_tie.Turning.{Turn, phase_turn}

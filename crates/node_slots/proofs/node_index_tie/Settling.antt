@@ -24,11 +24,12 @@ use Rattle.log_flight.specs.Flights.{FlightState}
 use Rattle.manager_serving.specs.Checkpoints as node
 use Rattle.manager_serving.specs.Checkpoints.{Done}
 use Rattle.manager_serving.specs.declared.serving.Serving.{Serving}
-use Rattle.node_slots.specs.node_tie.ManagerEvents.{phase_at}
+use Rattle.headline.specs.Managers.{phase_at}
 use Rattle.takeover.specs.Rows.{told_of}
 use Rattle.node_slots.specs.node_index_tie.ManagerEvents.{ServingAgrees}
 use Rattle.node_slots.specs.node_index_tie.Pages.{Desk, desk_of, IsWork, FlightIsText}
-use Rattle.node_slots.specs.node_index_tie.Sight.{Texts, Questions, held_in}
+use Rattle.node_slots.specs.node_index_tie.Sight.{Questions, held_in}
+use Rattle.headline.specs.Filed.{Texts}
 use Rattle.node_moves.proofs.client_walk.LogTurns.{IsSend}
 use Rattle.node_moves.proofs.LogWalk.{IsHeard}
 use Rattle.node_slots.proofs.node_index_tie.Flights.{GoesOn, Lands, log_went}

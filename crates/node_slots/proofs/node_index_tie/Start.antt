@@ -17,7 +17,7 @@ use Rattle.version_model.specs.declared.work.Work.{Work}
 use Rattle.node_slots.specs.node_index_tie.ManagerEvents.{PhaseAgrees, ManagerAgrees, FirstManagerAgrees}
 use Rattle.node_slots.specs.node_index_tie.Pages.{Desk}
 use Rattle.node_slots.specs.node_index_tie.Pages.Paged.{Covered}
-use Rattle.node_slots.specs.node_index_tie.Sight.{Texts}
+use Rattle.headline.specs.Filed.{Texts}
 use Rattle.node_slots.proofs.node_tie.SlotTables.{first_at}
 use Rattle.node_slots.proofs.node_index_tie.Events.{begun_agreed}
 use Rattle.node_slots.proofs.node_index_tie.Moves.{some_none}

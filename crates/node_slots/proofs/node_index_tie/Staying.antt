@@ -7,12 +7,14 @@ use Rattle.checkpoint.specs.Laws.{Event}
 use Rattle.checkpoint.specs.WriterState.{WorkState}
 use Rattle.index_pages.specs.Pages.{PagesState}
 use Rattle.index_tie.specs.Net.{Net}
-use Rattle.index_tie.specs.Takeovers.{of_log, IsEnd}
+use Rattle.index_tie.specs.Takeovers.{IsEnd}
+use Rattle.headline.specs.Indexes.{of_log}
 use Rattle.manager_node.specs.declared.phase.Phase.TheVariants.{Down, Waiting, Serving as Serves}
 use Rattle.manager_slots.specs.declared.slot_phase.SlotPhase.{SlotPhase}
 use Rattle.manager_slots.specs.declared.slot_phase.SlotPhase.TheVariants as phase
 use Rattle.manager_serving.specs.declared.checkpointing.Checkpointing.{Checkpointing}
-use Rattle.node_slots.specs.node_tie.ManagerEvents.{phase_at, HeldAt}
+use Rattle.node_slots.specs.node_tie.ManagerEvents.{HeldAt}
+use Rattle.headline.specs.Managers.{phase_at}
 use Rattle.segment_format.specs.declared.segment.Segment.{Segment}
 use Rattle.slot_beliefs.specs.Index.{pages_of}
 use Rattle.takeover.specs.TakeState.{TakeState}
@@ -22,7 +24,8 @@ use Rattle.xfs_base.specs.Logs.{cleaners_number}
 use Rattle.node_slots.specs.node_index_tie.ManagerEvents.{TakingAgrees, PhaseAgrees, Passes, ManagersStay}
 use Rattle.node_slots.specs.node_index_tie.Pages.{Desk, desk_of, IsWork, Paged, WriterAgrees, DoneIn, DoneSeen}
 use Rattle.node_slots.specs.node_index_tie.Pages.Paged.{Covered, Written, Ended}
-use Rattle.node_slots.specs.node_index_tie.Sight.{Texts, EndKnown, ReportKnown}
+use Rattle.node_slots.specs.node_index_tie.Sight.{EndKnown, ReportKnown}
+use Rattle.headline.specs.Filed.{Texts}
 
 module _ (part : ℕ) (texts : Texts) (n m : Net) (held : SlotPhase) (t : Passes n m held) where
   -- ---- reports

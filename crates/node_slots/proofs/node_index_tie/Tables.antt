@@ -22,7 +22,8 @@ use Rattle.manager_slots.specs.Tokens as tokens
 use Rattle.manager_slots.specs.declared.slot_phase.SlotPhase.{SlotPhase}
 use Rattle.manager_slots.specs.declared.slot_phase.SlotPhase.TheVariants as phase
 use Rattle.node_base.specs.declared.effects.Effect.{Effect}
-use Rattle.node_slots.specs.node_tie.ManagerEvents.{phase_at, HeldAt}
+use Rattle.node_slots.specs.node_tie.ManagerEvents.{HeldAt}
+use Rattle.headline.specs.Managers.{phase_at}
 use Rattle.takeover.specs.declared.input.In.{In as Input}
 use Rattle.takeover.specs.declared.input.In.TheVariants as input
 use Rattle.token_manager.specs.declared.input.In.TheVariants as told
@@ -34,7 +35,8 @@ use Rattle.wire_msg.specs.declared.deltas.Report.{Report}
 use Rattle.wire_msg.specs.declared.tokens.Gave.{Gave}
 use Rattle.wire_msg.specs.declared.tokens.Want.{Want}
 use Rattle.node_slots.specs.node_index_tie.ManagerEvents.{PhaseAgrees}
-use Rattle.node_slots.specs.node_index_tie.Sight.{Texts, Questions, AreTexts, DeltasKnown, ReportKnown, CheckKnown, NewsKnown}
+use Rattle.node_slots.specs.node_index_tie.Sight.{Questions, DeltasKnown, ReportKnown, CheckKnown, NewsKnown}
+use Rattle.headline.specs.Filed.{AreTexts, Texts}
 use Rattle.node_slots.proofs.node_tie.SlotTables.{set_here, set_there, by_slot, as_slot, by_taken}
 use Rattle.node_slots.proofs.node_index_tie.Active.{Event, slot_takes, slot_wants, slot_deltas, slot_checks, other_checks, other_takes, other_wants, usage_done}
 use Rattle.node_slots.proofs.node_index_tie.Handing.{Busy, OwesAt, AskEvent, event_staying, slot_hears, slot_regroups, slot_reports, slot_hears_of}

@@ -40,7 +40,8 @@ use Rattle.takeover.specs.declared.output.Out.{Out}
 use Rattle.takeover.specs.declared.output.Out.TheVariants as out
 use Rattle.wire_msg.specs.declared.deltas.Report.{Report}
 use Rattle.node_slots.specs.node_index_tie.ManagerEvents.{PhaseAgrees}
-use Rattle.node_slots.specs.node_index_tie.Sight.{Texts, Questions, RowsFit}
+use Rattle.node_slots.specs.node_index_tie.Sight.{Questions, RowsFit}
+use Rattle.headline.specs.Filed.{Texts}
 use Rattle.node_slots.proofs.node_index_tie.Moves.{DoesAt, AllDone}
 
 -- ---- newer groups

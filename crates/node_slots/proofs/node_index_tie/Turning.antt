@@ -11,11 +11,11 @@ use Rattle.index_tie.specs.Net.{Net}
 use Rattle.manager_slots.specs.SlotTable.{Table, changed_in}
 use Rattle.manager_slots.specs.declared.slot_phase.SlotPhase.{SlotPhase}
 use Rattle.manager_slots.specs.declared.slot_phase.SlotPhase.TheVariants as phase
-use Rattle.node_slots.specs.node_tie.ManagerEvents.{phase_at}
+use Rattle.headline.specs.Managers.{phase_at}
 use Rattle.node_slots.specs.node_index_tie.ManagerEvents.{PhaseAgrees}
 use Rattle.node_slots.specs.node_index_tie.Pages.{Desk, IsWork, Paged, WorkSeen}
 use Rattle.node_slots.specs.node_index_tie.Pages.Paged.{Covered, Written, Ended}
-use Rattle.node_slots.specs.node_index_tie.Sight.{Texts}
+use Rattle.headline.specs.Filed.{Texts}
 use Rattle.node_slots.proofs.node_tie.SlotTables.{past, set_here, set_there}
 
 pub some_is : {X : Type 0} (x y : X) → Some x ≡ Some y → x ≡ y

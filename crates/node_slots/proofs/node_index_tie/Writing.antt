@@ -33,14 +33,16 @@ use Rattle.manager_serving.specs.declared.checkpointing.Checkpointing.{Checkpoin
 use Rattle.manager_serving.specs.declared.serving.Serving.{Serving}
 use Rattle.node_base.specs.Asking.{next_ask}
 use Rattle.node_base.specs.declared.effects.Effect.{Effect}
-use Rattle.node_slots.specs.node_tie.ManagerEvents.{phase_at, HeldAt, ManagedAt}
+use Rattle.node_slots.specs.node_tie.ManagerEvents.{HeldAt, ManagedAt}
+use Rattle.headline.specs.Managers.{phase_at}
 use Rattle.segment_format.specs.declared.segment.Item.{Item}
 use Rattle.slot_beliefs.specs.Index.{pages_of}
 use Rattle.wire_msg.specs.declared.registry.CkptDone.{CkptDone}
 use Rattle.node_slots.specs.node_index_tie.ManagerEvents.{PhaseAgrees, ServingAgrees}
 use Rattle.node_slots.specs.node_index_tie.Pages.{checkpointed, Desk, desk_of, Paged, WriterAgrees, DoneSeen}
 use Rattle.node_slots.specs.node_index_tie.Pages.Paged.{Covered, Written, Ended}
-use Rattle.node_slots.specs.node_index_tie.Sight.{Texts, Questions, held_in, CkptSeen}
+use Rattle.node_slots.specs.node_index_tie.Sight.{Questions, held_in, CkptSeen}
+use Rattle.headline.specs.Filed.{Texts}
 use Rattle.node_slots.proofs.node_index_tie.Agreeing.{phase_on}
 use Rattle.node_slots.proofs.node_index_tie.Flights.{Writes, parts_went}
 use Rattle.node_slots.proofs.node_index_tie.Moves.{Brought, AllDone, Sees, Grows, managed_as, some_none, grows_sent, sees_quiet, sees_same, sees_sent, sees_then}

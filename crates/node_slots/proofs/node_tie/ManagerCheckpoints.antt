@@ -32,7 +32,8 @@ use Rattle.manager_slots.specs.SlotTable.{Table, next_active, begin_at, cleaned_
 use Rattle.manager_serving.specs.Checkpoints.{Done, gives, stored, gives_parts, registers, asked, says, says_each, writer_takes, filed, on_settled, log_says, log_says_each, writes, on_stored, no_more, writes_slot, begins_slot, next_from, next_for, next_slot, waits, on_checkpoint, awaits, counted, answered_by, on_ckpt_ack, done_again, told_again, tells_again}
 use Rattle.manager_serving.specs.declared.checkpointing.Checkpointing.{Checkpointing}
 use Rattle.manager_serving.specs.declared.serving.Serving.{Serving}
-use Rattle.node_slots.specs.node_tie.ManagerEvents.{phase_at, TableAgrees}
+use Rattle.node_slots.specs.node_tie.ManagerEvents.{TableAgrees}
+use Rattle.headline.specs.Managers.{phase_at}
 use Rattle.node_slots.proofs.node_tie.ManagerMoves.{AllDone, Stays, stays_same, stays_then}
 use Rattle.node_slots.proofs.node_tie.ManagerTables.{TableStays, table_cleans, table_names}
 

@@ -45,7 +45,8 @@ use Rattle.manager_serving.specs.Checkpoints.{Done, on_checkpoint}
 use Rattle.manager_serving.specs.Serving.{again, on_news, hears, on_tick}
 use Rattle.manager_serving.specs.declared.serving.Serving.{Serving}
 use Rattle.node_slots.specs.node_tie.Sight.{ManagerDoes}
-use Rattle.node_slots.specs.node_tie.ManagerEvents.{phase_at, TakingAt, HeldAt, PhaseAgrees, OtherAgrees, TableAgrees, ManagerAgrees, slot_in, epoch_in, AllNewsGets, WaitingGets, EventGets, NamedBy, Names, is_serving, is_waiting, ManagerGoes, ManagerEventGoes}
+use Rattle.node_slots.specs.node_tie.ManagerEvents.{TakingAt, HeldAt, PhaseAgrees, OtherAgrees, TableAgrees, ManagerAgrees, epoch_in, AllNewsGets, WaitingGets, EventGets, NamedBy, Names, is_serving, is_waiting, ManagerGoes, ManagerEventGoes}
+use Rattle.headline.specs.Managers.{phase_at, slot_in}
 use Rattle.node_slots.proofs.node_tie.SlotTables.{unknown_at}
 use Rattle.node_slots.proofs.node_tie.ManagerActive.{some_none}
 use Rattle.node_slots.proofs.node_tie.ManagerCheckpoints.{answers_done, quiet_checkpoint}

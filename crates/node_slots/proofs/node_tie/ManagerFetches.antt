@@ -7,7 +7,7 @@ use Rattle.manager_slots.specs.declared.slot_phase.SlotPhase.TheVariants as phas
 use Rattle.manager_slots.specs.Slots.{fetch_of as fetch_in}
 use Rattle.manager_slots.specs.SlotTable as table
 use Rattle.manager_slots.specs.SlotTable.{Table}
-use Rattle.node_slots.specs.node_tie.ManagerEvents.{phase_at}
+use Rattle.headline.specs.Managers.{phase_at}
 use Rattle.node_slots.proofs.node_tie.ManagerActive.{some_none}
 
 some_is : {X : Type 0} (x y : X) → Some x ≡ Some y → x ≡ y

@@ -10,7 +10,8 @@ use Rattle.manager_node.specs.declared.phase.Phase.{Phase}
 use Rattle.manager_node.specs.declared.phase.Phase.TheVariants.{Down, Waiting, Serving as Serves}
 use Rattle.manager_slots.specs.declared.slot_phase.SlotPhase.{SlotPhase}
 use Rattle.manager_slots.specs.declared.slot_phase.SlotPhase.TheVariants as phase
-use Rattle.node_slots.specs.node_tie.ManagerEvents.{HeldAt, ReportKnown, PhaseAgrees, ManagerAgrees, slot_in}
+use Rattle.node_slots.specs.node_tie.ManagerEvents.{HeldAt, ReportKnown, PhaseAgrees, ManagerAgrees}
+use Rattle.headline.specs.Managers.{slot_in}
 use Rattle.node_slots.proofs.node_tie.ManagerMoves.{Grows}
 
 up_to : (a b c : ℕ) → a ≤ b → b ≤ c → a ≤ c

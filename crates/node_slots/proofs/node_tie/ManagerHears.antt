@@ -21,7 +21,8 @@ use Rattle.manager_slots.specs.Slots.{epoch_of}
 use Rattle.manager_serving.specs.Checkpoints.{Done, writes, on_stored, on_ckpt_ack}
 use Rattle.manager_serving.specs.declared.serving.Serving.{Serving}
 use Rattle.manager_serving.specs.Serving.{asker_of, regroups, hearer_of, hears_with, hears_slots, on_newer, on_news, on_fitting_news, asks_for_maps, on_body, hears}
-use Rattle.node_slots.specs.node_tie.ManagerEvents.{phase_at, TableAgrees, AllNewsGets, ServingGets, NamedBy}
+use Rattle.node_slots.specs.node_tie.ManagerEvents.{TableAgrees, AllNewsGets, ServingGets, NamedBy}
+use Rattle.headline.specs.Managers.{phase_at}
 use Rattle.node_slots.proofs.node_tie.ManagerCheckpoints.{Quiet, quiet_writes, quiet_stored, quiet_ckpt_ack}
 use Rattle.node_slots.proofs.node_tie.ManagerMoves.{Rises, Goes, stays_same, rises_of, rises_then, goes_moving, goes_rising, goes_staying}
 use Rattle.node_slots.proofs.node_tie.ManagerNews.{table_hears_all}

@@ -12,7 +12,8 @@ use Rattle.manager_slots.specs.Slots.{epoch_of}
 use Rattle.manager_slots.specs.SlotTable as table
 use Rattle.manager_slots.specs.SlotTable.{Table, TableAsker, Hearer}
 use Rattle.manager_slots.specs.Takeovers.{Asker, asker}
-use Rattle.node_slots.specs.node_tie.ManagerEvents.{phase_at, TableAgrees, NewsGets, AllNewsGets}
+use Rattle.node_slots.specs.node_tie.ManagerEvents.{TableAgrees, NewsGets, AllNewsGets}
+use Rattle.headline.specs.Managers.{phase_at}
 use Rattle.node_slots.proofs.node_tie.ManagerMoves.{Rises, stays_same, rises_of, rises_then}
 use Rattle.node_slots.proofs.node_tie.ManagerTaking.{slot_hears_of, other_hears_of}
 use Rattle.node_slots.proofs.node_tie.ManagerTables.{set_there, by_slot, IsLow, at_part, set_slot, set_other, slot_or_other, as_slot, by_taken}

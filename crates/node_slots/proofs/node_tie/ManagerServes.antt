@@ -26,7 +26,8 @@ use Rattle.manager_slots.specs.Slots.{epoch_of, fetch_of as fetch_in}
 use Rattle.manager_serving.specs.Checkpoints.{Done, gives, writes, tells_again}
 use Rattle.manager_serving.specs.declared.serving.Serving.{Serving}
 use Rattle.manager_serving.specs.Serving.{and_then, asker_of, with_slots, with_asker, client_in, fed_log, on_want, on_gave, on_deltas, on_check, on_usage_ask, takes, on_report, answered_by, fetch_of, on_found, on_missing, recalls_again, asks_again, on_tick}
-use Rattle.node_slots.specs.node_tie.ManagerEvents.{phase_at, TableAgrees, WantGets, GaveGets, ReportGets, DeltasGets, TakeoverGets, LastReportGets, AnswerGets, FoundGets, AbsentGets}
+use Rattle.node_slots.specs.node_tie.ManagerEvents.{TableAgrees, WantGets, GaveGets, ReportGets, DeltasGets, TakeoverGets, LastReportGets, AnswerGets, FoundGets, AbsentGets}
+use Rattle.headline.specs.Managers.{phase_at}
 use Rattle.node_slots.proofs.node_tie.ManagerFetches.{fetch_is}
 use Rattle.node_slots.proofs.node_tie.ManagerCheckpoints.{Quiet, quiet_writes, quiet_tells}
 use Rattle.node_slots.proofs.node_tie.ManagerMoves.{AllDone, moves_of}

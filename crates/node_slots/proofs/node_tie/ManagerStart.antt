@@ -16,7 +16,8 @@ use Rattle.manager_slots.specs.Slots.{epoch_of, first_active}
 use Rattle.manager_slots.specs.declared.slot_phase.SlotPhase.{SlotPhase}
 use Rattle.manager_slots.specs.declared.slot_phase.SlotPhase.TheVariants as phase
 use Rattle.node_slots.proofs.node_tie.SlotTables.{first_at}
-use Rattle.node_slots.specs.node_tie.ManagerEvents.{phase_at, PhaseAgrees, OtherAgrees, FirstAgrees, FirstManagerAgrees}
+use Rattle.node_slots.specs.node_tie.ManagerEvents.{PhaseAgrees, OtherAgrees, FirstAgrees, FirstManagerAgrees}
+use Rattle.headline.specs.Managers.{phase_at}
 
 -- what holds of an unknown slot, and of each that was made, holds of all
 each_at : (f : ℕ → SlotPhase) (P : ℕ → SlotPhase → Type 0) → ((k : ℕ) → P k (phase.Away 0)) → ((k : ℕ) → P k (f k)) → (k : ℕ)

@@ -34,7 +34,8 @@ use Rattle.manager_slots.specs.Takeovers as takeovers
 use Rattle.manager_slots.specs.Takeovers.{Asker, asker}
 use Rattle.manager_slots.specs.Tokens as tokens
 use Rattle.node_slots.specs.node_tie.Sight.{WantSeen, GaveSeen}
-use Rattle.node_slots.specs.node_tie.ManagerEvents.{phase_at, PhaseAgrees, OtherAgrees, TableAgrees, ReportGets, DeltasJoin, TakeoverGets, LastReportGets}
+use Rattle.node_slots.specs.node_tie.ManagerEvents.{PhaseAgrees, OtherAgrees, TableAgrees, ReportGets, DeltasJoin, TakeoverGets, LastReportGets}
+use Rattle.headline.specs.Managers.{phase_at}
 pub use Rattle.node_slots.proofs.node_tie.SlotTables.{set_here, set_there, by_slot, as_slot, by_taken}
 use Rattle.node_slots.proofs.node_tie.ManagerActive.{Event, event_same, event_staying, Other, slot_wants, slot_gaves, slot_deltas, slot_ticks, check_same, check_done, usage_done, other_takes, other_wants}
 use Rattle.node_slots.proofs.node_tie.ManagerMoves.{AllDone, Moves, Stays, moves_of, moves_then, stays_same, stays_then}

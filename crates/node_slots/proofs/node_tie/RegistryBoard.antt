@@ -14,7 +14,8 @@ use Rattle.registry.specs.declared.output.Out.TheVariants.{Changed}
 use Rattle.registry.specs.Slots.{entry_of, can_rise}
 use Rattle.xfs_base.proofs.Booleans.{by_test, and_first, and_second}
 use Rattle.xfs_base.specs.Limits.{u32_end}
-use Rattle.node_slots.specs.node_tie.RegistryEvents.{epoch_in, manager_in, inc_in, BoardSound, SlotGoes, BoardGoes}
+use Rattle.node_slots.specs.node_tie.RegistryEvents.{manager_in, inc_in, BoardSound, SlotGoes, BoardGoes}
+use Rattle.headline.specs.Indexes.{epoch_in}
 use Rattle.node_slots.proofs.node_tie.RegistrySlots.{set_other, set_same, next_epoch, raised_entry, raised_at, raised_long, all_can_rise, inc_put, inc_here}
 
 -- an epoch goes up by one at most

@@ -9,7 +9,8 @@ use Rattle.registry.specs.Slots.{all_slots, entry_of}
 use Rattle.registry_node.specs.Events.{news_of}
 use Rattle.xfs_base.specs.declared.news.SlotNews.{SlotNews}
 use Rattle.xfs_base.proofs.Alls.{all_map}
-use Rattle.node_slots.specs.node_tie.RegistryEvents.{epoch_in, manager_in, SlotTells, NewsTell, NewsAre}
+use Rattle.node_slots.specs.node_tie.RegistryEvents.{manager_in, SlotTells, NewsTell, NewsAre}
+use Rattle.headline.specs.Indexes.{epoch_in}
 
 module _ (part : ℕ) (below : part < 8) (b : BoardState) where
   slot_tells : (slot : ℕ) → SlotTells part (epoch_in b part) (manager_in b part) (slot_news b slot)

@@ -12,7 +12,7 @@ use Rattle.manager_slots.specs.declared.slot_phase.SlotPhase.TheVariants as phas
 use Rattle.manager_slots.specs.SlotTable as table
 use Rattle.manager_slots.specs.SlotTable.{Table, TableAsker, all_slots, unknown_table}
 use Rattle.manager_slots.specs.Takeovers.{Asker, asker}
-use Rattle.node_slots.specs.node_tie.ManagerEvents.{phase_at}
+use Rattle.headline.specs.Managers.{phase_at}
 use Rattle.node_slots.proofs.node_tie.ManagerActive.{some_none}
 
 as_read : (t : Table) (k : ℕ) → phase_at t k ≡ get_or t k (phase.Away 0)

@@ -9,13 +9,13 @@ use Rattle.client_node.specs.declared.phase.Phase.TheVariants as client
 use Rattle.client_node.specs.declared.phase.Phase.{Phase}
 use Rattle.client_node.specs.Phases as clients
 use Rattle.client_serving.specs.declared.serving.Serving.{Serving}
-use Rattle.index_tie.specs.Filed.{Filed, IsSegment}
+use Rattle.headline.specs.Filed.{Filed, IsSegment, Texts}
 use Rattle.index_tie.specs.Net.{Net}
 use Rattle.log_flight.specs.Flights.{FlightState}
 use Rattle.node_base.specs.declared.effects.Effect.{Effect}
 use Rattle.node_base.specs.declared.effects.Effect.TheVariants.{Send, Answer, Lose, Does}
 use Rattle.node_slots.specs.node_index_tie.Pages.{FlightIsText}
-use Rattle.node_slots.specs.node_index_tie.Sight.{RowsFit, Texts}
+use Rattle.node_slots.specs.node_index_tie.Sight.{RowsFit}
 use Rattle.segment_format.specs.Rows.{rows_of}
 use Rattle.segment_format.specs.declared.segment.Segment.{Segment}
 use Rattle.version_model.specs.declared.act.Act.{Act}

@@ -1,5 +1,5 @@
 -- How a job of the cleaner begins: it is told what each slot is promised to.
-use Rattle.index_tie.specs.Filed.{Filed}
+use Rattle.headline.specs.Filed.{Filed, Texts}
 use Rattle.segment_format.specs.declared.segment.Segment.{Segment}
 use Rattle.std.proofs.Common.{◌≡◌, ◌≤◌, ◌<◌, ◌==◌, ℕ, zero, suc, Bool, true, false, List, [], ◌∷◌, inl, inr, Some, None, is_some, length, refl, sym, ap, subst, ◌∙◌, arith}
 use Rattle.std.specs.List.{range_with_len}
@@ -15,7 +15,7 @@ use Rattle.index_tie.specs.Net.Happens.{JobBegins, JobPromises, JobTakes}
 use Rattle.index_tie.specs.Net.Runs.{Begun, On}
 use Rattle.log_owner.specs.Promised.{epoch_of}
 use Rattle.node_base.specs.declared.effects.Effect.TheVariants.{Answer as Answers}
-use Rattle.node_slots.specs.node_index_tie.Sight.{Texts, Questions, held_in}
+use Rattle.node_slots.specs.node_index_tie.Sight.{Questions, held_in}
 use Rattle.stripe_cleaner.specs.CleaningState.{CleaningState, started}
 use Rattle.stripe_cleaner.specs.declared.input.In.TheVariants as input
 use Rattle.stripe_cleaner.specs.declared.phase.Phase.TheVariants.{Greeting}

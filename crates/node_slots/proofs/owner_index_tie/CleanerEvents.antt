@@ -5,7 +5,7 @@ use Rattle.cleaner_node.specs.declared.cleaner.Phase.{Phase}
 use Rattle.cleaner_node.specs.declared.cleaner.Phase.TheVariants.{Down, Opening, Serving}
 use Rattle.cleaner_node.specs.CleanerEvents.{takes}
 use Rattle.index_tie.specs.Net.{Net}
-use Rattle.node_slots.specs.node_index_tie.Sight.{Texts, AreTexts}
+use Rattle.headline.specs.Filed.{AreTexts, Texts}
 use Rattle.wire_msg.specs.declared.packet.Do.{Do}
 use Rattle.wire_msg.specs.declared.packet.Do.TheVariants.{Begin, Deliver, Tick}
 use Rattle.node_slots.specs.owner_index_tie.CleanerEvents.{NewFor, CleanerDoes, EventGets, CleanerEventGoes}

@@ -1,5 +1,5 @@
 -- What the cleaner does step by step, in the small world: things that happen there, what it is told, and how steps follow one another.
-use Rattle.index_tie.specs.Filed.{Filed}
+use Rattle.headline.specs.Filed.{Filed, Texts}
 use Rattle.std.proofs.Common.{◌≡◌, ◌≤◌, ◌<◌, ℕ, suc, List, [], ◌∷◌, ◌++◌, Option, Some, None, refl, sym, ap, subst, ◌∙◌, arith}
 use Rattle.std.specs.List.{AllByRecursion}
 use Rattle.cleaner_serving.specs.declared.emptying.Emptying.{Emptying}
@@ -17,12 +17,12 @@ use Rattle.log_owner.specs.Promised.{epoch_of}
 use Rattle.xfs_base.specs.declared.entry.Entry.{Entry}
 use Rattle.index_tie.specs.Net.{Net, Packet, Runs}
 use Rattle.index_tie.specs.Net.Runs.{Begun, On}
-use Rattle.index_tie.specs.Takeovers.{of_log}
+use Rattle.headline.specs.Indexes.{of_log}
 use Rattle.log_owner.specs.declared.promised.Promised.{Promised}
 use Rattle.log_protocol.specs.Tables.{In}
 use Rattle.node_base.specs.declared.effects.Effect.{Effect}
 use Rattle.node_base.specs.declared.effects.Effect.TheVariants.{Send, Answer as Answers, Lose, Does}
-use Rattle.node_slots.specs.node_index_tie.Sight.{Texts, Questions, held_in, CheckKnown}
+use Rattle.node_slots.specs.node_index_tie.Sight.{Questions, held_in, CheckKnown}
 use Rattle.node_slots.proofs.node_index_tie.Moves.{runs_through}
 use Rattle.segment_format.specs.declared.segment.Segment.{Segment}
 use Rattle.version_model.specs.declared.act.Act.{Act}

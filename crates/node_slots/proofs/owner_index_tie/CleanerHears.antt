@@ -1,5 +1,5 @@
 -- What each packet that is for its job, and a Poll, make of a cleaner that serves.
-use Rattle.index_tie.specs.Filed.{Filed}
+use Rattle.headline.specs.Filed.{Filed, Texts}
 use Rattle.std.proofs.Common.{◌≡◌, ◌≤◌, ◌<◌, ◌==◌, ℕ, Bool, true, false, List, [], Option, Some, None, nat_lt, refl, subst, arith}
 use Rattle.std.proofs.lemmas.Bool.{eqb-true, ltb-false}
 use Rattle.std.proofs.lemmas.Bool.Decides.{nat_tests}
@@ -16,7 +16,7 @@ use Rattle.index_tie.specs.Cleaning.{ReadFor}
 use Rattle.index_tie.specs.Net.{Net, Packet, IsOther}
 use Rattle.log_owner.specs.Promised.{epoch_of}
 use Rattle.node_base.specs.Asking.{next_ask, drawn}
-use Rattle.node_slots.specs.node_index_tie.Sight.{Texts, Questions}
+use Rattle.node_slots.specs.node_index_tie.Sight.{Questions}
 use Rattle.node_slots.proofs.node_index_tie.Owners.{feeds_stay}
 use Rattle.segment_format.specs.declared.segment.Segment.{Segment}
 use Rattle.segment_reading.specs.declared.reading.Next.{Next}

@@ -1,5 +1,5 @@
 -- What a job takes is taken in the small world, and then what it says is done.
-use Rattle.index_tie.specs.Filed.{Filed}
+use Rattle.headline.specs.Filed.{Filed, Texts}
 use Rattle.std.proofs.Common.{◌≡◌, ◌≤◌, ◌<◌, ◌==◌, ◌&&◌, ℕ, Bool, true, false, List, [], ◌∷◌, ◌++◌, Option, Some, None, length, set, inl, inr, refl, sym, ap, subst, ◌∙◌, arith}
 use Rattle.std.specs.List.{AllByRecursion}
 use Rattle.std.proofs.lemmas.Bool.{eqb-true}
@@ -16,7 +16,7 @@ use Rattle.index_tie.specs.Net.Packet.{AnsweredDead}
 use Rattle.index_tie.specs.Net.Runs.{Begun, On}
 use Rattle.log_owner.specs.Promised.{epoch_of}
 use Rattle.log_protocol.specs.Tables.{In}
-use Rattle.node_slots.specs.node_index_tie.Sight.{Texts, Questions, held_in}
+use Rattle.node_slots.specs.node_index_tie.Sight.{Questions, held_in}
 use Rattle.node_slots.proofs.node_index_tie.Moves.{in_more, in_front}
 use Rattle.stripe_cleaner.specs.CleaningState.{CleaningState}
 use Rattle.stripe_cleaner.specs.declared.input.In as inputs

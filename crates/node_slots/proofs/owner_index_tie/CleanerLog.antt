@@ -1,5 +1,5 @@
 -- What the cleaner does once its log takes an input: where a segment is settled it is filed, and the job goes on.
-use Rattle.index_tie.specs.Filed.{Filed}
+use Rattle.headline.specs.Filed.{Filed, Texts}
 use Rattle.std.proofs.Common.{⊎_elim, ◌≡◌, ◌≤◌, ℕ, suc, List, [], ◌∷◌, map, Option, Some, None, refl, sym, ap, subst, ◌∙◌, arith}
 use Rattle.std.specs.List.{AllByRecursion}
 use Rattle.std.proofs.lemmas.List.Elements.{recursion_from_All}
@@ -25,7 +25,7 @@ use Rattle.log_owner.specs.declared.promised.Managers.{Managers}
 use Rattle.log_owner.specs.Promised.{epoch_of}
 use Rattle.log_owner.specs.Sending.{name_of, range, store, pushes_all}
 use Rattle.node_slots.specs.node_index_tie.OwnerEvents as owners
-use Rattle.node_slots.specs.node_index_tie.Sight.{Texts, Questions, RowsFit}
+use Rattle.node_slots.specs.node_index_tie.Sight.{Questions, RowsFit}
 use Rattle.node_moves.proofs.client_walk.LogTurns.{IsSend}
 use Rattle.node_slots.proofs.node_index_tie.Owners.{owners_tell}
 use Rattle.segment_format.specs.Rows.{rows_of}

@@ -1,5 +1,5 @@
 -- What the maps make of a cleaner that serves: it promises later epochs, its log looks whether its flight is settled, and its job is welcomed.
-use Rattle.index_tie.specs.Filed.{Filed}
+use Rattle.headline.specs.Filed.{Filed, Texts}
 use Rattle.segment_format.specs.declared.segment.Segment.{Segment}
 use Rattle.std.proofs.Common.{◌≡◌, ◌≤◌, ◌<◌, ◌==◌, ◌&&◌, ℕ, Bool, true, false, List, [], ◌∷◌, Option, Some, None, nat_lt, refl, sym, subst, ◌∙◌, arith}
 use Rattle.std.specs.List.{AllByRecursion}
@@ -17,7 +17,7 @@ use Rattle.index_tie.specs.Net.{Net, Packet}
 use Rattle.log_owner.specs.Promised.{epoch_of}
 use Rattle.node_base.specs.Maps.{fits, is_older, taken}
 use Rattle.node_slots.proofs.owner_index_tie.MovesLog.{FlightKnown}
-use Rattle.node_slots.specs.node_index_tie.Sight.{Texts, Questions}
+use Rattle.node_slots.specs.node_index_tie.Sight.{Questions}
 use Rattle.stripe_cleaner.specs.CleaningState.{CleaningState}
 use Rattle.stripe_cleaner.specs.Counting.{has_usage}
 use Rattle.stripe_cleaner.specs.declared.input.In.TheVariants as input

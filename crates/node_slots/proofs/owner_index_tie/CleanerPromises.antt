@@ -8,14 +8,15 @@ use Rattle.cleaner_serving.specs.EmptyingEvents.{promises}
 use Rattle.cleaner_serving.specs.Jobs.{Done, says, takes_in, job_takes, cleans}
 use Rattle.cleaner_job.specs.declared.job.Job.{Job}
 use Rattle.delta_feed.specs.Transition.{new_epoch}
-use Rattle.index_tie.specs.Filed.{Filed}
+use Rattle.headline.specs.Filed.{Filed, Texts}
 use Rattle.index_tie.specs.Net.{Net, Packet, Happens, Runs, with_job, with_packet}
 use Rattle.index_tie.specs.Net.Packet.{CleanerReported}
-use Rattle.index_tie.specs.Takeovers.{of_log, Linked}
+use Rattle.index_tie.specs.Takeovers.{Linked}
+use Rattle.headline.specs.Indexes.{of_log}
 use Rattle.index_tie.specs.Net.Happens.{Promises, JobPromises, JobTakes, Reports}
 use Rattle.index_tie.specs.Net.Runs.{Begun, On}
 use Rattle.log_owner.specs.Promised.{epoch_of, promised_to}
-use Rattle.node_slots.specs.node_index_tie.Sight.{Texts, Questions, held_in}
+use Rattle.node_slots.specs.node_index_tie.Sight.{Questions, held_in}
 use Rattle.node_slots.proofs.node_index_tie.Owners.{feeds_stay}
 use Rattle.stripe_cleaner.specs.declared.input.In.TheVariants as input
 use Rattle.stripe_cleaner.specs.Promises.{promised_at}

@@ -1,5 +1,5 @@
 -- What a job says has the cleaner do: it asks, puts what is live into its log, and has dropped segments deleted; the job that is over is gone.
-use Rattle.index_tie.specs.Filed.{Filed}
+use Rattle.headline.specs.Filed.{Filed, Texts}
 use Rattle.segment_format.specs.declared.segment.Segment.{Segment}
 use Rattle.std.proofs.Common.{◌≡◌, ◌==◌, ℕ, zero, suc, Bool, true, false, List, [], ◌∷◌, Option, Some, None, inl, inr, refl, sym, ap, subst, ◌∙◌, arith}
 use Rattle.std.specs.List.{AllByRecursion, flat_map}
@@ -30,7 +30,7 @@ use Rattle.node_base.specs.Beginning.{answers_unanswered}
 use Rattle.node_base.specs.declared.effects.Effect.{Effect}
 use Rattle.node_base.specs.declared.effects.Effect.TheVariants.{Send, Does}
 use Rattle.node_base.specs.declared.questions.Questions.{Questions as Asker}
-use Rattle.node_slots.specs.node_index_tie.Sight.{Texts, Questions}
+use Rattle.node_slots.specs.node_index_tie.Sight.{Questions}
 use Rattle.segment_reading.specs.Reading.{ReadingState, to_ask}
 use Rattle.stripe_cleaner.specs.CleaningState.{CleaningState, started}
 use Rattle.stripe_cleaner.specs.declared.output.Out.{Out}

@@ -1,5 +1,5 @@
 -- What each packet, and time, make of a cleaner that serves.
-use Rattle.index_tie.specs.Filed.{Filed}
+use Rattle.headline.specs.Filed.{Filed, Texts}
 use Rattle.segment_format.specs.declared.segment.Segment.{Segment}
 use Rattle.std.proofs.Common.{◌<◌, ℕ, List, []}
 use Rattle.cleaner_serving.specs.declared.emptying.Emptying.{Emptying}
@@ -10,7 +10,7 @@ use Rattle.index_tie.specs.Net.{Net, Packet}
 use Rattle.log_owner.specs.Sending.{pushes_all, server_in}
 use Rattle.node_base.specs.Known.{names_known}
 use Rattle.node_slots.proofs.owner_index_tie.MovesLog.{FlightKnown}
-use Rattle.node_slots.specs.node_index_tie.Sight.{Texts, Questions}
+use Rattle.node_slots.specs.node_index_tie.Sight.{Questions}
 use Rattle.stripe_cleaner.specs.declared.input.In.TheVariants as input
 use Rattle.stripe_code.specs.declared.round.Told.TheVariants as told
 use Rattle.wire_msg.specs.declared.body.Body.{Body}

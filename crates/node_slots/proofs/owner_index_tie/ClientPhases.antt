@@ -14,7 +14,7 @@ use Rattle.client_serving.specs.Lasting.{next_life}
 use Rattle.client_serving.specs.Packets as packets
 use Rattle.client_running.specs.Running.{goes_on, runs}
 use Rattle.client_serving.specs.Sends.{Done, gives}
-use Rattle.index_tie.specs.Filed.{Filed}
+use Rattle.headline.specs.Filed.{Filed, Texts}
 use Rattle.index_tie.specs.Net.{Net}
 use Rattle.index_tie.specs.Net.Happens.{ClientFiles}
 use Rattle.log_owner.specs.declared.opened.Opened.{Opened}
@@ -31,7 +31,7 @@ use Rattle.node_base.specs.declared.effects.Effect.{Effect}
 use Rattle.node_base.specs.declared.effects.Effect.TheVariants.{Answer as Answers}
 use Rattle.node_base.specs.declared.peers.Peers.{Peers}
 use Rattle.node_base.specs.Shape.{is_well_formed}
-use Rattle.node_slots.specs.node_index_tie.Sight.{Texts, held_in}
+use Rattle.node_slots.specs.node_index_tie.Sight.{held_in}
 use Rattle.version_model.specs.declared.answer.Answer.{Answer}
 use Rattle.version_model.specs.declared.answer.Answer.TheVariants as answer
 use Rattle.version_model.specs.declared.work.Work.{Work}

@@ -7,7 +7,7 @@ use Rattle.client_log.specs.LogState.{LogState}
 use Rattle.delta_feed.specs.FeedState.{FeedState}
 use Rattle.delta_feed.proofs.AfterInputs.{is_after}
 use Rattle.index_tie.specs.Feeds.{fed_at}
-use Rattle.index_tie.specs.Filed.{Filed, rows_at}
+use Rattle.headline.specs.Filed.{Filed, rows_at}
 use Rattle.index_tie.specs.Net.{Net}
 use Rattle.node_slots.specs.node_index_tie.OwnerEvents.{FeedSeen}
 use Rattle.node_slots.specs.node_index_tie.Sight.{RowsFit}

@@ -1,15 +1,16 @@
 -- What an owner does step by step: steps that file nothing, and steps that file.
 use Rattle.std.proofs.Common.{◌≡◌, ◌≤◌, ◌<◌, ◌==◌, ℕ, suc, List, [], ◌∷◌, ◌++◌, Option, Some, None, refl, sym, ap, subst, ◌∙◌, arith}
 use Rattle.std.specs.List.{AllByRecursion}
-use Rattle.index_tie.specs.Filed.{Filed}
+use Rattle.headline.specs.Filed.{Filed, Texts}
 use Rattle.index_tie.specs.Growth.{IsMore, with_segment}
 use Rattle.index_tie.specs.Net.{Net}
-use Rattle.index_tie.specs.Takeovers.{of_log, IsEnd, Linked}
+use Rattle.index_tie.specs.Takeovers.{IsEnd, Linked}
+use Rattle.headline.specs.Indexes.{of_log}
 use Rattle.index_tie.proofs.Growth.{deltas_stay, more_is_filed}
 use Rattle.node_base.specs.Beginning.{answers_unanswered}
 use Rattle.node_base.specs.declared.effects.Effect.{Effect}
 use Rattle.node_base.specs.declared.effects.Effect.TheVariants.{Send, Answer as Answers, Lose, Does}
-use Rattle.node_slots.specs.node_index_tie.Sight.{Texts, DeltasKnown, EndKnown}
+use Rattle.node_slots.specs.node_index_tie.Sight.{DeltasKnown, EndKnown}
 use Rattle.segment_format.specs.declared.segment.Segment.{Segment}
 use Rattle.version_model.specs.declared.act.Act.{Act}
 use Rattle.version_model.specs.declared.act.Act.TheVariants.{Filed as ActsFiled}

@@ -5,12 +5,12 @@ use Rattle.client_log.specs.LogState.{LogState}
 use Rattle.client_log.specs.Transition.{end_from}
 use Rattle.delta_feed.specs.FeedState.{FeedState}
 use Rattle.delta_feed.specs.Transition.{settled}
-use Rattle.index_tie.specs.Filed.{Filed}
+use Rattle.headline.specs.Filed.{Filed, Texts}
 use Rattle.index_tie.specs.Growth.{with_segment}
 use Rattle.index_tie.specs.Net.{Net}
 use Rattle.index_tie.proofs.Tables.{at_same, first_of}
 use Rattle.node_slots.specs.node_index_tie.OwnerEvents.{FeedSeen}
-use Rattle.node_slots.specs.node_index_tie.Sight.{Texts, RowsFit}
+use Rattle.node_slots.specs.node_index_tie.Sight.{RowsFit}
 use Rattle.node_slots.proofs.node_index_tie.Feeding.{feeds_grow}
 use Rattle.segment_format.specs.Rows.{rows_of}
 use Rattle.segment_format.specs.declared.segment.Segment.{Segment}

@@ -29,14 +29,14 @@ use Rattle.node_base.specs.Shape.{is_log}
 use Rattle.delta_feed.specs.FeedState.{started}
 use Rattle.delta_feed.specs.Transition.{settled}
 use Rattle.client_log.specs.LogState as log_state
-use Rattle.index_tie.specs.Filed.{Filed}
+use Rattle.headline.specs.Filed.{Filed, Texts}
 use Rattle.index_tie.specs.Growth.{with_segment}
 use Rattle.index_tie.specs.Net.{Net}
 use Rattle.log_owner.specs.Opened.{filed, fed, feed_of}
 use Rattle.log_owner.specs.Sending.{name_of}
 use Rattle.node_base.specs.declared.effects.Effect.TheVariants.{Does}
 use Rattle.node_slots.specs.node_index_tie.Pages.{FlightIsText}
-use Rattle.node_slots.specs.node_index_tie.Sight.{Texts, RowsFit}
+use Rattle.node_slots.specs.node_index_tie.Sight.{RowsFit}
 use Rattle.node_moves.proofs.client_walk.LogTurns.{IsSend}
 use Rattle.node_moves.proofs.LogWalk.{IsHeard}
 use Rattle.node_slots.proofs.node_index_tie.Flights.{GoesOn, Went as LogWent, log_went, parts_went}

@@ -5,9 +5,10 @@ use Rattle.client_serving.specs.declared.serving.Serving.{Serving}
 use Rattle.client_serving.specs.Follow.{follows}
 use Rattle.client_serving.specs.Packets.{promises, reports, may_report, polled, on_poll}
 use Rattle.client_serving.specs.Sends.{Done, report}
-use Rattle.index_tie.specs.Filed.{Filed}
+use Rattle.headline.specs.Filed.{Filed}
 use Rattle.index_tie.specs.Net.{Net}
-use Rattle.index_tie.specs.Takeovers.{of_log, Linked}
+use Rattle.index_tie.specs.Takeovers.{Linked}
+use Rattle.headline.specs.Indexes.{of_log}
 use Rattle.token_client.specs.declared.output.Out as outputs
 use Rattle.token_client.specs.State.{epoch_of}
 use Rattle.wire_msg.specs.declared.deltas.Poll.{Poll}

@@ -6,7 +6,7 @@ use Rattle.std.proofs.lemmas.Bool.Decides.{nat_tests}
 use Rattle.delta_feed.specs.FeedState.{FeedState, started}
 use Rattle.delta_feed.specs.Transition.{settled}
 use Rattle.index_tie.specs.Feeds.{fed_at}
-use Rattle.index_tie.specs.Filed.{Filed, rows_at}
+use Rattle.headline.specs.Filed.{Filed, Texts, rows_at}
 use Rattle.index_tie.specs.Growth.{with_segment}
 use Rattle.index_tie.specs.Net.{Net}
 use Rattle.index_tie.proofs.Growth.{more_is_filed}
@@ -14,7 +14,7 @@ use Rattle.index_tie.proofs.Tables.{at_same, first_of, second_of}
 use Rattle.log_owner.specs.Opened.{filed, fed, with_segment as fed_with}
 use Rattle.log_protocol.specs.Tables.{put}
 use Rattle.node_slots.specs.node_index_tie.OwnerEvents.{FeedSeen}
-use Rattle.node_slots.specs.node_index_tie.Sight.{Texts, RowsFit}
+use Rattle.node_slots.specs.node_index_tie.Sight.{RowsFit}
 use Rattle.node_slots.proofs.node_index_tie.Feeding.{feeds_grow}
 use Rattle.segment_format.specs.Rows.{rows_of}
 use Rattle.segment_format.specs.declared.segment.Segment.{Segment}

@@ -3,13 +3,12 @@ use Rattle.std.proofs.Common.{◌≡◌, ◌≤◌, ◌==◌, ℕ, suc, Bool, tr
 use Rattle.std.proofs.lemmas.Bool.{eqb-true}
 use Rattle.std.proofs.lemmas.Bool.Decides.{nat_tests}
 use Rattle.checkpoint.specs.WriterState.{Rows}
-use Rattle.index_tie.specs.Filed.{Filed}
+use Rattle.headline.specs.Filed.{AreTexts, Filed, Texts}
 use Rattle.index_tie.specs.Growth.{with_segment}
 use Rattle.index_tie.specs.Net.{Net, Happens, Runs}
 use Rattle.index_tie.specs.Net.Runs.{Begun, On}
 use Rattle.node_base.specs.declared.effects.Effect.{Effect}
 use Rattle.node_base.specs.declared.effects.Effect.TheVariants.{Send, Answer, Lose, Does}
-use Rattle.node_slots.specs.node_index_tie.Sight.{Texts, AreTexts}
 use Rattle.node_slots.proofs.node_index_tie.Moves.{runs_through}
 use Rattle.segment_format.specs.declared.segment.Segment.{Segment}
 use Rattle.version_model.specs.declared.act.Act.{Act}

@@ -11,7 +11,7 @@ use Rattle.client_serving.specs.Flights.{gives_if_clean, feeds, settled_rows, se
 use Rattle.client_serving.specs.Lasting.{log_of}
 use Rattle.client_serving.specs.Sends.{Done}
 use Rattle.delta_feed.specs.Transition as feeding
-use Rattle.index_tie.specs.Filed.{Filed}
+use Rattle.headline.specs.Filed.{Filed, Texts}
 use Rattle.index_tie.specs.Net.{Net}
 use Rattle.log_owner.specs.Sealing.{is_settling}
 use Rattle.log_owner.specs.Sending.{name_of, pushes_all}
@@ -21,7 +21,6 @@ use Rattle.node_moves.proofs.client_walk.Laws.{Walk}
 use Rattle.node_moves.proofs.client_walk.LogTurns as turns
 use Rattle.node_base.specs.declared.effects.Effect.{Effect}
 use Rattle.node_slots.specs.node_index_tie.Pages.{FlightIsText}
-use Rattle.node_slots.specs.node_index_tie.Sight.{Texts}
 use Rattle.segment_format.specs.Rows.{rows_of}
 use Rattle.segment_format.specs.declared.segment.Segment.{Segment}
 use Rattle.token_client.specs.State.{dirty_in}

@@ -6,12 +6,11 @@ use Rattle.client_serving.specs.Flights.{writes}
 use Rattle.client_serving.specs.Packets.{hears, regroups, takes_news, on_news, on_welcome, on_body, asks_for_maps, on_packet, on_tick}
 use Rattle.client_running.specs.Running.{runs}
 use Rattle.client_serving.specs.Sends.{Done}
-use Rattle.index_tie.specs.Filed.{Filed}
+use Rattle.headline.specs.Filed.{Filed, Texts}
 use Rattle.index_tie.specs.Net.{Net}
 use Rattle.node_base.specs.Known.{names_known}
 use Rattle.node_base.specs.Maps.{fits, is_older, taken}
 use Rattle.node_slots.specs.node_index_tie.Pages.{FlightIsText}
-use Rattle.node_slots.specs.node_index_tie.Sight.{Texts}
 use Rattle.segment_format.specs.declared.segment.Segment.{Segment}
 use Rattle.stripe_code.specs.declared.round.Told.TheVariants as told
 use Rattle.wire_msg.specs.declared.body.Body.{Body}

@@ -7,7 +7,7 @@ use Rattle.client_serving.specs.Sends.{Done}
 use Rattle.node_moves.proofs.client_walk.Frames as steps
 use Rattle.node_moves.proofs.client_walk.Laws.{Walk, all_read, all_tell}
 use Rattle.token_client.specs.Transition as client
-use Rattle.index_tie.specs.Filed.{Filed}
+use Rattle.headline.specs.Filed.{Filed}
 use Rattle.index_tie.specs.Net.{Net}
 use Rattle.xfs_base.specs.Limits.{block_logs}
 use Rattle.node_slots.proofs.owner_index_tie.Frames as frames

@@ -9,9 +9,10 @@ use Rattle.delta_feed.specs.FeedState.{FeedState}
 use Rattle.delta_feed.specs.Transition.{acknowledged, new_epoch, pushed, ticked}
 use Rattle.delta_feed.specs.declared.output.Out.{Out}
 use Rattle.delta_feed.specs.declared.output.Out.TheVariants.{Range}
-use Rattle.index_tie.specs.Filed.{Filed}
+use Rattle.headline.specs.Filed.{Filed}
 use Rattle.index_tie.specs.Net.{Net}
-use Rattle.index_tie.specs.Takeovers.{of_log, Linked}
+use Rattle.index_tie.specs.Takeovers.{Linked}
+use Rattle.headline.specs.Indexes.{of_log}
 use Rattle.log_owner.specs.Opening.{stored}
 use Rattle.log_owner.specs.Sending.{range, pushes, pushes_all}
 use Rattle.log_owner.specs.declared.promised.Managers.{Managers}

@@ -2,9 +2,9 @@
 use Rattle.std.proofs.Common.{ℕ, [], refl, sym, arith}
 use Rattle.client_node.specs.declared.phase.Phase.{Phase}
 use Rattle.client_node.specs.declared.phase.Phase.TheVariants.{Down, Opening, Serving as Serves}
-use Rattle.index_tie.specs.Filed.{rows_at}
+use Rattle.headline.specs.Filed.{Texts, rows_at}
 use Rattle.index_tie.specs.Net.{Net, opening}
-use Rattle.node_slots.specs.node_index_tie.Sight.{Texts, RowsFit}
+use Rattle.node_slots.specs.node_index_tie.Sight.{RowsFit}
 use Rattle.node_slots.proofs.node_index_tie.Moves.{some_none}
 use Rattle.segment_format.specs.declared.segment.Segment.{Segment}
 use Rattle.node_slots.specs.owner_index_tie.ClientEvents.{RestingSeen, ClientAgrees, FirstClientAgrees, ClientsStay}

@@ -17,7 +17,8 @@ use Rattle.manager_slots.specs.declared.slot_phase.SlotPhase.TheVariants as phas
 use Rattle.manager_slots.specs.declared.slot_phase.Taking.{Taking}
 use Rattle.manager_slots.specs.Slots.{fetch_of}
 use Rattle.manager_serving.specs.declared.serving.Serving.{Serving}
-use Rattle.node_slots.specs.node_tie.ManagerEvents.{phase_at, HeldAt, ManagedAt, OfServer, Names, slot_in, epoch_in, is_serving}
+use Rattle.node_slots.specs.node_tie.ManagerEvents.{HeldAt, ManagedAt, OfServer, Names, epoch_in, is_serving}
+use Rattle.headline.specs.Managers.{phase_at, slot_in}
 use Rattle.segment_format.specs.declared.segment.Segment.{Segment}
 use Rattle.segment_reading.specs.Reading.{ReadingState, on_answer}
 use Rattle.slot_beliefs.specs.Index.{pages_of}
@@ -52,7 +53,8 @@ use Rattle.xfs_base.specs.declared.node.NodeId.TheVariants.{Client, Manager, Ser
 use Rattle.xfs_base.specs.declared.setup.Setup.{Setup}
 use Rattle.xfs_base.specs.Logs.{cleaners_number}
 use Rattle.node_slots.specs.node_index_tie.Pages.{Desk, desk_of, Paged, WriterAgrees, DoneSeen, FlightIsText}
-use Rattle.node_slots.specs.node_index_tie.Sight.{Texts, Questions, held_in, IsRead, AreTexts, DeltasKnown, ReportKnown, NewsKnown, CheckKnown, ManagerDoes}
+use Rattle.node_slots.specs.node_index_tie.Sight.{Questions, held_in, IsRead, DeltasKnown, ReportKnown, NewsKnown, CheckKnown, ManagerDoes}
+use Rattle.headline.specs.Filed.{AreTexts, Texts}
 
 -- ---- one slot
 

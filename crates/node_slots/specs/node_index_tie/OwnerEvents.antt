@@ -6,7 +6,7 @@ use Rattle.delta_feed.specs.History.{state_after}
 use Rattle.delta_feed.specs.Transition.{settled, acknowledged, new_epoch}
 use Rattle.delta_feed.specs.declared.input.In.{In}
 use Rattle.index_tie.specs.Feeds.{IsFed}
-use Rattle.index_tie.specs.Filed.{rows_at}
+use Rattle.headline.specs.Filed.{rows_at}
 use Rattle.index_tie.specs.Growth.{with_segment}
 use Rattle.index_tie.specs.Net.{Net}
 use Rattle.log_owner.specs.Sending.{pushes, pushes_all}

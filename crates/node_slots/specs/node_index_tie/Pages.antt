@@ -14,7 +14,8 @@ use Rattle.xfs_base.specs.Limits.{u32_end}
 use Rattle.xfs_base.specs.declared.segment.SegRef.{SegRef}
 use Rattle.manager_serving.specs.declared.checkpointing.Checkpointing.{Checkpointing}
 use Rattle.manager_serving.specs.declared.serving.Serving.{Serving}
-use Rattle.node_slots.specs.node_index_tie.Sight.{Texts, held_in, RowsFit, CkptSeen}
+use Rattle.node_slots.specs.node_index_tie.Sight.{held_in, RowsFit, CkptSeen}
+use Rattle.headline.specs.Filed.{Texts}
 
 -- pages, once these rows are put
 abbrev pub put_all : PagesState → Rows → PagesState

@@ -2,9 +2,9 @@
 use Rattle.std.specs.Prelude.{◌≡◌, ◌≤◌, ◌<◌, ℕ, List, None, length}
 use Rattle.index_tie.specs.Net.{Net, Runs, opening}
 use Rattle.index_tie.specs.Net.Packet.{CheckpointDone}
-use Rattle.index_tie.specs.Takeovers.{of_log}
+use Rattle.headline.specs.Indexes.{epoch_in, of_log}
 use Rattle.log_protocol.specs.Tables.{In}
-use Rattle.node_slots.specs.node_tie.RegistryEvents.{epoch_in, RegistrySound}
+use Rattle.node_slots.specs.node_tie.RegistryEvents.{RegistrySound}
 use Rattle.registry.specs.Board.{all_news}
 use Rattle.registry.specs.Checkpoints.{parts_at, horizon_at}
 use Rattle.segment_format.specs.declared.segment.Segment.{Segment}
@@ -21,7 +21,8 @@ use Rattle.xfs_base.specs.Limits.{u32_end, slot_count, block_logs}
 use Rattle.xfs_base.specs.declared.news.SlotNews.{SlotNews}
 use Rattle.xfs_base.specs.declared.segment.SegRef.{SegRef}
 use Rattle.xfs_base.specs.declared.setup.Setup.{Setup}
-use Rattle.node_slots.specs.node_index_tie.Sight.{Texts, held_in}
+use Rattle.node_slots.specs.node_index_tie.Sight.{held_in}
+use Rattle.headline.specs.Filed.{Texts}
 
 -- each log has a first segment that isn't covered, whose number is within its type
 pub record IsHorizon (horizon : List ℕ) : Type 0 where

@@ -2,14 +2,15 @@
 use Rattle.std.specs.Prelude.{◌≡◌, ℕ, ◌^◌, ◌<◌, ◌≤◌, List, None}
 use Rattle.std.specs.List.{AllByRecursion}
 use Rattle.checkpoint.specs.WriterState.{Rows}
-use Rattle.index_tie.specs.Filed.{Filed}
+use Rattle.headline.specs.Filed.{Texts}
 use Rattle.index_tie.specs.Net.{Net}
 use Rattle.index_tie.specs.Net.Packet.{CheckpointDone, CleanerReported, Checked, AnsweredLive, AnsweredDead}
 use Rattle.index_tie.specs.Slots.{DeltasTell}
-use Rattle.index_tie.specs.Takeovers.{of_log, IsEnd, Linked}
+use Rattle.index_tie.specs.Takeovers.{IsEnd, Linked}
+use Rattle.headline.specs.Indexes.{of_log}
 use Rattle.log_protocol.specs.Tables.{In}
 use Rattle.node_base.specs.declared.effects.Effect.{Effect}
-use Rattle.node_base.specs.declared.effects.Effect.TheVariants.{Send, Answer, Lose, Does}
+use Rattle.node_base.specs.declared.effects.Effect.TheVariants.{Send}
 use Rattle.segment_format.specs.declared.segment.Segment.{Segment}
 use Rattle.takeover.specs.Rows.{told_of}
 use Rattle.wire_msg.specs.declared.body.Body.{Body}
@@ -25,15 +26,11 @@ use Rattle.xfs_base.specs.declared.block.BlockId.{BlockId}
 use Rattle.xfs_base.specs.declared.entry.Entry.{Entry}
 use Rattle.xfs_base.specs.declared.news.SlotNews.{SlotNews}
 use Rattle.xfs_base.specs.declared.node.NodeId.{NodeId}
-use Rattle.xfs_base.specs.declared.node.NodeId.TheVariants.{Client, Manager, Server, Cleaner, Registry}
+use Rattle.xfs_base.specs.declared.node.NodeId.TheVariants.{Client, Cleaner}
 use Rattle.xfs_base.specs.declared.segment.End.{End}
 use Rattle.xfs_base.specs.declared.segment.SegName.{SegName}
 use Rattle.xfs_base.specs.declared.segment.SegRef.{SegRef}
 use Rattle.xfs_base.specs.Logs.{cleaners_number}
-
--- the one text of each name
-abbrev pub Texts : Type 0
-Texts = SegName → Segment
 
 -- the questions of the cleaner that it has asked: of each its number, that of its job, and the segment that it is about
 abbrev pub Questions : Type 0
@@ -52,10 +49,6 @@ module _ (part : ℕ) (texts : Texts) where
   pub record IsRead (s : Segment) : Type 0 where
     pub text : s ≡ texts s.name
     pub fits : RowsFit (told_of part s)
-
--- what is filed is the text of its name
-abbrev pub AreTexts : Texts → Filed → Type 0
-AreTexts texts f = (l q : ℕ) → 0 < q → q ≤ f.head l → f.segment l q ≡ texts (f.segment l q).name
 
 module _ (part : ℕ) (n : Net) where
   -- Deltas of a log tell of each block of the slot what the log filed in their range, and no log is at its last number.

@@ -1,5 +1,5 @@
 -- How a manager is seen in the small world of one slot of the map, and what one event of it is there.
-use Rattle.std.specs.Prelude.{◌≡◌, ◌≤◌, ◌<◌, ◌+◌, ℕ, List, [], ◌++◌, Some, None, length, slice_get, unwrap_or, false, true, Bool, ◌⊎◌}
+use Rattle.std.specs.Prelude.{◌≡◌, ◌≤◌, ◌<◌, ◌+◌, ℕ, List, [], ◌++◌, Some, None, length, false, true, Bool, ◌⊎◌}
 use Rattle.std.specs.List.{All}
 use Rattle.manager_map.specs.Slots.{start_entries}
 use Rattle.manager_node.specs.Events.{first_manager, happens}
@@ -60,6 +60,7 @@ use Rattle.xfs_base.specs.declared.token.Mode.{Mode}
 use Rattle.xfs_base.specs.Limits.{slot_count, block_logs}
 use Rattle.xfs_base.specs.Logs.{cleaner_log}
 use Rattle.node_slots.specs.node_tie.Sight.{WantSeen, GaveSeen, ReportSeen, ManagerDoes}
+use Rattle.headline.specs.Managers.{phase_at, slot_in}
 
 -- ---- one slot
 
@@ -70,10 +71,6 @@ without_pages s = record s { index = record { rows = s.index.rows; usage = s.ind
 -- two slots that differ in the pages of their indexes at most
 abbrev pub SameButPages : SlotState → SlotState → Type 0
 SameButPages z s = without_pages z ≡ without_pages s
-
--- the table's slot of this number
-abbrev pub phase_at : Table → ℕ → SlotPhase
-phase_at table slot = unwrap_or (slice_get table slot) (phase.Away 0)
 
 -- the slot is being taken over at this epoch
 abbrev pub TakingAt : SlotPhase → ℕ → Type 0
@@ -152,12 +149,6 @@ module _ (members part : ℕ) (n : Net) where
   ManagerAgrees j (Serves s) = ServingAgrees j s
   ManagerAgrees j (Down kept) = kept.number ≡ j
   ManagerAgrees j (Waiting kept hello) = kept.number ≡ j
-
--- what a manager has of the slot; one that doesn't serve knows nothing of it
-abbrev pub slot_in : ℕ → Phase → SlotPhase
-slot_in part (Serves s) = phase_at s.slots part
-slot_in part (Down kept) = phase.Away 0
-slot_in part (Waiting kept hello) = phase.Away 0
 
 -- the epoch of the slot that it knows of
 abbrev pub epoch_in : ℕ → Phase → ℕ

@@ -23,12 +23,9 @@ use Rattle.xfs_base.specs.declared.node.NodeId.{NodeId}
 use Rattle.xfs_base.specs.declared.node.NodeId.TheVariants.{Manager, Registry}
 use Rattle.xfs_base.specs.declared.setup.Setup.{Setup}
 use Rattle.xfs_base.specs.Limits.{slot_count}
+use Rattle.headline.specs.Indexes.{epoch_in}
 
 -- ---- what the registry keeps
-
--- the epoch of a slot, its manager, and the incarnation of a manager
-abbrev pub epoch_in : BoardState → ℕ → ℕ
-epoch_in b part = (entry_of b.entries part).epoch
 
 abbrev pub manager_in : BoardState → ℕ → ℕ
 manager_in b part = (entry_of b.entries part).manager

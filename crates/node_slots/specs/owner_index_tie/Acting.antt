@@ -10,12 +10,12 @@ use Rattle.client_node.specs.declared.client.Client.{Client}
 use Rattle.client_node.specs.declared.phase.Phase.TheVariants as client
 use Rattle.client_node.specs.Phases as clients
 use Rattle.client_serving.specs.declared.serving.Serving.{Serving}
-use Rattle.index_tie.specs.Filed.{IsSegment}
+use Rattle.headline.specs.Filed.{IsSegment, Texts}
 use Rattle.index_tie.specs.Net.{Net}
 use Rattle.log_flight.specs.Flights.{FlightState}
 use Rattle.node_base.specs.declared.effects.Effect.{Effect}
 use Rattle.node_base.specs.declared.effects.Effect.TheVariants.{Send, Answer, Lose, Does}
-use Rattle.node_slots.specs.node_index_tie.Sight.{RowsFit, Texts}
+use Rattle.node_slots.specs.node_index_tie.Sight.{RowsFit}
 use Rattle.segment_format.specs.Rows.{rows_of}
 use Rattle.version_model.specs.declared.act.Act.{Act}
 use Rattle.version_model.specs.declared.act.Act.TheVariants.{Filed as ActsFiled}

@@ -11,11 +11,12 @@ use Rattle.cleaner_job.specs.declared.job.Job.{Job}
 use Rattle.cleaner_job.specs.Jobs.{check_of, hand_of, is_out}
 use Rattle.client_log.specs.LogState.{LogState}
 use Rattle.delta_feed.specs.FeedState.{FeedState}
-use Rattle.index_tie.specs.Cleaning.{is_filed_name, IsWithin, ReadFor}
-use Rattle.index_tie.specs.Filed.{Filed, row_at}
+use Rattle.index_tie.specs.Cleaning.{IsWithin, ReadFor}
+use Rattle.headline.specs.Filed.{AreTexts, Filed, Texts, is_filed_name, row_at}
 use Rattle.index_tie.specs.Net.{Net, Packet, Runs, IsMove, IsInHand, opening}
 use Rattle.index_tie.specs.Net.Packet.{CleanerReported, AnsweredDead}
-use Rattle.index_tie.specs.Takeovers.{of_log, Linked}
+use Rattle.index_tie.specs.Takeovers.{Linked}
+use Rattle.headline.specs.Indexes.{of_log}
 use Rattle.log_owner.specs.declared.promised.Promised.{Promised}
 use Rattle.log_owner.specs.Promised.{epoch_of}
 use Rattle.log_owner.specs.Sending.{server_in}
@@ -23,7 +24,7 @@ use Rattle.log_protocol.specs.Tables.{In}
 use Rattle.node_base.specs.declared.effects.Effect.{Effect}
 use Rattle.node_base.specs.declared.effects.Effect.TheVariants.{Send, Answer, Lose, Does}
 use Rattle.node_slots.specs.node_index_tie.Pages.{FlightIsText}
-use Rattle.node_slots.specs.node_index_tie.Sight.{Texts, Questions, held_in, AreTexts, CheckKnown}
+use Rattle.node_slots.specs.node_index_tie.Sight.{Questions, held_in, CheckKnown}
 use Rattle.segment_format.specs.declared.segment.Segment.{Segment}
 use Rattle.index_tie.specs.Growth.{IsMore, said_of}
 use Rattle.segment_reading.specs.declared.reading.Next.TheVariants as next

@@ -14,10 +14,10 @@ use Rattle.node_base.specs.declared.effects.Effect.TheVariants.{Answer as Answer
 use Rattle.node_base.specs.Effects.{acts_of}
 use Rattle.run_laws.proofs.world_law.Turning.{next_cluster}
 use Rattle.run_laws.proofs.world_reads.Taking.{NothingHappens, Took, moment_next, node_then, takes_or_not}
-use Rattle.run_laws.specs.restart_law.Restarts.{NoDoubtfulRestart}
-use Rattle.run_laws.specs.world_law.Owners.{moment, node_in, node_named, tokens_at, tokens_in, tokens_of}
-use Rattle.run_laws.specs.world_logs.Doings.{acts_in}
-use Rattle.run_laws.specs.world_reads.Holders.{HoldersAreNewestThroughout, IsNewest, history_at}
+use Rattle.headline.specs.Restarts.{NoDoubtfulRestart}
+use Rattle.headline.specs.Moments.{acts_in, moment, node_in, node_named}
+use Rattle.headline.specs.Owners.{tokens_at, tokens_in, tokens_of}
+use Rattle.headline.specs.Versions.{HoldersAreNewestThroughout, IsNewest, history_at}
 use Rattle.token_client.specs.State.{TokensState}
 use Rattle.token_protocol.specs.Basics.{In}
 use Rattle.version_model.specs.declared.act.Act.{Act}
@@ -39,10 +39,9 @@ use Rattle.run_answers.proofs.act_law.Runs.{Stands, begins_next, client_turned, 
 use Rattle.run_answers.proofs.act_law.Telling.{answered_by}
 use Rattle.run_answers.proofs.act_law.Versions.{HasWritten}
 use Rattle.run_answers.proofs.once_law.Runs.{Known, answers_itself, node_known}
-use Rattle.run_answers.specs.act_law.Files.{BeganBehind}
-use Rattle.run_answers.specs.act_law.Newest.{IsNewestOf, VersionsAreNewest}
-use Rattle.run_answers.specs.act_law.Works.{asked_at}
-use Rattle.run_answers.specs.once_law.Ledgers.{name_in}
+use Rattle.headline.specs.Files.{BeganBehind}
+use Rattle.headline.specs.Answers.{IsNewestOf, VersionsAreNewest}
+use Rattle.headline.specs.Items.{asked_at, name_in}
 
 module _ (e : Estate AnyNode) (count : ℕ) (event : Event) (happens : slice_get e.events count ≡ Some event) (client item ver : ℕ) where
   abbrev w : World AnyNode

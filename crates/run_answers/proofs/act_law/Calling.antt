@@ -51,9 +51,9 @@ use Rattle.run_answers.proofs.act_law.Foundations.{Its, ItsOf, its_grow}
 use Rattle.run_answers.proofs.act_law.Telling.{DoneIn, Foundation, Founded, Grows, acted, acted_by, acted_then, effect_behind, founded_then, is_acted, moves_founded, open_founded}
 use Rattle.run_answers.proofs.act_law.Trails.{Trailed, begins_trailed, more_trailed, next_trailed, replies_so}
 use Rattle.run_answers.proofs.once_law.Ledger.{IsLoss}
-use Rattle.run_answers.specs.act_law.Founded.{IsDone, IsFileCall, IsFounded, IsRead, IsWritten}
-use Rattle.run_answers.specs.act_law.Planned.{IsActed, IsByPlan, IsCallsAnswer, IsGiven}
-use Rattle.run_answers.specs.act_law.Works.{asked_at}
+use Rattle.headline.specs.Answers.{IsDone, IsFounded, IsRead, IsWritten}
+use Rattle.headline.specs.Items.{IsFileCall, asked_at}
+use Rattle.headline.specs.Files.{IsActed, IsByPlan, IsCallsAnswer, IsGiven}
 
 -- ---- what a call on blocks is of its item
 

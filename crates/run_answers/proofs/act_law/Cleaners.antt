@@ -43,7 +43,8 @@ use Rattle.serving_moves.proofs.item_moves.Openings.{behaves_plain}
 use Rattle.node_base.specs.declared.items.Items.{Items}
 use Rattle.serving_moves.proofs.item_moves.Emptying as emptied
 use Rattle.serving_moves.proofs.item_moves.Keeping.{all_plain_more, all_pushed_plain, moves_stay, one_number}
-use Rattle.serving_moves.specs.item_moves.Moves.{Begun, Falls, IsBusy, IsCount, Moves}
+use Rattle.serving_moves.specs.item_moves.Moves.{Begun, IsBusy, IsCount, Moves}
+use Rattle.headline.specs.Items.{Falls, IsOpen, asked_at}
 use Rattle.serving_moves.specs.item_moves.Moves.Begun.{AtOnce, Waits}
 use Rattle.serving_moves.specs.item_moves.Moves.Losses.{Silent, Answering}
 use Rattle.run_answers.proofs.act_law.Filing as filing
@@ -51,9 +52,7 @@ use Rattle.run_answers.proofs.act_law.Filing.{Owns, SaysFiled, StageOwn, WentSo}
 use Rattle.run_answers.proofs.act_law.Telling.{DoneIn, Foundation, Founded, Grows, acted, acted_before, acted_by, founded_then, moves_founded, open_founded, plain_founded}
 use Rattle.run_answers.proofs.once_law.Items.{begun_open, begun_works}
 use Rattle.run_answers.proofs.once_law.Ledger.{AllPlain}
-use Rattle.run_answers.specs.act_law.Founded.{IsCleaners, IsReopened}
-use Rattle.run_answers.specs.act_law.Works.{asked_at}
-use Rattle.run_answers.specs.once_law.Ledgers.{IsOpen}
+use Rattle.headline.specs.Answers.{IsCleaners, IsReopened}
 
 abbrev IsRestart : Option Work → Type 0
 IsRestart (Some (work.Restart node)) = Unit {0}

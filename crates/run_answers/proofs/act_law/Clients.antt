@@ -41,15 +41,13 @@ use Rattle.xfs_base.specs.Steps.{saying, still}
 use Rattle.serving_moves.proofs.item_moves.Openings.{behaves_plain}
 use Rattle.serving_moves.proofs.item_moves.ClientServing.{Goes, packet_goes, tick_goes}
 use Rattle.serving_moves.proofs.item_moves.Keeping.{all_pushed_plain, no_item, one_number}
-use Rattle.serving_moves.specs.item_moves.Moves.{Falls}
+use Rattle.headline.specs.Items.{Falls, IsOpen, asked_at}
 use Rattle.serving_moves.specs.item_moves.Moves.Losses.{Answering}
 use Rattle.run_answers.proofs.act_law.Calling.{CallFits, Holds, IsNoRestart, Runs, all_run, fits_on, goes_run, more_holds, opens_run, then_runs as runs_behind}
 use Rattle.run_answers.proofs.act_law.Foundations.{Its, ItsOf, its_grow}
 use Rattle.run_answers.proofs.act_law.Telling.{DoneIn, Foundation, Founded, Grows, acted, acted_before, founded_then, in_behind, open_founded, plain_founded}
 use Rattle.run_answers.proofs.once_law.Items.{begun_open, begun_works}
 use Rattle.run_answers.proofs.once_law.Ledger.{AllPlain}
-use Rattle.run_answers.specs.act_law.Works.{asked_at}
-use Rattle.run_answers.specs.once_law.Ledgers.{IsOpen}
 
 -- the item that is open while a client opens its log is a restart
 abbrev pub IsRestart : Option Work → Type 0

@@ -5,9 +5,9 @@ use Rattle.version_model.specs.declared.answer.Answer.{Answer}
 use Rattle.version_model.specs.declared.answer.Answer.TheVariants as answer
 use Rattle.version_model.specs.declared.work.Work.{Work}
 use Rattle.run_answers.proofs.act_law.Telling.{Foundation, Grows}
-use Rattle.run_answers.specs.act_law.Founded.{IsFounded}
-use Rattle.run_answers.specs.act_law.Planned.{IsByPlan}
-use Rattle.run_answers.specs.act_law.Works.{asked_at}
+use Rattle.headline.specs.Answers.{IsFounded}
+use Rattle.headline.specs.Files.{IsByPlan}
+use Rattle.headline.specs.Items.{asked_at}
 
 -- of a client that has these works, in an event behind these acts of the run
 module _ (Began : ℕ → List Act → Type 0) (client : ℕ) (works : List Work) (first : List Act) where

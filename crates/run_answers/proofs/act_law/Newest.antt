@@ -44,7 +44,7 @@ use Rattle.run_answers.proofs.act_law.Clients.{BeginsNext, PhaseHolds, begun_hol
 use Rattle.run_answers.proofs.act_law.Versions.{HasWritten, all_versed, behind_versed, effect_either, open_answers, opens_versed, plain_answers}
 use Rattle.run_answers.proofs.once_law.Items.{begun_works}
 use Rattle.run_answers.proofs.once_law.Ledger.{AllPlain}
-use Rattle.run_answers.specs.act_law.Works.{asked_at}
+use Rattle.headline.specs.Items.{asked_at}
 
 -- ---- effects that answer no version
 

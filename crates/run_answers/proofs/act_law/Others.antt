@@ -22,15 +22,15 @@ use Rattle.serving_moves.proofs.item_moves.Managers.{manager_turned}
 use Rattle.serving_moves.proofs.item_moves.Registries.{registry_turned}
 use Rattle.serving_moves.proofs.item_moves.Servers.{server_turned}
 use Rattle.serving_moves.specs.item_moves.Moves as moves
-use Rattle.serving_moves.specs.item_moves.Moves.{Begun, Event, Falls, IsCount, IsNone, IsPrompt, IsRebuilt, Losses, MayAnswer, Moves}
+use Rattle.serving_moves.specs.item_moves.Moves.{Begun, Event, IsCount, IsNone, IsPrompt, IsRebuilt, Losses, MayAnswer, Moves}
+use Rattle.headline.specs.Items.{Falls, asked_at}
 use Rattle.serving_moves.specs.item_moves.Moves.Begun.{AtOnce, Waits}
 use Rattle.serving_moves.specs.item_moves.Moves.Event.{Begins, GoesOn, Idles, Cuts}
 use Rattle.serving_moves.specs.item_moves.Moves.Losses.{Silent, Telling}
 use Rattle.run_answers.proofs.act_law.Telling.{DoneIn, Foundation, Founded, Grows, acted, founded_then, moves_founded, plain_founded}
 use Rattle.run_answers.proofs.once_law.Items.{begun_works}
 use Rattle.run_answers.proofs.once_law.Ledger.{AllPlain}
-use Rattle.run_answers.specs.act_law.Founded.{IsCut}
-use Rattle.run_answers.specs.act_law.Works.{asked_at}
+use Rattle.headline.specs.Answers.{IsCut}
 
 -- An answer of a manager, a server or the registry is founded so: what they cut they cut as they crash.
 abbrev pub IsOthers : List Work → (ℕ → Type 0) → Answer → Type 0

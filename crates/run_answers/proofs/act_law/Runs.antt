@@ -38,8 +38,7 @@ use Rattle.run_laws.proofs.world_law.Pasts.{done_after, none_after}
 use Rattle.run_laws.proofs.world_law.Start.{first_stands}
 use Rattle.run_laws.proofs.world_law.Turning.{next_cluster, next_keeps}
 use Rattle.run_laws.proofs.world_reads.Taking.{moment_next}
-use Rattle.run_laws.specs.world_law.Owners.{moment, node_in, node_named}
-use Rattle.run_laws.specs.world_logs.Doings.{acts_in}
+use Rattle.headline.specs.Moments.{acts_in, moment, node_in, node_named}
 use Rattle.xfs_base.specs.declared.node.NodeId.{NodeId}
 use Rattle.xfs_base.specs.declared.node.NodeId.TheVariants as nodes
 use Rattle.run_answers.proofs.act_law.Cleaners as cleaners
@@ -49,12 +48,12 @@ use Rattle.run_answers.proofs.act_law.Others as others
 use Rattle.run_answers.proofs.act_law.Others.{IsOthers}
 use Rattle.run_answers.proofs.act_law.Telling.{Founded, behind_acts}
 use Rattle.run_answers.proofs.once_law.Runs.{Known, answers_itself, node_known}
-use Rattle.run_answers.specs.act_law.Files.{BeganBehind, EachFileAnswerIsPlanned}
-use Rattle.run_answers.specs.act_law.Founded.{IsCleaners, IsCut, IsFounded}
-use Rattle.run_answers.specs.act_law.Planned.{IsByPlan}
-use Rattle.run_answers.specs.act_law.Runs.{EachAnswersActs, IsCleanersIncarnation, IsDoneBy}
-use Rattle.run_answers.specs.act_law.Works.{asked_at}
-use Rattle.run_answers.specs.once_law.Ledgers.{OpenHasBegun, items_in, name_in}
+use Rattle.run_answers.specs.act_law.Files.{EachFileAnswerIsPlanned}
+use Rattle.headline.specs.Files.{BeganBehind, IsByPlan}
+use Rattle.headline.specs.Answers.{IsCleaners, IsCleanersIncarnation, IsCut, IsDoneBy, IsFounded}
+use Rattle.run_answers.specs.act_law.Runs.{EachAnswersActs}
+use Rattle.headline.specs.Items.{asked_at, items_in, name_in}
+use Rattle.run_answers.specs.once_law.Ledgers.{OpenHasBegun}
 
 -- ---- the moments of a run
 

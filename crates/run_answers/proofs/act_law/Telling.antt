@@ -16,7 +16,8 @@ use Rattle.xfs_base.specs.declared.segment.SegName.{SegName}
 use Rattle.serving_moves.specs.item_moves.Moves.{IsSilent, Losses, MayAnswer, Moves}
 use Rattle.run_answers.proofs.once_law.Items.{moves_close}
 use Rattle.run_answers.proofs.once_law.Ledger.{AllPlain, Closes}
-use Rattle.run_answers.specs.once_law.Ledgers.{IsOpen, Without}
+use Rattle.run_answers.specs.once_law.Ledgers.{Without}
+use Rattle.headline.specs.Items.{IsOpen}
 
 -- ---- more acts
 

@@ -17,7 +17,7 @@ use Rattle.version_model.specs.declared.file_call.FileCall.{FileCall}
 use Rattle.version_model.specs.declared.work.Work.{Work}
 use Rattle.version_model.specs.declared.work.Work.TheVariants as work
 use Rattle.run_answers.proofs.act_law.Telling.{in_behind}
-use Rattle.run_answers.specs.act_law.Planned.{AreActed, IsActed, IsCallsAnswer, IsGiven, IsPlanned}
+use Rattle.headline.specs.Files.{AreActed, IsActed, IsCallsAnswer, IsGiven, IsPlanned}
 
 -- ---- answers of calls on blocks
 

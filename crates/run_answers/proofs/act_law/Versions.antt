@@ -41,8 +41,8 @@ use Rattle.run_answers.proofs.act_law.Calling.{ActedFor, BeginsFor, Holds, IsNoR
 use Rattle.run_answers.proofs.act_law.Telling.{DoneIn, acted}
 use Rattle.run_answers.proofs.act_law.Writing.{IsWritten, puts_put}
 use Rattle.run_answers.proofs.once_law.Ledger.{AllPlain, Closes, IsLoss}
-use Rattle.run_answers.specs.act_law.Founded as founded
-use Rattle.run_answers.specs.act_law.Works.{asked_at}
+use Rattle.headline.specs.Answers.{IsFounded, IsWritten as founded_IsWritten}
+use Rattle.headline.specs.Items.{asked_at}
 use Rattle.run_answers.specs.once_law.Ledgers.{Without}
 use Rattle.run_answers.proofs.once_law.Items.{moves_close}
 
@@ -141,7 +141,7 @@ unfolding runs_upto runs_once
 idle_upto zero s none = refl
 idle_upto (suc k) s none = subst (λ call. (cond (runs_call s call).goes (saying (runs_call s call).done.outs (runs_upto k (runs_call s call).done.state)) (runs_call s call).done).state ≡ s) (sym none) refl
 
-none_written : (client : ℕ) (w : Option Work) → founded.IsWritten client w [] → ⊥
+none_written : (client : ℕ) (w : Option Work) → founded_IsWritten client w [] → ⊥
 none_written client (Some (work.Bput c block value)) f = f
 none_written client _ f = f
 
@@ -262,9 +262,9 @@ module _ (Began : ℕ → List Act → Type 0) (client : ℕ) (works : List Work
       let o = open_answers (Some number) a item (answer.Version ver) among in
       none_written client (asked_at works number) (version_founded a o.same its.0)
     where
-      version_founded : (b : Answer) → b ≡ answer.Version ver → founded.IsFounded client works (asked_at works number) [] (DoneIn []) b
-          → founded.IsWritten client (asked_at works number) []
-      version_founded b same f = subst (founded.IsFounded client works (asked_at works number) [] (DoneIn [])) same f
+      version_founded : (b : Answer) → b ≡ answer.Version ver → IsFounded client works (asked_at works number) [] (DoneIn []) b
+          → founded_IsWritten client (asked_at works number) []
+      version_founded b same f = subst (IsFounded client works (asked_at works number) [] (DoneIn [])) same f
 
   begins_versed : (s : Serving) (number : ℕ) (o : Option Going) → Holds Began client works first [] s
       → BeginsFor Began client works first (asked_at works number) number [] o → IsVersed (begins_call s number o)

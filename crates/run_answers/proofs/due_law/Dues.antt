@@ -60,10 +60,9 @@ use Rattle.xfs_base.specs.declared.node.NodeId.TheVariants as nodes
 use Rattle.xfs_base.specs.Steps.{still}
 use Rattle.run_answers.proofs.due_law.Standing.{asked_begun}
 use Rattle.run_answers.proofs.once_law.Items.{begun_open}
-use Rattle.run_answers.specs.due_law.Dues.{CrashIsDone, EachItemIsDue, IsDue, LossIsDone, MoveIsDone, Refuses, client_fell, cut_open}
-use Rattle.run_answers.specs.due_law.Turns.{BeginsWork, Rests}
-use Rattle.run_answers.specs.act_law.Works.{asked_at}
-use Rattle.run_answers.specs.once_law.Ledgers.{IsOpen}
+use Rattle.run_answers.specs.due_law.Dues.{EachItemIsDue}
+use Rattle.headline.specs.Dues.{BeginsWork, CrashIsDone, IsDue, LossIsDone, MoveIsDone, Refuses, Rests, client_fell, cut_open}
+use Rattle.headline.specs.Items.{IsOpen, asked_at}
 
 -- ---- what is acted
 

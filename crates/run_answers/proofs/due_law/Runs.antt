@@ -8,7 +8,7 @@ use Rattle.run_laws.proofs.world_law.Everyone.{everyone_so}
 use Rattle.run_laws.proofs.world_law.Start.{first_stands}
 use Rattle.run_laws.proofs.world_law.Turning.{next_cluster}
 use Rattle.run_laws.proofs.world_reads.Taking.{Took, moment_next, node_then}
-use Rattle.run_laws.specs.world_law.Owners.{moment, node_in, node_named}
+use Rattle.headline.specs.Moments.{moment, node_in, node_named}
 use Rattle.version_model.specs.declared.work.Work.{Work}
 use Rattle.wire_msg.specs.declared.packet.Do.TheVariants.{Begin}
 use Rattle.world_base.specs.Cluster.{cluster_of, place_of}
@@ -26,13 +26,11 @@ use Rattle.run_answers.proofs.due_law.Turns.{each_event, starts_serve}
 use Rattle.run_answers.proofs.once_law.Runs.{Known, node_known}
 use Rattle.run_answers.proofs.standing_law.Moments.{each_stands}
 use Rattle.run_answers.proofs.standing_law.Runs.{Asked, next_asked}
-use Rattle.run_answers.specs.act_law.Works.{asked_at}
-use Rattle.run_answers.specs.due_law.Dues.{IsDue, has_counters}
-use Rattle.run_answers.specs.due_law.Runs.{DueAt, EachRunAnswersDue, NothingComes, PassesClocks, TakesTurn}
-use Rattle.run_answers.specs.due_law.Turns.{Rests}
-use Rattle.run_answers.specs.once_law.Ledgers.{items_in, name_in}
-use Rattle.run_answers.specs.standing_law.Standings.{standing}
-use Rattle.run_answers.specs.standing_law.Standings.Standing.{Serves}
+use Rattle.headline.specs.Items.{asked_at, items_in, name_in}
+use Rattle.headline.specs.Dues.{DueAt, IsDue, NothingComes, PassesClocks, Rests, TakesTurn, has_counters}
+use Rattle.run_answers.specs.due_law.Runs.{EachRunAnswersDue}
+use Rattle.headline.specs.Standings.{standing}
+use Rattle.headline.specs.Standings.Standing.{Serves}
 
 same_one : (a b : AnyNode) → Some a ≡ Some b → a ≡ b
 same_one a b fact = cc

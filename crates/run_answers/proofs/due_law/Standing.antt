@@ -15,10 +15,10 @@ use Rattle.wire_msg.specs.declared.packet.Do.{Do}
 use Rattle.wire_msg.specs.NodeStep.{NodeStep}
 use Rattle.xfs_base.specs.declared.node.NodeId.{NodeId}
 use Rattle.run_answers.proofs.once_law.Items.{begun_works}
-use Rattle.run_answers.specs.act_law.Works.{asked_at}
-use Rattle.run_answers.specs.due_law.Turns.{BeginsWork, EndsOpening, Fells, KeepsStanding, Restarts, Rests}
-use Rattle.run_answers.specs.standing_law.Standings.{Standing, standing}
-use Rattle.run_answers.specs.standing_law.Standings.Standing.{Fallen, Opens, Serves}
+use Rattle.headline.specs.Items.{asked_at}
+use Rattle.headline.specs.Dues.{BeginsWork, EndsOpening, Fells, KeepsStanding, Restarts, Rests}
+use Rattle.headline.specs.Standings.{Standing, standing}
+use Rattle.headline.specs.Standings.Standing.{Fallen, Opens, Serves}
 
 one_number : (a b : ℕ) → Some a ≡ Some b → a ≡ b
 one_number a b fact = cc

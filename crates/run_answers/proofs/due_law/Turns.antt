@@ -51,9 +51,10 @@ use Rattle.xfs_base.specs.declared.node.NodeId.TheVariants as nodes
 use Rattle.xfs_base.specs.Steps.{still, saying}
 use Rattle.run_answers.proofs.once_law.Items.{begun_open}
 use Rattle.run_answers.proofs.due_law.Standing.{answer_among, asked_begun, done_among, down_begins, down_still, falls_so, opens_on, opens_so, serves_on, serves_so}
-use Rattle.run_answers.specs.due_law.Turns.{BeginsWork, EachEventKeepsStanding, EachStartServes, KeepsStanding}
-use Rattle.run_answers.specs.standing_law.Standings.{standing}
-use Rattle.run_answers.specs.standing_law.Standings.Standing.{Serves}
+use Rattle.run_answers.specs.due_law.Turns.{EachEventKeepsStanding, EachStartServes}
+use Rattle.headline.specs.Dues.{BeginsWork, KeepsStanding}
+use Rattle.headline.specs.Standings.{standing}
+use Rattle.headline.specs.Standings.Standing.{Serves}
 
 pub starts_serve : EachStartServes
 starts_serve (nodes.Client k) setup works = refl

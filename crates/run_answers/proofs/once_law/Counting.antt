@@ -16,7 +16,7 @@ use Rattle.xfs_base.proofs.Booleans.{and_first, and_second, contrary}
 use Rattle.xfs_base.proofs.NodeOrder.{same_node_is, same_node_swap}
 use Rattle.xfs_base.specs.declared.node.NodeId.{NodeId}
 use Rattle.xfs_base.specs.Nodes.{same_node}
-use Rattle.run_answers.specs.once_law.Items.{AnswersOnce, is_answered, item_behind, items_behind, items_named, unanswered_in}
+use Rattle.headline.specs.Items.{AnswersOnce, is_answered, item_behind, items_behind, items_named, unanswered_in}
 
 -- ---- counts
 

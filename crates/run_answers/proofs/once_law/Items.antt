@@ -22,7 +22,8 @@ use Rattle.serving_moves.specs.item_moves.Moves.Event.{Begins, GoesOn, Idles, Cu
 use Rattle.serving_moves.specs.item_moves.Moves.Move.{Stays, Ends, Loses}
 use Rattle.serving_moves.specs.item_moves.Moves.Moves.{Last, Then}
 use Rattle.run_answers.proofs.once_law.Ledger.{Any, Closes, OpenOr, acts_close, answers_both, answers_now, closes_append, closes_more, closes_open, closes_plain}
-use Rattle.run_answers.specs.once_law.Ledgers.{IsOpen, KeepsLedger, MayBeAnswered, OpenHasBegun}
+use Rattle.run_answers.specs.once_law.Ledgers.{KeepsLedger, MayBeAnswered, OpenHasBegun}
+use Rattle.headline.specs.Items.{IsOpen}
 
 -- they ask for the same, and as many have begun
 record Steady (before after : Items) : Type 0 where

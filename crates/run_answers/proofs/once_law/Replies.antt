@@ -19,7 +19,7 @@ use Rattle.xfs_base.proofs.Booleans.{and_first, and_second, contrary}
 use Rattle.xfs_base.proofs.NodeOrder.{node_total, same_node_is, same_node_itself}
 use Rattle.xfs_base.specs.declared.node.NodeId.{NodeId}
 use Rattle.xfs_base.specs.Nodes.{node_cmp, same_node}
-use Rattle.run_answers.specs.once_law.Items.{AnswersOnce, IsShown, IsShownOpen, IsUnanswered, item_name}
+use Rattle.headline.specs.Items.{AnswersOnce, IsShown, IsShownOpen, IsUnanswered, item_name}
 
 -- ---- the order of items
 

@@ -33,8 +33,7 @@ use Rattle.run_laws.proofs.world_law.Everyone.{everyone_so}
 use Rattle.run_laws.proofs.world_law.Pasts.{done_after, holds_at, none_after}
 use Rattle.run_laws.proofs.world_law.Start.{first_stands}
 use Rattle.run_laws.proofs.world_law.Turning.{next_cluster, next_keeps}
-use Rattle.run_laws.specs.world_law.Owners.{moment, node_in}
-use Rattle.run_laws.specs.world_logs.Doings.{acts_in}
+use Rattle.headline.specs.Moments.{acts_in, moment, node_in}
 use Rattle.xfs_base.specs.declared.node.NodeId.{NodeId}
 use Rattle.xfs_base.specs.declared.node.NodeId.TheVariants as nodes
 use Rattle.xfs_base.specs.declared.setup.Setup.{Setup}
@@ -50,9 +49,9 @@ use Rattle.serving_moves.specs.item_moves.Moves.{IsAny, IsCleaners, IsCount, IsN
 use Rattle.serving_moves.specs.item_moves.Moves.Losses.{Silent, Telling}
 use Rattle.run_answers.proofs.once_law.Counting.{left_is_unanswered}
 use Rattle.run_answers.proofs.once_law.Replies.{is_not_shown, is_shown}
-use Rattle.run_answers.specs.once_law.Items.{AnswersOnce, IsUnanswered}
-use Rattle.run_answers.specs.once_law.Ledgers.{Closes, EachEventKeepsLedger, EventKeepsLedger, IsOpen, KeepsLedger, MayBeAnswered, OpenHasBegun, Without, items_in, name_in}
-use Rattle.run_answers.specs.once_law.Runs.{EachItemIsAnsweredOnce, IsOwnItem}
+use Rattle.headline.specs.Items.{AnswersOnce, IsOpen, IsOwnItem, IsUnanswered, items_in, name_in}
+use Rattle.run_answers.specs.once_law.Ledgers.{Closes, EachEventKeepsLedger, EventKeepsLedger, KeepsLedger, MayBeAnswered, OpenHasBegun, Without}
+use Rattle.run_answers.specs.once_law.Runs.{EachItemIsAnsweredOnce}
 use Rattle.run_answers.proofs.once_law.Items.{keeps_ledger, next_left}
 use Rattle.run_laws.proofs.world_law.Sent.{in_append}
 

@@ -15,7 +15,7 @@ use Rattle.file_plan.specs.declared.block_call.BlockAnswer.TheVariants.{Got, Cha
 use Rattle.file_plan.specs.declared.block_call.BlockAnswer.TheVariants.{Put as Written}
 use Rattle.file_plan.specs.declared.block_call.BlockCall.{BlockCall}
 use Rattle.file_plan.specs.declared.block_call.BlockCall.TheVariants.{Get, Put, PutAt, Sync}
-use Rattle.serving_moves.specs.client_moves.Moves.{told}
+use Rattle.headline.specs.Calls.{Acts, IsCrash, IsRefusal, Stretch, answered_so, call_in, of_items, open_in, told}
 use Rattle.token_protocol.specs.Basics.{In}
 use Rattle.version_model.specs.declared.act.Act.{Act}
 use Rattle.version_model.specs.declared.act.Act.TheVariants as act
@@ -28,7 +28,7 @@ use Rattle.world_base.specs.declared.event.Event.{Event}
 use Rattle.world_base.specs.Events.{node_of, what_of}
 use Rattle.world_base.specs.Items.{items_of}
 use Rattle.run_laws.proofs.world_law.Sent.{in_append}
-use Rattle.run_laws.specs.world_law.Owners.{moment, node_named}
+use Rattle.headline.specs.Moments.{moment, node_named}
 use Rattle.client_node.specs.declared.phase.Phase.TheVariants.{Serving as Serves}
 use Rattle.serving_moves.proofs.item_moves.Keeping.{one_number}
 use Rattle.xfs_base.specs.declared.node.NodeId.{NodeId}
@@ -38,14 +38,12 @@ use Rattle.run_answers.proofs.act_law.Runs.{begins_next}
 use Rattle.run_answers.proofs.once_law.Runs.{Known, node_known}
 use Rattle.run_answers.proofs.own_law.Runs.{runs_act}
 use Rattle.run_answers.proofs.own_law.Since.{each_has_run, one_client}
-use Rattle.run_answers.specs.act_law.Works.{asked_at}
-use Rattle.run_answers.specs.own_law.Answered.{EachCallIsAnswered, IsItsCall, IsOfCall}
-use Rattle.run_answers.specs.own_law.Events.{Acts, IsCrash, IsRefusal, call_in, open_in}
-use Rattle.run_answers.specs.own_law.Events.Acts.{Rests, Passes, AtOnce, GoesOn, Begins, Loses, Falls, Stops, Returns}
-use Rattle.run_answers.specs.own_law.Runs.{IsRestart}
-use Rattle.run_answers.specs.own_law.Stretch.{Stretch, answered_so, of_items}
-use Rattle.run_answers.specs.own_law.Stretch.Stretch.{Waits, Told, Finishes}
-use Rattle.run_answers.specs.own_law.Whole.{HasRun}
+use Rattle.headline.specs.Items.{asked_at}
+use Rattle.run_answers.specs.own_law.Answered.{EachCallIsAnswered}
+use Rattle.headline.specs.ItemActs.{HasRun, IsItsCall, IsOfCall}
+use Rattle.headline.specs.Calls.Acts.{Rests, Passes, AtOnce, GoesOn, Begins, Loses, Falls, Stops, Returns}
+use Rattle.headline.specs.Standings.{IsRestart}
+use Rattle.headline.specs.Calls.Stretch.{Waits, Told, Finishes}
 
 one_going : (a b : Going) → Some a ≡ Some b → a ≡ b
 one_going a b fact = cc

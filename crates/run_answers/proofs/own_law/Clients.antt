@@ -48,20 +48,19 @@ use Rattle.run_answers.proofs.once_law.Items.{begun_open, begun_works}
 use Rattle.run_answers.proofs.own_law.Filing.{acts_then, answered_are, behind_still, its_acts}
 use Rattle.run_answers.proofs.own_law.Moving.{HasLost, IsCalm, Went as Moved_so, comes, none_kept}
 use Rattle.run_answers.proofs.own_law.Running.{Stretched, going_runs, items_after, no_runs, open_runs}
-use Rattle.run_answers.specs.own_law.Events.{Acts, CallHasItem, IsRefusal, EachClientActsForItems, IsBegun, call_in, open_in}
-use Rattle.run_answers.specs.own_law.Events.Acts.{Rests, Passes, AtOnce, GoesOn, Begins, Loses, Falls, Stops, Returns}
-use Rattle.run_answers.specs.own_law.Stretch.{Stretch, answered_so}
-use Rattle.run_answers.specs.own_law.Stretch.Stretch.{Waits, Told}
+use Rattle.run_answers.specs.own_law.Events.{EachClientActsForItems}
+use Rattle.headline.specs.Calls.{Acts, CallHasItem, IsAnswerTo, IsBegun, IsRefusal, Stretch, answered_so, call_in, open_in, told}
+use Rattle.headline.specs.Calls.Acts.{Rests, Passes, AtOnce, GoesOn, Begins, Loses, Falls, Stops, Returns}
+use Rattle.headline.specs.Calls.Stretch.{Waits, Told}
 use Rattle.client_call.specs.Calls.{after_answer}
 use Rattle.client_call.specs.declared.call.Plan.{Plan}
 use Rattle.file_plan.specs.declared.block_call.BlockCall.{BlockCall}
-use Rattle.serving_moves.specs.client_moves.Moves.{IsAnswerTo, told}
 use Rattle.std.specs.List.{AllByRecursion}
 use Rattle.std.specs.Prelude.{map}
 use Rattle.serving_moves.proofs.item_moves.Keeping.{no_item}
 use Rattle.token_client.specs.State.{dirty_in}
 use Rattle.version_model.specs.declared.act.Fall.{Fall}
-use Rattle.run_answers.specs.act_law.Works.{asked_at}
+use Rattle.headline.specs.Items.{asked_at}
 use Rattle.log_owner.specs.declared.ended.Owner.{Owner}
 use Rattle.client_node.specs.Phases.{owner_of}
 use Rattle.client_serving.specs.Lasting.{next_life}

@@ -14,11 +14,10 @@ use Rattle.xfs_base.proofs.Alls.{all_append}
 use Rattle.xfs_base.specs.declared.node.NodeId.{NodeId}
 use Rattle.xfs_base.specs.declared.node.NodeId.TheVariants as nodes
 use Rattle.run_answers.proofs.own_law.Single.{IsOwnCall, NoneOfBlocks, answers_none, call_for_item, call_own, going_for, no_such}
-use Rattle.run_answers.specs.act_law.Works.{asked_at}
-use Rattle.run_answers.specs.own_law.Events.{Acts, CallHasItem, call_in, open_in}
-use Rattle.run_answers.specs.own_law.Events.Acts.{Rests, Passes, AtOnce, GoesOn, Begins, Loses, Falls, Stops, Returns}
-use Rattle.run_answers.specs.own_law.Runs.{IsFor, IsOfBlocks}
-use Rattle.run_answers.specs.own_law.Stretch.{Stretch, answered_so}
+use Rattle.headline.specs.Items.{asked_at}
+use Rattle.headline.specs.Calls.{Acts, CallHasItem, Stretch, answered_so, call_in, open_in}
+use Rattle.headline.specs.Calls.Acts.{Rests, Passes, AtOnce, GoesOn, Begins, Loses, Falls, Stops, Returns}
+use Rattle.headline.specs.ItemActs.{IsFor, IsOfBlocks}
 
 module _ (client : ℕ) (works : List Work) where
   abbrev me : NodeId

@@ -11,12 +11,12 @@ use Rattle.node_base.specs.Beginning.{answers_unanswered}
 use Rattle.node_base.specs.declared.effects.Effect.{Effect}
 use Rattle.node_base.specs.declared.effects.Effect.TheVariants.{Send, Answer as Answers, Lose, Does}
 use Rattle.node_base.specs.Effects.{act_of, acts_of}
-use Rattle.serving_moves.specs.client_moves.Moves.{AllStill, IsFiled, tells, told}
+use Rattle.serving_moves.specs.client_moves.Moves.{AllStill, IsFiled, tells}
+use Rattle.headline.specs.Calls.{answered_so, is_of_items, of_items, told}
 use Rattle.version_model.specs.declared.act.Act.{Act}
 use Rattle.version_model.specs.declared.act.Act.TheVariants as act
 use Rattle.version_model.specs.declared.answer.Answer.{Answer}
 use Rattle.xfs_base.specs.declared.node.NodeId.{NodeId}
-use Rattle.run_answers.specs.own_law.Stretch.{answered_so, is_of_items, of_items}
 
 module _ (me : NodeId) where
   -- the acts of items of these effects

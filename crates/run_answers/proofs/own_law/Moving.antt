@@ -12,7 +12,8 @@ use Rattle.node_base.specs.declared.effects.Effect.{Effect}
 use Rattle.node_base.specs.declared.items.Items.{Items}
 use Rattle.serving_moves.proofs.client_moves.Blocks.{makes_go}
 use Rattle.serving_moves.proofs.client_moves.Keeping.{then_kept}
-use Rattle.serving_moves.specs.client_moves.Moves.{AllStill, Comes, Fits, Kept, MakesSo, Moves, tells, told}
+use Rattle.serving_moves.specs.client_moves.Moves.{AllStill, Comes, Fits, Kept, MakesSo, Moves, tells}
+use Rattle.headline.specs.Calls.{answered_so, told}
 use Rattle.serving_moves.specs.client_moves.Moves.Comes.{Moved, Gone}
 use Rattle.serving_moves.specs.client_moves.Moves.Move.{Steps, Loses}
 use Rattle.serving_moves.specs.client_moves.Moves.Moves.{Last, Then}
@@ -25,7 +26,6 @@ use Rattle.xfs_base.specs.declared.segment.SegName.{SegName}
 use Rattle.xfs_base.specs.Steps.{saying}
 use Rattle.serving_moves.specs.client_moves.Moves.{IsStill}
 use Rattle.run_answers.proofs.own_law.Filing.{answered_are, before_still, behind_still, its_acts, told_are}
-use Rattle.run_answers.specs.own_law.Stretch.{answered_so}
 
 no_call : (call : Call) → None ≡ Some call → ⊥
 no_call call fact = cc

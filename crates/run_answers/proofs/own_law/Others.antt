@@ -34,7 +34,8 @@ use Rattle.version_model.specs.declared.answer.Answer.TheVariants as answer
 use Rattle.wire_msg.specs.declared.packet.Do.{Do}
 use Rattle.xfs_base.proofs.Alls.{all_append}
 use Rattle.xfs_base.specs.declared.node.NodeId.{NodeId}
-use Rattle.run_answers.specs.own_law.Others.{IsClients, OthersActNone}
+use Rattle.run_answers.specs.own_law.Others.{OthersActNone}
+use Rattle.headline.specs.Calls.{IsClients}
 
 -- an effect by which nothing is acted but what is for no item, and answers
 abbrev IsBare : Effect → Type 0

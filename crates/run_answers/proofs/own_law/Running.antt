@@ -12,15 +12,15 @@ use Rattle.file_plan.specs.declared.block_call.BlockAnswer.{BlockAnswer}
 use Rattle.node_base.specs.Beginning.{answered}
 use Rattle.node_base.specs.declared.effects.Effect.{Effect}
 use Rattle.node_base.specs.declared.items.Items.{Items}
-use Rattle.serving_moves.specs.client_moves.Moves.{Fits, IsAnswerTo, told}
+use Rattle.serving_moves.specs.client_moves.Moves.{Fits}
+use Rattle.headline.specs.Calls.{IsAnswerTo, Stretch, told}
 use Rattle.version_model.specs.declared.act.Act.{Act}
 use Rattle.xfs_base.specs.declared.node.NodeId.{NodeId}
 use Rattle.xfs_base.specs.declared.node.NodeId.TheVariants as nodes
 use Rattle.xfs_base.specs.Steps.{saying, still}
 use Rattle.run_answers.proofs.own_law.Filing.{acts_then, answered_are, its_acts}
 use Rattle.run_answers.proofs.own_law.Moving.{HasMade, has_made, tells_acts}
-use Rattle.run_answers.specs.own_law.Stretch.{Stretch}
-use Rattle.run_answers.specs.own_law.Stretch.Stretch.{Waits, Told, Finishes}
+use Rattle.headline.specs.Calls.Stretch.{Waits, Told, Finishes}
 
 -- the items behind: while a call is open its item is
 abbrev pub items_after : Option Call → Items → Items

@@ -28,7 +28,7 @@ use Rattle.run_laws.proofs.world_law.Everyone.{everyone_so}
 use Rattle.run_laws.proofs.world_law.Start.{first_stands}
 use Rattle.run_laws.proofs.world_law.Turning.{next_cluster, next_keeps}
 use Rattle.run_laws.proofs.world_reads.Taking.{NothingHappens, Took, moment_next, takes_or_not}
-use Rattle.run_laws.specs.world_law.Owners.{moment, node_in, node_named}
+use Rattle.headline.specs.Moments.{acts_in, moment, node_in, node_named}
 use Rattle.xfs_base.specs.declared.node.NodeId.{NodeId}
 use Rattle.xfs_base.specs.declared.node.NodeId.TheVariants as nodes
 use Rattle.run_answers.proofs.act_law.Calling.{PlanFits}
@@ -40,17 +40,15 @@ use Rattle.run_answers.proofs.act_law.Trails.{Trailed}
 use Rattle.run_answers.proofs.own_law.Clients.{each_acts}
 use Rattle.run_answers.proofs.own_law.Events.{ForItem, Owns, acts_for}
 use Rattle.run_answers.proofs.own_law.Others.{others_act}
-use Rattle.run_answers.specs.own_law.Others.{IsClients}
-use Rattle.run_laws.specs.world_logs.Doings.{acts_in}
+use Rattle.headline.specs.Calls.{CallHasItem, EventActs, IsClients, Opens, of_items, open_in}
 use Rattle.std.proofs.Math.Seq.{drop-append_seam}
 use Rattle.std.specs.List.{AllByRecursion}
 use Rattle.run_answers.proofs.own_law.Single.{IsOwnCall, among_items}
-use Rattle.run_answers.specs.act_law.Files.{BeganBehind}
-use Rattle.run_answers.specs.act_law.Founded.{IsFileCall}
-use Rattle.run_answers.specs.act_law.Works.{asked_at}
-use Rattle.run_answers.specs.own_law.Events.{CallHasItem, EventActs, Opens, open_in}
-use Rattle.run_answers.specs.own_law.Runs.{IsClientsEvent, EachRunsClientsActForItems, IsOfBlocks, IsRestart}
-use Rattle.run_answers.specs.own_law.Stretch.{of_items}
+use Rattle.headline.specs.Files.{BeganBehind}
+use Rattle.headline.specs.Items.{IsFileCall, asked_at}
+use Rattle.run_answers.specs.own_law.Runs.{EachRunsClientsActForItems}
+use Rattle.headline.specs.ItemActs.{IsClientsEvent, IsOfBlocks}
+use Rattle.headline.specs.Standings.{IsRestart}
 
 -- ---- what is open
 

@@ -30,7 +30,7 @@ use Rattle.run_laws.proofs.world_law.Everyone.{everyone_so}
 use Rattle.run_laws.proofs.world_law.Start.{first_stands}
 use Rattle.run_laws.proofs.world_law.Turning.{next_cluster, next_keeps}
 use Rattle.run_laws.proofs.world_reads.Taking.{moment_next}
-use Rattle.run_laws.specs.world_law.Owners.{moment, node_in, node_named}
+use Rattle.headline.specs.Moments.{moment, node_in, node_named}
 use Rattle.xfs_base.proofs.Alls.{all_weaker}
 use Rattle.xfs_base.specs.declared.node.NodeId.{NodeId}
 use Rattle.xfs_base.specs.declared.node.NodeId.TheVariants as nodes
@@ -39,15 +39,14 @@ use Rattle.run_answers.proofs.once_law.Runs.{Known, node_known}
 use Rattle.run_answers.proofs.own_law.Others.{others_act}
 use Rattle.run_answers.proofs.own_law.Runs.{runs_act}
 use Rattle.run_answers.proofs.own_law.Whole.{IsOthers, blocks_then, differs, its_stretch, no_clients, none_by, of_items_same, stretch_then}
-use Rattle.run_answers.specs.act_law.Works.{asked_at}
-use Rattle.run_answers.specs.own_law.Events.{Acts, EventActs, HasFallen, call_in, open_in}
-use Rattle.run_answers.specs.own_law.Events.Acts.{Rests, Passes, AtOnce, GoesOn, Begins, Loses, Falls, Stops, Returns}
-use Rattle.run_answers.specs.own_law.Others.{IsClients, IsNoClient}
-use Rattle.run_answers.specs.own_law.Runs.{IsBy, IsFor, IsOfBlocks}
-use Rattle.run_answers.specs.own_law.Runs.IsFor.{OfFile, OfBlock}
-use Rattle.run_answers.specs.own_law.Stretch.{Stretch, of_items}
-use Rattle.run_answers.specs.own_law.Stretch.Stretch.{Waits}
-use Rattle.run_answers.specs.own_law.Whole.{CallsGoOn, EachCallHasRun, HasRun, OpenCallsHaveRun, blocks_by}
+use Rattle.headline.specs.Items.{asked_at}
+use Rattle.headline.specs.Calls.{Acts, EventActs, HasFallen, IsClients, Stretch, call_in, of_items, open_in}
+use Rattle.headline.specs.Calls.Acts.{Rests, Passes, AtOnce, GoesOn, Begins, Loses, Falls, Stops, Returns}
+use Rattle.run_answers.specs.own_law.Others.{IsNoClient}
+use Rattle.headline.specs.ItemActs.{CallsGoOn, HasRun, IsBy, IsFor, IsOfBlocks, OpenCallsHaveRun, blocks_by}
+use Rattle.headline.specs.ItemActs.IsFor.{OfFile, OfBlock}
+use Rattle.headline.specs.Calls.Stretch.{Waits}
+use Rattle.run_answers.specs.own_law.Whole.{EachCallHasRun}
 
 no_call : (call : Call) → None ≡ Some call → ⊥
 no_call call fact = cc

@@ -20,7 +20,7 @@ use Rattle.file_plan.specs.declared.block_call.BlockAnswer.TheVariants.{Got, Cha
 use Rattle.file_plan.specs.declared.block_call.BlockAnswer.TheVariants.{Put as Written}
 use Rattle.file_plan.specs.declared.block_call.BlockCall.{BlockCall}
 use Rattle.file_plan.specs.declared.block_call.BlockCall.TheVariants.{Get, Put, PutAt, Sync}
-use Rattle.serving_moves.specs.client_moves.Moves.{IsAnswerTo, told}
+use Rattle.headline.specs.Calls.{IsAnswerTo, Stretch, answered_so, of_items, told}
 use Rattle.token_protocol.specs.Basics.{In}
 use Rattle.version_model.specs.declared.act.Act.{Act}
 use Rattle.version_model.specs.declared.act.Act.TheVariants as act
@@ -31,11 +31,10 @@ use Rattle.xfs_base.specs.declared.node.NodeId.{NodeId}
 use Rattle.xfs_base.specs.declared.node.NodeId.TheVariants as nodes
 use Rattle.run_laws.proofs.world_law.Sent.{in_append}
 use Rattle.run_answers.proofs.act_law.Calling.{IsGetOf, IsPutOf, IsSync, StepFits}
-use Rattle.run_answers.specs.act_law.Founded.{IsFileCall}
-use Rattle.run_answers.specs.own_law.Runs.{IsBy, IsFor, IsOfBlocks}
-use Rattle.run_answers.specs.own_law.Runs.IsFor.{OfFile, OfBlock}
-use Rattle.run_answers.specs.own_law.Stretch.{Stretch, answered_so, of_items}
-use Rattle.run_answers.specs.own_law.Stretch.Stretch.{Waits, Told, Finishes}
+use Rattle.headline.specs.Items.{IsFileCall}
+use Rattle.headline.specs.ItemActs.{IsBy, IsFor, IsOfBlocks}
+use Rattle.headline.specs.ItemActs.IsFor.{OfFile, OfBlock}
+use Rattle.headline.specs.Calls.Stretch.{Waits, Told, Finishes}
 
 -- ---- acts of blocks among acts
 

@@ -11,15 +11,13 @@ use Rattle.file_plan.specs.declared.block_call.BlockAnswer.TheVariants.{Got, Cha
 use Rattle.file_plan.specs.declared.block_call.BlockAnswer.TheVariants.{Put as Written}
 use Rattle.file_plan.specs.declared.block_call.BlockCall.{BlockCall}
 use Rattle.file_plan.specs.declared.block_call.BlockCall.TheVariants.{Get, Put, PutAt, Sync}
-use Rattle.serving_moves.specs.client_moves.Moves.{told}
+use Rattle.headline.specs.Calls.{IsClients, Stretch, of_items, told}
 use Rattle.version_model.specs.declared.act.Act.{Act}
 use Rattle.version_model.specs.declared.act.Act.TheVariants as act
 use Rattle.xfs_base.proofs.Booleans.{equal_itself}
 use Rattle.run_answers.proofs.own_law.Clients.{reads_on}
-use Rattle.run_answers.specs.own_law.Others.{IsClients}
-use Rattle.run_answers.specs.own_law.Stretch.{Stretch, of_items}
-use Rattle.run_answers.specs.own_law.Stretch.Stretch.{Waits, Told}
-use Rattle.run_answers.specs.own_law.Whole.{blocks_by, is_block_of}
+use Rattle.headline.specs.Calls.Stretch.{Waits, Told}
+use Rattle.headline.specs.ItemActs.{blocks_by, is_block_of}
 
 -- ---- stretches, one behind another
 

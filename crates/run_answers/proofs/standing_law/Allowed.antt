@@ -13,11 +13,9 @@ use Rattle.serving_moves.specs.item_moves.Moves.{AllPlain, IsCount, IsRebuilt, L
 use Rattle.xfs_base.proofs.Alls.{all_append}
 use Rattle.run_answers.proofs.standing_law.Calls.{IsReply}
 use Rattle.run_answers.proofs.standing_law.Meeting.{AllMeet, Meets, Moved, moves_meet, open_meets, plain_meets}
-use Rattle.run_answers.specs.act_law.Works.{asked_at}
-use Rattle.run_answers.specs.once_law.Ledgers.{IsOpen, items_in}
-use Rattle.run_answers.specs.standing_law.Fits.{IsCall, IsCounted, IsDone, IsRebuild, IsRestart, MayAnswer}
-use Rattle.run_answers.specs.standing_law.Standings.{Falls, standing}
-use Rattle.run_answers.specs.standing_law.Standings.Standing.{Fallen, Serves}
+use Rattle.headline.specs.Items.{IsOpen, asked_at, items_in}
+use Rattle.headline.specs.Standings.{Falls, IsCall, IsCounted, IsDone, IsRebuild, IsRestart, MayAnswer, standing}
+use Rattle.headline.specs.Standings.Standing.{Fallen, Serves}
 
 -- one that serves has not fallen
 pub serves_apart : (before : AnyNode) → standing before ≡ Serves → standing before ≡ Fallen → ⊥

@@ -41,9 +41,8 @@ use Rattle.xfs_base.specs.Steps.{saying, still}
 use Rattle.run_answers.proofs.once_law.Items.{begun_open, begun_works}
 use Rattle.run_answers.proofs.standing_law.Allowed.{May, at_once, counts_meet, falls_meet, is_open, restart_done}
 use Rattle.run_answers.proofs.standing_law.Meeting.{AllMeet, Meets, Moved, none_open, one_number, open_meets, plain_meets}
-use Rattle.run_answers.specs.act_law.Works.{asked_at}
-use Rattle.run_answers.specs.once_law.Ledgers.{IsOpen}
-use Rattle.run_answers.specs.standing_law.Fits.{IsCounted, IsRestart}
+use Rattle.headline.specs.Items.{IsOpen, asked_at}
+use Rattle.headline.specs.Standings.{IsCounted, IsRestart}
 
 -- what the cleaner is asked
 abbrev pub IsCleaners : Option Work → Type 0

@@ -47,9 +47,8 @@ use Rattle.run_answers.proofs.once_law.Items.{begun_open, begun_works}
 use Rattle.run_answers.proofs.standing_law.Allowed.{May as Fitting, at_once, falls_meet, is_open, reply_may, restart_done, serves_apart}
 use Rattle.run_answers.proofs.standing_law.Calls.{BeginsWell, CallWell, IsReply, PlanWell, begins_well, behind_well, going_well}
 use Rattle.run_answers.proofs.standing_law.Meeting.{AllMeet, Meets, Moved, moves_meet, none_open, one_number, open_meets, plain_meets}
-use Rattle.run_answers.specs.act_law.Works.{asked_at}
-use Rattle.run_answers.specs.once_law.Ledgers.{IsOpen}
-use Rattle.run_answers.specs.standing_law.Fits.{IsCall, IsRestart}
+use Rattle.headline.specs.Items.{IsOpen, asked_at}
+use Rattle.headline.specs.Standings.{IsCall, IsRestart}
 
 -- of what a client is asked none that it doesn't crash or start again by is other than a call
 abbrev pub IsClients : Option Work → Type 0

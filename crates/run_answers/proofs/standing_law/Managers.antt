@@ -34,11 +34,9 @@ use Rattle.xfs_base.specs.Steps.{still}
 use Rattle.run_answers.proofs.once_law.Items.{begun_open, begun_works}
 use Rattle.run_answers.proofs.standing_law.Allowed.{May, at_once, counts_meet, falls_meet, is_open}
 use Rattle.run_answers.proofs.standing_law.Meeting.{AllMeet, Moved, none_open, one_number}
-use Rattle.run_answers.specs.act_law.Works.{asked_at}
-use Rattle.run_answers.specs.once_law.Ledgers.{IsOpen}
-use Rattle.run_answers.specs.standing_law.Fits.{IsCounted, IsDone}
-use Rattle.run_answers.specs.standing_law.Standings.{standing}
-use Rattle.run_answers.specs.standing_law.Standings.Standing.{Serves as Stands}
+use Rattle.headline.specs.Items.{IsOpen, asked_at}
+use Rattle.headline.specs.Standings.{IsCounted, IsDone, standing}
+use Rattle.headline.specs.Standings.Standing.{Serves as Stands}
 
 -- what a manager is asked
 abbrev pub IsManagers : Option Work → Type 0

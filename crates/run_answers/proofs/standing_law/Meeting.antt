@@ -20,7 +20,7 @@ use Rattle.wire_msg.specs.declared.packet.Do.TheVariants as whats
 use Rattle.xfs_base.proofs.Alls.{all_append, all_weaker}
 use Rattle.xfs_base.specs.declared.node.NodeId.{NodeId}
 use Rattle.xfs_base.specs.declared.segment.SegName.{SegName}
-use Rattle.run_answers.specs.once_law.Ledgers.{IsOpen}
+use Rattle.headline.specs.Items.{IsOpen}
 
 -- where an item is answered, this is so of it and the answer
 abbrev pub Meets : (ℕ → Answer → Type 0) → Effect → Type 0

@@ -6,7 +6,7 @@ use Rattle.run_laws.proofs.world_law.Everyone.{everyone_so}
 use Rattle.run_laws.proofs.world_law.Start.{first_stands}
 use Rattle.run_laws.proofs.world_law.Turning.{next_cluster}
 use Rattle.run_laws.proofs.world_reads.Taking.{NothingHappens, Took, moment_next, takes_or_not}
-use Rattle.run_laws.specs.world_law.Owners.{moment, node_in, node_named}
+use Rattle.headline.specs.Moments.{moment, node_in, node_named}
 use Rattle.world_base.specs.Cluster.{cluster_of, place_of}
 use Rattle.world_base.specs.declared.estate.Estate.{Estate}
 use Rattle.world_base.specs.declared.event.Event.{Event}

@@ -24,8 +24,8 @@ use Rattle.xfs_base.specs.Steps.{still}
 use Rattle.run_answers.proofs.once_law.Items.{begun_works}
 use Rattle.run_answers.proofs.standing_law.Allowed.{May, serves_apart}
 use Rattle.run_answers.proofs.standing_law.Meeting.{AllMeet, Meets, event_meets, plain_meets}
-use Rattle.run_answers.specs.act_law.Works.{asked_at}
-use Rattle.run_answers.specs.standing_law.Fits.{MayAnswer}
+use Rattle.headline.specs.Items.{asked_at}
+use Rattle.headline.specs.Standings.{MayAnswer}
 
 module _ (works : List Work) (r : RegistryNode) where
   abbrev pub Fits : Done → Type 0

@@ -17,8 +17,7 @@ use Rattle.node_base.specs.declared.items.Items.{Items}
 use Rattle.registry_node.specs.Events as registering
 use Rattle.run_laws.proofs.world_law.Turning.{next_cluster}
 use Rattle.run_laws.proofs.world_reads.Taking.{NothingHappens, Took, moment_next, node_then, takes_or_not}
-use Rattle.run_laws.specs.world_law.Owners.{moment, node_in, node_named}
-use Rattle.run_laws.specs.world_logs.Doings.{acts_in}
+use Rattle.headline.specs.Moments.{acts_in, moment, node_in, node_named}
 use Rattle.script_text.specs.declared.script.Line.{Line}
 use Rattle.store_nodes.specs.ServerEvents as storing
 use Rattle.token_protocol.specs.Basics.{In}
@@ -51,9 +50,9 @@ use Rattle.run_answers.proofs.standing_law.Meeting.{acts_meet}
 use Rattle.run_answers.proofs.standing_law.Moments.{each_stands}
 use Rattle.run_answers.proofs.standing_law.Registries as registry
 use Rattle.run_answers.proofs.standing_law.Servers as server
-use Rattle.run_answers.specs.act_law.Works.{asked_at}
-use Rattle.run_answers.specs.once_law.Ledgers.{items_in, name_in}
-use Rattle.run_answers.specs.standing_law.Runs.{EachAnswerFits, FitsAt}
+use Rattle.headline.specs.Items.{asked_at, items_in, name_in}
+use Rattle.run_answers.specs.standing_law.Runs.{EachAnswerFits}
+use Rattle.headline.specs.Standings.{FitsAt}
 
 -- ---- what a node is asked
 

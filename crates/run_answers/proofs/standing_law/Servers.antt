@@ -23,9 +23,8 @@ use Rattle.xfs_base.specs.Steps.{still}
 use Rattle.run_answers.proofs.once_law.Items.{begun_open, begun_works}
 use Rattle.run_answers.proofs.standing_law.Allowed.{May, at_once, falls_meet, is_open, rebuilds_meet}
 use Rattle.run_answers.proofs.standing_law.Meeting.{AllMeet, Moved, none_open, one_number}
-use Rattle.run_answers.specs.act_law.Works.{asked_at}
-use Rattle.run_answers.specs.once_law.Ledgers.{IsOpen}
-use Rattle.run_answers.specs.standing_law.Fits.{IsRebuild}
+use Rattle.headline.specs.Items.{IsOpen, asked_at}
+use Rattle.headline.specs.Standings.{IsRebuild}
 
 module _ (works : List Work) where
   abbrev pub Asks : Node → Type 0

@@ -1,11 +1,7 @@
 -- What a node answers in one event, as a ledger of its items: it answers only what is open or begins then, and what it answers is open no more.
 use Rattle.std.specs.Prelude.{◌≡◌, ◌≤◌, ◌⊎◌, ℕ, List, [], ◌∷◌, Some}
-use Rattle.cleaner_node.specs.CleanerEvents as cleaner
-use Rattle.client_node.specs.Phases as client
 use Rattle.core_world.specs.AnyNode.{any_step}
 use Rattle.core_world.specs.declared.any_node.AnyNode.{AnyNode}
-use Rattle.core_world.specs.declared.any_node.AnyNode.TheVariants as any
-use Rattle.manager_node.specs.Phases as manager
 use Rattle.node_base.specs.Beginning.{next_item}
 use Rattle.node_base.specs.declared.items.Items.{Items}
 use Rattle.version_model.specs.declared.act.Act.{Act}
@@ -13,29 +9,9 @@ use Rattle.version_model.specs.declared.act.Act.TheVariants as act
 use Rattle.wire_msg.specs.declared.packet.Do.{Do}
 use Rattle.wire_msg.specs.declared.packet.Do.TheVariants.{Begin}
 use Rattle.xfs_base.specs.declared.node.NodeId.{NodeId}
-use Rattle.xfs_base.specs.declared.node.NodeId.TheVariants as nodes
+use Rattle.headline.specs.Items.{IsOpen, items_in, name_in}
 
 -- ---- readers
-
--- the items of a node: how many have begun, and which of them is open
-abbrev pub items_in : AnyNode → Items
-items_in (any.Client c) = (client.lasting_of c.phase).items
-items_in (any.Manager m) = (manager.lasting_of m.phase).items
-items_in (any.Server s) = s.items
-items_in (any.Cleaner c) = (cleaner.lasting_of c.phase).items
-items_in (any.Registry r) = r.items
-
--- the name under which a node acts
-abbrev pub name_in : AnyNode → NodeId
-name_in (any.Client c) = nodes.Client (client.lasting_of c.phase).number
-name_in (any.Manager m) = nodes.Manager (manager.lasting_of m.phase).number
-name_in (any.Server s) = nodes.Server s.number
-name_in (any.Cleaner c) = nodes.Cleaner
-name_in (any.Registry r) = nodes.Registry
-
--- the open item: it waits for its answer
-abbrev pub IsOpen : Items → ℕ → Type 0
-IsOpen items item = items.unanswered ≡ Some item
 
 -- it has begun
 abbrev pub OpenHasBegun : Items → Type 0

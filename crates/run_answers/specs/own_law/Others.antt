@@ -3,18 +3,8 @@ use Rattle.std.specs.List.{AllByRecursion}
 use Rattle.core_world.specs.AnyNode.{any_step}
 use Rattle.core_world.specs.declared.any_node.AnyNode.{AnyNode}
 use Rattle.core_world.specs.declared.any_node.AnyNode.TheVariants as any
-use Rattle.version_model.specs.declared.act.Act.{Act}
-use Rattle.version_model.specs.declared.act.Act.TheVariants as act
 use Rattle.wire_msg.specs.declared.packet.Do.{Do}
-
--- an act that clients alone do
-abbrev pub IsClients : Act → Type 0
-IsClients (act.Wrote client block value) = Unit {0}
-IsClients (act.Read client block ver value) = Unit {0}
-IsClients (act.Synced client) = Unit {0}
-IsClients (act.Fell client flight falls) = Unit {0}
-IsClients (act.Back client chain) = Unit {0}
-IsClients _ = ⊥
+use Rattle.headline.specs.Calls.{IsClients}
 
 abbrev pub IsNoClient : AnyNode → Type 0
 IsNoClient (any.Client c) = ⊥

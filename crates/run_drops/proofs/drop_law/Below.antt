@@ -9,10 +9,10 @@ use Rattle.node_logs.specs.node_log_tie.RegistryEvents.{RegistrySeen}
 use Rattle.registry.specs.BoardState.{BoardState}
 use Rattle.world_base.specs.Cluster.{cluster_of, place_of}
 use Rattle.run_laws.proofs.world_law.Laws.{NodeLaws, front}
-use Rattle.run_laws.specs.world_law.Owners.{moment, node_in}
-use Rattle.run_laws.specs.world_logs.Horizons.{board_of}
+use Rattle.headline.specs.Moments.{moment, node_in}
+use Rattle.headline.specs.Horizons.{board_of}
 use Rattle.run_laws.specs.world_logs.Lines.{RunsHaveLines, setting}
-use Rattle.run_laws.specs.world_logs.Roles.{Role}
+use Rattle.headline.specs.Logs.{Role}
 use Rattle.run_laws.specs.world_logs.Standing.{Seen}
 use Rattle.xfs_base.specs.declared.node.NodeId.TheVariants.{Registry}
 use Rattle.run_drops.proofs.drop_law.Deleting.{deleted_below}

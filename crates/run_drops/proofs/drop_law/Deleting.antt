@@ -24,11 +24,12 @@ use Rattle.wire_msg.specs.declared.packet.Packet.{Packet}
 use Rattle.wire_msg.specs.declared.storage.Delete.{Delete}
 use Rattle.world_base.specs.declared.estate.Estate.{Estate}
 use Rattle.node_logs.proofs.node_log_tie.Horizons.{least_is_one}
-use Rattle.run_laws.specs.world_law.Owners.{moment}
+use Rattle.headline.specs.Moments.{moment}
 use Rattle.run_laws.proofs.world_logs.Roles.{high_log}
 use Rattle.run_laws.specs.world_logs.Lines.{HasLines, setting}
-use Rattle.run_laws.specs.world_logs.Roles.{IsThere, Role, asker_by, log_by}
-use Rattle.run_laws.specs.world_logs.Roles.Role.{OfManager}
+use Rattle.run_laws.specs.world_logs.Roles.{asker_by}
+use Rattle.headline.specs.Logs.{IsThere, Role, log_by}
+use Rattle.headline.specs.Logs.Role.{OfManager}
 use Rattle.xfs_base.specs.declared.segment.LogId.{LogId}
 use Rattle.xfs_base.specs.declared.segment.SegName.{SegName}
 use Rattle.xfs_base.proofs.Booleans.{equal_itself}

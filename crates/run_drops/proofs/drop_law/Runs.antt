@@ -37,16 +37,16 @@ use Rattle.world_base.specs.Runs.{IsRun}
 use Rattle.run_laws.proofs.world_law.Laws.{NodeLaws, front}
 use Rattle.run_laws.proofs.world_law.Turning.{next_keeps}
 use Rattle.run_laws.proofs.world_reads.Taking.{moment_next}
-use Rattle.run_laws.specs.world_law.Owners.{moment, node_in}
+use Rattle.headline.specs.Moments.{moment, node_in}
 use Rattle.run_laws.specs.world_law.Standing.{Scene, SentBy}
-use Rattle.run_laws.specs.world_logs.Standing.{Deletes}
+use Rattle.headline.specs.Deletions.{DeletedWasDropped, Deletes, DroppedIsTold}
 use Rattle.xfs_base.proofs.Alls.{all_append, all_put, all_weaker}
 use Rattle.xfs_base.specs.declared.node.NodeId.{NodeId}
 use Rattle.xfs_base.specs.declared.node.NodeId.TheVariants.{Client, Manager, Server, Cleaner, Registry}
 use Rattle.xfs_base.specs.declared.segment.SegName.{SegName}
 use Rattle.run_drops.proofs.drop_law.Moving.{event_goes}
 use Rattle.run_drops.proofs.drop_law.Saying.{ActSaid as ActSaidIn, Acted, Also, BodySo, EffectSaid, EffectSo, IsSaid, So, body_more, in_back, in_front, so_more}
-use Rattle.run_drops.specs.drop_law.Drops.{DeletedWasDropped, DroppedIsTold, EveryRunDropsWhatItDeletes}
+use Rattle.run_drops.specs.drop_law.Drops.{EveryRunDropsWhatItDeletes}
 
 -- ---- the moments of a run, one by one
 

@@ -9,14 +9,14 @@ use Rattle.core_world.specs.declared.any_node.AnyNode.{AnyNode}
 use Rattle.node_base.specs.Setups.{IsSetup}
 use Rattle.node_slots.specs.node_tie.ManagerEvents.{SameButPages}
 use Rattle.node_slots.specs.node_tie.RegistryEvents.{RegistrySound}
-use Rattle.run_holdings.specs.belief_law.Beliefs.{WasLast}
+use Rattle.headline.specs.Beliefs.{WasLast}
 use Rattle.run_laws.proofs.world_law.Laws.{NodeLaws, front}
 use Rattle.run_laws.proofs.world_law.Leaving.{ManagedIn, SlotsGo}
 use Rattle.run_laws.proofs.world_law.Managers.{There, manages_there}
 use Rattle.run_laws.proofs.world_law.Start.{managed_first, start_scene, start_stands}
 use Rattle.run_laws.proofs.world_law.Turns.{event_turns}
-use Rattle.run_laws.specs.world_law.Managers.{active_at, active_of}
-use Rattle.run_laws.specs.world_law.Owners.{moment, node_in}
+use Rattle.headline.specs.Managers.{active_at, active_of}
+use Rattle.headline.specs.Moments.{moment, node_in}
 use Rattle.run_laws.specs.world_law.Since.{Since}
 use Rattle.run_laws.specs.world_law.Standing.{Scene, Stands, epoch_now}
 use Rattle.token_manager.specs.SlotState.{SlotState}

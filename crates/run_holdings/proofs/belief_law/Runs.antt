@@ -9,11 +9,13 @@ use Rattle.node_slots.specs.node_tie.RegistryEvents.{RegistrySound}
 use Rattle.node_slots.specs.node_tie.Sight.{ForwardSeen, GrantSeen, SupplySeen}
 use Rattle.run_holdings.proofs.belief_law.Fronts.{Front, HasLast, front_at, same_cluster}
 use Rattle.run_holdings.proofs.belief_law.Small.{fetches_believed, forwards_believed, reigns_where_promised, supplies_believed}
-use Rattle.run_holdings.specs.belief_law.Beliefs.{Believes, EveryRunsManagersBelieve, NoneLater, WasLast}
+use Rattle.run_holdings.specs.belief_law.Beliefs.{EveryRunsManagersBelieve}
+use Rattle.headline.specs.Beliefs.{Believes, NoneLater, WasLast}
 use Rattle.run_laws.proofs.world_law.Gets.{forward_told, grant_told, supply_told}
 use Rattle.run_laws.proofs.world_law.Laws.{NodeLaws, ServesThere, serves_there}
 use Rattle.run_laws.proofs.world_law.Sent.{was_sent}
-use Rattle.run_laws.specs.world_law.Owners.{moment, node_in, tokens_at, tokens_of}
+use Rattle.headline.specs.Moments.{moment, node_in}
+use Rattle.headline.specs.Owners.{tokens_at, tokens_of}
 use Rattle.run_laws.specs.world_law.Standing.{Scene, SentBy, Stands, members}
 use Rattle.slot_beliefs.specs.Beliefs.{share_of}
 use Rattle.token_client.specs.State.{TokensState, epoch_of, held_of, is_in_slot}
@@ -23,7 +25,7 @@ use Rattle.token_law.specs.Net.{Net}
 use Rattle.token_law.specs.Net.Packet.{ForwardSent}
 use Rattle.token_manager.specs.SlotState.{SlotState}
 use Rattle.token_protocol.specs.Basics.{In}
-use Rattle.token_tie.specs.Seen.{mode_number}
+use Rattle.xfs_base.specs.Modes.{mode_number}
 use Rattle.wire_msg.specs.declared.body.Body.{Body}
 use Rattle.wire_msg.specs.declared.body.Body.TheVariants as body
 use Rattle.wire_msg.specs.declared.packet.Packet.{Packet}

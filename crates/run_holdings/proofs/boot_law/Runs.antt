@@ -19,10 +19,11 @@ use Rattle.node_logs.specs.cleaner_log_tie.Owner.{CleanerAgrees, its_number}
 use Rattle.node_logs.specs.client_log_tie.ClientEvents.{IsOnce}
 use Rattle.node_logs.specs.client_log_tie.Owner.{Scene, SeesStage}
 use Rattle.run_laws.proofs.world_reads.TurnRun.{moment_cluster}
-use Rattle.run_laws.specs.world_law.Owners.{moment, node_in}
+use Rattle.headline.specs.Moments.{moment, node_in}
 use Rattle.run_laws.specs.world_logs.Lines.{HasLines, Line, RunsHaveLines, setting}
-use Rattle.run_laws.specs.world_logs.Roles.Role.{OfCleaner}
-use Rattle.run_holdings.specs.boot_law.Boots.{EveryRunFilesOne, FilesOneOf, IsTheCleaner}
+use Rattle.headline.specs.Logs.Role.{OfCleaner}
+use Rattle.run_holdings.specs.boot_law.Boots.{EveryRunFilesOne}
+use Rattle.headline.specs.Boots.{FilesOneOf, IsTheCleaner}
 use Rattle.world_base.specs.Cluster.{place_of}
 use Rattle.world_base.specs.declared.cluster.Cluster.{Cluster}
 use Rattle.world_base.specs.declared.estate.Estate.{Estate}

@@ -9,7 +9,7 @@ use Rattle.act_tie.proofs.Legality.{are_shown}
 use Rattle.act_tie.specs.BlockActs.{acts_of, fall_of}
 use Rattle.act_tie.specs.Number.{number}
 use Rattle.act_tie.specs.Shown.{FallShown, FallsShown, HistoryShown}
-use Rattle.run_laws.specs.world_law.Fallen.{Names}
+use Rattle.headline.specs.Falls.{Names}
 use Rattle.token_client.specs.Held.{is_dirty}
 use Rattle.token_client.specs.State.{held_of}
 use Rattle.token_law.proofs.Apart.{falls_kept}

@@ -6,8 +6,8 @@ use Rattle.delta_index.proofs.JoinAlgebra.{join-append}
 use Rattle.delta_index.specs.Entries.{first_greatest, is_newer, no_entry}
 use Rattle.delta_index.specs.Join.{join}
 use Rattle.index_tie.proofs.Rows.{one_of}
-use Rattle.index_tie.specs.Filed.{Filed, row_at, rows_at}
-use Rattle.run_holdings.specs.settled_law.Settled.{rows_of_log, settled_entry}
+use Rattle.headline.specs.Filed.{Filed, row_at, rows_at}
+use Rattle.headline.specs.Settled.{rows_of_log, settled_entry}
 use Rattle.xfs_base.specs.declared.block.BlockId.{BlockId}
 use Rattle.xfs_base.specs.declared.entry.Entry.{Entry}
 use Rattle.xfs_base.specs.Limits.{block_logs}

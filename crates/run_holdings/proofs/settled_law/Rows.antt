@@ -5,13 +5,13 @@ use Rattle.client_call.specs.Reads.{value_at}
 use Rattle.delta_index.specs.Join.{join}
 use Rattle.index_tie.proofs.Rows.{row_versioned}
 use Rattle.index_tie.proofs.Tables.{first_of}
-use Rattle.index_tie.specs.Filed.{Filed, row_at, rows_at}
+use Rattle.headline.specs.Filed.{Filed, row_at, rows_at}
 use Rattle.node_slots.specs.node_tie.LogRows.{rows_told}
 use Rattle.run_laws.proofs.index_reads.Rows.{rows_are_entries}
 use Rattle.run_laws.proofs.index_reads.Sayings.{BeginsAtOne, Same}
 use Rattle.run_laws.specs.index_reads.Rows.{SaysSame}
 use Rattle.run_holdings.proofs.settled_law.Joins.{settled_each, settled_later}
-use Rattle.run_holdings.specs.settled_law.Settled.{lies_at, settled_entry}
+use Rattle.headline.specs.Settled.{lies_at, settled_entry}
 use Rattle.segment_format.specs.declared.segment.Segment.{Segment}
 use Rattle.segment_format.specs.Rows.{rows_of}
 use Rattle.token_law.specs.Books.{Books, row_in, said}

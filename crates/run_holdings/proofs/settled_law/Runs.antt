@@ -10,7 +10,7 @@ use Rattle.run_laws.proofs.world_law.Laws as tokens
 use Rattle.run_laws.proofs.world_reads.Dirty.{dirty_blocks_lead}
 use Rattle.run_laws.proofs.world_reads.OwnTable.{is_own_table}
 use Rattle.run_laws.specs.reopening_law.Reopens.{TellsApart}
-use Rattle.run_laws.specs.restart_law.Restarts.{NoDoubtfulRestart}
+use Rattle.headline.specs.Restarts.{NoDoubtfulRestart}
 use Rattle.run_laws.specs.restart_law.Sure.{UndoubtedRunsAreSure}
 use Rattle.run_laws.specs.world_lines.Lines.{LinesGive}
 use Rattle.run_laws.specs.world_logs.Lines.{HasLines, Texts}
@@ -18,7 +18,8 @@ use Rattle.run_laws.specs.world_reads.Joint.{IsSureUpto, Joint}
 use Rattle.run_laws.specs.world_reads.LoggedRuns.{LoggedRun, logged_run}
 use Rattle.run_laws.specs.world_reads.Moments.{EveryRunStands}
 use Rattle.run_holdings.proofs.settled_law.Tables.{clean, dirty}
-use Rattle.run_holdings.specs.settled_law.Settled.{EveryRunsBlocksAreSettled, IsSettledAt}
+use Rattle.run_holdings.specs.settled_law.Settled.{EveryRunsBlocksAreSettled}
+use Rattle.headline.specs.Settled.{IsSettledAt}
 use Rattle.token_law.specs.Laws as small
 use Rattle.world_base.specs.declared.estate.Estate.{Estate}
 use Rattle.world_base.specs.Runs.{IsRun}

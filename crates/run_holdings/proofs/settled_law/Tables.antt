@@ -4,7 +4,7 @@ use Rattle.std.proofs.Common.{◌≡◌, ℕ, zero, suc, ◌<◌, ◌≤◌, tru
 use Rattle.std.proofs.lemmas.Bool.{eq-eqb}
 use Rattle.client_node.specs.declared.phase.Phase.{Phase}
 use Rattle.client_node.specs.declared.phase.Phase.TheVariants.{Down, Opening, Serving as Serves}
-use Rattle.index_tie.specs.Filed.{Filed}
+use Rattle.headline.specs.Filed.{Filed}
 use Rattle.node_slots.specs.node_tie.Promised.{with_promise}
 use Rattle.node_slots.specs.node_index_tie.Sight.{held_in}
 use Rattle.node_slots.specs.node_tie.ClientEvents.{ClientAgrees}
@@ -14,16 +14,17 @@ use Rattle.run_laws.proofs.world_law.Laws as tokens
 use Rattle.run_laws.proofs.world_reads.TurnRun.{moment_cluster}
 use Rattle.run_laws.proofs.world_reads.Tying.{slot_tied}
 use Rattle.run_laws.specs.index_reads.Ties.{Tied}
-use Rattle.run_laws.specs.world_law.Fallen.{Names}
-use Rattle.run_laws.specs.world_law.Owners.{moment, node_in, tokens_in, tokens_of}
+use Rattle.headline.specs.Falls.{Names}
+use Rattle.headline.specs.Moments.{moment, node_in}
+use Rattle.headline.specs.Owners.{tokens_in, tokens_of}
 use Rattle.run_laws.specs.world_law.Standing.{members}
-use Rattle.run_laws.specs.world_reads.Dirty.{DirtyBlocksLead}
-use Rattle.run_laws.specs.world_reads.Holders.{IsNewest}
+use Rattle.headline.specs.Indexes.{DirtyBlocksLead}
+use Rattle.headline.specs.Versions.{IsNewest}
 use Rattle.run_laws.specs.world_reads.Joint.{Joint, k}
 use Rattle.run_laws.specs.world_reads.LoggedRuns.{LoggedRun}
 use Rattle.run_holdings.proofs.settled_law.Clean.{HasJoin, has_join}
 use Rattle.run_holdings.proofs.settled_law.Rows.{settled_lower, settled_nothing, settled_upper, settled_value}
-use Rattle.run_holdings.specs.settled_law.Settled.{CleanBlocksAreSettled, DirtyBlocksAreSettledBelow, lies_at, settled_entry}
+use Rattle.headline.specs.Settled.{CleanBlocksAreSettled, DirtyBlocksAreSettledBelow, lies_at, settled_entry}
 use Rattle.token_client.specs.Held.{is_dirty}
 use Rattle.token_client.specs.State.{TokensState, held_of}
 use Rattle.token_law.specs.Laws.{IsClient, versions_of}

@@ -15,24 +15,26 @@ use Rattle.log_law.specs.Net.{Net}
 use Rattle.log_law.specs.Written.{IsOfLog, WhatFlewIsWritten}
 use Rattle.log_protocol.specs.Tables as tables
 use Rattle.log_tie.specs.Seen.{members_of}
-use Rattle.log_tie.specs.Setting.{Setting, server_of}
+use Rattle.log_tie.specs.Setting.{Setting}
+use Rattle.log_flight.specs.Flights.{server_of}
 use Rattle.node_logs.proofs.node_log_tie.WholeMaps.{whole_map}
 use Rattle.node_slots.specs.owner_index_tie.ServerEvents.{ServerEventGoes}
 use Rattle.run_laws.proofs.world_law.Laws as tokens
 use Rattle.run_laws.proofs.world_logs.Reading.{what_flew_is_text}
 use Rattle.run_laws.proofs.world_reads.OwnActs.{told_by_owner}
 use Rattle.run_laws.proofs.world_reads.TurnRun.{moment_cluster}
-use Rattle.run_laws.specs.world_law.Owners.{moment, node_in, node_named}
-use Rattle.run_laws.specs.world_logs.Doings.{did}
+use Rattle.headline.specs.Moments.{moment, node_in, node_named}
+use Rattle.headline.specs.Logs.{IsThere, Role, did, log_by}
 use Rattle.run_laws.specs.world_logs.Lines.{HasLines, LinesHaveTexts, RunsHaveLines, Texts, setting}
-use Rattle.run_laws.specs.world_logs.Logs.{IsText}
-use Rattle.run_laws.specs.world_logs.Roles.{IsThere, Role, log_by}
-use Rattle.run_laws.specs.world_logs.Roles.Role.{OfCleaner}
+use Rattle.headline.specs.Segments.{IsText}
+use Rattle.headline.specs.Logs.Role.{OfCleaner}
 use Rattle.run_laws.specs.world_logs.Settings.{stripe_by}
-use Rattle.run_laws.specs.world_logs.Shelves.{group_at, group_in, groups_of, piece, shelf_at, shelf_of}
+use Rattle.group_map.specs.Groups.{known_group as group_in}
+use Rattle.headline.specs.Servers.{group_at, groups_of, piece, shelf_at, shelf_of}
 use Rattle.run_laws.specs.world_logs.Standing.{RegistryThere, Seen}
 use Rattle.run_holdings.proofs.stripe_law.Joining.{length_stripe, long_at, none_in_excess, stripe_long}
-use Rattle.run_holdings.specs.stripe_law.ReadBack.{AreAtTheirPlaces, IsKeptReadable, IsReadBack, WhatIsFiledIsReadBack, bytes_in, held_on, lacking, part_held, parts_held}
+use Rattle.run_holdings.specs.stripe_law.ReadBack.{WhatIsFiledIsReadBack}
+use Rattle.headline.specs.Stripes.{AreAtTheirPlaces, IsKeptReadable, IsReadBack, bytes_in, held_on, lacking, part_held, parts_held}
 use Rattle.segment_format.proofs.SegmentLaws.{answer_again}
 use Rattle.segment_format.specs.declared.segment.Segment.{Segment}
 use Rattle.segment_format.specs.Text.{text_of}

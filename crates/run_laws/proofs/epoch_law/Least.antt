@@ -5,7 +5,7 @@ use Rattle.std.proofs.lemmas.Option.{unwrap_or-slice_get}
 use Rattle.checkpoint.specs.WriterState.{Rows}
 use Rattle.index_tie.proofs.Takeovers.{of_log_in}
 use Rattle.index_tie.specs.Net.{Net, Runs, opening}
-use Rattle.index_tie.specs.Takeovers.{of_log}
+use Rattle.headline.specs.Indexes.{of_log}
 use Rattle.log_scan.specs.Transition.{horizon_of, least_horizon}
 use Rattle.node_slots.specs.node_index_tie.RegistryEvents.{RegistryAgrees}
 use Rattle.registry.specs.Board.{all_news, slot_news}

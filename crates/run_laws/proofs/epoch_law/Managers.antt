@@ -7,8 +7,9 @@ use Rattle.manager_node.specs.declared.phase.Phase.{Phase}
 use Rattle.manager_node.specs.declared.phase.Phase.TheVariants.{Down, Waiting, Serving as Serves}
 use Rattle.manager_node.specs.Phases.{lasting_of}
 use Rattle.manager_serving.specs.declared.serving.Serving.{Serving}
-use Rattle.node_slots.specs.node_index_tie.Sight.{Texts}
-use Rattle.node_slots.specs.node_tie.ManagerEvents.{AllNewsGets, HeldAt, ManagerAgrees, ManagerGets, NamedBy, NamedIn, Names, ServingGets, WaitingGets, epoch_in, slot_in}
+use Rattle.headline.specs.Filed.{Texts}
+use Rattle.node_slots.specs.node_tie.ManagerEvents.{AllNewsGets, HeldAt, ManagerAgrees, ManagerGets, NamedBy, NamedIn, Names, ServingGets, WaitingGets, epoch_in}
+use Rattle.headline.specs.Managers.{slot_in}
 use Rattle.segment_format.specs.declared.segment.Segment.{Segment}
 use Rattle.token_law.specs.Net as tokens
 use Rattle.version_model.specs.declared.act.Act.{Act}
@@ -23,7 +24,7 @@ use Rattle.run_laws.specs.world_index.Owes.{DoFree, HeldApart, NewsFree, PacketF
 use Rattle.run_laws.specs.world_index.Standing as places
 use Rattle.run_laws.proofs.world_law.Gets.{manager_gets, news_told, welcome_told}
 use Rattle.run_laws.specs.world_law.Standing as owners
-use Rattle.run_laws.specs.world_law.Owners.{node_in}
+use Rattle.headline.specs.Moments.{node_in}
 use Rattle.xfs_base.specs.declared.news.SlotNews.{SlotNews}
 use Rattle.xfs_base.specs.declared.node.NodeId.{NodeId}
 use Rattle.xfs_base.specs.declared.node.NodeId.TheVariants.{Manager}

@@ -6,7 +6,8 @@ use Rattle.client_serving.specs.declared.serving.Serving.{Serving}
 use Rattle.cleaner_node.specs.declared.cleaner.Phase.TheVariants as cleaning
 use Rattle.core_world.specs.declared.any_node.AnyNode.{AnyNode}
 use Rattle.index_tie.specs.NetLaws.{CheckpointsHaveManagers}
-use Rattle.node_slots.specs.node_index_tie.Sight.{Texts, held_in}
+use Rattle.node_slots.specs.node_index_tie.Sight.{held_in}
+use Rattle.headline.specs.Filed.{Texts}
 use Rattle.node_slots.proofs.node_tie.SmallWorld.{with_promise}
 use Rattle.node_slots.specs.node_tie.CleanerEvents.{CleanerStands}
 use Rattle.node_slots.specs.node_tie.ClientEvents.{ClientAgrees}

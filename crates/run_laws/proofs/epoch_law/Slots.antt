@@ -11,8 +11,9 @@ use Rattle.manager_node.specs.Events.{happens}
 use Rattle.manager_slots.specs.declared.slot_phase.SlotPhase.{SlotPhase}
 use Rattle.manager_slots.specs.declared.slot_phase.SlotPhase.TheVariants as phase
 use Rattle.node_slots.proofs.node_index_tie.Moves.{some_none}
-use Rattle.node_slots.specs.node_index_tie.Sight.{Texts}
-use Rattle.node_slots.specs.node_tie.ManagerEvents.{ManagedAt, ManagerAgrees, PhaseAgrees, phase_at, slot_in}
+use Rattle.headline.specs.Filed.{Texts}
+use Rattle.node_slots.specs.node_tie.ManagerEvents.{ManagedAt, ManagerAgrees, PhaseAgrees}
+use Rattle.headline.specs.Managers.{phase_at, slot_in}
 use Rattle.token_law.specs.Net as tokens
 use Rattle.token_manager.specs.SlotState.{SlotState}
 use Rattle.token_manager.specs.Transition as slot
@@ -24,7 +25,7 @@ use Rattle.world_base.specs.declared.cluster.Cluster.{Cluster}
 use Rattle.run_laws.specs.world_index.Owes.{Makes}
 use Rattle.run_laws.proofs.world_law.Nodes.{here}
 use Rattle.run_laws.specs.world_law.Standing as owners
-use Rattle.run_laws.specs.world_law.Owners.{node_in}
+use Rattle.headline.specs.Moments.{node_in}
 use Rattle.xfs_base.specs.declared.node.NodeId.{NodeId}
 use Rattle.xfs_base.specs.declared.node.NodeId.TheVariants.{Client, Manager, Cleaner, Registry}
 use Rattle.run_laws.proofs.epoch_law.Nodes.{is_one, one_manager}

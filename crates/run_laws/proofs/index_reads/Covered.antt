@@ -7,7 +7,8 @@ use Rattle.manager_slots.specs.declared.slot_phase.SlotPhase.{SlotPhase}
 use Rattle.manager_slots.specs.declared.slot_phase.SlotPhase.TheVariants as phase
 use Rattle.node_slots.specs.node_index_tie.ManagerEvents as places
 use Rattle.node_slots.specs.node_index_tie.Pages.{Desk}
-use Rattle.node_slots.specs.node_index_tie.Sight.{Texts, DeltasKnown, held_in}
+use Rattle.node_slots.specs.node_index_tie.Sight.{DeltasKnown, held_in}
+use Rattle.headline.specs.Filed.{Texts}
 use Rattle.node_slots.specs.node_tie.ManagerEvents as owners
 use Rattle.slot_beliefs.specs.Index.{indexed_all}
 use Rattle.slot_beliefs.specs.Recalls.{applied_of}

@@ -9,7 +9,8 @@ use Rattle.delta_index.specs.Entries.{is_newer, first_greatest}
 use Rattle.delta_index.specs.Index.{entry_of, merged_all}
 use Rattle.delta_index.specs.Join.{join}
 use Rattle.delta_index.proofs.IndexJoin.{entry_of-merged_all}
-use Rattle.index_tie.specs.Filed.{Filed, Tells, Names}
+use Rattle.index_tie.specs.Filed.{Tells, Names}
+use Rattle.headline.specs.Filed.{Filed}
 use Rattle.index_tie.specs.Slots.{Manages, DeltasTell}
 use Rattle.index_tie.proofs.Rows.{ranged_between}
 use Rattle.log_protocol.specs.IndexState.{IndexState}

@@ -15,7 +15,8 @@ use Rattle.log_protocol.proofs.IndexInduction.{index_in_bounds_always}
 use Rattle.manager_slots.specs.declared.slot_phase.Taking.{Taking}
 use Rattle.node_slots.specs.node_index_tie.ManagerEvents as places
 use Rattle.node_slots.specs.node_index_tie.Pages.{Desk}
-use Rattle.node_slots.specs.node_index_tie.Sight.{Texts, Questions, AreTexts, held_in}
+use Rattle.node_slots.specs.node_index_tie.Sight.{Questions, held_in}
+use Rattle.headline.specs.Filed.{AreTexts, Texts}
 use Rattle.node_slots.proofs.node_index_tie.Moves.{nothing}
 use Rattle.node_slots.proofs.node_index_tie.Handing.{Owes, starts}
 use Rattle.node_slots.proofs.node_index_tie.Moves.{put_here}

@@ -2,7 +2,7 @@
 use Rattle.std.proofs.Common.{◌≡◌, ℕ, zero, suc, ◌<◌, refl, ap, ◌∙◌, arith}
 use Rattle.std.proofs.lemmas.Bool.{eq-eqb}
 use Rattle.delta_index.specs.Join.{join}
-use Rattle.index_tie.specs.Filed.{row_at}
+use Rattle.headline.specs.Filed.{row_at}
 use Rattle.index_tie.specs.Growth.{said_of}
 use Rattle.index_tie.specs.Net as index
 use Rattle.index_tie.proofs.Rows.{join_has}

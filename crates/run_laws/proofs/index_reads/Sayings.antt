@@ -9,7 +9,8 @@ use Rattle.xfs_base.specs.declared.segment.SegName.{SegName}
 use Rattle.xfs_base.proofs.Members.{contains_nothing}
 use Rattle.xfs_base.specs.Limits.{block_logs}
 use Rattle.delta_index.specs.Join.{join}
-use Rattle.index_tie.specs.Filed.{Filed, rows_at, row_at, Names}
+use Rattle.index_tie.specs.Filed.{Names}
+use Rattle.headline.specs.Filed.{Filed, row_at, rows_at}
 use Rattle.index_tie.specs.Filed as index
 use Rattle.index_tie.proofs.Growth.{is_filed}
 use Rattle.index_tie.proofs.Rows.{row_versioned, by_filed}

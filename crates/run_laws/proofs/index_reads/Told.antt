@@ -9,10 +9,11 @@ use Rattle.manager_slots.specs.declared.slot_phase.SlotPhase.{SlotPhase}
 use Rattle.manager_slots.specs.declared.slot_phase.SlotPhase.TheVariants as phase
 use Rattle.node_slots.specs.node_index_tie.ManagerEvents as places
 use Rattle.node_slots.specs.node_index_tie.Pages.{desk_of}
-use Rattle.node_slots.specs.node_index_tie.Sight.{Texts, Questions, AreTexts, ReportKnown, held_in}
+use Rattle.node_slots.specs.node_index_tie.Sight.{Questions, ReportKnown, held_in}
+use Rattle.headline.specs.Filed.{AreTexts, Texts}
 use Rattle.node_slots.proofs.node_index_tie.Handing.{OwesAt}
 use Rattle.node_slots.specs.node_tie.ManagerEvents as owners
-use Rattle.node_slots.specs.node_tie.ManagerEvents.{phase_at}
+use Rattle.headline.specs.Managers.{phase_at}
 use Rattle.node_slots.proofs.node_tie.ManagerTakes.{Brings}
 use Rattle.segment_format.specs.declared.segment.Segment.{Segment}
 use Rattle.takeover.specs.declared.input.In.{In as Input}

@@ -7,8 +7,7 @@ use Rattle.std.proofs.lemmas.Bool.{eqb-true}
 use Rattle.cleaner_job.specs.declared.job.Job.{Job}
 use Rattle.cleaner_job.specs.Jobs.{check_of, hand_of, is_out}
 use Rattle.run_laws.proofs.index_reads.Worlds.{good}
-use Rattle.index_tie.specs.Cleaning.{is_filed_name}
-use Rattle.index_tie.specs.Filed.{Filed}
+use Rattle.headline.specs.Filed.{Filed, is_filed_name}
 use Rattle.index_tie.specs.Net.{IsInHand}
 use Rattle.log_protocol.specs.Tables.{In}
 use Rattle.node_slots.specs.node_tie.CleanerLogs.{FateTold, PhaseTold}

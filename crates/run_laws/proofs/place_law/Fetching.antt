@@ -5,12 +5,11 @@ use Rattle.client_serving.specs.declared.serving.Serving.{Serving}
 use Rattle.node_tellings.specs.entry_tie.ClientTells.{FetchTold}
 use Rattle.node_tellings.specs.entry_tie.Told.{PlaceTold, told_by_rows}
 use Rattle.run_laws.specs.index_reads.Ties.{ArePlain, BooksAre}
-use Rattle.index_tie.specs.Filed.{Filed, rows_at}
+use Rattle.headline.specs.Filed.{Filed, Texts, rows_at}
 use Rattle.log_owner.specs.Sending.{server_in}
 use Rattle.log_law.specs.Laws.{OneNameOneText}
 use Rattle.log_law.specs.Places.{APlaceNamesOneContent}
 use Rattle.log_protocol.specs.Tables.{In}
-use Rattle.node_slots.specs.node_index_tie.Sight.{Texts}
 use Rattle.node_slots.specs.node_tie.ClientEvents.{ServingReads}
 use Rattle.node_slots.specs.node_tie.ClientLogs.{BringsRead, Tells}
 use Rattle.node_tellings.specs.reading_tie.Arrivals as came

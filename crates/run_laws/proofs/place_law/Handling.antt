@@ -5,13 +5,13 @@ use Rattle.std.proofs.lemmas.Map.Views.{tells_apart}
 use Rattle.cleaner_serving.specs.declared.emptying.Emptying.{Emptying}
 use Rattle.cleaner_job.specs.declared.hand.Hand.{Hand}
 use Rattle.cleaner_job.specs.Jobs.{hand_of}
-use Rattle.index_tie.specs.Cleaning.{is_filed_name, ReadFor}
+use Rattle.index_tie.specs.Cleaning.{ReadFor}
+use Rattle.headline.specs.Filed.{Texts, is_filed_name}
 use Rattle.index_tie.specs.Net as index
 use Rattle.log_law.specs.Laws.{OneNameOneText}
 use Rattle.log_law.specs.Places.{APlaceNamesOneContent}
 use Rattle.log_owner.specs.Sending.{server_in}
 use Rattle.log_protocol.specs.Tables.{In}
-use Rattle.node_slots.specs.node_index_tie.Sight.{Texts}
 use Rattle.node_slots.specs.owner_index_tie.CleanerEvents.{ReadGets}
 use Rattle.node_tellings.specs.reading_tie.Arrivals.{Cuts, Tells, answered_in, cut_by}
 use Rattle.node_tellings.specs.reading_tie.CleanerReads.{CleanerReadsWhatCame, ReadsHand}

@@ -9,7 +9,7 @@ use Rattle.checkpoint.specs.WriterState.{Rows}
 use Rattle.group_map.specs.GroupMapState.{GroupMapState}
 use Rattle.index_tie.proofs.Growth.{more_is_filed}
 use Rattle.index_tie.specs.Cleaning.{ReadFor}
-use Rattle.index_tie.specs.Filed.{Filed}
+use Rattle.headline.specs.Filed.{Filed}
 use Rattle.index_tie.specs.Growth.{IsMore, with_segment}
 use Rattle.index_tie.specs.Net.{Net, Happens, IsOther, Runs, opening}
 use Rattle.index_tie.specs.Net.Happens.{ClientFiles, CleanerFiles, GetsDeltas, GetsOther, Answers, Plans, Cleans, Checkpoints, Keeps as RegistryKeeps, Moves, Activates, Promises, JobPromises, JobWelcomed, Reports, JobBegins, JobReads, Asks, JobHearsDead, JobTakes}

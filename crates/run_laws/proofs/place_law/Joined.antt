@@ -9,7 +9,7 @@ use Rattle.log_law.specs.Net.Packet.{FragmentSent}
 use Rattle.log_law.specs.Places.{APlaceNamesOneContent, Brings, IsReading}
 use Rattle.log_protocol.specs.Tables.{In}
 use Rattle.log_tie.specs.Shelves.{is_of_log}
-use Rattle.node_slots.specs.node_index_tie.Sight.{Texts}
+use Rattle.headline.specs.Filed.{Texts}
 use Rattle.node_tellings.specs.reading_tie.Arrivals.{Cuts, cut_by}
 use Rattle.node_tellings.specs.reading_tie.Came.{Came, AnswerCame, IsOfName, ReadsJoined, RoundCame}
 use Rattle.segment_format.specs.declared.segment.Segment.{Segment}

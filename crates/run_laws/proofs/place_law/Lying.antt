@@ -9,7 +9,8 @@ use Rattle.run_laws.proofs.index_reads.Rows.{deltas_are_said, rows_are_entries}
 use Rattle.run_laws.specs.index_reads.Rows.{IsPlain, SaysSame}
 use Rattle.run_laws.specs.index_reads.Ties.{ArePlain, BooksAre}
 use Rattle.index_tie.proofs.Rows.{by_filed}
-use Rattle.index_tie.specs.Filed.{Filed, IsFiled, IsSegment, rows_at}
+use Rattle.index_tie.specs.Filed.{IsFiled}
+use Rattle.headline.specs.Filed.{Filed, IsSegment, rows_at}
 use Rattle.node_slots.specs.node_tie.LogRows.{rows_told}
 use Rattle.segment_format.specs.declared.segment.Segment.{Segment}
 use Rattle.segment_format.specs.Rows.{rows_of}

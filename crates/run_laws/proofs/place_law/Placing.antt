@@ -7,7 +7,8 @@ use Rattle.run_laws.proofs.index_reads.Rows.{deltas_are_said}
 use Rattle.run_laws.specs.index_reads.Rows.{IsPlain}
 use Rattle.run_laws.specs.index_reads.Ties.{ArePlain}
 use Rattle.index_tie.proofs.Runs.{good_in}
-use Rattle.index_tie.specs.Filed.{Filed, IsFiled, row_at}
+use Rattle.index_tie.specs.Filed.{IsFiled}
+use Rattle.headline.specs.Filed.{Filed, row_at}
 use Rattle.segment_format.specs.declared.segment.Segment.{Segment}
 use Rattle.stripe_cleaner.specs.Checks.{place_in}
 use Rattle.stripe_cleaner.specs.declared.checks.Check.{Check}

@@ -10,7 +10,8 @@ use Rattle.log_protocol.specs.Tables.{In}
 use Rattle.log_tie.specs.Shelves.{is_of_log}
 use Rattle.node_logs.specs.manager_log_tie.Told.{WhatIsToldIsInRange}
 use Rattle.node_slots.specs.node_index_tie.ManagerEvents.{completes_at, completes_in}
-use Rattle.node_slots.specs.node_index_tie.Sight.{Texts, IsRead, RowsFit}
+use Rattle.node_slots.specs.node_index_tie.Sight.{IsRead, RowsFit}
+use Rattle.headline.specs.Filed.{Texts}
 use Rattle.node_tellings.specs.reading_tie.Arrivals.{Cuts, Tells, answered_in}
 use Rattle.node_tellings.specs.reading_tie.TakeoverReads.{TakeoversReadWhatCame, to_any}
 use Rattle.segment_format.specs.declared.segment.Item.{Item}

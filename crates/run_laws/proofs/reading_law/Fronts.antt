@@ -19,11 +19,12 @@ use Rattle.run_laws.proofs.world_law.Laws as tokens
 use Rattle.run_laws.proofs.world_law.Laws.{one_node}
 use Rattle.run_laws.proofs.world_law.Start.{first_stands}
 use Rattle.run_laws.proofs.world_law.Turning.{next_cluster}
-use Rattle.run_laws.specs.world_law.Owners.{moment, node_in, node_named}
+use Rattle.headline.specs.Moments.{moment, node_in, node_named}
 use Rattle.run_laws.proofs.world_logs.Groups.{GroupsStay, HasMap, StayIn, board_has_map, first_map, in_run, map_in_run}
 use Rattle.run_laws.proofs.world_logs.Says.{may_say}
-use Rattle.run_laws.specs.world_logs.Horizons.{board_of}
-use Rattle.run_laws.specs.world_logs.Shelves.{group_in, groups_of}
+use Rattle.headline.specs.Horizons.{board_of}
+use Rattle.group_map.specs.Groups.{known_group as group_in}
+use Rattle.headline.specs.Servers.{groups_of}
 use Rattle.xfs_base.specs.declared.node.NodeId.{NodeId}
 use Rattle.xfs_base.specs.declared.node.NodeId.TheVariants.{Registry}
 use Rattle.xfs_base.specs.declared.setup.Setup.{Setup}

@@ -38,7 +38,7 @@ use Rattle.world_base.specs.declared.world.World.{World}
 use Rattle.world_base.specs.NextWorld.{sent_at}
 use Rattle.run_laws.proofs.world_logs.Groups.{Names}
 use Rattle.run_laws.proofs.world_logs.Says.{MaySay, Plain, SaidByCleaner, SaidByServer}
-use Rattle.run_laws.specs.world_logs.Shelves.{group_at, groups_of}
+use Rattle.headline.specs.Servers.{group_at, groups_of}
 use Rattle.xfs_base.specs.declared.node.NodeId.{NodeId}
 use Rattle.xfs_base.specs.declared.node.NodeId.TheVariants.{Client, Manager, Server, Cleaner, Registry}
 use Rattle.xfs_base.specs.declared.setup.Setup.{Setup}

@@ -23,10 +23,10 @@ use Rattle.run_laws.proofs.world_law.Laws.{one_node}
 use Rattle.run_laws.proofs.world_law.Nodes as places
 use Rattle.run_laws.proofs.world_law.Sent.{in_append, was_sent}
 use Rattle.run_laws.proofs.world_law.Turning.{next_keeps}
-use Rattle.run_laws.specs.world_law.Owners.{node_in}
+use Rattle.headline.specs.Moments.{node_in}
 use Rattle.run_laws.proofs.world_logs.Lists.{in_after, in_before}
 use Rattle.run_laws.proofs.world_logs.Says.{MaySay}
-use Rattle.run_laws.specs.world_logs.Shelves.{groups_of}
+use Rattle.headline.specs.Servers.{groups_of}
 use Rattle.xfs_base.specs.declared.node.NodeId.{NodeId}
 use Rattle.xfs_base.specs.declared.node.NodeId.TheVariants as nodes
 use Rattle.xfs_base.specs.declared.setup.Setup.{Setup}

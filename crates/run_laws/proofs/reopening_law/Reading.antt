@@ -1,11 +1,10 @@
 -- What a reopening read back is what was filed, and what it adopts.
 use Rattle.std.proofs.Common.{⊎_elim, ◌≡◌, ◌≤◌, ◌<◌, ◌+◌, ◌-◌, ℕ, suc, List, length, sym, arith}
 use Rattle.client_log.specs.LogState.{LogState}
-use Rattle.index_tie.specs.Filed.{Filed}
+use Rattle.headline.specs.Filed.{Filed, Texts}
 use Rattle.log_law.specs.Net.{Net}
 use Rattle.log_law.specs.ReadBack.{ReadsDown}
 use Rattle.log_tie.specs.Setting.{Setting}
-use Rattle.node_slots.specs.node_index_tie.Sight.{Texts}
 use Rattle.node_slots.specs.owner_index_tie.Owners.{ReadBack}
 use Rattle.segment_format.specs.declared.segment.Segment.{Segment}
 use Rattle.token_protocol.specs.Basics.{In as Among}

@@ -12,7 +12,8 @@ use Rattle.log_law.specs.Net.{Net}
 use Rattle.log_law.specs.Net.Owner.{Serving}
 use Rattle.log_law.specs.Restarts.{IsDoubtful, IsSureRun, LackedInSpan, is_serving, is_writing}
 use Rattle.log_protocol.specs.Tables as tables
-use Rattle.log_tie.specs.Setting.{Setting, Stripe, fragment_of, fragment_over, server_of}
+use Rattle.log_tie.specs.Setting.{Setting, Stripe, fragment_of, fragment_over}
+use Rattle.log_flight.specs.Flights.{server_of}
 use Rattle.log_tie.specs.Shelves.{is_of_log}
 use Rattle.node_logs.specs.node_log_tie.Sight.{BodySeen}
 use Rattle.segment_format.specs.declared.segment.Segment.{Segment}
@@ -22,14 +23,15 @@ use Rattle.wire_msg.specs.declared.packet.Packet.{Packet}
 use Rattle.world_base.specs.declared.estate.Estate.{Estate}
 use Rattle.world_base.specs.Runs.{WasSent}
 use Rattle.run_laws.proofs.world_law.Sent.{was_sent}
-use Rattle.run_laws.specs.world_law.Owners.{moment}
+use Rattle.headline.specs.Moments.{moment}
 use Rattle.run_laws.proofs.world_logs.Line.{grows}
 use Rattle.run_laws.proofs.world_logs.Settings.{striped}
 use Rattle.run_laws.specs.world_logs.Lines.{Line, setting}
-use Rattle.run_laws.specs.world_logs.Logs.{IsText, NotDeleted}
-use Rattle.run_laws.specs.world_logs.Roles.{IsThere, Role, asker_by, renews}
+use Rattle.headline.specs.Segments.{IsText, NotDeleted}
+use Rattle.run_laws.specs.world_logs.Roles.{asker_by}
+use Rattle.headline.specs.Logs.{IsThere, Role, renews}
 use Rattle.run_laws.specs.world_logs.Settings.{stripe_by}
-use Rattle.run_laws.specs.world_logs.Shelves.{group_at, piece, shelf_at}
+use Rattle.headline.specs.Servers.{group_at, piece, shelf_at}
 use Rattle.xfs_base.proofs.Booleans.{contrary, equal_itself}
 use Rattle.xfs_base.specs.declared.fragment.Fragment.{Fragment}
 use Rattle.xfs_base.specs.declared.node.NodeId.{NodeId}
@@ -37,8 +39,7 @@ use Rattle.xfs_base.specs.declared.node.NodeId.TheVariants.{Server}
 use Rattle.xfs_base.specs.declared.segment.LogId.{LogId}
 use Rattle.xfs_base.specs.declared.segment.SegName.{SegName}
 use Rattle.run_laws.specs.restart_law.Below.{Below}
-use Rattle.run_laws.specs.restart_law.Restarts as nodes
-use Rattle.run_laws.specs.restart_law.Restarts.{DoubtfulRestart, LackedBetween, LostDisk, ReadsBackTo, newest}
+use Rattle.headline.specs.Restarts.{DoubtfulRestart, LackedBetween, Lacks, LostDisk, ReadsBackTo, newest}
 use Rattle.run_laws.proofs.restart_law.Deletes.{deletes_are_drops}
 use Rattle.run_laws.proofs.restart_law.Nodes.{ShelfIs, away_there, boot_is, low_is, serves_there, shelf_is, some_serving, writes_is}
 use Rattle.run_laws.proofs.restart_law.Picks.{picks}
@@ -47,7 +48,7 @@ use Rattle.run_laws.proofs.restart_law.Written.{writing_picked, writing_wrote}
 
 -- ---- shelves
 
-lacks_so : (o : Option ShelfState) (s : ShelfState) (name : SegName) → IfSome o (λ t. s ≡ t) → held_at s.held name ≡ None → nodes.Lacks o name
+lacks_so : (o : Option ShelfState) (s : ShelfState) (name : SegName) → IfSome o (λ t. s ≡ t) → held_at s.held name ≡ None → Lacks o name
 lacks_so None s name same none = tt
 lacks_so (Some t) s name same none = ap (λ (z : ShelfState). held_at z.held name) (sym same) ∙ none
 
@@ -97,7 +98,7 @@ module _ (b : Below) (base : Setting) (e : Estate AnyNode) (r : Role) (is_there 
       (said count packet (body.Delete m) was fact (subst (λ n. is_of_log g n ≡ true) (sym named) (of_log name own)))))
 
   lacked_or_lost : (at : ℕ) (name : SegName) (v : ℕ) → LacksOrLoses (small at) (small (suc at)) name v
-      → nodes.Lacks (shelf_at (moment e at) v) name ⊎ LostDisk (shelf_at (moment e at) v) (shelf_at (moment e (suc at)) v)
+      → Lacks (shelf_at (moment e at) v) name ⊎ LostDisk (shelf_at (moment e at) v) (shelf_at (moment e (suc at)) v)
   lacked_or_lost at name v (inl none) =
       inl (lacks_so (shelf_at (moment e at) v) ((small at).shelves v) name (shelf_is base e r is_there keeps line at v) none)
   lacked_or_lost at name v (inr less) =

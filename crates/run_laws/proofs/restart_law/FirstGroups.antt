@@ -4,7 +4,7 @@ use Rattle.group_map.specs.declared.group.Group.{Group}
 use Rattle.group_map.specs.GroupMapState.{GroupMapState}
 use Rattle.group_map.specs.Groups.{first_layout, first_members, group_of, numbered, started}
 use Rattle.group_map.specs.WellFormed.{IsServer}
-use Rattle.log_tie.specs.Setting.{generation_of}
+use Rattle.log_flight.specs.Flights.{generation_of}
 use Rattle.node_moves.proofs.registry_moves.Keeping.{Keeps, event_keeps}
 use Rattle.registry.proofs.Losses.{loss_exists, loss_newer}
 use Rattle.registry.specs.Board.{hears_server, may_lose}

@@ -8,10 +8,11 @@ use Rattle.core_world.specs.declared.any_node.AnyNode.TheVariants as any
 use Rattle.fragment_store.specs.ShelfState.{ShelfState}
 use Rattle.group_map.specs.declared.group.Group.{Group}
 use Rattle.group_map.specs.GroupMapState.{GroupMapState}
-use Rattle.group_map.specs.Groups.{group_of, started}
+use Rattle.group_map.specs.Groups.{known_group as group_in, group_of, started}
 use Rattle.group_map.specs.WellFormed.{IsServer}
 use Rattle.log_tie.specs.Exist.{SomeSetting}
-use Rattle.log_tie.specs.Setting.{Setting, generation_of, server_of}
+use Rattle.log_tie.specs.Setting.{Setting}
+use Rattle.log_flight.specs.Flights.{generation_of, server_of}
 use Rattle.node_logs.proofs.node_log_tie.Others.{same_or_other}
 use Rattle.node_logs.specs.node_log_tie.Sight.{BodySeen, ReachedBy}
 use Rattle.wire_msg.specs.declared.packet.Do.{Do}
@@ -30,15 +31,16 @@ use Rattle.run_laws.proofs.world_law.Nodes as places
 use Rattle.run_laws.proofs.world_law.Sent.{was_sent}
 use Rattle.run_laws.proofs.world_law.Start.{first_stands}
 use Rattle.run_laws.proofs.world_law.Turning.{next_keeps}
-use Rattle.run_laws.specs.world_law.Owners.{moment, node_in}
+use Rattle.headline.specs.Moments.{moment, node_in}
 use Rattle.run_laws.specs.world_logs.Lines.{HasLines, Line, RunsHaveLines, setting}
 use Rattle.run_laws.specs.world_logs.Roles.{asker_by}
-use Rattle.run_laws.specs.world_logs.Roles.Role.{OfCleaner}
-use Rattle.run_laws.specs.world_logs.Shelves.{group_at, group_in, groups_of, shelf_at}
+use Rattle.headline.specs.Logs.Role.{OfCleaner}
+use Rattle.headline.specs.Servers.{group_at, groups_of, shelf_at}
 use Rattle.xfs_base.specs.declared.node.NodeId.{NodeId}
 use Rattle.xfs_base.specs.declared.node.NodeId.TheVariants.{Registry}
 use Rattle.run_laws.specs.restart_law.Below.{Below}
-use Rattle.run_laws.specs.restart_law.Unlost.{LosesNone, NoDiskIsLost, ScriptsWithoutLossesAreUndoubted}
+use Rattle.run_laws.specs.restart_law.Unlost.{NoDiskIsLost, ScriptsWithoutLossesAreUndoubted}
+use Rattle.headline.specs.Restarts.{LosesNone}
 use Rattle.run_laws.proofs.restart_law.FirstGroups.{DoTellsNone, KeepsGroups, group_is_first, registry_so}
 use Rattle.run_laws.proofs.restart_law.Nodes.{ShelfIs, node_there, shelf_is}
 use Rattle.run_laws.proofs.restart_law.Servers.{shelf_is_first}

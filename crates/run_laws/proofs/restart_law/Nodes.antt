@@ -34,16 +34,16 @@ use Rattle.world_base.specs.NextWorld.{next_world, start_world}
 use Rattle.run_laws.proofs.world_law.Nodes.{here, there}
 use Rattle.run_laws.proofs.world_law.Start.{first_stands}
 use Rattle.run_laws.proofs.world_law.Turning.{next_cluster, next_keeps}
-use Rattle.run_laws.specs.world_law.Owners.{moment, node_in, node_named}
+use Rattle.headline.specs.Moments.{moment, node_in, node_named}
 use Rattle.run_laws.specs.world_logs.Lines.{Line, setting}
-use Rattle.run_laws.specs.world_logs.Roles.{IsThere, Role, owner_by, renews}
-use Rattle.run_laws.specs.world_logs.Roles.Role.{OfClient, OfCleaner, OfManager}
-use Rattle.run_laws.specs.world_logs.Shelves.{shelf_at, shelf_of}
+use Rattle.headline.specs.Logs.{IsThere, Role, owner_by, renews}
+use Rattle.headline.specs.Logs.Role.{OfClient, OfCleaner, OfManager}
+use Rattle.headline.specs.Servers.{shelf_at, shelf_of}
 use Rattle.run_laws.specs.world_logs.Standing.{CleanerThere, ClientThere, Seen, ServerThere}
 use Rattle.xfs_base.proofs.Booleans.{contrary}
 use Rattle.xfs_base.specs.declared.node.NodeId.{NodeId}
 use Rattle.xfs_base.specs.declared.node.NodeId.TheVariants.{Server}
-use Rattle.run_laws.specs.restart_law.Restarts.{boot_at, boot_in, cleaner_reads_to, cleaner_writes, cleaners_log, client_reads_to, client_writes, clients_log, is_settling, log_at, log_in, low_at, low_in, reads_to, scans_to, writes_at, writes_in}
+use Rattle.headline.specs.Restarts.{boot_at, boot_in, cleaner_reads_to, cleaner_writes, cleaners_log, client_reads_to, client_writes, clients_log, is_settling, log_at, log_in, low_at, low_in, reads_to, scans_to, writes_at, writes_in}
 
 -- ---- the node of a name is there at each moment
 

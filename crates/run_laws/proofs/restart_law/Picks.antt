@@ -29,12 +29,12 @@ use Rattle.world_base.specs.declared.estate.Estate.{Estate}
 use Rattle.world_base.specs.declared.event.Event.{Event}
 use Rattle.world_base.specs.Events.{node_of}
 use Rattle.run_laws.specs.world_logs.Lines.{Line, setting}
-use Rattle.run_laws.specs.world_logs.Roles.{Role, owner_by, renews}
+use Rattle.headline.specs.Logs.{Role, owner_by, renews}
 use Rattle.xfs_base.proofs.Booleans.{by_test, contrary}
 use Rattle.xfs_base.specs.declared.segment.End.{End}
 use Rattle.xfs_base.specs.Steps.{still}
 use Rattle.run_laws.specs.restart_law.Below.{Below}
-use Rattle.run_laws.specs.restart_law.Restarts.{scans_to}
+use Rattle.headline.specs.Restarts.{scans_to}
 use Rattle.run_laws.proofs.restart_law.Nodes.{owner_reads_to}
 use Rattle.run_laws.proofs.restart_law.Spans.{first_serves, serves_straight}
 

@@ -16,7 +16,7 @@ use Rattle.wire_msg.specs.declared.packet.Do.{Do}
 use Rattle.xfs_base.proofs.Booleans.{by_test}
 use Rattle.xfs_base.specs.declared.node.NodeId.{NodeId}
 use Rattle.node_moves.proofs.server_moves.Keeping.{Holds, Keeps, any_rebuild, event_keeps, takes_any}
-use Rattle.run_laws.specs.restart_law.Unlost.{LosesNone}
+use Rattle.headline.specs.Restarts.{LosesNone}
 
 pub record Quiet (node : Node) : Type 0 where
   pub generation : node.shelf.generation ≡ 1

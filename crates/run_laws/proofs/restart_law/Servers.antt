@@ -21,12 +21,12 @@ use Rattle.world_base.specs.Items.{is_for, works_of}
 use Rattle.world_base.specs.NextWorld.{first_node, next_world, start_world}
 use Rattle.run_laws.proofs.world_law.Nodes.{get_set_other, get_set_same}
 use Rattle.run_laws.proofs.world_law.Turning.{next_keeps}
-use Rattle.run_laws.specs.world_law.Owners.{moment, node_in}
-use Rattle.run_laws.specs.world_logs.Shelves.{shelf_at, shelf_of}
+use Rattle.headline.specs.Moments.{moment, node_in}
+use Rattle.headline.specs.Servers.{shelf_at, shelf_of}
 use Rattle.xfs_base.proofs.Booleans.{by_test}
 use Rattle.xfs_base.specs.declared.node.NodeId.{NodeId}
 use Rattle.xfs_base.specs.declared.node.NodeId.TheVariants.{Client, Manager, Server, Cleaner, Registry}
-use Rattle.run_laws.specs.restart_law.Unlost.{LosesNone}
+use Rattle.headline.specs.Restarts.{LosesNone}
 use Rattle.run_laws.proofs.restart_law.Quiet.{Quiet, server_so}
 
 -- ---- a node

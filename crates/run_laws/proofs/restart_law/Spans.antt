@@ -22,8 +22,8 @@ use Rattle.world_base.specs.declared.event.Event.{Event}
 use Rattle.world_base.specs.Events.{node_of}
 use Rattle.run_laws.proofs.world_logs.Line.{last_or_before}
 use Rattle.run_laws.specs.world_logs.Lines.{IsBegun, Line, StraightBy, setting}
-use Rattle.run_laws.specs.world_logs.Roles.{Role, owner_by, renews}
-use Rattle.run_laws.specs.world_logs.Roles.Role.{OfClient, OfCleaner, OfManager}
+use Rattle.headline.specs.Logs.{Role, owner_by, renews}
+use Rattle.headline.specs.Logs.Role.{OfClient, OfCleaner, OfManager}
 use Rattle.xfs_base.proofs.Booleans.{contrary}
 use Rattle.xfs_base.specs.declared.fragment.Fragment.{Fragment}
 use Rattle.xfs_base.specs.declared.segment.SegName.{SegName}

@@ -15,9 +15,9 @@ use Rattle.world_base.specs.declared.estate.Estate.{Estate}
 use Rattle.world_base.specs.declared.event.Event.{Event}
 use Rattle.world_base.specs.Events.{node_of}
 use Rattle.run_laws.specs.world_logs.Lines.{IsBegun, Line, setting}
-use Rattle.run_laws.specs.world_logs.Roles.{IsThere, Role, owner_by, renews}
+use Rattle.headline.specs.Logs.{IsThere, Role, owner_by, renews}
 use Rattle.run_laws.specs.restart_law.Below.{Below}
-use Rattle.run_laws.specs.restart_law.Restarts.{NoDoubtfulRestart}
+use Rattle.headline.specs.Restarts.{NoDoubtfulRestart}
 use Rattle.run_laws.specs.restart_law.Sure.{UndoubtedRunsAreSure}
 use Rattle.run_laws.proofs.restart_law.Doubting.{doubtful_restart}
 use Rattle.run_laws.proofs.restart_law.Progress.{NoneEnds, none_ends_away, none_ends_left, none_ends_served, sure_then}

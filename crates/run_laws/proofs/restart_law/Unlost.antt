@@ -11,12 +11,12 @@ use Rattle.fragment_store.specs.ShelfState.{ShelfState, held_at}
 use Rattle.group_map.specs.declared.group.Group.{Group}
 use Rattle.group_map.specs.Sizes.{is_group_size}
 use Rattle.group_map.specs.WellFormed.{IsServer, IsStripe}
-use Rattle.log_flight.specs.Flights.{no_member}
+use Rattle.log_flight.specs.Flights.{generation_of, no_member, server_of}
 use Rattle.log_law.specs.Net.{Net, Owner}
 use Rattle.log_law.specs.Net.Owner.{Down, Opening, Serving, Writing}
 use Rattle.log_law.specs.Restarts.{IsSureRun}
 use Rattle.log_protocol.specs.Tables as tables
-use Rattle.log_tie.specs.Setting.{Setting, Stripe, fragment_over, generation_of, server_of}
+use Rattle.log_tie.specs.Setting.{Setting, Stripe, fragment_over}
 use Rattle.node_logs.proofs.node_log_tie.WholeMaps.{its_stripe}
 use Rattle.node_logs.specs.node_log_tie.RegistryEvents.{RegistrySeen}
 use Rattle.segment_format.specs.declared.segment.Segment.{Segment}
@@ -28,21 +28,22 @@ use Rattle.world_base.specs.declared.world.World.{World}
 use Rattle.world_base.specs.NextWorld.{next_world, start_world}
 use Rattle.world_base.specs.Runs.{IsRun, Leads}
 use Rattle.run_laws.proofs.world_law.Places.{behind}
-use Rattle.run_laws.specs.world_law.Owners.{moment, node_in, node_named}
+use Rattle.headline.specs.Moments.{moment, node_in, node_named}
 use Rattle.run_laws.proofs.world_logs.Line.{grows}
 use Rattle.run_laws.proofs.world_logs.Lists.{in_was}
 use Rattle.run_laws.proofs.world_logs.Settings.{striped}
 use Rattle.run_laws.specs.world_logs.Lines.{HasLines, Line, setting}
-use Rattle.run_laws.specs.world_logs.Roles.{IsThere, Role, renews}
-use Rattle.run_laws.specs.world_logs.Roles.Role.{OfClient, OfCleaner, OfManager}
+use Rattle.headline.specs.Logs.{IsThere, Role, renews}
+use Rattle.headline.specs.Logs.Role.{OfClient, OfCleaner, OfManager}
 use Rattle.run_laws.specs.world_logs.Settings.{stripe_by}
-use Rattle.run_laws.specs.world_logs.Shelves.{group_at, group_in, groups_of, piece, shelf_at, shelf_of}
+use Rattle.group_map.specs.Groups.{known_group as group_in}
+use Rattle.headline.specs.Servers.{group_at, groups_of, piece, shelf_at, shelf_of}
 use Rattle.run_laws.specs.world_logs.Standing.{Seen}
 use Rattle.xfs_base.proofs.Booleans.{and_first}
 use Rattle.xfs_base.specs.declared.fragment.Fragment.{Fragment}
 use Rattle.xfs_base.specs.declared.node.NodeId.TheVariants.{Client, Manager, Registry, Server}
 use Rattle.run_laws.specs.restart_law.Below.{Below}
-use Rattle.run_laws.specs.restart_law.Restarts.{DoubtfulRestart, LackedBetween, Lacks, LostDisk, NoDoubtfulRestart, log_at, log_in}
+use Rattle.headline.specs.Restarts.{DoubtfulRestart, LackedBetween, Lacks, LostDisk, NoDoubtfulRestart, log_at, log_in}
 use Rattle.run_laws.specs.restart_law.Unlost.{NoDiskIsLost, WithoutLossesNoRestartIsDoubtful}
 use Rattle.run_laws.proofs.restart_law.Nodes.{ShelfIs, here_at, log_is, node_there, placed, serving_log, shelf_is}
 use Rattle.run_laws.proofs.restart_law.Sure.{all_sure}

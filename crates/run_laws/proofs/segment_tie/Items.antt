@@ -1,7 +1,7 @@
 -- The items that are written of changes tell of blocks once, each of a version that waited; and what a segment tells of blocks is said by its items alone.
 use Rattle.std.proofs.Common.{◌≡◌, ℕ, ◌+◌, ◌<◌, ◌≤◌, List, [], ◌∷◌, ◌++◌, length, map, Option, Some, None, refl, sym, subst, arith}
 use Rattle.std.specs.List.{AllByRecursion, filter_map}
-use Rattle.index_tie.specs.Filed.{IsNoPart}
+use Rattle.headline.specs.Filed.{IsNoPart}
 use Rattle.log_flight.specs.declared.dirty.Change.{Change}
 use Rattle.log_flight.specs.Items.{change_items, items_of}
 use Rattle.node_slots.specs.node_tie.LogRows.{told, rows_told}

@@ -21,7 +21,7 @@ use Rattle.world_base.specs.Cluster.{place_of}
 use Rattle.world_base.specs.Events.{what_of}
 use Rattle.world_base.specs.NextWorld.{first_node, next_world, sent_at, start_world}
 use Rattle.world_base.specs.Runs.{Leads, MayHappen}
-use Rattle.run_laws.specs.world_law.Owners.{moment, node_in}
+use Rattle.headline.specs.Moments.{moment, node_in}
 use Rattle.run_laws.proofs.world_law.Turning.{next_keeps}
 use Rattle.xfs_base.specs.declared.node.NodeId.{NodeId}
 use Rattle.xfs_base.specs.declared.node.NodeId.TheVariants as nodes

@@ -16,7 +16,8 @@ use Rattle.log_protocol.specs.Tables as tables
 use Rattle.node_base.specs.Room.{has_room}
 use Rattle.node_base.specs.declared.effects.Effect.{Effect}
 use Rattle.node_base.specs.declared.effects.Effect.TheVariants.{Send, Answer, Lose, Does}
-use Rattle.node_slots.specs.node_index_tie.Sight.{CheckKnown, Questions, Texts}
+use Rattle.node_slots.specs.node_index_tie.Sight.{CheckKnown, Questions}
+use Rattle.headline.specs.Filed.{Texts}
 use Rattle.node_slots.proofs.owner_index_tie.Frames.{more_itself}
 use Rattle.node_slots.specs.owner_index_tie.CleanerEvents.{CleanerAgrees, CleanerDoes, CleanerEventGoes, CleanerGoes, CleanerSays}
 use Rattle.wire_msg.specs.declared.body.Body.{Body}

@@ -13,8 +13,9 @@ use Rattle.node_base.specs.declared.effects.Effect.{Effect}
 use Rattle.node_base.specs.Effects.{packets_of}
 use Rattle.node_slots.proofs.node_index_tie.Moves.{in_front, in_more, runs_through}
 use Rattle.node_slots.specs.node_index_tie.ManagerEvents.{ManagersStay}
-use Rattle.node_slots.specs.node_index_tie.Sight.{Questions, Texts}
-use Rattle.node_slots.specs.node_tie.ManagerEvents.{slot_in}
+use Rattle.node_slots.specs.node_index_tie.Sight.{Questions}
+use Rattle.headline.specs.Filed.{Texts}
+use Rattle.headline.specs.Managers.{slot_in}
 use Rattle.node_slots.specs.owner_index_tie.CleanerEvents.{CleanerDoes, CleanerGoes, CleanerSays}
 use Rattle.node_slots.specs.owner_index_tie.ClientEvents.{ClientsStay}
 use Rattle.segment_format.specs.declared.segment.Segment.{Segment}

@@ -9,8 +9,8 @@ use Rattle.log_protocol.specs.Tables as tables
 use Rattle.node_base.specs.Effects.{packets_of}
 use Rattle.node_slots.proofs.node_index_tie.Moves.{runs_through}
 use Rattle.node_slots.specs.node_index_tie.ManagerEvents.{ManagersStay}
-use Rattle.node_slots.specs.node_index_tie.Sight.{Texts}
-use Rattle.node_slots.specs.node_tie.ManagerEvents.{slot_in}
+use Rattle.headline.specs.Filed.{Texts}
+use Rattle.headline.specs.Managers.{slot_in}
 use Rattle.node_slots.specs.owner_index_tie.CleanerEvents.{CleanerStays}
 use Rattle.node_slots.specs.owner_index_tie.ClientEvents.{ClientAgrees, ClientGoes, ClientsStay}
 use Rattle.node_slots.specs.owner_index_tie.Owners.{OwnerDoes, OwnerSays}

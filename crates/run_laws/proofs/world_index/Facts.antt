@@ -3,7 +3,8 @@ use Rattle.std.proofs.Common.{ℕ, suc, ◌≤◌, ◌<◌, List, sym, ap, ◌�
 use Rattle.index_tie.proofs.Growth.{deltas_stay}
 use Rattle.index_tie.proofs.Takeovers.{by_log, of_log_out}
 use Rattle.index_tie.specs.Net.{Net}
-use Rattle.index_tie.specs.Takeovers.{of_log, IsEnd}
+use Rattle.index_tie.specs.Takeovers.{IsEnd}
+use Rattle.headline.specs.Indexes.{of_log}
 use Rattle.log_protocol.specs.Tables as tables
 use Rattle.node_slots.specs.node_index_tie.Sight.{Questions, CheckKnown, DeadKnown, DeltasKnown, EndKnown, ManagerSends, ReportKnown}
 use Rattle.segment_format.specs.declared.segment.Segment.{Segment}

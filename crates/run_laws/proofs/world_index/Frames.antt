@@ -9,12 +9,13 @@ use Rattle.core_world.specs.declared.any_node.AnyNode.{AnyNode}
 use Rattle.index_tie.specs.Growth.{IsMore}
 use Rattle.index_tie.specs.Net.{Net, Packet as Said, Runs, opening}
 use Rattle.index_tie.specs.Net.Runs.{Begun}
-use Rattle.index_tie.specs.Takeovers.{of_log}
+use Rattle.headline.specs.Indexes.{of_log}
 use Rattle.log_protocol.specs.Tables as tables
 use Rattle.manager_slots.specs.declared.slot_phase.SlotPhase.{SlotPhase}
 use Rattle.node_slots.specs.node_index_tie.ManagerEvents.{Passes}
 use Rattle.node_slots.specs.node_index_tie.RegistryEvents.{RegistryAgrees}
-use Rattle.node_slots.specs.node_index_tie.Sight.{Texts, held_in}
+use Rattle.node_slots.specs.node_index_tie.Sight.{held_in}
+use Rattle.headline.specs.Filed.{Texts}
 use Rattle.node_slots.specs.node_tie.ManagerEvents.{HeldAt}
 use Rattle.node_slots.proofs.owner_index_tie.Frames.{more_itself}
 use Rattle.node_slots.specs.owner_index_tie.CleanerEvents.{PhaseAgrees}

@@ -19,8 +19,10 @@ use Rattle.manager_slots.specs.declared.slot_phase.SlotPhase.{SlotPhase}
 use Rattle.node_base.specs.declared.questions.Questions.{Questions as Asker}
 use Rattle.node_slots.specs.node_index_tie.ManagerEvents.{AllNewsGets, DeltasGets, EventGets, ReportGets, ServingGets, WaitingGets}
 use Rattle.node_slots.specs.node_index_tie.RegistryEvents.{BodyGets as RegistryBodyGets, DoGets, RegistryOwed}
-use Rattle.node_slots.specs.node_index_tie.Sight.{CheckKnown, CkptSeen, DeadKnown, Questions, Texts, held_in}
-use Rattle.node_slots.specs.node_tie.ManagerEvents.{epoch_in, phase_at}
+use Rattle.node_slots.specs.node_index_tie.Sight.{CheckKnown, CkptSeen, DeadKnown, Questions, held_in}
+use Rattle.headline.specs.Filed.{Texts}
+use Rattle.node_slots.specs.node_tie.ManagerEvents.{epoch_in}
+use Rattle.headline.specs.Managers.{phase_at}
 use Rattle.node_slots.specs.owner_index_tie.CleanerEvents.{DeadGiven, JobAgrees, PhaseAgrees}
 use Rattle.node_slots.specs.owner_index_tie.CleanerEvents as cleaners
 use Rattle.node_slots.specs.owner_index_tie.CleanerMoves.{BodyAnswers}

@@ -12,7 +12,7 @@ use Rattle.index_tie.specs.Net.Happens.{ClientFiles, CleanerFiles, GetsDeltas, G
 use Rattle.index_tie.specs.Net.Packet.{CheckpointDone}
 use Rattle.index_tie.specs.Net.Runs.{Begun, On}
 use Rattle.index_tie.specs.NetLaws.{Moment}
-use Rattle.index_tie.specs.Takeovers.{of_log}
+use Rattle.headline.specs.Indexes.{of_log}
 use Rattle.log_protocol.proofs.IndexInduction.{index_in_bounds_always}
 use Rattle.log_protocol.specs.Tables.{In}
 use Rattle.segment_format.specs.declared.segment.Segment.{Segment}

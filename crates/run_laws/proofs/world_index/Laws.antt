@@ -5,7 +5,7 @@ use Rattle.core_world.specs.AnyNode.{any_start, any_step}
 use Rattle.core_world.specs.declared.any_node.AnyNode.{AnyNode}
 use Rattle.core_world.specs.declared.any_node.AnyNode.TheVariants as any
 use Rattle.index_tie.specs.NetLaws.{EachIndexIsTheJoin, ManagersCoverTheirHorizon, NewestIsNeverDeleted}
-use Rattle.index_tie.specs.Takeovers.{of_log}
+use Rattle.headline.specs.Indexes.{KeepsBy, WasDeleted, epoch_in, of_log}
 use Rattle.log_protocol.specs.Tables as tables
 use Rattle.manager_node.specs.declared.phase.Phase.{Phase as ManagerPhase}
 use Rattle.manager_node.specs.declared.phase.Phase.TheVariants as managing
@@ -13,9 +13,10 @@ use Rattle.manager_slots.specs.declared.slot_phase.SlotPhase.{SlotPhase}
 use Rattle.manager_slots.specs.declared.slot_phase.SlotPhase.TheVariants as phase
 use Rattle.node_slots.specs.node_index_tie.ManagerEvents.{ManagerAgrees, PhaseAgrees}
 use Rattle.node_slots.specs.node_index_tie.Pages.{Desk, desk_of}
-use Rattle.node_slots.specs.node_index_tie.Sight.{Texts, held_in}
-use Rattle.node_slots.specs.node_tie.ManagerEvents.{phase_at, slot_in}
-use Rattle.node_slots.specs.node_tie.RegistryEvents.{RegistrySound, epoch_in}
+use Rattle.node_slots.specs.node_index_tie.Sight.{held_in}
+use Rattle.headline.specs.Filed.{Texts}
+use Rattle.headline.specs.Managers.{active_in, active_of, phase_at, slot_in}
+use Rattle.node_slots.specs.node_tie.RegistryEvents.{RegistrySound}
 use Rattle.registry.specs.Checkpoints.{horizon_at}
 use Rattle.registry_node.specs.declared.node.RegistryNode.{RegistryNode}
 use Rattle.segment_format.specs.declared.segment.Segment.{Segment}
@@ -35,7 +36,7 @@ use Rattle.run_laws.proofs.world_index.Start.{start_scene, start_stands}
 use Rattle.run_laws.proofs.world_index.Tokens.{Entered, entered_starts, entered_stays, tokens_give}
 use Rattle.run_laws.specs.world_index.NodeLaws.{NodeLaws}
 use Rattle.run_laws.proofs.world_index.Turns.{event_turns}
-use Rattle.run_laws.specs.world_index.Laws.{EveryRunKeepsIndexes, KeepsBy, WasDeleted}
+use Rattle.run_laws.specs.world_index.Laws.{EveryRunKeepsIndexes}
 use Rattle.run_laws.specs.world_index.Owes.{IndexOwes}
 use Rattle.run_laws.specs.world_index.Standing.{Scene, SentBy, Stands}
 use Rattle.run_laws.proofs.world_law.Laws as tokens
@@ -45,8 +46,7 @@ use Rattle.run_laws.specs.world_law.Standing.{Scene as TokenScene, Stands as Tok
 use Rattle.run_laws.proofs.world_law.Start.{start_stands as token_start}
 use Rattle.run_laws.proofs.world_law.Turning.{next_cluster}
 use Rattle.run_laws.proofs.world_law.Turns.{delivered_fact, event_turns as token_turns}
-use Rattle.run_laws.specs.world_law.Managers.{active_in, active_of}
-use Rattle.run_laws.specs.world_law.Owners.{moment, node_in}
+use Rattle.headline.specs.Moments.{moment, node_in}
 use Rattle.xfs_base.specs.declared.block.BlockId.{BlockId}
 use Rattle.xfs_base.specs.declared.node.NodeId.TheVariants.{Cleaner, Manager, Registry}
 use Rattle.xfs_base.specs.declared.segment.SegName.{SegName}

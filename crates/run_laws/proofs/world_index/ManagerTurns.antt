@@ -2,7 +2,7 @@
 use Rattle.std.proofs.Common.{◌≡◌, ⊎_elim, ℕ, ◌≤◌, ◌<◌, List, ◌++◌, Some, map, slice_get, slice_set, refl, sym, ap, subst}
 use Rattle.core_world.specs.declared.any_node.AnyNode.{AnyNode}
 use Rattle.core_world.specs.declared.any_node.AnyNode.TheVariants as any
-use Rattle.index_tie.specs.Filed.{Filed}
+use Rattle.headline.specs.Filed.{AreTexts, Filed, Texts}
 use Rattle.index_tie.specs.Growth.{IsMore}
 use Rattle.index_tie.specs.Net.{Net, opening}
 use Rattle.log_protocol.specs.Tables as tables
@@ -11,8 +11,8 @@ use Rattle.manager_node.specs.Phases.{Went_to, lasting_of}
 use Rattle.node_base.specs.Effects.{packets_of}
 use Rattle.node_slots.proofs.node_index_tie.Moves.{runs_through}
 use Rattle.node_slots.specs.node_index_tie.ManagerEvents.{ManagerAgrees, ManagerGoes, ManagersStay}
-use Rattle.node_slots.specs.node_index_tie.Sight.{AreTexts, ManagerDoes, Texts}
-use Rattle.node_slots.specs.node_tie.ManagerEvents.{slot_in}
+use Rattle.node_slots.specs.node_index_tie.Sight.{ManagerDoes}
+use Rattle.headline.specs.Managers.{slot_in}
 use Rattle.node_slots.proofs.owner_index_tie.Frames.{more_itself}
 use Rattle.node_slots.specs.owner_index_tie.CleanerEvents.{CleanerStays}
 use Rattle.node_slots.specs.owner_index_tie.ClientEvents.{ClientsStay}

@@ -17,7 +17,7 @@ use Rattle.run_laws.specs.world_index.Standing.{Placed, Scene, members}
 use Rattle.run_laws.proofs.world_law.ClientTurns.{number}
 use Rattle.run_laws.proofs.world_law.Nodes.{here, there}
 use Rattle.run_laws.proofs.world_law.OtherTurns.{equal_or_not}
-use Rattle.run_laws.specs.world_law.Owners.{node_in}
+use Rattle.headline.specs.Moments.{node_in}
 use Rattle.xfs_base.specs.declared.node.NodeId.{NodeId}
 use Rattle.xfs_base.specs.declared.node.NodeId.TheVariants.{Client, Manager, Server, Cleaner, Registry}
 

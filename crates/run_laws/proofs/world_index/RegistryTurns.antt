@@ -3,7 +3,7 @@ use Rattle.std.proofs.Common.{◌≡◌, ⊎_elim, ℕ, ◌≤◌, ◌<◌, List
 use Rattle.std.specs.Prelude.{All}
 use Rattle.core_world.specs.declared.any_node.AnyNode.{AnyNode}
 use Rattle.core_world.specs.declared.any_node.AnyNode.TheVariants as any
-use Rattle.index_tie.specs.Filed.{Filed}
+use Rattle.headline.specs.Filed.{AreTexts, Filed, Texts}
 use Rattle.index_tie.specs.Net.{Net, Packet as Said, opening}
 use Rattle.log_protocol.specs.Tables as tables
 use Rattle.manager_node.specs.declared.phase.Phase.{Phase as ManagerPhase}
@@ -16,8 +16,8 @@ use Rattle.node_slots.proofs.node_index_tie.Moves.{runs_through, some_none}
 use Rattle.node_slots.specs.node_index_tie.ManagerEvents.{ManagerAgrees, ManagersStay, Passes, PhaseAgrees}
 use Rattle.node_slots.specs.node_index_tie.Pages.{Desk, desk_of}
 use Rattle.node_slots.specs.node_index_tie.RegistryEvents.{NewsTold, RegistryGoes}
-use Rattle.node_slots.specs.node_index_tie.Sight.{AreTexts, Texts}
-use Rattle.node_slots.specs.node_tie.ManagerEvents.{HeldAt, phase_at, slot_in}
+use Rattle.node_slots.specs.node_tie.ManagerEvents.{HeldAt}
+use Rattle.headline.specs.Managers.{phase_at, slot_in}
 use Rattle.node_slots.specs.node_tie.RegistryEvents.{NewsAre, RegistrySends, RegistrySound}
 use Rattle.node_slots.specs.node_tie.RegistryEvents as maps
 use Rattle.node_slots.specs.owner_index_tie.CleanerEvents.{CleanerStays}

@@ -8,7 +8,7 @@ use Rattle.index_tie.specs.Net.Runs.{Begun}
 use Rattle.manager_node.specs.Events.{first_manager}
 use Rattle.node_slots.specs.node_index_tie.ManagerEvents.{FirstManagerAgrees}
 use Rattle.node_slots.specs.node_index_tie.RegistryEvents.{RegistryStarts}
-use Rattle.node_slots.specs.node_index_tie.Sight.{Texts}
+use Rattle.headline.specs.Filed.{Texts}
 use Rattle.node_slots.specs.node_tie.RegistryEvents.{RegistryBegins, RegistrySound}
 use Rattle.node_slots.specs.owner_index_tie.CleanerEvents.{CleanerStartAgrees}
 use Rattle.node_slots.specs.owner_index_tie.ClientEvents.{FirstClientAgrees}

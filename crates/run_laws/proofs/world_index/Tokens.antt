@@ -13,7 +13,8 @@ use Rattle.manager_node.specs.Phases.{lasting_of}
 use Rattle.manager_slots.specs.declared.lasting.Lasting.{Lasting as Kept}
 use Rattle.manager_serving.specs.declared.serving.Serving.{Serving}
 use Rattle.node_slots.proofs.node_index_tie.Moves.{some_none}
-use Rattle.node_slots.specs.node_tie.ManagerEvents.{HeldAt, NamedBy, NamedIn, Names, epoch_in, is_serving, slot_in}
+use Rattle.node_slots.specs.node_tie.ManagerEvents.{HeldAt, NamedBy, NamedIn, Names, epoch_in, is_serving}
+use Rattle.headline.specs.Managers.{slot_in}
 use Rattle.node_slots.specs.node_tie.RegistryEvents.{RegistrySound}
 use Rattle.segment_format.specs.declared.segment.Segment.{Segment}
 use Rattle.token_manager.specs.SlotState.{SlotState}
@@ -35,7 +36,7 @@ use Rattle.run_laws.proofs.world_law.RegistryTurns.{held_known}
 use Rattle.run_laws.specs.world_law.Standing as tokens
 use Rattle.run_laws.proofs.world_law.Places.{behind}
 use Rattle.run_laws.proofs.world_law.Turns.{Since, one_node}
-use Rattle.run_laws.specs.world_law.Owners.{node_in}
+use Rattle.headline.specs.Moments.{node_in}
 use Rattle.xfs_base.specs.declared.news.SlotNews.{SlotNews}
 use Rattle.xfs_base.specs.declared.node.NodeId.{NodeId}
 use Rattle.xfs_base.specs.declared.node.NodeId.TheVariants.{Client, Manager, Server, Cleaner, Registry}

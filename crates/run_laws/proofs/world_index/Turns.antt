@@ -11,7 +11,7 @@ use Rattle.manager_node.specs.Events.{happens}
 use Rattle.node_slots.proofs.node_index_tie.Moves.{some_none}
 use Rattle.node_slots.specs.node_index_tie.ManagerEvents.{ManagerGoes}
 use Rattle.node_slots.specs.node_index_tie.RegistryEvents.{RegistryGoes}
-use Rattle.node_slots.specs.node_index_tie.Sight.{Texts}
+use Rattle.headline.specs.Filed.{Texts}
 use Rattle.node_slots.specs.node_tie.ManagerEvents.{epoch_in, is_serving}
 use Rattle.node_slots.specs.node_tie.RegistryEvents.{RegistrySound}
 use Rattle.node_slots.specs.node_tie.RegistryEvents as maps
@@ -54,7 +54,7 @@ use Rattle.run_laws.proofs.world_law.Places.{Behind, behind}
 use Rattle.run_laws.proofs.world_law.Sent.{was_sent}
 use Rattle.run_laws.proofs.world_law.Turning.{next_keeps}
 use Rattle.run_laws.proofs.world_law.Turns.{one_node}
-use Rattle.run_laws.specs.world_law.Owners.{node_in}
+use Rattle.headline.specs.Moments.{node_in}
 use Rattle.xfs_base.specs.declared.node.NodeId.{NodeId}
 use Rattle.xfs_base.specs.declared.node.NodeId.TheVariants.{Client, Manager, Server, Cleaner, Registry}
 use Rattle.xfs_base.specs.Limits.{slot_count}

@@ -35,7 +35,7 @@ use Rattle.run_laws.proofs.world_law.Frames.{client_frame, runs_on, stands_frame
 use Rattle.run_laws.proofs.world_law.Nodes.{here, there}
 use Rattle.run_laws.proofs.world_law.Sent.{in_append, sends}
 use Rattle.run_laws.specs.world_law.Standing.{Fact, ManagerSees, Placed, Scene, Stands, epoch_now, life_of_client, members}
-use Rattle.run_laws.specs.world_law.Owners.{node_in}
+use Rattle.headline.specs.Moments.{node_in}
 use Rattle.xfs_base.specs.declared.node.NodeId.{NodeId}
 use Rattle.xfs_base.specs.declared.node.NodeId.TheVariants.{Client, Manager, Server, Cleaner, Registry}
 

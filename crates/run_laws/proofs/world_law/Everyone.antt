@@ -5,7 +5,7 @@ use Rattle.std.proofs.lemmas.Bool.{eqb-true}
 use Rattle.core_world.specs.declared.any_node.AnyNode.{AnyNode}
 use Rattle.run_laws.proofs.world_law.Nodes.{get_set_other, get_set_same}
 use Rattle.run_laws.proofs.world_law.Places.{one_name}
-use Rattle.run_laws.specs.world_law.Owners.{node_in}
+use Rattle.headline.specs.Moments.{node_in}
 use Rattle.world_base.specs.Cluster.{place_of}
 use Rattle.world_base.specs.declared.cluster.Cluster.{Cluster}
 use Rattle.xfs_base.specs.declared.node.NodeId.{NodeId}

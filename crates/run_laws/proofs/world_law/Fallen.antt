@@ -1,7 +1,7 @@
 -- While a client that fell with a block isn't back, no client holds the block: so it is in the small world, in which its tokens have the block dirty. And falls
 -- are apart, since its acts are those of the run.
 use Rattle.std.proofs.Common.{◌≡◌, ℕ, ◌<◌, false, subst, arith}
-use Rattle.act_tie.specs.Shown.{FallsApart}
+use Rattle.version_model.specs.Falls.{FallsApart}
 use Rattle.token_client.specs.State.{TokensState, held_of}
 use Rattle.node_slots.proofs.node_tie.SmallWorld.{with_promise}
 use Rattle.token_law.specs.Laws.{FallsAreApart, NobodyHoldsAfterFall}
@@ -12,8 +12,9 @@ use Rattle.run_laws.proofs.world_law.WaitingFalls.{WaitsDirty}
 use Rattle.run_laws.proofs.world_law.Laws.{GoodWorld, NodeLaws, front, slot_scene, slot_serves, slot_stands}
 use Rattle.run_laws.proofs.world_law.RegistryTurns.{slot_below}
 use Rattle.run_laws.specs.world_law.Standing.{members}
-use Rattle.run_laws.specs.world_law.Fallen.{EveryRunHasFallsApart, NobodyHolds, NobodyHoldsWhatFell}
-use Rattle.run_laws.specs.world_law.Owners.{moment}
+use Rattle.run_laws.specs.world_law.Fallen.{EveryRunHasFallsApart, NobodyHoldsWhatFell}
+use Rattle.headline.specs.Falls.{NobodyHolds}
+use Rattle.headline.specs.Moments.{moment}
 use Rattle.core_world.specs.declared.any_node.AnyNode.{AnyNode}
 use Rattle.xfs_base.specs.Blocks.{slot_of}
 use Rattle.xfs_base.specs.Modes.{is_held}

@@ -5,7 +5,7 @@ use Rattle.core_world.specs.declared.any_node.AnyNode.{AnyNode}
 use Rattle.node_base.specs.Setups.{IsSetup}
 use Rattle.node_slots.specs.node_tie.RegistryEvents.{RegistrySound}
 use Rattle.run_laws.proofs.world_law.Laws.{NodeLaws, front}
-use Rattle.run_laws.specs.world_law.Owners.{moment}
+use Rattle.headline.specs.Moments.{moment}
 use Rattle.run_laws.specs.world_law.Standing.{Scene, Stands}
 use Rattle.world_base.specs.Cluster.{cluster_of}
 use Rattle.world_base.specs.declared.estate.Estate.{Estate}

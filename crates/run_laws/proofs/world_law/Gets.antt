@@ -10,7 +10,8 @@ use Rattle.manager_slots.specs.Takeovers.{report_input}
 use Rattle.manager_serving.specs.declared.serving.Serving.{Serving}
 use Rattle.node_slots.specs.node_tie.CleanerEvents.{CleanerGets, NewsLow}
 use Rattle.node_slots.specs.node_tie.ClientEvents.{ClientGets, GetsBody, NewsWithin, ReadsSo}
-use Rattle.node_slots.specs.node_tie.ManagerEvents.{AbsentGets, AllNewsGets, DeltasGets, FoundGets, GaveGets, LastReportGets, ManagerGets, ReportGets, ServingGets, TakeoverGets, WaitingGets, WantGets, epoch_in, slot_in}
+use Rattle.node_slots.specs.node_tie.ManagerEvents.{AbsentGets, AllNewsGets, DeltasGets, FoundGets, GaveGets, LastReportGets, ManagerGets, ReportGets, ServingGets, TakeoverGets, WaitingGets, WantGets, epoch_in}
+use Rattle.headline.specs.Managers.{slot_in}
 use Rattle.node_slots.specs.node_tie.Sight.{ForwardSeen, GrantSeen, PollSeen, RecallSeen, SupplySeen}
 use Rattle.takeover.specs.declared.input.In.{In as Input}
 use Rattle.token_manager.specs.SlotState.{SlotState}

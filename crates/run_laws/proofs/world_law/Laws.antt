@@ -28,7 +28,9 @@ use Rattle.run_laws.proofs.world_law.Start.{start_scene, start_stands}
 use Rattle.run_laws.proofs.world_law.Turning.{next_cluster}
 use Rattle.run_laws.proofs.world_law.Turns.{event_turns}
 pub use Rattle.run_laws.proofs.world_law.Turns.{NodeLaws, one_node}
-use Rattle.run_laws.specs.world_law.Owners.{EveryRunHasOneOwner, HasOneOwner, moment, node_in, tokens_in, tokens_of}
+use Rattle.run_laws.specs.world_law.Owners.{EveryRunHasOneOwner}
+use Rattle.headline.specs.Owners.{HasOneOwner, tokens_in, tokens_of}
+use Rattle.headline.specs.Moments.{moment, node_in}
 use Rattle.xfs_base.specs.Blocks.{slot_of}
 use Rattle.xfs_base.specs.declared.block.BlockId.{BlockId}
 use Rattle.xfs_base.specs.declared.node.NodeId.TheVariants.{Client}

@@ -1,8 +1,8 @@
 -- No slot of the small world leaves it: at an epoch at which there is a manager there is one from then on. And what it has stays, where nobody manages it.
 use Rattle.std.proofs.Common.{◌≡◌, ◌⊎◌, ℕ, Bool, List, Some, None}
 use Rattle.core_world.specs.declared.any_node.AnyNode.{AnyNode}
-use Rattle.run_laws.specs.world_law.Managers.{active_of}
-use Rattle.run_laws.specs.world_law.Owners.{node_in}
+use Rattle.headline.specs.Managers.{active_of}
+use Rattle.headline.specs.Moments.{node_in}
 use Rattle.token_law.specs.Net.{Net, Happens, Runs}
 use Rattle.token_law.specs.Net.Happens.{Acts, Elsewhere, Reports, GetsCopy, GetsOwn, Declines, GetsRecall, GetsForward, GetsSupply, Fetches, Reads, Syncs, Seals, Files, GetsDeltas, GetsWant, GetsGave, Ticks, Crashes, Returns, SealsCopies, FilesCopies, Reopens, Activates, Says}
 use Rattle.token_law.specs.Net.Runs.{Begun, On}

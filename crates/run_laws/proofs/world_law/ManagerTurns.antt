@@ -14,7 +14,8 @@ use Rattle.node_slots.proofs.node_tie.ManagerFrames.{manager_on}
 use Rattle.node_slots.proofs.node_tie.SmallWorld.{any_promise, premise_by, promised_stays, with_promise}
 use Rattle.node_slots.specs.node_tie.CleanerEvents.{CleanerStands, CleanerWelcomed}
 use Rattle.node_slots.specs.node_tie.CleanerLogs.{CleanerCopies}
-use Rattle.node_slots.specs.node_tie.ManagerEvents.{HeldAt, ManagedAt, ManagerAgrees, ManagerGoes, NamedBy, NamedIn, Names, TakingAt, epoch_in, is_serving, is_waiting, slot_in}
+use Rattle.node_slots.specs.node_tie.ManagerEvents.{HeldAt, ManagedAt, ManagerAgrees, ManagerGoes, NamedBy, NamedIn, Names, TakingAt, epoch_in, is_serving, is_waiting}
+use Rattle.headline.specs.Managers.{active_in, active_of, slot_in}
 use Rattle.node_slots.specs.node_tie.Sight.{ManagerDoes, ManagerSends}
 use Rattle.registry_node.specs.declared.node.RegistryNode.{RegistryNode}
 use Rattle.token_client.specs.State.{TokensState}
@@ -41,8 +42,7 @@ use Rattle.run_laws.proofs.world_law.Leaving.{SlotsGo}
 use Rattle.run_laws.proofs.world_law.Nodes.{here, there}
 use Rattle.run_laws.proofs.world_law.Sent.{in_append, sends}
 use Rattle.run_laws.specs.world_law.Standing.{AllTold, Been, Fact, ManagerSees, ManagerWelcomed, PastAt, Placed, Scene, SentBy, Stands, Welcomed, epoch_now, life_of_manager, life_told, members}
-use Rattle.run_laws.specs.world_law.Managers.{active_in, active_of}
-use Rattle.run_laws.specs.world_law.Owners.{node_in}
+use Rattle.headline.specs.Moments.{node_in}
 use Rattle.xfs_base.specs.declared.news.SlotNews.{SlotNews}
 use Rattle.xfs_base.specs.declared.node.NodeId.{NodeId}
 use Rattle.xfs_base.specs.declared.node.NodeId.TheVariants.{Client, Manager, Server, Cleaner, Registry}

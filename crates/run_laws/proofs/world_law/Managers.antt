@@ -10,7 +10,8 @@ use Rattle.manager_slots.specs.declared.slot_phase.SlotPhase.TheVariants as phas
 use Rattle.log_owner.specs.declared.promised.Promised.{Promised}
 use Rattle.node_base.specs.Setups.{IsSetup}
 use Rattle.node_slots.specs.node_tie.CleanerEvents.{CleanerStands}
-use Rattle.node_slots.specs.node_tie.ManagerEvents.{HeldAt, PhaseAgrees, SameButPages, phase_at, slot_in}
+use Rattle.node_slots.specs.node_tie.ManagerEvents.{HeldAt, PhaseAgrees, SameButPages}
+use Rattle.headline.specs.Managers.{HasOneManager, active_at, active_in, active_of, epoch_at, epoch_by, phase_at, promised_in, promised_of, slot_in}
 use Rattle.node_slots.specs.node_tie.RegistryEvents.{RegistrySound}
 use Rattle.node_slots.specs.node_tie.Sight.{GrantSeen}
 use Rattle.cleaner_node.specs.declared.cleaner.Phase.{Phase as CleanerPhase}
@@ -22,7 +23,7 @@ use Rattle.slot_beliefs.specs.Beliefs.{share_of}
 use Rattle.token_law.specs.Laws.{ActiveEpochsPromised, GrantsBelieved, HoldingsBelieved, Reigns}
 use Rattle.token_manager.specs.SlotState.{SlotState}
 use Rattle.token_protocol.specs.Basics.{In}
-use Rattle.token_tie.specs.Seen.{mode_number}
+use Rattle.xfs_base.specs.Modes.{mode_number}
 use Rattle.version_model.specs.declared.act.Act.{Act}
 use Rattle.wire_msg.specs.declared.body.Body.{Body}
 use Rattle.wire_msg.specs.declared.body.Body.TheVariants as body
@@ -39,8 +40,9 @@ use Rattle.run_laws.proofs.world_law.Places.{behind}
 use Rattle.run_laws.proofs.world_law.RegistryTurns.{held_known}
 use Rattle.run_laws.proofs.world_law.Sent.{was_sent}
 use Rattle.run_laws.specs.world_law.Standing.{ManagerSees, Scene, SentBy, Stands, epoch_now, members}
-use Rattle.run_laws.specs.world_law.Managers.{EveryRunHasOneManager, HasOneManager, active_at, active_in, active_of, epoch_at, epoch_by, promised_in, promised_of}
-use Rattle.run_laws.specs.world_law.Owners.{moment, node_in, tokens_at, tokens_of}
+use Rattle.run_laws.specs.world_law.Managers.{EveryRunHasOneManager}
+use Rattle.headline.specs.Moments.{moment, node_in}
+use Rattle.headline.specs.Owners.{tokens_at, tokens_of}
 use Rattle.xfs_base.specs.declared.block.BlockId.{BlockId}
 use Rattle.xfs_base.specs.declared.node.NodeId.{NodeId}
 use Rattle.xfs_base.specs.declared.node.NodeId.TheVariants.{Client, Cleaner, Manager, Registry}

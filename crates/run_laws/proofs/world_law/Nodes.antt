@@ -5,7 +5,7 @@ pub use Rattle.world_base.proofs.Lists.{get_set_other, get_set_same}
 use Rattle.world_base.specs.Cluster.{place_of}
 use Rattle.world_base.specs.declared.cluster.Cluster.{Cluster}
 use Rattle.run_laws.proofs.world_law.Places.{one_name}
-use Rattle.run_laws.specs.world_law.Owners.{node_in}
+use Rattle.headline.specs.Moments.{node_in}
 use Rattle.xfs_base.specs.declared.node.NodeId.{NodeId}
 
 module _ (k : Cluster) (nodes : List AnyNode) (name : NodeId) (p : ℕ) (at : place_of k name ≡ Some p) (x : AnyNode) where

@@ -40,7 +40,7 @@ use Rattle.run_laws.proofs.world_law.Frames.{client_frame, runs_on, stands_frame
 use Rattle.run_laws.proofs.world_law.Nodes.{here, there}
 use Rattle.run_laws.proofs.world_law.Sent.{at_clock, in_append, sends}
 use Rattle.run_laws.specs.world_law.Standing.{Fact, ManagerSees, Placed, Scene, SentBy, Stands, epoch_now, members}
-use Rattle.run_laws.specs.world_law.Owners.{node_in}
+use Rattle.headline.specs.Moments.{node_in}
 use Rattle.xfs_base.specs.declared.news.SlotNews.{SlotNews}
 use Rattle.xfs_base.specs.declared.node.NodeId.{NodeId}
 use Rattle.xfs_base.specs.declared.node.NodeId.TheVariants.{Client, Manager, Server, Cleaner, Registry}

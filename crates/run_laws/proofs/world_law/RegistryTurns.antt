@@ -11,8 +11,10 @@ use Rattle.manager_slots.specs.declared.slot_phase.SlotPhase.TheVariants as phas
 use Rattle.manager_slots.specs.Slots.{epoch_of as slot_epoch}
 use Rattle.node_slots.specs.node_tie.CleanerEvents.{CleanerStands, CleanerWelcomed}
 use Rattle.node_slots.specs.node_tie.ClientEvents.{WelcomeRises}
-use Rattle.node_slots.specs.node_tie.ManagerEvents.{HeldAt, slot_in}
-use Rattle.node_slots.specs.node_tie.RegistryEvents.{HearsHello, NewsAre, RegistryGoes, RegistrySends, RegistrySound, Welcomes, epoch_in, inc_in, manager_in}
+use Rattle.node_slots.specs.node_tie.ManagerEvents.{HeldAt}
+use Rattle.headline.specs.Managers.{slot_in}
+use Rattle.node_slots.specs.node_tie.RegistryEvents.{HearsHello, NewsAre, RegistryGoes, RegistrySends, RegistrySound, Welcomes, inc_in, manager_in}
+use Rattle.headline.specs.Indexes.{epoch_in}
 use Rattle.cleaner_node.specs.declared.cleaner.Phase.{Phase as CleanerPhase}
 use Rattle.cleaner_node.specs.declared.cleaner.Phase.TheVariants as cleaners
 use Rattle.registry_node.specs.declared.node.RegistryNode.{RegistryNode}

@@ -36,9 +36,9 @@ use Rattle.world_base.specs.Items.{items_of}
 use Rattle.world_base.specs.NextWorld.{first_node, first_nodes}
 use Rattle.run_laws.proofs.world_law.Leaving.{ManagedIn}
 use Rattle.run_laws.proofs.world_law.Places.{behind, node_at_place, some_place}
-use Rattle.run_laws.specs.world_law.Managers.{active_in, active_of}
+use Rattle.headline.specs.Managers.{active_in, active_of}
 use Rattle.run_laws.specs.world_law.Standing.{ManagerSees, Placed, PastAt, Scene, Stands, epoch_now, manager_now, members}
-use Rattle.run_laws.specs.world_law.Owners.{node_in}
+use Rattle.headline.specs.Moments.{node_in}
 use Rattle.version_model.specs.declared.work.Work.{Work}
 use Rattle.xfs_base.specs.declared.setup.Setup.{Setup}
 use Rattle.xfs_base.specs.declared.node.NodeId.{NodeId}

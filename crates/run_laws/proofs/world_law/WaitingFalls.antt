@@ -25,7 +25,7 @@ use Rattle.version_model.specs.History.{History, is_by_other, nothing_yet}
 use Rattle.version_model.proofs.Onward.{history_through}
 use Rattle.run_laws.proofs.world_law.OtherTurns.{equal_or_not}
 use Rattle.run_laws.proofs.world_law.Sent.{in_append}
-use Rattle.run_laws.specs.world_law.Fallen.{Names}
+use Rattle.headline.specs.Falls.{Names}
 use Rattle.xfs_base.proofs.Booleans.{by_test, contrary, equal_itself}
 use Rattle.xfs_base.specs.declared.block.BlockId.{BlockId}
 use Rattle.xfs_base.specs.declared.node.NodeId.{NodeId}

@@ -33,7 +33,7 @@ use Rattle.log_protocol.specs.Tables.{In}
 use Rattle.log_tie.specs.Seen.{log_filed}
 use Rattle.log_tie.specs.Setting.{Setting}
 use Rattle.node_base.specs.declared.effects.Effect.{Effect}
-use Rattle.node_slots.specs.node_index_tie.Sight.{Texts}
+use Rattle.headline.specs.Filed.{Texts}
 use Rattle.node_slots.proofs.owner_index_tie.Acting.{all_then}
 use Rattle.node_slots.specs.owner_index_tie.Acting.{CleanerFilesFlights, ClientsFileFlights, IsFlight, MayLand}
 use Rattle.segment_format.specs.declared.segment.Segment.{Segment}

@@ -1,14 +1,14 @@
 -- Lines are filed as the index wants it: of what flew of a log each is written, and filed names stand in one line.
 use Rattle.std.proofs.Common.{◌≡◌, ◌<◌, ◌≤◌, ◌⊎◌, ◌&&◌, ℕ, suc, nat_lt, nat_le, Bool, true, false, cond, [], inl, inr, refl, sym, ap, ◌∙◌, arith}
 use Rattle.std.proofs.lemmas.Bool.Decides.{nat_tests}
-use Rattle.index_tie.specs.Filed.{Filed, IsSegment, rows_at}
+use Rattle.headline.specs.Filed.{Filed, IsSegment, Texts, rows_at}
 use Rattle.index_tie.specs.Takeovers.{IsEnd, Linked}
 use Rattle.log_law.specs.Laws.{LogsStayInLine, OneLine}
 use Rattle.log_law.specs.Net.{Net}
 use Rattle.log_law.specs.Written.{IsOfLog, WhatFlewIsWritten}
 use Rattle.log_protocol.specs.Tables.{In}
 use Rattle.log_tie.specs.Setting.{Setting}
-use Rattle.node_slots.specs.node_index_tie.Sight.{RowsFit, Texts}
+use Rattle.node_slots.specs.node_index_tie.Sight.{RowsFit}
 use Rattle.segment_format.specs.declared.segment.Segment.{Segment}
 use Rattle.segment_format.specs.Rows.{rows_of}
 use Rattle.xfs_base.specs.declared.segment.End.{End}

@@ -15,7 +15,7 @@ use Rattle.client_node.specs.declared.phase.Phase.TheVariants as client
 use Rattle.client_node.specs.declared.phase.Phase.{Phase}
 use Rattle.client_node.specs.Phases as clients
 use Rattle.client_node.specs.Room.{tokens_room}
-use Rattle.index_tie.specs.Filed.{Filed}
+use Rattle.headline.specs.Filed.{Filed, Texts}
 use Rattle.index_tie.specs.Net as index
 use Rattle.log_law.specs.Ends.{EndsAreLast}
 use Rattle.log_law.specs.Laws.{LogsStayWhole}
@@ -33,7 +33,6 @@ use Rattle.node_base.specs.Effects.{acts_of}
 use Rattle.node_base.specs.Room.{has_room}
 use Rattle.node_base.specs.declared.effects.Effect.{Effect}
 use Rattle.node_base.specs.declared.effects.Effect.TheVariants.{Send, Answer, Lose, Does}
-use Rattle.node_slots.specs.node_index_tie.Sight.{Texts}
 use Rattle.node_slots.proofs.owner_index_tie.Acting.{all_then}
 use Rattle.node_slots.specs.owner_index_tie.CleanerEvents as cleaner_index
 use Rattle.node_slots.specs.owner_index_tie.ClientEvents as client_index

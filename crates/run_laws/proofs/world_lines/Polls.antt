@@ -10,10 +10,10 @@ use Rattle.client_log.specs.LogState.{LogState}
 use Rattle.client_node.specs.declared.phase.Phase.TheVariants as client
 use Rattle.index_tie.proofs.Tables.{second_of}
 use Rattle.index_tie.proofs.Takeovers.{of_log_in}
-use Rattle.index_tie.specs.Filed.{Filed}
+use Rattle.headline.specs.Filed.{Filed, Texts}
 use Rattle.index_tie.specs.Growth.{with_segment}
 use Rattle.index_tie.specs.Net.{Net}
-use Rattle.index_tie.specs.Takeovers.{of_log}
+use Rattle.headline.specs.Indexes.{of_log}
 use Rattle.log_flight.specs.Flights.{FlightState}
 use Rattle.log_law.specs.Ends.{IsFlight}
 use Rattle.log_law.specs.Laws.{Moment}
@@ -25,7 +25,6 @@ use Rattle.log_tie.specs.Setting.{Setting}
 use Rattle.node_base.specs.declared.effects.Effect.{Effect}
 use Rattle.node_base.specs.declared.effects.Effect.TheVariants.{Send, Answer, Lose, Does}
 use Rattle.node_slots.specs.node_index_tie.Pages.{FlightIsText}
-use Rattle.node_slots.specs.node_index_tie.Sight.{Texts}
 use Rattle.node_slots.proofs.owner_index_tie.Growing.{head_is, next_files, segment_is}
 use Rattle.node_slots.specs.owner_index_tie.ClientEvents.{BodyGets}
 use Rattle.node_slots.specs.owner_index_tie.Filing.{after_act, after_effect, filed_after, with_name}

@@ -3,7 +3,7 @@ use Rattle.std.proofs.Common.{◌≡◌, ◌<◌, ◌≤◌, ◌==◌, ℕ, suc,
 use Rattle.std.proofs.lemmas.Bool.{eqb-true}
 use Rattle.std.proofs.lemmas.Bool.Decides.{nat_tests}
 use Rattle.client_log.specs.Transition.{has_next}
-use Rattle.index_tie.specs.Filed.{Filed}
+use Rattle.headline.specs.Filed.{Filed, Texts}
 use Rattle.index_tie.specs.Growth.{IsMore, with_segment}
 use Rattle.log_law.proofs.Filing.{Grown, grown}
 use Rattle.log_law.specs.Ends.{EndsAreLast}
@@ -16,7 +16,6 @@ use Rattle.log_protocol.specs.Tables.{In}
 use Rattle.log_tie.specs.Setting.{Setting}
 use Rattle.node_base.specs.declared.effects.Effect.{Effect}
 use Rattle.node_base.specs.declared.effects.Effect.TheVariants.{Send, Answer, Lose, Does}
-use Rattle.node_slots.specs.node_index_tie.Sight.{Texts}
 use Rattle.node_slots.proofs.owner_index_tie.Frames.{more_after}
 use Rattle.node_slots.proofs.owner_index_tie.Growing.{head_is, segment_is}
 use Rattle.node_slots.specs.owner_index_tie.CleanerEvents.{NewFor}

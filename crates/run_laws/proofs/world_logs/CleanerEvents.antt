@@ -26,19 +26,19 @@ use Rattle.world_base.specs.Cluster.{cluster_of, place_of}
 use Rattle.world_base.specs.declared.cluster.Cluster.{Cluster}
 use Rattle.world_base.specs.declared.world.World.{World}
 use Rattle.world_base.specs.NextWorld.{sent_at}
-use Rattle.run_laws.specs.world_law.Owners.{node_in}
+use Rattle.headline.specs.Moments.{node_in}
 use Rattle.run_laws.proofs.world_logs.Fits.{DoFits, PacketFits, StoresBytes, StoresOwn, do_tells, for_cleaner, in_range, stores_bytes}
 use Rattle.run_laws.proofs.world_logs.Holding.{cleaner_owed}
 use Rattle.run_laws.specs.world_logs.Lines.{moment_then}
 use Rattle.run_laws.proofs.world_logs.OwnerTurns.{cleaner_owner_turn}
 use Rattle.run_laws.specs.world_logs.Roles.{asker_by}
-use Rattle.run_laws.specs.world_logs.Roles.Role.{OfCleaner}
+use Rattle.headline.specs.Logs.Role.{OfCleaner}
 use Rattle.run_laws.proofs.world_logs.Room.{cleaner_leaves_room}
 use Rattle.run_laws.proofs.world_logs.Settings.{names_fit}
 use Rattle.run_laws.specs.world_logs.Settings.{setting_of}
 use Rattle.run_laws.specs.world_logs.Standing.{CleanerOwns, Stands}
 use Rattle.run_laws.proofs.world_logs.Turns.{Next, turned}
-use Rattle.run_laws.specs.world_logs.Shelves.{group_at}
+use Rattle.headline.specs.Servers.{group_at}
 use Rattle.run_laws.proofs.world_logs.Owed.{opening_owed}
 use Rattle.run_laws.specs.world_logs.NodeLaws.{NodeLaws}
 use Rattle.xfs_base.specs.declared.node.NodeId.TheVariants.{Cleaner}

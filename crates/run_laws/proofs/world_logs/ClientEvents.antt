@@ -21,7 +21,7 @@ use Rattle.world_base.specs.Cluster.{cluster_of, place_of}
 use Rattle.world_base.specs.declared.cluster.Cluster.{Cluster}
 use Rattle.world_base.specs.declared.world.World.{World}
 use Rattle.world_base.specs.NextWorld.{sent_at}
-use Rattle.run_laws.specs.world_law.Owners.{node_in}
+use Rattle.headline.specs.Moments.{node_in}
 use Rattle.run_laws.proofs.world_logs.Fits.{DoFits, PacketFits, StoresBytes, do_tells, for_client, in_range, own_stores, stores_bytes}
 use Rattle.run_laws.specs.world_logs.NodeLaws.{NodeLaws}
 use Rattle.run_laws.proofs.world_logs.Holding.{client_owed}
@@ -29,7 +29,7 @@ use Rattle.run_laws.specs.world_logs.Lines.{moment_then}
 use Rattle.run_laws.proofs.world_logs.Owed.{in_those, number_is, of_log, phase_owed}
 use Rattle.run_laws.proofs.world_logs.OwnerTurns.{owner_turn}
 use Rattle.run_laws.specs.world_logs.Roles.{asker_by}
-use Rattle.run_laws.specs.world_logs.Roles.Role.{OfClient}
+use Rattle.headline.specs.Logs.Role.{OfClient}
 use Rattle.run_laws.proofs.world_logs.Room.{client_leaves_room}
 use Rattle.run_laws.proofs.world_logs.Says.{OfLog}
 use Rattle.run_laws.proofs.world_logs.Settings.{names_fit}
@@ -37,7 +37,7 @@ use Rattle.run_laws.specs.world_logs.Settings.{setting_of}
 use Rattle.run_laws.specs.world_logs.Standing.{IsRoomy, OwnerSeen, Stands}
 use Rattle.run_laws.proofs.world_logs.Start.{log_small}
 use Rattle.run_laws.proofs.world_logs.Turns.{Next, turned}
-use Rattle.run_laws.specs.world_logs.Shelves.{group_at}
+use Rattle.headline.specs.Servers.{group_at}
 use Rattle.xfs_base.specs.declared.node.NodeId.TheVariants.{Client}
 use Rattle.xfs_base.specs.declared.setup.Setup.{Setup}
 

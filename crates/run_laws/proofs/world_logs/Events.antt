@@ -46,7 +46,7 @@ use Rattle.world_base.specs.NextWorld.{sent_at}
 use Rattle.run_laws.proofs.world_law.Nodes as places
 use Rattle.run_laws.proofs.world_law.OtherTurns.{equal_or_not}
 use Rattle.run_laws.proofs.world_law.Places.{Behind, behind}
-use Rattle.run_laws.specs.world_law.Owners.{node_in}
+use Rattle.headline.specs.Moments.{node_in}
 use Rattle.run_laws.proofs.world_logs.CleanerEvents as cleaner_log_events
 use Rattle.run_laws.proofs.world_logs.ClientEvents as client_log_events
 use Rattle.run_laws.proofs.world_logs.Fits.{DoFits, NodeHolds, PacketFits, cleaner_sends, client_sends, do_carries, in_range, registry_sends, server_sends}
@@ -59,16 +59,16 @@ use Rattle.run_laws.proofs.world_logs.Owed.{sent_from}
 use Rattle.run_laws.proofs.world_logs.OwnerTurns.{idle_turn}
 use Rattle.run_laws.proofs.world_logs.RegistryEvents.{registry_goes}
 use Rattle.run_laws.proofs.world_logs.Roles.{high_log, no_server}
-use Rattle.run_laws.specs.world_logs.Roles.{Role, asker_by, log_by, owner_by}
-use Rattle.run_laws.specs.world_logs.Roles.Role.{OfClient, OfCleaner, OfManager}
+use Rattle.run_laws.specs.world_logs.Roles.{asker_by}
+use Rattle.headline.specs.Logs.{Role, log_by, owner_by, owns}
+use Rattle.headline.specs.Logs.Role.{OfClient, OfCleaner, OfManager}
 use Rattle.run_laws.proofs.world_logs.Says.{MaySay, OfLog, Plain, sent_apart}
 use Rattle.run_laws.proofs.world_logs.Settings.{map_fits}
 use Rattle.run_laws.specs.world_logs.Standing.{CleanerAs, Seen, Stands}
 use Rattle.run_laws.proofs.world_logs.StoreTurns.{cleaner_turn, registry_turn, server_turn}
 use Rattle.run_laws.proofs.world_logs.Turns.{Next, next_so, turned}
-use Rattle.run_laws.specs.world_logs.Doings.{owns}
-use Rattle.run_laws.specs.world_logs.Horizons.{board_of}
-use Rattle.run_laws.specs.world_logs.Shelves.{group_at}
+use Rattle.headline.specs.Horizons.{board_of}
+use Rattle.headline.specs.Servers.{group_at}
 use Rattle.xfs_base.specs.declared.node.NodeId.{NodeId}
 use Rattle.xfs_base.specs.declared.node.NodeId.TheVariants.{Client, Manager, Server, Cleaner, Registry}
 use Rattle.xfs_base.specs.declared.segment.LogId.{LogId}

@@ -35,7 +35,7 @@ use Rattle.run_laws.proofs.world_law.Laws as tokens
 use Rattle.run_laws.proofs.world_law.ManagerTurns.{delivered}
 use Rattle.run_laws.proofs.world_law.Sent.{was_sent}
 use Rattle.run_laws.proofs.world_law.Turning.{next_cluster, next_keeps}
-use Rattle.run_laws.specs.world_law.Owners.{node_in}
+use Rattle.headline.specs.Moments.{node_in}
 use Rattle.run_laws.proofs.world_logs.Events.{node_after}
 use Rattle.run_laws.proofs.world_logs.Goods as logs
 use Rattle.run_laws.proofs.world_logs.Goods.{Good, Known}
@@ -43,12 +43,12 @@ use Rattle.run_laws.specs.world_logs.NodeLaws.{NodeLaws}
 use Rattle.run_laws.proofs.world_logs.Groups.{GroupsStay, StayIn, in_run}
 use Rattle.run_laws.proofs.world_logs.Leading.{LeadsOn}
 use Rattle.run_laws.specs.world_logs.Lines.{GrowsBy, IsLeft, moment_then, PutsBy, StraightBy}
-use Rattle.run_laws.specs.world_logs.Roles.{Role, log_by, owner_by, renews}
+use Rattle.headline.specs.Logs.{Role, acts_by, acts_of, log_by, owner_by, owns, renews}
 use Rattle.run_laws.proofs.world_logs.Says.{may_say}
 use Rattle.run_laws.proofs.world_logs.Settings.{names_at_end}
-use Rattle.run_laws.specs.world_logs.Doings.{acts_by, acts_of, owns}
-use Rattle.run_laws.specs.world_logs.Horizons.{Reached, board_of}
-use Rattle.run_laws.specs.world_logs.Shelves.{group_at, group_in, groups_of}
+use Rattle.headline.specs.Horizons.{Reached, board_of}
+use Rattle.group_map.specs.Groups.{known_group as group_in}
+use Rattle.headline.specs.Servers.{group_at, groups_of}
 use Rattle.xfs_base.specs.declared.node.NodeId.TheVariants.{Registry}
 use Rattle.xfs_base.specs.declared.setup.Setup.{Setup}
 

@@ -19,22 +19,22 @@ use Rattle.world_base.specs.declared.cluster.Cluster.{Cluster}
 use Rattle.world_base.specs.declared.world.World.{World}
 use Rattle.world_base.specs.NextWorld.{sent_at}
 use Rattle.run_laws.proofs.world_law.Sent.{at_clock, in_append, in_get}
-use Rattle.run_laws.specs.world_law.Owners.{node_in}
+use Rattle.headline.specs.Moments.{node_in}
 use Rattle.run_laws.proofs.world_logs.Fits.{AllHold, DoFits, PacketFits}
 use Rattle.run_laws.proofs.world_logs.Leading.{stands_still}
 use Rattle.run_laws.proofs.world_logs.Listing.{AllKeep, has_owner, its_owner}
 use Rattle.run_laws.proofs.world_logs.Lists.{in_after, in_map}
 use Rattle.run_laws.proofs.world_logs.Roles.{managers_log}
-use Rattle.run_laws.specs.world_logs.Roles.{IsThere, Role, log_by, renews}
-use Rattle.run_laws.specs.world_logs.Roles.Role.{OfManager}
+use Rattle.headline.specs.Logs.{IsThere, Role, log_by, renews}
+use Rattle.headline.specs.Logs.Role.{OfManager}
 use Rattle.run_laws.proofs.world_logs.Says.{MaySay}
 use Rattle.run_laws.specs.world_logs.Settings.{setting_of}
 use Rattle.run_laws.proofs.world_logs.Standing.{stands_so}
 use Rattle.run_laws.specs.world_logs.Standing.{Stands}
 use Rattle.run_laws.proofs.world_logs.Turns.{Next, next_so}
-use Rattle.run_laws.specs.world_logs.Horizons.{Reached, board_of}
+use Rattle.headline.specs.Horizons.{Reached, board_of}
 use Rattle.run_laws.specs.world_logs.NodeLaws.{NodeLaws}
-use Rattle.run_laws.specs.world_logs.Shelves.{group_at}
+use Rattle.headline.specs.Servers.{group_at}
 use Rattle.xfs_base.specs.declared.node.NodeId.{NodeId}
 use Rattle.xfs_base.specs.declared.node.NodeId.TheVariants.{Registry}
 use Rattle.xfs_base.specs.declared.segment.LogId.{LogId}

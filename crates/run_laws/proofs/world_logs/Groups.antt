@@ -6,7 +6,7 @@ use Rattle.core_world.specs.declared.any_node.AnyNode.{AnyNode}
 use Rattle.core_world.specs.declared.any_node.AnyNode.TheVariants as any
 use Rattle.group_map.proofs.WellFormedMaps.{IsGroupMap-started}
 use Rattle.group_map.specs.declared.group.Group.{Group}
-use Rattle.group_map.specs.Groups.{group_of}
+use Rattle.group_map.specs.Groups.{known_group as group_in, group_of}
 use Rattle.group_map.specs.GroupMapState.{GroupMapState}
 use Rattle.group_map.specs.Losses.{IsLater, Loss, after_losses}
 use Rattle.group_map.specs.WellFormed.{IsGroupMap}
@@ -29,9 +29,9 @@ use Rattle.world_base.specs.NextWorld.{next_world}
 use Rattle.world_base.specs.Runs.{Leads}
 use Rattle.run_laws.proofs.world_law.Nodes as places
 use Rattle.run_laws.proofs.world_law.Turning.{next_cluster, next_keeps}
-use Rattle.run_laws.specs.world_law.Owners.{node_in, node_named}
-use Rattle.run_laws.specs.world_logs.Horizons.{board_of}
-use Rattle.run_laws.specs.world_logs.Shelves.{group_at, group_in, groups_of}
+use Rattle.headline.specs.Moments.{node_in, node_named}
+use Rattle.headline.specs.Horizons.{board_of}
+use Rattle.headline.specs.Servers.{group_at, groups_of}
 use Rattle.xfs_base.specs.declared.node.NodeId.{NodeId}
 use Rattle.xfs_base.specs.declared.node.NodeId.TheVariants.{Registry}
 use Rattle.xfs_base.specs.declared.setup.Setup.{Setup}

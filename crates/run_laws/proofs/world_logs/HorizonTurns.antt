@@ -38,10 +38,10 @@ use Rattle.run_laws.proofs.world_law.Nodes.{get_set_same}
 use Rattle.run_laws.proofs.world_law.OtherTurns.{equal_or_not}
 use Rattle.run_laws.proofs.world_law.Places.{behind}
 use Rattle.run_laws.specs.world_law.Standing as standing
-use Rattle.run_laws.specs.world_law.Owners.{node_in}
+use Rattle.headline.specs.Moments.{node_in}
 use Rattle.run_laws.proofs.world_logs.Lists.{in_after}
 use Rattle.run_laws.proofs.world_logs.OwnFiling.{NoHorizon, body_lower, cleaner_lower, client_lower, narrow, own_acts, owned, owned_rises, wide, wide_acts, wide_rises}
-use Rattle.run_laws.specs.world_logs.Doings.{owns}
+use Rattle.headline.specs.Logs.{owns}
 use Rattle.xfs_base.specs.declared.node.NodeId.{NodeId}
 use Rattle.xfs_base.specs.declared.node.NodeId.TheVariants.{Client, Manager, Server, Cleaner, Registry}
 use Rattle.xfs_base.proofs.Booleans.{equal_itself}

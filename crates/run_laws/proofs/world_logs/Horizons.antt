@@ -34,10 +34,10 @@ use Rattle.world_base.specs.NextWorld.{first_node, next_world, sent_at, start_wo
 use Rattle.world_base.specs.Runs.{IsRun, Leads, MayHappen}
 use Rattle.run_laws.proofs.world_law.Laws as tokens
 use Rattle.run_laws.proofs.world_law.Turning.{next_cluster, next_keeps}
-use Rattle.run_laws.specs.world_law.Owners.{moment, node_in}
+use Rattle.headline.specs.Moments.{moment, node_in}
 use Rattle.run_laws.proofs.world_logs.OwnFiling.{owned, owned_itself}
-use Rattle.run_laws.specs.world_logs.Doings.{acts_by, acts_of, owns}
-use Rattle.run_laws.specs.world_logs.Horizons.{HorizonsReached, Reached, board_of}
+use Rattle.headline.specs.Logs.{acts_by, acts_of, owns}
+use Rattle.headline.specs.Horizons.{HorizonsReached, Reached, board_of}
 use Rattle.run_laws.proofs.world_logs.HorizonTurns as turns
 use Rattle.run_laws.proofs.world_logs.HorizonTurns.{no_acts}
 use Rattle.run_laws.specs.filed_law.NodeLaws as filed

@@ -8,7 +8,8 @@ use Rattle.fragment_store.specs.ShelfState.{ShelfState}
 use Rattle.group_map.specs.declared.group.Group.{Group}
 use Rattle.group_map.specs.Groups as groups
 use Rattle.log_tie.specs.Exist.{SomeSetting}
-use Rattle.log_tie.specs.Setting.{Setting, server_of}
+use Rattle.log_tie.specs.Setting.{Setting}
+use Rattle.log_flight.specs.Flights.{server_of}
 use Rattle.log_protocol.specs.Tables.{In}
 use Rattle.node_base.specs.Setups.{IsSetup}
 use Rattle.node_logs.specs.node_log_tie.RegistryEvents.{NamesGroups}
@@ -26,7 +27,7 @@ use Rattle.world_base.specs.NextWorld.{next_world, start_world}
 use Rattle.world_base.specs.Runs.{IsRun, Leads}
 use Rattle.run_laws.proofs.world_law.Laws as tokens
 use Rattle.run_laws.proofs.world_law.Start.{first_stands}
-use Rattle.run_laws.specs.world_law.Owners.{moment, node_in, node_named}
+use Rattle.headline.specs.Moments.{moment, node_in, node_named}
 use Rattle.run_laws.proofs.world_logs.Fronts.{From, Steps, front_good, front_steps, named_so}
 use Rattle.run_laws.proofs.world_logs.Goods.{Good}
 use Rattle.run_laws.specs.world_logs.NodeLaws.{NodeLaws}
@@ -37,15 +38,15 @@ use Rattle.run_laws.proofs.world_logs.Lists.{in_listed}
 use Rattle.run_laws.specs.world_logs.Lines.{HasLines, Line, RunsHaveLines}
 use Rattle.run_laws.specs.world_logs.Listing.{HasOwner, RunsListTheirLogs}
 use Rattle.run_laws.proofs.world_logs.Reading.{has_text, is_whole, members_exist}
-use Rattle.run_laws.specs.world_logs.Roles.{IsThere, Role, log_by, renews}
-use Rattle.run_laws.specs.world_logs.Roles.Role.{OfClient, OfCleaner, OfManager}
+use Rattle.headline.specs.Logs.{IsThere, Role, did, log_by, renews}
+use Rattle.headline.specs.Logs.Role.{OfClient, OfCleaner, OfManager}
 use Rattle.run_laws.proofs.world_logs.Settings.{ids_fit}
 use Rattle.run_laws.specs.world_logs.Settings.{setting_of}
 use Rattle.run_laws.proofs.world_logs.Start.{first_scene, start_begins, start_holds, start_stands}
-use Rattle.run_laws.specs.world_logs.Doings.{did}
-use Rattle.run_laws.specs.world_logs.Logs.{CleanersLogStands, LogStands, LogsStand, ManagersLogsStand}
-use Rattle.run_laws.specs.world_logs.Horizons.{HorizonsReached, IsOpened, RunsReachHorizons, board_of}
-use Rattle.run_laws.specs.world_logs.Shelves.{group_at, shelf_at, shelf_of}
+use Rattle.headline.specs.Segments.{CleanersLogStands, LogStands, LogsStand, ManagersLogsStand}
+use Rattle.run_laws.specs.world_logs.Horizons.{RunsReachHorizons}
+use Rattle.headline.specs.Horizons.{HorizonsReached, IsOpened, board_of}
+use Rattle.headline.specs.Servers.{group_at, shelf_at, shelf_of}
 use Rattle.xfs_base.specs.declared.fragment.FragMeta.{FragMeta}
 use Rattle.xfs_base.specs.declared.node.NodeId.TheVariants.{Server, Registry}
 use Rattle.xfs_base.specs.declared.setup.Setup.{Setup}

@@ -15,7 +15,7 @@ use Rattle.segment_format.specs.declared.segment.Segment.{Segment}
 use Rattle.world_base.specs.declared.estate.Estate.{Estate}
 use Rattle.world_base.specs.declared.event.Event.{Event}
 use Rattle.run_laws.specs.world_logs.Lines.{Line, moment_then, setting}
-use Rattle.run_laws.specs.world_logs.Roles.{Role}
+use Rattle.headline.specs.Logs.{Role}
 
 -- ---- runs that go on
 

@@ -22,8 +22,8 @@ use Rattle.world_base.specs.NextWorld.{first_node, first_nodes}
 use Rattle.run_laws.proofs.world_logs.Roles.{managers_log}
 use Rattle.run_laws.proofs.world_logs.Says.{OfLog, Plain, SaidByCleaner}
 use Rattle.run_laws.specs.world_logs.Listing.{HasOwner}
-use Rattle.run_laws.specs.world_logs.Roles.{IsThere, Role, log_by}
-use Rattle.run_laws.specs.world_logs.Roles.Role.{OfClient, OfCleaner, OfManager}
+use Rattle.headline.specs.Logs.{IsThere, Role, log_by}
+use Rattle.headline.specs.Logs.Role.{OfClient, OfCleaner, OfManager}
 use Rattle.xfs_base.specs.declared.fragment.FragMeta.{FragMeta}
 use Rattle.xfs_base.specs.declared.node.NodeId.{NodeId}
 use Rattle.xfs_base.specs.declared.node.NodeId.TheVariants.{Client, Manager, Server, Cleaner, Registry}

@@ -22,20 +22,20 @@ use Rattle.world_base.specs.Cluster.{cluster_of, place_of}
 use Rattle.world_base.specs.declared.cluster.Cluster.{Cluster}
 use Rattle.world_base.specs.declared.world.World.{World}
 use Rattle.world_base.specs.NextWorld.{sent_at}
-use Rattle.run_laws.specs.world_law.Owners.{node_in}
+use Rattle.headline.specs.Moments.{node_in}
 use Rattle.run_laws.proofs.world_logs.Fits.{PacketFits, for_manager, manager_sends, own_stores, stores_bytes}
 use Rattle.run_laws.specs.world_logs.NodeLaws.{NodeLaws}
 use Rattle.run_laws.specs.world_logs.Lines.{moment_then}
 use Rattle.run_laws.proofs.world_logs.Managing.{asks_for_maps}
 use Rattle.run_laws.proofs.world_logs.Owed.{in_those, of_log}
 use Rattle.run_laws.proofs.world_logs.OwnerTurns.{manager_owner_turn}
-use Rattle.run_laws.specs.world_logs.Roles.{log_by}
-use Rattle.run_laws.specs.world_logs.Roles.Role.{OfManager}
+use Rattle.headline.specs.Logs.{log_by}
+use Rattle.headline.specs.Logs.Role.{OfManager}
 use Rattle.run_laws.proofs.world_logs.Says.{OfLog}
 use Rattle.run_laws.specs.world_logs.Settings.{setting_of}
 use Rattle.run_laws.specs.world_logs.Standing.{Stands}
 use Rattle.run_laws.proofs.world_logs.Turns.{Next, turned}
-use Rattle.run_laws.specs.world_logs.Shelves.{group_at}
+use Rattle.headline.specs.Servers.{group_at}
 use Rattle.xfs_base.specs.declared.node.NodeId.TheVariants.{Manager}
 use Rattle.xfs_base.specs.declared.setup.Setup.{Setup}
 

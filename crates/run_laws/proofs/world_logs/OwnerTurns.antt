@@ -29,8 +29,9 @@ use Rattle.run_laws.proofs.world_logs.Frames.{cleaner_still, registry_still, ser
 use Rattle.run_laws.proofs.world_logs.Leading.{left_by}
 use Rattle.run_laws.proofs.world_logs.Lists.{in_listed}
 use Rattle.run_laws.proofs.world_logs.Managing.{manager_body_more}
-use Rattle.run_laws.specs.world_logs.Roles.{Role, asker_by, owner_by}
-use Rattle.run_laws.specs.world_logs.Roles.Role.{OfClient, OfCleaner, OfManager}
+use Rattle.run_laws.specs.world_logs.Roles.{asker_by}
+use Rattle.headline.specs.Logs.{Role, owner_by}
+use Rattle.headline.specs.Logs.Role.{OfClient, OfCleaner, OfManager}
 use Rattle.run_laws.specs.world_logs.Standing.{IsRoomy, Seen}
 use Rattle.run_laws.proofs.world_logs.Turns.{Keeps, Turn}
 use Rattle.xfs_base.specs.declared.node.NodeId.{NodeId}

@@ -6,11 +6,11 @@ use Rattle.core_world.specs.declared.any_node.AnyNode.TheVariants as any
 use Rattle.fragment_store.specs.ShelfState.{ShelfState, held_at}
 use Rattle.group_map.specs.declared.group.Group.{Group}
 use Rattle.group_map.specs.WellFormed.{IsServer}
-use Rattle.log_flight.specs.Flights.{no_member}
+use Rattle.log_flight.specs.Flights.{generation_of, no_member, server_of}
 use Rattle.log_law.specs.Laws.{LogsStayWhole, LogsWhole, OneNameOneText, OneText}
 use Rattle.log_law.specs.Net.{Net}
 use Rattle.log_protocol.specs.Tables as tables
-use Rattle.log_tie.specs.Setting.{Setting, Stripe, fragment_of, fragment_over, generation_of, server_of, stripe_of_group}
+use Rattle.log_tie.specs.Setting.{Setting, Stripe, fragment_of, fragment_over, stripe_of_group}
 use Rattle.log_tie.specs.Shelves.{is_of_log}
 use Rattle.node_logs.proofs.node_log_tie.WholeMaps.{its_stripe}
 use Rattle.node_logs.specs.node_log_tie.RegistryEvents.{RegistrySeen}
@@ -32,14 +32,16 @@ use Rattle.world_base.specs.Runs.{WasSent}
 use Rattle.run_laws.proofs.world_law.Laws.{one_node}
 use Rattle.run_laws.proofs.world_law.OtherTurns.{equal_or_not}
 use Rattle.run_laws.proofs.world_law.Sent.{was_sent}
-use Rattle.run_laws.specs.world_law.Owners.{node_in, node_named}
+use Rattle.headline.specs.Moments.{node_in, node_named}
 use Rattle.run_laws.proofs.world_logs.Lists.{in_was}
-use Rattle.run_laws.specs.world_logs.Roles.{Role, asker_by, log_by}
+use Rattle.run_laws.specs.world_logs.Roles.{asker_by}
+use Rattle.headline.specs.Logs.{Role, log_by}
 use Rattle.run_laws.proofs.world_logs.Settings.{striped}
 use Rattle.run_laws.specs.world_logs.Settings.{setting_of, stripe_by}
 use Rattle.run_laws.specs.world_logs.Standing.{Stands}
-use Rattle.run_laws.specs.world_logs.Logs.{IsText, IsWhole, NotDeleted, log_of}
-use Rattle.run_laws.specs.world_logs.Shelves.{HoldsOrLost, IsKept, group_at, group_in, groups_of, piece, shelf_at, shelf_of}
+use Rattle.headline.specs.Segments.{IsText, IsWhole, NotDeleted, log_of}
+use Rattle.group_map.specs.Groups.{known_group as group_in}
+use Rattle.headline.specs.Servers.{HoldsOrLost, IsKept, group_at, groups_of, piece, shelf_at, shelf_of}
 use Rattle.xfs_base.specs.declared.fragment.Fragment.{Fragment}
 use Rattle.xfs_base.specs.declared.node.NodeId.{NodeId}
 use Rattle.xfs_base.specs.declared.node.NodeId.TheVariants.{Server, Registry}

@@ -1,7 +1,7 @@
 -- No two owners of logs are one node, and no two logs have one number.
 use Rattle.std.proofs.Common.{◌≡◌, ◌+◌, ◌≤◌, ◌<◌, ℕ, min, arith}
 use Rattle.manager_slots.specs.Lasting.{log_of}
-use Rattle.run_laws.specs.world_logs.Roles.{IsThere, Role, owner_by}
+use Rattle.headline.specs.Logs.{IsThere, Role, owner_by}
 use Rattle.xfs_base.specs.declared.node.NodeId.TheVariants.{Server, Registry}
 use Rattle.xfs_base.specs.Limits.{block_logs, most_clients, most_managers}
 

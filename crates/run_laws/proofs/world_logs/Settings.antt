@@ -6,7 +6,7 @@ use Rattle.node_logs.specs.client_log_tie.Texts.{MapFits}
 use Rattle.core_world.specs.declared.any_node.AnyNode.{AnyNode}
 use Rattle.group_map.specs.declared.group.Group.{Group}
 use Rattle.group_map.specs.GroupMapState.{GroupMapState}
-use Rattle.group_map.specs.Groups.{chosen, group_of}
+use Rattle.group_map.specs.Groups.{chosen, known_group as group_in, group_of}
 use Rattle.group_map.specs.WellFormed.{IsGroupMap, IsNumbered}
 use Rattle.log_flight.specs.Flights.{group_for, no_group}
 use Rattle.log_tie.specs.Setting.{Setting, Stripe}
@@ -14,9 +14,9 @@ use Rattle.node_logs.proofs.node_log_tie.WholeMaps.{Chosen, the_chosen}
 use Rattle.node_logs.specs.node_log_tie.ServerEvents.{NamesStripes}
 use Rattle.world_base.specs.declared.world.World.{World}
 use Rattle.run_laws.proofs.world_logs.Groups.{HasMap, Names}
-use Rattle.run_laws.specs.world_logs.Roles.{Role}
+use Rattle.headline.specs.Logs.{Role}
 use Rattle.run_laws.specs.world_logs.Settings.{setting_of, stripe_by}
-use Rattle.run_laws.specs.world_logs.Shelves.{group_at, group_in, groups_of}
+use Rattle.headline.specs.Servers.{group_at, groups_of}
 use Rattle.xfs_base.proofs.Booleans.{by_test}
 use Rattle.xfs_base.specs.Limits.{u32_end}
 

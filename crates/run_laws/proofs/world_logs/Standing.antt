@@ -8,7 +8,7 @@ use Rattle.version_model.specs.declared.act.Act.{Act}
 use Rattle.version_model.specs.declared.act.Act.TheVariants as act
 use Rattle.wire_msg.specs.declared.packet.Packet.{Packet}
 use Rattle.world_base.specs.declared.cluster.Cluster.{Cluster}
-use Rattle.run_laws.specs.world_logs.Roles.{Role}
+use Rattle.headline.specs.Logs.{Role}
 use Rattle.run_laws.specs.world_logs.Standing.{Stands}
 
 -- what the owner did may be said otherwise

@@ -36,12 +36,13 @@ use Rattle.world_base.specs.Items.{items_of}
 use Rattle.world_base.specs.NextWorld.{first_node, first_nodes}
 use Rattle.run_laws.proofs.world_law.Laws.{one_node}
 use Rattle.run_laws.proofs.world_law.Start.{first_stands}
-use Rattle.run_laws.specs.world_law.Owners.{node_in}
+use Rattle.headline.specs.Moments.{node_in}
 use Rattle.run_laws.proofs.world_logs.Fits.{AllHold, NodeHolds}
 use Rattle.run_laws.specs.world_logs.Lines.{IsBegun}
 use Rattle.run_laws.proofs.world_logs.Settings.{map_fits}
-use Rattle.run_laws.specs.world_logs.Roles.{IsOf, IsThere, Role}
-use Rattle.run_laws.specs.world_logs.Roles.Role.{OfClient, OfCleaner, OfManager}
+use Rattle.run_laws.specs.world_logs.Roles.{IsOf}
+use Rattle.headline.specs.Logs.{IsThere, Role}
+use Rattle.headline.specs.Logs.Role.{OfClient, OfCleaner, OfManager}
 use Rattle.run_laws.specs.world_logs.Standing.{CleanerAs, ClientAs, ManagerAs, OwnerSeen, Seen, Stands}
 use Rattle.xfs_base.specs.declared.node.NodeId.{NodeId}
 use Rattle.xfs_base.specs.declared.node.NodeId.TheVariants.{Client, Manager, Server, Cleaner, Registry}

@@ -27,9 +27,11 @@ use Rattle.run_laws.proofs.world_logs.Frames.{cleaner_owner_still, cleaner_still
 use Rattle.run_laws.proofs.world_logs.Leading.{its_of, left_by}
 use Rattle.run_laws.proofs.world_logs.Lists.{in_listed}
 use Rattle.run_laws.proofs.world_logs.Roles.{no_registry, no_server}
-use Rattle.run_laws.specs.world_logs.Roles.{IsOf, Role, asker_by, owner_by}
-use Rattle.run_laws.specs.world_logs.Roles.Role.{OfClient, OfCleaner, OfManager}
-use Rattle.run_laws.specs.world_logs.Standing.{CleanerAs, ClientAs, Deletes, ManagerAs}
+use Rattle.run_laws.specs.world_logs.Roles.{IsOf, asker_by}
+use Rattle.headline.specs.Logs.{Role, owner_by}
+use Rattle.headline.specs.Logs.Role.{OfClient, OfCleaner, OfManager}
+use Rattle.run_laws.specs.world_logs.Standing.{CleanerAs, ClientAs, ManagerAs}
+use Rattle.headline.specs.Deletions.{Deletes}
 use Rattle.run_laws.proofs.world_logs.Turns.{Keeps, Turn}
 use Rattle.xfs_base.specs.declared.node.NodeId.{NodeId}
 use Rattle.xfs_base.specs.declared.node.NodeId.TheVariants.{Server, Cleaner, Registry}

@@ -13,8 +13,8 @@ use Rattle.run_laws.proofs.world_logs.Line.{flown_by_end, last_or_before, one_te
 use Rattle.run_laws.proofs.world_logs.Reading.{look}
 use Rattle.run_laws.proofs.world_logs.Roles.{high_log, managers_log}
 use Rattle.run_laws.specs.world_logs.Lines.{HasLines, Texts, setting}
-use Rattle.run_laws.specs.world_logs.Roles.{IsThere, Role, log_by}
-use Rattle.run_laws.specs.world_logs.Roles.Role.{OfClient, OfCleaner, OfManager}
+use Rattle.headline.specs.Logs.{IsThere, Role, log_by}
+use Rattle.headline.specs.Logs.Role.{OfClient, OfCleaner, OfManager}
 use Rattle.xfs_base.specs.declared.segment.LogId.{LogId}
 use Rattle.xfs_base.specs.declared.segment.SegName.{SegName}
 use Rattle.log_tie.proofs.Listings.{in_either}

@@ -27,13 +27,15 @@ use Rattle.world_base.specs.NextWorld.{sent_at}
 use Rattle.run_laws.proofs.world_law.Laws.{one_node}
 use Rattle.run_laws.proofs.world_law.Nodes as places
 use Rattle.run_laws.proofs.world_law.Sent.{at_clock, in_append}
-use Rattle.run_laws.specs.world_law.Owners.{node_in}
+use Rattle.headline.specs.Moments.{node_in}
 use Rattle.run_laws.proofs.world_logs.Lists.{in_after, in_before, in_map}
 use Rattle.run_laws.proofs.world_logs.Leading.{LeadsOn}
 use Rattle.run_laws.specs.world_logs.Lines.{GrowsBy, IsLeft, moment_then, PutsBy, StraightBy}
-use Rattle.run_laws.specs.world_logs.Roles.{Role, asker_by, owner_by}
+use Rattle.run_laws.specs.world_logs.Roles.{asker_by}
+use Rattle.headline.specs.Logs.{Role, owner_by}
 use Rattle.run_laws.proofs.world_logs.Standing.{stands_so}
-use Rattle.run_laws.specs.world_logs.Standing.{CleanerAs, ClientAs, Deletes, ManagerAs, Seen, Stands}
+use Rattle.run_laws.specs.world_logs.Standing.{CleanerAs, ClientAs, ManagerAs, Seen, Stands}
+use Rattle.headline.specs.Deletions.{Deletes}
 use Rattle.xfs_base.specs.declared.node.NodeId.{NodeId}
 use Rattle.xfs_base.specs.declared.node.NodeId.TheVariants.{Client, Manager, Server, Cleaner, Registry}
 use Rattle.xfs_base.specs.declared.segment.SegName.{SegName}

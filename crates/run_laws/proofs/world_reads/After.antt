@@ -4,7 +4,7 @@ use Rattle.std.proofs.lemmas.Bool.{eqb-true}
 use Rattle.std.proofs.lemmas.Bool.Decides.{nat_tests}
 use Rattle.std.specs.Prelude.{IfSome}
 use Rattle.run_laws.specs.index_reads.Ties.{BooksAre}
-use Rattle.index_tie.specs.Filed.{Filed}
+use Rattle.headline.specs.Filed.{Filed}
 use Rattle.log_flight.specs.Flights.{FlightState}
 use Rattle.log_law.specs.Restarts.{last_flight}
 use Rattle.log_law.specs.Tails.{then_on}
@@ -16,8 +16,8 @@ use Rattle.run_laws.specs.segment_tie.Segments.{TellsOnce}
 use Rattle.token_law.specs.Books.{Books}
 use Rattle.run_laws.specs.world_lines.Lines.{IsLine}
 use Rattle.run_laws.specs.world_logs.Lines.{IsLeft, setting}
-use Rattle.run_laws.specs.world_logs.Roles.{Role, log_by, renews}
-use Rattle.run_laws.specs.world_logs.Roles.Role.{OfClient, OfCleaner, OfManager}
+use Rattle.headline.specs.Logs.{Role, log_by, renews}
+use Rattle.headline.specs.Logs.Role.{OfClient, OfCleaner, OfManager}
 use Rattle.xfs_base.proofs.Booleans.{contrary}
 use Rattle.xfs_base.specs.Limits.{block_logs}
 use Rattle.xfs_base.specs.Logs.{cleaners_number}

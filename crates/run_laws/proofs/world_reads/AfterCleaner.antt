@@ -35,7 +35,7 @@ use Rattle.log_tie.specs.Setting.{Setting}
 use Rattle.node_base.specs.Beginning.{next_item}
 use Rattle.node_base.specs.declared.effects.Effect.{Effect}
 use Rattle.node_base.specs.Shape.{is_well_formed}
-use Rattle.node_slots.specs.node_index_tie.Sight.{Texts}
+use Rattle.headline.specs.Filed.{Texts}
 use Rattle.node_slots.specs.node_tie.CleanerLogs.{CleanerCopies, OwnGoes, its_log}
 use Rattle.node_slots.specs.node_tie.LogRows.{LogSeen}
 use Rattle.node_slots.specs.owner_index_tie.CleanerEvents as owner

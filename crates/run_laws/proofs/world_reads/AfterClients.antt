@@ -29,7 +29,7 @@ use Rattle.log_protocol.specs.Tables.{In}
 use Rattle.log_tie.specs.Setting.{Setting}
 use Rattle.node_base.specs.declared.effects.Effect.TheVariants.{Does}
 use Rattle.node_base.specs.Effects.{acts_of}
-use Rattle.node_slots.specs.node_index_tie.Sight.{Texts}
+use Rattle.headline.specs.Filed.{Texts}
 use Rattle.node_slots.specs.node_tie.ClientEvents as tokens
 use Rattle.node_slots.specs.node_tie.LogRows.{LogSeen}
 use Rattle.node_slots.specs.owner_index_tie.ClientEvents as owner

@@ -4,7 +4,7 @@ use Rattle.client_log.specs.LogState.{LogState}
 use Rattle.client_log.specs.Transition as log
 use Rattle.node_logs.specs.client_log_tie.ClientEvents.{NeverServes}
 use Rattle.group_map.specs.GroupMapState.{GroupMapState}
-use Rattle.index_tie.specs.Filed.{Filed}
+use Rattle.headline.specs.Filed.{Filed, Texts}
 use Rattle.index_tie.specs.Growth.{IsMore}
 use Rattle.log_flight.specs.Flights.{FlightState}
 use Rattle.log_law.specs.Events.{Happens, Runs}
@@ -21,7 +21,6 @@ use Rattle.log_scan.specs.ScanState.{ScanState}
 use Rattle.log_scan.specs.Transition as scan
 use Rattle.log_tie.specs.Setting.{Setting}
 use Rattle.node_base.specs.declared.effects.Effect.{Effect}
-use Rattle.node_slots.specs.node_index_tie.Sight.{Texts}
 use Rattle.node_slots.specs.owner_index_tie.Filing.{IsSameLog, filed_after}
 use Rattle.segment_format.specs.declared.segment.Segment.{Segment}
 use Rattle.run_laws.specs.world_lines.Lines.{IsLine, IsSure}

@@ -2,7 +2,7 @@
 use Rattle.std.proofs.Common.{◌≡◌, ℕ, false, [], refl, sym, ◌∙◌}
 use Rattle.client_log.specs.LogState.{LogState}
 use Rattle.node_logs.specs.client_log_tie.ClientEvents.{ServesStraight}
-use Rattle.index_tie.specs.Filed.{Filed}
+use Rattle.headline.specs.Filed.{Filed, Texts}
 use Rattle.log_law.specs.Events.{Runs}
 use Rattle.log_law.specs.Laws.{Moment}
 use Rattle.log_law.specs.Net.{Net}
@@ -10,7 +10,6 @@ use Rattle.log_law.specs.Net.Owner.{Serving}
 use Rattle.log_law.specs.Restarts.{is_serving, last_flight}
 use Rattle.log_law.specs.Tails.{then_on}
 use Rattle.log_tie.specs.Setting.{Setting}
-use Rattle.node_slots.specs.node_index_tie.Sight.{Texts}
 use Rattle.node_slots.specs.node_tie.Sight.{SameLog}
 use Rattle.node_slots.specs.owner_index_tie.Filing.{IsSameLog}
 use Rattle.token_law.specs.Books.{Books}

@@ -19,7 +19,7 @@ use Rattle.world_base.specs.Cluster.{place_of}
 use Rattle.world_base.specs.declared.cluster.Cluster.{Cluster}
 use Rattle.world_base.specs.declared.estate.Estate.{Estate}
 use Rattle.world_base.specs.Runs.{IsRun}
-use Rattle.run_laws.specs.world_law.Owners.{moment, node_in}
+use Rattle.headline.specs.Moments.{moment, node_in}
 use Rattle.xfs_base.specs.declared.node.NodeId.TheVariants.{Client, Cleaner}
 
 module _ (e : Estate AnyNode) (run : IsRun any_step any_start e.script e.events e.world) (k : Cluster) (count : ℕ)

@@ -12,12 +12,13 @@ use Rattle.cleaner_node.specs.declared.cleaner.Phase.TheVariants.{Down, Opening,
 use Rattle.cleaner_job.specs.declared.job.Job.{Job}
 use Rattle.core_world.specs.declared.any_node.AnyNode.TheVariants as any
 use Rattle.index_tie.proofs.Runs.{good_in}
-use Rattle.index_tie.specs.Cleaning.{is_filed_name, IsWithin, ReadFor}
-use Rattle.index_tie.specs.Filed.{IsFiled, row_at}
+use Rattle.index_tie.specs.Cleaning.{IsWithin, ReadFor}
+use Rattle.headline.specs.Filed.{is_filed_name, row_at}
+use Rattle.index_tie.specs.Filed.{IsFiled}
 use Rattle.index_tie.specs.Net.{Net, Runs, opening, with_job}
 use Rattle.index_tie.specs.Net.Happens.{JobReads}
 use Rattle.index_tie.specs.Net.Runs.{On}
-use Rattle.index_tie.specs.Takeovers.{of_log}
+use Rattle.headline.specs.Indexes.{of_log}
 use Rattle.log_owner.specs.Sending.{server_in}
 use Rattle.log_scan.specs.Transition.{least_horizon}
 use Rattle.node_base.specs.declared.effects.Effect.{Effect}
@@ -51,9 +52,9 @@ use Rattle.wire_msg.specs.declared.body.Body.TheVariants as body
 use Rattle.wire_msg.specs.declared.packet.Do.{Do}
 use Rattle.wire_msg.specs.declared.packet.Do.TheVariants.{Begin, Deliver, Tick}
 use Rattle.wire_msg.specs.declared.packet.Packet.{Packet}
-use Rattle.run_laws.specs.world_law.Owners.{moment, node_named}
+use Rattle.headline.specs.Moments.{moment, node_named}
 use Rattle.run_laws.specs.world_logs.Lines.{setting}
-use Rattle.run_laws.specs.world_logs.Roles.{Role}
+use Rattle.headline.specs.Logs.{Role}
 use Rattle.run_laws.proofs.world_reads.CleanerChecked.{BodyMay, BodyReadsMay, DoReadsMay, EffectMay, InputAt, JobMay, PhaseMay, ToldMay, event_asks}
 use Rattle.run_laws.proofs.world_reads.CleanerChecks as phases
 use Rattle.run_laws.proofs.world_reads.CleanerChecks.{CheckMay, FoundMay, May}

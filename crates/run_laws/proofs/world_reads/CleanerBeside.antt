@@ -25,11 +25,11 @@ use Rattle.world_base.specs.NextWorld.{next_world}
 use Rattle.world_base.specs.Runs.{IsRun, MayHappen}
 use Rattle.run_laws.proofs.world_law.ManagerTurns.{delivered}
 use Rattle.run_laws.proofs.world_law.Sent.{was_sent}
-use Rattle.run_laws.specs.world_law.Owners.{moment, node_in, node_named}
-use Rattle.run_laws.specs.world_logs.Horizons.{IsOpened, board_of}
+use Rattle.headline.specs.Moments.{moment, node_in, node_named}
+use Rattle.headline.specs.Horizons.{IsOpened, board_of}
 use Rattle.run_laws.specs.world_logs.Lines.{cluster}
-use Rattle.run_laws.specs.world_logs.Roles.{Role, log_by, renews}
-use Rattle.run_laws.specs.world_logs.Roles.Role.{OfClient, OfCleaner, OfManager}
+use Rattle.headline.specs.Logs.{Role, log_by, renews}
+use Rattle.headline.specs.Logs.Role.{OfClient, OfCleaner, OfManager}
 use Rattle.run_laws.proofs.world_reads.CleanerFront.{Takes, cleaner_steps, its_cluster, may_happen}
 use Rattle.run_laws.proofs.world_reads.CleanerGets.{AreReached, PollsAreLow}
 use Rattle.run_laws.proofs.world_reads.CleanerMoment.{IsHere, Steps, in_tokens, its_line}

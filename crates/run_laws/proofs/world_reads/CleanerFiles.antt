@@ -1,7 +1,7 @@
 -- What the cleaner acts to be filed is owed to it: it flew, and is filed after the event; and what a reopening adopts was answered Live, and moved once.
 use Rattle.std.proofs.Common.{◌≡◌, ◌≤◌, ◌<◌, ◌==◌, ◌⊎◌, ℕ, suc, Bool, true, false, List, [], ◌∷◌, Some, if◌then◌else◌, inl, inr, refl, sym, ap, subst, ◌∙◌, arith}
 use Rattle.std.specs.List.{AllByRecursion}
-use Rattle.index_tie.specs.Filed.{Filed}
+use Rattle.headline.specs.Filed.{Filed, Texts}
 use Rattle.index_tie.specs.Growth.{with_segment}
 use Rattle.index_tie.specs.Net as index
 use Rattle.log_flight.specs.Flights.{FlightState}
@@ -15,7 +15,6 @@ use Rattle.log_protocol.specs.Tables.{In}
 use Rattle.log_tie.specs.Setting.{Setting}
 use Rattle.node_base.specs.declared.effects.Effect.{Effect}
 use Rattle.node_base.specs.declared.effects.Effect.TheVariants.{Send, Answer, Lose, Does}
-use Rattle.node_slots.specs.node_index_tie.Sight.{Texts}
 use Rattle.node_slots.proofs.owner_index_tie.Growing.{head_is}
 use Rattle.node_slots.proofs.owner_index_tie.MovesLog.{segment_moves}
 use Rattle.node_slots.specs.owner_index_tie.CleanerEvents.{IsMoved}

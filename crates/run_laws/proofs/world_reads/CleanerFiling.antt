@@ -12,7 +12,7 @@ use Rattle.cleaner_job.specs.declared.lasting.Lasting.{Lasting}
 use Rattle.client_log.specs.Transition.{has_next}
 use Rattle.node_logs.specs.client_log_tie.ClientEvents.{ServesStraight}
 use Rattle.node_logs.specs.client_log_tie.Owner.{Scene}
-use Rattle.index_tie.specs.Filed.{Filed}
+use Rattle.headline.specs.Filed.{Filed}
 use Rattle.log_flight.specs.Flights.{FlightState}
 use Rattle.log_law.specs.Events.Runs.{On}
 use Rattle.log_law.specs.Held.{OwnerFlew}
@@ -36,7 +36,7 @@ use Rattle.run_laws.specs.world_lines.Filing.{FlightSays}
 use Rattle.run_laws.specs.world_lines.Lines.{SaysBlocks}
 use Rattle.run_laws.specs.world_lines.Owners.{HasFlown}
 use Rattle.run_laws.specs.world_lines.Turns.{AllSo}
-use Rattle.run_laws.specs.world_logs.Roles.Role.{OfCleaner}
+use Rattle.headline.specs.Logs.Role.{OfCleaner}
 use Rattle.run_laws.proofs.reopening_law.Flights.{served_last}
 use Rattle.run_laws.proofs.world_reads.CleanerFiles.{adopted_moves, all_new}
 use Rattle.run_laws.proofs.world_reads.CleanerMoment.{Steps, agrees, its_line, its_moment, its_scene, its_setting, owns, sure_at, upto_before}

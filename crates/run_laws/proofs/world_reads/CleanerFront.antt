@@ -22,12 +22,12 @@ use Rattle.world_base.specs.Runs.{IsRun, Leads, MayHappen}
 use Rattle.run_laws.proofs.world_law.Nodes.{get_set_same}
 use Rattle.run_laws.proofs.world_law.Turning.{next_cluster, next_keeps}
 use Rattle.run_laws.proofs.world_law.Turns.{one_node}
-use Rattle.run_laws.specs.world_law.Owners.{moment, node_in}
+use Rattle.headline.specs.Moments.{acts_in, moment, node_in}
 use Rattle.run_laws.specs.world_logs.Lines.{cluster}
 use Rattle.run_laws.proofs.world_reads.CleanerMoment.{IsHere, Steps}
 use Rattle.xfs_base.specs.declared.node.NodeId.{NodeId}
 use Rattle.xfs_base.specs.declared.node.NodeId.TheVariants.{Cleaner}
-use Rattle.run_laws.specs.world_logs.Doings.{acts_by, acts_in, acts_of, did, owns}
+use Rattle.headline.specs.Logs.{acts_by, acts_of, did, owns}
 use Rattle.run_laws.specs.world_reads.LoggedRuns.{LoggedRun}
 
 -- ---- the next moment

@@ -8,7 +8,7 @@ use Rattle.cleaner_node.specs.declared.cleaner.Phase.TheVariants.{Down, Opening,
 use Rattle.cleaner_job.specs.declared.job.Job.{Job}
 use Rattle.cleaner_job.specs.Jobs.{hand_of}
 use Rattle.core_world.specs.declared.any_node.AnyNode.TheVariants as any
-use Rattle.index_tie.specs.Takeovers.{of_log}
+use Rattle.headline.specs.Indexes.{of_log}
 use Rattle.log_owner.specs.Promised.{epoch_of}
 use Rattle.log_owner.specs.Sending.{server_in}
 use Rattle.log_scan.specs.Transition.{least_horizon}
@@ -33,12 +33,11 @@ use Rattle.wire_msg.specs.declared.packet.Do.{Do}
 use Rattle.wire_msg.specs.declared.packet.Do.TheVariants.{Begin, Deliver, Tick}
 use Rattle.wire_msg.specs.declared.packet.Packet.{Packet}
 use Rattle.run_laws.specs.world_index.Owes.{CleanerBodyOwed, CleanerDoOwed, CleanerPacketOwed}
-use Rattle.run_laws.specs.world_law.Owners.{moment, node_named}
+use Rattle.headline.specs.Moments.{moment, node_named}
 use Rattle.run_laws.specs.world_lines.Lines.{LineGives}
-use Rattle.run_laws.specs.world_logs.Doings.{did}
-use Rattle.run_laws.specs.world_logs.Horizons.{Reached}
-use Rattle.run_laws.specs.world_logs.Roles.{Role, log_by, renews}
-use Rattle.run_laws.specs.world_logs.Roles.Role.{OfCleaner}
+use Rattle.headline.specs.Logs.{Role, did, log_by, renews}
+use Rattle.headline.specs.Horizons.{Reached}
+use Rattle.headline.specs.Logs.Role.{OfCleaner}
 use Rattle.run_laws.proofs.world_reads.CleanerMoment.{IsHere, agrees, its_line, its_scene, its_setting, sure_at}
 use Rattle.run_laws.proofs.world_reads.CleanerReading.{ListsOurs, reads_within, refers}
 use Rattle.run_laws.proofs.world_reads.KnownLogs.{filed_known}

@@ -55,7 +55,7 @@ use Rattle.run_laws.proofs.world_law.Nodes as places
 use Rattle.run_laws.proofs.world_law.Sent.{in_append, sends}
 use Rattle.run_laws.proofs.world_law.Start.{first_stands}
 use Rattle.run_laws.proofs.world_law.Turning.{next_cluster, next_keeps}
-use Rattle.run_laws.specs.world_law.Owners.{moment, node_in}
+use Rattle.headline.specs.Moments.{moment, node_in}
 use Rattle.run_laws.proofs.world_reads.CleanerOwed.{room_below}
 use Rattle.xfs_base.specs.Limits.{u32_end}
 use Rattle.xfs_base.specs.declared.block.BlockId.{BlockId}

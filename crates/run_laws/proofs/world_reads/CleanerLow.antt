@@ -7,7 +7,7 @@ use Rattle.run_laws.specs.epoch_law.Polls.{HorizonsStay}
 use Rattle.index_tie.proofs.Runs.{good_in}
 use Rattle.index_tie.proofs.Views.{Good, View}
 use Rattle.index_tie.specs.Net.{Net, Runs, opening}
-use Rattle.index_tie.specs.Takeovers.{of_log}
+use Rattle.headline.specs.Indexes.{of_log}
 use Rattle.log_protocol.proofs.IndexInduction.{index_in_bounds_always}
 use Rattle.log_protocol.specs.IndexBoundLaws.{IndexInBounds}
 use Rattle.log_scan.specs.Transition.{least_horizon}

@@ -15,11 +15,11 @@ use Rattle.wire_msg.specs.declared.packet.Do.{Do}
 use Rattle.world_base.specs.Cluster.{place_of}
 use Rattle.run_laws.specs.world_index.Asking.{CleanerAsks}
 use Rattle.run_laws.specs.world_index.Standing.{WasAsked}
-use Rattle.run_laws.specs.world_law.Owners.{moment, node_in}
+use Rattle.headline.specs.Moments.{moment, node_in}
 use Rattle.run_laws.specs.world_lines.Lines.{IsSure}
-use Rattle.run_laws.specs.world_logs.Doings.{did}
+use Rattle.headline.specs.Logs.{did}
 use Rattle.run_laws.specs.world_logs.Lines.{Line, cluster, setting}
-use Rattle.run_laws.specs.world_logs.Roles.Role.{OfCleaner}
+use Rattle.headline.specs.Logs.Role.{OfCleaner}
 use Rattle.run_laws.specs.world_logs.Standing.{CleanerOwns}
 use Rattle.run_laws.proofs.world_reads.Stepping.{sure_before}
 use Rattle.run_laws.specs.world_reads.Joint.{IsSureUpto, Joint}

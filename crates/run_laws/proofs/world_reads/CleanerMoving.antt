@@ -26,7 +26,7 @@ use Rattle.segment_format.specs.declared.segment.Item.{Item}
 use Rattle.segment_format.specs.declared.segment.Item.TheVariants.{Block, Delta, Part}
 use Rattle.world_base.specs.declared.event.Event.{Event}
 use Rattle.world_base.specs.Events.{node_of}
-use Rattle.run_laws.specs.world_logs.Roles.Role.{OfCleaner}
+use Rattle.headline.specs.Logs.Role.{OfCleaner}
 use Rattle.run_laws.proofs.reopening_law.Flights.{last_stays, served_last}
 use Rattle.run_laws.proofs.world_reads.AfterLogs.{flight_left}
 use Rattle.run_laws.proofs.world_reads.CleanerMoment.{IsHere, its_line, its_moment, its_scene, its_setting, owns}

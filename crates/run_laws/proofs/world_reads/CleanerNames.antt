@@ -7,7 +7,7 @@ use Rattle.std.specs.Prelude.{Contains}
 use Rattle.std.specs.List.{filter_map}
 use Rattle.client_call.specs.Reads.{value_at, value_in}
 use Rattle.run_laws.proofs.index_reads.Rows.{deltas_are_said}
-use Rattle.index_tie.specs.Filed.{Filed}
+use Rattle.headline.specs.Filed.{Filed}
 use Rattle.log_protocol.specs.Tables.{In}
 use Rattle.run_laws.specs.place_law.Copies.{AreExact, AreNamed, IsExact, IsNamed}
 use Rattle.segment_format.specs.declared.segment.Item.{Item}

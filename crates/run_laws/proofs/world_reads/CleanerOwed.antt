@@ -39,9 +39,9 @@ use Rattle.run_laws.specs.world_index.Owes.{CleanerDoOwed, CleanerTold, IndexOwe
 use Rattle.run_laws.specs.world_index.Standing.{SentBy}
 use Rattle.run_laws.proofs.world_law.Gets as token_gets
 use Rattle.run_laws.specs.world_law.Standing as tokens
-use Rattle.run_laws.specs.world_law.Owners.{moment, node_named}
+use Rattle.headline.specs.Moments.{moment, node_named}
 use Rattle.run_laws.specs.world_logs.Lines.{cluster}
-use Rattle.run_laws.specs.world_logs.Roles.Role.{OfCleaner}
+use Rattle.headline.specs.Logs.Role.{OfCleaner}
 use Rattle.run_laws.proofs.world_reads.AfterOwners.{never_files}
 use Rattle.run_laws.proofs.world_reads.CleanerAsking.{asks}
 use Rattle.run_laws.proofs.world_reads.CleanerFiling.{restart_files, serving_files, still_files}

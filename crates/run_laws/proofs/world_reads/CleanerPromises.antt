@@ -8,7 +8,7 @@ use Rattle.cleaner_node.specs.declared.cleaner.Phase.TheVariants.{Down, Opening,
 use Rattle.core_world.specs.declared.any_node.AnyNode.{AnyNode}
 use Rattle.core_world.specs.declared.any_node.AnyNode.TheVariants as any
 use Rattle.index_tie.specs.Net.{Net}
-use Rattle.node_slots.specs.node_index_tie.Sight.{Texts}
+use Rattle.headline.specs.Filed.{Texts}
 use Rattle.node_slots.specs.node_tie.CleanerEvents.{CleanerStands}
 use Rattle.node_slots.specs.owner_index_tie.CleanerEvents.{CleanerAgrees, IsAway}
 use Rattle.wire_msg.specs.declared.packet.Do.{Do}

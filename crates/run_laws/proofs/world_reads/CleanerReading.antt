@@ -26,14 +26,13 @@ use Rattle.stripe_cleaner.specs.declared.phase.Phase.TheVariants.{Reading}
 use Rattle.wire_msg.specs.declared.body.Body.TheVariants as body
 use Rattle.wire_msg.specs.declared.packet.Packet.{Packet}
 use Rattle.wire_msg.specs.declared.storage.Listed.{Listed}
-use Rattle.run_laws.specs.world_law.Owners.{moment}
+use Rattle.headline.specs.Moments.{moment}
 use Rattle.run_laws.specs.world_lines.Lines.{IsLine}
 use Rattle.run_laws.proofs.world_logs.Roles.{high_log}
-use Rattle.run_laws.specs.world_logs.Doings.{did}
-use Rattle.run_laws.specs.world_logs.Horizons.{Reached}
+use Rattle.headline.specs.Logs.{Role, did, log_by, renews}
+use Rattle.headline.specs.Horizons.{Reached}
 use Rattle.run_laws.specs.world_logs.Lines.{setting}
-use Rattle.run_laws.specs.world_logs.Roles.{Role, log_by, renews}
-use Rattle.run_laws.specs.world_logs.Roles.Role.{OfClient, OfCleaner, OfManager}
+use Rattle.headline.specs.Logs.Role.{OfClient, OfCleaner, OfManager}
 use Rattle.run_laws.specs.world_logs.Standing.{CleanerOwns}
 use Rattle.run_laws.proofs.world_reads.CleanerMoment.{IsHere}
 use Rattle.run_laws.proofs.world_reads.KnownLogs.{listed_flew, of_its_log}

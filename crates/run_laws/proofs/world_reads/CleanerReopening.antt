@@ -40,7 +40,7 @@ use Rattle.version_model.specs.Effects.{holds_flight}
 use Rattle.wire_msg.specs.declared.packet.Do.{Do}
 use Rattle.wire_msg.specs.declared.packet.Do.TheVariants.{Begin, Deliver, Tick}
 use Rattle.run_laws.specs.world_lines.Lines.{IsLine}
-use Rattle.run_laws.specs.world_logs.Roles.Role.{OfCleaner}
+use Rattle.headline.specs.Logs.Role.{OfCleaner}
 use Rattle.run_laws.proofs.world_reads.CleanerMoment.{Steps, its_line, its_moment, its_scene, its_setting, owns}
 use Rattle.run_laws.proofs.world_reads.CleanerReopens.{ComesBack, comes_back}
 use Rattle.run_laws.specs.world_reads.Joint.{IsSureUpto, Joint}

@@ -1,7 +1,7 @@
 -- What the cleaner acts to be filed says of blocks: what it had in flight, what was filed of its log, and what a reopening adopts.
 use Rattle.std.proofs.Common.{◌≡◌, ◌≤◌, ◌<◌, ◌⊎◌, ℕ, false, List, [], ◌∷◌, Some, inl, inr, sym, ap, subst, ◌∙◌}
 use Rattle.std.specs.List.{AllByRecursion, filter_map}
-use Rattle.index_tie.specs.Filed.{Filed, IsNoPart}
+use Rattle.headline.specs.Filed.{AreTexts, Filed, IsNoPart, Texts}
 use Rattle.log_flight.specs.Flights.{FlightState}
 use Rattle.log_law.specs.Events.{Happens}
 use Rattle.log_law.specs.Events.Runs.{On}
@@ -11,7 +11,6 @@ use Rattle.log_law.specs.Restarts.{EndsRestart, IsSureRun, last_flight}
 use Rattle.log_law.specs.Tails.{ARestartFilesTheTail, TellsOnlyTheTail}
 use Rattle.log_protocol.specs.Tables.{In}
 use Rattle.log_tie.specs.Setting.{Setting}
-use Rattle.node_slots.specs.node_index_tie.Sight.{AreTexts, Texts}
 use Rattle.run_laws.specs.reopening_law.Reopens.{TellsApart}
 use Rattle.segment_format.specs.declared.segment.Item.{Item}
 use Rattle.segment_format.specs.declared.segment.Item.TheVariants.{Block, Delta, Part}

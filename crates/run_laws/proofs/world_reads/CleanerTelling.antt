@@ -9,7 +9,7 @@ use Rattle.cleaner_node.specs.declared.cleaner.Phase.TheVariants.{Opening, Servi
 use Rattle.cleaner_job.specs.declared.lasting.Lasting.{Lasting}
 use Rattle.node_logs.specs.client_log_tie.ClientEvents.{ServesStraight}
 use Rattle.node_tellings.specs.entry_tie.Told as entries
-use Rattle.index_tie.specs.Filed.{rows_at}
+use Rattle.headline.specs.Filed.{rows_at}
 use Rattle.log_owner.specs.declared.opened.Opened.{Opened}
 use Rattle.log_owner.specs.declared.opened.Progress.{Progress}
 use Rattle.log_owner.specs.declared.opened.Progress.TheVariants as progress
@@ -31,7 +31,7 @@ use Rattle.wire_msg.specs.declared.packet.Do.{Do}
 use Rattle.wire_msg.specs.declared.packet.Do.TheVariants.{Begin, Deliver, Tick}
 use Rattle.wire_msg.specs.declared.packet.Packet.{Packet}
 use Rattle.run_laws.specs.world_law.Standing as owners
-use Rattle.run_laws.specs.world_law.Owners.{moment}
+use Rattle.headline.specs.Moments.{moment}
 use Rattle.run_laws.specs.world_logs.Lines.{cluster}
 use Rattle.run_laws.proofs.world_reads.CleanerMoment.{Steps, its_line, its_setting}
 use Rattle.run_laws.proofs.world_reads.CleanerReopening.{came, reopens_at}

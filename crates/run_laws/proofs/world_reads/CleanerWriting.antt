@@ -6,7 +6,7 @@ use Rattle.index_tie.specs.Net.{Net}
 use Rattle.node_slots.specs.owner_index_tie.CleanerEvents.{WritesTexts}
 use Rattle.wire_msg.specs.declared.packet.Do.{Do}
 use Rattle.run_laws.specs.world_lines.Flights.{CleanerWritesTexts}
-use Rattle.run_laws.specs.world_logs.Roles.Role.{OfCleaner}
+use Rattle.headline.specs.Logs.Role.{OfCleaner}
 use Rattle.run_laws.specs.world_reads.LoggedRuns.{LoggedRun}
 use Rattle.run_laws.proofs.world_reads.CleanerMoment.{Steps, its_moment, its_scene, its_setting, owns}
 

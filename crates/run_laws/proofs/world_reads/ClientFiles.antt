@@ -14,7 +14,7 @@ use Rattle.client_serving.specs.declared.serving.Serving.{Serving as ServingClie
 use Rattle.core_world.specs.declared.any_node.AnyNode.TheVariants as any
 use Rattle.run_laws.specs.index_reads.Clients.{NothingIsNewer}
 use Rattle.run_laws.specs.index_reads.Ties.{Tied}
-use Rattle.index_tie.specs.Filed.{Filed}
+use Rattle.headline.specs.Filed.{Filed, Texts as Named}
 use Rattle.index_tie.specs.Growth.{with_segment}
 use Rattle.log_flight.specs.Flights.{FlightState}
 use Rattle.log_law.specs.Events.{Runs}
@@ -30,7 +30,7 @@ use Rattle.log_protocol.specs.Tables.{In}
 use Rattle.log_tie.specs.Setting.{Setting}
 use Rattle.node_base.specs.declared.effects.Effect.{Effect}
 use Rattle.node_base.specs.declared.effects.Effect.TheVariants.{Send, Answer, Lose, Does}
-use Rattle.node_slots.specs.node_index_tie.Sight.{Texts as Named, held_in}
+use Rattle.node_slots.specs.node_index_tie.Sight.{held_in}
 use Rattle.node_slots.proofs.node_tie.SmallWorld.{with_promise}
 use Rattle.node_slots.specs.node_tie.LogRows.{rows_told}
 use Rattle.node_slots.proofs.owner_index_tie.Acting.{all_then}
@@ -48,7 +48,7 @@ use Rattle.run_laws.specs.world_index.Standing as index
 use Rattle.run_laws.specs.world_lines.Filing.{FlightSays}
 use Rattle.run_laws.specs.world_lines.Lines.{IsLine, IsSure, SaysBlocks}
 use Rattle.run_laws.specs.world_lines.Turns.{ActSo, ActsFile, AllNew, AllSo, EffectSo, NewAct, NewEffect}
-use Rattle.run_laws.specs.world_logs.Roles.Role.{OfClient}
+use Rattle.headline.specs.Logs.Role.{OfClient}
 use Rattle.run_laws.specs.world_logs.Standing.{OwnerSeen}
 use Rattle.run_laws.proofs.world_reads.ClientLog as log
 use Rattle.run_laws.proofs.world_reads.ClientLog.{ClientEvent}

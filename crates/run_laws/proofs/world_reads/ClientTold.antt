@@ -12,7 +12,7 @@ use Rattle.client_serving.specs.declared.serving.Serving.{Serving as ServingClie
 use Rattle.core_world.specs.declared.any_node.AnyNode.TheVariants as any
 use Rattle.node_tellings.specs.entry_tie.ClientTells as entries
 use Rattle.node_tellings.specs.entry_tie.Told.{told_by_rows}
-use Rattle.index_tie.specs.Filed.{Filed, rows_at}
+use Rattle.headline.specs.Filed.{Filed, rows_at}
 use Rattle.log_law.specs.Events.{Runs}
 use Rattle.log_law.specs.Laws.{Moment}
 use Rattle.log_law.specs.Restarts.{last_flight}
@@ -41,8 +41,8 @@ use Rattle.world_base.specs.declared.event.Event.{Event}
 use Rattle.world_base.specs.Events.{what_of}
 use Rattle.run_laws.specs.world_law.Standing as tokens
 use Rattle.run_laws.specs.world_law.Owes.{ClientTold}
-use Rattle.run_laws.specs.world_law.Owners.{moment}
-use Rattle.run_laws.specs.world_logs.Roles.Role.{OfClient}
+use Rattle.headline.specs.Moments.{moment}
+use Rattle.headline.specs.Logs.Role.{OfClient}
 use Rattle.run_laws.proofs.world_reads.ClientFiles as files
 use Rattle.run_laws.proofs.world_reads.ClientLog as log
 use Rattle.run_laws.proofs.world_reads.ClientLog.{ClientEvent}

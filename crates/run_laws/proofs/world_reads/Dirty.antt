@@ -1,7 +1,7 @@
 -- A block that a client has dirty leads what is filed: so it does in the small world of tokens, whose books and the index's table tell of the same logs.
 use Rattle.std.proofs.Common.{◌≡◌, ℕ, zero, suc, ◌<◌, ◌≤◌, true, Some, refl, subst, arith}
 use Rattle.std.proofs.lemmas.Bool.{eq-eqb}
-use Rattle.index_tie.specs.Filed.{row_at}
+use Rattle.headline.specs.Filed.{row_at}
 use Rattle.node_slots.proofs.node_tie.SmallWorld.{with_promise}
 use Rattle.node_slots.specs.node_index_tie.Sight.{held_in}
 use Rattle.token_client.specs.Held.{is_dirty}
@@ -18,9 +18,11 @@ use Rattle.run_laws.proofs.world_law.Laws as tokens
 use Rattle.run_laws.proofs.world_reads.TurnRun.{moment_cluster}
 use Rattle.run_laws.proofs.world_reads.Tying.{slot_tied}
 use Rattle.run_laws.specs.index_reads.Ties.{Tied}
-use Rattle.run_laws.specs.world_law.Owners.{moment, node_in, tokens_of}
+use Rattle.headline.specs.Moments.{moment, node_in}
+use Rattle.headline.specs.Owners.{tokens_of}
 use Rattle.run_laws.specs.world_law.Standing.{members}
-use Rattle.run_laws.specs.world_reads.Dirty.{DirtyBlocksLead, LeadsFiled, OwnsFrom}
+use Rattle.headline.specs.Indexes.{DirtyBlocksLead, LeadsFiled}
+use Rattle.headline.specs.Versions.{OwnsFrom}
 use Rattle.run_laws.specs.world_reads.Joint.{Joint, k}
 use Rattle.run_laws.specs.world_reads.LoggedRuns.{LoggedRun}
 use Rattle.xfs_base.specs.Blocks.{slot_of}

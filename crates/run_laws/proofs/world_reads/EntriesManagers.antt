@@ -8,7 +8,8 @@ use Rattle.node_tellings.proofs.entry_tie.Frames.{all_filter_map}
 use Rattle.node_tellings.proofs.entry_tie.Rising.{rows_rise, told_more}
 use Rattle.node_tellings.specs.entry_tie.ManagerTells.{AnswerOwed, BodyOwed, DoOwed, ManagerOwed, PacketOwed, PartTold, SlotOwed}
 use Rattle.node_tellings.specs.entry_tie.Told.{AreMore, FiledRows, RowTold, RowsTold, Told as EntryTold, told_by_rows}
-use Rattle.index_tie.specs.Filed.{IsFiled, IsNoPart, rows_at}
+use Rattle.index_tie.specs.Filed.{IsFiled}
+use Rattle.headline.specs.Filed.{AreTexts, IsNoPart, rows_at}
 use Rattle.index_tie.specs.Net.{Net}
 use Rattle.log_owner.specs.Sending.{server_in}
 use Rattle.log_tie.specs.Setting.{Setting}
@@ -23,8 +24,8 @@ use Rattle.manager_slots.specs.Slots.{fetch_of}
 use Rattle.manager_serving.specs.declared.serving.Serving.{Serving}
 use Rattle.node_slots.specs.node_index_tie.ManagerEvents.{AbsentGets, FoundGets, ManagerAgrees, PhaseAgrees, TakingAgrees, completes_at, completes_in}
 use Rattle.node_slots.specs.node_index_tie.Pages.{Desk, desk_of}
-use Rattle.node_slots.specs.node_index_tie.Sight.{AreTexts, IsRead, Questions}
-use Rattle.node_slots.specs.node_tie.ManagerEvents.{phase_at, slot_in}
+use Rattle.node_slots.specs.node_index_tie.Sight.{IsRead, Questions}
+use Rattle.headline.specs.Managers.{phase_at, slot_in}
 use Rattle.segment_format.specs.declared.segment.Item.{Item}
 use Rattle.segment_format.specs.declared.segment.Item.TheVariants.{Block, Delta, Part}
 use Rattle.segment_format.specs.declared.segment.Segment.{Segment}

@@ -14,7 +14,7 @@ use Rattle.manager_slots.specs.declared.slot_phase.SlotPhase.TheVariants as phas
 use Rattle.node_base.specs.declared.effects.Effect.{Effect}
 use Rattle.node_base.specs.declared.effects.Effect.TheVariants.{Send, Answer, Lose, Does}
 use Rattle.node_base.specs.Effects.{packet_of, packets_of}
-use Rattle.node_slots.specs.node_tie.ManagerEvents.{phase_at, slot_in}
+use Rattle.headline.specs.Managers.{phase_at, slot_in}
 use Rattle.node_tellings.proofs.part_tie.Managers as managers
 use Rattle.node_tellings.proofs.part_tie.Registries as registries
 use Rattle.node_tellings.specs.part_tie.ManagerNames.{ManagerNames, PhaseFlies, PhaseNames, SlotNames}
@@ -38,7 +38,7 @@ use Rattle.world_base.specs.Items.{items_of}
 use Rattle.world_base.specs.NextWorld.{first_node, next_world, sent_at, start_world}
 use Rattle.run_laws.proofs.world_index.Senders.{IsKind, IsSentBy}
 use Rattle.run_laws.proofs.world_law.Turning.{next_keeps}
-use Rattle.run_laws.specs.world_law.Owners.{moment}
+use Rattle.headline.specs.Moments.{moment}
 use Rattle.run_laws.proofs.world_reads.EntriesStay.{at_place, in_set}
 use Rattle.run_laws.proofs.world_law.Sent.{in_append}
 use Rattle.run_laws.proofs.world_reads.Taking.{Took}

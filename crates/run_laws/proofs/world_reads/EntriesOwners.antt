@@ -10,7 +10,7 @@ use Rattle.core_world.specs.declared.any_node.AnyNode.{AnyNode}
 use Rattle.node_tellings.proofs.entry_tie.Frames.{contains_all}
 use Rattle.node_tellings.specs.entry_tie.ClientTells.{FlightOwed, SegmentOwed}
 use Rattle.node_tellings.specs.entry_tie.Told.{RowTold, RowsTold, told_by_rows}
-use Rattle.index_tie.specs.Filed.{Filed, rows_at}
+use Rattle.headline.specs.Filed.{Filed, rows_at}
 use Rattle.log_flight.specs.Flights.{FlightState}
 use Rattle.log_law.specs.Held.{OwnerFlew, WhatFlewIsOfTheLog, WhatIsHeldFlew}
 use Rattle.log_law.specs.Net.{Net, Owner as owner}
@@ -24,12 +24,11 @@ use Rattle.version_model.specs.declared.act.Act.{Act}
 use Rattle.version_model.specs.declared.act.Act.TheVariants.{Filed as ActsFiled}
 use Rattle.world_base.specs.declared.event.Event.{Event}
 use Rattle.world_base.specs.Events.{node_of, what_of}
-use Rattle.run_laws.specs.world_law.Owners.{moment}
+use Rattle.headline.specs.Moments.{moment}
 use Rattle.run_laws.specs.world_lines.Lines.{IsLine, IsSure, LineGives, LinesGive}
 use Rattle.run_laws.proofs.world_logs.Line.{grows}
-use Rattle.run_laws.specs.world_logs.Doings.{owns}
+use Rattle.headline.specs.Logs.{Role, log_by, owns}
 use Rattle.run_laws.specs.world_logs.Lines.{Line, setting}
-use Rattle.run_laws.specs.world_logs.Roles.{Role, log_by}
 use Rattle.run_laws.proofs.world_reads.EntriesRise.{rows_filed}
 use Rattle.run_laws.proofs.world_reads.Taking.{Took, did_then}
 use Rattle.run_laws.specs.world_reads.Joint.{There, log_at}

@@ -9,7 +9,7 @@ use Rattle.node_tellings.proofs.entry_tie.Rising.{rows_rise, told_more}
 use Rattle.node_tellings.specs.entry_tie.Told.{AreMore, BodyTold, FiledRows, told_by_rows}
 use Rattle.index_tie.proofs.Rows.{by_filed}
 use Rattle.index_tie.proofs.Tables.{first_of}
-use Rattle.index_tie.specs.Filed.{Filed, rows_at}
+use Rattle.headline.specs.Filed.{Filed, rows_at}
 use Rattle.index_tie.specs.Growth.{IsMore}
 use Rattle.script_text.specs.declared.script.Script.{Script}
 use Rattle.segment_format.specs.declared.segment.Segment.{Segment}
@@ -23,7 +23,7 @@ use Rattle.world_base.specs.Cluster.{cluster_of, nodes_of}
 use Rattle.world_base.specs.declared.estate.Estate.{Estate}
 use Rattle.world_base.specs.Items.{items_of}
 use Rattle.world_base.specs.NextWorld.{first_node, start_world}
-use Rattle.run_laws.specs.world_law.Owners.{moment}
+use Rattle.headline.specs.Moments.{moment}
 use Rattle.run_laws.specs.world_reads.Readings.{EntryKinds}
 use Rattle.run_laws.specs.world_reads.Entries.{AnyTold, EntriesStand}
 use Rattle.xfs_base.proofs.Members.{contains_nothing}

@@ -3,14 +3,14 @@ use Rattle.std.proofs.Common.{◌≡◌, ◌≤◌, ◌<◌, ℕ, false, refl, s
 use Rattle.std.specs.Prelude.{Contains}
 use Rattle.node_tellings.specs.entry_tie.Told.{AreMore}
 use Rattle.index_tie.proofs.Rows.{by_filed}
-use Rattle.index_tie.specs.Filed.{Filed, rows_at}
+use Rattle.headline.specs.Filed.{Filed, rows_at}
 use Rattle.log_law.specs.Net.{Net}
 use Rattle.log_tie.specs.Setting.{Setting}
 use Rattle.segment_format.specs.declared.segment.Segment.{Segment}
 use Rattle.segment_format.specs.Rows.{rows_of}
 use Rattle.run_laws.specs.world_lines.Lines.{IsLine, IsSure, LinesGive}
 use Rattle.run_laws.specs.world_logs.Lines.{setting}
-use Rattle.run_laws.specs.world_logs.Roles.{Role, log_by, renews}
+use Rattle.headline.specs.Logs.{Role, log_by, renews}
 use Rattle.run_laws.proofs.world_reads.EntriesRise.{rows_filed}
 use Rattle.run_laws.proofs.world_reads.KnownLogs.{HasLog, filed_log}
 use Rattle.run_laws.specs.world_reads.Joint.{IsSureUpto, Joint, There, log_at}

@@ -4,12 +4,14 @@ use Rattle.std.proofs.lemmas.Bool.{eqb-true}
 use Rattle.std.proofs.lemmas.Bool.Decides.{nat_tests}
 use Rattle.std.specs.List.{AllByRecursion, flat_map, range_with_len}
 use Rattle.index_tie.proofs.Takeovers.{of_log_in}
-use Rattle.index_tie.specs.Filed.{Filed, IsFiled}
+use Rattle.index_tie.specs.Filed.{IsFiled}
+use Rattle.headline.specs.Filed.{AreTexts, Filed, Texts}
 use Rattle.index_tie.specs.Net.{Net}
-use Rattle.index_tie.specs.Takeovers.{IsEnd, Linked, of_log}
+use Rattle.index_tie.specs.Takeovers.{IsEnd, Linked}
+use Rattle.headline.specs.Indexes.{of_log}
 use Rattle.node_slots.proofs.node_index_tie.Reading.{end_from_is}
 use Rattle.node_slots.specs.node_index_tie.ManagerEvents.{TakingAgrees}
-use Rattle.node_slots.specs.node_index_tie.Sight.{AreTexts, EndKnown, IsRead, NewsKnown, ReportKnown, Texts}
+use Rattle.node_slots.specs.node_index_tie.Sight.{EndKnown, IsRead, NewsKnown, ReportKnown}
 use Rattle.segment_format.specs.declared.segment.Segment.{Segment}
 use Rattle.takeover.specs.Course.{Course, course_of}
 use Rattle.takeover.specs.declared.report.Report.{Report}

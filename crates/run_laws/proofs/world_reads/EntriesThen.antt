@@ -23,7 +23,7 @@ use Rattle.node_tellings.specs.entry_tie.ClientTells.{ClientOwed, StageOwed}
 use Rattle.node_tellings.specs.entry_tie.ManagerTells.{FlightHolds, ManagerOwed, PhaseHolds}
 use Rattle.node_tellings.specs.entry_tie.Told.{AreMore, Told, told_by_rows}
 use Rattle.index_tie.proofs.Runs.{good_in}
-use Rattle.index_tie.specs.Filed.{Filed, rows_at}
+use Rattle.headline.specs.Filed.{Filed, rows_at}
 use Rattle.index_tie.specs.Growth.{IsMore}
 use Rattle.log_flight.specs.Flights.{FlightState}
 use Rattle.log_law.specs.Held.{OwnerFlew}
@@ -60,13 +60,12 @@ use Rattle.run_laws.proofs.world_law.ManagerTurns.{delivered}
 use Rattle.run_laws.proofs.world_law.Places.{Behind, behind}
 use Rattle.run_laws.proofs.world_law.Sent.{was_sent}
 use Rattle.run_laws.proofs.world_law.Turns.{one_node}
-use Rattle.run_laws.specs.world_law.Owners.{moment, node_in}
+use Rattle.headline.specs.Moments.{moment, node_in}
 use Rattle.run_laws.specs.world_lines.Lines.{IsLine}
 use Rattle.run_laws.proofs.world_logs.Line.{grows}
-use Rattle.run_laws.specs.world_logs.Doings.{did, owns}
+use Rattle.headline.specs.Logs.{Role, did, log_by, owns, renews}
 use Rattle.run_laws.specs.world_logs.Lines.{Line, setting}
-use Rattle.run_laws.specs.world_logs.Roles.{Role, log_by, renews}
-use Rattle.run_laws.specs.world_logs.Roles.Role.{OfClient, OfCleaner, OfManager}
+use Rattle.headline.specs.Logs.Role.{OfClient, OfCleaner, OfManager}
 use Rattle.run_laws.proofs.world_reads.CleanerFront.{its_cluster, may_happen}
 use Rattle.run_laws.proofs.world_reads.CleanerMoment.{upto_before}
 use Rattle.run_laws.proofs.world_reads.EntriesManagers.{SlotKnown, manager_owed}

@@ -2,7 +2,7 @@
 use Rattle.std.proofs.Common.{◌≡◌, ℕ, ◌<◌, Bool, true, false, if◌then◌else◌, List, [], ◌∷◌, ◌++◌, Some, refl, sym, ap, subst, ◌∙◌, append-nil}
 use Rattle.act_tie.proofs.Onward.{acts_on, apart_on}
 use Rattle.act_tie.specs.BlockActs.{acts_of}
-use Rattle.act_tie.specs.Shown.{FallsApart}
+use Rattle.version_model.specs.Falls.{FallsApart}
 use Rattle.node_slots.proofs.node_tie.SmallWorld.{with_promise}
 use Rattle.token_client.specs.State.{TokensState, held_of}
 use Rattle.token_law.specs.Laws.{ActsAreLegal}
@@ -20,10 +20,11 @@ use Rattle.run_laws.proofs.world_law.Laws as tokens
 use Rattle.run_laws.proofs.world_law.RegistryTurns.{slot_below}
 use Rattle.run_laws.proofs.world_reads.LegalJoints.{of_block}
 use Rattle.run_laws.proofs.world_reads.TurnRun.{moment_cluster}
-use Rattle.run_laws.specs.world_law.Owners.{moment, node_in, tokens_of}
+use Rattle.headline.specs.Moments.{moment, node_in}
+use Rattle.headline.specs.Owners.{tokens_of}
 use Rattle.run_laws.specs.world_law.Standing.{members}
 use Rattle.run_laws.specs.world_reads.TokensBelow.{BlocksMakeLegal}
-use Rattle.run_laws.specs.world_reads.Holders.{HoldersAreNewest, IsNewest, history_at}
+use Rattle.headline.specs.Versions.{HoldersAreNewest, IsNewest, history_at}
 use Rattle.run_laws.specs.world_reads.Joint.{Joint, k}
 use Rattle.run_laws.specs.world_reads.LoggedRuns.{LoggedRun}
 use Rattle.xfs_base.proofs.BlockOrder.{same_block_exact}

@@ -19,12 +19,13 @@ use Rattle.wire_msg.specs.declared.body.Body.{Body}
 use Rattle.wire_msg.specs.declared.body.Body.TheVariants as body
 use Rattle.wire_msg.specs.declared.packet.Packet.{Packet}
 use Rattle.wire_msg.specs.declared.storage.Listed.{Listed}
-use Rattle.run_laws.specs.world_law.Owners.{moment}
+use Rattle.headline.specs.Moments.{moment}
 use Rattle.run_laws.specs.world_logs.Lines.{setting}
-use Rattle.run_laws.specs.world_logs.Roles.{Role, asker_by, log_by, renews}
-use Rattle.run_laws.specs.world_logs.Roles.Role.{OfClient, OfCleaner, OfManager}
+use Rattle.run_laws.specs.world_logs.Roles.{asker_by}
+use Rattle.headline.specs.Logs.{Role, log_by, renews}
+use Rattle.headline.specs.Logs.Role.{OfClient, OfCleaner, OfManager}
 use Rattle.run_laws.specs.world_logs.Settings.{stripe_by}
-use Rattle.run_laws.specs.world_logs.Shelves.{group_at}
+use Rattle.headline.specs.Servers.{group_at}
 use Rattle.run_laws.specs.world_reads.Joint.{Joint, There, log_at}
 use Rattle.run_laws.specs.world_reads.LoggedRuns.{LoggedRun}
 use Rattle.xfs_base.specs.declared.fragment.FragMeta.{FragMeta}

@@ -1,14 +1,14 @@
 -- The acts of a run up to a moment that stands to the small world of tokens of each slot are legal: those of each block are, in the small world of its slot.
 use Rattle.std.proofs.Common.{ℕ, ◌<◌, subst}
 use Rattle.act_tie.specs.BlockActs.{acts_of}
-use Rattle.act_tie.specs.Shown.{FallsApart}
+use Rattle.version_model.specs.Falls.{FallsApart}
 use Rattle.node_slots.proofs.node_tie.SmallWorld.{with_promise}
 use Rattle.token_law.specs.Laws.{ActsAreLegal}
 use Rattle.token_protocol.specs.Acts.{LegalActs}
 use Rattle.version_model.specs.Legal.{AreLegal}
 use Rattle.run_laws.proofs.world_law.RegistryTurns.{slot_below}
 use Rattle.run_laws.specs.world_law.Standing.{members}
-use Rattle.run_laws.specs.world_law.Owners.{moment}
+use Rattle.headline.specs.Moments.{moment}
 use Rattle.run_laws.specs.world_reads.TokensBelow.{BlocksMakeLegal}
 use Rattle.run_laws.specs.world_reads.Joint.{Joint, k}
 use Rattle.run_laws.specs.world_reads.LoggedRuns.{LoggedRun}

@@ -7,14 +7,14 @@ use Rattle.core_world.specs.declared.any_node.AnyNode.{AnyNode}
 use Rattle.log_tie.specs.Setting.{Setting}
 use Rattle.node_base.specs.Setups.{IsSetup}
 use Rattle.run_laws.specs.reopening_law.Reopens.{TellsApart}
-use Rattle.run_laws.specs.restart_law.Restarts.{NoDoubtfulRestart}
+use Rattle.headline.specs.Restarts.{NoDoubtfulRestart}
 use Rattle.run_laws.specs.restart_law.Unlost.{ScriptsWithoutLossesAreUndoubted}
 use Rattle.version_model.specs.Legal.{AreLegal}
 use Rattle.world_base.specs.Cluster.{cluster_of}
 use Rattle.world_base.specs.declared.estate.Estate.{Estate}
 use Rattle.world_base.specs.Runs.{IsRun}
 use Rattle.run_laws.proofs.world_index.Laws.{keeps}
-use Rattle.run_laws.specs.world_law.Owners.{moment}
+use Rattle.headline.specs.Moments.{moment}
 use Rattle.run_laws.specs.world_logs.Lines.{HasLines, Texts}
 use Rattle.run_laws.proofs.world_reads.Dirty.{dirty_blocks_lead}
 use Rattle.run_laws.proofs.world_reads.Holders.{holders_are_newest}

@@ -24,11 +24,12 @@ use Rattle.takeover.specs.Sources.{back_from, goes_back, prior_of}
 use Rattle.wire_msg.specs.declared.body.Body.TheVariants as body
 use Rattle.wire_msg.specs.declared.packet.Packet.{Packet}
 use Rattle.wire_msg.specs.declared.storage.Found.{Found}
-use Rattle.run_laws.specs.world_law.Owners.{moment}
+use Rattle.headline.specs.Moments.{moment}
 use Rattle.run_laws.specs.world_logs.Lines.{setting}
-use Rattle.run_laws.specs.world_logs.Roles.{Role, asker_by}
+use Rattle.run_laws.specs.world_logs.Roles.{asker_by}
+use Rattle.headline.specs.Logs.{Role}
 use Rattle.run_laws.specs.world_logs.Settings.{stripe_by}
-use Rattle.run_laws.specs.world_logs.Shelves.{group_at}
+use Rattle.headline.specs.Servers.{group_at}
 use Rattle.run_laws.specs.world_reads.Joint.{There, log_at}
 use Rattle.run_laws.specs.world_reads.References.{Flew, OfSomeLog}
 use Rattle.run_laws.specs.world_reads.LoggedRuns.{LoggedRun}

@@ -33,10 +33,10 @@ use Rattle.run_laws.specs.world_index.Standing as index
 use Rattle.run_laws.proofs.world_law.ManagerTurns.{delivered}
 use Rattle.run_laws.proofs.world_law.Sent.{was_sent}
 use Rattle.run_laws.specs.world_law.Standing as tokens
-use Rattle.run_laws.specs.world_law.Owners.{moment, node_in, node_named}
+use Rattle.headline.specs.Moments.{moment, node_in, node_named}
 use Rattle.run_laws.specs.world_lines.Flights.{ManagersWriteTexts}
 use Rattle.run_laws.specs.world_logs.Lines.{Line, cluster, setting}
-use Rattle.run_laws.specs.world_logs.Roles.Role.{OfManager}
+use Rattle.headline.specs.Logs.Role.{OfManager}
 use Rattle.run_laws.proofs.world_reads.Taking.{Took, moment_next, node_then, took_it}
 use Rattle.run_laws.specs.world_reads.Joint.{Joint, There}
 use Rattle.run_laws.specs.world_reads.LoggedRuns.{LoggedRun}

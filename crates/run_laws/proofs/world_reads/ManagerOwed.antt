@@ -12,7 +12,7 @@ use Rattle.manager_slots.specs.declared.slot_phase.SlotPhase.TheVariants as phas
 use Rattle.manager_slots.specs.declared.slot_phase.Taking.{Taking}
 use Rattle.node_slots.specs.node_index_tie.ManagerEvents as places
 use Rattle.node_slots.specs.node_index_tie.Pages.{desk_of}
-use Rattle.node_slots.specs.node_tie.ManagerEvents.{slot_in}
+use Rattle.headline.specs.Managers.{slot_in}
 use Rattle.run_laws.specs.reading_law.Readings.{ReadingsCame}
 use Rattle.node_tellings.specs.reference_tie.Managers.{PhaseRefers, ReportRefers, SlotRefers, TakeRefers}
 use Rattle.node_tellings.specs.reference_tie.References.{References}
@@ -29,9 +29,9 @@ use Rattle.run_laws.proofs.world_law.Places.{Behind, behind}
 use Rattle.run_laws.proofs.world_law.Sent.{in_list}
 use Rattle.run_laws.specs.world_law.Standing as tokens
 use Rattle.run_laws.specs.world_law.Owes.{TurnOwes}
-use Rattle.run_laws.specs.world_law.Owners.{moment}
+use Rattle.headline.specs.Moments.{moment}
 use Rattle.run_laws.specs.world_logs.Lines.{cluster}
-use Rattle.run_laws.specs.world_logs.Roles.Role.{OfManager}
+use Rattle.headline.specs.Logs.Role.{OfManager}
 use Rattle.run_laws.proofs.world_reads.ManagerMoment as manager
 use Rattle.run_laws.proofs.world_reads.ManagerMoment.{Coming, ManagerEvent}
 use Rattle.run_laws.proofs.world_reads.ManagerReading as reading

@@ -15,7 +15,7 @@ use Rattle.manager_slots.specs.declared.slot_phase.Taking.{Taking}
 use Rattle.manager_serving.specs.declared.serving.Serving.{Serving}
 use Rattle.node_slots.specs.node_index_tie.ManagerEvents.{AbsentGets, FoundGets, completes_at, completes_in}
 use Rattle.node_slots.specs.node_index_tie.Sight.{IsRead}
-use Rattle.node_slots.specs.node_tie.ManagerEvents.{phase_at, slot_in}
+use Rattle.headline.specs.Managers.{phase_at, slot_in}
 use Rattle.run_laws.specs.reading_law.Readings.{cuts_at}
 use Rattle.node_tellings.specs.reading_tie.Arrivals.{AnsweredIn, Tells, answered_in, cut_by}
 use Rattle.node_tellings.specs.reading_tie.Came.{ReadsJoined}
@@ -39,8 +39,8 @@ use Rattle.wire_msg.specs.declared.storage.Missing.{Missing as Absent}
 use Rattle.world_base.specs.declared.event.Event.{Event}
 use Rattle.world_base.specs.Events.{node_of, what_of}
 use Rattle.run_laws.specs.world_index.Owes.{BodyReads, DoReads, IndexOwes, ManagerTold, PacketReads}
-use Rattle.run_laws.specs.world_law.Owners.{moment}
-use Rattle.run_laws.specs.world_logs.Roles.Role.{OfManager}
+use Rattle.headline.specs.Moments.{moment}
+use Rattle.headline.specs.Logs.Role.{OfManager}
 use Rattle.run_laws.proofs.world_reads.ManagerChains.{Refers, known, names_its_group, refers_down}
 use Rattle.run_laws.proofs.world_reads.ManagerMoment as manager
 use Rattle.run_laws.proofs.world_reads.ManagerMoment.{ManagerEvent}

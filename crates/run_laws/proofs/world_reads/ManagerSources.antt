@@ -7,9 +7,10 @@ use Rattle.std.proofs.lemmas.Bool.{eqb-true}
 use Rattle.std.proofs.lemmas.Bool.Decides.{nat_tests}
 use Rattle.std.proofs.lemmas.List.Elements.{Contains-append_cases}
 use Rattle.index_tie.proofs.Takeovers.{of_log_in}
-use Rattle.index_tie.specs.Filed.{Filed}
+use Rattle.headline.specs.Filed.{Filed}
 use Rattle.index_tie.specs.Net.{Net}
-use Rattle.index_tie.specs.Takeovers.{IsEnd, of_log}
+use Rattle.index_tie.specs.Takeovers.{IsEnd}
+use Rattle.headline.specs.Indexes.{of_log}
 use Rattle.manager_slots.specs.declared.slot_phase.Taking.{Taking}
 use Rattle.node_slots.proofs.node_index_tie.Reading.{end_from_is}
 use Rattle.node_slots.specs.node_index_tie.ManagerEvents.{TakingAgrees}

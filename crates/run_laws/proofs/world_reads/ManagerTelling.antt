@@ -21,7 +21,7 @@ use Rattle.node_slots.specs.node_index_tie.Sight.{ReportKnown, held_in}
 use Rattle.node_slots.proofs.node_tie.ManagerTakes.{Brings}
 use Rattle.node_slots.proofs.node_tie.SmallWorld.{with_promise}
 use Rattle.node_slots.specs.node_tie.ManagerEvents as owners
-use Rattle.node_slots.specs.node_tie.ManagerEvents.{phase_at, slot_in}
+use Rattle.headline.specs.Managers.{phase_at, slot_in}
 use Rattle.takeover.specs.declared.input.In.{In as Input}
 use Rattle.takeover.specs.declared.input.In.TheVariants.{Got, Missing as Lacks}
 use Rattle.takeover.specs.declared.report.Report.{Report as Heard}
@@ -45,8 +45,8 @@ use Rattle.run_laws.specs.world_index.Owes.{ManagerGiven, TokensGive}
 use Rattle.run_laws.specs.world_index.Standing as index
 use Rattle.run_laws.specs.world_law.Standing as standing
 use Rattle.run_laws.specs.world_law.Owes.{ManagerTold, ServingTold, SlotTold, TurnOwes}
-use Rattle.run_laws.specs.world_law.Owners.{moment, node_in}
-use Rattle.run_laws.specs.world_logs.Roles.Role.{OfManager}
+use Rattle.headline.specs.Moments.{moment, node_in}
+use Rattle.headline.specs.Logs.Role.{OfManager}
 use Rattle.run_laws.proofs.world_reads.ManagerMoment as manager
 use Rattle.run_laws.proofs.world_reads.ManagerMoment.{ManagerEvent}
 use Rattle.run_laws.proofs.world_reads.ManagerReading as reading

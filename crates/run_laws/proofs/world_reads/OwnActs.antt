@@ -34,10 +34,9 @@ use Rattle.world_base.specs.NextWorld.{next_world, start_world}
 use Rattle.world_base.specs.Runs.{IsRun}
 use Rattle.run_laws.proofs.world_law.Laws as tokens
 use Rattle.run_laws.proofs.world_law.Places.{behind}
-use Rattle.run_laws.specs.world_law.Owners.{moment, node_in}
-use Rattle.run_laws.specs.world_logs.Doings.{acts_by, acts_in, acts_of as owners_acts, did, owns}
-use Rattle.run_laws.specs.world_logs.Roles.{IsThere, Role, log_by}
-use Rattle.run_laws.specs.world_logs.Roles.Role.{OfClient, OfCleaner, OfManager}
+use Rattle.headline.specs.Moments.{acts_in, moment, node_in}
+use Rattle.headline.specs.Logs.{IsThere, Role, acts_by, did, log_by, acts_of as owners_acts, owns}
+use Rattle.headline.specs.Logs.Role.{OfClient, OfCleaner, OfManager}
 use Rattle.run_laws.proofs.world_reads.CleanerFront.{did_next}
 use Rattle.run_laws.proofs.world_reads.Taking.{NothingHappens, Took, did_before, did_then, moment_next, takes_or_not, took_it}
 use Rattle.run_laws.proofs.world_reads.TurnRun.{moment_cluster, past_end}

@@ -2,7 +2,8 @@
 use Rattle.std.proofs.Common.{◌≡◌, ◌⊎◌, ◌<◌, ◌≤◌, ℕ, zero, suc, false, Some, inl, inr, refl, sym, ap, subst, ◌∙◌, arith}
 use Rattle.core_world.specs.AnyNode.{any_start, any_step}
 use Rattle.core_world.specs.declared.any_node.AnyNode.TheVariants as any
-use Rattle.index_tie.specs.Filed.{Filed, IsFiled}
+use Rattle.index_tie.specs.Filed.{IsFiled}
+use Rattle.headline.specs.Filed.{Filed, HasSegment, IsOwnTable, IsStored}
 use Rattle.index_tie.proofs.Runs.{good_in}
 use Rattle.log_law.specs.Held.{WhatFlewIsOfTheLog}
 use Rattle.log_law.specs.Laws.{LogsStayWhole, OneNameOneText}
@@ -20,21 +21,19 @@ use Rattle.world_base.specs.Cluster.{cluster_of, place_of}
 use Rattle.world_base.specs.declared.cluster.Cluster.{Cluster}
 use Rattle.world_base.specs.Runs.{IsRun}
 use Rattle.run_laws.proofs.world_law.Laws as tokens
-use Rattle.run_laws.specs.world_law.Owners.{moment, node_in, node_named}
+use Rattle.headline.specs.Moments.{moment, node_in, node_named}
 use Rattle.run_laws.specs.world_lines.Lines.{IsLine, LineGives, LinesGive}
 use Rattle.run_laws.proofs.world_logs.Reading.{what_flew_is_text}
 use Rattle.run_laws.proofs.world_logs.Roles.{high_log}
-use Rattle.run_laws.specs.world_logs.Doings.{did}
-use Rattle.run_laws.specs.world_logs.Horizons.{IsOpened}
+use Rattle.headline.specs.Logs.{Role, did, log_by, renews}
+use Rattle.headline.specs.Horizons.{IsOpened}
 use Rattle.run_laws.specs.world_logs.Lines.{setting}
-use Rattle.run_laws.specs.world_logs.Roles.{Role, log_by, renews}
-use Rattle.run_laws.specs.world_logs.Roles.Role.{OfClient, OfCleaner, OfManager}
+use Rattle.headline.specs.Logs.Role.{OfClient, OfCleaner, OfManager}
 use Rattle.run_laws.proofs.world_reads.EntriesSame.{sure_log}
 use Rattle.run_laws.proofs.world_reads.KnownLogs.{HasLog, filed_log}
 use Rattle.run_laws.proofs.world_reads.OwnActs.{did_is_acted, told_by_owner}
 use Rattle.run_laws.proofs.world_reads.TurnRun.{moment_cluster}
 use Rattle.run_laws.specs.world_reads.Joint.{IsSureUpto, Joint, There, log_at}
-use Rattle.run_laws.specs.world_reads.OwnTable.{HasSegment, IsOwnTable, IsStored}
 use Rattle.run_laws.specs.world_reads.LoggedRuns.{LoggedRun}
 use Rattle.xfs_base.specs.declared.node.NodeId.TheVariants.{Registry}
 use Rattle.xfs_base.specs.declared.segment.LogId.{LogId}

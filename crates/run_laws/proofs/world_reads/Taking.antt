@@ -17,8 +17,8 @@ use Rattle.world_base.specs.Events.{node_of, what_of}
 use Rattle.world_base.specs.NextWorld.{next_world, sent_at, start_world}
 use Rattle.run_laws.proofs.world_law.Nodes.{get_set_same}
 use Rattle.run_laws.proofs.world_law.Turning.{next_keeps}
-use Rattle.run_laws.specs.world_law.Owners.{moment, node_in}
-use Rattle.run_laws.specs.world_logs.Doings.{acts_by, acts_in, acts_of, did, owns}
+use Rattle.headline.specs.Moments.{acts_in, moment, node_in}
+use Rattle.headline.specs.Logs.{acts_by, acts_of, did, owns}
 
 -- ---- the node's turn
 

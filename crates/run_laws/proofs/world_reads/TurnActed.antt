@@ -6,13 +6,13 @@ use Rattle.cleaner_node.specs.CleanerEvents.{takes as cleaner_takes}
 use Rattle.client_node.specs.Phases.{lasting_of, takes as client_takes}
 use Rattle.core_world.specs.declared.any_node.AnyNode.{AnyNode}
 use Rattle.core_world.specs.declared.any_node.AnyNode.TheVariants as any
-use Rattle.index_tie.specs.Filed.{Filed}
+use Rattle.headline.specs.Filed.{Filed, Texts as TextsOf}
 use Rattle.index_tie.specs.Growth.{with_segment}
 use Rattle.index_tie.specs.Net as index
 use Rattle.node_base.specs.declared.effects.Effect.{Effect}
 use Rattle.node_base.specs.declared.effects.Effect.TheVariants.{Send, Answer, Lose, Does}
 use Rattle.node_base.specs.Effects.{acts_of}
-use Rattle.node_slots.specs.node_index_tie.Sight.{Questions, Texts as TextsOf}
+use Rattle.node_slots.specs.node_index_tie.Sight.{Questions}
 use Rattle.node_slots.proofs.owner_index_tie.Growing.{head_is, segment_is}
 use Rattle.node_slots.proofs.owner_index_tie.Running.{others_after}
 use Rattle.node_slots.specs.owner_index_tie.Acting.{ActSo, AllSo, EffectSo}
@@ -27,9 +27,8 @@ use Rattle.wire_msg.specs.declared.packet.Do.{Do}
 use Rattle.world_base.specs.declared.event.Event.{Event}
 use Rattle.world_base.specs.Events.{node_of, what_of}
 use Rattle.run_laws.specs.world_index.Owes.{IndexOwes, Makes}
-use Rattle.run_laws.specs.world_law.Owners.{moment}
-use Rattle.run_laws.specs.world_logs.Doings.{did, owns}
-use Rattle.run_laws.specs.world_logs.Roles.{log_by}
+use Rattle.headline.specs.Moments.{moment}
+use Rattle.headline.specs.Logs.{did, log_by, owns}
 use Rattle.run_laws.proofs.world_reads.Taking.{Took, did_before, did_then}
 use Rattle.run_laws.specs.world_reads.Joint.{LinesActed}
 use Rattle.run_laws.specs.world_reads.LoggedRuns.{LoggedRun}

@@ -15,7 +15,7 @@ use Rattle.world_base.specs.Runs.{IsRun}
 use Rattle.run_laws.proofs.world_index.Senders.{IsSentBy, kinds_of_tokens}
 use Rattle.run_laws.specs.world_index.Standing.{SentBy}
 use Rattle.run_laws.proofs.world_law.RegistryTurns.{slot_below}
-use Rattle.run_laws.specs.world_law.Owners.{moment}
+use Rattle.headline.specs.Moments.{moment}
 use Rattle.run_laws.proofs.world_reads.TurnBoth.{Both}
 use Rattle.run_laws.proofs.world_reads.TurnLives.{lives_lie}
 use Rattle.run_laws.proofs.world_reads.TurnNext.{Grows}

@@ -37,7 +37,7 @@ use Rattle.run_laws.specs.world_law.Standing as tokens
 use Rattle.run_laws.specs.world_law.Standing.{Fact, epoch_now, members}
 use Rattle.run_laws.proofs.world_law.Turns.{one_node}
 use Rattle.run_laws.specs.world_law.Owes.{ClientTold, ManagerTold, TurnOwes}
-use Rattle.run_laws.specs.world_law.Owners.{moment, node_in}
+use Rattle.headline.specs.Moments.{moment, node_in}
 use Rattle.run_laws.proofs.world_reads.AfterFalls.{all_aside, client_aside}
 use Rattle.run_laws.proofs.world_reads.Taking.{Took, took_it}
 use Rattle.run_laws.proofs.world_reads.TurnBoth.{Both, delivered_to, sent_before}

@@ -2,9 +2,8 @@
 use Rattle.std.proofs.Common.{◌≡◌, ℕ, Bool, sym, ap, subst, refl}
 use Rattle.core_world.specs.declared.any_node.AnyNode.{AnyNode}
 use Rattle.core_world.specs.declared.any_node.AnyNode.TheVariants as any
-use Rattle.index_tie.specs.Filed.{Filed}
+use Rattle.headline.specs.Filed.{Filed, Texts}
 use Rattle.index_tie.specs.Net as index
-use Rattle.node_slots.specs.node_index_tie.Sight.{Texts}
 use Rattle.node_slots.specs.node_tie.CleanerLogs.{its_log}
 use Rattle.node_slots.specs.node_tie.Sight.{SameLog}
 use Rattle.node_slots.proofs.owner_index_tie.Running.{others_after}

@@ -35,8 +35,8 @@ use Rattle.run_laws.specs.world_law.Standing as tokens
 use Rattle.run_laws.proofs.world_law.Turning.{next_keeps}
 use Rattle.run_laws.proofs.world_law.Turns as token_turns
 use Rattle.run_laws.specs.world_law.Owes.{BooksGo, TurnOwes}
-use Rattle.run_laws.specs.world_law.Owners.{moment, node_in}
-use Rattle.run_laws.specs.world_logs.Roles.Role.{OfCleaner}
+use Rattle.headline.specs.Moments.{moment, node_in}
+use Rattle.headline.specs.Logs.Role.{OfCleaner}
 use Rattle.run_laws.proofs.world_reads.AfterCleaner.{AdoptsWhatFlew}
 use Rattle.run_laws.proofs.world_reads.Taking.{NothingHappens, Took, moment_next}
 use Rattle.run_laws.specs.world_reads.Joint.{Joint, k}

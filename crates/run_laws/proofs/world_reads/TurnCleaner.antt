@@ -49,12 +49,12 @@ use Rattle.run_laws.specs.world_index.Owes.{IndexOwes, Makes}
 use Rattle.run_laws.specs.world_index.Standing.{SentBy, WasAsked}
 use Rattle.run_laws.specs.world_law.Standing.{epoch_now}
 use Rattle.run_laws.specs.world_law.Owes.{BooksGo}
-use Rattle.run_laws.specs.world_law.Owners.{moment, node_in}
+use Rattle.headline.specs.Moments.{moment, node_in}
 use Rattle.run_laws.specs.world_lines.Lines.{IsSure, SaysBlocks}
 use Rattle.run_laws.specs.world_lines.Turns.{AllSo}
-use Rattle.run_laws.specs.world_logs.Doings.{owns}
+use Rattle.headline.specs.Logs.{owns}
 use Rattle.run_laws.specs.world_logs.Lines.{Line, setting}
-use Rattle.run_laws.specs.world_logs.Roles.Role.{OfCleaner}
+use Rattle.headline.specs.Logs.Role.{OfCleaner}
 use Rattle.run_laws.proofs.world_reads.After.{AllKnown, KnownAt}
 use Rattle.run_laws.proofs.world_reads.AfterCleaner as after
 use Rattle.run_laws.proofs.world_reads.AfterOwn.{OwnAfter}

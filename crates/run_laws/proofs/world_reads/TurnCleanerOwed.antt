@@ -10,7 +10,7 @@ use Rattle.world_base.specs.declared.event.Event.{Event}
 use Rattle.world_base.specs.Events.{node_of, what_of}
 use Rattle.world_base.specs.Runs.{IsRun}
 use Rattle.run_laws.specs.world_law.Standing.{epoch_now, members}
-use Rattle.run_laws.specs.world_law.Owners.{moment}
+use Rattle.headline.specs.Moments.{moment}
 use Rattle.run_laws.proofs.world_reads.CleanerBeside.{CleanerEvent, beside}
 use Rattle.run_laws.proofs.world_reads.CleanerOwed as owed
 use Rattle.run_laws.proofs.world_reads.CleanerOwed.{Beside}

@@ -39,12 +39,12 @@ use Rattle.world_base.specs.NextWorld.{next_world}
 use Rattle.run_laws.proofs.world_index.Frames.{client_number}
 use Rattle.run_laws.specs.world_index.Owes.{IndexOwes, Makes}
 use Rattle.run_laws.specs.world_law.Owes.{BooksGo}
-use Rattle.run_laws.specs.world_law.Owners.{moment, node_in}
+use Rattle.headline.specs.Moments.{moment, node_in}
 use Rattle.run_laws.specs.world_lines.Lines.{IsSure, SaysBlocks}
 use Rattle.run_laws.specs.world_lines.Turns.{AllSo}
-use Rattle.run_laws.specs.world_logs.Doings.{owns}
+use Rattle.headline.specs.Logs.{owns}
 use Rattle.run_laws.specs.world_logs.Lines.{Line, setting}
-use Rattle.run_laws.specs.world_logs.Roles.Role.{OfClient}
+use Rattle.headline.specs.Logs.Role.{OfClient}
 use Rattle.run_laws.proofs.world_reads.After.{AllKnown, KnownAt}
 use Rattle.run_laws.proofs.world_reads.AfterClients as after
 use Rattle.run_laws.proofs.world_reads.AfterOwn.{OwnAfter}

@@ -28,8 +28,8 @@ use Rattle.world_base.specs.Runs.{IsRun, MayHappen}
 use Rattle.run_laws.proofs.world_law.Places.{behind}
 use Rattle.run_laws.proofs.world_law.Sent.{in_list}
 use Rattle.run_laws.specs.world_law.Standing.{epoch_now}
-use Rattle.run_laws.specs.world_law.Owners.{moment, node_in, node_named}
-use Rattle.run_laws.specs.world_logs.Roles.Role.{OfClient}
+use Rattle.headline.specs.Moments.{moment, node_in, node_named}
+use Rattle.headline.specs.Logs.Role.{OfClient}
 use Rattle.run_laws.proofs.world_reads.ClientLog.{ClientEvent}
 use Rattle.run_laws.proofs.world_reads.ClientOwed as owed
 use Rattle.run_laws.proofs.world_reads.ClientTold as told

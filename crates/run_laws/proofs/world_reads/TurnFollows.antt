@@ -6,8 +6,9 @@ use Rattle.core_world.specs.declared.any_node.AnyNode.TheVariants as any
 use Rattle.index_tie.specs.Net.{Net}
 use Rattle.manager_node.specs.declared.manager.Manager.{Manager as ManagerNode}
 use Rattle.manager_node.specs.Events.{happens, manager_step}
-use Rattle.node_slots.specs.node_index_tie.Sight.{Texts as AllTexts}
-use Rattle.node_slots.specs.node_tie.ManagerEvents.{ManagedAt, slot_in}
+use Rattle.headline.specs.Filed.{Texts as AllTexts}
+use Rattle.node_slots.specs.node_tie.ManagerEvents.{ManagedAt}
+use Rattle.headline.specs.Managers.{slot_in}
 use Rattle.node_slots.specs.node_tie.RegistryEvents.{RegistrySound}
 use Rattle.segment_format.specs.declared.segment.Segment.{Segment}
 use Rattle.token_manager.specs.SlotState.{SlotState}
@@ -23,7 +24,7 @@ use Rattle.run_laws.specs.world_index.Owes.{Makes}
 use Rattle.run_laws.specs.world_index.Standing as index
 use Rattle.run_laws.proofs.world_law.Places.{behind}
 use Rattle.run_laws.specs.world_law.Standing as tokens
-use Rattle.run_laws.specs.world_law.Owners.{moment, node_in}
+use Rattle.headline.specs.Moments.{moment, node_in}
 use Rattle.run_laws.proofs.world_reads.Taking.{Took, moment_next, node_then}
 use Rattle.run_laws.proofs.world_reads.TurnBoth.{Both, IsOwed, Turned}
 use Rattle.run_laws.specs.world_reads.Chains.{Follows, IsManaged}

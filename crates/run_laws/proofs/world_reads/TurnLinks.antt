@@ -10,7 +10,8 @@ use Rattle.client_node.specs.declared.phase.Phase.TheVariants as clients
 use Rattle.client_node.specs.declared.phase.Phase.{Phase}
 use Rattle.client_serving.specs.declared.serving.Serving.{Serving}
 use Rattle.index_tie.specs.Net as index
-use Rattle.index_tie.specs.Takeovers.{Linked, of_log}
+use Rattle.index_tie.specs.Takeovers.{Linked}
+use Rattle.headline.specs.Indexes.{of_log}
 use Rattle.log_law.specs.Net as log
 use Rattle.log_owner.specs.Promised as owner
 use Rattle.log_tie.specs.Setting.{Setting}
@@ -26,7 +27,7 @@ use Rattle.run_laws.specs.world_law.Standing.{epoch_now, members}
 use Rattle.run_laws.specs.world_lines.Lines.{IsLine, IsSure}
 use Rattle.run_laws.specs.world_lines.Polls.{ClientLinked, CleanerLinked, LinkedSince}
 use Rattle.run_laws.specs.world_logs.Lines.{setting}
-use Rattle.run_laws.specs.world_logs.Roles.Role.{OfClient, OfCleaner}
+use Rattle.headline.specs.Logs.Role.{OfClient, OfCleaner}
 use Rattle.run_laws.proofs.world_reads.CleanerMoment.{sure_at}
 use Rattle.run_laws.proofs.world_reads.TurnBoth.{Both}
 use Rattle.run_laws.proofs.world_reads.TurnLogs.{LogsKnown}

@@ -6,8 +6,9 @@ use Rattle.checkpoint.specs.WriterState.{Rows}
 use Rattle.delta_index.specs.Entries.{no_entry}
 use Rattle.index_tie.proofs.Rows.{join_has}
 use Rattle.index_tie.proofs.Runs.{good_in}
-use Rattle.index_tie.specs.Filed.{Filed, IsFiled, row_at, rows_at}
-use Rattle.index_tie.specs.Laws.{IsAppliedRow}
+use Rattle.index_tie.specs.Filed.{IsFiled}
+use Rattle.headline.specs.Filed.{Filed, row_at, rows_at}
+use Rattle.headline.specs.Indexes.{IsAppliedRow}
 use Rattle.index_tie.specs.Net.{Net, Happens, Packet, Runs, answer_packets, opening}
 use Rattle.index_tie.specs.Net.Happens.{ClientFiles, CleanerFiles, GetsDeltas, GetsOther, Answers, Plans, Cleans, Checkpoints, Keeps, Moves, Activates, Promises, JobPromises, JobWelcomed, Reports, JobBegins, JobReads, Asks, JobHearsDead, JobTakes}
 use Rattle.index_tie.specs.Net.Packet.{AnsweredDead, AnsweredLive}

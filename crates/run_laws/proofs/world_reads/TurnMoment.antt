@@ -11,11 +11,11 @@ use Rattle.node_slots.specs.owner_index_tie.ClientEvents as client_index
 use Rattle.world_base.specs.Cluster.{place_of}
 use Rattle.world_base.specs.declared.cluster.Cluster.{Cluster}
 use Rattle.run_laws.specs.world_law.Standing.{members}
-use Rattle.run_laws.specs.world_law.Owners.{moment, node_in}
+use Rattle.headline.specs.Moments.{moment, node_in}
 use Rattle.run_laws.specs.world_lines.Lines.{IsSure}
 use Rattle.run_laws.specs.world_logs.Lines.{setting}
-use Rattle.run_laws.specs.world_logs.Roles.{Role}
-use Rattle.run_laws.specs.world_logs.Roles.Role.{OfClient, OfCleaner}
+use Rattle.headline.specs.Logs.{Role}
+use Rattle.headline.specs.Logs.Role.{OfClient, OfCleaner}
 use Rattle.run_laws.specs.world_logs.Standing.{CleanerOwns, OwnerSeen}
 use Rattle.run_laws.proofs.world_reads.TurnBoth.{Both}
 use Rattle.run_laws.specs.world_reads.Joint.{IsSureUpto, There, k}

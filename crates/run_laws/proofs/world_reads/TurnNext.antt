@@ -6,7 +6,7 @@ use Rattle.std.specs.Prelude.{IfSome}
 use Rattle.core_world.specs.AnyNode.{any_start, any_step}
 use Rattle.core_world.specs.declared.any_node.AnyNode.{AnyNode}
 use Rattle.core_world.specs.declared.any_node.AnyNode.TheVariants as any
-use Rattle.index_tie.specs.Filed.{rows_at}
+use Rattle.headline.specs.Filed.{rows_at}
 use Rattle.index_tie.specs.Growth.{IsMore}
 use Rattle.log_flight.specs.Flights.{FlightState}
 use Rattle.node_slots.proofs.owner_index_tie.Frames.{more_itself}
@@ -21,9 +21,9 @@ use Rattle.world_base.specs.declared.cluster.Cluster.{Cluster}
 use Rattle.world_base.specs.declared.event.Event.{Event}
 use Rattle.world_base.specs.Events.{node_of, what_of}
 use Rattle.world_base.specs.Runs.{IsRun, MayHappen}
-use Rattle.run_laws.specs.world_law.Owners.{moment, node_in}
-use Rattle.run_laws.specs.world_logs.Roles.{Role, renews}
-use Rattle.run_laws.specs.world_logs.Roles.Role.{OfClient, OfCleaner}
+use Rattle.headline.specs.Moments.{moment, node_in}
+use Rattle.headline.specs.Logs.{Role, renews}
+use Rattle.headline.specs.Logs.Role.{OfClient, OfCleaner}
 use Rattle.run_laws.proofs.world_reads.After.{OfLogs, of_logs}
 use Rattle.run_laws.proofs.world_reads.AfterWrites.{cleaner_writes_then, clients_write_then}
 use Rattle.run_laws.proofs.world_reads.CleanerMoving.{moved_then}

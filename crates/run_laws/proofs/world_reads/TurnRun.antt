@@ -14,10 +14,10 @@ use Rattle.world_base.specs.Events.{node_of}
 use Rattle.world_base.specs.NextWorld.{next_world, start_world}
 use Rattle.world_base.specs.Runs.{IsRun, Leads, MayHappen}
 use Rattle.run_laws.proofs.world_law.Turning.{next_cluster}
-use Rattle.run_laws.specs.world_law.Owners.{moment}
+use Rattle.headline.specs.Moments.{moment}
 use Rattle.run_laws.specs.world_logs.Lines.{IsLeft}
-use Rattle.run_laws.specs.world_logs.Roles.{Role, renews}
-use Rattle.run_laws.specs.world_logs.Roles.Role.{OfClient, OfCleaner, OfManager}
+use Rattle.headline.specs.Logs.{Role, renews}
+use Rattle.headline.specs.Logs.Role.{OfClient, OfCleaner, OfManager}
 use Rattle.run_laws.proofs.world_reads.Taking.{NothingHappens, Took, moment_next}
 use Rattle.run_laws.proofs.world_reads.TurnBoth.{Both, Turned, both_of, goes}
 use Rattle.run_laws.proofs.world_reads.TurnLogs.{LogsKnown, cleaner_or_not, client_or_not}

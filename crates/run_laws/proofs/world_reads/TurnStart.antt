@@ -5,7 +5,7 @@ use Rattle.std.specs.Prelude.{IfSome}
 use Rattle.xfs_base.specs.Limits.{slot_count}
 use Rattle.xfs_base.specs.Logs.{cleaners_number}
 use Rattle.core_world.specs.AnyNode.{any_start, any_step}
-use Rattle.index_tie.specs.Filed.{rows_at}
+use Rattle.headline.specs.Filed.{rows_at}
 use Rattle.index_tie.specs.Net as index
 use Rattle.log_flight.specs.Flights.{FlightState}
 use Rattle.log_law.specs.Events.{Runs}
@@ -29,12 +29,12 @@ use Rattle.run_laws.proofs.world_index.Start as index_start
 use Rattle.run_laws.proofs.world_index.Tokens.{entered_starts}
 use Rattle.run_laws.specs.world_law.Standing as tokens
 use Rattle.run_laws.proofs.world_law.Start as token_start
-use Rattle.run_laws.specs.world_law.Owners.{moment}
+use Rattle.headline.specs.Moments.{moment}
 use Rattle.run_laws.specs.world_lines.Lines.{IsLine}
 use Rattle.run_laws.specs.world_lines.Turns.{LinesBegin}
 use Rattle.run_laws.specs.world_logs.Lines.{IsBegun, setting}
-use Rattle.run_laws.specs.world_logs.Roles.{log_by}
-use Rattle.run_laws.specs.world_logs.Roles.Role.{OfCleaner}
+use Rattle.headline.specs.Logs.{log_by}
+use Rattle.headline.specs.Logs.Role.{OfCleaner}
 use Rattle.run_laws.proofs.world_reads.AfterOwn.{OwnAfter}
 use Rattle.run_laws.proofs.world_reads.TurnActed.{nothing_filed}
 use Rattle.run_laws.proofs.world_reads.TurnBoth.{Both}

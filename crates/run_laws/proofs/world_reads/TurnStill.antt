@@ -19,11 +19,11 @@ use Rattle.node_slots.specs.node_tie.RegistryEvents.{RegistrySound}
 use Rattle.world_base.specs.declared.cluster.Cluster.{Cluster}
 use Rattle.run_laws.specs.world_index.Standing as index
 use Rattle.run_laws.specs.world_law.Standing as tokens
-use Rattle.run_laws.specs.world_law.Owners.{moment}
+use Rattle.headline.specs.Moments.{moment}
 use Rattle.run_laws.specs.world_lines.Lines.{IsSure}
 use Rattle.run_laws.specs.world_logs.Lines.{IsLeft, setting}
-use Rattle.run_laws.specs.world_logs.Roles.{Role, log_by, renews}
-use Rattle.run_laws.specs.world_logs.Roles.Role.{OfClient, OfCleaner, OfManager}
+use Rattle.headline.specs.Logs.{Role, log_by, renews}
+use Rattle.headline.specs.Logs.Role.{OfClient, OfCleaner, OfManager}
 use Rattle.run_laws.proofs.world_reads.After.{AllKnown, KnownAt, left_after, left_flight}
 use Rattle.run_laws.proofs.world_reads.AfterCleaner.{cleaner_away, cleaner_end}
 use Rattle.run_laws.proofs.world_reads.AfterOwn.{OwnAfter}

@@ -6,7 +6,7 @@ use Rattle.core_world.specs.AnyNode.{any_start, any_step}
 use Rattle.core_world.specs.declared.any_node.AnyNode.{AnyNode}
 use Rattle.core_world.specs.declared.any_node.AnyNode.TheVariants as any
 use Rattle.node_tellings.specs.entry_tie.Told.{AreMore}
-use Rattle.index_tie.specs.Filed.{Filed, rows_at}
+use Rattle.headline.specs.Filed.{Filed, rows_at}
 use Rattle.index_tie.specs.Growth.{IsMore}
 use Rattle.index_tie.specs.Net as index
 use Rattle.manager_node.specs.declared.manager.Manager.{Manager as ManagerNode}
@@ -22,9 +22,9 @@ use Rattle.world_base.specs.Runs.{IsRun, MayHappen}
 use Rattle.run_laws.proofs.world_index.Senders.{IsKind, kinds_of_tokens}
 use Rattle.run_laws.specs.world_index.Owes.{DoReads}
 use Rattle.run_laws.specs.world_law.Standing.{epoch_now}
-use Rattle.run_laws.specs.world_law.Owners.{moment}
+use Rattle.headline.specs.Moments.{moment}
 use Rattle.run_laws.specs.world_lines.Lines.{IsLine}
-use Rattle.run_laws.specs.world_logs.Roles.{Role, log_by, renews}
+use Rattle.headline.specs.Logs.{Role, log_by, renews}
 use Rattle.run_laws.proofs.world_reads.CleanerMoment.{upto_before}
 use Rattle.run_laws.proofs.world_reads.EntriesNames.{names_begin, names_rise}
 use Rattle.run_laws.proofs.world_reads.EntriesParts.{part_later}

@@ -2,7 +2,7 @@
 -- epoch that it holds or is given.
 use Rattle.std.specs.Prelude.{◌≡◌, ℕ, Bool, List, Some}
 use Rattle.core_world.specs.declared.any_node.AnyNode.{AnyNode}
-use Rattle.node_slots.specs.node_index_tie.Sight.{Texts}
+use Rattle.headline.specs.Filed.{Texts}
 use Rattle.segment_format.specs.declared.segment.Segment.{Segment}
 use Rattle.version_model.specs.declared.act.Act.{Act}
 use Rattle.wire_msg.specs.declared.packet.Do.{Do}
@@ -13,7 +13,7 @@ use Rattle.world_base.specs.declared.cluster.Cluster.{Cluster}
 use Rattle.run_laws.specs.world_index.Owes.{TokensGive}
 use Rattle.run_laws.specs.world_index.Standing as places
 use Rattle.run_laws.specs.world_law.Standing as owners
-use Rattle.run_laws.specs.world_law.Owners.{node_in}
+use Rattle.headline.specs.Moments.{node_in}
 use Rattle.xfs_base.specs.declared.node.NodeId.{NodeId}
 use Rattle.run_laws.specs.epoch_law.Slots.{BothStand}
 

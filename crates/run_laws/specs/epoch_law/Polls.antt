@@ -7,9 +7,9 @@ use Rattle.client_node.specs.declared.phase.Phase.TheVariants as clients
 use Rattle.client_serving.specs.declared.serving.Serving.{Serving}
 use Rattle.core_world.specs.declared.any_node.AnyNode.{AnyNode}
 use Rattle.index_tie.specs.Net.{Net, Runs, opening}
-use Rattle.index_tie.specs.Takeovers.{of_log}
+use Rattle.headline.specs.Indexes.{of_log}
 use Rattle.log_scan.specs.Transition.{least_horizon}
-use Rattle.node_slots.specs.node_index_tie.Sight.{Texts}
+use Rattle.headline.specs.Filed.{Texts}
 use Rattle.registry.specs.Board.{all_news}
 use Rattle.segment_format.specs.declared.segment.Segment.{Segment}
 use Rattle.token_client.specs.State.{epoch_of}

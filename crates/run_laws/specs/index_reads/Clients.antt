@@ -2,7 +2,7 @@
 use Rattle.std.specs.Prelude.{◌≡◌, ℕ, suc, []}
 use Rattle.std.specs.List.{AllByRecursion}
 use Rattle.checkpoint.specs.WriterState.{Rows}
-use Rattle.index_tie.specs.Filed.{Filed}
+use Rattle.headline.specs.Filed.{Filed}
 use Rattle.index_tie.specs.Net as index
 use Rattle.node_slots.specs.node_tie.LogRows.{rows_told}
 use Rattle.node_slots.specs.owner_index_tie.ClientEvents.{IsNewerAtSlot}

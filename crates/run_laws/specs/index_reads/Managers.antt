@@ -5,7 +5,8 @@ use Rattle.manager_node.specs.declared.phase.Phase.{Phase}
 use Rattle.manager_slots.specs.declared.slot_phase.SlotPhase.{SlotPhase}
 use Rattle.node_slots.specs.node_index_tie.ManagerEvents as places
 use Rattle.node_slots.specs.node_index_tie.Pages.{Desk}
-use Rattle.node_slots.specs.node_index_tie.Sight.{Texts, Questions, AreTexts, held_in}
+use Rattle.node_slots.specs.node_index_tie.Sight.{Questions, held_in}
+use Rattle.headline.specs.Filed.{AreTexts, Texts}
 use Rattle.node_slots.specs.node_tie.ManagerEvents as owners
 use Rattle.token_law.specs.Net as tokens
 use Rattle.wire_msg.specs.declared.deltas.Deltas.{Deltas}

@@ -1,7 +1,8 @@
 -- What the books have where the index says that a version of a block lies.
 use Rattle.std.specs.Prelude.{◌≡◌, ◌≤◌, ℕ, Some, Contains}
 use Rattle.client_call.specs.Reads.{value_at}
-use Rattle.index_tie.specs.Filed.{Filed, rows_at, IsFiled}
+use Rattle.index_tie.specs.Filed.{IsFiled}
+use Rattle.headline.specs.Filed.{Filed, rows_at}
 use Rattle.token_law.specs.Books.{Books, said}
 use Rattle.xfs_base.specs.declared.block.BlockId.{BlockId}
 use Rattle.xfs_base.specs.declared.entry.Entry.{Entry}

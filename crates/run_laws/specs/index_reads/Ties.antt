@@ -1,7 +1,7 @@
 -- One moment of both small worlds of a slot: that of tokens and that of the index. Each is one of its runs, and both tell of the same logs.
 use Rattle.std.specs.Prelude.{◌≡◌, ◌<◌, ◌≤◌, ℕ, true}
 use Rattle.checkpoint.specs.WriterState.{Rows}
-use Rattle.index_tie.specs.Filed.{Filed}
+use Rattle.headline.specs.Filed.{Filed}
 use Rattle.index_tie.specs.Net as index
 use Rattle.node_slots.specs.node_tie.LogRows.{rows_told}
 use Rattle.segment_format.specs.declared.segment.Segment.{Segment}

@@ -8,8 +8,8 @@ use Rattle.cleaner_job.specs.Jobs.{check_of, hand_of}
 use Rattle.client_call.specs.Reads.{value_at}
 use Rattle.node_tellings.specs.entry_tie.Told.{told_by_rows}
 use Rattle.run_laws.specs.index_reads.Ties.{ArePlain, Tied}
-use Rattle.index_tie.specs.Cleaning.{is_filed_name, IsWithin}
-use Rattle.index_tie.specs.Filed.{Filed, row_at, rows_at}
+use Rattle.index_tie.specs.Cleaning.{IsWithin}
+use Rattle.headline.specs.Filed.{Filed, is_filed_name, row_at, rows_at}
 use Rattle.index_tie.specs.Net as index
 use Rattle.index_tie.specs.Net.{IsInHand}
 use Rattle.log_protocol.specs.Tables.{In}

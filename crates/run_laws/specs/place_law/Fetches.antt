@@ -13,9 +13,8 @@ use Rattle.core_world.specs.declared.any_node.AnyNode.TheVariants as any
 use Rattle.node_tellings.specs.entry_tie.ClientTells.{ServingHolds}
 use Rattle.node_tellings.specs.entry_tie.Told.{told_by_rows}
 use Rattle.run_laws.specs.index_reads.Ties.{BooksAre, ArePlain}
-use Rattle.index_tie.specs.Filed.{Filed, rows_at}
+use Rattle.headline.specs.Filed.{Filed, Texts, rows_at}
 use Rattle.log_protocol.specs.Tables.{In}
-use Rattle.node_slots.specs.node_index_tie.Sight.{Texts}
 use Rattle.node_slots.specs.node_tie.ClientEvents.{ServingReads}
 use Rattle.node_tellings.specs.reading_tie.Arrivals.{Cuts, answered_in, cut_by}
 use Rattle.node_tellings.specs.reading_tie.ClientReads.{ServesSo}
@@ -27,7 +26,7 @@ use Rattle.version_model.specs.declared.work.Work.{Work}
 use Rattle.wire_msg.specs.declared.packet.Do.{Do}
 use Rattle.wire_msg.specs.declared.packet.Packet.{Packet}
 use Rattle.world_base.specs.declared.estate.Estate.{Estate}
-use Rattle.run_laws.specs.world_law.Owners.{moment, node_named}
+use Rattle.headline.specs.Moments.{moment, node_named}
 use Rattle.xfs_base.specs.declared.node.NodeId.{NodeId}
 use Rattle.xfs_base.specs.declared.entry.Place.{Place}
 use Rattle.xfs_base.specs.declared.node.NodeId.TheVariants as nodes

@@ -1,6 +1,7 @@
 -- What is read under a name, where the small world of the name's log is known: the one text of the name.
 use Rattle.std.specs.Prelude.{◌≡◌, ◌<◌, ◌≤◌, ℕ, true, List, Some, length}
-use Rattle.index_tie.specs.Filed.{Filed, IsFiled}
+use Rattle.index_tie.specs.Filed.{IsFiled}
+use Rattle.headline.specs.Filed.{AreTexts, Filed, Texts}
 use Rattle.log_law.specs.Laws.{Moment}
 use Rattle.log_law.specs.Net.{Net}
 use Rattle.log_law.specs.Net.Packet.{FragmentSent}
@@ -8,7 +9,7 @@ use Rattle.log_protocol.specs.Tables.{In}
 use Rattle.log_tie.specs.Setting.{Setting}
 use Rattle.log_tie.specs.Shelves.{is_of_log}
 use Rattle.node_slots.specs.node_index_tie.ManagerEvents.{completes_at}
-use Rattle.node_slots.specs.node_index_tie.Sight.{Texts, IsRead, AreTexts}
+use Rattle.node_slots.specs.node_index_tie.Sight.{IsRead}
 use Rattle.node_tellings.specs.reading_tie.Arrivals.{Cuts, answered_in, cut_by, AnsweredIn}
 use Rattle.node_tellings.specs.reading_tie.Came.{ReadsJoined}
 use Rattle.node_tellings.specs.reading_tie.TakeoverReads.{TakeHolds}

@@ -16,8 +16,8 @@ use Rattle.wire_msg.specs.declared.packet.Packet.{Packet}
 use Rattle.world_base.specs.declared.estate.Estate.{Estate}
 use Rattle.world_base.specs.declared.world.World.{World}
 use Rattle.world_base.specs.Runs.{IsRun}
-use Rattle.run_laws.specs.world_law.Owners.{moment, node_named}
-use Rattle.run_laws.specs.world_logs.Shelves.{group_at}
+use Rattle.headline.specs.Moments.{moment, node_named}
+use Rattle.headline.specs.Servers.{group_at}
 use Rattle.xfs_base.specs.declared.node.NodeId.{NodeId}
 
 -- how a group cuts a segment; over nothing where there is none

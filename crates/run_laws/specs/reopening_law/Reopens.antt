@@ -2,7 +2,7 @@
 use Rattle.std.specs.Prelude.{◌≡◌, ◌<◌, ◌≤◌, ℕ, Bool, false, List, [], Some, None}
 use Rattle.client_log.specs.LogState.{LogState}
 use Rattle.client_node.specs.Crash.{flight_of}
-use Rattle.index_tie.specs.Filed.{Filed}
+use Rattle.headline.specs.Filed.{Filed, Texts}
 use Rattle.log_flight.specs.Flights.{FlightState}
 use Rattle.log_law.specs.Events.{Happens}
 use Rattle.log_law.specs.Events.Runs.{On}
@@ -15,7 +15,7 @@ use Rattle.log_owner.specs.declared.opened.Opened.{Opened}
 use Rattle.log_owner.specs.Opened.{names_in}
 use Rattle.log_protocol.specs.Tables.{In}
 use Rattle.log_tie.specs.Setting.{Setting}
-use Rattle.node_slots.specs.node_index_tie.Sight.{Texts, RowsFit}
+use Rattle.node_slots.specs.node_index_tie.Sight.{RowsFit}
 use Rattle.node_slots.specs.node_tie.CleanerLogs.{ReopensAt, its_log}
 use Rattle.node_slots.specs.node_tie.ClientLogs.{ReopensSo}
 use Rattle.node_slots.specs.node_tie.LogRows.{rows_told}

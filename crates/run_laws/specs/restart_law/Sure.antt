@@ -5,8 +5,8 @@ use Rattle.log_law.specs.Restarts.{IsSureRun}
 use Rattle.log_tie.specs.Setting.{Setting}
 use Rattle.world_base.specs.declared.estate.Estate.{Estate}
 use Rattle.run_laws.specs.world_logs.Lines.{HasLines}
-use Rattle.run_laws.specs.world_logs.Roles.{IsThere, Role, renews}
-use Rattle.run_laws.specs.restart_law.Restarts.{NoDoubtfulRestart}
+use Rattle.headline.specs.Logs.{IsThere, Role, renews}
+use Rattle.headline.specs.Restarts.{NoDoubtfulRestart}
 
 -- the line of a client's log, and of the cleaner's, is sure up to each count up to which no restart was doubtful
 abbrev pub UndoubtedRunsAreSure : Type 0

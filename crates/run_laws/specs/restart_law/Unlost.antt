@@ -1,20 +1,18 @@
 -- Runs in which no server loses its disk.
-use Rattle.std.specs.Prelude.{◌≡◌, ◌<◌, ℕ, List, Some, IfSome, length}
+use Rattle.std.specs.Prelude.{◌≡◌, ◌<◌, ℕ, Some, IfSome, length}
 use Rattle.core_world.specs.AnyNode.{any_start, any_step}
 use Rattle.core_world.specs.declared.any_node.AnyNode.{AnyNode}
 use Rattle.group_map.specs.declared.group.Group.{Group}
-use Rattle.log_tie.specs.Setting.{Setting, generation_of, server_of}
+use Rattle.log_tie.specs.Setting.{Setting}
+use Rattle.log_flight.specs.Flights.{generation_of, server_of}
 use Rattle.node_base.specs.Setups.{IsSetup}
-use Rattle.token_protocol.specs.Basics.{In}
-use Rattle.version_model.specs.declared.work.Work.{Work}
-use Rattle.version_model.specs.declared.work.Work.TheVariants as work
 use Rattle.world_base.specs.declared.estate.Estate.{Estate}
 use Rattle.world_base.specs.Items.{works_of}
 use Rattle.world_base.specs.Runs.{IsRun}
-use Rattle.run_laws.specs.world_law.Owners.{moment}
+use Rattle.headline.specs.Moments.{moment}
 use Rattle.run_laws.specs.world_logs.Lines.{HasLines}
-use Rattle.run_laws.specs.world_logs.Shelves.{group_at, shelf_at}
-use Rattle.run_laws.specs.restart_law.Restarts.{NoDoubtfulRestart}
+use Rattle.headline.specs.Servers.{group_at, shelf_at}
+use Rattle.headline.specs.Restarts.{LosesNone, NoDoubtfulRestart}
 
 -- no disk is lost: at each moment of a run the server of each member of a group, by the registry's map at its end, is of the generation with which it was made
 abbrev pub NoDiskIsLost : Estate AnyNode → Type 0
@@ -29,10 +27,6 @@ WithoutLossesNoRestartIsDoubtful =
     → NoDoubtfulRestart e count
 
 -- ---- scripts
-
--- no work of these has a server lose its disk
-abbrev pub LosesNone : List Work → Type 0
-LosesNone works = (server : ℕ) → In (work.Lose server) works → ⊥
 
 -- in a run of a script without a line by which a server loses its disk none is lost, and no restart is doubtful
 abbrev pub ScriptsWithoutLossesAreUndoubted : Type 0

@@ -12,7 +12,7 @@ use Rattle.segment_format.specs.declared.segment.Segment.{Segment}
 use Rattle.run_laws.specs.segment_tie.Segments.{IsOriginal, WritesNothing, WritesOriginals}
 use Rattle.world_base.specs.declared.estate.Estate.{Estate}
 use Rattle.run_laws.specs.world_logs.Lines.{Line}
-use Rattle.run_laws.specs.world_logs.Roles.Role.{OfClient}
+use Rattle.headline.specs.Logs.Role.{OfClient}
 
 -- each segment that was in flight up to now tells of blocks at first hand
 abbrev pub FlewOriginals : Net → Type 0

@@ -6,7 +6,7 @@ use Rattle.core_world.specs.declared.any_node.AnyNode.{AnyNode}
 use Rattle.core_world.specs.declared.any_node.AnyNode.TheVariants as any
 use Rattle.world_base.specs.declared.estate.Estate.{Estate}
 use Rattle.world_base.specs.Runs.{IsRun}
-use Rattle.run_laws.specs.world_law.Owners.{moment, node_named}
+use Rattle.headline.specs.Moments.{moment, node_named}
 use Rattle.wire_msg.specs.declared.packet.Packet.{Packet}
 use Rattle.xfs_base.specs.declared.node.NodeId.{NodeId}
 use Rattle.run_laws.specs.segment_tie.Cleaners.{CleanerWrites, TellsVersion}

@@ -4,7 +4,7 @@ use Rattle.std.specs.List.{AllByRecursion}
 use Rattle.client_log.specs.LogState.{LogState}
 use Rattle.run_laws.specs.index_reads.Clients.{AreFirstHand}
 use Rattle.run_laws.specs.index_reads.Rows.{IsPlain, AreVersioned}
-use Rattle.index_tie.specs.Filed.{IsNoPart}
+use Rattle.headline.specs.Filed.{IsNoPart}
 use Rattle.log_flight.specs.declared.dirty.Change.{Change}
 use Rattle.log_flight.specs.Flights.{FlightState}
 use Rattle.node_slots.specs.node_tie.LogRows.{told}

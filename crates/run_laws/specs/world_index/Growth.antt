@@ -2,7 +2,7 @@
 use Rattle.std.specs.Prelude.{◌≡◌, ◌≤◌, ◌<◌, ℕ, None, Some}
 use Rattle.index_tie.specs.Growth.{IsMore}
 use Rattle.index_tie.specs.Net.{Net, Packet as Said}
-use Rattle.index_tie.specs.Takeovers.{of_log}
+use Rattle.headline.specs.Indexes.{of_log}
 use Rattle.log_protocol.specs.Tables as tables
 use Rattle.token_manager.specs.SlotState.{SlotState}
 use Rattle.world_base.specs.declared.cluster.Cluster.{Cluster}

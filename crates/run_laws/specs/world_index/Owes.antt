@@ -21,8 +21,10 @@ use Rattle.manager_node.specs.Phases as managers
 use Rattle.manager_slots.specs.declared.slot_phase.SlotPhase.{SlotPhase}
 use Rattle.node_slots.specs.node_index_tie.ManagerEvents.{FoundGets, AbsentGets, rest}
 use Rattle.node_slots.specs.node_index_tie.ManagerEvents as managed
-use Rattle.node_slots.specs.node_index_tie.Sight.{Texts, Questions}
-use Rattle.node_slots.specs.node_tie.ManagerEvents.{HeldAt, ManagedAt, Names, epoch_in, phase_at, slot_in}
+use Rattle.node_slots.specs.node_index_tie.Sight.{Questions}
+use Rattle.headline.specs.Filed.{Texts}
+use Rattle.node_slots.specs.node_tie.ManagerEvents.{HeldAt, ManagedAt, Names, epoch_in}
+use Rattle.headline.specs.Managers.{phase_at, slot_in}
 use Rattle.node_slots.specs.owner_index_tie.CleanerEvents.{EffectOwed, IsAway, NewFor, PollGets, ReadGets, ReopensOn, WritesTexts}
 use Rattle.node_slots.specs.owner_index_tie.ClientEvents.{ClientOwed}
 use Rattle.node_slots.specs.owner_index_tie.Filing.{FilesOwed, filed_after, filing}

@@ -10,8 +10,10 @@ use Rattle.manager_node.specs.declared.manager.Manager.{Manager as ManagerNode}
 use Rattle.manager_slots.specs.declared.slot_phase.SlotPhase.{SlotPhase}
 use Rattle.node_slots.specs.node_index_tie.ManagerEvents.{ManagerAgrees}
 use Rattle.node_slots.specs.node_index_tie.RegistryEvents.{IsHorizon, RegistryAgrees}
-use Rattle.node_slots.specs.node_index_tie.Sight.{Texts, Questions, held_in, AreTexts, CheckKnown, DeltasKnown, ManagerSends, ReportKnown}
-use Rattle.node_slots.specs.node_tie.ManagerEvents.{HeldAt, Names, epoch_in, is_serving, slot_in}
+use Rattle.node_slots.specs.node_index_tie.Sight.{Questions, held_in, CheckKnown, DeltasKnown, ManagerSends, ReportKnown}
+use Rattle.headline.specs.Filed.{AreTexts, Texts}
+use Rattle.node_slots.specs.node_tie.ManagerEvents.{HeldAt, Names, epoch_in, is_serving}
+use Rattle.headline.specs.Managers.{slot_in}
 use Rattle.node_slots.specs.owner_index_tie.CleanerEvents.{CleanerAgrees}
 use Rattle.node_slots.specs.owner_index_tie.ClientEvents.{ClientAgrees}
 use Rattle.node_slots.specs.owner_index_tie.ServerEvents.{SaysNothing}
@@ -25,7 +27,7 @@ use Rattle.wire_msg.specs.declared.packet.Do.{Do}
 use Rattle.wire_msg.specs.declared.packet.Packet.{Packet}
 use Rattle.world_base.specs.Cluster.{place_of}
 use Rattle.world_base.specs.declared.cluster.Cluster.{Cluster}
-use Rattle.run_laws.specs.world_law.Owners.{node_in}
+use Rattle.headline.specs.Moments.{node_in}
 use Rattle.run_laws.specs.world_index.Asking.{CleanerAsks}
 use Rattle.xfs_base.specs.Blocks.{slot_of}
 use Rattle.xfs_base.specs.Limits.{u32_end}

@@ -14,7 +14,8 @@ use Rattle.node_slots.specs.node_tie.CleanerLogs.{CleanerTold, OwnGoes, its_log}
 use Rattle.node_slots.specs.node_tie.CleanerEvents as cleaner
 use Rattle.node_slots.specs.node_tie.ClientEvents as client
 use Rattle.node_slots.specs.node_tie.ClientEvents.{EndsInTime, LogGoes, ReadsSo}
-use Rattle.node_slots.specs.node_tie.ManagerEvents.{AbsentGets, DeltasGets, FoundGets, LastReportGets, slot_in}
+use Rattle.node_slots.specs.node_tie.ManagerEvents.{AbsentGets, DeltasGets, FoundGets, LastReportGets}
+use Rattle.headline.specs.Managers.{slot_in}
 use Rattle.node_slots.specs.node_tie.Sight.{SameLog}
 use Rattle.token_law.specs.Net.{Net}
 use Rattle.token_protocol.specs.Premises.{Premise}

@@ -12,7 +12,8 @@ use Rattle.manager_node.specs.Phases as managers
 use Rattle.node_slots.specs.node_tie.CleanerEvents.{CleanerStands, CleanerWelcomed}
 use Rattle.node_slots.specs.node_tie.CleanerLogs.{CleanerCopies, its_log}
 use Rattle.node_slots.specs.node_tie.ClientEvents.{ClientAgrees, ClientStands, WelcomeRises}
-use Rattle.node_slots.specs.node_tie.ManagerEvents.{ManagerAgrees, HeldAt, epoch_in, slot_in, is_serving}
+use Rattle.node_slots.specs.node_tie.ManagerEvents.{ManagerAgrees, HeldAt, epoch_in, is_serving}
+use Rattle.headline.specs.Managers.{slot_in}
 use Rattle.node_slots.specs.node_tie.Sight.{ClientSends, CleanerSends, ManagerSends, ServerSends}
 use Rattle.registry.specs.Board.{inc_of}
 use Rattle.registry.specs.Slots.{entry_of}
@@ -32,7 +33,7 @@ use Rattle.wire_msg.specs.declared.packet.Packet.{Packet}
 use Rattle.wire_msg.specs.declared.registry.Welcome.{Welcome}
 use Rattle.world_base.specs.Cluster.{place_of}
 use Rattle.world_base.specs.declared.cluster.Cluster.{Cluster}
-use Rattle.run_laws.specs.world_law.Owners.{node_in}
+use Rattle.headline.specs.Moments.{node_in}
 use Rattle.xfs_base.specs.declared.news.SlotNews.{SlotNews}
 use Rattle.xfs_base.specs.declared.node.NodeId.{NodeId}
 use Rattle.xfs_base.specs.declared.node.NodeId.TheVariants.{Client, Manager, Server, Cleaner, Registry}

@@ -23,7 +23,7 @@ use Rattle.log_law.specs.Restarts.{is_serving}
 use Rattle.log_protocol.specs.Tables.{In}
 use Rattle.log_tie.specs.Setting.{Setting}
 use Rattle.node_base.specs.declared.effects.Effect.{Effect}
-use Rattle.node_slots.specs.node_index_tie.Sight.{Texts}
+use Rattle.headline.specs.Filed.{Texts}
 use Rattle.node_slots.specs.owner_index_tie.Acting.{IsFlight}
 use Rattle.node_slots.specs.owner_index_tie.CleanerEvents as cleaner_index
 use Rattle.node_slots.specs.owner_index_tie.ClientEvents as client_index

@@ -10,7 +10,8 @@ use Rattle.log_tie.specs.Setting.{Setting}
 use Rattle.node_logs.specs.manager_log_tie.Owner as manager
 use Rattle.manager_node.specs.declared.phase.Phase as managers
 use Rattle.node_slots.specs.node_index_tie.ManagerEvents as manager_writes
-use Rattle.node_slots.specs.node_index_tie.Sight.{Texts, Questions}
+use Rattle.node_slots.specs.node_index_tie.Sight.{Questions}
+use Rattle.headline.specs.Filed.{Texts}
 use Rattle.node_slots.specs.owner_index_tie.CleanerEvents as cleaner_writes
 use Rattle.node_slots.specs.owner_index_tie.ClientEvents as client_writes
 use Rattle.run_laws.specs.world_lines.Lines.{FlownAreTexts}

@@ -2,14 +2,15 @@
 -- name.
 use Rattle.std.specs.Prelude.{◌≡◌, ◌<◌, ◌≤◌, ◌⊎◌, ℕ, Bool, true, false}
 use Rattle.std.specs.List.{AllByRecursion}
-use Rattle.index_tie.specs.Filed.{Filed, IsFiled, IsNoPart, rows_at}
+use Rattle.index_tie.specs.Filed.{IsFiled}
+use Rattle.headline.specs.Filed.{AreTexts, Filed, IsNoPart, Texts, rows_at}
 use Rattle.index_tie.specs.Takeovers.{IsEnd, Linked}
 use Rattle.log_law.specs.Laws.{Moment}
 use Rattle.log_law.specs.Net.{Net}
 use Rattle.log_law.specs.Restarts.{IsSureRun}
 use Rattle.log_protocol.specs.Tables.{In}
 use Rattle.log_tie.specs.Setting.{Setting}
-use Rattle.node_slots.specs.node_index_tie.Sight.{AreTexts, RowsFit, Texts}
+use Rattle.node_slots.specs.node_index_tie.Sight.{RowsFit}
 use Rattle.segment_format.specs.declared.segment.Segment.{Segment}
 use Rattle.segment_format.specs.Rows.{rows_of}
 use Rattle.xfs_base.specs.declared.segment.End.{End}

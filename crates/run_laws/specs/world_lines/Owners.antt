@@ -19,7 +19,8 @@ use Rattle.log_protocol.specs.Tables.{In}
 use Rattle.log_tie.specs.Setting.{Setting}
 use Rattle.node_base.specs.Effects.{acts_of}
 use Rattle.node_base.specs.declared.effects.Effect.{Effect}
-use Rattle.node_slots.specs.node_index_tie.Sight.{Questions, Texts}
+use Rattle.node_slots.specs.node_index_tie.Sight.{Questions}
+use Rattle.headline.specs.Filed.{Texts}
 use Rattle.node_slots.specs.owner_index_tie.CleanerEvents.{CleanerGoes}
 use Rattle.node_slots.specs.owner_index_tie.ClientEvents.{ClientGoes}
 use Rattle.segment_format.specs.declared.segment.Segment.{Segment}

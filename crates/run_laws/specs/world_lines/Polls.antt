@@ -9,10 +9,11 @@ use Rattle.cleaner_node.specs.declared.cleaner.Phase as cleaners
 use Rattle.cleaner_node.specs.declared.cleaner.Phase.TheVariants as cleaning
 use Rattle.client_node.specs.declared.phase.Phase as clients
 use Rattle.client_node.specs.declared.phase.Phase.TheVariants as client
-use Rattle.index_tie.specs.Filed.{Filed}
+use Rattle.headline.specs.Filed.{Filed, Texts}
 use Rattle.index_tie.specs.Growth.{with_segment}
 use Rattle.index_tie.specs.Net.{Net}
-use Rattle.index_tie.specs.Takeovers.{Linked, of_log}
+use Rattle.index_tie.specs.Takeovers.{Linked}
+use Rattle.headline.specs.Indexes.{of_log}
 use Rattle.log_law.specs.Ends.{IsFlight}
 use Rattle.log_law.specs.Laws.{Moment}
 use Rattle.log_law.specs.Net as log
@@ -22,7 +23,6 @@ use Rattle.log_tie.specs.Setting.{Setting}
 use Rattle.node_base.specs.declared.effects.Effect.{Effect}
 use Rattle.node_slots.specs.node_index_tie.Pages.{FlightIsText}
 use Rattle.node_slots.specs.node_index_tie.RegistryEvents.{RegistryAgrees}
-use Rattle.node_slots.specs.node_index_tie.Sight.{Texts}
 use Rattle.node_logs.specs.node_log_tie.RegistryEvents.{RegistrySeen}
 use Rattle.node_slots.specs.owner_index_tie.CleanerEvents.{PollGets}
 use Rattle.node_slots.specs.owner_index_tie.ClientEvents.{EventGets}

@@ -5,7 +5,7 @@ use Rattle.cleaner_node.specs.declared.cleaner.Phase.{Phase as CleanerPhase}
 use Rattle.client_log.specs.LogState.{LogState}
 use Rattle.client_log.specs.Transition.{has_next}
 use Rattle.group_map.specs.GroupMapState.{GroupMapState}
-use Rattle.index_tie.specs.Filed.{Filed}
+use Rattle.headline.specs.Filed.{Filed, Texts}
 use Rattle.index_tie.specs.Net as index
 use Rattle.log_law.specs.Events.{Runs}
 use Rattle.log_law.specs.Net.{Net, opening}
@@ -15,7 +15,6 @@ use Rattle.log_protocol.specs.Tables.{In}
 use Rattle.log_tie.specs.Setting.{Setting}
 use Rattle.node_base.specs.declared.effects.Effect.{Effect}
 use Rattle.node_base.specs.declared.effects.Effect.TheVariants.{Send, Answer, Lose, Does}
-use Rattle.node_slots.specs.node_index_tie.Sight.{Texts}
 pub use Rattle.node_slots.specs.owner_index_tie.Acting.{ActSo, AllSo, EffectSo}
 use Rattle.node_slots.specs.owner_index_tie.CleanerEvents.{NewFor}
 use Rattle.node_slots.specs.owner_index_tie.ClientEvents.{IsNewerAtSlot}

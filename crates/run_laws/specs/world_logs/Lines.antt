@@ -21,10 +21,9 @@ use Rattle.world_base.specs.declared.estate.Estate.{Estate}
 use Rattle.world_base.specs.declared.event.Event.{Event}
 use Rattle.world_base.specs.Events.{node_of}
 use Rattle.world_base.specs.Runs.{IsRun}
-use Rattle.run_laws.specs.world_law.Owners.{moment}
-use Rattle.run_laws.specs.world_logs.Doings.{did}
-use Rattle.run_laws.specs.world_logs.Roles.{IsThere, Role, log_by, owner_by}
-use Rattle.run_laws.specs.world_logs.Roles.Role.{OfClient, OfCleaner, OfManager}
+use Rattle.headline.specs.Moments.{moment}
+use Rattle.headline.specs.Logs.{IsThere, Role, did, log_by, owner_by}
+use Rattle.headline.specs.Logs.Role.{OfClient, OfCleaner, OfManager}
 use Rattle.run_laws.specs.world_logs.Settings.{setting_of}
 use Rattle.run_laws.specs.world_logs.Standing.{Stands}
 use Rattle.xfs_base.specs.declared.segment.SegName.{SegName}

@@ -9,8 +9,8 @@ use Rattle.wire_msg.specs.declared.packet.Packet.{Packet}
 use Rattle.wire_msg.specs.declared.storage.Listed.{Listed}
 use Rattle.world_base.specs.declared.estate.Estate.{Estate}
 use Rattle.world_base.specs.Runs.{IsRun}
-use Rattle.run_laws.specs.world_law.Owners.{moment}
-use Rattle.run_laws.specs.world_logs.Roles.{IsThere, Role, log_by}
+use Rattle.headline.specs.Moments.{moment}
+use Rattle.headline.specs.Logs.{IsThere, Role, log_by}
 use Rattle.xfs_base.specs.declared.fragment.FragMeta.{FragMeta}
 use Rattle.xfs_base.specs.declared.segment.LogId.{LogId}
 

@@ -5,8 +5,8 @@ use Rattle.core_world.specs.declared.any_node.AnyNode.{AnyNode}
 use Rattle.group_map.specs.declared.group.Group.{Group}
 use Rattle.log_tie.specs.Setting.{Setting, Stripe, stripe_of_group}
 use Rattle.world_base.specs.declared.world.World.{World}
-use Rattle.run_laws.specs.world_logs.Roles.{Role, log_by, renews}
-use Rattle.run_laws.specs.world_logs.Shelves.{group_at}
+use Rattle.headline.specs.Logs.{Role, log_by, renews}
+use Rattle.headline.specs.Servers.{group_at}
 
 -- no stripe where there is no group
 abbrev pub stripe_by : Option Group → Stripe

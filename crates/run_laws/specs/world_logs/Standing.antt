@@ -24,20 +24,17 @@ use Rattle.segment_format.specs.declared.segment.Segment.{Segment}
 use Rattle.token_protocol.specs.Basics.{In}
 use Rattle.version_model.specs.declared.act.Act.{Act}
 use Rattle.version_model.specs.declared.act.Act.TheVariants as act
-use Rattle.wire_msg.specs.declared.body.Body.TheVariants as body
 use Rattle.wire_msg.specs.declared.packet.Packet.{Packet}
 use Rattle.world_base.specs.Cluster.{place_of}
 use Rattle.world_base.specs.declared.cluster.Cluster.{Cluster}
-use Rattle.run_laws.specs.world_law.Owners.{node_in}
-use Rattle.run_laws.specs.world_logs.Roles.{Role, asker_by}
-use Rattle.run_laws.specs.world_logs.Roles.Role.{OfClient, OfCleaner, OfManager}
+use Rattle.headline.specs.Moments.{node_in}
+use Rattle.run_laws.specs.world_logs.Roles.{asker_by}
+use Rattle.headline.specs.Logs.{Role}
+use Rattle.headline.specs.Logs.Role.{OfClient, OfCleaner, OfManager}
 use Rattle.xfs_base.specs.declared.node.NodeId.{NodeId}
 use Rattle.xfs_base.specs.declared.node.NodeId.TheVariants.{Client, Manager, Server, Cleaner, Registry}
 use Rattle.xfs_base.specs.declared.segment.SegName.{SegName}
-
--- a Delete of the segment is among these
-abbrev pub Deletes : SegName → List Packet → Type 0
-Deletes name packets = (p : Packet) × In p packets × (p.body ≡ body.Delete (record { name = name }))
+use Rattle.headline.specs.Deletions.{Deletes}
 
 -- the number of each segment that was in flight has one after it, or is no further than the one after the end
 abbrev pub IsRoomy : Net → Type 0

@@ -1,7 +1,8 @@
 -- How the moments of a run follow each other in the small worlds of tokens and of the index of one slot, while no restart that ended was doubtful.
 use Rattle.std.specs.Prelude.{◌≡◌, ◌<◌, ◌≤◌, ℕ, zero, suc, None, Some}
 use Rattle.index_tie.specs.Net.{Net}
-use Rattle.node_slots.specs.node_tie.ManagerEvents.{ManagedAt, slot_in}
+use Rattle.node_slots.specs.node_tie.ManagerEvents.{ManagedAt}
+use Rattle.headline.specs.Managers.{slot_in}
 use Rattle.token_manager.specs.SlotState.{SlotState}
 use Rattle.world_base.specs.declared.cluster.Cluster.{Cluster}
 use Rattle.run_laws.specs.world_index.Growth.{Grown}

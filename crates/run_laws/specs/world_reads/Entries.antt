@@ -18,10 +18,9 @@ use Rattle.token_protocol.specs.Basics.{In}
 use Rattle.version_model.specs.declared.act.Act.TheVariants as act
 use Rattle.wire_msg.specs.declared.packet.Packet.{Packet}
 use Rattle.world_base.specs.declared.estate.Estate.{Estate}
-use Rattle.run_laws.specs.world_logs.Doings.{did}
+use Rattle.headline.specs.Logs.{IsThere, did, log_by}
 use Rattle.run_laws.specs.world_logs.Lines.{HasLines}
-use Rattle.run_laws.specs.world_logs.Roles.{IsThere, log_by}
-use Rattle.run_laws.specs.world_logs.Roles.Role.{OfManager}
+use Rattle.headline.specs.Logs.Role.{OfManager}
 use Rattle.xfs_base.specs.declared.segment.SegRef.{SegRef}
 
 -- what a node holds of where blocks lie is what these rows say; servers and the registry hold nothing of it

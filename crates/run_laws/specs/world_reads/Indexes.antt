@@ -4,21 +4,16 @@
 use Rattle.std.specs.Prelude.{◌<◌, ℕ}
 use Rattle.core_world.specs.AnyNode.{any_start, any_step}
 use Rattle.core_world.specs.declared.any_node.AnyNode.{AnyNode}
-use Rattle.index_tie.specs.Filed.{Filed}
+use Rattle.headline.specs.Filed.{AreTexts, Filed, IsOwnTable, Texts}
 use Rattle.log_tie.specs.Setting.{Setting}
 use Rattle.node_base.specs.Setups.{IsSetup}
-use Rattle.node_slots.specs.node_index_tie.Sight.{AreTexts, Texts}
 use Rattle.run_laws.specs.reopening_law.Reopens.{TellsApart}
-use Rattle.run_laws.specs.restart_law.Restarts.{NoDoubtfulRestart}
-use Rattle.segment_format.specs.declared.segment.Segment.{Segment}
+use Rattle.headline.specs.Restarts.{NoDoubtfulRestart}
 use Rattle.world_base.specs.declared.estate.Estate.{Estate}
 use Rattle.world_base.specs.Runs.{IsRun}
-use Rattle.run_laws.specs.world_index.Laws.{KeepsBy}
-use Rattle.run_laws.specs.world_law.Owners.{moment}
+use Rattle.headline.specs.Indexes.{DirtyBlocksLead, IndexesAreItsOwn, KeepsBy}
+use Rattle.headline.specs.Moments.{moment}
 use Rattle.run_laws.specs.world_logs.Lines.{HasLines, Texts as RunTexts}
-use Rattle.run_laws.specs.world_reads.Dirty.{DirtyBlocksLead}
-use Rattle.run_laws.specs.world_reads.OwnTable.{IsOwnTable}
-use Rattle.xfs_base.specs.declared.segment.SegName.{SegName}
 use Rattle.xfs_base.specs.Limits.{slot_count}
 
 -- It is so by the run's own table of what logs filed, of texts of their names.
@@ -36,20 +31,6 @@ EveryRunKeepsItsIndexes =
     (base : Setting) → TellsApart base → (e : Estate AnyNode) → IsSetup e.script.setup → IsRun any_step any_start e.script e.events e.world
     → (lines : HasLines base e) (texts : RunTexts base e lines) (count : ℕ) → NoDoubtfulRestart e count
     → (part : ℕ) → part < slot_count → KeepsItsIndexes e count part texts.text
-
--- So it is in every run, with nothing given: by the run's own table at each moment up to which no restart was doubtful. What is filed under a name is one
--- segment throughout the run, so that none that was filed ever changes.
-pub record IndexIsItsOwn (e : Estate AnyNode) (text : SegName → Segment) (count part : ℕ) : Type 0 where
-  pub filed : Filed
-  pub own : IsOwnTable e count filed
-  pub named : AreTexts text filed
-  pub keeps : KeepsBy (moment e count) part filed
-  -- what a client has dirty leads it
-  pub leads : DirtyBlocksLead (moment e count) part filed
-
-pub record IndexesAreItsOwn (e : Estate AnyNode) : Type 0 where
-  pub text : SegName → Segment
-  pub each : (count : ℕ) → NoDoubtfulRestart e count → (part : ℕ) → part < slot_count → IndexIsItsOwn e text count part
 
 abbrev pub EveryRunsIndexesAreItsOwn : Type 0
 EveryRunsIndexesAreItsOwn = (e : Estate AnyNode) → IsSetup e.script.setup → IsRun any_step any_start e.script e.events e.world → IndexesAreItsOwn e

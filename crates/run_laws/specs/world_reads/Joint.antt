@@ -2,7 +2,7 @@
 use Rattle.std.specs.Prelude.{◌≡◌, ℕ, ◌≤◌, ◌<◌, Option, None, IfSome, true, false}
 use Rattle.std.specs.List.{AllByRecursion}
 use Rattle.run_laws.specs.index_reads.Ties.{BooksAre}
-use Rattle.index_tie.specs.Filed.{Filed, rows_at}
+use Rattle.headline.specs.Filed.{Filed, rows_at}
 use Rattle.log_flight.specs.Flights.{FlightState}
 use Rattle.log_law.specs.Net.{Net as LogNet}
 use Rattle.log_law.specs.Restarts.{IsSureRun, last_flight}
@@ -20,13 +20,12 @@ use Rattle.world_base.specs.declared.cluster.Cluster.{Cluster}
 use Rattle.run_laws.specs.world_index.Growth.{Entered}
 use Rattle.run_laws.specs.world_index.Standing as index
 use Rattle.run_laws.specs.world_law.Standing as tokens
-use Rattle.run_laws.specs.world_law.Owners.{moment}
+use Rattle.headline.specs.Moments.{moment}
 use Rattle.run_laws.specs.world_lines.Lines.{IsLine}
 use Rattle.run_laws.specs.world_lines.Polls.{ClientLinked, CleanerLinked}
-use Rattle.run_laws.specs.world_logs.Doings.{did}
+use Rattle.headline.specs.Logs.{IsThere, Role, did, log_by, renews}
 use Rattle.run_laws.specs.world_logs.Lines.{cluster}
-use Rattle.run_laws.specs.world_logs.Roles.{IsThere, Role, log_by, renews}
-use Rattle.run_laws.specs.world_logs.Roles.Role.{OfClient, OfCleaner, OfManager}
+use Rattle.headline.specs.Logs.Role.{OfClient, OfCleaner, OfManager}
 use Rattle.run_laws.specs.world_reads.Entries.{EntriesStand}
 use Rattle.run_laws.specs.world_reads.LoggedRuns.{LoggedRun}
 

@@ -4,15 +4,15 @@ use Rattle.std.specs.Prelude.{◌<◌, ℕ}
 use Rattle.xfs_base.specs.Limits.{slot_count}
 use Rattle.core_world.specs.AnyNode.{any_start, any_step}
 use Rattle.core_world.specs.declared.any_node.AnyNode.{AnyNode}
-use Rattle.index_tie.specs.Filed.{rows_at}
+use Rattle.headline.specs.Filed.{rows_at}
 use Rattle.log_tie.specs.Setting.{Setting}
 use Rattle.node_base.specs.Setups.{IsSetup}
 use Rattle.run_laws.specs.reopening_law.Reopens.{TellsApart}
-use Rattle.run_laws.specs.restart_law.Restarts.{NoDoubtfulRestart}
+use Rattle.headline.specs.Restarts.{NoDoubtfulRestart}
 use Rattle.run_laws.specs.segment_tie.Settings.{TellingSetting}
 use Rattle.world_base.specs.declared.estate.Estate.{Estate}
 use Rattle.world_base.specs.Runs.{IsRun}
-use Rattle.run_laws.specs.world_law.Owners.{moment}
+use Rattle.headline.specs.Moments.{moment}
 use Rattle.run_laws.specs.world_logs.Lines.{HasLines, LinesHaveTexts, RunsHaveLines, Texts}
 use Rattle.run_laws.specs.world_reads.Chains.{Comes}
 use Rattle.run_laws.specs.world_reads.Entries.{PartKnown, PartsNamed}

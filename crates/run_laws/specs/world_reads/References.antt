@@ -10,8 +10,8 @@ use Rattle.node_tellings.specs.reference_tie.Registries.{RegistryRefers}
 use Rattle.segment_format.specs.declared.segment.Segment.{Segment}
 use Rattle.token_protocol.specs.Basics.{In}
 use Rattle.wire_msg.specs.declared.packet.Packet.{Packet}
-use Rattle.run_laws.specs.world_law.Owners.{moment}
-use Rattle.run_laws.specs.world_logs.Roles.{Role, log_by}
+use Rattle.headline.specs.Moments.{moment}
+use Rattle.headline.specs.Logs.{Role, log_by}
 use Rattle.run_laws.specs.world_reads.Joint.{There, log_at}
 use Rattle.run_laws.specs.world_reads.LoggedRuns.{LoggedRun}
 use Rattle.xfs_base.specs.declared.node.NodeId.{NodeId}

@@ -1,6 +1,6 @@
 -- What nodes do is seen in the small world of tokens; and the laws of that.
 use Rattle.act_tie.specs.BlockActs.{acts_of}
-use Rattle.act_tie.specs.Shown.{FallsApart}
+use Rattle.version_model.specs.Falls.{FallsApart}
 use Rattle.run_laws.specs.epoch_law.EpochLaws.{EpochLaws}
 use Rattle.run_laws.specs.world_law.Fallen.{EveryRunHasFallsApart}
 use Rattle.run_laws.specs.world_law.NodeLaws.{NodeLaws}

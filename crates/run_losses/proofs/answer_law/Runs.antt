@@ -24,8 +24,7 @@ use Rattle.run_laws.proofs.world_law.Everyone.{everyone_so}
 use Rattle.run_laws.proofs.world_law.Pasts.{done_after, holds_at, none_after}
 use Rattle.run_laws.proofs.world_law.Start.{first_stands}
 use Rattle.run_laws.proofs.world_law.Turning.{next_cluster, next_keeps}
-use Rattle.run_laws.specs.world_law.Owners.{moment, node_in, node_named}
-use Rattle.run_laws.specs.world_logs.Doings.{acts_in}
+use Rattle.headline.specs.Moments.{acts_in, moment, node_in, node_named}
 use Rattle.xfs_base.specs.declared.node.NodeId.{NodeId}
 use Rattle.xfs_base.specs.declared.node.NodeId.TheVariants as nodes
 use Rattle.xfs_base.specs.declared.segment.SegName.{SegName}
@@ -38,7 +37,8 @@ use Rattle.run_losses.proofs.answer_law.Clients.{client_turned, clients_say}
 use Rattle.run_losses.proofs.answer_law.Clients as clients
 use Rattle.run_losses.proofs.answer_law.Others.{others_say_none}
 use Rattle.run_losses.proofs.answer_law.Telling.{node_so, none_said}
-use Rattle.run_losses.specs.answer_law.Answers.{IsBegunBy, LossesAreSaid, answers_lost}
+use Rattle.run_losses.specs.answer_law.Answers.{IsBegunBy}
+use Rattle.headline.specs.Losses.{LossesAreSaid, answers_lost}
 use Rattle.run_losses.specs.answer_law.Calls.{GoesWell}
 use Rattle.run_losses.specs.answer_law.Runs.{LostAnswersAreSaid}
 

@@ -14,7 +14,8 @@ use Rattle.xfs_base.specs.declared.node.NodeId.{NodeId}
 use Rattle.xfs_base.specs.declared.segment.SegName.{SegName}
 use Rattle.serving_moves.proofs.item_moves.Keeping.{in_behind}
 use Rattle.serving_moves.specs.item_moves.Moves.{IsSilent}
-use Rattle.run_losses.specs.answer_law.Answers.{LossesAreSaid, NoneIsLost, answers_lost}
+use Rattle.run_losses.specs.answer_law.Answers.{NoneIsLost}
+use Rattle.headline.specs.Losses.{LossesAreSaid, answers_lost}
 use Rattle.run_losses.specs.answer_law.Calls.{NotLost}
 
 -- ---- effects that answer no item so

@@ -2,8 +2,9 @@
 use Rattle.std.proofs.Common.{◌≡◌, ℕ, Some, slice_get}
 use Rattle.core_world.specs.AnyNode.{any_start, any_step}
 use Rattle.core_world.specs.declared.any_node.AnyNode.{AnyNode}
-use Rattle.run_losses.specs.earned_law.Earned.{IsEarned, LostActsAreEarned}
-use Rattle.run_losses.specs.earned_law.Earned.IsEarned.{ToRead, ToTakeover, WhileItOpened}
+use Rattle.run_losses.specs.earned_law.Earned.{LostActsAreEarned}
+use Rattle.headline.specs.Losses.{IsEarned}
+use Rattle.headline.specs.Losses.IsEarned.{ToRead, ToTakeover, WhileItOpened}
 use Rattle.run_losses.specs.lost_law.Reads.{ReadsLoseWhatIsTorn}
 use Rattle.run_losses.specs.reader_law.Readers.{IsReader, OnlyReadersSayLost}
 use Rattle.run_losses.specs.reader_law.Readers.IsReader.{Manages, Scans, Serves}
@@ -11,8 +12,7 @@ use Rattle.run_losses.specs.source_law.Sources.{TakeoversLoseWhatWasFiled}
 use Rattle.run_losses.specs.taking_law.Takings.{TakeoversLoseWhatIsTorn}
 use Rattle.run_losses.specs.whole_law.Whole.{ReopeningsLoseWhatWasWhole}
 use Rattle.node_base.specs.Setups.{IsSetup}
-use Rattle.run_laws.specs.world_law.Owners.{moment}
-use Rattle.run_laws.specs.world_logs.Doings.{acts_in}
+use Rattle.headline.specs.Moments.{acts_in, moment}
 use Rattle.token_protocol.specs.Basics.{In}
 use Rattle.version_model.specs.declared.act.Act.TheVariants as act
 use Rattle.world_base.specs.declared.estate.Estate.{Estate}

@@ -4,10 +4,9 @@ use Rattle.run_losses.proofs.fetched_law.Lying.{is_stored, was_filed}
 use Rattle.run_losses.specs.fetched_law.Reads.{CallsReadWhatIsStored, CallsReadWhatWasFiled}
 use Rattle.run_losses.specs.fetching_law.Fetchings.{CallsReadBlocks}
 use Rattle.run_losses.proofs.missing_law.Servers.{StoredLaws}
-use Rattle.run_losses.specs.missing_law.Stored.{IsStoredAs}
-use Rattle.run_losses.specs.source_law.Sources.{WasFiled}
-use Rattle.run_laws.specs.world_law.Owners.{moment}
-use Rattle.run_laws.specs.world_logs.Logs.{NotDeleted}
+use Rattle.headline.specs.Torn.{IsStoredAs, WasFiled}
+use Rattle.headline.specs.Moments.{moment}
+use Rattle.headline.specs.Segments.{NotDeleted}
 use Rattle.run_laws.specs.world_reads.LoggedRuns.{logged_run}
 use Rattle.run_laws.specs.world_reads.Moments.{EveryRunStands}
 use Rattle.xfs_base.specs.declared.segment.SegRef.{SegRef}

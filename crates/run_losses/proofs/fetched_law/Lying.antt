@@ -11,27 +11,25 @@ use Rattle.core_world.specs.declared.any_node.AnyNode.{AnyNode}
 use Rattle.core_world.specs.declared.any_node.AnyNode.TheVariants as any
 use Rattle.node_tellings.specs.entry_tie.ClientTells.{BlockTold, LiesTold, PhaseHolds, ReadingTold, ServingHolds}
 use Rattle.node_tellings.specs.entry_tie.Told.{Told, told_by_rows}
-use Rattle.run_losses.specs.fetching_law.Fetchings.{serving_in, serving_of, what_is_read}
+use Rattle.headline.specs.Reads.{serving_in, serving_of, what_is_read}
 use Rattle.run_laws.specs.index_reads.Ties.{ArePlain}
-use Rattle.index_tie.specs.Filed.{Filed, rows_at}
+use Rattle.headline.specs.Filed.{Filed, rows_at}
 use Rattle.log_protocol.specs.Tables as tables
-use Rattle.loss_law.specs.Losses.{ref_of}
+use Rattle.segment_format.specs.References.{ref_of}
 use Rattle.run_losses.proofs.missing_law.Servers.{StoredLaws, flown_is_stored}
-use Rattle.run_losses.specs.missing_law.Stored.{IsStoredAs}
+use Rattle.headline.specs.Torn.{IsStoredAs, WasFiled}
 use Rattle.run_laws.proofs.place_law.Lying.{LiesAt, lies_there}
 use Rattle.segment_format.specs.declared.segment.Segment.{Segment}
 use Rattle.segment_reading.specs.declared.target.BlockAt.{BlockAt}
 use Rattle.segment_reading.specs.Reading.{ReadingState}
-use Rattle.run_losses.specs.source_law.Sources.{WasFiled}
 use Rattle.token_protocol.specs.Basics.{In}
 use Rattle.version_model.specs.declared.act.Act.TheVariants as act
 use Rattle.world_base.specs.Cluster.{place_of}
 use Rattle.world_base.specs.Runs.{IsRun}
 use Rattle.run_laws.proofs.world_law.Sent.{in_list}
-use Rattle.run_laws.specs.world_law.Owners.{moment, node_in, node_named}
-use Rattle.run_laws.specs.world_logs.Doings.{did}
-use Rattle.run_laws.specs.world_logs.Logs.{NotDeleted}
-use Rattle.run_laws.specs.world_logs.Roles.{log_by}
+use Rattle.headline.specs.Moments.{moment, node_in, node_named}
+use Rattle.headline.specs.Logs.{did, log_by}
+use Rattle.headline.specs.Segments.{NotDeleted}
 use Rattle.run_laws.proofs.world_reads.KnownLogs.{HasLog, filed_known, filed_log}
 use Rattle.run_laws.specs.world_reads.Joint.{Joint}
 use Rattle.run_laws.specs.world_reads.LoggedRuns.{LoggedRun}

@@ -29,7 +29,8 @@ use Rattle.world_base.specs.Runs.{IsRun}
 use Rattle.run_laws.proofs.world_law.Gets.{grant_told}
 use Rattle.run_laws.proofs.world_law.Laws.{NodeLaws, ServesThere, front, serves_there}
 use Rattle.run_laws.specs.world_law.Standing.{Scene, SentBy, Stands, members}
-use Rattle.run_laws.specs.world_law.Owners.{moment, node_in, tokens_at, tokens_of}
+use Rattle.headline.specs.Moments.{moment, node_in}
+use Rattle.headline.specs.Owners.{tokens_at, tokens_of}
 use Rattle.run_laws.proofs.world_law.RegistryTurns.{slot_below}
 use Rattle.xfs_base.specs.Blocks.{slot_of}
 use Rattle.xfs_base.specs.declared.block.BlockId.{BlockId}

@@ -15,7 +15,7 @@ use Rattle.core_world.specs.AnyNode.{any_start, any_step}
 use Rattle.core_world.specs.declared.any_node.AnyNode.{AnyNode}
 use Rattle.core_world.specs.declared.any_node.AnyNode.TheVariants as any
 use Rattle.group_map.specs.GroupMapState.{GroupMapState}
-use Rattle.group_map.specs.Groups.{started}
+use Rattle.group_map.specs.Groups.{known_group as group_in, started}
 use Rattle.log_law.specs.Net.Packet.{MapSent}
 use Rattle.log_protocol.specs.Tables as tables
 use Rattle.log_tie.specs.Setting.{Setting, stripe_of_group}
@@ -43,13 +43,15 @@ use Rattle.world_base.specs.NextWorld.{sent_at, start_world}
 use Rattle.world_base.specs.Runs.{IsRun}
 use Rattle.run_laws.proofs.world_law.Sent.{at_clock}
 use Rattle.run_laws.proofs.world_law.Start.{first_stands}
-use Rattle.run_laws.specs.world_law.Owners.{moment, node_in, node_named, tokens_at, tokens_in, tokens_of}
+use Rattle.headline.specs.Moments.{moment, node_in, node_named}
+use Rattle.headline.specs.Owners.{tokens_at, tokens_in, tokens_of}
 use Rattle.run_laws.proofs.world_logs.Groups.{GroupsStay, Names, in_run}
 use Rattle.run_laws.specs.world_logs.Lines.{HasLines, setting}
-use Rattle.run_laws.specs.world_logs.Roles.{IsThere, asker_by}
-use Rattle.run_laws.specs.world_logs.Roles.Role.{OfClient}
+use Rattle.run_laws.specs.world_logs.Roles.{asker_by}
+use Rattle.headline.specs.Logs.{IsThere}
+use Rattle.headline.specs.Logs.Role.{OfClient}
 use Rattle.run_laws.specs.world_logs.Settings.{stripe_by}
-use Rattle.run_laws.specs.world_logs.Shelves.{group_at, group_in, groups_of}
+use Rattle.headline.specs.Servers.{group_at, groups_of}
 use Rattle.run_laws.specs.world_logs.Standing.{ClientThere}
 use Rattle.xfs_base.specs.declared.node.NodeId.{NodeId}
 use Rattle.xfs_base.specs.declared.node.NodeId.TheVariants as nodes
@@ -60,7 +62,7 @@ use Rattle.run_losses.proofs.torn_law.Counts.{TurnAt, may_happen}
 use Rattle.run_losses.proofs.torn_law.Drawn.{last_of}
 use Rattle.run_losses.proofs.torn_law.Events.{base_at}
 use Rattle.run_losses.proofs.torn_law.Turns.{brought}
-use Rattle.run_losses.specs.fetching_law.Fetchings.{serving_at, serving_in, serving_of, what_is_read}
+use Rattle.headline.specs.Reads.{serving_at, serving_in, serving_of, what_is_read}
 use Rattle.run_losses.proofs.fetching_law.Maps.{ComesWell, ServesWell, StandsWell, comes_well, stands_first, stands_on}
 use Rattle.run_losses.proofs.fetching_law.Phases.{After, Served, event_serves}
 use Rattle.run_losses.proofs.fetching_law.Truths.{AllReads, IsNamed, Reads, aside, comes_so}

@@ -43,17 +43,17 @@ use Rattle.world_base.specs.Events.{node_of, what_of}
 use Rattle.world_base.specs.Runs.{IsRun}
 use Rattle.run_laws.proofs.world_law.Nodes.{here}
 use Rattle.run_laws.proofs.world_law.Laws.{NodeLaws}
-use Rattle.run_laws.specs.world_law.Owners.{moment}
+use Rattle.headline.specs.Moments.{acts_in, moment}
 use Rattle.run_laws.proofs.world_logs.Groups.{GroupsStay}
-use Rattle.run_laws.specs.world_logs.Doings.{acts_in}
 use Rattle.run_laws.specs.world_logs.Lines.{HasLines, RunsHaveLines}
-use Rattle.run_laws.specs.world_logs.Logs.{NotDeleted}
-use Rattle.run_laws.specs.world_logs.Roles.{IsThere}
-use Rattle.run_laws.specs.world_logs.Roles.Role.{OfClient}
+use Rattle.headline.specs.Segments.{NotDeleted}
+use Rattle.headline.specs.Logs.{IsThere}
+use Rattle.headline.specs.Logs.Role.{OfClient}
 use Rattle.xfs_base.specs.declared.node.NodeId.{NodeId}
 use Rattle.xfs_base.specs.declared.node.NodeId.TheVariants as nodes
 use Rattle.xfs_base.specs.declared.segment.SegName.{SegName}
-use Rattle.run_losses.specs.fetching_law.Fetchings.{BringsGone, CallsReadBlocks, FetchesLossesEarned, WasTornInFetch, serving_at, serving_in, what_is_read}
+use Rattle.run_losses.specs.fetching_law.Fetchings.{CallsReadBlocks, FetchesLossesEarned, WasTornInFetch}
+use Rattle.headline.specs.Reads.{BringsGone, serving_at, serving_in, what_is_read}
 use Rattle.run_losses.proofs.fetching_law.Counts.{AnswersTell, Good, GrantsAsked, Here, all_good, client_there, serving_is, was}
 use Rattle.run_losses.proofs.fetching_law.Maps.{ServesWell, StandsWell}
 use Rattle.run_losses.proofs.fetching_law.Phases.{After, event_serves}

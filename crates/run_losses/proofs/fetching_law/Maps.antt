@@ -31,7 +31,7 @@ use Rattle.wire_msg.specs.declared.packet.Do.TheVariants.{Begin, Deliver, Tick}
 use Rattle.wire_msg.specs.declared.registry.News.{News}
 use Rattle.xfs_base.specs.declared.setup.Setup.{Setup}
 use Rattle.xfs_base.specs.Steps.{still}
-use Rattle.run_losses.specs.fetching_law.Fetchings.{serving_in}
+use Rattle.headline.specs.Reads.{serving_in}
 use Rattle.run_losses.proofs.fetching_law.Openings.{ProgressKnows, maps_taken, packet_knows, time_knows}
 use Rattle.run_losses.proofs.fetching_law.Phases.{After, WaitsFor, event_serves}
 use Rattle.run_losses.proofs.fetching_law.Turning.{Bears, NewMaps}

@@ -39,15 +39,15 @@ use Rattle.wire_msg.specs.declared.storage.Missing.{Missing}
 use Rattle.wire_msg.specs.declared.tokens.Grant.{Grant}
 use Rattle.world_base.specs.declared.estate.Estate.{Estate}
 use Rattle.world_base.specs.Runs.{IsRun}
-use Rattle.run_laws.specs.world_law.Owners.{moment}
+use Rattle.headline.specs.Moments.{moment}
 use Rattle.run_laws.specs.world_logs.Settings.{stripe_by}
-use Rattle.run_laws.specs.world_logs.Shelves.{group_at}
+use Rattle.headline.specs.Servers.{group_at}
 use Rattle.xfs_base.proofs.Booleans.{by_test}
 use Rattle.xfs_base.specs.Blocks.{slot_of}
 use Rattle.xfs_base.specs.declared.block.BlockId.{BlockId}
 use Rattle.xfs_base.specs.declared.node.NodeId.{NodeId}
 use Rattle.xfs_base.specs.declared.node.NodeId.TheVariants as nodes
-use Rattle.run_losses.specs.fetching_law.Fetchings.{ReadsAt, open_item, serving_at, what_is_read}
+use Rattle.headline.specs.Reads.{ReadsAt, open_item, serving_at, what_is_read}
 use Rattle.run_losses.proofs.fetching_law.Wants.{Anew, Lasts, Later}
 use Rattle.run_losses.proofs.fetching_law.Turning.{Begins, Comes, Resumes, Told}
 

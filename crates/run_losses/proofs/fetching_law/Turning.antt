@@ -36,7 +36,8 @@ use Rattle.xfs_base.specs.declared.node.NodeId.TheVariants as node
 use Rattle.xfs_base.specs.declared.segment.SegName.{SegName}
 use Rattle.xfs_base.specs.Steps.{still, saying}
 use Rattle.xfs_base.proofs.Alls.{all_append, all_weaker}
-use Rattle.run_losses.specs.fetching_law.Fetchings.{BringsGone, Confirms}
+use Rattle.run_losses.specs.fetching_law.Fetchings.{Confirms}
+use Rattle.headline.specs.Reads.{BringsGone}
 use Rattle.run_losses.proofs.fetching_law.Quiet.{AllQuiet, Goes, IsQuiet, Less, NotLost, NoFetch, itself}
 use Rattle.run_losses.proofs.fetching_law.Wants.{Anew, Lasts}
 use Rattle.run_losses.proofs.fetching_law.Working.{RunsOn, Waits, rests_run, runs_run}

@@ -19,7 +19,7 @@ use Rattle.node_base.specs.declared.effects.Effect.{Effect}
 use Rattle.node_base.specs.declared.effects.Effect.TheVariants.{Send, Answer, Lose, Does}
 use Rattle.node_base.specs.declared.questions.Questions.{Questions}
 use Rattle.node_slots.proofs.node_tie.ManagerFetches.{fetch_is}
-use Rattle.node_slots.specs.node_tie.ManagerEvents.{phase_at}
+use Rattle.headline.specs.Managers.{phase_at}
 use Rattle.stripe_code.specs.declared.round.Told.{Told}
 use Rattle.stripe_code.specs.declared.round.Told.TheVariants as told
 use Rattle.takeover.specs.declared.input.In.{In as Input}

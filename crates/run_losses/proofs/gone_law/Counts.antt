@@ -18,7 +18,7 @@ use Rattle.manager_slots.specs.SlotTable.{Table, first_phase, first_table}
 use Rattle.node_base.specs.declared.effects.Effect.{Effect}
 use Rattle.node_base.specs.declared.effects.Effect.TheVariants.{Send, Answer, Lose, Does}
 use Rattle.node_base.specs.Effects.{acts_of}
-use Rattle.node_slots.specs.node_tie.ManagerEvents.{phase_at, slot_in}
+use Rattle.headline.specs.Managers.{phase_at, slot_in}
 use Rattle.run_laws.specs.reading_law.Readings.{ReadingsCame}
 use Rattle.token_protocol.specs.Basics.{In}
 use Rattle.version_model.specs.declared.act.Act.TheVariants as act
@@ -36,11 +36,10 @@ use Rattle.world_base.specs.Items.{items_of}
 use Rattle.world_base.specs.NextWorld.{sent_at}
 use Rattle.world_base.specs.Runs.{IsRun}
 use Rattle.run_laws.proofs.world_law.Sent.{at_clock, in_append}
-use Rattle.run_laws.specs.world_law.Owners.{moment, node_in}
-use Rattle.run_laws.specs.world_logs.Doings.{acts_in}
+use Rattle.headline.specs.Moments.{acts_in, moment, node_in}
 use Rattle.run_laws.specs.world_logs.Lines.{HasLines}
-use Rattle.run_laws.specs.world_logs.Roles.{IsThere}
-use Rattle.run_laws.specs.world_logs.Roles.Role.{OfManager}
+use Rattle.headline.specs.Logs.{IsThere}
+use Rattle.headline.specs.Logs.Role.{OfManager}
 use Rattle.xfs_base.proofs.Booleans.{by_test}
 use Rattle.xfs_base.specs.Blocks.{slot_of as slot_of_ino}
 use Rattle.xfs_base.specs.declared.node.NodeId.{NodeId}
@@ -51,10 +50,11 @@ use Rattle.run_losses.proofs.torn_law.Counts.{TurnAt, moment_next}
 use Rattle.run_losses.proofs.taking_law.Always.{slot_is}
 use Rattle.run_losses.proofs.taking_law.Losing.{done_after, earned}
 use Rattle.run_losses.proofs.taking_law.ManagerCounts.{CameBy, IsManager, IsNamed, NodeFine, Turned as NodeTurned, all_good, do_brought, is_manager, turned}
-use Rattle.run_losses.specs.taking_law.Takings.{slot_at, slot_of}
+use Rattle.headline.specs.Takeovers.{slot_at, slot_of}
 use Rattle.run_losses.proofs.gone_law.Breaking.{Breaks}
 use Rattle.run_losses.proofs.gone_law.Events.{Turned, gones_are_of_broken, manager_turned}
-use Rattle.run_losses.specs.gone_law.Gones.{BrokenSlotsWereLost, GonesWereLost, IfGone, IsOfBroken, SaidLost}
+use Rattle.run_losses.specs.gone_law.Gones.{BrokenSlotsWereLost, GonesWereLost, IfGone, IsOfBroken}
+use Rattle.headline.specs.Reads.{SaidLost}
 use Rattle.run_losses.proofs.torn_law.Course.{each_good, first_here, none_sent, was}
 
 same_taking : (x y : Taking) → phase.Taking x ≡ phase.Taking y → x ≡ y

@@ -19,7 +19,7 @@ use Rattle.node_base.specs.declared.effects.Effect.{Effect}
 use Rattle.node_base.specs.declared.effects.Effect.TheVariants.{Send, Answer, Lose, Does}
 use Rattle.node_base.specs.declared.questions.Questions.{Questions}
 use Rattle.node_slots.proofs.node_tie.ManagerTables.{set_here, set_there}
-use Rattle.node_slots.specs.node_tie.ManagerEvents.{phase_at}
+use Rattle.headline.specs.Managers.{phase_at}
 use Rattle.takeover.specs.declared.input.In.{In}
 use Rattle.takeover.specs.declared.input.In.TheVariants as input
 use Rattle.takeover.specs.declared.output.Out.{Out}

@@ -5,7 +5,7 @@ use Rattle.std.proofs.lemmas.Bool.{eqb-true}
 use Rattle.client_serving.specs.declared.serving.Serving.{Serving}
 use Rattle.core_world.specs.AnyNode.{any_start, any_step}
 use Rattle.core_world.specs.declared.any_node.AnyNode.{AnyNode}
-use Rattle.run_losses.specs.fetching_law.Fetchings.{BringsGone, serving_at}
+use Rattle.headline.specs.Reads.{BringsGone, SaidLost, ToldLost, promised_in, serving_at}
 use Rattle.node_base.specs.Setups.{IsSetup}
 use Rattle.node_slots.specs.node_tie.RegistryEvents.{RegistrySound}
 use Rattle.token_client.specs.State.{epoch_of}
@@ -25,15 +25,15 @@ use Rattle.world_base.specs.Runs.{IsRun}
 use Rattle.run_laws.proofs.world_law.FirstSlot as slot
 use Rattle.run_laws.proofs.world_law.Laws.{NodeLaws}
 use Rattle.run_laws.specs.world_law.Standing.{Scene, SentBy, Stands}
-use Rattle.run_laws.specs.world_law.Owners.{moment}
-use Rattle.run_laws.specs.world_logs.Roles.{IsThere}
-use Rattle.run_laws.specs.world_logs.Roles.Role.{OfManager}
+use Rattle.headline.specs.Moments.{moment}
+use Rattle.headline.specs.Logs.{IsThere}
+use Rattle.headline.specs.Logs.Role.{OfManager}
 use Rattle.xfs_base.proofs.Booleans.{and_first}
 use Rattle.xfs_base.specs.Blocks.{slot_of}
 use Rattle.xfs_base.specs.declared.node.NodeId.{NodeId}
 use Rattle.xfs_base.specs.declared.node.NodeId.TheVariants as names
 use Rattle.xfs_base.specs.declared.segment.SegName.{SegName}
-use Rattle.run_losses.specs.gone_law.Gones.{GonesWereLost, SaidLost, ToldLost, promised_in}
+use Rattle.run_losses.specs.gone_law.Gones.{GonesWereLost}
 
 -- ---- a Gone is a manager's
 

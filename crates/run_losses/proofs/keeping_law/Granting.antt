@@ -11,7 +11,8 @@ use Rattle.manager_node.specs.declared.phase.Phase.{Phase}
 use Rattle.manager_node.specs.declared.phase.Phase.TheVariants.{Down, Waiting, Serving as Serves}
 use Rattle.manager_node.specs.Events.{manager_step}
 use Rattle.node_base.specs.Setups.{IsSetup}
-use Rattle.node_slots.specs.node_tie.ManagerEvents.{ManagerAgrees, OtherAgrees, slot_in}
+use Rattle.node_slots.specs.node_tie.ManagerEvents.{ManagerAgrees, OtherAgrees}
+use Rattle.headline.specs.Managers.{slot_in}
 use Rattle.node_slots.specs.node_tie.RegistryEvents.{RegistrySound}
 use Rattle.token_law.specs.Net.{Net}
 use Rattle.token_protocol.specs.Basics.{In}
@@ -31,7 +32,7 @@ use Rattle.run_laws.proofs.world_law.Laws.{NodeLaws, front, one_node}
 use Rattle.run_laws.proofs.world_law.Nodes.{here}
 use Rattle.run_laws.proofs.world_law.Sent.{at_clock}
 use Rattle.run_laws.specs.world_law.Standing.{Scene, SentBy, Stands, members}
-use Rattle.run_laws.specs.world_law.Owners.{moment, node_in}
+use Rattle.headline.specs.Moments.{moment, node_in}
 use Rattle.run_laws.specs.world_logs.Lines.{HasLines}
 use Rattle.xfs_base.specs.declared.node.NodeId.{NodeId}
 use Rattle.xfs_base.specs.declared.node.NodeId.TheVariants.{Client, Manager, Server, Cleaner, Registry}

@@ -11,8 +11,8 @@ use Rattle.manager_slots.specs.declared.slot_phase.SlotPhase.{SlotPhase}
 use Rattle.manager_slots.specs.declared.slot_phase.SlotPhase.TheVariants as phase
 use Rattle.node_slots.specs.node_index_tie.ManagerEvents.{ManagerAgrees, PhaseAgrees}
 use Rattle.node_slots.specs.node_index_tie.Pages.{Desk, desk_of}
-use Rattle.node_slots.specs.node_index_tie.Sight.{Texts}
-use Rattle.node_slots.specs.node_tie.ManagerEvents.{phase_at, slot_in}
+use Rattle.headline.specs.Filed.{Texts}
+use Rattle.headline.specs.Managers.{active_in, phase_at, slot_in}
 use Rattle.node_slots.specs.node_tie.RegistryEvents.{RegistrySound}
 use Rattle.segment_format.specs.declared.segment.Segment.{Segment}
 use Rattle.token_manager.specs.SlotState.{SlotState}
@@ -25,8 +25,7 @@ use Rattle.world_base.specs.declared.cluster.Cluster.{Cluster}
 use Rattle.run_laws.specs.world_index.Standing.{Scene, SentBy, Stands}
 use Rattle.run_laws.proofs.world_law.Laws.{one_node}
 use Rattle.run_laws.specs.world_law.Standing as tokens
-use Rattle.run_laws.specs.world_law.Managers.{active_in}
-use Rattle.run_laws.specs.world_law.Owners.{node_in}
+use Rattle.headline.specs.Moments.{node_in}
 use Rattle.xfs_base.specs.declared.node.NodeId.{NodeId}
 use Rattle.xfs_base.specs.declared.node.NodeId.TheVariants.{Client, Manager, Server, Cleaner, Registry}
 

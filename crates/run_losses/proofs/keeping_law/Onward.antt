@@ -18,7 +18,8 @@ use Rattle.world_base.specs.Runs.{IsRun, MayHappen}
 use Rattle.run_laws.proofs.world_law.Laws.{NodeLaws, ServesThere, serves_there}
 use Rattle.run_laws.specs.world_law.Standing.{Scene, Stands, members}
 use Rattle.run_laws.proofs.world_law.Turns.{event_turns}
-use Rattle.run_laws.specs.world_law.Owners.{moment, tokens_at, tokens_of, node_in}
+use Rattle.headline.specs.Moments.{moment, node_in}
+use Rattle.headline.specs.Owners.{tokens_at, tokens_of}
 use Rattle.xfs_base.specs.declared.block.BlockId.{BlockId}
 use Rattle.xfs_base.specs.declared.node.NodeId.TheVariants.{Client}
 use Rattle.xfs_base.specs.Limits.{slot_count}

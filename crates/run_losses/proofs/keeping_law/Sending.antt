@@ -11,7 +11,7 @@ use Rattle.world_base.specs.declared.world.World.{World}
 use Rattle.world_base.specs.Events.{what_of}
 use Rattle.world_base.specs.NextWorld.{sent_at}
 use Rattle.run_laws.proofs.world_law.Sent.{in_append}
-use Rattle.run_laws.specs.world_law.Owners.{moment}
+use Rattle.headline.specs.Moments.{moment}
 use Rattle.run_laws.proofs.world_logs.Lists.{in_after, in_before}
 use Rattle.run_losses.proofs.torn_law.Counts.{TurnAt, became, moment_ended}
 

@@ -12,7 +12,8 @@ use Rattle.manager_slots.specs.Tokens as tokens
 use Rattle.manager_serving.specs.declared.serving.Serving.{Serving}
 use Rattle.node_base.specs.declared.effects.Effect.{Effect}
 use Rattle.node_slots.proofs.node_tie.ManagerJobs.{AllSpeakOf, IsInputOf, SpeaksOf, takes_of}
-use Rattle.node_slots.specs.node_tie.ManagerEvents.{OtherAgrees, phase_at}
+use Rattle.node_slots.specs.node_tie.ManagerEvents.{OtherAgrees}
+use Rattle.headline.specs.Managers.{active_in, phase_at}
 use Rattle.token_manager.specs.declared.input.In.{In}
 use Rattle.token_manager.specs.declared.output.Out.{Out}
 use Rattle.token_manager.specs.declared.output.Out.TheVariants as out
@@ -27,7 +28,6 @@ use Rattle.wire_msg.specs.declared.tokens.Gave.{Gave}
 use Rattle.wire_msg.specs.declared.tokens.Grant.{Grant}
 use Rattle.wire_msg.specs.declared.tokens.Want.{Want}
 use Rattle.run_laws.proofs.world_law.Nodes.{get_set_same}
-use Rattle.run_laws.specs.world_law.Managers.{active_in}
 use Rattle.xfs_base.specs.Blocks.{slot_of}
 use Rattle.xfs_base.specs.declared.segment.LogId.{LogId}
 use Rattle.xfs_base.specs.Steps.{Stepped}

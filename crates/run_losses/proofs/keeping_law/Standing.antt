@@ -10,8 +10,8 @@ use Rattle.run_laws.proofs.index_reads.Rows.{rows_are_entries}
 use Rattle.run_laws.specs.index_reads.Ties.{ArePlain}
 use Rattle.index_tie.proofs.Rows.{by_filed}
 use Rattle.index_tie.proofs.Runs.{good_in}
-use Rattle.index_tie.specs.Cleaning.{has_block, is_filed_name}
-use Rattle.index_tie.specs.Filed.{Filed, IsFiled, rows_at}
+use Rattle.headline.specs.Filed.{Filed, has_block, is_filed_name, rows_at}
+use Rattle.index_tie.specs.Filed.{IsFiled}
 use Rattle.index_tie.specs.Laws.{IsOutdated}
 use Rattle.index_tie.specs.NetLaws.{ReigningIsOutdated}
 use Rattle.log_protocol.specs.Tables as tables
@@ -21,7 +21,7 @@ use Rattle.node_slots.specs.node_index_tie.Sight.{held_in}
 use Rattle.node_slots.proofs.node_tie.SmallWorld.{with_promise}
 use Rattle.run_laws.proofs.place_law.Lying.{LiesAt, lies_there, one_of_nine}
 use Rattle.run_laws.specs.reopening_law.Reopens.{TellsApart}
-use Rattle.run_laws.specs.restart_law.Restarts.{NoDoubtfulRestart}
+use Rattle.headline.specs.Restarts.{NoDoubtfulRestart}
 use Rattle.run_laws.specs.restart_law.Sure.{UndoubtedRunsAreSure}
 use Rattle.segment_format.specs.declared.segment.Segment.{Segment}
 use Rattle.segment_format.specs.Rows.{rows_of}
@@ -47,7 +47,8 @@ use Rattle.run_laws.proofs.world_law.Laws.{NodeLaws, ServesThere, serves_there}
 use Rattle.run_laws.proofs.world_law.RegistryTurns.{slot_below}
 use Rattle.run_laws.proofs.world_law.Sent.{was_sent}
 use Rattle.run_laws.specs.world_law.Standing.{Scene, SentBy, members}
-use Rattle.run_laws.specs.world_law.Owners.{moment, node_in, tokens_of}
+use Rattle.headline.specs.Moments.{moment, node_in}
+use Rattle.headline.specs.Owners.{tokens_of}
 use Rattle.run_laws.specs.world_lines.Lines.{LinesGive}
 use Rattle.run_laws.specs.world_logs.Lines.{HasLines, Texts}
 use Rattle.run_laws.specs.world_reads.Joint.{Joint, k}

@@ -1,11 +1,11 @@
 -- What is filed at a moment of a run is filed at each later one, up to which no restart that ended was doubtful, under the same number and the same name.
 use Rattle.std.proofs.Common.{◌≡◌, ℕ, zero, suc, ◌+◌, ◌-◌, ◌<◌, ◌≤◌, false, sym, ap, subst, ◌∙◌, arith}
-use Rattle.index_tie.specs.Filed.{Filed}
+use Rattle.headline.specs.Filed.{Filed}
 use Rattle.log_law.proofs.Filing.{Grown, grown}
 use Rattle.log_law.specs.Net.{Net}
 use Rattle.run_laws.specs.world_lines.Lines.{LinesGive}
 use Rattle.run_laws.specs.world_logs.Lines.{setting}
-use Rattle.run_laws.specs.world_logs.Roles.{Role, log_by, renews}
+use Rattle.headline.specs.Logs.{Role, log_by, renews}
 use Rattle.run_laws.proofs.world_reads.EntriesSame.{sure_log}
 use Rattle.run_laws.specs.world_reads.Joint.{IsSureUpto, Joint, There, log_at}
 use Rattle.run_laws.specs.world_reads.LoggedRuns.{LoggedRun}

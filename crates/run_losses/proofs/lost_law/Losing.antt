@@ -8,14 +8,15 @@ use Rattle.core_world.specs.AnyNode.{any_start, any_step}
 use Rattle.core_world.specs.declared.any_node.AnyNode.{AnyNode}
 use Rattle.core_world.specs.declared.any_node.AnyNode.TheVariants as any
 use Rattle.run_losses.specs.fetched_law.Reads.{CallsReadWhatIsStored, CallsReadWhatWasFiled}
-use Rattle.run_losses.specs.fetching_law.Fetchings.{FetchesLossesEarned, WasTornInFetch, serving_at, serving_in, serving_of}
+use Rattle.run_losses.specs.fetching_law.Fetchings.{FetchesLossesEarned, WasTornInFetch}
+use Rattle.headline.specs.Reads.{WasTornInRead, serving_at, serving_in, serving_of}
 use Rattle.run_losses.specs.keeping_law.Keeping.{GrantsLeadToWhatStands, WouldAccept}
 use Rattle.node_base.specs.Setups.{IsSetup}
-use Rattle.run_laws.specs.restart_law.Restarts.{NoDoubtfulRestart}
+use Rattle.headline.specs.Restarts.{NoDoubtfulRestart}
 use Rattle.segment_reading.specs.declared.target.Target.{Target}
 use Rattle.run_losses.specs.standing_law.Gone.{GonesAreOfWhatStands}
 use Rattle.token_client.specs.State.{TokensState}
-use Rattle.run_losses.specs.torn_law.Torn.{IsTornAt}
+use Rattle.headline.specs.Torn.{IsTornAt}
 use Rattle.run_losses.proofs.torn_law.Counts.{may_happen}
 use Rattle.run_losses.proofs.torn_law.Turns.{brought}
 use Rattle.wire_msg.specs.declared.packet.Packet.{Packet}
@@ -23,11 +24,12 @@ use Rattle.world_base.specs.declared.estate.Estate.{Estate}
 use Rattle.world_base.specs.declared.event.Event.{Event}
 use Rattle.world_base.specs.Events.{node_of, what_of}
 use Rattle.world_base.specs.Runs.{IsRun}
-use Rattle.run_laws.specs.world_law.Owners.{moment, node_named, tokens_in, tokens_of}
-use Rattle.run_laws.specs.world_logs.Logs.{NotDeleted}
+use Rattle.headline.specs.Moments.{moment, node_named}
+use Rattle.headline.specs.Owners.{tokens_in, tokens_of}
+use Rattle.headline.specs.Segments.{NotDeleted}
 use Rattle.xfs_base.specs.declared.node.NodeId.TheVariants as nodes
 use Rattle.xfs_base.specs.declared.segment.SegName.{SegName}
-use Rattle.run_losses.specs.lost_law.Reads.{ReadsLoseWhatIsTorn, WasTornInRead}
+use Rattle.run_losses.specs.lost_law.Reads.{ReadsLoseWhatIsTorn}
 
 -- the tokens of a client that serves
 

@@ -24,11 +24,11 @@ use Rattle.world_base.specs.Events.{node_of, what_of}
 use Rattle.world_base.specs.NextWorld.{sent_at, start_world}
 use Rattle.world_base.specs.Runs.{IsRun}
 use Rattle.run_laws.proofs.world_law.Sent.{at_clock, in_append}
-use Rattle.run_laws.specs.world_law.Owners.{moment, node_in}
+use Rattle.headline.specs.Moments.{moment, node_in}
 use Rattle.run_laws.proofs.world_logs.Line.{last_or_before}
 use Rattle.run_laws.specs.world_logs.Lines.{HasLines, setting}
-use Rattle.run_laws.specs.world_logs.Roles.Role.{OfCleaner}
-use Rattle.run_laws.specs.world_logs.Shelves.{shelf_at, shelf_of}
+use Rattle.headline.specs.Logs.Role.{OfCleaner}
+use Rattle.headline.specs.Servers.{shelf_at, shelf_of}
 use Rattle.run_laws.specs.world_logs.Standing.{ServerThere}
 use Rattle.xfs_base.specs.declared.node.NodeId.{NodeId}
 use Rattle.xfs_base.specs.declared.node.NodeId.TheVariants as names

@@ -10,15 +10,14 @@ use Rattle.group_map.specs.declared.group.Group.{Group}
 use Rattle.group_map.specs.declared.group.Member.{Member}
 use Rattle.log_flight.specs.Flights.{no_member}
 use Rattle.loss_law.proofs.Counting.{counted_places}
-use Rattle.loss_law.specs.Losses.{ref_of}
+use Rattle.segment_format.specs.References.{ref_of}
 use Rattle.segment_format.specs.declared.segment.Segment.{Segment}
-use Rattle.run_losses.specs.torn_law.Torn.{IsTornAt, lacks}
+use Rattle.headline.specs.Torn.{IsTornAt, disks_lost, has_lost_disk, lacks}
 use Rattle.world_base.specs.declared.estate.Estate.{Estate}
-use Rattle.run_laws.specs.world_law.Owners.{moment}
-use Rattle.run_laws.specs.world_logs.Shelves.{HoldsOrLost, IsKept, group_at, piece, shelf_at}
+use Rattle.headline.specs.Moments.{moment}
+use Rattle.headline.specs.Servers.{HoldsOrLost, IsKept, group_at, piece, shelf_at}
 use Rattle.xfs_base.proofs.Booleans.{contrary}
 use Rattle.xfs_base.specs.declared.fragment.Fragment.{Fragment}
-use Rattle.run_losses.specs.missing_law.Stored.{disks_lost, has_lost_disk}
 
 lacks_none : (o : Option Fragment) (f : Fragment) → o ≡ Some f → is_none o ≡ true → ⊥
 lacks_none None f fact none = absurd cc

@@ -22,18 +22,18 @@ use Rattle.world_base.specs.NextWorld.{sent_at}
 use Rattle.world_base.specs.Runs.{IsRun}
 use Rattle.run_laws.proofs.world_law.Nodes.{here, there}
 use Rattle.run_laws.proofs.world_law.Sent.{was_sent}
-use Rattle.run_laws.specs.world_law.Owners.{moment, node_in}
+use Rattle.headline.specs.Moments.{moment, node_in}
 use Rattle.run_laws.proofs.world_logs.Line.{last_or_before}
 use Rattle.run_laws.proofs.world_logs.Lists.{in_before, in_was}
-use Rattle.run_laws.specs.world_logs.Logs.{NotDeleted}
-use Rattle.run_laws.specs.world_logs.Shelves.{shelf_at, shelf_of}
+use Rattle.headline.specs.Segments.{NotDeleted}
+use Rattle.headline.specs.Servers.{shelf_at, shelf_of}
 use Rattle.xfs_base.proofs.Booleans.{contrary}
 use Rattle.xfs_base.specs.declared.fragment.Fragment.{Fragment}
 use Rattle.xfs_base.specs.declared.node.NodeId.TheVariants as names
 use Rattle.xfs_base.specs.declared.segment.SegName.{SegName}
 use Rattle.run_losses.proofs.torn_law.Counts.{TurnAt, became, cluster_at, may_happen, moment_ended}
 use Rattle.run_losses.proofs.torn_law.Turns.{brought}
-use Rattle.run_losses.specs.torn_law.Torn.{lacks}
+use Rattle.headline.specs.Torn.{lacks}
 use Rattle.run_losses.proofs.missing_law.ShelfSteps.{ShelfOn, server_on, shelf_same, shelf_then}
 use Rattle.run_losses.specs.missing_law.Missed.{MissedIn}
 

@@ -23,7 +23,7 @@ use Rattle.stripe_code.specs.declared.round.RoundState.TheVariants as round
 use Rattle.stripe_code.specs.declared.round.Told.{Told}
 use Rattle.stripe_code.specs.Round.{RoundSoFar, asks, state_of, taken, told_fits}
 use Rattle.token_protocol.specs.Basics.{In}
-use Rattle.run_losses.specs.torn_law.Torn.{IsTornAt}
+use Rattle.headline.specs.Torn.{IsTornAt}
 use Rattle.wire_msg.specs.declared.body.Body.TheVariants as body
 use Rattle.wire_msg.specs.declared.packet.Packet.{Packet}
 use Rattle.wire_msg.specs.declared.storage.Fetch.{Fetch}
@@ -31,10 +31,10 @@ use Rattle.wire_msg.specs.declared.storage.Missing.{Missing}
 use Rattle.world_base.specs.declared.estate.Estate.{Estate}
 use Rattle.world_base.specs.Runs.{IsRun}
 use Rattle.run_laws.proofs.world_law.Sent.{in_append}
-use Rattle.run_laws.specs.world_law.Owners.{moment}
-use Rattle.run_laws.specs.world_logs.Logs.{NotDeleted}
+use Rattle.headline.specs.Moments.{moment}
+use Rattle.headline.specs.Segments.{NotDeleted}
 use Rattle.run_laws.specs.world_logs.Settings.{stripe_by}
-use Rattle.run_laws.specs.world_logs.Shelves.{group_at}
+use Rattle.headline.specs.Servers.{group_at}
 use Rattle.xfs_base.proofs.Booleans.{by_test, contrary}
 use Rattle.xfs_base.specs.declared.node.NodeId.{NodeId}
 use Rattle.xfs_base.specs.declared.segment.SegName.{SegName}

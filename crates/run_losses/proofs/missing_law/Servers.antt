@@ -9,16 +9,16 @@ use Rattle.core_world.specs.declared.any_node.AnyNode.TheVariants as any
 use Rattle.fragment_store.specs.ShelfState.{ShelfState, held_at, new_shelf}
 use Rattle.group_map.specs.declared.group.Group.{Group}
 use Rattle.group_map.specs.WellFormed.{IsServer}
-use Rattle.log_flight.specs.Flights.{no_member}
+use Rattle.log_flight.specs.Flights.{generation_of, no_member, server_of}
 use Rattle.log_law.specs.Held.{WhatFlewIsOfTheLog}
 use Rattle.log_law.specs.Laws.{Holds, IsLater, LogsStayWhole, LogsWhole, OneNameOneText, OneText}
 use Rattle.log_law.specs.LogLaws.{LogLaws}
 use Rattle.log_law.specs.Net.{Net}
 use Rattle.log_protocol.specs.Tables as tables
 use Rattle.log_tie.specs.Seen.{members_of}
-use Rattle.log_tie.specs.Setting.{Setting, Stripe, fragment_of, fragment_over, generation_of, server_of, stripe_of_group}
+use Rattle.log_tie.specs.Setting.{Setting, Stripe, fragment_of, fragment_over, stripe_of_group}
 use Rattle.log_tie.specs.Shelves.{is_of_log}
-use Rattle.loss_law.specs.Losses.{ref_of}
+use Rattle.segment_format.specs.References.{ref_of}
 use Rattle.node_logs.proofs.node_log_tie.WholeMaps.{its_stripe}
 use Rattle.node_logs.specs.node_log_tie.Sight.{BodySeen}
 use Rattle.segment_format.specs.declared.segment.Segment.{Segment}
@@ -36,16 +36,17 @@ use Rattle.world_base.specs.NextWorld.{first_nodes, next_world, start_world}
 use Rattle.world_base.specs.Runs.{IsRun, Leads, WasSent}
 use Rattle.run_laws.proofs.world_law.Sent.{was_sent}
 use Rattle.run_laws.proofs.world_law.Start.{first_stands, place_there}
-use Rattle.run_laws.specs.world_law.Owners.{moment, node_in}
+use Rattle.headline.specs.Moments.{moment, node_in}
 use Rattle.run_laws.proofs.world_logs.Lists.{in_was}
 use Rattle.run_laws.proofs.world_logs.Settings.{striped}
-use Rattle.run_laws.specs.world_logs.Doings.{did}
+use Rattle.headline.specs.Logs.{IsThere, Role, did, log_by}
 use Rattle.run_laws.specs.world_logs.Lines.{HasLines, RunsHaveLines, setting}
-use Rattle.run_laws.specs.world_logs.Logs.{IsText, NotDeleted}
-use Rattle.run_laws.specs.world_logs.Roles.{IsThere, Role, asker_by, log_by}
-use Rattle.run_laws.specs.world_logs.Roles.Role.{OfCleaner}
+use Rattle.headline.specs.Segments.{IsText, NotDeleted}
+use Rattle.run_laws.specs.world_logs.Roles.{asker_by}
+use Rattle.headline.specs.Logs.Role.{OfCleaner}
 use Rattle.run_laws.specs.world_logs.Settings.{stripe_by}
-use Rattle.run_laws.specs.world_logs.Shelves.{HoldsOrLost, IsKept, group_at, group_in, groups_of, piece, shelf_at, shelf_of}
+use Rattle.group_map.specs.Groups.{known_group as group_in}
+use Rattle.headline.specs.Servers.{HoldsOrLost, IsKept, group_at, groups_of, piece, shelf_at, shelf_of}
 use Rattle.run_laws.specs.world_logs.Standing.{RegistryThere, ServerThere}
 use Rattle.xfs_base.specs.declared.fragment.Fragment.{Fragment}
 use Rattle.xfs_base.specs.declared.node.NodeId.{NodeId}
@@ -55,7 +56,8 @@ use Rattle.xfs_base.specs.declared.segment.SegName.{SegName}
 use Rattle.xfs_base.proofs.Booleans.{equal_itself}
 use Rattle.run_losses.proofs.missing_law.Filed.{disks_of}
 use Rattle.run_losses.proofs.missing_law.Moments.{ShelfAt, here_is, k_of, shelf_on}
-use Rattle.run_losses.specs.missing_law.Stored.{IsStored, IsStoredAs, WhatIsFiledIsStored}
+use Rattle.run_losses.specs.missing_law.Stored.{WhatIsFiledIsStored}
+use Rattle.headline.specs.Torn.{IsStored, IsStoredAs}
 
 -- the laws of the small worlds of logs on which it stands
 pub record StoredLaws : Type 0 where

@@ -8,13 +8,13 @@ use Rattle.group_map.specs.declared.group.Member.{Member}
 use Rattle.loss_law.proofs.Counting.{Among, Apart, Each, counted, servers_of}
 use Rattle.loss_law.proofs.Pairs.{apart_filter, each_both, each_filter, each_on, each_passes, found_before}
 use Rattle.segment_reading.specs.Lost.{missing_twice, same_pair}
-use Rattle.run_losses.specs.torn_law.Torn.{IsTornAt, lacks}
+use Rattle.headline.specs.Torn.{IsTornAt, lacks}
 use Rattle.world_base.specs.declared.estate.Estate.{Estate}
 use Rattle.world_base.specs.Runs.{IsRun}
-use Rattle.run_laws.specs.world_law.Owners.{moment}
-use Rattle.run_laws.specs.world_logs.Logs.{NotDeleted}
+use Rattle.headline.specs.Moments.{moment}
+use Rattle.headline.specs.Segments.{NotDeleted}
 use Rattle.run_laws.specs.world_logs.Settings.{stripe_by}
-use Rattle.run_laws.specs.world_logs.Shelves.{group_at, shelf_at}
+use Rattle.headline.specs.Servers.{group_at, shelf_at}
 use Rattle.xfs_base.specs.declared.segment.SegName.{SegName}
 use Rattle.xfs_base.specs.declared.segment.SegRef.{SegRef}
 use Rattle.run_losses.proofs.missing_law.Moments.{kept_before, lacks_between}

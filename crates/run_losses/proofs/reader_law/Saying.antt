@@ -34,11 +34,10 @@ use Rattle.run_laws.proofs.world_law.Laws.{NodeLaws}
 use Rattle.run_laws.proofs.world_law.Pasts.{done_after, none_after}
 use Rattle.run_laws.proofs.world_law.Places.{behind}
 use Rattle.run_laws.proofs.world_law.Turns.{one_node}
-use Rattle.run_laws.specs.world_law.Owners.{moment, node_in, node_named}
+use Rattle.headline.specs.Moments.{acts_in, moment, node_in, node_named}
 use Rattle.run_laws.specs.world_law.Standing.{Scene, Stands, members}
-use Rattle.run_laws.specs.world_logs.Doings.{acts_in}
-use Rattle.run_laws.specs.world_logs.Roles.{IsThere}
-use Rattle.run_laws.specs.world_logs.Roles.Role.{OfClient, OfCleaner, OfManager}
+use Rattle.headline.specs.Logs.{IsThere}
+use Rattle.headline.specs.Logs.Role.{OfClient, OfCleaner, OfManager}
 use Rattle.std.specs.Prelude.{option_map}
 use Rattle.registry_node.specs.Events as registry_events
 use Rattle.store_nodes.specs.ServerEvents as server_events
@@ -70,10 +69,11 @@ use Rattle.run_losses.proofs.answer_law.Clients.{client_turned}
 use Rattle.run_losses.proofs.answer_law.Runs.{client_stands}
 use Rattle.run_losses.proofs.torn_law.Counts.{Still, TurnAt, happened_so}
 use Rattle.run_losses.specs.answer_law.Answers.{IsBegunBy}
-use Rattle.run_losses.specs.fetching_law.Fetchings.{BringsGone, FetchesLossesEarned, WasTornInFetch, open_item, serving_at, serving_in, serving_of}
+use Rattle.run_losses.specs.fetching_law.Fetchings.{FetchesLossesEarned, WasTornInFetch}
+use Rattle.headline.specs.Reads.{BringsGone, open_item, serving_at, serving_in, serving_of}
 use Rattle.run_losses.specs.reader_law.Readers.{IsReader, OnlyReadersSayLost}
 use Rattle.run_losses.specs.reader_law.Readers.IsReader.{Scans, Serves as ServesThen, Manages}
-use Rattle.run_losses.specs.torn_law.Torn.{cleaners_scan, clients_scan, scan_at, scan_in, scan_of}
+use Rattle.headline.specs.Openings.{cleaners_scan, clients_scan, scan_at, scan_in, scan_of}
 use Rattle.run_losses.proofs.answer_law.Others.{manager_plain, registry_plain, registry_silent, server_plain, server_silent}
 use Rattle.run_losses.proofs.answer_law.Telling.{AllPlain, SaysLost, says_lost, told_plain}
 

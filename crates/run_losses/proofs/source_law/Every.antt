@@ -5,18 +5,19 @@ use Rattle.core_world.specs.declared.any_node.AnyNode.{AnyNode}
 use Rattle.log_tie.specs.Setting.{Setting}
 use Rattle.node_base.specs.Setups.{IsSetup}
 use Rattle.run_laws.specs.reading_law.Readings.{RunsReadWhatCame}
-use Rattle.run_laws.specs.restart_law.Restarts.{NoDoubtfulRestart}
+use Rattle.headline.specs.Restarts.{NoDoubtfulRestart}
 use Rattle.run_losses.proofs.source_law.Lying.{Laws, reads_filed, reads_stored, slot_of_map}
-use Rattle.run_losses.specs.missing_law.Stored.{IsStoredAs}
-use Rattle.run_losses.specs.source_law.Sources.{TakeoversLoseWhatWasFiled, TakeoversReadWhatIsStored, TakeoversReadWhatWasFiled, WasFiled}
-use Rattle.run_losses.specs.taking_law.Takings.{Reads, TakeoversLoseWhatIsTorn, WasTornOrDeleted, slot_at}
+use Rattle.headline.specs.Torn.{IsStoredAs, WasFiled}
+use Rattle.run_losses.specs.source_law.Sources.{TakeoversLoseWhatWasFiled, TakeoversReadWhatIsStored, TakeoversReadWhatWasFiled}
+use Rattle.run_losses.specs.taking_law.Takings.{TakeoversLoseWhatIsTorn}
+use Rattle.headline.specs.Takeovers.{Reads, WasTornOrDeleted, slot_at}
 use Rattle.world_base.specs.declared.estate.Estate.{Estate}
 use Rattle.world_base.specs.Runs.{IsRun}
-use Rattle.run_laws.specs.world_law.Owners.{moment}
+use Rattle.headline.specs.Moments.{moment}
 use Rattle.run_laws.specs.world_logs.Lines.{HasLines, Texts}
-use Rattle.run_laws.specs.world_logs.Logs.{NotDeleted}
-use Rattle.run_laws.specs.world_logs.Roles.{IsThere}
-use Rattle.run_laws.specs.world_logs.Roles.Role.{OfManager}
+use Rattle.headline.specs.Segments.{NotDeleted}
+use Rattle.headline.specs.Logs.{IsThere}
+use Rattle.headline.specs.Logs.Role.{OfManager}
 use Rattle.run_laws.specs.world_reads.LoggedRuns.{LoggedRun, logged_run}
 use Rattle.run_laws.specs.world_reads.Moments.{EveryRunStands, MomentStands}
 use Rattle.xfs_base.specs.declared.segment.SegRef.{SegRef}

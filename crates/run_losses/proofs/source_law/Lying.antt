@@ -6,12 +6,12 @@ use native.Mathlib.Bridge.{le_prop}
 use Rattle.core_world.specs.AnyNode.{any_start, any_step}
 use Rattle.core_world.specs.declared.any_node.AnyNode.{AnyNode}
 use Rattle.core_world.specs.declared.any_node.AnyNode.TheVariants as any
-use Rattle.index_tie.specs.Filed.{Filed, rows_at}
+use Rattle.headline.specs.Filed.{Filed, rows_at}
 use Rattle.log_law.specs.Groups.{PriorsNameGroups}
 use Rattle.log_law.specs.Laws.{OneNameOneText}
 use Rattle.log_law.specs.Places.{APlaceNamesOneContent}
 use Rattle.log_protocol.specs.Tables as tables
-use Rattle.loss_law.specs.Losses.{ref_of}
+use Rattle.segment_format.specs.References.{ref_of}
 use Rattle.manager_node.specs.declared.manager.Manager.{Manager as ManagerNode}
 use Rattle.manager_node.specs.declared.phase.Phase.{Phase}
 use Rattle.manager_node.specs.declared.phase.Phase.TheVariants.{Down, Waiting, Serving as Serves}
@@ -20,10 +20,10 @@ use Rattle.manager_slots.specs.declared.slot_phase.SlotPhase.TheVariants as phas
 use Rattle.manager_slots.specs.declared.slot_phase.Taking.{Taking}
 use Rattle.manager_serving.specs.declared.serving.Serving.{Serving}
 use Rattle.run_losses.proofs.missing_law.Servers.{StoredLaws, flown_is_stored}
-use Rattle.run_losses.specs.missing_law.Stored.{IsStoredAs}
+use Rattle.headline.specs.Torn.{IsStoredAs, WasFiled}
 use Rattle.node_slots.specs.node_index_tie.ManagerEvents as places
 use Rattle.node_slots.specs.node_index_tie.Pages.{desk_of}
-use Rattle.node_slots.specs.node_tie.ManagerEvents.{phase_at, slot_in}
+use Rattle.headline.specs.Managers.{phase_at, slot_in}
 use Rattle.node_tellings.specs.part_tie.ManagerNames.{PhaseNames, SlotNames}
 use Rattle.node_tellings.specs.part_tie.Names.{AllKnown}
 use Rattle.run_laws.specs.reading_law.Readings.{ReadingsCame, cuts_at}
@@ -34,22 +34,20 @@ use Rattle.node_tellings.specs.reading_tie.TakeoverReads.{PresentHolds, StandsBy
 use Rattle.node_tellings.specs.reference_tie.Managers.{PhaseRefers, SlotRefers, TakeRefers}
 use Rattle.node_tellings.specs.reference_tie.References.{References}
 use Rattle.segment_format.specs.declared.segment.Segment.{Segment}
-use Rattle.run_losses.specs.source_law.Sources.{WasFiled}
 use Rattle.takeover.specs.declared.source.Source.{Source}
 use Rattle.takeover.specs.Sources.{sources_of}
-use Rattle.run_losses.specs.taking_law.Takings.{Reads, slot_at, slot_of}
+use Rattle.headline.specs.Takeovers.{Reads, slot_at, slot_of}
 use Rattle.token_protocol.specs.Basics.{In}
 use Rattle.version_model.specs.declared.act.Act.TheVariants as act
 use Rattle.world_base.specs.Cluster.{cluster_of, place_of}
 use Rattle.world_base.specs.Runs.{IsRun}
 use Rattle.run_laws.proofs.world_law.Laws.{one_node}
 use Rattle.run_laws.proofs.world_law.Sent.{in_list}
-use Rattle.run_laws.specs.world_law.Owners.{moment, node_in, node_named}
+use Rattle.headline.specs.Moments.{moment, node_in, node_named}
 use Rattle.run_laws.proofs.world_logs.Roles.{high_log}
-use Rattle.run_laws.specs.world_logs.Doings.{did}
-use Rattle.run_laws.specs.world_logs.Logs.{NotDeleted}
-use Rattle.run_laws.specs.world_logs.Roles.{IsThere, Role, log_by, renews}
-use Rattle.run_laws.specs.world_logs.Roles.Role.{OfClient, OfCleaner, OfManager}
+use Rattle.headline.specs.Logs.{IsThere, Role, did, log_by, renews}
+use Rattle.headline.specs.Segments.{NotDeleted}
+use Rattle.headline.specs.Logs.Role.{OfClient, OfCleaner, OfManager}
 use Rattle.run_laws.proofs.world_reads.EntriesSources.{ReadsFiled, ReadsPart, ReadsThere, reads_there}
 use Rattle.run_laws.proofs.world_reads.KnownLogs.{HasLog, filed_known, filed_log}
 use Rattle.run_laws.proofs.world_reads.ManagerChains.{Refers, refers_down}

@@ -6,8 +6,8 @@ use Rattle.client_node.specs.declared.phase.Phase.TheVariants as clients
 use Rattle.client_serving.specs.declared.serving.Serving.{Serving as ClientServing}
 use Rattle.core_world.specs.declared.any_node.AnyNode.{AnyNode}
 use Rattle.core_world.specs.declared.any_node.AnyNode.TheVariants as any
-use Rattle.run_losses.specs.fetching_law.Fetchings.{serving_at, serving_in, serving_of}
-use Rattle.index_tie.specs.Takeovers.{of_log}
+use Rattle.headline.specs.Reads.{serving_at, serving_in, serving_of}
+use Rattle.headline.specs.Indexes.{of_log}
 use Rattle.manager_node.specs.declared.manager.Manager.{Manager as ManagerNode}
 use Rattle.manager_node.specs.declared.phase.Phase.{Phase}
 use Rattle.manager_node.specs.declared.phase.Phase.TheVariants.{Down, Waiting, Serving as Serves}
@@ -16,11 +16,11 @@ use Rattle.manager_slots.specs.declared.slot_phase.SlotPhase.TheVariants as phas
 use Rattle.manager_slots.specs.declared.slot_phase.Taking.{Taking}
 use Rattle.node_slots.specs.node_index_tie.ManagerEvents as places
 use Rattle.node_slots.specs.node_index_tie.Pages.{desk_of}
-use Rattle.node_slots.specs.node_tie.ManagerEvents.{phase_at, slot_in}
+use Rattle.headline.specs.Managers.{phase_at, slot_in}
 use Rattle.node_tellings.specs.part_tie.ManagerNames.{PhaseNames, SlotNames}
 use Rattle.node_tellings.specs.part_tie.Names.{Known}
 use Rattle.takeover.specs.declared.source.Present.{Present}
-use Rattle.run_losses.specs.taking_law.Takings.{slot_at, slot_of}
+use Rattle.headline.specs.Takeovers.{slot_at, slot_of}
 use Rattle.token_protocol.specs.Basics.{In}
 use Rattle.run_losses.proofs.torn_law.Counts.{cluster_at}
 use Rattle.world_base.specs.Cluster.{cluster_of, place_of}
@@ -29,9 +29,9 @@ use Rattle.world_base.specs.declared.estate.Estate.{Estate}
 use Rattle.run_laws.proofs.world_law.Places.{behind}
 use Rattle.run_laws.proofs.world_law.Sent.{in_list}
 use Rattle.run_laws.specs.world_law.Standing.{members}
-use Rattle.run_laws.specs.world_law.Owners.{moment, node_in}
-use Rattle.run_laws.specs.world_logs.Roles.{IsThere}
-use Rattle.run_laws.specs.world_logs.Roles.Role.{OfManager}
+use Rattle.headline.specs.Moments.{moment, node_in}
+use Rattle.headline.specs.Logs.{IsThere}
+use Rattle.headline.specs.Logs.Role.{OfManager}
 use Rattle.run_laws.proofs.world_reads.EntriesSources.{ReadsFiled, ReadsPart, reads_there}
 use Rattle.run_laws.proofs.world_reads.KnownLogs.{filed_known}
 use Rattle.run_laws.proofs.world_reads.ManagerOwed.{one_among}

@@ -5,7 +5,7 @@ use Rattle.std.proofs.lemmas.Bool.{eqb-true}
 use Rattle.core_world.specs.AnyNode.{any_start, any_step}
 use Rattle.core_world.specs.declared.any_node.AnyNode.{AnyNode}
 use Rattle.core_world.specs.declared.any_node.AnyNode.TheVariants as any
-use Rattle.index_tie.specs.Takeovers.{of_log}
+use Rattle.headline.specs.Indexes.{of_log}
 use Rattle.manager_node.specs.declared.manager.Manager.{Manager as ManagerNode}
 use Rattle.manager_node.specs.declared.phase.Phase.{Phase}
 use Rattle.manager_node.specs.declared.phase.Phase.TheVariants.{Down, Waiting, Serving as Serves}
@@ -14,8 +14,9 @@ use Rattle.manager_node.specs.Phases.{Went_to, lasting_of}
 use Rattle.manager_slots.specs.declared.slot_phase.SlotPhase.{SlotPhase}
 use Rattle.manager_slots.specs.declared.slot_phase.SlotPhase.TheVariants as phase
 use Rattle.node_logs.proofs.node_log_tie.Others.{same_or_other}
-use Rattle.node_slots.specs.node_tie.ManagerEvents.{EventGets, HeldAt, ManagedAt, ManagerEventGoes, ManagerGoes, epoch_in, is_serving, is_waiting, slot_in}
-use Rattle.run_losses.specs.taking_law.Takings.{slot_at, slot_of}
+use Rattle.node_slots.specs.node_tie.ManagerEvents.{EventGets, HeldAt, ManagedAt, ManagerEventGoes, ManagerGoes, epoch_in, is_serving, is_waiting}
+use Rattle.headline.specs.Managers.{slot_in}
+use Rattle.headline.specs.Takeovers.{slot_at, slot_of}
 use Rattle.token_law.specs.Net.{Net}
 use Rattle.token_manager.specs.SlotState.{SlotState}
 use Rattle.run_losses.proofs.torn_law.Counts.{Still, TurnAt, became, cluster_at, may_happen, moment_ended}
@@ -32,9 +33,9 @@ use Rattle.run_laws.proofs.world_law.Gets.{manager_gets}
 use Rattle.run_laws.proofs.world_law.Nodes.{here, there}
 use Rattle.run_laws.proofs.world_law.RegistryTurns.{held_known}
 use Rattle.run_laws.specs.world_law.Standing.{Been, ManagerSees, PastAt, epoch_now, members}
-use Rattle.run_laws.specs.world_law.Owners.{moment, node_in}
-use Rattle.run_laws.specs.world_logs.Roles.{IsThere}
-use Rattle.run_laws.specs.world_logs.Roles.Role.{OfManager}
+use Rattle.headline.specs.Moments.{moment, node_in}
+use Rattle.headline.specs.Logs.{IsThere}
+use Rattle.headline.specs.Logs.Role.{OfManager}
 use Rattle.run_laws.specs.world_reads.Chains.{Comes, Follows, IsManaged}
 use Rattle.run_laws.specs.world_reads.Joint.{Joint, k}
 use Rattle.run_laws.specs.world_reads.LoggedRuns.{LoggedRun}

@@ -4,9 +4,9 @@ use Rattle.std.proofs.lemmas.Bool.Decides.{nat_tests}
 use Rattle.std.specs.List.{AllByRecursion, flat_map, range_with_len}
 use Rattle.index_tie.proofs.Takeovers.{of_log_in}
 use Rattle.index_tie.specs.Net.{Net}
-use Rattle.index_tie.specs.Takeovers.{of_log}
+use Rattle.headline.specs.Indexes.{of_log}
 use Rattle.node_slots.specs.node_index_tie.ManagerEvents.{TakingAgrees}
-use Rattle.node_slots.specs.node_index_tie.Sight.{Texts}
+use Rattle.headline.specs.Filed.{Texts}
 use Rattle.segment_format.specs.declared.segment.Segment.{Segment}
 use Rattle.takeover.specs.Course.{course_of}
 use Rattle.takeover.specs.declared.report.Report.{Report}

@@ -6,11 +6,11 @@ use Rattle.core_world.specs.AnyNode.{any_start, any_step}
 use Rattle.core_world.specs.declared.any_node.AnyNode.{AnyNode}
 use Rattle.run_laws.proofs.epoch_law.Polls.{of_client, polled_low}
 use Rattle.run_laws.specs.epoch_law.Slots.{BothStand}
-use Rattle.run_losses.specs.fetching_law.Fetchings.{serving_at}
-use Rattle.run_losses.specs.gone_law.Gones.{ClientsAreToldWhatWasLost, ToldLost, promised_in}
-use Rattle.index_tie.specs.Filed.{rows_at}
+use Rattle.headline.specs.Reads.{ToldLost, ToldTorn, promised_in, serving_at}
+use Rattle.run_losses.specs.gone_law.Gones.{ClientsAreToldWhatWasLost}
+use Rattle.headline.specs.Filed.{rows_at}
 use Rattle.index_tie.specs.NetLaws.{CheckpointsHaveManagers}
-use Rattle.index_tie.specs.Takeovers.{of_log}
+use Rattle.headline.specs.Indexes.{of_log}
 use Rattle.log_law.specs.Written.{WhatFlewIsWritten}
 use Rattle.log_scan.specs.Transition.{least_horizon}
 use Rattle.log_tie.specs.Setting.{Setting}
@@ -23,13 +23,13 @@ use Rattle.node_slots.specs.node_tie.ManagerEvents.{HeldAt, ManagerEventGoes}
 use Rattle.run_laws.proofs.place_law.Lying.{one_of_nine}
 use Rattle.registry.specs.Board.{all_news}
 use Rattle.registry.specs.BoardState.{BoardState}
-use Rattle.run_laws.specs.restart_law.Restarts.{NoDoubtfulRestart}
+use Rattle.headline.specs.Restarts.{NoDoubtfulRestart}
 use Rattle.takeover.specs.declared.source.Present.{Present}
 use Rattle.takeover.specs.declared.source.Source.{Source}
 use Rattle.run_losses.specs.source_law.Sources.{TakeoversReadWhatIsStored, TakeoversReadWhatWasFiled}
-use Rattle.run_losses.specs.taking_law.Takings.{Reads, WasTornOrDeleted, slot_at}
+use Rattle.headline.specs.Takeovers.{Reads, WasTornOrDeleted, slot_at}
 use Rattle.token_client.specs.State.{epoch_of}
-use Rattle.run_losses.specs.torn_law.Torn.{IsTornAt}
+use Rattle.headline.specs.Torn.{IsTornAt}
 use Rattle.token_law.specs.Laws.{ActiveEpochsPromised}
 use Rattle.token_manager.specs.SlotState.{SlotState}
 use Rattle.token_protocol.specs.Basics.{In}
@@ -42,11 +42,11 @@ use Rattle.world_base.specs.Events.{what_of}
 use Rattle.world_base.specs.Runs.{IsRun}
 use Rattle.run_laws.proofs.world_law.RegistryTurns.{slot_below}
 use Rattle.run_laws.proofs.world_law.Sent.{was_sent}
-use Rattle.run_laws.specs.world_law.Owners.{moment}
+use Rattle.headline.specs.Moments.{moment}
 use Rattle.run_laws.specs.world_logs.Lines.{HasLines, Texts}
-use Rattle.run_laws.specs.world_logs.Logs.{NotDeleted}
-use Rattle.run_laws.specs.world_logs.Roles.{IsThere, log_by}
-use Rattle.run_laws.specs.world_logs.Roles.Role.{OfManager}
+use Rattle.headline.specs.Segments.{NotDeleted}
+use Rattle.headline.specs.Logs.{IsThere, log_by}
+use Rattle.headline.specs.Logs.Role.{OfManager}
 use Rattle.run_laws.proofs.world_reads.EntriesSources.{ReadsFiled, ReadsPart}
 use Rattle.run_laws.proofs.world_reads.KnownLogs.{HasLog, filed_known, filed_log}
 use Rattle.run_laws.proofs.world_reads.TurnBoth.{both_of}
@@ -63,7 +63,7 @@ use Rattle.xfs_base.specs.Limits.{slot_count, block_logs}
 use Rattle.run_drops.proofs.drop_law.Deleting.{deleted_below, none_deleted}
 use Rattle.run_losses.proofs.standing_law.Holding.{ServesThere, has_begun, horizon_below, is_manager, nobody_yet, part_or_filed, parts_known, serves_there}
 use Rattle.run_losses.proofs.standing_law.Lapsing.{Lapsed, lapsed}
-use Rattle.run_losses.specs.standing_law.Gone.{GonesAreOfWhatStands, ToldTorn}
+use Rattle.run_losses.specs.standing_law.Gone.{GonesAreOfWhatStands}
 
 -- the laws of the crates below on which it stands
 pub record Below : Type 0 where

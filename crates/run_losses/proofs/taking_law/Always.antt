@@ -11,7 +11,7 @@ use Rattle.manager_node.specs.Phases.{lasting_of}
 use Rattle.manager_slots.specs.declared.slot_phase.SlotPhase.{SlotPhase}
 use Rattle.manager_slots.specs.declared.slot_phase.SlotPhase.TheVariants as phase
 use Rattle.manager_slots.specs.declared.slot_phase.Taking.{Taking}
-use Rattle.node_slots.specs.node_tie.ManagerEvents.{slot_in}
+use Rattle.headline.specs.Managers.{slot_in}
 use Rattle.segment_reading.specs.declared.target.Target.{Target}
 use Rattle.segment_reading.specs.Reading.{ReadingState}
 use Rattle.takeover.specs.declared.source.Present.{Present}
@@ -28,10 +28,10 @@ use Rattle.world_base.specs.Events.{what_of}
 use Rattle.world_base.specs.Items.{items_of}
 use Rattle.world_base.specs.NextWorld.{sent_at}
 use Rattle.world_base.specs.Runs.{IsRun}
-use Rattle.run_laws.specs.world_law.Owners.{moment, node_in}
+use Rattle.headline.specs.Moments.{moment, node_in}
 use Rattle.run_laws.specs.world_logs.Lines.{HasLines}
-use Rattle.run_laws.specs.world_logs.Roles.{IsThere}
-use Rattle.run_laws.specs.world_logs.Roles.Role.{OfManager}
+use Rattle.headline.specs.Logs.{IsThere}
+use Rattle.headline.specs.Logs.Role.{OfManager}
 use Rattle.xfs_base.specs.declared.node.NodeId.TheVariants as names
 use Rattle.run_losses.proofs.missing_law.Readings.{AsksOf, out_next, reading_later}
 use Rattle.run_losses.specs.missing_law.Missed.{last_at, last_in}
@@ -40,7 +40,7 @@ use Rattle.run_losses.proofs.taking_law.ManagerTurns.{FetchDone, PhaseFine, Said
 use Rattle.run_losses.proofs.taking_law.SlotReads.{PresentFrom, ReadFrom, ReadingFrom, at_source}
 use Rattle.run_losses.proofs.taking_law.SlotTurns.{FetchAs, FetchFor, FetchOf, PresentFine, PresentOut, ReadFine, ReadingFine, ReadingOut, TakingFine}
 use Rattle.run_losses.proofs.taking_law.Truths.{IsPresent, PresentSo, ReadTrue, ReadingSo, ReadsIn, TakingTrue, read_on, span_next}
-use Rattle.run_losses.specs.taking_law.Takings.{slot_at, slot_of}
+use Rattle.headline.specs.Takeovers.{slot_at, slot_of}
 use Rattle.run_losses.proofs.torn_law.Course.{each_good, first_here}
 
 -- what is known of a slot that a manager takes over

@@ -12,7 +12,7 @@ use Rattle.manager_slots.specs.declared.slot_phase.SlotPhase.TheVariants as phas
 use Rattle.node_base.specs.declared.effects.Effect.{Effect}
 use Rattle.node_base.specs.declared.effects.Effect.TheVariants.{Send, Answer, Lose, Does}
 use Rattle.node_base.specs.Effects.{acts_of}
-use Rattle.node_slots.specs.node_tie.ManagerEvents.{slot_in}
+use Rattle.headline.specs.Managers.{slot_in}
 use Rattle.run_laws.specs.reading_law.Readings.{ReadingsCame, RunsReadWhatCame}
 use Rattle.segment_reading.specs.declared.target.Target.{Target}
 use Rattle.takeover.specs.Transition.{target_of}
@@ -28,12 +28,11 @@ use Rattle.world_base.specs.declared.world.World.{World}
 use Rattle.world_base.specs.Events.{node_of, what_of}
 use Rattle.world_base.specs.NextWorld.{sent_at}
 use Rattle.world_base.specs.Runs.{IsRun}
-use Rattle.run_laws.specs.world_law.Owners.{moment}
-use Rattle.run_laws.specs.world_logs.Doings.{acts_in}
+use Rattle.headline.specs.Moments.{acts_in, moment}
 use Rattle.run_laws.specs.world_logs.Lines.{HasLines, RunsHaveLines}
-use Rattle.run_laws.specs.world_logs.Roles.{IsThere}
-use Rattle.run_laws.specs.world_logs.Roles.Role.{OfManager}
-use Rattle.run_laws.specs.world_logs.Standing.{Deletes}
+use Rattle.headline.specs.Logs.{IsThere}
+use Rattle.headline.specs.Logs.Role.{OfManager}
+use Rattle.headline.specs.Deletions.{Deletes}
 use Rattle.xfs_base.specs.declared.node.NodeId.{NodeId}
 use Rattle.xfs_base.specs.declared.node.NodeId.TheVariants as names
 use Rattle.xfs_base.specs.declared.segment.SegName.{SegName}
@@ -48,7 +47,8 @@ use Rattle.run_losses.proofs.taking_law.Reading.{reads_at}
 use Rattle.run_losses.proofs.taking_law.SlotReads.{LostFrom}
 use Rattle.run_losses.proofs.taking_law.SlotTurns.{PresentFine, TakingFine}
 use Rattle.run_losses.proofs.taking_law.Truths.{WasLost, lost_true}
-use Rattle.run_losses.specs.taking_law.Takings.{TakeoversLoseWhatIsTorn, WasTornOrDeleted, slot_at, slot_of}
+use Rattle.run_losses.specs.taking_law.Takings.{TakeoversLoseWhatIsTorn}
+use Rattle.headline.specs.Takeovers.{WasTornOrDeleted, slot_at, slot_of}
 
 -- ---- what is done in an event
 

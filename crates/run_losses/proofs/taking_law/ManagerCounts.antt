@@ -45,12 +45,13 @@ use Rattle.world_base.specs.Items.{items_of}
 use Rattle.world_base.specs.NextWorld.{sent_at}
 use Rattle.world_base.specs.Runs.{IsRun}
 use Rattle.run_laws.proofs.world_law.Sent.{at_clock, in_append}
-use Rattle.run_laws.specs.world_law.Owners.{moment, node_in, node_named}
+use Rattle.headline.specs.Moments.{moment, node_in, node_named}
 use Rattle.run_laws.specs.world_logs.Lines.{HasLines, setting}
-use Rattle.run_laws.specs.world_logs.Roles.{IsThere, asker_by}
-use Rattle.run_laws.specs.world_logs.Roles.Role.{OfCleaner, OfManager}
+use Rattle.run_laws.specs.world_logs.Roles.{asker_by}
+use Rattle.headline.specs.Logs.{IsThere}
+use Rattle.headline.specs.Logs.Role.{OfCleaner, OfManager}
 use Rattle.run_laws.specs.world_logs.Settings.{stripe_by}
-use Rattle.run_laws.specs.world_logs.Shelves.{group_at}
+use Rattle.headline.specs.Servers.{group_at}
 use Rattle.run_laws.specs.world_logs.Standing.{ManagerThere}
 use Rattle.xfs_base.specs.declared.node.NodeId.{NodeId}
 use Rattle.xfs_base.specs.declared.node.NodeId.TheVariants as names

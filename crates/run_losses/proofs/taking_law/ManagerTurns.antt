@@ -26,7 +26,7 @@ use Rattle.node_base.specs.declared.peers.Peers.{Peers}
 use Rattle.node_base.specs.Maps.{forgotten}
 use Rattle.node_base.specs.Room.{has_room}
 use Rattle.node_base.specs.Shape.{is_well_formed}
-use Rattle.node_slots.specs.node_tie.ManagerEvents.{phase_at, slot_in}
+use Rattle.headline.specs.Managers.{phase_at, slot_in}
 use Rattle.stripe_code.specs.declared.round.Told.{Told}
 use Rattle.version_model.specs.declared.answer.Answer.TheVariants as answer
 use Rattle.version_model.specs.declared.work.Work.{Work}

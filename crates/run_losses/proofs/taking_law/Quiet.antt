@@ -15,7 +15,7 @@ use Rattle.manager_slots.specs.Tokens as tokens
 use Rattle.node_base.specs.Beginning.{answers_unanswered}
 use Rattle.node_base.specs.declared.effects.Effect.{Effect}
 use Rattle.node_slots.proofs.node_tie.ManagerTables.{set_here, set_there}
-use Rattle.node_slots.specs.node_tie.ManagerEvents.{phase_at}
+use Rattle.headline.specs.Managers.{phase_at}
 use Rattle.token_manager.specs.declared.input.In.{In as SlotIn}
 use Rattle.token_manager.specs.declared.input.In.TheVariants as slot_in
 use Rattle.token_manager.specs.declared.output.Out.{Out as SlotOut}

@@ -15,7 +15,7 @@ use Rattle.manager_slots.specs.declared.slot_phase.SlotPhase.{SlotPhase}
 use Rattle.manager_slots.specs.declared.slot_phase.SlotPhase.TheVariants as phase
 use Rattle.manager_slots.specs.declared.slot_phase.Taking.{Taking}
 use Rattle.manager_slots.specs.SlotTable.{Table}
-use Rattle.node_slots.specs.node_tie.ManagerEvents.{phase_at, slot_in}
+use Rattle.headline.specs.Managers.{phase_at, slot_in}
 use Rattle.run_laws.specs.reading_law.Readings.{AnyHolds, ReadingsCame, cuts_at}
 use Rattle.node_tellings.specs.reading_tie.Arrivals.{answered_in, cut_by}
 use Rattle.node_tellings.specs.reading_tie.Came.{Came, Striped}
@@ -31,10 +31,10 @@ use Rattle.takeover.specs.Reports.{end_of, horizon_at}
 use Rattle.takeover.specs.Sources.{back_from, from_end, goes_back, log_source, log_sources, part_source, prior_of, sources_of}
 use Rattle.world_base.specs.declared.estate.Estate.{Estate}
 use Rattle.world_base.specs.Runs.{IsRun}
-use Rattle.run_laws.specs.world_law.Owners.{moment, node_named}
+use Rattle.headline.specs.Moments.{moment, node_named}
 use Rattle.run_laws.specs.world_logs.Lines.{HasLines}
-use Rattle.run_laws.specs.world_logs.Roles.{IsThere}
-use Rattle.run_laws.specs.world_logs.Roles.Role.{OfManager}
+use Rattle.headline.specs.Logs.{IsThere}
+use Rattle.headline.specs.Logs.Role.{OfManager}
 use Rattle.xfs_base.proofs.Booleans.{and_first}
 use Rattle.xfs_base.proofs.Members.{contains_cases, contains_nothing}
 use Rattle.xfs_base.specs.declared.news.SlotNews.{SlotNews}
@@ -48,7 +48,7 @@ use Rattle.run_losses.proofs.taking_law.ManagerCounts.{IsNamed, NodeFine, all_go
 use Rattle.run_losses.proofs.taking_law.SlotReads.{at_source}
 use Rattle.run_losses.proofs.taking_law.SlotTurns.{PresentFine, ReadFine, TakingFine}
 use Rattle.run_losses.proofs.taking_law.Truths.{IsLooked, IsPresent, ReadsIn}
-use Rattle.run_losses.specs.taking_law.Takings.{Reads, slot_at, slot_of}
+use Rattle.headline.specs.Takeovers.{Reads, slot_at, slot_of}
 
 -- what holds of each of a list holds of what it contains
 all_contains : {X : Type 0} (P : X → Type 0) (xs : List X) (x : X) → AllByRecursion P xs → Contains xs x → P x

@@ -25,11 +25,11 @@ use Rattle.takeover.specs.Transition.{target_of}
 use Rattle.wire_msg.specs.declared.packet.Packet.{Packet}
 use Rattle.world_base.specs.declared.estate.Estate.{Estate}
 use Rattle.world_base.specs.Runs.{IsRun}
-use Rattle.run_laws.specs.world_law.Owners.{moment}
+use Rattle.headline.specs.Moments.{moment}
 use Rattle.run_laws.proofs.world_logs.Line.{last_or_before}
 use Rattle.run_laws.specs.world_logs.Lines.{HasLines}
-use Rattle.run_laws.specs.world_logs.Roles.{IsThere}
-use Rattle.run_laws.specs.world_logs.Roles.Role.{OfManager}
+use Rattle.headline.specs.Logs.{IsThere}
+use Rattle.headline.specs.Logs.Role.{OfManager}
 use Rattle.xfs_base.proofs.Booleans.{and_first, and_second, by_test, contrary}
 use Rattle.xfs_base.specs.declared.node.NodeId.TheVariants.{Manager}
 use Rattle.run_losses.proofs.missing_law.Answered.{answers_so}
@@ -39,7 +39,7 @@ use Rattle.run_losses.proofs.taking_law.ManagerCounts.{CameBy, IsNamed, fetches_
 use Rattle.run_losses.proofs.taking_law.SlotReads.{BeginsFrom, KeptFrom, ReadFrom, RenewedFrom, Took, WaitsFrom, at_source}
 use Rattle.run_losses.proofs.taking_law.TakeReadings.{servers-on_answer}
 use Rattle.run_losses.proofs.taking_law.TakeTurns.{answered}
-use Rattle.run_losses.specs.taking_law.Takings.{slot_at}
+use Rattle.headline.specs.Takeovers.{slot_at}
 
 -- ---- where there is no server
 

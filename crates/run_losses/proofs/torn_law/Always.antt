@@ -27,9 +27,9 @@ use Rattle.world_base.specs.NextWorld.{sent_at, start_world}
 use Rattle.world_base.specs.Runs.{IsRun}
 use Rattle.run_laws.proofs.world_law.Nodes.{here, there}
 use Rattle.run_laws.proofs.world_law.Sent.{at_clock}
-use Rattle.run_laws.specs.world_law.Owners.{moment, node_in}
+use Rattle.headline.specs.Moments.{moment, node_in}
 use Rattle.run_laws.specs.world_logs.Lines.{HasLines, IsBegun, setting}
-use Rattle.run_laws.specs.world_logs.Roles.{IsThere, Role, owner_by, renews}
+use Rattle.headline.specs.Logs.{IsThere, Role, owner_by, renews}
 use Rattle.run_laws.specs.world_logs.Standing.{ServerThere}
 use Rattle.run_losses.proofs.torn_law.Counts.{TurnAt, cluster_at, became, may_happen, moment_ended}
 use Rattle.run_losses.proofs.torn_law.Events.{Good, net, node_at}

@@ -17,8 +17,8 @@ use Rattle.wire_msg.specs.declared.packet.Do.{Do}
 use Rattle.wire_msg.specs.declared.packet.Packet.{Packet}
 use Rattle.world_base.specs.declared.estate.Estate.{Estate}
 use Rattle.run_laws.specs.world_logs.Lines.{HasLines, setting}
-use Rattle.run_laws.specs.world_logs.Roles.{IsThere}
-use Rattle.run_laws.specs.world_logs.Roles.Role.{OfCleaner}
+use Rattle.headline.specs.Logs.{IsThere}
+use Rattle.headline.specs.Logs.Role.{OfCleaner}
 use Rattle.run_laws.specs.world_logs.Standing.{CleanerThere}
 use Rattle.run_losses.proofs.torn_law.CleanerDraws.{Draws, PhaseUp, ServesUp, cleaner_draws}
 use Rattle.run_losses.proofs.torn_law.ClientFetches.{BodyUpTo, UpTo}

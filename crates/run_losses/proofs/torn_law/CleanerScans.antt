@@ -35,7 +35,7 @@ use Rattle.wire_msg.specs.declared.packet.Packet.{Packet}
 use Rattle.run_losses.proofs.torn_law.ClientScans.{IsFresh, StageTurn, Turning, answered_so, pushed_so, some_is, stage_falls, stage_scan, stage_still}
 use Rattle.run_losses.proofs.torn_law.OpeningSays.{After, DoesSo, packet_turns, tick_turns}
 use Rattle.run_losses.proofs.torn_law.OpeningTurns.{ProgressSo, StageSo, Goes, Turn, settled_packet, settled_tick}
-use Rattle.run_losses.specs.torn_law.Torn.{cleaners_scan, scan_in}
+use Rattle.headline.specs.Openings.{cleaners_scan, scan_in}
 
 module _ (what : Do) where
   abbrev pub PhaseSo : Phase → Went_to → Type 0

@@ -15,10 +15,10 @@ use Rattle.node_slots.proofs.node_tie.StoreFrames.{packets_do}
 use Rattle.wire_msg.specs.declared.packet.Do.{Do}
 use Rattle.wire_msg.specs.declared.packet.Packet.{Packet}
 use Rattle.world_base.specs.declared.estate.Estate.{Estate}
-use Rattle.run_laws.specs.world_law.Owners.{moment, node_named}
+use Rattle.headline.specs.Moments.{moment, node_named}
 use Rattle.run_laws.specs.world_logs.Lines.{HasLines, setting}
-use Rattle.run_laws.specs.world_logs.Roles.{IsThere}
-use Rattle.run_laws.specs.world_logs.Roles.Role.{OfClient}
+use Rattle.headline.specs.Logs.{IsThere}
+use Rattle.headline.specs.Logs.Role.{OfClient}
 use Rattle.run_laws.specs.world_logs.Standing.{ClientThere}
 use Rattle.run_losses.proofs.torn_law.ClientDraws.{Draws, PhaseUp, ServesUp, client_draws}
 use Rattle.run_losses.proofs.torn_law.ClientFetches.{BodyUpTo, UpTo}

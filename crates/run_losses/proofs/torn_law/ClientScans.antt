@@ -44,7 +44,7 @@ use Rattle.wire_msg.specs.declared.packet.Do.TheVariants.{Begin, Deliver, Tick}
 use Rattle.wire_msg.specs.declared.packet.Packet.{Packet}
 use Rattle.run_losses.proofs.torn_law.OpeningSays.{After, DoesSo, packet_turns, tick_turns}
 use Rattle.run_losses.proofs.torn_law.OpeningTurns.{ProgressSo, StageSo, Goes, Turn, settled_packet, settled_tick}
-use Rattle.run_losses.specs.torn_law.Torn.{clients_scan, scan_in}
+use Rattle.headline.specs.Openings.{clients_scan, scan_in}
 
 -- it took an input that came, or none, and did what its scan said, in one boot
 pub record Turning (k : Known) (s : Scanning) (what : Do) (last inc : ℕ) (after : Option Scanning) (life : ℕ) (outs : List Effect) : Type 0 where

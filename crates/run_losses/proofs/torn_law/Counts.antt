@@ -14,7 +14,7 @@ use Rattle.world_base.specs.Events.{node_of, what_of}
 use Rattle.world_base.specs.NextWorld.{next_world, sent_at, start_world}
 use Rattle.world_base.specs.Runs.{IsRun, Leads, MayHappen}
 use Rattle.run_laws.proofs.world_law.Turning.{next_cluster, next_keeps}
-use Rattle.run_laws.specs.world_law.Owners.{moment}
+use Rattle.headline.specs.Moments.{moment}
 
 -- ---- from one count to the next
 

@@ -8,7 +8,7 @@ use Rattle.node_logs.proofs.node_log_tie.Others.{same_or_other}
 use Rattle.run_laws.proofs.world_law.Nodes.{here, there}
 use Rattle.run_laws.proofs.world_law.Sent.{at_clock}
 use Rattle.run_laws.proofs.world_law.Start.{first_stands}
-use Rattle.run_laws.specs.world_law.Owners.{moment, node_in, node_named}
+use Rattle.headline.specs.Moments.{moment, node_in, node_named}
 use Rattle.run_laws.specs.world_logs.Lines.{HasLines}
 use Rattle.token_protocol.specs.Basics.{In}
 use Rattle.wire_msg.specs.declared.packet.Packet.{Packet}

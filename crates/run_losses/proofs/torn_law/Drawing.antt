@@ -17,10 +17,10 @@ use Rattle.world_base.specs.declared.world.World.{World}
 use Rattle.world_base.specs.Events.{node_of, what_of}
 use Rattle.world_base.specs.NextWorld.{sent_at}
 use Rattle.run_laws.proofs.world_law.Sent.{at_clock, in_append}
-use Rattle.run_laws.specs.world_law.Owners.{moment, node_in, node_named}
+use Rattle.headline.specs.Moments.{moment, node_in, node_named}
 use Rattle.run_laws.specs.world_logs.Lines.{HasLines}
 use Rattle.world_base.specs.Items.{items_of}
-use Rattle.run_laws.specs.world_logs.Roles.{Role, owner_by}
+use Rattle.headline.specs.Logs.{Role, owner_by}
 use Rattle.xfs_base.specs.declared.node.NodeId.{NodeId}
 use Rattle.run_losses.proofs.torn_law.ClientFetches.{BodyUpTo}
 use Rattle.run_losses.proofs.torn_law.Counts.{became, moment_ended}

@@ -9,8 +9,8 @@ use Rattle.wire_msg.specs.declared.body.Body.TheVariants as body
 use Rattle.wire_msg.specs.declared.packet.Packet.{Packet}
 use Rattle.wire_msg.specs.declared.storage.Fetch.{Fetch}
 use Rattle.world_base.specs.declared.estate.Estate.{Estate}
-use Rattle.run_laws.specs.world_law.Owners.{moment, node_named}
-use Rattle.run_laws.specs.world_logs.Roles.{Role, owner_by}
+use Rattle.headline.specs.Moments.{moment, node_named}
+use Rattle.headline.specs.Logs.{Role, owner_by}
 
 -- the number of the last question of a client or the cleaner
 abbrev pub last_of : Option AnyNode → ℕ

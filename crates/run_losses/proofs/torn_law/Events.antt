@@ -23,16 +23,16 @@ use Rattle.wire_msg.specs.declared.storage.Missing.{Missing}
 use Rattle.world_base.specs.Cluster.{cluster_of, place_of}
 use Rattle.world_base.specs.declared.cluster.Cluster.{Cluster}
 use Rattle.world_base.specs.declared.estate.Estate.{Estate}
-use Rattle.run_laws.specs.world_law.Owners.{moment, node_in, node_named}
+use Rattle.headline.specs.Moments.{moment, node_in, node_named}
 use Rattle.run_laws.proofs.world_logs.Line.{last_or_before}
 use Rattle.run_laws.specs.world_logs.Lines.{HasLines, Line, setting}
-use Rattle.run_laws.specs.world_logs.Roles.{IsThere, Role, owner_by, renews}
+use Rattle.headline.specs.Logs.{IsThere, Role, owner_by, renews}
 use Rattle.run_losses.proofs.torn_law.Counts.{cluster_at}
 use Rattle.run_losses.proofs.torn_law.OneOpening.{AllOpen, all_open}
 use Rattle.run_losses.proofs.torn_law.Owners.{Owns, Scans, TurnsOf, boot_in, owner_owns}
 use Rattle.run_losses.proofs.torn_law.Truths.{Drawn, Truths}
 use Rattle.run_losses.proofs.torn_law.Drawn.{FetchesDrawn, last_of}
-use Rattle.run_losses.specs.torn_law.Torn.{scan_at, scan_of}
+use Rattle.headline.specs.Openings.{scan_at, scan_of}
 
 module _ (base : Setting) (e : Estate AnyNode) (lines : HasLines base e) (r : Role)
     (is_there : IsThere e.script.setup.clients e.script.setup.managers r) (keeps : renews r ≡ false) where

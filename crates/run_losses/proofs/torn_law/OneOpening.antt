@@ -14,7 +14,7 @@ use Rattle.log_scan.specs.declared.output.Out.TheVariants.{Lost}
 use Rattle.log_scan.specs.declared.stage.Backward.{Backward}
 use Rattle.log_scan.specs.declared.stage.Stage.{Stage}
 use Rattle.log_scan.specs.declared.stage.Stage.TheVariants.{Hails, Gathers, Asks, Reads, Over}
-use Rattle.log_scan.specs.ScanState.{ScanState}
+use Rattle.log_scan.specs.ScanState.{IsRead, ScanState}
 use Rattle.log_scan.specs.Transition.{transition}
 use Rattle.log_tie.specs.Setting.{Setting}
 use Rattle.loss_law.proofs.Events.{grows, writes_none}
@@ -23,7 +23,7 @@ use Rattle.loss_law.proofs.Inputs.{takes_goes}
 use Rattle.loss_law.proofs.Interval.{passed}
 use Rattle.loss_law.proofs.Kept.{Asks_on, Doubts, IsReading, Middle, ReadingKept, ReadKept, RoundKept, StageKept, WasTorn, once_keeps, stage_on}
 use Rattle.loss_law.proofs.Losing.{lost_in}
-use Rattle.loss_law.specs.Losses.{IsRead, IsTorn, IsTrue, Once, has_drawn, is_opening}
+use Rattle.loss_law.specs.Losses.{IsTorn, IsTrue, Once, has_drawn, is_opening}
 use Rattle.segment_reading.specs.declared.reading.Stage as rounds
 use Rattle.segment_reading.specs.declared.reading.Stage.TheVariants as stand
 use Rattle.segment_reading.specs.Reading.{ReadingState}

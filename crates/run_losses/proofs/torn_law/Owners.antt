@@ -25,15 +25,15 @@ use Rattle.log_tie.specs.Setting.{Setting}
 use Rattle.node_base.specs.declared.effects.Effect.{Effect}
 use Rattle.node_base.specs.Effects.{acts_of, packets_of}
 use Rattle.wire_msg.specs.declared.packet.Do.{Do}
-use Rattle.run_laws.specs.world_logs.Roles.{Role, owner_by, renews}
-use Rattle.run_laws.specs.world_logs.Roles.Role.{OfClient, OfCleaner, OfManager}
+use Rattle.headline.specs.Logs.{Role, owner_by, renews}
+use Rattle.headline.specs.Logs.Role.{OfClient, OfCleaner, OfManager}
 use Rattle.run_laws.specs.world_logs.Standing.{CleanerThere, ClientThere, Seen}
 use Rattle.run_losses.proofs.torn_law.ClientScans as client_scans
 use Rattle.run_losses.proofs.torn_law.ClientScans.{IsFresh, StageTurn, Turning, client_turns, some_is}
 use Rattle.run_losses.proofs.torn_law.CleanerScans as cleaner_scans
 use Rattle.run_losses.proofs.torn_law.CleanerScans.{cleaner_turns}
 use Rattle.run_losses.proofs.torn_law.Drawn.{last_of}
-use Rattle.run_losses.specs.torn_law.Torn.{cleaners_scan, clients_scan, scan_in, scan_of}
+use Rattle.headline.specs.Openings.{cleaners_scan, clients_scan, scan_in, scan_of}
 
 -- its boot
 abbrev pub boot_in : Option AnyNode → ℕ

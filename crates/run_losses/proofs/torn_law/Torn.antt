@@ -22,12 +22,12 @@ use Rattle.log_owner.specs.declared.opening.Scanning.{Scanning}
 use Rattle.log_protocol.specs.Tables as tables
 use Rattle.log_scan.specs.declared.input.In.{In as Input}
 use Rattle.log_scan.specs.declared.stage.Stage.{Stage}
-use Rattle.log_scan.specs.ScanState.{ScanState}
+use Rattle.log_scan.specs.ScanState.{IsRead, ScanState}
 use Rattle.log_tie.specs.Setting.{Setting}
 use Rattle.log_tie.specs.Shelves.{is_of_log}
 use Rattle.loss_law.proofs.Counting.{counted_places}
 use Rattle.loss_law.proofs.Kept.{IsReading, StageKept, WasTorn as TornOf}
-use Rattle.loss_law.specs.Losses.{IsRead, IsTorn}
+use Rattle.loss_law.specs.Losses.{IsTorn}
 use Rattle.node_base.specs.declared.effects.Effect.{Effect}
 use Rattle.node_base.specs.declared.effects.Effect.TheVariants.{Send, Answer, Lose, Does}
 use Rattle.node_base.specs.Effects.{acts_of}
@@ -44,14 +44,14 @@ use Rattle.world_base.specs.declared.world.World.{World}
 use Rattle.world_base.specs.Events.{node_of, what_of}
 use Rattle.world_base.specs.Runs.{IsRun}
 use Rattle.run_laws.proofs.world_law.Sent.{was_sent}
-use Rattle.run_laws.specs.world_law.Owners.{moment, node_in}
-use Rattle.run_laws.specs.world_logs.Doings.{acts_in}
+use Rattle.headline.specs.Moments.{acts_in, moment, node_in}
 use Rattle.run_laws.specs.world_logs.Lines.{HasLines, RunsHaveLines, setting}
-use Rattle.run_laws.specs.world_logs.Logs.{NotDeleted}
-use Rattle.run_laws.specs.world_logs.Roles.{IsThere, Role, asker_by, owner_by, renews}
-use Rattle.run_laws.specs.world_logs.Roles.Role.{OfClient, OfCleaner, OfManager}
+use Rattle.headline.specs.Segments.{NotDeleted}
+use Rattle.run_laws.specs.world_logs.Roles.{asker_by}
+use Rattle.headline.specs.Logs.{IsThere, Role, owner_by, renews}
+use Rattle.headline.specs.Logs.Role.{OfClient, OfCleaner, OfManager}
 use Rattle.run_laws.specs.world_logs.Settings.{stripe_by}
-use Rattle.run_laws.specs.world_logs.Shelves.{group_at, shelf_at, shelf_of}
+use Rattle.headline.specs.Servers.{group_at, shelf_at, shelf_of}
 use Rattle.run_laws.specs.world_logs.Standing.{ServerThere}
 use Rattle.run_losses.proofs.torn_law.Always.{all_good}
 use Rattle.run_losses.proofs.torn_law.CleanerCounts.{cleaner_drawn}
@@ -65,7 +65,9 @@ use Rattle.run_losses.proofs.torn_law.Owners.{Scans, boot_in, outs_of}
 use Rattle.run_losses.proofs.torn_law.Truths.{Truths, truth_of}
 use Rattle.run_losses.proofs.torn_law.Turns.{brought}
 use Rattle.run_losses.proofs.torn_law.Drawn.{FetchesDrawn, last_of}
-use Rattle.run_losses.specs.torn_law.Torn.{IsReadAt, IsTornAt, OpeningLosesWhatIsTorn, ReopeningsLoseWhatIsTorn, WasTornInOpening, lacks, scan_at, scan_of}
+use Rattle.run_losses.specs.torn_law.Torn.{OpeningLosesWhatIsTorn, ReopeningsLoseWhatIsTorn}
+use Rattle.headline.specs.Openings.{IsReadAt, WasTornInOpening, scan_at, scan_of}
+use Rattle.headline.specs.Torn.{IsTornAt, lacks}
 
 -- ---- what is done in an event
 

@@ -35,18 +35,19 @@ use Rattle.world_base.specs.NextWorld.{sent_at}
 use Rattle.world_base.specs.Runs.{MayHappen}
 use Rattle.run_laws.proofs.world_law.Laws.{one_node}
 use Rattle.run_laws.proofs.world_law.Sent.{at_clock, in_append, was_sent}
-use Rattle.run_laws.specs.world_law.Owners.{moment, node_in}
+use Rattle.headline.specs.Moments.{moment, node_in}
 use Rattle.run_laws.proofs.world_logs.Lists.{in_before}
 use Rattle.run_laws.specs.world_logs.Lines.{HasLines, setting}
-use Rattle.run_laws.specs.world_logs.Roles.{IsThere, Role, asker_by, owner_by, renews}
-use Rattle.run_laws.specs.world_logs.Roles.Role.{OfClient, OfCleaner, OfManager}
+use Rattle.run_laws.specs.world_logs.Roles.{asker_by}
+use Rattle.headline.specs.Logs.{IsThere, Role, owner_by, renews}
+use Rattle.headline.specs.Logs.Role.{OfClient, OfCleaner, OfManager}
 use Rattle.run_losses.proofs.torn_law.Coming.{comes_so}
 use Rattle.run_losses.proofs.torn_law.Events.{Answered, Good, Node, TornBy, at_count, base_at, drawn_at, joined, k_of, net, node_at, opens_through, owns_at, scan_is, torn_now, torn_on}
 use Rattle.run_losses.proofs.torn_law.OpeningSays.{DoesSo, Fetches, Sends}
 use Rattle.run_losses.proofs.torn_law.Owners.{Owns, Scans, boot_in, outs_of}
 use Rattle.run_losses.proofs.torn_law.Truths.{Truths, aside, own_turn, truth_of}
 use Rattle.run_losses.proofs.torn_law.Drawn.{FetchesDrawn, last_of}
-use Rattle.run_losses.specs.torn_law.Torn.{scan_at, scan_of}
+use Rattle.headline.specs.Openings.{scan_at, scan_of}
 
 -- ---- what an event brings
 

@@ -5,18 +5,19 @@ use Rattle.core_world.specs.declared.any_node.AnyNode.{AnyNode}
 use Rattle.log_law.specs.BeingRead.{IsWhole, WhatIsReadIsWhole}
 use Rattle.log_law.specs.Net.{Net}
 use Rattle.log_tie.specs.Setting.{Setting}
-use Rattle.loss_law.specs.Losses.{ref_of}
+use Rattle.segment_format.specs.References.{ref_of}
 use Rattle.loss_law.proofs.Disks.{read_whole}
 use Rattle.run_losses.proofs.missing_law.Servers.{StoredLaws, on_shelves, undropped}
-use Rattle.run_losses.specs.missing_law.Stored.{IsStoredAs}
+use Rattle.headline.specs.Torn.{IsStoredAs, IsTornAt}
 use Rattle.run_losses.proofs.torn_law.Events.{node_at}
-use Rattle.run_losses.specs.torn_law.Torn.{IsReadAt, IsTornAt, OpeningLosesWhatIsTorn, ReopeningsLoseWhatIsTorn}
+use Rattle.run_losses.specs.torn_law.Torn.{OpeningLosesWhatIsTorn, ReopeningsLoseWhatIsTorn}
+use Rattle.headline.specs.Openings.{IsReadAt}
 use Rattle.world_base.specs.declared.estate.Estate.{Estate}
 use Rattle.world_base.specs.Runs.{IsRun}
-use Rattle.run_laws.specs.world_law.Owners.{moment}
+use Rattle.headline.specs.Moments.{moment}
 use Rattle.run_laws.specs.world_logs.Lines.{HasLines, RunsHaveLines, setting}
-use Rattle.run_laws.specs.world_logs.Logs.{NotDeleted}
-use Rattle.run_laws.specs.world_logs.Roles.{IsThere, Role, renews}
+use Rattle.headline.specs.Segments.{NotDeleted}
+use Rattle.headline.specs.Logs.{IsThere, Role, renews}
 use Rattle.xfs_base.specs.declared.segment.SegRef.{SegRef}
 use Rattle.run_losses.specs.whole_law.Whole.{LosesWhatWasWhole, ReadsWhatIsWhole, ReopeningsLoseWhatWasWhole, WhatReopeningsReadIsWhole}
 

@@ -1,25 +1,14 @@
 -- What a node that answers an item that a segment is lost has said before, in the words of the acts of one event.
-use Rattle.std.specs.Prelude.{◌≡◌, ◌⊎◌, ℕ, List, ◌∷◌, ◌++◌, Some}
+use Rattle.std.specs.Prelude.{◌≡◌, ◌⊎◌, ℕ, List, Some}
 use Rattle.node_base.specs.Beginning.{next_item}
 use Rattle.node_base.specs.declared.items.Items.{Items}
 use Rattle.token_protocol.specs.Basics.{In}
 use Rattle.version_model.specs.declared.act.Act.{Act}
-use Rattle.version_model.specs.declared.act.Act.TheVariants as act
-use Rattle.version_model.specs.declared.answer.Answer.TheVariants as answer
 use Rattle.wire_msg.specs.declared.packet.Do.{Do}
 use Rattle.wire_msg.specs.declared.packet.Do.TheVariants.{Begin}
 use Rattle.xfs_base.specs.declared.node.NodeId.{NodeId}
 use Rattle.xfs_base.specs.declared.segment.SegName.{SegName}
-
--- the act that a node answers an item that a segment is lost
-abbrev pub answers_lost : NodeId → ℕ → SegName → Act
-answers_lost node item name = act.Answered node item (answer.Lost name)
-
--- wherever among these acts a node answers an item that a segment is lost, it has said before, among them, that this very segment is lost
-abbrev pub LossesAreSaid : List Act → Type 0
-LossesAreSaid acts =
-    (node : NodeId) (item : ℕ) (name : SegName) (before behind : List Act) → acts ≡ before ++ answers_lost node item name ∷ behind
-    → In (act.Lost node name) before
+use Rattle.headline.specs.Losses.{LossesAreSaid, answers_lost}
 
 -- no item is answered by these acts that a segment is lost
 abbrev pub NoneIsLost : List Act → Type 0

@@ -2,15 +2,14 @@
 use Rattle.std.specs.Prelude.{◌<◌, ◌≤◌, ℕ}
 use Rattle.core_world.specs.AnyNode.{any_start, any_step}
 use Rattle.core_world.specs.declared.any_node.AnyNode.{AnyNode}
-use Rattle.run_losses.specs.fetching_law.Fetchings.{ReadsAt}
+use Rattle.headline.specs.Reads.{ReadsAt}
 use Rattle.node_base.specs.Setups.{IsSetup}
-use Rattle.run_laws.specs.restart_law.Restarts.{NoDoubtfulRestart}
-use Rattle.run_losses.specs.missing_law.Stored.{IsStoredAs}
-use Rattle.run_losses.specs.source_law.Sources.{WasFiled}
+use Rattle.headline.specs.Restarts.{NoDoubtfulRestart}
+use Rattle.headline.specs.Torn.{IsStoredAs, WasFiled}
 use Rattle.world_base.specs.declared.estate.Estate.{Estate}
 use Rattle.world_base.specs.Runs.{IsRun}
-use Rattle.run_laws.specs.world_law.Owners.{moment}
-use Rattle.run_laws.specs.world_logs.Logs.{NotDeleted}
+use Rattle.headline.specs.Moments.{moment}
+use Rattle.headline.specs.Segments.{NotDeleted}
 use Rattle.xfs_base.specs.declared.segment.SegRef.{SegRef}
 
 -- What the open call of a client reads at a moment up to which no restart that ended was doubtful had been filed by then.

@@ -1,73 +1,33 @@
 -- What a client says is lost while it reads a block for its open call was torn, in the words of a run of the nodes.
-use Rattle.std.specs.Prelude.{◌≡◌, ◌<◌, ◌≤◌, ◌⊎◌, ℕ, true, Option, Some, None, slice_get}
-use Rattle.client_node.specs.declared.phase.Phase.{Phase}
-use Rattle.client_node.specs.declared.phase.Phase.TheVariants.{Down, Opening, Serving as Serves}
-use Rattle.client_call.specs.Reads.{reading_in, target_of}
+use Rattle.std.specs.Prelude.{◌≡◌, ◌<◌, ◌≤◌, ◌⊎◌, ℕ, true, Some, slice_get}
+use Rattle.client_call.specs.Reads.{target_of}
 use Rattle.client_serving.specs.declared.serving.Serving.{Serving}
-use Rattle.client_serving.specs.Packets.{is_gone}
 use Rattle.core_world.specs.AnyNode.{any_start, any_step}
 use Rattle.core_world.specs.declared.any_node.AnyNode.{AnyNode}
-use Rattle.core_world.specs.declared.any_node.AnyNode.TheVariants as any
 use Rattle.node_base.specs.Setups.{IsSetup}
 use Rattle.segment_reading.specs.declared.target.BlockAt.{BlockAt}
 use Rattle.segment_reading.specs.Reading.{ReadingState}
 use Rattle.token_client.specs.Transition.{accepts}
 use Rattle.token_protocol.specs.Basics.{In}
-use Rattle.run_losses.specs.torn_law.Torn.{IsTornAt}
+use Rattle.headline.specs.Torn.{IsTornAt}
 use Rattle.version_model.specs.declared.act.Act.TheVariants as act
 use Rattle.wire_msg.specs.declared.body.Body.TheVariants as body
 use Rattle.wire_msg.specs.declared.packet.Do.{Do}
 use Rattle.wire_msg.specs.declared.packet.Do.TheVariants.{Deliver}
 use Rattle.wire_msg.specs.declared.packet.Packet.{Packet}
-use Rattle.wire_msg.specs.declared.tokens.Gone.{Gone}
 use Rattle.wire_msg.specs.declared.tokens.Grant.{Grant}
 use Rattle.world_base.specs.declared.estate.Estate.{Estate}
 use Rattle.world_base.specs.declared.event.Event.{Event}
 use Rattle.world_base.specs.Events.{node_of, what_of}
 use Rattle.world_base.specs.Runs.{IsRun}
-use Rattle.run_laws.specs.world_law.Owners.{moment, node_named}
-use Rattle.run_laws.specs.world_logs.Doings.{acts_in}
-use Rattle.run_laws.specs.world_logs.Logs.{NotDeleted}
+use Rattle.headline.specs.Moments.{acts_in, moment}
+use Rattle.headline.specs.Segments.{NotDeleted}
 use Rattle.xfs_base.specs.declared.entry.Place.{Place}
 use Rattle.xfs_base.specs.declared.node.NodeId.TheVariants as nodes
 use Rattle.xfs_base.specs.declared.segment.SegName.{SegName}
-use Rattle.xfs_base.specs.declared.segment.SegRef.{SegRef}
-
--- ---- clients that serve
-
-abbrev pub serving_in : Phase → Option Serving
-serving_in (Down l) = None
-serving_in (Opening l o) = None
-serving_in (Serves s) = Some s
-
-abbrev pub serving_of : Option AnyNode → Option Serving
-serving_of None = None
-serving_of (Some (any.Client node)) = serving_in node.phase
-serving_of (Some (any.Manager node)) = None
-serving_of (Some (any.Server node)) = None
-serving_of (Some (any.Cleaner node)) = None
-serving_of (Some (any.Registry node)) = None
-
--- the item whose answer is still out
-abbrev pub open_item : Option Serving → Option ℕ
-open_item None = None
-open_item (Some s) = s.lasting.items.unanswered
-
--- what the open call reads
-abbrev pub what_is_read : Option Serving → Option ReadingState
-what_is_read None = None
-what_is_read (Some s) = reading_in s.call
+use Rattle.headline.specs.Reads.{BringsGone, ReadsAt, serving_at, what_is_read}
 
 -- ---- what an event brings
-
--- word that the block of the open want can't be served, in the epoch that the client has promised, for this segment is lost
-pub record BringsGone (s : Serving) (what : Do) (name : SegName) : Type 0 where
-  pub packet : Packet
-  pub delivers : what ≡ Deliver packet
-  pub gone : Gone
-  pub bears : packet.body ≡ body.Gone gone
-  pub names : gone.seg ≡ name
-  pub meant : is_gone s gone ≡ true
 
 -- a grant of the block that is read, at the place where it is read
 pub record Confirms (what : Do) (r : ReadingState) : Type 0 where
@@ -82,23 +42,12 @@ pub record Confirms (what : Do) (r : ReadingState) : Type 0 where
 -- ---- the law
 
 module _ (e : Estate AnyNode) where
-  -- a client at a moment, where it serves
-  abbrev pub serving_at : ℕ → ℕ → Option Serving
-  serving_at c count = serving_of (node_named (moment e count) (nodes.Client c))
-
-  -- The call of an item reads a segment.
-  pub record ReadsAt (c count item : ℕ) (segment : SegRef) : Type 0 where
-    pub reading : ReadingState
-    pub reads : what_is_read (serving_at c count) ≡ Some reading
-    pub of : reading.target.seg ≡ segment
-    pub its_item : open_item (serving_at c count) ≡ Some item
-
   -- The client's open call reads the segment of this name, and the block is granted at the place where it is read. Since the first of two moments the
   -- call of the same item has read this segment; where no server had been told to delete it at the second moment, it was torn at the first; and the grant was
   -- sent after the second.
   pub record WasTornInFetch (c : ℕ) (s : Serving) (count : ℕ) (what : Do) (name : SegName) : Type 0 where
     pub reading : ReadingState
-    pub is_read : what_is_read (serving_at c count) ≡ Some reading
+    pub is_read : what_is_read (serving_at e c count) ≡ Some reading
     pub named : name ≡ reading.target.seg.name
     pub confirms : Confirms what reading
     -- which the client's tokens accept
@@ -108,7 +57,7 @@ module _ (e : Estate AnyNode) where
     pub second : ℕ
     pub in_order : first ≤ second
     pub before : second ≤ count
-    pub reads : (k : ℕ) → first ≤ k → k ≤ count → ReadsAt c k item reading.target.seg
+    pub reads : (k : ℕ) → first ≤ k → k ≤ count → ReadsAt e c k item reading.target.seg
     pub torn : NotDeleted (moment e second) name → IsTornAt e first reading.target.seg
     pub asked_after : In confirms.packet (moment e second).sent → ⊥
 
@@ -116,7 +65,7 @@ module _ (e : Estate AnyNode) where
   abbrev pub FetchesLoseWhatIsTorn : ℕ → Type 0
   FetchesLoseWhatIsTorn c =
       (count : ℕ) (event : Event) → slice_get e.events count ≡ Some event → nodes.Client c ≡ node_of event
-      → (s : Serving) → serving_at c count ≡ Some s
+      → (s : Serving) → serving_at e c count ≡ Some s
       → (name : SegName) → In (act.Lost (nodes.Client c) name) (acts_in (moment e count) event)
       → BringsGone s (what_of event) name ⊎ WasTornInFetch c s count (what_of event) name
 

@@ -4,7 +4,8 @@ use Rattle.std.specs.List.{AllByRecursion}
 use Rattle.manager_node.specs.declared.manager.Manager.{Manager}
 use Rattle.manager_node.specs.declared.phase.Phase.{Phase}
 use Rattle.manager_node.specs.Events.{manager_step}
-use Rattle.node_slots.specs.node_tie.ManagerEvents.{OtherAgrees, slot_in}
+use Rattle.node_slots.specs.node_tie.ManagerEvents.{OtherAgrees}
+use Rattle.headline.specs.Managers.{active_in, slot_in}
 use Rattle.token_manager.specs.SlotState.{SlotState}
 use Rattle.token_manager.specs.Transition.{entry_at}
 use Rattle.wire_msg.specs.declared.body.Body.{Body}
@@ -12,7 +13,6 @@ use Rattle.wire_msg.specs.declared.body.Body.TheVariants as body
 use Rattle.wire_msg.specs.declared.packet.Do.{Do}
 use Rattle.wire_msg.specs.declared.packet.Packet.{Packet}
 use Rattle.wire_msg.specs.declared.tokens.Grant.{Grant}
-use Rattle.run_laws.specs.world_law.Managers.{active_in}
 use Rattle.xfs_base.specs.Blocks.{slot_of}
 
 -- Of a manager: it manages the slot of the Grant's block, at the epoch of the Grant's stamp, and its index holds of the block what the Grant tells.

@@ -4,7 +4,7 @@ use Rattle.std.specs.Prelude.{◌≡◌, ◌≤◌, ℕ, true, Some}
 use Rattle.core_world.specs.AnyNode.{any_start, any_step}
 use Rattle.core_world.specs.declared.any_node.AnyNode.{AnyNode}
 use Rattle.node_base.specs.Setups.{IsSetup}
-use Rattle.run_laws.specs.restart_law.Restarts.{NoDoubtfulRestart}
+use Rattle.headline.specs.Restarts.{NoDoubtfulRestart}
 use Rattle.token_client.specs.State.{TokensState}
 use Rattle.token_client.specs.Transition.{accepts}
 use Rattle.token_protocol.specs.Basics.{In}
@@ -14,8 +14,9 @@ use Rattle.wire_msg.specs.declared.tokens.Grant.{Grant}
 use Rattle.world_base.specs.declared.estate.Estate.{Estate}
 use Rattle.world_base.specs.declared.world.World.{World}
 use Rattle.world_base.specs.Runs.{IsRun}
-use Rattle.run_laws.specs.world_law.Owners.{moment, tokens_at}
-use Rattle.run_laws.specs.world_logs.Logs.{NotDeleted}
+use Rattle.headline.specs.Moments.{moment}
+use Rattle.headline.specs.Owners.{tokens_at}
+use Rattle.headline.specs.Segments.{NotDeleted}
 use Rattle.xfs_base.specs.declared.entry.Place.{Place}
 use Rattle.xfs_base.specs.declared.node.NodeId.TheVariants as nodes
 

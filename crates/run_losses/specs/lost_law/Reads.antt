@@ -3,39 +3,20 @@ use Rattle.std.specs.Prelude.{◌≡◌, ◌⊎◌, ◌<◌, ◌≤◌, ℕ, Som
 use Rattle.client_serving.specs.declared.serving.Serving.{Serving}
 use Rattle.core_world.specs.AnyNode.{any_start, any_step}
 use Rattle.core_world.specs.declared.any_node.AnyNode.{AnyNode}
-use Rattle.run_losses.specs.fetching_law.Fetchings.{ReadsAt, serving_at}
-use Rattle.run_losses.specs.missing_law.Stored.{IsStoredAs}
+use Rattle.headline.specs.Reads.{ToldTorn, WasTornInRead, serving_at}
 use Rattle.node_base.specs.Setups.{IsSetup}
-use Rattle.run_laws.specs.restart_law.Restarts.{NoDoubtfulRestart}
-use Rattle.run_losses.specs.source_law.Sources.{WasFiled}
-use Rattle.run_losses.specs.standing_law.Gone.{ToldTorn}
+use Rattle.headline.specs.Restarts.{NoDoubtfulRestart}
 use Rattle.token_protocol.specs.Basics.{In}
-use Rattle.run_losses.specs.torn_law.Torn.{IsTornAt}
 use Rattle.version_model.specs.declared.act.Act.TheVariants as act
 use Rattle.world_base.specs.declared.estate.Estate.{Estate}
 use Rattle.world_base.specs.declared.event.Event.{Event}
 use Rattle.world_base.specs.Events.{node_of, what_of}
 use Rattle.world_base.specs.Runs.{IsRun}
-use Rattle.run_laws.specs.world_law.Owners.{moment}
-use Rattle.run_laws.specs.world_logs.Doings.{acts_in}
+use Rattle.headline.specs.Moments.{acts_in, moment}
 use Rattle.xfs_base.specs.declared.node.NodeId.TheVariants as nodes
 use Rattle.xfs_base.specs.declared.segment.SegName.{SegName}
-use Rattle.xfs_base.specs.declared.segment.SegRef.{SegRef}
 
 module _ (e : Estate AnyNode) where
-  -- The name is that of a segment that the client's open call reads; since a moment the call of the same item has read it, and at that moment it had been
-  -- filed, and it was torn, over the group over which it is stored.
-  pub record WasTornInRead (c count : ℕ) (name : SegName) : Type 0 where
-    pub segment : SegRef
-    pub named : name ≡ segment.name
-    pub item : ℕ
-    pub when : ℕ
-    pub before : when ≤ count
-    pub reads : (k : ℕ) → when ≤ k → k ≤ count → ReadsAt e c k item segment
-    pub filed : WasFiled e when segment.name
-    pub torn : IsTornAt e when segment
-    pub stored : IsStoredAs e when segment
-
   -- what a client says is lost while it serves, at a moment up to which no restart that ended was doubtful: a manager told it so, in the epoch that the
   -- client has promised, and it was torn when that manager read it, while it took the slot over in that epoch; or it was torn while the client's open call
   -- read it
@@ -44,7 +25,7 @@ module _ (e : Estate AnyNode) where
       (count : ℕ) → NoDoubtfulRestart e count → (event : Event) → slice_get e.events count ≡ Some event → nodes.Client c ≡ node_of event
       → (s : Serving) → serving_at e c count ≡ Some s
       → (name : SegName) → In (act.Lost (nodes.Client c) name) (acts_in (moment e count) event)
-      → ToldTorn e c s count (what_of event) name ⊎ WasTornInRead c count name
+      → ToldTorn e c s count (what_of event) name ⊎ WasTornInRead e c count name
 
 -- so it is of each client of a run
 abbrev pub ReadLossesEarned : Estate AnyNode → Type 0

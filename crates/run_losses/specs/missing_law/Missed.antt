@@ -13,16 +13,16 @@ use Rattle.node_base.specs.Setups.{IsSetup}
 use Rattle.segment_reading.specs.Lost.{missing_twice}
 use Rattle.segment_reading.specs.Reading.{servers_of}
 use Rattle.token_protocol.specs.Basics.{In}
-use Rattle.run_losses.specs.torn_law.Torn.{IsTornAt}
+use Rattle.headline.specs.Torn.{IsTornAt}
 use Rattle.wire_msg.specs.declared.body.Body.TheVariants as body
 use Rattle.wire_msg.specs.declared.packet.Packet.{Packet}
 use Rattle.wire_msg.specs.declared.storage.Fetch.{Fetch}
 use Rattle.wire_msg.specs.declared.storage.Missing.{Missing}
 use Rattle.world_base.specs.declared.estate.Estate.{Estate}
 use Rattle.world_base.specs.Runs.{IsRun}
-use Rattle.run_laws.specs.world_law.Owners.{moment, node_named}
-use Rattle.run_laws.specs.world_logs.Logs.{NotDeleted}
-use Rattle.run_laws.specs.world_logs.Shelves.{group_at, shelf_at}
+use Rattle.headline.specs.Moments.{moment, node_named}
+use Rattle.headline.specs.Segments.{NotDeleted}
+use Rattle.headline.specs.Servers.{group_at, shelf_at}
 use Rattle.xfs_base.specs.declared.node.NodeId.{NodeId}
 use Rattle.xfs_base.specs.declared.node.NodeId.TheVariants as names
 use Rattle.xfs_base.specs.declared.segment.SegName.{SegName}

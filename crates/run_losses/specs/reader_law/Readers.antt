@@ -3,13 +3,12 @@ use Rattle.std.specs.Prelude.{◌≡◌, ℕ, false, true, Some, is_some, slice_
 use Rattle.client_serving.specs.declared.serving.Serving.{Serving}
 use Rattle.core_world.specs.AnyNode.{any_start, any_step}
 use Rattle.core_world.specs.declared.any_node.AnyNode.{AnyNode}
-use Rattle.run_losses.specs.fetching_law.Fetchings.{serving_at}
-use Rattle.run_losses.specs.torn_law.Torn.{scan_at}
+use Rattle.headline.specs.Reads.{serving_at}
+use Rattle.headline.specs.Openings.{scan_at}
 use Rattle.node_base.specs.Setups.{IsSetup}
-use Rattle.run_laws.specs.world_law.Owners.{moment}
-use Rattle.run_laws.specs.world_logs.Doings.{acts_in}
-use Rattle.run_laws.specs.world_logs.Roles.{IsThere, Role, owner_by, renews}
-use Rattle.run_laws.specs.world_logs.Roles.Role.{OfClient, OfManager}
+use Rattle.headline.specs.Moments.{acts_in, moment}
+use Rattle.headline.specs.Logs.{IsThere, Role, owner_by, renews}
+use Rattle.headline.specs.Logs.Role.{OfClient, OfManager}
 use Rattle.token_protocol.specs.Basics.{In}
 use Rattle.version_model.specs.declared.act.Act.TheVariants as act
 use Rattle.world_base.specs.declared.estate.Estate.{Estate}

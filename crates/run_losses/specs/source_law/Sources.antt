@@ -2,32 +2,25 @@
 use Rattle.std.specs.Prelude.{◌≡◌, ℕ, Some, slice_get}
 use Rattle.core_world.specs.AnyNode.{any_start, any_step}
 use Rattle.core_world.specs.declared.any_node.AnyNode.{AnyNode}
-use Rattle.run_losses.specs.missing_law.Stored.{IsStoredAs}
+use Rattle.headline.specs.Torn.{IsStoredAs, WasFiled}
 use Rattle.node_base.specs.Setups.{IsSetup}
-use Rattle.run_laws.specs.restart_law.Restarts.{NoDoubtfulRestart}
-use Rattle.run_losses.specs.taking_law.Takings.{Reads, WasTornOrDeleted, slot_at}
+use Rattle.headline.specs.Restarts.{NoDoubtfulRestart}
+use Rattle.headline.specs.Takeovers.{Reads, WasFiledAndLost, slot_at}
 use Rattle.token_protocol.specs.Basics.{In}
 use Rattle.version_model.specs.declared.act.Act.TheVariants as act
 use Rattle.world_base.specs.declared.estate.Estate.{Estate}
 use Rattle.world_base.specs.declared.event.Event.{Event}
 use Rattle.world_base.specs.Events.{node_of}
 use Rattle.world_base.specs.Runs.{IsRun}
-use Rattle.run_laws.specs.world_law.Owners.{moment}
-use Rattle.run_laws.specs.world_logs.Doings.{acts_in, did}
-use Rattle.run_laws.specs.world_logs.Logs.{NotDeleted}
-use Rattle.run_laws.specs.world_logs.Roles.{IsThere, Role, log_by}
-use Rattle.run_laws.specs.world_logs.Roles.Role.{OfManager}
+use Rattle.headline.specs.Moments.{acts_in, moment}
+use Rattle.headline.specs.Logs.{IsThere}
+use Rattle.headline.specs.Segments.{NotDeleted}
+use Rattle.headline.specs.Logs.Role.{OfManager}
 use Rattle.xfs_base.specs.declared.node.NodeId.TheVariants.{Manager}
 use Rattle.xfs_base.specs.declared.segment.SegName.{SegName}
 use Rattle.xfs_base.specs.declared.segment.SegRef.{SegRef}
 
 -- ---- what is read
-
--- The segment had been filed: an owner of a log of the run, a client, the cleaner or a manager, told so in the events up to this count.
-pub record WasFiled (e : Estate AnyNode) (count : ℕ) (name : SegName) : Type 0 where
-  pub owner : Role
-  pub there : IsThere e.script.setup.clients e.script.setup.managers owner
-  pub acted : In (act.Filed name) (did e (log_by owner) count)
 
 -- At each moment of a run up to which no restart that ended was doubtful: what a manager reads then while it takes a slot over, a part of the checkpoint that
 -- its news name or a segment of a log, had been filed.
@@ -45,14 +38,6 @@ TakeoversReadWhatIsStored =
     → Reads (slot_at e j slot count) epoch ref → NotDeleted (moment e count) ref.name → IsStoredAs e count ref
 
 -- ---- what is lost
-
--- The name is that of a segment that the manager reads while it takes a slot over in an epoch; and at a moment from which on it read that segment, in this
--- epoch, the segment had been filed, and was torn then, or servers have been told to delete it. Where it was torn and no server had been told to delete it,
--- more members of its group had lost their disk than the parity makes good.
-pub record WasFiledAndLost (e : Estate AnyNode) (j count : ℕ) (name : SegName) : Type 0 where
-  pub lost : WasTornOrDeleted e j count name
-  pub filed : WasFiled e lost.when lost.segment.name
-  pub stored : NotDeleted (moment e lost.when) lost.segment.name → IsStoredAs e lost.when lost.segment
 
 -- so it is of what a manager says is lost in an event up to which no restart that ended was doubtful
 abbrev pub TakeoverLossesFiled : Estate AnyNode → Type 0

@@ -4,35 +4,18 @@ use Rattle.std.specs.Prelude.{◌≡◌, ℕ, Some, slice_get}
 use Rattle.client_serving.specs.declared.serving.Serving.{Serving}
 use Rattle.core_world.specs.AnyNode.{any_start, any_step}
 use Rattle.core_world.specs.declared.any_node.AnyNode.{AnyNode}
-use Rattle.run_losses.specs.fetching_law.Fetchings.{BringsGone, serving_at}
-use Rattle.run_losses.specs.gone_law.Gones.{ToldLost}
-use Rattle.run_losses.specs.missing_law.Stored.{IsStoredAs}
+use Rattle.headline.specs.Reads.{BringsGone, ToldTorn, serving_at}
 use Rattle.node_base.specs.Setups.{IsSetup}
-use Rattle.run_laws.specs.restart_law.Restarts.{NoDoubtfulRestart}
-use Rattle.run_losses.specs.source_law.Sources.{WasFiled}
+use Rattle.headline.specs.Restarts.{NoDoubtfulRestart}
 use Rattle.token_protocol.specs.Basics.{In}
-use Rattle.run_losses.specs.torn_law.Torn.{IsTornAt}
 use Rattle.version_model.specs.declared.act.Act.TheVariants as act
-use Rattle.wire_msg.specs.declared.packet.Do.{Do}
 use Rattle.world_base.specs.declared.estate.Estate.{Estate}
 use Rattle.world_base.specs.declared.event.Event.{Event}
 use Rattle.world_base.specs.Events.{node_of, what_of}
 use Rattle.world_base.specs.Runs.{IsRun}
-use Rattle.run_laws.specs.world_law.Owners.{moment}
-use Rattle.run_laws.specs.world_logs.Doings.{acts_in}
-use Rattle.run_laws.specs.world_logs.Logs.{NotDeleted}
+use Rattle.headline.specs.Moments.{acts_in, moment}
 use Rattle.xfs_base.specs.declared.node.NodeId.TheVariants.{Client}
 use Rattle.xfs_base.specs.declared.segment.SegName.{SegName}
-
--- A Gone of this segment is delivered, in the epoch that the client has promised for the slot of its block, from a manager that said before that the segment
--- was lost, while it took that slot over in that epoch. No server has been told to delete the segment; and at a moment from which on that manager read it
--- there, until it said so, it had been filed, and it was torn, over the group over which it is stored.
-pub record ToldTorn (e : Estate AnyNode) (c : ℕ) (s : Serving) (count : ℕ) (what : Do) (name : SegName) : Type 0 where
-  pub told : ToldLost e c s count what name
-  pub stands : NotDeleted (moment e count) name
-  pub filed : WasFiled e told.said.was.when told.said.was.segment.name
-  pub torn : IsTornAt e told.said.was.when told.said.was.segment
-  pub stored : IsStoredAs e told.said.was.when told.said.was.segment
 
 -- So it is where a client that serves says, at an event that brings it a Gone, that the segment that this names is lost, while no restart that ended was
 -- doubtful: in each run of a script of whose setup a run can be started.

@@ -1,20 +1,19 @@
 -- What a reopening reads is whole but for disks, whether it was filed or not; so of what it says is lost disks were lost, in the words of a run of the nodes.
-use Rattle.std.specs.Prelude.{◌≡◌, ◌<◌, ℕ, false, true, Some, is_some, slice_get}
+use Rattle.std.specs.Prelude.{◌≡◌, ℕ, false, true, Some, is_some, slice_get}
 use Rattle.core_world.specs.AnyNode.{any_start, any_step}
 use Rattle.core_world.specs.declared.any_node.AnyNode.{AnyNode}
-use Rattle.run_losses.specs.missing_law.Stored.{IsStoredAs, disks_lost}
+use Rattle.headline.specs.Torn.{IsStoredAs}
 use Rattle.node_base.specs.Setups.{IsSetup}
 use Rattle.token_protocol.specs.Basics.{In}
-use Rattle.run_losses.specs.torn_law.Torn.{IsReadAt, WasTornInOpening, scan_at}
+use Rattle.headline.specs.Openings.{IsReadAt, WasWhole, scan_at}
 use Rattle.version_model.specs.declared.act.Act.TheVariants as act
 use Rattle.world_base.specs.declared.estate.Estate.{Estate}
 use Rattle.world_base.specs.declared.event.Event.{Event}
 use Rattle.world_base.specs.Events.{node_of}
 use Rattle.world_base.specs.Runs.{IsRun}
-use Rattle.run_laws.specs.world_law.Owners.{moment}
-use Rattle.run_laws.specs.world_logs.Doings.{acts_in}
-use Rattle.run_laws.specs.world_logs.Logs.{NotDeleted}
-use Rattle.run_laws.specs.world_logs.Roles.{IsThere, Role, owner_by, renews}
+use Rattle.headline.specs.Moments.{acts_in, moment}
+use Rattle.headline.specs.Segments.{NotDeleted}
+use Rattle.headline.specs.Logs.{IsThere, Role, owner_by, renews}
 use Rattle.xfs_base.specs.declared.segment.SegName.{SegName}
 use Rattle.xfs_base.specs.declared.segment.SegRef.{SegRef}
 
@@ -24,18 +23,11 @@ module _ (e : Estate AnyNode) where
   abbrev pub ReadsWhatIsWhole : Role → Type 0
   ReadsWhatIsWhole r = (count : ℕ) (segment : SegRef) → IsReadAt e r count segment → NotDeleted (moment e count) segment.name → IsStoredAs e count segment
 
-  -- It was torn at a moment since the owner began to open its log, and whole but for disks then: so more members had lost their disk than the parity makes
-  -- good.
-  pub record WasWhole (r : Role) (count : ℕ) (name : SegName) : Type 0 where
-    pub lost : WasTornInOpening e r count name
-    pub whole : IsStoredAs e lost.when lost.segment
-    pub disks : whole.stored.group.parity < disks_lost (moment e lost.when) whole.stored.group
-
   -- what a client, or the cleaner, says is lost while it opens its log
   abbrev pub LosesWhatWasWhole : Role → Type 0
   LosesWhatWasWhole r =
       (count : ℕ) (event : Event) → slice_get e.events count ≡ Some event → owner_by r ≡ node_of event → is_some (scan_at e r count) ≡ true
-      → (name : SegName) → In (act.Lost (owner_by r) name) (acts_in (moment e count) event) → WasWhole r count name
+      → (name : SegName) → In (act.Lost (owner_by r) name) (acts_in (moment e count) event) → WasWhole e r count name
 
 -- what any client of a run, or the cleaner, reads while it opens its log is whole but for disks
 abbrev pub ReopeningsReadWhatIsWhole : Estate AnyNode → Type 0

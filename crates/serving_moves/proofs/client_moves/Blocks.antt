@@ -28,7 +28,8 @@ use Rattle.xfs_base.specs.declared.token.Mode.TheVariants.{Copy, Own}
 use Rattle.xfs_base.specs.Modes.{is_nothing}
 use Rattle.serving_moves.proofs.client_moves.Following.{hands_go, notes_gone_kept, seals_go, writes_go}
 use Rattle.serving_moves.proofs.client_moves.Keeping.{from_goes, itself, same_call, same_lasts, stays}
-use Rattle.serving_moves.specs.client_moves.Moves.{Fits, IsAnswerTo, Kept, MakesSo, Moves, tells}
+use Rattle.serving_moves.specs.client_moves.Moves.{Fits, Kept, MakesSo, Moves, tells}
+use Rattle.headline.specs.Calls.{IsAnswerTo}
 
 -- nothing is answered, or nothing is told by the answer
 mute : (s : Serving) (call : BlockCall) (d : Done) (a : Option BlockAnswer) → tells s.lasting.number call a ≡ [] → Fits call a → Moves s d

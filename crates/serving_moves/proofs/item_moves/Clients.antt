@@ -44,7 +44,8 @@ use Rattle.serving_moves.proofs.item_moves.Keeping.{all_pushed_plain, same, unmo
 use Rattle.serving_moves.proofs.item_moves.Openings as openly
 use Rattle.serving_moves.proofs.item_moves.Openings.{client_may_answer, client_plain, goes_on, is_back, is_lost, may_answer, may_be_back}
 use Rattle.serving_moves.specs.item_moves.Events.{client_log_losses, client_losses}
-use Rattle.serving_moves.specs.item_moves.Moves.{Falls, IsAny, IsPrompt}
+use Rattle.serving_moves.specs.item_moves.Moves.{IsAny, IsPrompt}
+use Rattle.headline.specs.Items.{Falls}
 use Rattle.serving_moves.specs.item_moves.Moves.Begun.{AtOnce, Waits}
 use Rattle.serving_moves.specs.item_moves.Moves.Event.{Begins, GoesOn, Cuts}
 use Rattle.serving_moves.specs.item_moves.Moves.Move.{Stays}

@@ -46,7 +46,8 @@ use Rattle.version_model.specs.declared.work.Work.{Work}
 use Rattle.version_model.specs.declared.work.Work.TheVariants as work
 use Rattle.serving_moves.proofs.item_moves.Keeping as moving
 use Rattle.serving_moves.proofs.item_moves.Keeping.{from_goes, plainly, rests, same, steps_go, then_goes, unmoved}
-use Rattle.serving_moves.specs.item_moves.Moves.{AllPlain, Falls, IsPrompt, IsRebuilt}
+use Rattle.serving_moves.specs.item_moves.Moves.{AllPlain, IsPrompt, IsRebuilt}
+use Rattle.headline.specs.Items.{Falls}
 use Rattle.serving_moves.specs.item_moves.Moves.Begun.{AtOnce, Waits}
 use Rattle.serving_moves.specs.item_moves.Moves.Event.{Begins, GoesOn, Idles, Cuts}
 use Rattle.serving_moves.specs.item_moves.Moves.Move.{Ends}

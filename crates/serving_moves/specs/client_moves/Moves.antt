@@ -8,10 +8,7 @@ use Rattle.client_serving.specs.Packets.{on_packet, on_tick}
 use Rattle.client_serving.specs.Reads.{loses}
 use Rattle.client_serving.specs.Sends.{Done}
 use Rattle.file_plan.specs.declared.block_call.BlockAnswer.{BlockAnswer}
-use Rattle.file_plan.specs.declared.block_call.BlockAnswer.TheVariants.{Got, Changed, Synced}
-use Rattle.file_plan.specs.declared.block_call.BlockAnswer.TheVariants.{Put as Written}
 use Rattle.file_plan.specs.declared.block_call.BlockCall.{BlockCall}
-use Rattle.file_plan.specs.declared.block_call.BlockCall.TheVariants.{Get, Put, PutAt, Sync}
 use Rattle.node_base.specs.declared.effects.Effect.{Effect}
 use Rattle.node_base.specs.declared.effects.Effect.TheVariants.{Send, Answer as Answers, Lose, Does}
 use Rattle.version_model.specs.declared.act.Act.{Act}
@@ -20,6 +17,7 @@ use Rattle.wire_msg.specs.declared.packet.Packet.{Packet}
 use Rattle.xfs_base.specs.declared.block.BlockId.{BlockId}
 use Rattle.xfs_base.specs.declared.segment.SegName.{SegName}
 use Rattle.xfs_base.specs.Steps.{saying}
+use Rattle.headline.specs.Calls.{IsAnswerTo, told}
 
 -- ---- what stays
 
@@ -78,23 +76,6 @@ pub data Comes (s : Serving) : Done → Type 0 where
   Gone : (block : BlockId) (name : SegName) → Comes s (loses s block name)
 
 -- ---- calls on blocks
-
--- of which kind an answer to a call on blocks is
-abbrev pub IsAnswerTo : BlockCall → BlockAnswer → Type 0
-IsAnswerTo (Get block) (Got ver value) = Unit {0}
-IsAnswerTo (Put block value) (Written ver) = Unit {0}
-IsAnswerTo (PutAt block named value) (Written ver) = Unit {0}
-IsAnswerTo (PutAt block named value) Changed = Unit {0}
-IsAnswerTo Sync Synced = Unit {0}
-IsAnswerTo _ _ = ⊥
-
--- what a client acts of a call on blocks that is answered so
-abbrev pub told : ℕ → BlockCall → BlockAnswer → List Act
-told client (Get block) (Got ver value) = act.Read client block ver value ∷ []
-told client (Put block value) (Written ver) = act.Wrote client block value ∷ []
-told client (PutAt block named value) (Written ver) = act.Wrote client block value ∷ []
-told client Sync Synced = act.Synced client ∷ []
-told client _ _ = []
 
 -- as effects
 abbrev pub done_of : List Act → List Effect

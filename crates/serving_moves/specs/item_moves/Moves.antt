@@ -1,6 +1,6 @@
 -- The moves of the items of a node: which have begun, which is open and how it is answered, one thing at a time; and what an event makes of them.
 use Rattle.std.specs.List.{AllByRecursion}
-use Rattle.std.specs.Prelude.{◌≡◌, ℕ, List, [], ◌∷◌, ◌++◌, Option, Some}
+use Rattle.std.specs.Prelude.{◌≡◌, ℕ, List, [], ◌∷◌, ◌++◌, Some}
 use Rattle.node_base.specs.Beginning.{answered, answers_unanswered, begun, next_item, waiting, work_at}
 use Rattle.node_base.specs.declared.effects.Effect.{Effect}
 use Rattle.node_base.specs.declared.effects.Effect.TheVariants.{Send, Answer as Answers, Lose, Does}
@@ -10,11 +10,10 @@ use Rattle.version_model.specs.declared.act.Act.{Act}
 use Rattle.version_model.specs.declared.act.Act.TheVariants as act
 use Rattle.version_model.specs.declared.answer.Answer.{Answer}
 use Rattle.version_model.specs.declared.answer.Answer.TheVariants as answer
-use Rattle.version_model.specs.declared.work.Work.{Work}
-use Rattle.version_model.specs.declared.work.Work.TheVariants as work
 use Rattle.wire_msg.specs.declared.packet.Do.{Do}
 use Rattle.wire_msg.specs.declared.packet.Do.TheVariants.{Begin}
 use Rattle.xfs_base.specs.declared.segment.SegName.{SegName}
+use Rattle.headline.specs.Items.{Falls}
 
 -- ---- what answers nothing
 
@@ -137,12 +136,6 @@ pub data Begun (losses : Losses) (J K : Answer → Type 0) (items : Items) (numb
       → Begun losses J K items number (first ++ Answers number a ∷ more) items
   -- It waits for its answer, and then there are moves.
   Waits : {after : Items} {outs : List Effect} → Moves losses J (waiting items number) outs after → Begun losses J K items number outs after
-
--- an item by which a node crashes, or a server loses its disk
-abbrev pub Falls : Option Work → Type 0
-Falls (Some (work.Crash node)) = Unit {0}
-Falls (Some (work.Lose server)) = Unit {0}
-Falls _ = ⊥
 
 -- What an event makes of the items of a node.
 pub data Event (losses : Losses) (J K : Answer → Type 0) (before : Items) (what : Do) : List Effect → Items → Type 0 where

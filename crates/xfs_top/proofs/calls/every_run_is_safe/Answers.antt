@@ -2,32 +2,36 @@ use Rattle.xfs_top.proofs.calls.every_run_is_safe.Goals as goal
 
 pub returns : goal.returns
 returns c e setup run = record {
-  one_owner = c.every_run_has_one_owner.ensures.one_owner e setup run;
-  holders_newest = c.every_runs_acts_are_legal.ensures.holders e setup run;
-  one_manager = c.every_run_has_one_manager.ensures.one_manager e setup run;
-  beliefs = c.managers_believe_their_clients.ensures.believed e setup run;
-  nobody_holds = c.what_fell_is_held_by_nobody.ensures.nobody e setup run;
-  falls_apart = c.what_fell_is_held_by_nobody.ensures.apart e setup run;
-  logs_stand = c.runs_keep_logs.ensures.keeps e setup run;
-  cleaners_log_stands = c.runs_keep_logs.ensures.cleaners e setup run;
-  managers_logs_stand = c.runs_keep_logs.ensures.managers e setup run;
-  read_back = c.what_is_filed_is_read_back.ensures.back e setup run;
-  restarts_file_one = c.the_cleaner_files_one_segment_of_its_boot.ensures.one e setup run;
-  horizons_filed = c.runs_keep_logs.ensures.horizons e setup run;
-  deletes_dropped = c.what_is_deleted_was_dropped.ensures.dropped e setup run;
-  deletes_below = c.what_is_deleted_was_dropped.ensures.below e setup run;
-  legal_acts = c.every_runs_acts_are_legal.ensures.legal e setup run;
-  legal_without_losses = c.every_runs_acts_are_legal.ensures.unlost e setup run;
-  indexes = c.every_runs_acts_are_legal.ensures.own e setup run;
-  settled = c.what_is_settled_is_the_join.ensures.settled e setup run;
-  answered_once = c.items_are_answered_once.ensures.runs e run;
-  answers_acted = c.answers_are_acts.ensures.acted e;
-  answers_fit = c.answers_fit_where_a_node_stands.ensures.fits e;
-  files_planned = c.file_answers_are_planned.ensures.planned e;
-  versions_newest = c.answered_versions_are_newest.ensures.newest e setup run;
-  losses_earned = record {
-    each = c.each_lost_act_is_earned.ensures.earned e setup run;
-    answers = c.lost_answers_are_said.ensures.runs e;
+  outside = record {
+    answered_once = c.items_are_answered_once.ensures.runs e run;
+    answers_acted = c.answers_are_acts.ensures.acted e;
+    answers_fit = c.answers_fit_where_a_node_stands.ensures.fits e;
+    files_planned = c.file_answers_are_planned.ensures.planned e;
+    versions_newest = c.answered_versions_are_newest.ensures.newest e setup run;
+    legal_acts = c.every_runs_acts_are_legal.ensures.legal e setup run;
+    legal_without_losses = c.every_runs_acts_are_legal.ensures.unlost e setup run;
+    falls_apart = c.what_fell_is_held_by_nobody.ensures.apart e setup run;
+    settled = c.what_is_settled_is_the_join.ensures.settled e setup run;
+    losses_earned = record {
+      each = c.each_lost_act_is_earned.ensures.earned e setup run;
+      answers = c.lost_answers_are_said.ensures.runs e;
+    };
+    undoubted = λ none. (c.without_losses_no_restart_is_doubtful.ensures.scripts e setup run none).1;
   };
-  undoubted = λ none. (c.without_losses_no_restart_is_doubtful.ensures.scripts e setup run none).1;
+  inside = record {
+    one_owner = c.every_run_has_one_owner.ensures.one_owner e setup run;
+    holders_newest = c.every_runs_acts_are_legal.ensures.holders e setup run;
+    one_manager = c.every_run_has_one_manager.ensures.one_manager e setup run;
+    beliefs = c.managers_believe_their_clients.ensures.believed e setup run;
+    nobody_holds = c.what_fell_is_held_by_nobody.ensures.nobody e setup run;
+    logs_stand = c.runs_keep_logs.ensures.keeps e setup run;
+    cleaners_log_stands = c.runs_keep_logs.ensures.cleaners e setup run;
+    managers_logs_stand = c.runs_keep_logs.ensures.managers e setup run;
+    read_back = c.what_is_filed_is_read_back.ensures.back e setup run;
+    restarts_file_one = c.the_cleaner_files_one_segment_of_its_boot.ensures.one e setup run;
+    horizons_filed = c.runs_keep_logs.ensures.horizons e setup run;
+    deletes_dropped = c.what_is_deleted_was_dropped.ensures.dropped e setup run;
+    deletes_below = c.what_is_deleted_was_dropped.ensures.below e setup run;
+    indexes = c.every_runs_acts_are_legal.ensures.own e setup run;
+  };
 }

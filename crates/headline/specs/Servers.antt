@@ -1,18 +1,18 @@
--- What servers hold, and how the registry has striped it.
-use Rattle.std.specs.Prelude.{◌≡◌, ◌<◌, ◌⊎◌, ℕ, Option, Some, None, length}
+-- What servers hold, by the groups of the registry: each member of a group holds its fragment of a segment, or its server has lost its disk since.
+use Rattle.std.specs.Prelude.{◌≡◌, ◌⊎◌, ◌<◌, ℕ, Option, Some, None, length}
 use Rattle.core_world.specs.declared.any_node.AnyNode.{AnyNode}
 use Rattle.core_world.specs.declared.any_node.AnyNode.TheVariants as any
 use Rattle.fragment_store.specs.ShelfState.{ShelfState, held_at}
 use Rattle.group_map.specs.declared.group.Group.{Group}
 use Rattle.group_map.specs.GroupMapState.{GroupMapState}
-pub use Rattle.group_map.specs.Groups.{known_group as group_in}
-use Rattle.log_tie.specs.Setting.{generation_of, server_of}
+use Rattle.group_map.specs.Groups.{known_group as group_in}
+use Rattle.log_flight.specs.Flights.{generation_of, server_of}
 use Rattle.segment_format.specs.declared.segment.Segment.{Segment}
 use Rattle.stripe_code.specs.Fragments.{fragment_of}
 use Rattle.world_base.specs.declared.world.World.{World}
-use Rattle.run_laws.specs.world_law.Owners.{node_named}
 use Rattle.xfs_base.specs.declared.fragment.Fragment.{Fragment}
 use Rattle.xfs_base.specs.declared.node.NodeId.TheVariants as nodes
+use Rattle.headline.specs.Moments.{node_named}
 
 abbrev pub shelf_of : Option AnyNode → Option ShelfState
 shelf_of None = None

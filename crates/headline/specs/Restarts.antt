@@ -1,5 +1,5 @@
--- When a restart of the owner of a log, a client or the cleaner, is doubtful, in the words of a run of the nodes (the 1996 paper, on recovery).
-use Rattle.std.specs.Prelude.{◌≡◌, ◌⊎◌, ◌<◌, ◌≤◌, ◌+◌, ◌-◌, ℕ, suc, Bool, true, false, Option, Some, None, IfSome, is_some, length}
+-- When a restart of the owner of a log, a client or the cleaner, is doubtful (the 1996 paper, on recovery): some of what is claimed of a run ends with the first.
+use Rattle.std.specs.Prelude.{◌≡◌, ◌⊎◌, ◌<◌, ◌≤◌, ◌+◌, ◌-◌, ℕ, suc, Bool, true, false, List, Option, Some, None, IfSome, is_some, length}
 use Rattle.cleaner_node.specs.CleanerEvents.{lasting_of as cleaners_lasting}
 use Rattle.cleaner_node.specs.declared.cleaner.Phase as cleaners
 use Rattle.cleaner_node.specs.declared.cleaner.Phase.TheVariants as cleaning
@@ -11,20 +11,21 @@ use Rattle.core_world.specs.declared.any_node.AnyNode.{AnyNode}
 use Rattle.core_world.specs.declared.any_node.AnyNode.TheVariants as any
 use Rattle.fragment_store.specs.ShelfState.{ShelfState, held_at}
 use Rattle.group_map.specs.declared.group.Group.{Group}
+use Rattle.log_flight.specs.Flights.{server_of}
 use Rattle.log_owner.specs.declared.opening.Stage as opening
 use Rattle.log_owner.specs.declared.opening.Stage.TheVariants as stage
 use Rattle.log_scan.specs.declared.stage.Stage as scanning
-use Rattle.log_scan.specs.declared.stage.Stage.TheVariants.{Hails, Gathers, Asks, Reads, Over}
-use Rattle.log_tie.specs.Setting.{server_of}
+use Rattle.log_scan.specs.declared.stage.Stage.TheVariants.{Asks, Gathers, Hails, Over, Reads}
 use Rattle.segment_format.specs.declared.segment.Segment.{Segment}
+use Rattle.token_protocol.specs.Basics.{In}
+use Rattle.version_model.specs.declared.work.Work.{Work}
+use Rattle.version_model.specs.declared.work.Work.TheVariants as work
 use Rattle.world_base.specs.declared.estate.Estate.{Estate}
-use Rattle.run_laws.specs.world_law.Owners.{moment, node_named}
-use Rattle.run_laws.specs.world_logs.Logs.{IsText, NotDeleted}
-use Rattle.run_laws.specs.world_logs.Roles.{Role, owner_by}
-use Rattle.run_laws.specs.world_logs.Shelves.{group_at, shelf_at}
 use Rattle.xfs_base.specs.declared.segment.SegName.{SegName}
-
--- ---- owners
+use Rattle.headline.specs.Logs.{Role, owner_by}
+use Rattle.headline.specs.Moments.{moment, node_named}
+use Rattle.headline.specs.Segments.{IsText, NotDeleted}
+use Rattle.headline.specs.Servers.{group_at, shelf_at}
 
 -- the log of an owner that serves
 abbrev pub clients_log : clients.Phase → Option LogState
@@ -112,8 +113,6 @@ low_in (Some (any.Registry node)) = None
 abbrev pub newest : LogState → SegName
 newest s = record { log = s.log; seq = s.end.seq; pass = s.end.pass }
 
--- ---- shelves of servers, of which one that isn't there holds nothing
-
 -- a server holds no fragment of a segment
 abbrev pub Lacks : Option ShelfState → SegName → Type 0
 Lacks shelf name = IfSome shelf (λ s. held_at s.held name ≡ None)
@@ -121,8 +120,6 @@ Lacks shelf name = IfSome shelf (λ s. held_at s.held name ≡ None)
 -- it lost its disk from one moment to another
 abbrev pub LostDisk : Option ShelfState → Option ShelfState → Type 0
 LostDisk before after = IfSome before (λ s. IfSome after (λ t. s.generation < t.generation))
-
--- ---- restarts
 
 module _ (e : Estate AnyNode) where
   -- the log of an owner at a moment of the run, where it serves then
@@ -193,3 +190,7 @@ module _ (e : Estate AnyNode) where
   -- no restart that ended up to this count was doubtful
   abbrev pub NoDoubtfulRestart : ℕ → Type 0
   NoDoubtfulRestart count = (r : Role) (n : ℕ) → n < count → DoubtfulRestart r n → ⊥
+
+-- no work of these has a server lose its disk
+abbrev pub LosesNone : List Work → Type 0
+LosesNone works = (server : ℕ) → In (work.Lose server) works → ⊥

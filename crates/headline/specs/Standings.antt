@@ -1,18 +1,66 @@
--- What a node may answer to an item, by where it stands before the event and behind it.
-use Rattle.std.specs.Prelude.{◌≡◌, ℕ, Option, Some}
+-- Where a node stands, whether it takes calls and what of it falls; and what it may answer to an item, by where it stands before the event and behind it.
+use Rattle.std.specs.Prelude.{◌≡◌, ℕ, suc, Option, Some, slice_get}
+use Rattle.cleaner_node.specs.declared.cleaner.Phase.{Phase as CleanerPhase}
+use Rattle.cleaner_node.specs.declared.cleaner.Phase.TheVariants as cleaning
+use Rattle.client_node.specs.declared.phase.Phase.{Phase as ClientPhase}
+use Rattle.client_node.specs.declared.phase.Phase.TheVariants as client
 use Rattle.core_world.specs.declared.any_node.AnyNode.{AnyNode}
 use Rattle.core_world.specs.declared.any_node.AnyNode.TheVariants as any
+use Rattle.fragment_store.specs.Calls.{on_lose}
 use Rattle.manager_map.specs.Slots.{after_move, entry_at}
+use Rattle.manager_node.specs.declared.phase.Phase.{Phase as ManagerPhase}
+use Rattle.manager_node.specs.declared.phase.Phase.TheVariants as manager
 use Rattle.node_base.specs.Beginning.{next_item}
+use Rattle.token_protocol.specs.Basics.{In}
+use Rattle.version_model.specs.declared.act.Act.TheVariants as act
 use Rattle.version_model.specs.declared.answer.Answer.{Answer}
 use Rattle.version_model.specs.declared.answer.Answer.TheVariants as answer
 use Rattle.version_model.specs.declared.work.Work.{Work}
 use Rattle.version_model.specs.declared.work.Work.TheVariants as work
-use Rattle.run_answers.specs.once_law.Ledgers.{IsOpen, items_in}
-use Rattle.run_answers.specs.standing_law.Standings.{Falls, standing}
-use Rattle.run_answers.specs.standing_law.Standings.Standing.{Fallen, Serves}
+use Rattle.world_base.specs.declared.estate.Estate.{Estate}
+use Rattle.world_base.specs.declared.event.Event.{Event}
+use Rattle.world_base.specs.Items.{items_of}
+use Rattle.xfs_base.specs.declared.node.NodeId.{NodeId}
+use Rattle.headline.specs.Items.{IsOpen, asked_at, items_in}
+use Rattle.headline.specs.Moments.{acts_in, moment, node_named}
+use Rattle.headline.specs.Standings.Standing.{Fallen, Serves}
 
--- ---- what is asked for
+pub data Standing : Type 0 where
+  -- It has fallen.
+  Fallen : Standing
+  -- It opens its log.
+  Opens : Standing
+  -- It takes calls.
+  Serves : Standing
+
+abbrev pub client_stands : ClientPhase → Standing
+client_stands (client.Down l) = Fallen
+client_stands (client.Opening l o) = Opens
+client_stands (client.Serving s) = Serves
+
+abbrev pub cleaner_stands : CleanerPhase → Standing
+cleaner_stands (cleaning.Down l) = Fallen
+cleaner_stands (cleaning.Opening l o) = Opens
+cleaner_stands (cleaning.Serving e) = Serves
+
+-- one that awaits the maps takes calls too: it manages no slot yet
+abbrev pub manager_stands : ManagerPhase → Standing
+manager_stands (manager.Down kept) = Fallen
+manager_stands (manager.Waiting kept hello) = Serves
+manager_stands (manager.Serving s) = Serves
+
+-- servers and the registry always take calls
+abbrev pub standing : AnyNode → Standing
+standing (any.Client c) = client_stands c.phase
+standing (any.Manager m) = manager_stands m.phase
+standing (any.Server v) = Serves
+standing (any.Cleaner c) = cleaner_stands c.phase
+standing (any.Registry r) = Serves
+
+-- what the node was has fallen: it is down; or, of a server, all that it held is lost with its disk, and its next generation begins
+abbrev pub Falls : AnyNode → AnyNode → Type 0
+Falls (any.Server v) (any.Server u) = u.shelf ≡ on_lose v.shelf
+Falls before after = standing after ≡ Fallen
 
 -- a call: neither that a node falls or starts again, nor that a slot is given to a manager
 abbrev pub IsCall : Option Work → Type 0
@@ -35,8 +83,6 @@ IsCounted _ = ⊥
 abbrev pub IsRebuild : Option Work → Type 0
 IsRebuild (Some (work.Rebuild server)) = Unit {0}
 IsRebuild _ = ⊥
-
--- ---- answers
 
 -- the registry gives the slot to the manager, and this is its next epoch
 abbrev pub GivesSlot : AnyNode → AnyNode → ℕ → ℕ → ℕ → Type 0
@@ -106,3 +152,18 @@ module _ (before after : AnyNode) (item : ℕ) where
   MayAnswer w (answer.Size size) = IsServed w
   MayAnswer w (answer.Names names) = IsServed w
   MayAnswer w (answer.File fault) = IsServed w
+
+module _ (e : Estate AnyNode) where
+  -- the node of this name is one before the event and one behind it, by which it may answer this to its item
+  pub record FitsAt (count : ℕ) (node : NodeId) (item : ℕ) (a : Answer) : Type 0 where
+    pub before : AnyNode
+    pub after : AnyNode
+    pub was : node_named (moment e count) node ≡ Some before
+    pub is : node_named (moment e (suc count)) node ≡ Some after
+    pub fits : MayAnswer before after item (asked_at (items_of e.script.lines node) item) a
+
+  -- whatever is answered in an event
+  abbrev pub AnswersFit : Type 0
+  AnswersFit =
+      (count : ℕ) (event : Event) → slice_get e.events count ≡ Some event → (node : NodeId) (item : ℕ) (a : Answer)
+      → In (act.Answered node item a) (acts_in (moment e count) event) → FitsAt count node item a

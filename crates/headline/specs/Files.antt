@@ -1,14 +1,15 @@
 -- How a call on files comes to its answer: the calls on blocks of its plan are answered one after another, and what these answers tell of was acted.
-use Rattle.std.specs.Prelude.{◌≡◌, ℕ, Bool, true, false, List, [], ◌∷◌, ◌++◌, Option, Some}
+use Rattle.std.specs.Prelude.{◌≡◌, ℕ, Bool, true, false, List, [], ◌∷◌, ◌++◌, Option, Some, slice_get}
 use Rattle.client_call.specs.Calls.{may_make}
+use Rattle.core_world.specs.declared.any_node.AnyNode.{AnyNode}
 use Rattle.file_plan.specs.declared.block_call.BlockAnswer.{BlockAnswer}
-use Rattle.file_plan.specs.declared.block_call.BlockAnswer.TheVariants.{Got, Changed, Synced}
-use Rattle.file_plan.specs.declared.block_call.BlockAnswer.TheVariants.{Put as Written}
+use Rattle.file_plan.specs.declared.block_call.BlockAnswer.TheVariants.{Changed, Got, Synced, Put as Written}
 use Rattle.file_plan.specs.declared.block_call.BlockCall.{BlockCall}
 use Rattle.file_plan.specs.declared.block_call.BlockCall.TheVariants.{Get, Put, PutAt, Sync}
 use Rattle.file_plan.specs.declared.block_call.Next.{Next}
-use Rattle.file_plan.specs.declared.block_call.Next.TheVariants.{Step, Reply}
+use Rattle.file_plan.specs.declared.block_call.Next.TheVariants.{Reply, Step}
 use Rattle.file_plan.specs.Plan.{plan}
+use Rattle.node_base.specs.Beginning.{next_item}
 use Rattle.token_protocol.specs.Basics.{In}
 use Rattle.version_model.specs.declared.act.Act.{Act}
 use Rattle.version_model.specs.declared.act.Act.TheVariants as act
@@ -17,6 +18,13 @@ use Rattle.version_model.specs.declared.answer.Answer.TheVariants as answer
 use Rattle.version_model.specs.declared.file_call.FileCall.{FileCall}
 use Rattle.version_model.specs.declared.work.Work.{Work}
 use Rattle.version_model.specs.declared.work.Work.TheVariants as work
+use Rattle.world_base.specs.declared.estate.Estate.{Estate}
+use Rattle.world_base.specs.declared.event.Event.{Event}
+use Rattle.world_base.specs.declared.event.Event.TheVariants.{Begin}
+use Rattle.world_base.specs.Items.{items_of}
+use Rattle.xfs_base.specs.declared.node.NodeId.TheVariants.{Client}
+use Rattle.headline.specs.Items.{asked_at, items_in}
+use Rattle.headline.specs.Moments.{acts_in, moment, node_named}
 
 module _ (client : ℕ) where
   -- A call on blocks of the client is answered so by these acts: what was read is acted, with its version and value; what was written, with its value; and that
@@ -70,3 +78,21 @@ module _ (Began : ℕ → List Act → Type 0) (client item : ℕ) where
   IsByPlan w acts (answer.Names names) = IsCallsAnswer w acts (answer.Names names)
   IsByPlan w acts (answer.File fault) = IsCallsAnswer w acts (answer.File fault)
   IsByPlan w acts _ = Unit {0}
+
+module _ (e : Estate AnyNode) where
+  -- these are the acts of the run before an event by which the client begins its next item, and that is this one
+  pub record BeganBehind (client item : ℕ) (acts : List Act) : Type 0 where
+    pub count : ℕ
+    pub happens : slice_get e.events count ≡ Some (Begin (Client client))
+    pub node : AnyNode
+    pub its : node_named (moment e count) (Client client) ≡ Some node
+    pub next : next_item (items_in node) ≡ Some item
+    pub before : acts ≡ (moment e count).acts
+
+  -- wherever among the acts of an event a client answers an item, that is by the plan of the call on files that it asks for, if it does, behind all acts of the
+  -- run before the answer
+  abbrev pub FileAnswersArePlanned : Type 0
+  FileAnswersArePlanned =
+      (count : ℕ) (event : Event) → slice_get e.events count ≡ Some event → (client item : ℕ) (a : Answer) (before behind : List Act)
+      → acts_in (moment e count) event ≡ before ++ act.Answered (Client client) item a ∷ behind
+      → IsByPlan (BeganBehind client) client item (asked_at (items_of e.script.lines (Client client)) item) ((moment e count).acts ++ before) a

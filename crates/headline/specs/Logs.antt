@@ -1,5 +1,5 @@
--- What the owner of a log did in a run, a client, the cleaner or a manager: the acts of its events.
-use Rattle.std.specs.Prelude.{ℕ, ◌==◌, Bool, false, List, [], ◌∷◌, ◌++◌, drop, length, take, if◌then◌else◌}
+-- Whose log it is, a client's, the cleaner's or a manager's, and what its owner did: the acts of its events.
+use Rattle.std.specs.Prelude.{◌<◌, ◌≤◌, ℕ, Bool, true, false, ◌==◌, if◌then◌else◌, List, [], ◌∷◌, ◌++◌, take}
 use Rattle.core_world.specs.AnyNode.{any_start, any_step}
 use Rattle.core_world.specs.declared.any_node.AnyNode.{AnyNode}
 use Rattle.version_model.specs.declared.act.Act.{Act}
@@ -8,9 +8,39 @@ use Rattle.world_base.specs.declared.event.Event.{Event}
 use Rattle.world_base.specs.declared.world.World.{World}
 use Rattle.world_base.specs.Events.{node_of}
 use Rattle.world_base.specs.NextWorld.{next_world, start_world}
-use Rattle.xfs_base.specs.Logs.{log_of}
 use Rattle.xfs_base.specs.declared.node.NodeId.{NodeId}
 use Rattle.xfs_base.specs.declared.node.NodeId.TheVariants as nodes
+use Rattle.xfs_base.specs.declared.node.NodeId.TheVariants.{Cleaner, Client, Manager}
+use Rattle.xfs_base.specs.Logs.{log_of}
+use Rattle.headline.specs.Moments.{acts_in}
+
+pub data Role : Type 0 where
+  OfClient : ℕ → Role
+  OfCleaner : Role
+  OfManager : ℕ → Role
+
+-- the number of its log, and its name
+abbrev pub log_by : Role → ℕ
+log_by (Role.OfClient c) = (log_of (Client c)).0
+log_by Role.OfCleaner = (log_of Cleaner).0
+log_by (Role.OfManager j) = (log_of (Manager j)).0
+
+abbrev pub owner_by : Role → NodeId
+owner_by (Role.OfClient c) = Client c
+owner_by Role.OfCleaner = Cleaner
+owner_by (Role.OfManager j) = Manager j
+
+-- a manager's log begins anew where it restarts: of its line nothing is claimed
+abbrev pub renews : Role → Bool
+renews (Role.OfClient c) = false
+renews Role.OfCleaner = false
+renews (Role.OfManager j) = true
+
+-- which owners of logs a run has
+abbrev pub IsThere : (clients managers : ℕ) → Role → Type 0
+IsThere clients managers (Role.OfClient c) = (0 < c) × (c ≤ clients)
+IsThere clients managers Role.OfCleaner = Unit {0}
+IsThere clients managers (Role.OfManager j) = (0 < j) × (j ≤ managers)
 
 -- whether it owns the log of this number: the client of the number, the cleaner, or the manager whose log that is
 abbrev pub owns : ℕ → NodeId → Bool
@@ -19,10 +49,6 @@ owns c (nodes.Manager j) = (log_of (nodes.Manager j)).0 == c
 owns c (nodes.Server v) = false
 owns c nodes.Cleaner = (log_of nodes.Cleaner).0 == c
 owns c nodes.Registry = false
-
--- the acts that an event adds
-abbrev pub acts_in : World AnyNode → Event → List Act
-acts_in w event = drop (length w.acts) (next_world any_step w event).acts
 
 -- those of the owner of this log, where it is the one to which this happens
 abbrev pub acts_of : ℕ → World AnyNode → Event → List Act

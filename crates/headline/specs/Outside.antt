@@ -1,0 +1,54 @@
+-- What a caller of the program, or a reader of its text, sees of a run: answers, versions, falls, what is settled, and losses.
+use Rattle.std.specs.Prelude.{ℕ}
+use Rattle.core_world.specs.declared.any_node.AnyNode.{AnyNode}
+use Rattle.world_base.specs.declared.estate.Estate.{Estate}
+use Rattle.world_base.specs.Items.{works_of}
+use Rattle.headline.specs.Answers.{AnswersAreActs, VersionsAreNewest}
+use Rattle.headline.specs.Falls.{FallsApartThroughout}
+use Rattle.headline.specs.Files.{FileAnswersArePlanned}
+use Rattle.headline.specs.Items.{ItemsAnsweredOnce}
+use Rattle.headline.specs.Losses.{EachLostActIsEarned, LostAnswersEarned}
+use Rattle.headline.specs.Restarts.{LosesNone, NoDoubtfulRestart}
+use Rattle.headline.specs.Settled.{BlocksAreSettled}
+use Rattle.headline.specs.Standings.{AnswersFit}
+use Rattle.headline.specs.Versions.{LegalActs, LegalWithoutLosses}
+
+-- Only what is gone is refused as lost.
+pub record LossesEarned (e : Estate AnyNode) : Type 0 where
+  -- each act that a segment is lost is of the node that has its turn, and it is earned: while it opens its log, to a takeover, or to a read
+  pub each : EachLostActIsEarned e
+  -- and no item is answered that a segment is lost but where its node says so before, in the same event, and has begun it
+  pub answers : LostAnswersEarned e
+
+-- where the script has no line by which a server loses its disk, no restart is doubtful
+abbrev pub WithoutLossesNoDoubt : Estate AnyNode → Type 0
+WithoutLossesNoDoubt e = LosesNone (works_of e.script.lines) → (count : ℕ) → NoDoubtfulRestart e count
+
+-- Of each run of the xFS nodes, whatever messages are lost, repeated or reordered and whichever nodes stop:
+pub record OutsideIsSafe (e : Estate AnyNode) : Type 0 where
+  -- each item is answered at most once, by its own node, after its Begin: so the text shows for an item its one answer, and as open are counted those that no
+  -- act answers
+  pub answered_once : ItemsAnsweredOnce e
+  -- what a client answers to a call on a block, a sync or a restart it has acted before, in the same event; the cleaner, back, that a segment of its new
+  -- incarnation is filed; and an item is cut only where a crash, or the loss of a disk, is answered behind it
+  pub answers_acted : AnswersAreActs e
+  -- and each answer fits where its node stands, before the event and behind it
+  pub answers_fit : AnswersFit e
+  -- a call on files answers what its plan says of the answers of its calls on blocks, each acted since it began
+  pub files_planned : FileAnswersArePlanned e
+  -- and a write its block's newest version, with its value: up to the first doubtful restart
+  pub versions_newest : VersionsAreNewest e
+  -- each act Read is of its block's newest version, with its value, and no fall goes below a version that was synced or read elsewhere: up to the first
+  -- doubtful restart
+  pub legal_acts : LegalActs e
+  -- and throughout, where no line of the script has a server lose its disk
+  pub legal_without_losses : LegalWithoutLosses e
+  -- no client falls again before it is back, and no fall names a block twice
+  pub falls_apart : FallsApartThroughout e
+  -- up to the first doubtful restart all that is filed of a block joins to its newest version, with its value, where nobody has it dirty or fell with it; and
+  -- where a client has it dirty, to what that knows as settled, all versions above being its own
+  pub settled : BlocksAreSettled e
+  -- only what is gone is refused as lost
+  pub losses_earned : LossesEarned e
+  -- and where no line of the script has a server lose its disk, no restart is doubtful
+  pub undoubted : WithoutLossesNoDoubt e
