@@ -4,6 +4,7 @@ use Rattle.core_world.specs.declared.any_node.AnyNode.{AnyNode}
 use Rattle.world_base.specs.declared.estate.Estate.{Estate}
 use Rattle.world_base.specs.Items.{works_of}
 use Rattle.headline.specs.Answers.{AnswersAreActs, VersionsAreNewest}
+use Rattle.headline.specs.Dues.{AnswersDue}
 use Rattle.headline.specs.Falls.{FallsApartThroughout}
 use Rattle.headline.specs.Files.{FileAnswersArePlanned}
 use Rattle.headline.specs.Items.{ItemsAnsweredOnce}
@@ -34,6 +35,8 @@ pub record OutsideIsSafe (e : Estate AnyNode) : Type 0 where
   pub answers_acted : AnswersAreActs e
   -- and each answer fits where its node stands, before the event and behind it
   pub answers_fit : AnswersFit e
+  -- in each event each node serves on until a crash of it begins, and what is due as an item begins is answered in that event
+  pub dues_answered : AnswersDue e
   -- a call on files answers what its plan says of the answers of its calls on blocks, each acted since it began
   pub files_planned : FileAnswersArePlanned e
   -- and a write its block's newest version, with its value: up to the first doubtful restart

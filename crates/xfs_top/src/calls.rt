@@ -21,6 +21,7 @@ use quiet_script::accepted_scripts_are_orderly;
 use run_answers::act_law::{
     answered_versions_are_newest, answers_are_acts, file_answers_are_planned,
 };
+use run_answers::due_law::runs_answer_what_is_due;
 use run_answers::once_law::items_are_answered_once;
 use run_answers::standing_law::answers_fit_where_a_node_stands;
 use run_drops::drop_law::what_is_deleted_was_dropped;
@@ -62,6 +63,7 @@ fn every_run_is_safe()
     items_are_answered_once();
     answers_are_acts();
     answers_fit_where_a_node_stands();
+    runs_answer_what_is_due();
     file_answers_are_planned();
     answered_versions_are_newest();
     without_losses_no_restart_is_doubtful();

@@ -6,6 +6,7 @@ returns c e setup run = record {
     answered_once = c.items_are_answered_once.ensures.runs e run;
     answers_acted = c.answers_are_acts.ensures.acted e;
     answers_fit = c.answers_fit_where_a_node_stands.ensures.fits e;
+    dues_answered = c.runs_answer_what_is_due.ensures.runs e;
     files_planned = c.file_answers_are_planned.ensures.planned e;
     versions_newest = c.answered_versions_are_newest.ensures.newest e setup run;
     legal_acts = c.every_runs_acts_are_legal.ensures.legal e setup run;
