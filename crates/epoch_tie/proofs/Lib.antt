@@ -1,2 +1,0 @@
-pub mod TokenTies
-pub mod IndexTies

@@ -1,3 +1,0 @@
-pub mod Quiet
-pub mod TokenTie
-pub mod IndexTie
