@@ -15,3 +15,4 @@ pub mod Scans
 pub mod Staying
 pub mod Openings
 pub mod Exist
+pub mod Seen

@@ -36,7 +36,8 @@ use Rattle.log_protocol.specs.Step.Steps.{Done, More}
 use Rattle.log_protocol.proofs.Induction.{always}
 use Rattle.log_protocol.proofs.NewNames.{new_opening}
 use Rattle.log_tie.specs.Setting.{Setting, stripe_of_group, present_at, name_of, point, IsStripe}
-use Rattle.log_tie.specs.Seen.{Book, Flying, Serves, ByOwner, Goes, Fixed, Standing}
+use Rattle.log_tie.specs.Seen.{Book, Flying, Serves, ByOwner, Goes, Fixed}
+use Rattle.log_tie.proofs.Seen.{Standing}
 use Rattle.log_tie.specs.Inputs.{StoredSeen, MapSeen}
 use Rattle.log_tie.specs.Openings.{Chained, AllFrom, ChainShown, ReadShown, WritingShown, AllFiled, OpeningShown, OpensByStep, OpeningTakes}
 use Rattle.xfs_base.proofs.SegmentNames.{one_name}

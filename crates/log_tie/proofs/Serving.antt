@@ -36,7 +36,8 @@ use Rattle.xfs_base.specs.Blocks.{same_block}
 use Rattle.xfs_base.specs.Limits.{segment_blocks}
 use Rattle.xfs_base.proofs.Booleans.{contrary, and_first, by_test as pick}
 use Rattle.log_tie.specs.Setting.{Setting, present_at}
-use Rattle.log_tie.specs.Seen.{EndFollows, Book, Flying, FlightShown, Serves, ByOwner, Goes, Fixed, Others, others_of, Standing}
+use Rattle.log_tie.specs.Seen.{EndFollows, Book, Flying, FlightShown, Serves, ByOwner, Goes, Fixed, Others, others_of}
+use Rattle.log_tie.proofs.Seen.{Standing}
 use Rattle.log_tie.specs.Inputs.{StoredSeen, MapSeen, TakesInputs}
 use Rattle.xfs_base.proofs.SegmentNames.{one_name}
 use Rattle.log_tie.proofs.Names.{one_number}

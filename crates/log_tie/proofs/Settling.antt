@@ -27,7 +27,8 @@ use Rattle.xfs_base.specs.declared.block.BlockId.{BlockId}
 use Rattle.xfs_base.specs.declared.entry.Entry.{Entry}
 use Rattle.xfs_base.proofs.Booleans.{contrary, and_first, and_second}
 use Rattle.log_tie.specs.Setting.{Setting, Stripe, present_at, name_of, point, IsStripe}
-use Rattle.log_tie.specs.Seen.{Page, Book, Flying, Writes, Serves, ByOwner, Goes, Fixed, standing_of}
+use Rattle.log_tie.specs.Seen.{Page, Book, Flying, Writes, Serves, ByOwner, Goes, Fixed}
+use Rattle.log_tie.proofs.Seen.{standing_of}
 use Rattle.log_tie.proofs.Names.{coded, some_number, name_coded, point_some}
 use Rattle.log_tie.proofs.Frames.{by_nothing}
 use Rattle.log_tie.proofs.Booking.{books_one, with_page, page_here, booked_state, stripe_group, by_booking, booked_pages}

@@ -8,3 +8,4 @@ mod Jobs
 mod Serving
 mod StandIn
 mod Phases
+pub mod Fitting

@@ -20,3 +20,4 @@ mod ClientTakes
 pub mod Staying
 pub mod Written
 pub mod Owed
+pub mod Texts

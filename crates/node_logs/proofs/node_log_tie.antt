@@ -19,3 +19,4 @@ mod CleanerJobs
 mod CleanerServing
 mod CleanerOpening
 mod Cleaners
+pub mod Sight

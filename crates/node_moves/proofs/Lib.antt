@@ -6,3 +6,4 @@ pub mod OpeningWalk
 pub mod OpeningMaps
 pub mod Effects
 pub mod SlotPhases
+pub mod server_moves

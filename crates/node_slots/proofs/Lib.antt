@@ -1,0 +1,2 @@
+pub mod client_law
+pub mod node_tie

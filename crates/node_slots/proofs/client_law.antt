@@ -25,3 +25,5 @@ pub mod Groups
 mod Standing
 mod Unserving
 mod Stamps
+pub mod Empty
+pub mod Grouped

@@ -71,3 +71,6 @@ pub mod SlotTables
 pub mod SmallWorld
 pub mod StoreFrames
 pub mod StoreServer
+pub mod RegistryEvents
+pub mod Sight
+pub mod StoreEvents

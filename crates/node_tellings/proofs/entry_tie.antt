@@ -17,3 +17,4 @@ pub mod LogMoves
 pub mod CleanerPhases
 pub mod Servers
 pub mod Registries
+pub mod Told

@@ -10,3 +10,5 @@ mod ManagerServing
 pub mod Managers
 mod Choosing
 pub mod Meeting
+pub mod Arrivals
+pub mod Came

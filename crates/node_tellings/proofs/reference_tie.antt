@@ -7,3 +7,4 @@ pub mod ServingWalk
 pub mod Clients
 pub mod Cleaners
 pub mod Rising
+pub mod References

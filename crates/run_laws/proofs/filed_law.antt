@@ -1,2 +1,3 @@
+pub mod FiledUpto
 pub mod Reaching
 pub mod Telling

@@ -20,3 +20,4 @@ pub mod Start
 pub mod Turns
 pub mod Laws
 pub mod Tokens
+pub mod Standing

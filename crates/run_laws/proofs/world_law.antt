@@ -20,3 +20,4 @@ pub mod FirstSlot
 pub mod Fallen
 pub mod Managers
 pub mod Numbers
+pub mod Owes

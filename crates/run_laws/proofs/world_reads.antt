@@ -84,3 +84,5 @@ pub mod LegalJoints
 pub mod Holders
 pub mod Dirty
 pub mod LegalRuns
+pub mod Below
+pub mod Joint

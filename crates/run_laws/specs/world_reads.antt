@@ -1,4 +1,3 @@
-pub mod Below
 pub mod Entries
 pub mod LoggedRuns
 pub mod Joint

@@ -14,3 +14,4 @@ pub mod Calling
 pub mod Clients
 pub mod Emptying
 pub mod Cleaners
+pub mod Moves

@@ -14,7 +14,8 @@ use Rattle.token_protocol.specs.Told.{tells, told}
 use Rattle.token_protocol.specs.World.{World}
 use Rattle.token_protocol.proofs.Told.{steps_through, told_through}
 use Rattle.token_tie.specs.Seen.{Setting, Local, Shows}
-use Rattle.token_tie.specs.Taken.{rest, ByClient, AllSaid, Acts, Goes}
+use Rattle.token_tie.specs.Taken.{rest, ByClient, AllSaid, Acts}
+use Rattle.token_tie.proofs.Taken.{Goes}
 
 pub put_here : {X : Type 0} (f : ℕ → X) (c : ℕ) (x : X) → put f c x c ≡ x
 put_here f c x = grind (arith, nat_tests)

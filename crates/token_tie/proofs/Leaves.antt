@@ -28,7 +28,8 @@ use Rattle.token_protocol.specs.Takeover.{promises}
 use Rattle.token_protocol.proofs.StampsSeen.{taken, equal, stamped, promised}
 use Rattle.token_tie.specs.Seen.{WantShown, FetchShown, ValueShown, SentOffer, SentRecall, offer_seen, recall_seen, Setting, Local, Shows, kept, located, stamp_seen, node_seen}
 use Rattle.xfs_base.specs.Modes.{is_held, is_own, mode_number}
-use Rattle.token_tie.specs.Taken.{Acts, Goes, AllSaid}
+use Rattle.token_tie.specs.Taken.{Acts, AllSaid}
+use Rattle.token_tie.proofs.Taken.{Goes}
 use Rattle.token_tie.proofs.Frames.{acts_by, goes_saying}
 use Rattle.xfs_base.specs.Stamps.{is_later}
 use Rattle.xfs_base.proofs.Booleans.{and_first, and_second, by_test}

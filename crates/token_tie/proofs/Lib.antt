@@ -8,6 +8,7 @@ pub mod Managing
 pub mod Promising
 pub mod Recalling
 pub mod SmallFacts
+pub mod Taken
 pub mod Takes
 pub mod TakingOver
 pub mod Wanting

@@ -20,7 +20,8 @@ use Rattle.token_client.proofs.Promises.{dropped-known, Each, Each-weaker, IsFet
 use Rattle.token_protocol.specs.Premises.{Premise, SettledEnd}
 use Rattle.token_protocol.specs.World.{World}
 use Rattle.token_tie.specs.Seen.{Setting, Local, Shows, local_of}
-use Rattle.token_tie.specs.Taken.{Goes, Took}
+use Rattle.token_tie.specs.Taken.{Took}
+use Rattle.token_tie.proofs.Taken.{Goes}
 use Rattle.token_tie.specs.Inputs as laws
 use Rattle.token_tie.proofs.Frames.{goes_nowhere, goes_through, shown_on, end_on}
 use Rattle.token_tie.proofs.Leaves.{promises-goes, drops_promised-goes}

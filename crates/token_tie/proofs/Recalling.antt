@@ -14,7 +14,8 @@ use Rattle.token_protocol.specs.Basics.{In}
 use Rattle.token_protocol.specs.Premises.{Premise, SettledEnd}
 use Rattle.token_protocol.specs.World.{World}
 use Rattle.token_tie.specs.Seen.{Setting, Local, Shows, SentRecall, recall_seen, local_of, stamp_seen}
-use Rattle.token_tie.specs.Taken.{ByClient, Goes, Took}
+use Rattle.token_tie.specs.Taken.{ByClient, Took}
+use Rattle.token_tie.proofs.Taken.{Goes}
 use Rattle.token_tie.specs.Inputs as laws
 use Rattle.token_tie.proofs.Frames.{goes_nowhere, goes_through, shown_on, epoch_on, end_on}
 use Rattle.token_tie.proofs.Leaves.{drops_fetch-goes, put_off-goes, gives-goes, gives_again-goes, asks-goes}

@@ -29,7 +29,8 @@ use Rattle.token_protocol.specs.Premises.{Premise, SettledEnd, PlaceRead}
 use Rattle.token_protocol.specs.World.{World}
 use Rattle.token_tie.specs.Seen.{Setting, Local, Shows, SentOffer, local_of, located, entry_seen}
 use Rattle.xfs_base.specs.Modes.{allows, is_held, is_own, mode_number}
-use Rattle.token_tie.specs.Taken.{AllSaid, Acts, Goes, Acted, Took}
+use Rattle.token_tie.specs.Taken.{AllSaid, Acts, Acted, Took}
+use Rattle.token_tie.proofs.Taken.{Goes}
 use Rattle.token_tie.specs.Inputs as laws
 use Rattle.token_tie.proofs.Frames.{goes_nowhere, goes_saying, goes_through, shown_on}
 use Rattle.token_tie.proofs.Leaves.{meets, taking, drops_want-goes, drops_fetch-goes, asks-goes, asks_again-goes, absent-goes, place-goes, supplied-goes, first-goes, declines-goes, fetches-goes, writes-goes, evicts-goes}

@@ -47,10 +47,6 @@ pub record Acts (logs : Bool) (g : Setting) (end : ℕ) (w : World) (acts : List
   pub shows : Shows g w.epoch l (world.client g.client)
   pub said : AllSaid g end world outs
 
--- by steps that tell no act
-abbrev pub Goes : Bool → Setting → ℕ → World → Local → List Out → Type 0
-Goes logs g end w l outs = Acts logs g end w [] l outs
-
 abbrev pub Acted : Bool → Setting → ℕ → World → List Act → Done → Type 0
 Acted logs g end w acts d = Acts logs g end w acts (local_of d.state g.block) d.outs
 

@@ -33,7 +33,8 @@ use Rattle.stripe_code.specs.declared.round.Told.TheVariants.{Held, Missing}
 use Rattle.stripe_code.specs.Joined.{part_at, rest_onto, one_gone, lower_of, two_gone, recovered_at, recovered, missing_from, filled, joined}
 use Rattle.stripe_code.specs.Round.{RoundSoFar, has_answered, taken, bytes_told, bytes_in, parts_in, missing_in, len_in, is_enough, have_answered, state_of}
 use Rattle.stripe_code.specs.Stripe.{plain, weighted}
-use Rattle.node_logs.specs.cleaner_log_tie.Fitting.{ItemFits, SegmentFits, ToldFits, RoundFits}
+use Rattle.node_logs.specs.cleaner_log_tie.Fitting.{ToldFits, RoundFits}
+use Rattle.node_logs.proofs.cleaner_log_tie.Fitting.{ItemFits, SegmentFits}
 
 abbrev pub Bytes : List ℕ → Type 0
 Bytes xs = AllByRecursion (λ (byte : ℕ). byte < 256) xs

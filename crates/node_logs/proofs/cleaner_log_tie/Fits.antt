@@ -16,7 +16,8 @@ use Rattle.stripe_cleaner.specs.declared.phase.Phase.{Phase}
 use Rattle.stripe_cleaner.specs.declared.phase.Phase.TheVariants.{Greeting, Checking}
 use Rattle.stripe_cleaner.specs.Transition.{Done, awaits, transition}
 use Rattle.node_moves.proofs.cleaner_moves.Jobs.{JobLaw, MoveSo, OutSo, InputSo, DoneSo, PhaseSo, awaits_so, job_so}
-use Rattle.node_logs.specs.cleaner_log_tie.Fitting.{ItemFits, SegmentFits, FateFits, CheckFits, PhaseFits}
+use Rattle.node_logs.specs.cleaner_log_tie.Fitting.{FateFits, CheckFits, PhaseFits}
+use Rattle.node_logs.proofs.cleaner_log_tie.Fitting.{ItemFits, SegmentFits}
 
 pub asked_of : (number : ℕ) (items : List Item) → AllByRecursion ItemFits items → AllByRecursion CheckFits (checks_from number items)
 asked_of number [] all = tt

@@ -31,7 +31,8 @@ use Rattle.log_law.specs.Net.Packet.{StoredSent}
 use Rattle.log_law.specs.Events.{CameToLog}
 use Rattle.log_law.specs.Events.Runs.{Begun}
 use Rattle.node_logs.specs.node_log_tie.CleanerEvents.{JobSeen, EmptyingSeen}
-use Rattle.node_logs.specs.node_log_tie.Sight.{Asker, Question, BodySeen, Later}
+use Rattle.node_logs.specs.node_log_tie.Sight.{Asker, Question, BodySeen}
+use Rattle.node_logs.proofs.node_log_tie.Sight.{Later}
 use Rattle.node_logs.specs.node_log_tie.Sight.Question.{Unasked, OfMaps}
 use Rattle.node_logs.proofs.node_log_tie.Emptied.{OnlyOrdered, emptying_later, ordered_then}
 use Rattle.node_logs.proofs.node_log_tie.Going.{run_later, runs_on}

@@ -51,7 +51,8 @@ use Rattle.log_law.specs.Events.{Happens as happen}
 use Rattle.log_law.specs.Events.Runs.{Begun, On}
 use Rattle.log_law.specs.Restarts.{is_down, is_serving}
 use Rattle.log_law.specs.Tails.{then_on}
-use Rattle.node_logs.specs.node_log_tie.Sight.{AskedBy, BodySeen, PacketSeen, EffectSeen}
+use Rattle.node_logs.specs.node_log_tie.Sight.{AskedBy, BodySeen, PacketSeen}
+use Rattle.node_logs.proofs.node_log_tie.Sight.{EffectSeen}
 use Rattle.node_logs.specs.node_log_tie.Sight.Question.{OfOpening}
 use Rattle.node_logs.proofs.node_log_tie.OwnerFalls.{Fall, fall_of}
 use Rattle.node_logs.proofs.node_log_tie.Emptied.{OnlyOrdered, only_deleted}

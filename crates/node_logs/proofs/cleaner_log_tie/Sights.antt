@@ -4,7 +4,8 @@ use Rattle.fragment_store.specs.ShelfState.{ShelfState}
 use Rattle.wire_msg.specs.declared.body.Body.{Body}
 use Rattle.xfs_base.specs.declared.node.NodeId.{NodeId}
 use Rattle.log_tie.specs.Setting.{Setting}
-use Rattle.node_logs.specs.node_log_tie.Sight.{BodySeen, Later}
+use Rattle.node_logs.specs.node_log_tie.Sight.{BodySeen}
+use Rattle.node_logs.proofs.node_log_tie.Sight.{Later}
 use Rattle.node_logs.proofs.node_log_tie.Sights.{seen_on}
 use Rattle.node_logs.specs.client_log_tie.Owner.{Scene}
 use Rattle.node_logs.specs.cleaner_log_tie.Owner.{its_asker}

@@ -22,7 +22,8 @@ use Rattle.log_law.specs.Net.{Net}
 use Rattle.log_law.specs.Net.{Owner as owner}
 use Rattle.log_law.specs.Events.{Runs}
 use Rattle.log_law.specs.Events.Runs.{Begun, On}
-use Rattle.node_logs.specs.node_log_tie.Sight.{Later, BodySeen}
+use Rattle.node_logs.specs.node_log_tie.Sight.{BodySeen}
+use Rattle.node_logs.proofs.node_log_tie.Sight.{Later}
 use Rattle.node_logs.proofs.node_log_tie.Sights.{seen_on}
 use Rattle.client_node.specs.declared.phase.Phase.{Phase}
 use Rattle.node_logs.specs.client_log_tie.Owner.{Scene, asker, Lasts, SeesLog, ClientAgrees}

@@ -59,7 +59,8 @@ use Rattle.log_law.specs.Events.{Happens as happen}
 use Rattle.node_logs.specs.node_log_tie.Sight.{BodySeen, AskedBy, AnsweredBy, WelcomeSeen, FencedSeen, Question}
 use Rattle.node_logs.specs.node_log_tie.Sight.Question.{OfMaps, OfOpening}
 use Rattle.node_logs.specs.client_log_tie.Owner.{Scene, asker, AsksRegistry, AsksServers, AsksIn, AsksAt, MapCame, Lasts, SeesScan, SeesStage}
-use Rattle.node_logs.specs.client_log_tie.Texts.{MapFits, StaysWritten, StartFits}
+use Rattle.node_logs.specs.client_log_tie.Texts.{MapFits, StaysWritten}
+use Rattle.node_logs.proofs.client_log_tie.Texts.{StartFits}
 use Rattle.node_logs.specs.client_log_tie.ClientEvents.{StageWritten, BodyFits}
 use Rattle.node_logs.proofs.client_log_tie.Frames.{ClientDoes}
 use Rattle.node_logs.proofs.client_log_tie.Frames as frames

@@ -25,7 +25,8 @@ use Rattle.log_law.specs.Openings.{GoesOn}
 use Rattle.log_law.specs.ReadBack.{ReadsDown}
 use Rattle.node_logs.specs.client_log_tie.ClientEvents.{ScanTells, StageTells}
 use Rattle.node_logs.specs.client_log_tie.Owner.{Scene, MapCame, SeesScan, SeesStage}
-use Rattle.node_logs.specs.client_log_tie.Texts.{MapFits, StaysWritten, StartFits, ChainFits}
+use Rattle.node_logs.specs.client_log_tie.Texts.{MapFits, StaysWritten}
+use Rattle.node_logs.proofs.client_log_tie.Texts.{ChainFits, StartFits}
 use Rattle.node_logs.proofs.client_log_tie.Starts.{log_in_range}
 use Rattle.node_logs.proofs.client_log_tie.Written.{what_fits_stays_written}
 use Rattle.node_logs.specs.opening_law.Questions.{ScanAsks, StageAsks, GroupsAfter}

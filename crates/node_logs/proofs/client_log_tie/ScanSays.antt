@@ -44,7 +44,8 @@ use Rattle.node_logs.specs.node_log_tie.Sight.{AskedBy, Question}
 use Rattle.node_logs.specs.node_log_tie.Sight.Question.{Unasked, OfOpening}
 use Rattle.node_logs.proofs.node_log_tie.OwnLogs.{own_log}
 use Rattle.node_logs.specs.client_log_tie.Owner.{Scene, asker, AsksRegistry, AsksServers, AsksAt, MapCame, Lasts}
-use Rattle.node_logs.specs.client_log_tie.Texts.{StaysWritten, ChainFits}
+use Rattle.node_logs.specs.client_log_tie.Texts.{StaysWritten}
+use Rattle.node_logs.proofs.client_log_tie.Texts.{ChainFits}
 use Rattle.node_logs.specs.client_log_tie.ClientEvents.{Grown, IsOnce}
 use Rattle.node_logs.proofs.client_log_tie.Frames.{ClientDoes}
 use Rattle.node_logs.proofs.client_log_tie.Frames.{in_after, in_before}

@@ -48,9 +48,10 @@ use Rattle.wire_msg.specs.declared.body.Body.{Body}
 use Rattle.wire_msg.specs.declared.packet.Do.{Do}
 use Rattle.wire_msg.specs.declared.packet.Packet.{Packet}
 use Rattle.node_moves.proofs.server_moves.Keeping.{Keeps, event_keeps, packets_say}
-use Rattle.node_moves.specs.server_moves.Moves.{Given, Sent}
+use Rattle.node_moves.specs.server_moves.Moves.{Given}
+use Rattle.node_moves.proofs.server_moves.Moves.{Sent}
 use Rattle.node_moves.specs.server_moves.Moves.Given.{ListCame}
-use Rattle.node_moves.specs.server_moves.Moves.Sent.{ListSent}
+use Rattle.node_moves.proofs.server_moves.Moves.Sent.{ListSent}
 use Rattle.node_logs.specs.manager_log_tie.Listing.{CarriesOf, ComesOf, EntryOf, FragmentOf, MetasOf, NameOf, PresentOf, ReadsOf, RebuildOf, ServersListWhatWasStored, ServersStartBare, WantedOf}
 
 all_cons : {X : Type 0} (P : X → Type 0) (o : Option X) (xs : List X) → IfSome o P → AllByRecursion P xs → AllByRecursion P (cons_option o xs)

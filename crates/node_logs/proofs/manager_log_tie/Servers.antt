@@ -43,9 +43,10 @@ use Rattle.wire_msg.specs.declared.body.Body.{Body}
 use Rattle.wire_msg.specs.declared.packet.Do.{Do}
 use Rattle.wire_msg.specs.declared.packet.Packet.{Packet}
 use Rattle.node_moves.proofs.server_moves.Keeping.{Keeps, event_keeps, packets_say}
-use Rattle.node_moves.specs.server_moves.Moves.{Given, Sent}
+use Rattle.node_moves.specs.server_moves.Moves.{Given}
+use Rattle.node_moves.proofs.server_moves.Moves.{Sent}
 use Rattle.node_moves.specs.server_moves.Moves.Given.{FragmentCame}
-use Rattle.node_moves.specs.server_moves.Moves.Sent.{Held as HeldSent}
+use Rattle.node_moves.proofs.server_moves.Moves.Sent.{Held as HeldSent}
 use Rattle.node_logs.specs.cleaner_log_tie.Fitting.{RoundFits, ToldFits}
 use Rattle.node_logs.proofs.cleaner_log_tie.Bytes.{Bytes, StateBytes, state_bytes, taken_fits}
 use Rattle.node_logs.specs.manager_log_tie.Servers.{CarriesBytes, ComesInBytes, FragmentFits, PresentFits, ReadsFit, ServersStartEmpty, ServersTellBytes, ShelfFits}

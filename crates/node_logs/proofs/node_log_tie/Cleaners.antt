@@ -35,7 +35,8 @@ use Rattle.cleaner_job.specs.declared.lasting.Lasting.{Lasting}
 use Rattle.cleaner_job.specs.Starting.{cleaner_log}
 use Rattle.log_tie.specs.Setting.{Setting}
 use Rattle.log_law.specs.Net.{Net}
-use Rattle.node_logs.specs.node_log_tie.Sight.{Asker, BodySeen, PacketSeen, EffectSeen}
+use Rattle.node_logs.specs.node_log_tie.Sight.{Asker, BodySeen, PacketSeen}
+use Rattle.node_logs.proofs.node_log_tie.Sight.{EffectSeen}
 use Rattle.node_logs.specs.node_log_tie.CleanerEvents.{EmptyingSeen, OpeningSeen, CleanerSeen, CleanerOwed, CleanerGoes}
 use Rattle.node_logs.proofs.node_log_tie.CleanerOpening.{ProgressSeen, WentOn, tick_heard, packet_heard as opening_hears, begins as opening_begun}
 use Rattle.node_logs.proofs.node_log_tie.CleanerServing.{deltas_pushed, cleaning_wished, packet_heard, time_passes}

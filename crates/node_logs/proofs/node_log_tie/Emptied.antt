@@ -33,7 +33,8 @@ use Rattle.log_tie.specs.Shelves.{is_of_log}
 use Rattle.log_law.specs.Net.{Net}
 use Rattle.log_law.specs.Events.{Runs}
 use Rattle.log_law.specs.Events.Runs.{Begun}
-use Rattle.node_logs.specs.node_log_tie.Sight.{Asker, BodySeen, EffectSeen, Later}
+use Rattle.node_logs.specs.node_log_tie.Sight.{Asker, BodySeen}
+use Rattle.node_logs.proofs.node_log_tie.Sight.{EffectSeen, Later}
 use Rattle.node_logs.specs.node_log_tie.CleanerEvents.{DropOfLog, AllDrop, Candidates, JobPhaseSeen, JobSeen, EmptyingSeen, DropActed, OnlyDeleted, all_but_drops}
 use Rattle.node_logs.proofs.node_log_tie.Cleaning.{OutDrops}
 use Rattle.node_logs.proofs.node_log_tie.Going.{in_after, in_before, run_later, runs_on}

@@ -24,7 +24,7 @@ use Rattle.log_law.specs.Net.{Net, Packet, Told, log_packets, scan_packets, chai
 use Rattle.log_law.specs.Events.{CameToServer, Happens, Runs}
 use Rattle.log_law.specs.Events.Happens.{Acts, Writes, Opens, Crashes, Restarts, Renews, Serves, Bars, Lists, Hears, Raises, Publishes, Welcomes, Drops}
 use Rattle.log_law.specs.Events.Runs.{Begun, On}
-use Rattle.node_logs.specs.node_log_tie.Sight.{Later}
+use Rattle.node_logs.proofs.node_log_tie.Sight.{Later}
 use Rattle.node_logs.proofs.node_log_tie.Sights.{at_once, then_later}
 
 -- ---- lists and tables

@@ -28,7 +28,7 @@ use Rattle.log_tie.specs.Setting.{Setting}
 use Rattle.log_tie.specs.Shelves.{is_of_log}
 use Rattle.log_law.specs.Net.{Net}
 use Rattle.log_law.specs.Net.Packet.{ListedSent}
-use Rattle.node_logs.specs.node_log_tie.Sight.{Later}
+use Rattle.node_logs.proofs.node_log_tie.Sight.{Later}
 use Rattle.node_logs.specs.node_log_tie.ServerEvents.{NamesStripes, ListedOfLog, WantedSeen, ReadsSeen, RebuildSeen}
 use Rattle.node_logs.proofs.node_log_tie.Lists.{all_insert, all_remove, if_some, in_filter}
 use Rattle.node_logs.proofs.node_log_tie.Rebuilding.{listed_later, reads_later, all_wanted, OutSeen, ReadOn, goes_on_seen, TellsSent, answer_seen}

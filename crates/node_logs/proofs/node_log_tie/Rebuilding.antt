@@ -39,7 +39,7 @@ use Rattle.log_tie.specs.Shelves.{is_of_log}
 use Rattle.log_law.specs.Net.{Net}
 use Rattle.log_law.specs.Net.Packet.{FragmentSent}
 use Rattle.log_law.specs.Events.{ToldCame, AllCame, IsFilling}
-use Rattle.node_logs.specs.node_log_tie.Sight.{Later}
+use Rattle.node_logs.proofs.node_log_tie.Sight.{Later}
 use Rattle.node_logs.specs.node_log_tie.ServerEvents.{NamesStripes, ListedOfLog, WantedSeen, RoundSeen, PresentSeen, ReadsSeen}
 use Rattle.node_logs.proofs.node_log_tie.Lists.{if_some}
 

@@ -38,7 +38,8 @@ use Rattle.log_law.specs.Events.Happens.{Publishes, Welcomes}
 use Rattle.log_law.specs.Events.Runs.{Begun, On}
 use Rattle.node_logs.specs.node_log_tie.Sight.Question.{Unasked, OfMaps, OfOpening}
 use Rattle.node_logs.proofs.node_log_tie.Sights.{asked_later, seen_later, then_later}
-use Rattle.node_logs.specs.node_log_tie.Sight.{Asker, Question, AskedBy, AnsweredBy, PacketSeen, EffectSeen, Later}
+use Rattle.node_logs.specs.node_log_tie.Sight.{Asker, Question, AskedBy, AnsweredBy, PacketSeen}
+use Rattle.node_logs.proofs.node_log_tie.Sight.{EffectSeen, Later}
 use Rattle.node_logs.specs.node_log_tie.RegistryEvents.{NamesGroups, RegistrySeen, Hears, all_but_known, RegistryGoes, RegistryEventGoes, RegistryGoesAbove}
 use Rattle.node_logs.proofs.node_log_tie.Boards.{MayKeep, MadeSeen, board_goes, hello_came}
 use Rattle.node_logs.proofs.node_log_tie.Going.{run_later, runs_on}

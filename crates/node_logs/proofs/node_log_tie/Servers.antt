@@ -39,7 +39,8 @@ use Rattle.node_moves.specs.server_moves.Moves.Move.{AnswersItem, BeginsRebuild,
 use Rattle.node_moves.specs.server_moves.Moves.Moves.{Last, Rests, Then}
 use Rattle.log_tie.specs.Setting.{Setting}
 use Rattle.log_law.specs.Net.{Net}
-use Rattle.node_logs.specs.node_log_tie.Sight.{Asker, BodySeen, PacketSeen, EffectSeen, Later}
+use Rattle.node_logs.specs.node_log_tie.Sight.{Asker, BodySeen, PacketSeen}
+use Rattle.node_logs.proofs.node_log_tie.Sight.{EffectSeen, Later}
 use Rattle.node_logs.specs.node_log_tie.ServerEvents.{NamesStripes, RebuildSeen, ServerSeen, MapsName, ServerOwed, ServerGoes}
 use Rattle.node_logs.proofs.node_log_tie.Going.{run_later}
 use Rattle.node_logs.proofs.node_log_tie.Lists.{answers_send, packets_all}

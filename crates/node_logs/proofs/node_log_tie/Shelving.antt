@@ -42,7 +42,8 @@ use Rattle.log_law.specs.Net.Packet.{StoredSent, FragmentSent, FencedSent, Liste
 use Rattle.log_law.specs.Events.{CameToServer, Runs}
 use Rattle.log_law.specs.Events.Happens.{Serves, Bars, Lists}
 use Rattle.log_law.specs.Events.Runs.{Begun, On}
-use Rattle.node_logs.specs.node_log_tie.Sight.{Asker, EffectSeen, FenceSeen, Later}
+use Rattle.node_logs.specs.node_log_tie.Sight.{Asker, FenceSeen}
+use Rattle.node_logs.proofs.node_log_tie.Sight.{EffectSeen, Later}
 use Rattle.node_logs.specs.node_log_tie.ServerEvents.{RebuildSeen, ServerSeen, all_but_shelves}
 use Rattle.node_logs.proofs.node_log_tie.Going.{run_later, runs_on}
 use Rattle.node_logs.proofs.node_log_tie.Lists.{if_some}

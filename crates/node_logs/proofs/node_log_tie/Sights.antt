@@ -8,7 +8,8 @@ use Rattle.log_tie.specs.Setting.{Setting}
 use Rattle.log_law.specs.Net.{Net}
 use Rattle.wire_msg.specs.declared.registry.Welcome.{Welcome}
 use Rattle.node_logs.specs.node_log_tie.Sight.Question.{Unasked, OfMaps, OfOpening}
-use Rattle.node_logs.specs.node_log_tie.Sight.{Asker, Question, AskedBy, AnsweredBy, ReachedBy, BodySeen, Later}
+use Rattle.node_logs.specs.node_log_tie.Sight.{Asker, Question, AskedBy, AnsweredBy, ReachedBy, BodySeen}
+use Rattle.node_logs.proofs.node_log_tie.Sight.{Later}
 
 pub at_once : (n : Net) → Later n n
 at_once n = record { low = omega arith; sent = λ p fact. fact; reached = λ v. omega arith }

@@ -2,9 +2,6 @@
 use Rattle.std.specs.Prelude.{ℕ, List, Option, IfSome, length}
 use Rattle.std.specs.List.{AllByRecursion}
 use Rattle.xfs_base.specs.declared.block.BlockId.{BlockId}
-use Rattle.segment_format.specs.declared.segment.Item.{Item}
-use Rattle.segment_format.specs.declared.segment.Item.TheVariants.{Block}
-use Rattle.segment_format.specs.declared.segment.Segment.{Segment}
 use Rattle.segment_format.specs.Format.{second_version, IsLength}
 use Rattle.segment_format.specs.Ranges.{FitsBlock, FitsRow}
 use Rattle.segment_reading.specs.Reading.{ReadingState}
@@ -51,14 +48,6 @@ pub record BlockFits (b : BlockId) (value : Option (List ℕ)) : Type 0 where
   pub block : FitsBlock b
   pub length : IfSome value (λ bytes. IsLength second_version (length bytes))
   pub bytes : IfSome value IsBytes
-
-abbrev pub ItemFits : Item → Type 0
-ItemFits (Block block value) = BlockFits block value
-ItemFits _ = Unit {0}
-
--- each Block of a segment fits
-abbrev pub SegmentFits : Segment → Type 0
-SegmentFits s = AllByRecursion ItemFits s.items
 
 -- a block that is asked for has a value that fits; one that is to be moved can be put so
 abbrev pub FateFits : BlockId → Fate → Type 0

@@ -1,5 +1,5 @@
 -- That what a client's log writes can be spelled: a premise on what it holds and puts, by the limits of the format.
-use Rattle.std.specs.Prelude.{◌≡◌, ◌<◌, ◌^◌, ℕ, true, List, [], length, Option, IfSome}
+use Rattle.std.specs.Prelude.{◌≡◌, ◌<◌, ◌^◌, ℕ, List, [], length, Option, IfSome}
 use Rattle.std.specs.List.{AllByRecursion}
 use Rattle.xfs_base.specs.declared.block.BlockId.{BlockId}
 use Rattle.xfs_base.specs.declared.entry.Entry.{Entry}
@@ -11,14 +11,9 @@ use Rattle.group_map.specs.GroupMapState.{GroupMapState}
 use Rattle.stripe_code.specs.Stripe.{IsBytes}
 use Rattle.log_flight.specs.Flights.{group_for}
 use Rattle.client_log.specs.declared.input.In.{In as Input}
-use Rattle.client_log.specs.declared.input.In.TheVariants.{Put, Parts, Seal, Acked, Maps, Tick}
+use Rattle.client_log.specs.declared.input.In.TheVariants.{Put, Parts, Maps}
 use Rattle.client_log.specs.History.{state_after}
 use Rattle.client_log.specs.LogState.{LogState, started}
-use Rattle.client_log.specs.Transition.{has_next}
-use Rattle.log_scan.specs.Transition as scan
-use Rattle.log_tie.specs.Setting.{Setting}
-use Rattle.log_law.specs.Net.{Net, Told, chain_in}
-use Rattle.log_law.specs.ReadBack.{ReadsDown}
 use Rattle.log_law.specs.Events.{IsWritten}
 pub use Rattle.log_law.specs.Openings.{EndFits}
 
@@ -43,16 +38,6 @@ InputFits _ = Unit {0}
 -- Whatever fits and a log takes from now on, oldest first: what is in flight then has a text.
 abbrev pub StaysWritten : LogState → Type 0
 StaysWritten s = (later : List Input) → AllByRecursion InputFits later → IfSome (state_after s later).flight (λ f. IsWritten f.segment)
-
--- ---- an opening
-
--- the log that starts behind the chain that a scan tells has a number for its next segment, and stays written
-abbrev pub StartFits : Setting → ℕ → scan.Done → Told → Type 0
-StartFits g inc d t = (has_next t.end.seq ≡ true) × IfSome d.state.opening.groups (λ m. StaysWritten (started g.log inc t.end m))
-
--- and the chain goes down to the horizon that was taken last
-abbrev pub ChainFits : Setting → Net → scan.Done → Type 0
-ChainFits g n d = IfSome (chain_in d.outs) (λ t. StartFits g n.inc d t × ReadsDown n d.state.opening.low t)
 
 -- ---- what stays written
 

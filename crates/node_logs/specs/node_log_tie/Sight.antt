@@ -3,7 +3,7 @@
 use Rattle.std.specs.Prelude.{◌≡◌, ◌≤◌, ℕ, ◌==◌, true, filter, List, All}
 use Rattle.xfs_base.specs.declared.fragment.FragMeta.{FragMeta}
 use Rattle.xfs_base.specs.declared.node.NodeId.{NodeId}
-use Rattle.xfs_base.specs.declared.node.NodeId.TheVariants.{Client, Manager, Server, Cleaner, Registry}
+use Rattle.xfs_base.specs.declared.node.NodeId.TheVariants.{Server}
 use Rattle.xfs_base.specs.declared.segment.SegName.{SegName}
 use Rattle.wire_msg.specs.declared.body.Body.{Body}
 use Rattle.wire_msg.specs.declared.body.Body.TheVariants as body
@@ -18,8 +18,6 @@ use Rattle.wire_msg.specs.declared.storage.Found.{Found}
 use Rattle.wire_msg.specs.declared.storage.Listed.{Listed}
 use Rattle.wire_msg.specs.declared.storage.Store.{Store}
 use Rattle.wire_msg.specs.declared.storage.Stored.{Stored}
-use Rattle.node_base.specs.declared.effects.Effect.{Effect}
-use Rattle.node_base.specs.declared.effects.Effect.TheVariants.{Send, Answer, Lose, Does}
 use Rattle.log_scan.specs.Transition.{least_horizon}
 use Rattle.log_protocol.specs.Tables.{In}
 use Rattle.log_tie.specs.Setting.{Setting}
@@ -119,16 +117,5 @@ module _ (g : Setting) (owner : Asker) (n : Net) where
   abbrev pub PacketSeen : packets.Packet → Type 0
   PacketSeen p = BodySeen p.from p.to p.body
 
-  -- what an event has a node do: each packet of it
-  abbrev pub EffectSeen : NodeId → Effect → Type 0
-  EffectSeen from (Send to said) = BodySeen from to said
-  EffectSeen from _ = Unit {0}
-
   abbrev pub AllSeen : List packets.Packet → Type 0
   AllSeen sent = All PacketSeen sent
-
--- The small world went on: what was sent stays sent, and no generation and no horizon fell.
-pub record Later (n next : Net) : Type 0 where
-  pub low : n.low ≤ next.low
-  pub sent : (p : Packet) → In p n.sent → In p next.sent
-  pub reached : (v : ℕ) → (n.shelves v).generation ≤ (next.shelves v).generation

@@ -47,10 +47,11 @@ use Rattle.xfs_base.specs.declared.segment.SegName.{SegName}
 use Rattle.xfs_base.specs.Segments.{pass_cmp}
 use Rattle.xfs_base.specs.Steps.{still}
 use Rattle.node_moves.proofs.server_moves.Events.{server_events_are_moves}
-use Rattle.node_moves.specs.server_moves.Moves.{Came, Given, IsServers, Move, Moves, Sent}
+use Rattle.node_moves.specs.server_moves.Moves.{Came, Given, IsServers, Move, Moves}
+use Rattle.node_moves.proofs.server_moves.Moves.{Sent}
 use Rattle.node_moves.specs.server_moves.Moves.Move.{AnswersItem, BeginsRebuild, CutsRebuild, Deletes, Fences, Fetches, Greets, Lists, Loses, Notes, Rebuilds, Stores, TakesMaps}
 use Rattle.node_moves.specs.server_moves.Moves.Moves.{Last, Rests, Then}
-use Rattle.node_moves.specs.server_moves.Moves.Sent.{Deleted, Fenced, FragmentAsked, Greeted, Held, ListAsked, ListSent, Missed, Stored}
+use Rattle.node_moves.proofs.server_moves.Moves.Sent.{Deleted, Fenced, FragmentAsked, Greeted, Held, ListAsked, ListSent, Missed, Stored}
 
 -- a fact of a server: of its shelf, of its rebuild, and of what its items ask for
 pub record Holds (S : ShelfState → Type 0) (R : RebuildState → Type 0) (W : List Work → Type 0) (node : Node) : Type 0 where

@@ -1,7 +1,7 @@
 -- The moves of a storage server: what it does in an event, one thing at a time, and what for.
 use Rattle.std.specs.Prelude.{◌≡◌, ℕ, true, [], ◌∷◌, Option, Some, None}
-use Rattle.fragment_store.specs.Calls.{barred, on_fence as fenced_at, on_list as listed_on, on_lose as lost}
-use Rattle.fragment_store.specs.ShelfState.{ShelfState, held_at}
+use Rattle.fragment_store.specs.Calls.{barred, on_lose as lost}
+use Rattle.fragment_store.specs.ShelfState.{ShelfState}
 use Rattle.group_map.specs.GroupMapState.{GroupMapState}
 use Rattle.group_rebuild.specs.declared.input.In.{In}
 use Rattle.group_rebuild.specs.declared.input.In.TheVariants as input
@@ -14,7 +14,7 @@ use Rattle.node_base.specs.Maps.{taken}
 use Rattle.node_base.specs.Room.{has_room}
 use Rattle.store_nodes.specs.declared.server.Server.{Server as Node}
 use Rattle.store_nodes.specs.Rebuilds.{Done, rebuilds}
-use Rattle.store_nodes.specs.ServerEvents.{hello_of, of_log, on_delete, on_fence, on_fetch, on_list, on_store, takes, tells}
+use Rattle.store_nodes.specs.ServerEvents.{hello_of, on_delete, on_fence, on_fetch, on_list, on_store, takes, tells}
 use Rattle.version_model.specs.declared.answer.Answer.{Answer}
 use Rattle.version_model.specs.declared.answer.Answer.TheVariants as answers
 use Rattle.version_model.specs.declared.work.Work.TheVariants as work
@@ -32,10 +32,6 @@ use Rattle.wire_msg.specs.declared.storage.ListAsk.{ListAsk}
 use Rattle.wire_msg.specs.declared.storage.Listed.{Listed}
 use Rattle.wire_msg.specs.declared.storage.Missing.{Missing}
 use Rattle.wire_msg.specs.declared.storage.Store.{Store}
-use Rattle.xfs_base.specs.declared.fragment.Fragment.{Fragment}
-use Rattle.xfs_base.specs.declared.node.NodeId.{NodeId}
-use Rattle.xfs_base.specs.declared.node.NodeId.TheVariants.{Server, Registry}
-use Rattle.xfs_base.specs.declared.segment.SegName.{SegName}
 use Rattle.xfs_base.specs.Steps.{still, saying}
 
 -- the maps that a packet brings
@@ -64,35 +60,6 @@ pub data Given (what : Do) (shelf : ShelfState) : In → Type 0 where
       → Given what shelf (input.Missing own server m.generation)
   MapsCame : (packet : Packet) (news : News) → Brought what packet news → Given what shelf (input.Maps news.groups)
   TimePassed : Given what shelf input.Tick
-
--- ---- because of what a body is sent
-
--- by a server with this shelf; to what asks for it, as the shelf was before the event
-pub data Sent (first : ShelfState) (what : Do) : ShelfState → NodeId → Body → Type 0 where
-  Stored : (packet : Packet) (m : Store) → Came what packet (body.Store m)
-      → Sent first what first packet.from
-      (body.Stored (record { name = m.fragment.meta.name; index = m.fragment.meta.index; generation = m.generation }))
-  Held : (packet : Packet) (m : Fetch) (fragment : Fragment) → Came what packet (body.Fetch m) → held_at first.held m.name ≡ Some fragment
-      → Sent first what first packet.from (body.Fragment (record { ask = m.ask; generation = first.generation; fragment = fragment }))
-  Missed : (packet : Packet) (m : Fetch) → Came what packet (body.Fetch m) → held_at first.held m.name ≡ None
-      → Sent first what first packet.from (body.Missing (record { name = m.name; ask = m.ask; generation = first.generation }))
-  Fenced : (packet : Packet) (m : Fence) → Came what packet (body.Fence m)
-      → Sent first what first packet.from
-      (body.Fenced
-      (record {
-        log = m.log;
-        pass = m.pass;
-        generation = (fenced_at first m.log m.pass).generation;
-        held = of_log m.log (listed_on (fenced_at first m.log m.pass));
-      }))
-  ListSent : (packet : Packet) (m : ListAsk) → Came what packet (body.List m)
-      → Sent first what first packet.from (body.Listed (record { ask = m.ask; generation = first.generation; held = listed_on first }))
-  Deleted : (packet : Packet) (m : Delete) → Came what packet (body.Delete m)
-      → Sent first what first packet.from (body.Deleted (record { name = m.name; generation = first.generation }))
-  ListAsked : {shelf : ShelfState} (server ask : ℕ) → Sent first what shelf (Server server) (body.List (record { ask = ask }))
-  FragmentAsked : {shelf : ShelfState} (server : ℕ) (name : SegName) (ask : ℕ)
-      → Sent first what shelf (Server server) (body.Fetch (record { name = name; ask = ask }))
-  Greeted : {shelf : ShelfState} (ask : ℕ) → Sent first what shelf Registry (body.Hello (record { inc = shelf.generation; ask = ask }))
 
 -- ---- what a server answers
 

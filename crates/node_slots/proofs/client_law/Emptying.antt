@@ -23,7 +23,8 @@ use Rattle.log_owner.specs.declared.opening.Scanning.{Scanning}
 use Rattle.log_owner.specs.declared.opening.Settling.{Settling}
 use Rattle.log_owner.specs.declared.opening.Stage.{Stage}
 use Rattle.log_owner.specs.declared.opening.Stage.TheVariants as stage
-use Rattle.node_slots.specs.client_law.Empty.{OpensEmpty, WaitsForNothing}
+use Rattle.node_slots.specs.client_law.Empty.{WaitsForNothing}
+use Rattle.node_slots.proofs.client_law.Empty.{OpensEmpty}
 use Rattle.log_owner.specs.Opening.{Moved, Went, answers, at_scan, behind, by_server, drops, fenced_by, follows, found_by, is_fenced, is_meant, missing_by, on_body, on_fenced, on_found, on_missing, on_news, on_packet, on_stored, on_tick, on_welcome, opens, own_in, regrouped, scanned, scans, scans_at, scans_on, settles_over, starts_log, stays, welcomed, welcomed_as, welcomed_with, went, writes, written, wrote_one}
 use Rattle.log_owner.specs.Sending.{hello, server_in}
 use Rattle.log_scan.specs.declared.input.In.{In}

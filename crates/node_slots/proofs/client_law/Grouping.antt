@@ -42,7 +42,8 @@ use Rattle.xfs_base.specs.declared.segment.End.{End}
 use Rattle.xfs_base.specs.declared.segment.SegName.{SegName}
 use Rattle.xfs_base.specs.Steps.{still}
 use Rattle.node_slots.specs.client_law.Maps.{BringsMaps}
-use Rattle.node_slots.specs.client_law.Grouped.{HasSuchMaps, KnowsSuch, OpensBySuch, StripesBySuch}
+use Rattle.node_slots.specs.client_law.Grouped.{HasSuchMaps, KnowsSuch, StripesBySuch}
+use Rattle.node_slots.proofs.client_law.Grouped.{OpensBySuch}
 
 -- ---- the log keeps its groups
 

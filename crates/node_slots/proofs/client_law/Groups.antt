@@ -23,7 +23,8 @@ use Rattle.group_map.proofs.Presence.{is_present}
 use Rattle.log_flight.specs.declared.dirty.Change.{Change}
 use Rattle.log_owner.specs.declared.opened.Progress.{Progress}
 use Rattle.log_owner.specs.declared.opened.Progress.TheVariants as progress
-use Rattle.node_slots.specs.client_law.Grouped.{HasSuchMaps, OpensBySuch}
+use Rattle.node_slots.specs.client_law.Grouped.{HasSuchMaps}
+use Rattle.node_slots.proofs.client_law.Grouped.{OpensBySuch}
 use Rattle.log_owner.specs.Opening as opening
 use Rattle.log_owner.specs.Sealing.{is_settling}
 use Rattle.node_slots.proofs.client_law.Grouping.{Has, acked_has, if_full_groups, mapped_has, packet_groups, sealed_groups, tick_groups, ticked_has}

@@ -14,7 +14,8 @@ use Rattle.log_flight.specs.declared.dirty.Change.{Change}
 use Rattle.log_owner.specs.declared.opened.Progress.{Progress}
 use Rattle.log_owner.specs.declared.opened.Progress.TheVariants as progress
 use Rattle.log_owner.specs.declared.opening.Opening as openings
-use Rattle.node_slots.specs.client_law.Empty.{OpensEmpty, WaitsForNothing}
+use Rattle.node_slots.specs.client_law.Empty.{WaitsForNothing}
+use Rattle.node_slots.proofs.client_law.Empty.{OpensEmpty}
 use Rattle.log_owner.specs.Opening as opening
 use Rattle.node_base.specs.declared.questions.Questions.{Questions}
 use Rattle.node_base.specs.Room.{has_room}

@@ -50,7 +50,7 @@ use Rattle.xfs_base.specs.declared.segment.End.{End}
 use Rattle.xfs_base.specs.Steps.{saying, still, steps}
 use Rattle.xfs_base.proofs.Alls.{all_append, all_map, all_weaker}
 use Rattle.node_slots.specs.node_tie.Sight.{CleanerSends}
-use Rattle.node_slots.specs.node_tie.StoreEvents.{Says, AllSay}
+use Rattle.node_slots.proofs.node_tie.StoreEvents.{AllSay, Says}
 use Rattle.node_slots.specs.node_tie.CleanerEvents.{Bounded}
 use Rattle.node_slots.proofs.node_tie.CleanerJob.{JobDoes, JobSends, job_from, job_steps, job_still, job_then, job_goes_on, list_came, usage_came, live_came, dead_came, deleted_came, told_came}
 use Rattle.node_slots.proofs.node_tie.ClientOpening.{promise_here, promise_keeps}

@@ -51,7 +51,7 @@ use Rattle.xfs_base.proofs.Alls.{all_append, all_weaker}
 use Rattle.node_slots.specs.node_tie.CleanerEvents.{Bounded, CleanerDoes, CleanerGets, CleanerGoes, CleanerOwed, CleanerStands, CleanerStarts, CleanerTakes, OpensLater, OpensSo, ServesSo}
 use Rattle.node_slots.specs.node_tie.ClientEvents.{AwaitsFirst}
 use Rattle.node_slots.specs.node_tie.Sight.{CleanerSends}
-use Rattle.node_slots.specs.node_tie.StoreEvents.{AllSay, Says}
+use Rattle.node_slots.proofs.node_tie.StoreEvents.{AllSay, Says}
 use Rattle.node_slots.proofs.node_tie.CleanerEmptying as emptying
 use Rattle.node_slots.proofs.node_tie.CleanerTurns.{cleaner_runs}
 use Rattle.node_slots.proofs.node_tie.ClientOpening as client_opening

@@ -41,7 +41,7 @@ use Rattle.xfs_base.specs.declared.segment.SegRef.{SegRef}
 use Rattle.xfs_base.specs.Steps.{saying, still, steps}
 use Rattle.xfs_base.proofs.Alls.{all_append, all_flat_map, all_map}
 use Rattle.node_slots.specs.node_tie.Sight.{CleanerSends}
-use Rattle.node_slots.specs.node_tie.StoreEvents.{Says, AllSay}
+use Rattle.node_slots.proofs.node_tie.StoreEvents.{AllSay, Says}
 use Rattle.node_slots.proofs.node_tie.StoreFrames.{answers_say}
 
 -- what the job sends: a Hello in this incarnation at most

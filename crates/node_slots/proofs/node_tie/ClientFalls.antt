@@ -21,7 +21,7 @@ use Rattle.version_model.specs.declared.act.Fall.{Fall}
 use Rattle.xfs_base.proofs.Booleans.{by_test}
 use Rattle.xfs_base.specs.declared.block.BlockId.{BlockId}
 use Rattle.node_slots.specs.node_tie.ClientEvents.{ClientActs, ClientDid}
-use Rattle.node_slots.specs.node_tie.Sight.{ClientDoes, IsNoFall}
+use Rattle.node_slots.proofs.node_tie.Sight.{ClientDoes, IsNoFall}
 
 module _ (part c : ℕ) (n : Net) (sent : List Packet) (life : ℕ) (q : Phase) where
   no_fall_acts : (a : Act) → IsNoFall a → ClientActs part c n sent life q a

@@ -31,7 +31,8 @@ use Rattle.xfs_base.specs.Limits.{u32_end, slot_count}
 use Rattle.xfs_base.specs.Steps.{still, saying, steps}
 use Rattle.node_slots.specs.node_tie.ClientLogs.{AreVersions, NothingBeyond, IsUnsettled}
 use Rattle.node_slots.specs.node_tie.LogRows.{LogSeen, rows_flown, rows_waiting}
-use Rattle.node_slots.specs.node_tie.Sight.{SameLog, IsNoFall, ClientDoes, ClientSends, SupplySeen}
+use Rattle.node_slots.specs.node_tie.Sight.{SameLog, ClientSends, SupplySeen}
+use Rattle.node_slots.proofs.node_tie.Sight.{ClientDoes, IsNoFall}
 use Rattle.node_slots.proofs.node_tie.ClientBearing.{Bears, IsValued}
 use Rattle.node_slots.proofs.node_tie.ClientBooks.{Onward, onward_on, onward_still, same_log, same_log_on}
 use Rattle.node_slots.proofs.node_tie.SmallWorld.{neutral_acts, premise, premise_both, premise_by, runs_through, says_all}

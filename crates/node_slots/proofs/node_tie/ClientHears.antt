@@ -46,7 +46,8 @@ use Rattle.xfs_base.specs.declared.token.Stamp.{Stamp}
 use Rattle.xfs_base.specs.Stamps.{is_later}
 use Rattle.xfs_base.specs.Steps.{still}
 use Rattle.node_slots.specs.node_tie.ClientLogs.{BringsRead, Tells}
-use Rattle.node_slots.specs.node_tie.Sight.{ClientDoes, SentOf}
+use Rattle.node_slots.specs.node_tie.Sight.{SentOf}
+use Rattle.node_slots.proofs.node_tie.Sight.{ClientDoes}
 use Rattle.node_slots.proofs.node_tie.ClientBooks.{same_log}
 use Rattle.node_slots.proofs.node_tie.ClientFlights as flights
 use Rattle.node_slots.proofs.node_tie.ClientFrames as frames

@@ -52,7 +52,8 @@ use Rattle.xfs_base.specs.Limits.{slot_count}
 use Rattle.node_slots.specs.node_tie.ClientEvents.{AwaitsFirst, Raises, SeesOpening, ClientStands, GetsBody, ClientGets, EndsInTime, ClientGoes}
 use Rattle.node_slots.specs.node_tie.CleanerEvents.{Bounded}
 use Rattle.node_slots.specs.node_tie.ClientLogs.{EndsSo, LogAgrees, NothingBeyond, ReopensSo}
-use Rattle.node_slots.specs.node_tie.Sight.{SameLog, ClientDoes}
+use Rattle.node_slots.specs.node_tie.Sight.{SameLog}
+use Rattle.node_slots.proofs.node_tie.Sight.{ClientDoes}
 use Rattle.node_slots.proofs.node_tie.ClientBooks.{put_here, put_there, same_log_on}
 use Rattle.node_slots.proofs.node_tie.ClientFalls.{all_did}
 use Rattle.node_slots.proofs.node_tie.ClientFrames as frames

@@ -49,7 +49,8 @@ use Rattle.xfs_base.specs.Steps.{Stepped, still, steps}
 use Rattle.xfs_base.specs.Limits.{u32_end, slot_count}
 use Rattle.node_slots.specs.node_tie.Asks.{needed, AsksForCall}
 use Rattle.node_slots.specs.node_tie.ClientEvents.{NewsWithin}
-use Rattle.node_slots.specs.node_tie.Sight.{ClientDoes, PollSeen}
+use Rattle.node_slots.specs.node_tie.Sight.{PollSeen}
+use Rattle.node_slots.proofs.node_tie.Sight.{ClientDoes}
 use Rattle.node_slots.proofs.node_tie.ClientBearing.{bears_steps, ask-bears, no_fact}
 use Rattle.node_slots.proofs.node_tie.ClientBooks.{same_log}
 use Rattle.node_slots.proofs.node_tie.ClientFrames as frames

@@ -42,7 +42,7 @@ use Rattle.node_slots.specs.node_tie.Asks.{AsksForCall}
 use Rattle.node_slots.specs.node_tie.ClientEvents.{SeesServing, ClientStands, GetsBody, ServingReads, ClientGets, ClientGoes}
 use Rattle.node_slots.specs.node_tie.ClientLogs.{FiledStay, LogAgrees, end_upto}
 use Rattle.node_slots.specs.node_tie.LogRows.{rows_flown, rows_waiting}
-use Rattle.node_slots.specs.node_tie.Sight.{ClientDoes}
+use Rattle.node_slots.proofs.node_tie.Sight.{ClientDoes}
 use Rattle.node_slots.proofs.node_tie.ClientBlocks as blocks
 use Rattle.node_slots.proofs.node_tie.ClientBooks.{Onward}
 use Rattle.node_slots.proofs.node_tie.ClientFalls.{all_did}

@@ -54,7 +54,7 @@ use Rattle.xfs_base.specs.declared.token.Mode.TheVariants.{Copy}
 use Rattle.xfs_base.specs.declared.token.Stamp.{Stamp}
 use Rattle.xfs_base.specs.Modes.{same_mode, is_nothing}
 use Rattle.xfs_base.specs.Steps.{still, steps}
-use Rattle.node_slots.specs.node_tie.Sight.{ClientDoes}
+use Rattle.node_slots.proofs.node_tie.Sight.{ClientDoes}
 use Rattle.node_slots.proofs.node_tie.ClientBearing.{Allowed}
 use Rattle.node_slots.proofs.node_tie.ClientFrames as frames
 use Rattle.node_slots.proofs.node_tie.ClientSeals.{on_seal_passes}

@@ -25,7 +25,7 @@ use Rattle.xfs_base.specs.declared.node.NodeId.TheVariants.{Client, Manager, Ser
 use Rattle.xfs_base.specs.declared.segment.SegName.{SegName}
 use Rattle.xfs_base.proofs.Alls.{all_weaker}
 use Rattle.node_slots.specs.node_tie.CleanerEvents.{CleanerDoes}
-use Rattle.node_slots.specs.node_tie.Sight.{ClientDoes}
+use Rattle.node_slots.proofs.node_tie.Sight.{ClientDoes}
 
 -- what an opening of this owner may do has the property
 pub record OpeningMay (owner : Owner) (D : Effect → Type 0) : Type 0 where

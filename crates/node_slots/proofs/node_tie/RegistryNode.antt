@@ -27,7 +27,8 @@ use Rattle.node_moves.proofs.registry_moves.Keeping.{Keeps, event_keeps}
 use Rattle.node_moves.specs.registry_moves.Moves.{Said}
 use Rattle.node_moves.specs.registry_moves.Moves.Said.{TellsMaps, Welcomes}
 use Rattle.node_moves.specs.server_moves.Moves.{Came}
-use Rattle.node_slots.specs.node_tie.RegistryEvents.{manager_in, inc_in, RegistrySound, HearsHello, RegistrySends, RegistryDoes, BoardGoes, RegistryGoes, RegistryBegins}
+use Rattle.node_slots.specs.node_tie.RegistryEvents.{manager_in, inc_in, RegistrySound, HearsHello, RegistrySends, BoardGoes, RegistryGoes, RegistryBegins}
+use Rattle.node_slots.proofs.node_tie.RegistryEvents.{RegistryDoes}
 use Rattle.node_slots.proofs.node_tie.RegistryBoard.{goes_still, goes_with, goes_manager, manager_heard, goes_reassigned}
 use Rattle.node_slots.proofs.node_tie.RegistryNews.{news_are}
 use Rattle.node_slots.proofs.node_tie.StoreFrames.{all_neutral, packets_do, packets_from}

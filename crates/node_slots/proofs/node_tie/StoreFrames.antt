@@ -16,7 +16,8 @@ use Rattle.xfs_base.specs.declared.node.NodeId.{NodeId}
 use Rattle.xfs_base.specs.declared.segment.SegName.{SegName}
 use Rattle.xfs_base.specs.Steps.{Stepped, steps}
 use Rattle.xfs_base.proofs.Alls.{all_append, all_map}
-use Rattle.node_slots.specs.node_tie.StoreEvents.{AllNeutral, Says, AllSay, PacketsSay}
+use Rattle.node_slots.specs.node_tie.StoreEvents.{AllNeutral, PacketsSay}
+use Rattle.node_slots.proofs.node_tie.StoreEvents.{AllSay, Says}
 
 -- ---- lists
 

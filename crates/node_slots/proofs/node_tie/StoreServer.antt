@@ -12,11 +12,12 @@ use Rattle.xfs_base.proofs.Alls.{all_weaker}
 use Rattle.xfs_base.specs.declared.node.NodeId.{NodeId}
 use Rattle.xfs_base.specs.declared.node.NodeId.TheVariants.{Server}
 use Rattle.node_moves.proofs.server_moves.Keeping as moves
-use Rattle.node_moves.specs.server_moves.Moves.{Sent}
-use Rattle.node_moves.specs.server_moves.Moves.Sent.{Greeted}
+use Rattle.node_moves.proofs.server_moves.Moves.{Sent}
+use Rattle.node_moves.proofs.server_moves.Moves.Sent.{Greeted}
 use Rattle.node_slots.proofs.node_tie.StoreFrames.{all_neutral, packets_from, packets_say}
 use Rattle.node_slots.specs.node_tie.Sight.{ServerSends}
-use Rattle.node_slots.specs.node_tie.StoreEvents.{AllNeutral, AllSay, PacketsSay, Says}
+use Rattle.node_slots.specs.node_tie.StoreEvents.{AllNeutral, PacketsSay}
+use Rattle.node_slots.proofs.node_tie.StoreEvents.{AllSay, Says}
 
 abbrev SendsSo : NodeId → Body → Type 0
 SendsSo to said = ServerSends said

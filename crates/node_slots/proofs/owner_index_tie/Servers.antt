@@ -10,8 +10,8 @@ use Rattle.wire_msg.specs.declared.packet.Do.{Do}
 use Rattle.xfs_base.proofs.Alls.{all_weaker}
 use Rattle.xfs_base.specs.declared.node.NodeId.{NodeId}
 use Rattle.node_moves.proofs.server_moves.Keeping.{Says, event_says}
-use Rattle.node_moves.specs.server_moves.Moves.{Sent}
-use Rattle.node_moves.specs.server_moves.Moves.Sent.{Greeted}
+use Rattle.node_moves.proofs.server_moves.Moves.{Sent}
+use Rattle.node_moves.proofs.server_moves.Moves.Sent.{Greeted}
 use Rattle.node_slots.specs.owner_index_tie.ServerEvents.{DoesNothing, SaysNothing, ServerEventGoes}
 
 abbrev SendsNothing : NodeId → Body → Type 0

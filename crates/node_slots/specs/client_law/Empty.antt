@@ -1,7 +1,5 @@
 -- The log of an opening: its first segment has no item, and nothing waits behind it.
-use Rattle.std.specs.Prelude.{◌≡◌, [], None}
-use Rattle.log_owner.specs.declared.opened.Progress.{Progress}
-use Rattle.log_owner.specs.declared.opened.Progress.TheVariants as progress
+use Rattle.std.specs.Prelude.{◌≡◌, []}
 use Rattle.log_owner.specs.declared.opening.Stage.{Stage}
 use Rattle.log_owner.specs.declared.opening.Stage.TheVariants as stage
 
@@ -9,9 +7,3 @@ use Rattle.log_owner.specs.declared.opening.Stage.TheVariants as stage
 abbrev pub WaitsForNothing : Stage → Type 0
 WaitsForNothing (stage.Scanning s) = Unit {0}
 WaitsForNothing (stage.Settling s) = s.log.dirty ≡ []
-
--- nothing waits, and once the log is open nothing is in flight either
-abbrev pub OpensEmpty : Progress → Type 0
-OpensEmpty (progress.Opening o) = WaitsForNothing o.stage
-OpensEmpty (progress.Opened o) = (o.log.dirty ≡ []) × (o.log.flight ≡ None)
-OpensEmpty (progress.Lost seg) = Unit {0}

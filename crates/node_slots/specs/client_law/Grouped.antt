@@ -1,8 +1,6 @@
 -- The maps of groups that an opening has: the one that it knows, and the one over which its log stripes.
 use Rattle.group_map.specs.GroupMapState.{GroupMapState}
 use Rattle.std.specs.Prelude.{Option, Some, None}
-use Rattle.log_owner.specs.declared.opened.Progress.{Progress}
-use Rattle.log_owner.specs.declared.opened.Progress.TheVariants as progress
 use Rattle.log_owner.specs.declared.opening.Opening.{Opening}
 use Rattle.log_owner.specs.declared.opening.Stage.{Stage}
 use Rattle.log_owner.specs.declared.opening.Stage.TheVariants as stage
@@ -19,9 +17,3 @@ StripesBySuch Is (stage.Settling s) = Is s.log.groups
 pub record HasSuchMaps (Is : GroupMapState → Type 0) (o : Opening) : Type 0 where
   pub known : KnowsSuch Is o.known.maps.groups
   pub log : StripesBySuch Is o.stage
-
--- the maps stay so, and so is the one over which the log stripes that is open
-abbrev pub OpensBySuch : (GroupMapState → Type 0) → Progress → Type 0
-OpensBySuch Is (progress.Opening o) = HasSuchMaps Is o
-OpensBySuch Is (progress.Opened o) = Is o.log.groups
-OpensBySuch Is (progress.Lost seg) = Unit {0}

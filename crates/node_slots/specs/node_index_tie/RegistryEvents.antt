@@ -67,10 +67,6 @@ module _ (part : ℕ) (n : Net) where
     pub parts : news.parts ≡ n.parts n.epoch
     pub horizon_fits : IsHorizon news.horizon
 
--- the small world, but for the registry
-abbrev pub unkept : Net → Net
-unkept n = record n { epoch = 0; horizon = λ e. n.horizon 0; parts = λ e. n.parts 0 }
-
 -- An event of the registry is a list of things that happen in the small world: its epoch rises by one, or a checkpoint of it is kept. What is kept of an
 -- epoch at which there is no manager yet stays.
 pub record RegistryGoes (part : ℕ) (texts : Texts) (n : Net) (r : RegistryNode) (what : Do) : Type 0 where

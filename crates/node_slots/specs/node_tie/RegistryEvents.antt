@@ -1,8 +1,6 @@
 -- What an event makes of the registry, as one slot of the map sees it.
 use Rattle.std.specs.Prelude.{◌≡◌, ℕ, List, ◌+◌, ◌%◌, ◌<◌, ◌≤◌, ◌⊎◌, All, Some, length, map, slice_get}
 use Rattle.manager_map.specs.Slots.{start_entries, entry_at}
-use Rattle.node_base.specs.declared.effects.Effect.{Effect}
-use Rattle.node_base.specs.declared.effects.Effect.TheVariants.{Send, Answer, Lose, Does}
 use Rattle.registry.specs.Board.{inc_of}
 use Rattle.registry.specs.BoardState.{BoardState}
 use Rattle.registry.specs.Slots.{all_slots, entry_of}
@@ -84,12 +82,6 @@ module _ (part : ℕ) (what : Do) (b : BoardState) where
   RegistrySends to (body.Welcome m) = Welcomes part what b to m
   RegistrySends to (body.CkptAck m) = Unit {0}
   RegistrySends to _ = ⊥
-
-  abbrev pub RegistryDoes : Effect → Type 0
-  RegistryDoes (Send to said) = RegistrySends to said
-  RegistryDoes (Answer item answer) = Unit {0}
-  RegistryDoes (Lose seg) = Unit {0}
-  RegistryDoes (Does act) = IsNeutral act
 
 -- ---- all of it
 

@@ -8,8 +8,6 @@ use Rattle.token_law.specs.Net.{Packet}
 use Rattle.token_law.specs.Owed.{IsNeutral}
 use Rattle.token_law.specs.Net.Packet.{WantSent, GrantSent, RecallSent, GaveSent, ForwardSent, SupplySent, ReportSent}
 use Rattle.token_protocol.specs.Basics.{In}
-use Rattle.version_model.specs.declared.act.Act.{Act}
-use Rattle.version_model.specs.declared.act.Act.TheVariants as act
 use Rattle.wire_msg.specs.declared.body.Body.{Body}
 use Rattle.wire_msg.specs.declared.body.Body.TheVariants as body
 use Rattle.wire_msg.specs.declared.deltas.Poll.{Poll}
@@ -22,14 +20,7 @@ use Rattle.wire_msg.specs.declared.tokens.Supply.{Supply}
 use Rattle.wire_msg.specs.declared.tokens.Want.{Want}
 use Rattle.xfs_base.specs.declared.block.BlockId.{BlockId}
 use Rattle.xfs_base.specs.declared.node.NodeId.{NodeId}
-use Rattle.xfs_base.specs.declared.node.NodeId.TheVariants.{Client, Manager, Server, Cleaner, Registry}
-
--- ---- acts
-
--- an act that is no fall of a client
-abbrev pub IsNoFall : Act → Type 0
-IsNoFall (act.Fell client flight falls) = ⊥
-IsNoFall _ = Unit {0}
+use Rattle.xfs_base.specs.declared.node.NodeId.TheVariants.{Client}
 
 -- ---- what is said of a log
 
@@ -86,12 +77,6 @@ module _ (part : ℕ) (sent : List Packet) where
   ClientSends c life to (body.Fence m) = Unit {0}
   ClientSends c life to (body.Hello m) = m.inc ≤ life
   ClientSends c life to _ = ⊥
-
-  abbrev pub ClientDoes : ℕ → ℕ → Effect → Type 0
-  ClientDoes c life (Send to m) = ClientSends c life to m
-  ClientDoes c life (Answer item answer) = Unit {0}
-  ClientDoes c life (Lose seg) = Unit {0}
-  ClientDoes c life (Does a) = IsNoFall a
 
   -- a manager sends grants, forwards and recalls; polls up to this epoch of the slot; and what takeovers and checkpoints need; it says Hello in this
   -- incarnation at most

@@ -1,8 +1,5 @@
 -- What all packets of an event say, and that its acts change no history.
 use Rattle.std.specs.Prelude.{List, All}
-use Rattle.std.specs.List.{AllByRecursion}
-use Rattle.node_base.specs.declared.effects.Effect.{Effect}
-use Rattle.node_base.specs.declared.effects.Effect.TheVariants.{Send, Answer, Lose, Does}
 use Rattle.node_slots.specs.node_tie.Sight.{ServerSends}
 use Rattle.store_nodes.specs.declared.server.Server.{Server}
 use Rattle.store_nodes.specs.ServerEvents.{server_step}
@@ -11,17 +8,6 @@ use Rattle.version_model.specs.declared.act.Act.{Act}
 use Rattle.wire_msg.specs.declared.body.Body.{Body}
 use Rattle.wire_msg.specs.declared.packet.Do.{Do}
 use Rattle.wire_msg.specs.declared.packet.Packet.{Packet}
-
--- an effect that is a packet has such a body, and an act changes no history
-abbrev pub Says : (Body → Type 0) → Effect → Type 0
-Says P (Send to said) = P said
-Says P (Answer item answer) = Unit {0}
-Says P (Lose seg) = Unit {0}
-Says P (Does act) = IsNeutral act
-
--- and so has each of these
-abbrev pub AllSay : (Body → Type 0) → List Effect → Type 0
-AllSay P effects = AllByRecursion (Says P) effects
 
 -- all these packets have such bodies
 abbrev pub PacketsSay : (Body → Type 0) → List Packet → Type 0

@@ -32,7 +32,8 @@ use Rattle.xfs_base.specs.declared.news.SlotNews.{SlotNews}
 use Rattle.xfs_base.specs.declared.node.NodeId.{NodeId}
 use Rattle.xfs_base.specs.declared.segment.SegRef.{SegRef}
 use Rattle.node_tellings.specs.entry_tie.ManagerTells.{AnswerOwed, BodyOwed, DoOwed, FlightHolds, LogHolds, PacketOwed, PartTold, PhaseHolds, ReadTold, SlotHolds, SlotOwed, TakeOwed, WorkHolds}
-use Rattle.node_tellings.specs.entry_tie.Told.{AllowsNothing, BodyTold, DoTold, PacketTold, RowsTold, Told}
+use Rattle.node_tellings.specs.entry_tie.Told.{BodyTold, DoTold, PacketTold, RowsTold, Told}
+use Rattle.node_tellings.proofs.entry_tie.Told.{AllowsNothing}
 use Rattle.node_tellings.proofs.entry_tie.LogParts.{holds_heard, log_holds}
 use Rattle.node_tellings.proofs.entry_tie.Rows.{entry_told, joined_told, pages_told}
 use Rattle.node_tellings.proofs.entry_tie.Slots.{slot_goes, started_holds}

@@ -26,7 +26,8 @@ use Rattle.xfs_base.specs.declared.node.NodeId.TheVariants.{Manager as AManager}
 use Rattle.xfs_base.specs.declared.setup.Setup.{Setup}
 use Rattle.xfs_base.proofs.Alls.{all_weaker}
 use Rattle.node_tellings.specs.entry_tie.ManagerTells.{SlotHolds, WorkHolds, PartTold, FlightHolds, PhaseHolds, ManagerHolds, DoOwed, ManagerStartsTold, ManagerHoldsRise, ManagersTellTold}
-use Rattle.node_tellings.specs.entry_tie.Told.{Told, AllowsNothing, RowsTold, PacketTold, DoTold, told_by_rows, TellsTold}
+use Rattle.node_tellings.specs.entry_tie.Told.{Told, RowsTold, PacketTold, DoTold, told_by_rows, TellsTold}
+use Rattle.node_tellings.proofs.entry_tie.Told.{AllowsNothing}
 use Rattle.node_tellings.proofs.entry_tie.Rising.{told_more, rows_rise}
 use Rattle.node_tellings.proofs.entry_tie.ManagerWalk as walked
 use Rattle.node_moves.proofs.manager_walk.Events.{manager_goes, packets_so}

@@ -26,7 +26,8 @@ use Rattle.xfs_base.specs.declared.block.BlockId.{BlockId}
 use Rattle.xfs_base.specs.declared.entry.Entry.{Entry}
 use Rattle.xfs_base.proofs.Alls.{all_append, all_filter, all_map}
 use Rattle.node_tellings.specs.entry_tie.ManagerTells.{PartTold}
-use Rattle.node_tellings.specs.entry_tie.Told.{Told, AllowsNothing, RowTold, RowsTold}
+use Rattle.node_tellings.specs.entry_tie.Told.{Told, RowTold, RowsTold}
+use Rattle.node_tellings.proofs.entry_tie.Told.{AllowsNothing}
 
 module _ (told : Told) where
   abbrev Rows : Type 0

@@ -7,8 +7,8 @@ use Rattle.wire_msg.specs.declared.body.Body.{Body}
 use Rattle.wire_msg.specs.declared.packet.Do.{Do}
 use Rattle.xfs_base.specs.declared.node.NodeId.{NodeId}
 use Rattle.node_moves.proofs.server_moves.Keeping.{event_sends}
-use Rattle.node_moves.specs.server_moves.Moves.{Sent}
-use Rattle.node_moves.specs.server_moves.Moves.Sent.{Greeted}
+use Rattle.node_moves.proofs.server_moves.Moves.{Sent}
+use Rattle.node_moves.proofs.server_moves.Moves.Sent.{Greeted}
 use Rattle.node_tellings.specs.entry_tie.OtherTells.{ServersTellNone}
 use Rattle.node_tellings.specs.entry_tie.Told.{BodyTold, PacketTold, Told, told_by_rows}
 

@@ -10,7 +10,8 @@ use Rattle.xfs_base.specs.declared.entry.Entry.{Entry}
 use Rattle.xfs_base.specs.declared.token.Mode.{Mode}
 use Rattle.xfs_base.proofs.Leaving.{Leaves}
 use Rattle.node_moves.proofs.manager_walk.Grants.{GrantLaw, InputSo, OutSo, StateSo, slot_so}
-use Rattle.node_tellings.specs.entry_tie.Told.{Told, AllowsNothing, RowsTold}
+use Rattle.node_tellings.specs.entry_tie.Told.{Told, RowsTold}
+use Rattle.node_tellings.proofs.entry_tie.Told.{AllowsNothing}
 use Rattle.node_tellings.proofs.entry_tie.Rows.{entry_told, indexed_told}
 
 module _ (told : Told) (nothing : AllowsNothing told) where

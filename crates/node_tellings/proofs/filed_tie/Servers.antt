@@ -6,8 +6,8 @@ use Rattle.wire_msg.specs.declared.packet.Do.{Do}
 use Rattle.xfs_base.specs.declared.node.NodeId.{NodeId}
 use Rattle.xfs_base.specs.declared.node.NodeId.TheVariants.{Server}
 use Rattle.node_moves.proofs.server_moves.Keeping.{event_sends}
-use Rattle.node_moves.specs.server_moves.Moves.{Sent}
-use Rattle.node_moves.specs.server_moves.Moves.Sent.{Greeted}
+use Rattle.node_moves.proofs.server_moves.Moves.{Sent}
+use Rattle.node_moves.proofs.server_moves.Moves.Sent.{Greeted}
 use Rattle.node_tellings.proofs.filed_tie.Rising.{do_rises}
 use Rattle.node_tellings.specs.filed_tie.Reach.{BodyTells, PacketTells, Reach}
 use Rattle.node_tellings.specs.filed_tie.ServerReach.{ServersTellFiled, ServersTellNoMore}

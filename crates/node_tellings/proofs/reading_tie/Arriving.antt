@@ -14,8 +14,10 @@ use Rattle.wire_msg.specs.declared.packet.Packet.{Packet}
 use Rattle.wire_msg.specs.declared.registry.News.{News}
 use Rattle.xfs_base.proofs.Booleans.{by_test}
 use Rattle.xfs_base.specs.declared.node.NodeId.{NodeId}
-use Rattle.node_tellings.specs.reading_tie.Arrivals.{AnswerBrought, BodyBrought, DoBrought, Tells, answered_in, Cuts, cut_by, BodyMaps, DoSent}
-use Rattle.node_tellings.specs.reading_tie.Came.{Striped, CameMore, MapStriped, MapsStriped}
+use Rattle.node_tellings.specs.reading_tie.Arrivals.{Tells, answered_in, Cuts, cut_by, BodyMaps, DoSent}
+use Rattle.node_tellings.proofs.reading_tie.Arrivals.{AnswerBrought, BodyBrought, DoBrought}
+use Rattle.node_tellings.specs.reading_tie.Came.{Striped, MapStriped, MapsStriped}
+use Rattle.node_tellings.proofs.reading_tie.Came.{CameMore}
 
 -- maps that are taken, where they are newer
 pub taken_so : (striped : Striped) (maps : Maps) (news : News) → MapsStriped striped maps.groups → MapStriped striped news.groups

@@ -46,8 +46,10 @@ use Rattle.node_moves.specs.cleaner_moves.Moves.{OpenedBy, Tells, came_to, noted
 use Rattle.node_moves.specs.cleaner_moves.Moves.OpenedBy.{PacketCame, TimeWent}
 use Rattle.node_moves.specs.cleaner_moves.Moves.Tells.{AbsenceCame, FragmentCame}
 use Rattle.node_moves.specs.server_moves.Moves.{Brought, news_in}
-use Rattle.node_tellings.specs.reading_tie.Arrivals.{AnswerBrought, BodyBrought, DoBrought, answered_in, cut_by}
-use Rattle.node_tellings.specs.reading_tie.Came.{AnyReadingCame, Came, CameMore, GroupStriped, MapStriped, MapsStriped, ReadsJoined, Striped, StripedMore}
+use Rattle.node_tellings.specs.reading_tie.Arrivals.{answered_in, cut_by}
+use Rattle.node_tellings.proofs.reading_tie.Arrivals.{AnswerBrought, BodyBrought, DoBrought}
+use Rattle.node_tellings.specs.reading_tie.Came.{AnyReadingCame, Came, GroupStriped, MapStriped, MapsStriped, ReadsJoined, Striped}
+use Rattle.node_tellings.proofs.reading_tie.Came.{CameMore, StripedMore}
 use Rattle.node_tellings.specs.reading_tie.CleanerReads.{AnyHandHolds, CleanerEventsKeep, CleanerHolds, CleanerHoldsRise, CleanerReadsWhatCame, CleanerStarts, HandHolds, LooksFor, PhaseHolds, ReadsHand, ServesSo}
 use Rattle.node_tellings.proofs.reading_tie.Arriving.{answered_more, do_brought, taken_so}
 use Rattle.node_tellings.proofs.reading_tie.Openings as maps

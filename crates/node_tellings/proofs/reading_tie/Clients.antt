@@ -28,8 +28,10 @@ use Rattle.wire_msg.specs.declared.packet.Do.TheVariants.{Begin, Deliver, Tick}
 use Rattle.wire_msg.specs.declared.packet.Packet.{Packet}
 use Rattle.xfs_base.proofs.Booleans.{by_test}
 use Rattle.xfs_base.specs.Steps.{still}
-use Rattle.node_tellings.specs.reading_tie.Arrivals.{BodyBrought, DoBrought, answered_in, cut_by}
-use Rattle.node_tellings.specs.reading_tie.Came.{Came, Striped, CameMore, StripedMore}
+use Rattle.node_tellings.specs.reading_tie.Arrivals.{answered_in, cut_by}
+use Rattle.node_tellings.proofs.reading_tie.Arrivals.{BodyBrought, DoBrought}
+use Rattle.node_tellings.specs.reading_tie.Came.{Came, Striped}
+use Rattle.node_tellings.proofs.reading_tie.Came.{CameMore, StripedMore}
 use Rattle.node_tellings.specs.reading_tie.ClientReads.{ServesSo, PhaseHolds, ClientHolds, ClientStarts, ClientHoldsRise, ClientEventsKeep, ClientsReadWhatCame}
 use Rattle.node_tellings.proofs.reading_tie.Arriving.{do_brought, answered_more}
 use Rattle.node_tellings.proofs.reading_tie.ServingWalk as serving

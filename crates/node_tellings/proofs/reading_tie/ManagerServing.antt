@@ -48,7 +48,7 @@ use Rattle.xfs_base.specs.declared.news.SlotNews.{SlotNews}
 use Rattle.xfs_base.specs.declared.node.NodeId.{NodeId}
 use Rattle.xfs_base.specs.declared.segment.LogId.{LogId}
 use Rattle.xfs_base.specs.Steps.{Stepped, still}
-use Rattle.node_tellings.specs.reading_tie.Arrivals.{AnswerBrought, BodyBrought}
+use Rattle.node_tellings.proofs.reading_tie.Arrivals.{AnswerBrought, BodyBrought}
 use Rattle.node_tellings.specs.reading_tie.Came.{Came, Striped, MapStriped, MapsStriped}
 use Rattle.node_tellings.specs.reading_tie.ManagerReads.{ServesSo}
 use Rattle.node_tellings.proofs.reading_tie.Arriving.{taken_so}

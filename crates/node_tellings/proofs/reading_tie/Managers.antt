@@ -31,8 +31,10 @@ use Rattle.xfs_base.specs.Blocks.{slot_of}
 use Rattle.xfs_base.specs.declared.node.NodeId.{NodeId}
 use Rattle.xfs_base.specs.Steps.{still}
 use Rattle.xfs_base.proofs.Alls.{all_weaker}
-use Rattle.node_tellings.specs.reading_tie.Arrivals.{BodyBrought, DoBrought, answered_in, cut_by}
-use Rattle.node_tellings.specs.reading_tie.Came.{Came, Striped, CameMore, StripedMore, MapStriped}
+use Rattle.node_tellings.specs.reading_tie.Arrivals.{answered_in, cut_by}
+use Rattle.node_tellings.proofs.reading_tie.Arrivals.{BodyBrought, DoBrought}
+use Rattle.node_tellings.specs.reading_tie.Came.{Came, Striped, MapStriped}
+use Rattle.node_tellings.proofs.reading_tie.Came.{CameMore, StripedMore}
 use Rattle.node_tellings.specs.reading_tie.ManagerReads.{SlotHolds, ServesSo, PhaseHolds, ManagerHolds, ManagerStarts, ManagerHoldsRise, ManagerEventsKeep}
 use Rattle.node_tellings.specs.reading_tie.TakeoverReads.{TakeoversReadWhatCame}
 use Rattle.node_tellings.proofs.reading_tie.Arriving.{do_brought, answered_more}

@@ -6,7 +6,7 @@ use Rattle.node_base.specs.declared.questions.Questions.{Questions}
 use Rattle.wire_msg.specs.declared.packet.Packet.{Packet}
 use Rattle.node_moves.proofs.OpeningMaps as walk
 use Rattle.node_moves.proofs.OpeningMaps.{MapLaw}
-use Rattle.node_tellings.specs.reading_tie.Arrivals.{BodyBrought}
+use Rattle.node_tellings.proofs.reading_tie.Arrivals.{BodyBrought}
 use Rattle.node_tellings.specs.reading_tie.Came.{Came, Striped, MapStriped, MapsStriped}
 use Rattle.node_tellings.proofs.reading_tie.Arriving.{taken_so}
 

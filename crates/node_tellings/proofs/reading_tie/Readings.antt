@@ -24,7 +24,8 @@ use Rattle.xfs_base.proofs.Booleans.{by_test, and_first, and_second}
 use Rattle.xfs_base.proofs.SegmentNames.{one_name}
 use Rattle.xfs_base.specs.declared.segment.SegRef.{SegRef}
 use Rattle.xfs_base.proofs.Alls.{all_append, all_weaker}
-use Rattle.node_tellings.specs.reading_tie.Came.{Came, Striped, CameMore, StripedMore, GroupStriped, MapStriped, MapsStriped, IsOfName, AnswerCame, RoundCame, ReadingCame, AnyReadingCame, ReadsJoined, ReadsTarget}
+use Rattle.node_tellings.specs.reading_tie.Came.{Came, Striped, GroupStriped, MapStriped, MapsStriped, IsOfName, AnswerCame, RoundCame, ReadingCame, AnyReadingCame, ReadsJoined, ReadsTarget}
+use Rattle.node_tellings.proofs.reading_tie.Came.{CameMore, StripedMore}
 
 -- ---- an answer that counts
 

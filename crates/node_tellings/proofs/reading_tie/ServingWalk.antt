@@ -22,7 +22,7 @@ use Rattle.xfs_base.proofs.Booleans.{by_test}
 use Rattle.xfs_base.specs.declared.node.NodeId.{NodeId}
 use Rattle.xfs_base.specs.declared.node.NodeId.TheVariants as node
 use Rattle.node_base.specs.Nodes.{server_in}
-use Rattle.node_tellings.specs.reading_tie.Arrivals.{AnswerBrought, BodyBrought}
+use Rattle.node_tellings.proofs.reading_tie.Arrivals.{AnswerBrought, BodyBrought}
 use Rattle.node_tellings.specs.reading_tie.Came.{AnyReadingCame, Came, GroupStriped, MapStriped, MapsStriped, ReadingCame, Striped}
 use Rattle.node_tellings.specs.reading_tie.ClientReads.{ReadsPlace, ServesSo}
 use Rattle.node_tellings.proofs.reading_tie.Readings.{answered_came, answered_reads, begun_came, confirmed_came}

@@ -32,7 +32,8 @@ use Rattle.xfs_base.specs.declared.news.SlotNews.{SlotNews}
 use Rattle.xfs_base.specs.declared.node.NodeId.{NodeId}
 use Rattle.xfs_base.specs.Steps.{still}
 use Rattle.xfs_base.proofs.Alls.{all_weaker}
-use Rattle.node_tellings.specs.reading_tie.Came.{Came, Striped, CameMore, StripedMore, MapStriped, ReadingCame, AnyReadingCame, ReadsJoined}
+use Rattle.node_tellings.specs.reading_tie.Came.{Came, Striped, MapStriped, ReadingCame, AnyReadingCame, ReadsJoined}
+use Rattle.node_tellings.proofs.reading_tie.Came.{CameMore, StripedMore}
 use Rattle.node_tellings.specs.reading_tie.TakeoverReads.{to_any, ReadsDown, LeadsDown, LooksFor, PresentHolds, StandsBy, TakeHolds}
 use Rattle.node_tellings.proofs.reading_tie.Readings.{begun_came, answered_came, answered_reads, confirmed_came, any_rises, joined_rises, map_rises}
 

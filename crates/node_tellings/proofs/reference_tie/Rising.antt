@@ -21,7 +21,8 @@ use Rattle.xfs_base.specs.declared.node.NodeId.{NodeId}
 use Rattle.xfs_base.specs.declared.segment.SegRef.{SegRef}
 use Rattle.xfs_base.proofs.Alls.{all_weaker}
 use Rattle.node_tellings.specs.reference_tie.Managers.{JobRefers, ManagerRefers, PhaseRefers, ReportRefers, ServingRefers, SlotRefers, WorkRefers}
-use Rattle.node_tellings.specs.reference_tie.References.{AllNewsRefer, BodyRefers, DoneRefers, NewsRefer, PacketRefers, PartsRefer, References, Weaker}
+use Rattle.node_tellings.specs.reference_tie.References.{AllNewsRefer, BodyRefers, DoneRefers, NewsRefer, PacketRefers, PartsRefer, References}
+use Rattle.node_tellings.proofs.reference_tie.References.{Weaker}
 use Rattle.node_tellings.specs.reference_tie.Registries.{RegistryRefers}
 
 some_weaker : {X : Type 0} (P Q : X → Type 0) → ((x : X) → P x → Q x) → (o : Option X) → IfSome o P → IfSome o Q

@@ -17,10 +17,6 @@ use Rattle.xfs_base.specs.declared.entry.Place.{Place}
 abbrev pub Told : Type 1
 Told = BlockId → Entry → Type 0
 
--- of each block it may be told that nothing is known of it
-abbrev pub AllowsNothing : Told → Type 0
-AllowsNothing told = (block : BlockId) → told block no_entry
-
 abbrev pub RowTold : Told → BlockId × Entry → Type 0
 RowTold told row = told row.0 row.1
 

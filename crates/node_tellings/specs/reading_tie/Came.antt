@@ -27,13 +27,6 @@ Came = ℕ → ℕ → Answered → Type 0
 abbrev pub Striped : Type 1
 Striped = ℕ → ℕ → ℕ → Type 0
 
--- what came came later too
-abbrev pub CameMore : Came → Came → Type 0
-CameMore came later = (ask server : ℕ) (told : Answered) → came ask server told → later ask server told
-
-abbrev pub StripedMore : Striped → Striped → Type 0
-StripedMore striped more = (id members parity : ℕ) → striped id members parity → more id members parity
-
 -- ---- maps
 
 -- a group, over whose members a segment can be cut

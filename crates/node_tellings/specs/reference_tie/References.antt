@@ -48,13 +48,6 @@ DoRefers r Begin = Unit {0}
 DoRefers r (Deliver packet) = PacketRefers r packet
 DoRefers r Tick = Unit {0}
 
--- ---- what holds of more
-
--- what holds of each reference by the one holds by the other
-pub record Weaker (r later : References) : Type 0 where
-  pub part : (seg : SegRef) → r.part seg → later.part seg
-  pub end : (from : NodeId) (e : End) → r.end from e → later.end from e
-
 -- ---- references that are listed
 
 -- a part is one of these, and an end that a node reports one of those

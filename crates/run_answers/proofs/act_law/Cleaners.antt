@@ -43,7 +43,8 @@ use Rattle.serving_moves.proofs.item_moves.Openings.{behaves_plain}
 use Rattle.node_base.specs.declared.items.Items.{Items}
 use Rattle.serving_moves.proofs.item_moves.Emptying as emptied
 use Rattle.serving_moves.proofs.item_moves.Keeping.{all_plain_more, all_pushed_plain, moves_stay, one_number}
-use Rattle.serving_moves.specs.item_moves.Moves.{Begun, IsBusy, IsCount, Moves}
+use Rattle.serving_moves.specs.item_moves.Moves.{Begun, IsCount, Moves}
+use Rattle.serving_moves.proofs.item_moves.Moves.{IsBusy}
 use Rattle.headline.specs.Items.{Falls, IsOpen, asked_at}
 use Rattle.serving_moves.specs.item_moves.Moves.Begun.{AtOnce, Waits}
 use Rattle.serving_moves.specs.item_moves.Moves.Losses.{Silent, Answering}

@@ -14,7 +14,8 @@ use Rattle.headline.specs.Restarts.{NoDoubtfulRestart}
 use Rattle.run_laws.specs.restart_law.Sure.{UndoubtedRunsAreSure}
 use Rattle.run_laws.specs.world_lines.Lines.{LinesGive}
 use Rattle.run_laws.specs.world_logs.Lines.{HasLines, Texts}
-use Rattle.run_laws.specs.world_reads.Joint.{IsSureUpto, Joint}
+use Rattle.run_laws.specs.world_reads.Joint.{Joint}
+use Rattle.run_laws.proofs.world_reads.Joint.{IsSureUpto}
 use Rattle.run_laws.specs.world_reads.LoggedRuns.{LoggedRun, logged_run}
 use Rattle.run_laws.specs.world_reads.Moments.{EveryRunStands}
 use Rattle.run_holdings.proofs.settled_law.Tables.{clean, dirty}

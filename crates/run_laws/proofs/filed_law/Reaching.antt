@@ -7,7 +7,8 @@ use Rattle.xfs_base.specs.declared.segment.SegName.{SegName}
 use Rattle.version_model.specs.declared.act.Act.{Act}
 use Rattle.version_model.specs.declared.act.Act.TheVariants.{Filed}
 use Rattle.node_tellings.specs.filed_tie.Reach.{Reach, Rises, ActReached, ActsReach}
-use Rattle.run_laws.specs.filed_law.FiledUpto.{filed_number, filed_upto, FiledAt, IsFiledUpto}
+use Rattle.run_laws.specs.filed_law.FiledUpto.{filed_number, filed_upto}
+use Rattle.run_laws.proofs.filed_law.FiledUpto.{FiledAt, IsFiledUpto}
 
 -- ---- it rises
 

@@ -28,7 +28,8 @@ use Rattle.xfs_base.proofs.Alls.{all_append}
 use Rattle.node_tellings.specs.filed_tie.Reach.{Reach, Rises, ActsReach, SlotsReach, DoTells, PacketTells, TellsFiled}
 use Rattle.node_tellings.specs.filed_tie.RegistryReach.{RegistryReaches}
 use Rattle.node_tellings.proofs.filed_tie.Rising.{body_rises, least_low}
-use Rattle.run_laws.specs.filed_law.FiledUpto.{filed_upto, IsFiledUpto}
+use Rattle.run_laws.specs.filed_law.FiledUpto.{filed_upto}
+use Rattle.run_laws.proofs.filed_law.FiledUpto.{IsFiledUpto}
 pub use Rattle.run_laws.specs.filed_law.NodeLaws.{NodeLaws}
 use Rattle.run_laws.specs.filed_law.Told.{AnyReaches, ToldWasFiled, HorizonWasFiled, RunsStartTold, EventsKeepTold, EveryRunToldWasFiled, ToldHorizonsWereFiled}
 use Rattle.run_laws.proofs.filed_law.Reaching.{filed_rises, filed_reached, is_filed}

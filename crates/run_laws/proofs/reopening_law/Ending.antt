@@ -2,7 +2,8 @@
 use Rattle.std.proofs.Common.{◌≡◌, ℕ, true, false, ◌&&◌, List, [], ◌∷◌, Option, Some, None, refl, sym, ap, subst, ◌∙◌}
 use Rattle.std.specs.Prelude.{IfSome}
 use Rattle.node_slots.proofs.client_law.Emptying.{packet_empty, tick_empty}
-use Rattle.node_slots.specs.client_law.Empty.{OpensEmpty, WaitsForNothing}
+use Rattle.node_slots.specs.client_law.Empty.{WaitsForNothing}
+use Rattle.node_slots.proofs.client_law.Empty.{OpensEmpty}
 use Rattle.client_log.specs.declared.input.In.{In as LogIn}
 use Rattle.client_log.specs.declared.input.In.TheVariants as log_in
 use Rattle.client_log.specs.Transition as log

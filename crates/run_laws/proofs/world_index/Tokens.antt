@@ -29,7 +29,8 @@ use Rattle.world_base.specs.Cluster.{place_of}
 use Rattle.world_base.specs.declared.cluster.Cluster.{Cluster}
 pub use Rattle.run_laws.specs.world_index.Growth.{Entered}
 use Rattle.run_laws.specs.world_index.Owes.{DoFree, HeldApart, ManagerGiven, NewsFree, ServingFree, TokensGive, WaitingFree}
-use Rattle.run_laws.specs.world_index.Standing.{Came, Placed, Scene, holder}
+use Rattle.run_laws.specs.world_index.Standing.{Placed, Scene, holder}
+use Rattle.run_laws.proofs.world_index.Standing.{Came}
 use Rattle.run_laws.proofs.world_law.Gets.{news_told, welcome_told}
 use Rattle.run_laws.proofs.world_law.ManagerTurns.{manager_number}
 use Rattle.run_laws.proofs.world_law.RegistryTurns.{held_known}

@@ -46,7 +46,8 @@ use Rattle.run_laws.proofs.world_index.Gets.{manager_gets, registry_gets}
 use Rattle.run_laws.proofs.world_index.ManagerTurns as managers
 use Rattle.run_laws.proofs.world_index.RegistryTurns as others
 use Rattle.run_laws.proofs.world_index.Senders.{IsKind, IsSentBy}
-use Rattle.run_laws.specs.world_index.Standing.{Came, Fact, Scene, SentBy, Stands, WasAsked, holder, members}
+use Rattle.run_laws.specs.world_index.Standing.{Fact, Scene, SentBy, Stands, WasAsked, holder, members}
+use Rattle.run_laws.proofs.world_index.Standing.{Came}
 use Rattle.run_laws.specs.world_index.NodeLaws.{NodeLaws}
 use Rattle.run_laws.specs.world_index.Owes.{IndexOwes, Makes, TokensGive}
 use Rattle.run_laws.proofs.world_law.ManagerTurns.{delivered}

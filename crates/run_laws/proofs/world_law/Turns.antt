@@ -53,7 +53,8 @@ pub use Rattle.run_laws.specs.world_law.NodeLaws.{NodeLaws}
 pub use Rattle.run_laws.specs.world_law.Since.{Since}
 use Rattle.run_laws.specs.world_law.Standing.{Fact, ManagerSees, PastAt, Scene, Stands, epoch_now, members}
 use Rattle.run_laws.proofs.world_law.Turning.{next_keeps}
-use Rattle.run_laws.specs.world_law.Owes.{BooksGo, ClientTold, ManagerTold, TurnOwes}
+use Rattle.run_laws.specs.world_law.Owes.{ManagerTold}
+use Rattle.run_laws.proofs.world_law.Owes.{BooksGo, ClientTold, TurnOwes}
 use Rattle.headline.specs.Moments.{node_in}
 use Rattle.xfs_base.specs.declared.node.NodeId.{NodeId}
 use Rattle.xfs_base.specs.declared.node.NodeId.TheVariants.{Client, Manager, Server, Cleaner, Registry}

@@ -27,7 +27,8 @@ use Rattle.node_logs.proofs.node_log_tie.RebuildEvents.{rebuild_later}
 use Rattle.node_logs.specs.node_log_tie.CleanerEvents.{CleanerSeen}
 use Rattle.node_logs.specs.node_log_tie.RegistryEvents.{RegistrySeen}
 use Rattle.node_logs.specs.node_log_tie.ServerEvents.{RebuildSeen, ServerSeen}
-use Rattle.node_logs.specs.node_log_tie.Sight.{Later, Question}
+use Rattle.node_logs.specs.node_log_tie.Sight.{Question}
+use Rattle.node_logs.proofs.node_log_tie.Sight.{Later}
 use Rattle.registry.specs.BoardState.{BoardState}
 use Rattle.store_nodes.specs.declared.server.Rebuilding.{Rebuilding}
 use Rattle.store_nodes.specs.declared.server.Server.{Server as ServerNode}

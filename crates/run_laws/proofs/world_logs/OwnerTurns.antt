@@ -17,7 +17,8 @@ use Rattle.log_tie.specs.Setting.{Setting}
 use Rattle.node_logs.specs.manager_log_tie.OwnerEvents.{ManagerGoes}
 use Rattle.manager_node.specs.declared.manager.Manager.{Manager as ManagerNode}
 use Rattle.node_logs.proofs.node_log_tie.Going.{run_later}
-use Rattle.node_logs.specs.node_log_tie.Sight.{Later, PacketSeen}
+use Rattle.node_logs.specs.node_log_tie.Sight.{PacketSeen}
+use Rattle.node_logs.proofs.node_log_tie.Sight.{Later}
 use Rattle.node_logs.specs.node_log_tie.Sight.Question.{OfMaps}
 use Rattle.token_protocol.specs.Basics.{In}
 use Rattle.version_model.specs.declared.act.Act.{Act}

@@ -16,7 +16,8 @@ use Rattle.node_logs.proofs.node_log_tie.Sights.{seen_later}
 use Rattle.node_logs.specs.node_log_tie.CleanerEvents.{CleanerGoes, CleanerSeen}
 use Rattle.node_logs.specs.node_log_tie.RegistryEvents.{RegistryGoes}
 use Rattle.node_logs.specs.node_log_tie.ServerEvents.{ServerGoes}
-use Rattle.node_logs.specs.node_log_tie.Sight.{Later, PacketSeen}
+use Rattle.node_logs.specs.node_log_tie.Sight.{PacketSeen}
+use Rattle.node_logs.proofs.node_log_tie.Sight.{Later}
 use Rattle.registry_node.specs.declared.node.RegistryNode.{RegistryNode}
 use Rattle.store_nodes.specs.declared.server.Server.{Server as ServerNode}
 use Rattle.registry_node.specs.Events.{registry_step}
@@ -27,7 +28,8 @@ use Rattle.run_laws.proofs.world_logs.Frames.{cleaner_owner_still, cleaner_still
 use Rattle.run_laws.proofs.world_logs.Leading.{its_of, left_by}
 use Rattle.run_laws.proofs.world_logs.Lists.{in_listed}
 use Rattle.run_laws.proofs.world_logs.Roles.{no_registry, no_server}
-use Rattle.run_laws.specs.world_logs.Roles.{IsOf, asker_by}
+use Rattle.run_laws.specs.world_logs.Roles.{asker_by}
+use Rattle.run_laws.proofs.world_logs.RolesWords.{IsOf}
 use Rattle.headline.specs.Logs.{Role, owner_by}
 use Rattle.headline.specs.Logs.Role.{OfClient, OfCleaner, OfManager}
 use Rattle.run_laws.specs.world_logs.Standing.{CleanerAs, ClientAs, ManagerAs}

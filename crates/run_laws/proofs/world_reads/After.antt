@@ -25,7 +25,7 @@ use Rattle.run_laws.proofs.world_reads.AfterOwn.{OwnAfter}
 use Rattle.run_laws.proofs.world_reads.AfterLogs.{flight_left, stays_known}
 use Rattle.run_laws.proofs.world_reads.AfterTells.{tells_same}
 use Rattle.run_laws.specs.world_reads.Joint.{There, WritesKind, flew_at, log_at}
-use Rattle.run_laws.specs.world_reads.Below.{Below}
+use Rattle.run_laws.proofs.world_reads.Below.{Below}
 use Rattle.run_laws.specs.world_reads.LoggedRuns.{LoggedRun}
 
 module _ (logged : LoggedRun) (part : ℕ) where

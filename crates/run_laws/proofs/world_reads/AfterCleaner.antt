@@ -63,7 +63,7 @@ use Rattle.run_laws.proofs.world_reads.AfterOwn.{OwnAfter, comes_by_one, none_se
 use Rattle.run_laws.proofs.world_reads.AfterLogs.{KnownLog, reopens_by}
 use Rattle.run_laws.proofs.world_reads.AfterOwners.{line_goes_on}
 use Rattle.run_laws.proofs.world_reads.AfterTells.{AllTell}
-use Rattle.run_laws.specs.world_reads.Below.{Below}
+use Rattle.run_laws.proofs.world_reads.Below.{Below}
 
 -- ---- an opening that ends
 

@@ -60,7 +60,7 @@ use Rattle.run_laws.proofs.world_reads.AfterOwn as after_own
 use Rattle.run_laws.proofs.world_reads.AfterOwn.{OwnAfter, comes_by_one, none_serves, one_log, own_after}
 use Rattle.run_laws.proofs.world_reads.AfterOwners.{line_goes_on}
 use Rattle.run_laws.proofs.world_reads.AfterTells.{AllTell}
-use Rattle.run_laws.specs.world_reads.Below.{Below}
+use Rattle.run_laws.proofs.world_reads.Below.{Below}
 
 -- ---- the end of the log
 

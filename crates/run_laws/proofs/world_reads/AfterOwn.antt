@@ -29,7 +29,7 @@ use Rattle.token_law.specs.Books.{Books, reopened, with_empty}
 use Rattle.run_laws.specs.world_lines.Lines.{IsLine}
 use Rattle.run_laws.specs.world_lines.Polls.{GoesOnByFlight}
 use Rattle.run_laws.specs.world_logs.Lines.{moment_then}
-use Rattle.run_laws.specs.world_reads.Below.{Below}
+use Rattle.run_laws.proofs.world_reads.Below.{Below}
 use Rattle.run_laws.proofs.world_reads.AfterBack.{ComesTo}
 use Rattle.run_laws.proofs.reopening_law.Flights.{last_stays, served_last}
 use Rattle.run_laws.proofs.world_reads.AfterLogs.{KnownLog, reopens_by, reopens_known, serves_known, stays_known}

@@ -18,7 +18,7 @@ use Rattle.run_laws.specs.world_logs.Lines.{moment_then}
 use Rattle.run_laws.proofs.reopening_law.Flights.{last_stays, served_last}
 use Rattle.run_laws.proofs.world_reads.AfterLogs.{KnownLog, stays_known}
 use Rattle.run_laws.proofs.world_reads.AfterOwners.{line_goes_on}
-use Rattle.run_laws.specs.world_reads.Below.{Below}
+use Rattle.run_laws.proofs.world_reads.Below.{Below}
 
 pub same_log : (k : Books) (l : ℕ) → SameLog k k l
 same_log k l = record { end = refl; flying = refl; rows = refl }

@@ -74,7 +74,7 @@ use Rattle.xfs_base.specs.declared.segment.SegName.{SegName}
 use Rattle.xfs_base.specs.declared.segment.SegRef.{SegRef}
 use Rattle.xfs_base.specs.Steps.{still}
 use Rattle.xfs_base.proofs.Alls.{all_weaker}
-use Rattle.run_laws.specs.world_reads.Below.{Below}
+use Rattle.run_laws.proofs.world_reads.Below.{Below}
 use Rattle.run_laws.specs.world_reads.LoggedRuns.{LoggedRun}
 
 -- what is so of each where a test passes is so of each, where it passes

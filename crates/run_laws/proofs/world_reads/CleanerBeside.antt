@@ -37,9 +37,10 @@ use Rattle.run_laws.proofs.world_reads.CleanerMoving.{Moved}
 use Rattle.run_laws.proofs.world_reads.CleanerOwed.{Beside}
 use Rattle.run_laws.proofs.world_reads.CleanerReading.{ListsOurs}
 use Rattle.run_laws.proofs.world_reads.Taking.{Took, took_it}
-use Rattle.run_laws.specs.world_reads.Joint.{IsSureUpto, Joint, There, flew_at}
+use Rattle.run_laws.specs.world_reads.Joint.{Joint, There, flew_at}
+use Rattle.run_laws.proofs.world_reads.Joint.{IsSureUpto}
 use Rattle.xfs_base.specs.declared.node.NodeId.TheVariants.{Cleaner, Registry}
-use Rattle.run_laws.specs.world_reads.Below.{Below}
+use Rattle.run_laws.proofs.world_reads.Below.{Below}
 use Rattle.run_laws.specs.world_reads.LoggedRuns.{LoggedRun}
 
 -- a packet that is delivered was sent

@@ -42,10 +42,11 @@ use Rattle.run_laws.proofs.world_reads.CleanerFiles.{adopted_moves, all_new}
 use Rattle.run_laws.proofs.world_reads.CleanerMoment.{Steps, agrees, its_line, its_moment, its_scene, its_setting, owns, sure_at, upto_before}
 use Rattle.run_laws.proofs.world_reads.CleanerReopening.{calm, came, one}
 use Rattle.run_laws.proofs.world_reads.CleanerSaying.{adopted_says, filed_says, says_once}
-use Rattle.run_laws.specs.world_reads.Joint.{IsSureUpto, Joint}
+use Rattle.run_laws.specs.world_reads.Joint.{Joint}
+use Rattle.run_laws.proofs.world_reads.Joint.{IsSureUpto}
 use Rattle.xfs_base.specs.declared.node.NodeId.TheVariants.{Cleaner}
 use Rattle.xfs_base.specs.declared.segment.SegName.{SegName}
-use Rattle.run_laws.specs.world_reads.Below.{Below}
+use Rattle.run_laws.proofs.world_reads.Below.{Below}
 use Rattle.run_laws.specs.world_reads.LoggedRuns.{LoggedRun}
 
 in_right : {X : Type 0} (xs ys : List X) (x : X) → In x ys → In x (xs ++ ys)

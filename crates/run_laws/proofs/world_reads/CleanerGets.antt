@@ -41,10 +41,11 @@ use Rattle.headline.specs.Logs.Role.{OfCleaner}
 use Rattle.run_laws.proofs.world_reads.CleanerMoment.{IsHere, agrees, its_line, its_scene, its_setting, sure_at}
 use Rattle.run_laws.proofs.world_reads.CleanerReading.{ListsOurs, reads_within, refers}
 use Rattle.run_laws.proofs.world_reads.KnownLogs.{filed_known}
-use Rattle.run_laws.specs.world_reads.Joint.{IsSureUpto, Joint, There}
+use Rattle.run_laws.specs.world_reads.Joint.{Joint, There}
+use Rattle.run_laws.proofs.world_reads.Joint.{IsSureUpto}
 use Rattle.xfs_base.specs.declared.node.NodeId.{NodeId}
 use Rattle.xfs_base.specs.declared.node.NodeId.TheVariants.{Cleaner, Registry}
-use Rattle.run_laws.specs.world_reads.Below.{Below}
+use Rattle.run_laws.proofs.world_reads.Below.{Below}
 use Rattle.run_laws.specs.world_reads.LoggedRuns.{LoggedRun}
 
 module _ (below : Below) (logged : LoggedRun) (part count : ℕ) (joint : Joint logged part count) (node : CleanerNode)

@@ -22,7 +22,8 @@ use Rattle.run_laws.specs.world_logs.Lines.{Line, cluster, setting}
 use Rattle.headline.specs.Logs.Role.{OfCleaner}
 use Rattle.run_laws.specs.world_logs.Standing.{CleanerOwns}
 use Rattle.run_laws.proofs.world_reads.Stepping.{sure_before}
-use Rattle.run_laws.specs.world_reads.Joint.{IsSureUpto, Joint}
+use Rattle.run_laws.specs.world_reads.Joint.{Joint}
+use Rattle.run_laws.proofs.world_reads.Joint.{IsSureUpto}
 use Rattle.run_laws.specs.world_reads.LoggedRuns.{LoggedRun}
 use Rattle.xfs_base.specs.declared.node.NodeId.TheVariants.{Cleaner}
 

@@ -52,12 +52,13 @@ use Rattle.run_laws.proofs.world_reads.CleanerReading.{ListsOurs}
 use Rattle.run_laws.proofs.world_reads.CleanerReopening.{reopens_on}
 use Rattle.run_laws.proofs.world_reads.CleanerWriting.{writes_texts}
 use Rattle.run_laws.proofs.world_reads.Stepping.{comes}
-use Rattle.run_laws.specs.world_reads.Joint.{IsSureUpto, Joint, flew_at}
+use Rattle.run_laws.specs.world_reads.Joint.{Joint, flew_at}
+use Rattle.run_laws.proofs.world_reads.Joint.{IsSureUpto}
 use Rattle.xfs_base.proofs.Booleans.{and_first, and_second, contrary}
 use Rattle.xfs_base.specs.declared.node.NodeId.TheVariants.{Cleaner}
 use Rattle.xfs_base.specs.Limits.{counter_room, u32_end}
 use Rattle.xfs_base.specs.Steps.{still}
-use Rattle.run_laws.specs.world_reads.Below.{Below}
+use Rattle.run_laws.proofs.world_reads.Below.{Below}
 use Rattle.run_laws.specs.world_reads.LoggedRuns.{LoggedRun}
 
 -- ---- counters

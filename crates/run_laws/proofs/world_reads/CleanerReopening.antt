@@ -43,8 +43,9 @@ use Rattle.run_laws.specs.world_lines.Lines.{IsLine}
 use Rattle.headline.specs.Logs.Role.{OfCleaner}
 use Rattle.run_laws.proofs.world_reads.CleanerMoment.{Steps, its_line, its_moment, its_scene, its_setting, owns}
 use Rattle.run_laws.proofs.world_reads.CleanerReopens.{ComesBack, comes_back}
-use Rattle.run_laws.specs.world_reads.Joint.{IsSureUpto, Joint}
-use Rattle.run_laws.specs.world_reads.Below.{Below}
+use Rattle.run_laws.specs.world_reads.Joint.{Joint}
+use Rattle.run_laws.proofs.world_reads.Joint.{IsSureUpto}
+use Rattle.run_laws.proofs.world_reads.Below.{Below}
 use Rattle.run_laws.specs.world_reads.LoggedRuns.{LoggedRun}
 
 -- what a segment that has a text says of blocks fits its types

@@ -36,9 +36,10 @@ use Rattle.run_laws.specs.world_logs.Lines.{cluster}
 use Rattle.run_laws.proofs.world_reads.CleanerMoment.{Steps, its_line, its_setting}
 use Rattle.run_laws.proofs.world_reads.CleanerReopening.{came, reopens_at}
 use Rattle.run_laws.proofs.world_reads.Tying.{slot_tied}
-use Rattle.run_laws.specs.world_reads.Joint.{IsSureUpto, Joint}
+use Rattle.run_laws.specs.world_reads.Joint.{Joint}
+use Rattle.run_laws.proofs.world_reads.Joint.{IsSureUpto}
 use Rattle.xfs_base.specs.Steps.{still}
-use Rattle.run_laws.specs.world_reads.Below.{Below}
+use Rattle.run_laws.proofs.world_reads.Below.{Below}
 use Rattle.run_laws.specs.world_reads.LoggedRuns.{LoggedRun}
 
 -- ---- the node

@@ -31,7 +31,7 @@ use Rattle.wire_msg.specs.declared.packet.Do.{Do}
 use Rattle.wire_msg.specs.declared.packet.Do.TheVariants.{Begin, Deliver, Tick}
 use Rattle.wire_msg.specs.declared.packet.Packet.{Packet}
 use Rattle.world_base.specs.Runs.{IsRun}
-use Rattle.run_laws.specs.world_law.Owes.{TurnOwes}
+use Rattle.run_laws.proofs.world_law.Owes.{TurnOwes}
 use Rattle.run_laws.proofs.world_reads.CleanerGets.{has_job}
 use Rattle.run_laws.proofs.world_reads.CleanerHand.{asks_of_hand}
 use Rattle.run_laws.proofs.world_reads.CleanerMoment.{its_moment, its_scene}
@@ -41,7 +41,7 @@ use Rattle.run_laws.proofs.world_reads.CleanerReopening.{adopts, came, reopens, 
 use Rattle.run_laws.proofs.world_reads.CleanerTelling.{IsTaken, live_told, serves_then}
 use Rattle.run_laws.specs.world_reads.Joint.{Joint}
 use Rattle.xfs_base.specs.declared.node.NodeId.TheVariants.{Cleaner}
-use Rattle.run_laws.specs.world_reads.Below.{Below}
+use Rattle.run_laws.proofs.world_reads.Below.{Below}
 use Rattle.run_laws.specs.world_reads.LoggedRuns.{LoggedRun}
 
 module _ (law : Below) (logged : LoggedRun) (ok : IsSetup logged.estate.script.setup)

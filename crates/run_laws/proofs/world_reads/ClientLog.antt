@@ -33,11 +33,12 @@ use Rattle.headline.specs.Logs.Role.{OfClient}
 use Rattle.run_laws.specs.world_logs.Standing.{OwnerSeen}
 use Rattle.run_laws.proofs.world_reads.Stepping.{sure_before}
 use Rattle.run_laws.proofs.world_reads.Taking.{Took, did_then, moment_next, node_then, took_it}
-use Rattle.run_laws.specs.world_reads.Joint.{IsSureUpto, Joint, There}
+use Rattle.run_laws.specs.world_reads.Joint.{Joint, There}
+use Rattle.run_laws.proofs.world_reads.Joint.{IsSureUpto}
 use Rattle.xfs_base.specs.declared.node.NodeId.TheVariants.{Client}
 use Rattle.xfs_base.proofs.Booleans.{equal_itself}
 use Rattle.xfs_base.specs.Limits.{slot_count}
-use Rattle.run_laws.specs.world_reads.Below.{Below}
+use Rattle.run_laws.proofs.world_reads.Below.{Below}
 use Rattle.run_laws.specs.world_reads.LoggedRuns.{LoggedRun}
 
 module _ (logged : LoggedRun) (part : ℕ) (count c : ℕ) (there : There logged part (OfClient c)) where

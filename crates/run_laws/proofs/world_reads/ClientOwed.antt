@@ -56,7 +56,7 @@ use Rattle.run_laws.proofs.world_reads.ClientLog.{ClientEvent}
 use Rattle.run_laws.proofs.world_reads.Stepping.{comes}
 use Rattle.run_laws.specs.world_reads.Joint.{There}
 use Rattle.xfs_base.specs.declared.node.NodeId.TheVariants.{Registry}
-use Rattle.run_laws.specs.world_reads.Below.{Below}
+use Rattle.run_laws.proofs.world_reads.Below.{Below}
 use Rattle.run_laws.specs.world_reads.LoggedRuns.{LoggedRun}
 
 -- what a segment that has a text says of blocks fits its types

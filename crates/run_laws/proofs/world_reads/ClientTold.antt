@@ -40,7 +40,7 @@ use Rattle.wire_msg.specs.declared.packet.Packet.{Packet}
 use Rattle.world_base.specs.declared.event.Event.{Event}
 use Rattle.world_base.specs.Events.{what_of}
 use Rattle.run_laws.specs.world_law.Standing as tokens
-use Rattle.run_laws.specs.world_law.Owes.{ClientTold}
+use Rattle.run_laws.proofs.world_law.Owes.{ClientTold}
 use Rattle.headline.specs.Moments.{moment}
 use Rattle.headline.specs.Logs.Role.{OfClient}
 use Rattle.run_laws.proofs.world_reads.ClientFiles as files
@@ -50,7 +50,7 @@ use Rattle.run_laws.proofs.world_reads.ClientOwed as owed
 use Rattle.run_laws.specs.world_reads.Joint.{There}
 use Rattle.xfs_base.specs.declared.node.NodeId.TheVariants.{Client}
 use Rattle.xfs_base.specs.Limits.{block_logs}
-use Rattle.run_laws.specs.world_reads.Below.{Below}
+use Rattle.run_laws.proofs.world_reads.Below.{Below}
 use Rattle.run_laws.specs.world_reads.LoggedRuns.{LoggedRun}
 
 module _ (logged : LoggedRun) (part : ℕ) (count c : ℕ) (there : There logged part (OfClient c)) (laws : Below) (event : Event) (node : ClientNode)

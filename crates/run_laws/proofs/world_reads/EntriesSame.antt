@@ -13,7 +13,8 @@ use Rattle.run_laws.specs.world_logs.Lines.{setting}
 use Rattle.headline.specs.Logs.{Role, log_by, renews}
 use Rattle.run_laws.proofs.world_reads.EntriesRise.{rows_filed}
 use Rattle.run_laws.proofs.world_reads.KnownLogs.{HasLog, filed_log}
-use Rattle.run_laws.specs.world_reads.Joint.{IsSureUpto, Joint, There, log_at}
+use Rattle.run_laws.specs.world_reads.Joint.{Joint, There, log_at}
+use Rattle.run_laws.proofs.world_reads.Joint.{IsSureUpto}
 use Rattle.run_laws.specs.world_reads.LoggedRuns.{LoggedRun}
 use Rattle.xfs_base.proofs.Members.{contains_nothing}
 use Rattle.xfs_base.specs.declared.block.BlockId.{BlockId}

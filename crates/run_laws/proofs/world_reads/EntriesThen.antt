@@ -77,7 +77,8 @@ use Rattle.run_laws.proofs.world_reads.EntriesSame.{same_rows, sure_log}
 use Rattle.run_laws.proofs.world_reads.EntriesStay.{AnyOwed, entries_stay}
 use Rattle.run_laws.proofs.world_reads.Taking.{Took, did_then, moment_next}
 use Rattle.run_laws.specs.world_reads.Entries.{EntriesStand, PartKnown, PartsNamed}
-use Rattle.run_laws.specs.world_reads.Joint.{IsSureUpto, Joint, There, log_at}
+use Rattle.run_laws.specs.world_reads.Joint.{Joint, There, log_at}
+use Rattle.run_laws.proofs.world_reads.Joint.{IsSureUpto}
 use Rattle.xfs_base.specs.declared.node.NodeId.{NodeId}
 use Rattle.xfs_base.specs.declared.node.NodeId.TheVariants.{Client, Manager, Server, Cleaner, Registry}
 use Rattle.xfs_base.specs.declared.segment.LogId.{LogId}
@@ -85,7 +86,7 @@ use Rattle.xfs_base.specs.declared.segment.SegName.{SegName}
 use Rattle.xfs_base.proofs.Booleans.{equal_itself}
 use Rattle.xfs_base.specs.Limits.{slot_count}
 use Rattle.xfs_base.specs.Logs.{cleaners_number}
-use Rattle.run_laws.specs.world_reads.Below.{Below}
+use Rattle.run_laws.proofs.world_reads.Below.{Below}
 use Rattle.run_laws.specs.world_reads.LoggedRuns.{LoggedRun}
 
 module _ (logged : LoggedRun) (part count : ℕ) where

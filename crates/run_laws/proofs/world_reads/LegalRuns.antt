@@ -22,10 +22,11 @@ use Rattle.run_laws.proofs.world_reads.LegalJoints.{acts_are_legal}
 use Rattle.run_laws.proofs.world_reads.OwnTable.{is_own_table}
 use Rattle.run_laws.proofs.world_reads.TurnRun.{moment_cluster}
 use Rattle.run_laws.proofs.world_reads.TurnWhole.{whole_at}
-use Rattle.run_laws.specs.world_reads.Below.{Below}
+use Rattle.run_laws.proofs.world_reads.Below.{Below}
 use Rattle.run_laws.specs.world_reads.Holders.{EveryRunsHoldersAreNewest}
 use Rattle.run_laws.specs.world_reads.Indexes.{EveryRunKeepsItsIndexes, EveryRunsIndexesAreItsOwn, KeepsItsIndexes}
-use Rattle.run_laws.specs.world_reads.Joint.{IsSureUpto, Joint}
+use Rattle.run_laws.specs.world_reads.Joint.{Joint}
+use Rattle.run_laws.proofs.world_reads.Joint.{IsSureUpto}
 use Rattle.run_laws.specs.world_reads.Legal.{EveryRunWithoutLossesIsLegal, EveryRunsActsAreLegal}
 use Rattle.run_laws.specs.world_reads.LoggedRuns.{LoggedRun, logged_run}
 use Rattle.run_laws.specs.world_reads.Moments.{EveryMomentStands, MomentStands}

@@ -28,7 +28,7 @@ use Rattle.run_laws.specs.world_index.Standing as places_of
 use Rattle.run_laws.proofs.world_law.Places.{Behind, behind}
 use Rattle.run_laws.proofs.world_law.Sent.{in_list}
 use Rattle.run_laws.specs.world_law.Standing as tokens
-use Rattle.run_laws.specs.world_law.Owes.{TurnOwes}
+use Rattle.run_laws.proofs.world_law.Owes.{TurnOwes}
 use Rattle.headline.specs.Moments.{moment}
 use Rattle.run_laws.specs.world_logs.Lines.{cluster}
 use Rattle.headline.specs.Logs.Role.{OfManager}
@@ -47,7 +47,7 @@ use Rattle.xfs_base.specs.declared.segment.End.{End}
 use Rattle.xfs_base.specs.declared.segment.SegRef.{SegRef}
 use Rattle.xfs_base.specs.Logs.{block_writer, cleaners_number}
 use Rattle.xfs_base.specs.Limits.{slot_count}
-use Rattle.run_laws.specs.world_reads.Below.{Below}
+use Rattle.run_laws.proofs.world_reads.Below.{Below}
 use Rattle.run_laws.specs.world_reads.LoggedRuns.{LoggedRun}
 
 pub one_contained : {X : Type 0} (P : X → Type 0) (xs : List X) (x : X) → AllByRecursion P xs → Contains xs x → P x

@@ -48,7 +48,7 @@ use Rattle.run_laws.specs.world_reads.Joint.{There}
 use Rattle.run_laws.specs.world_reads.References.{Flew}
 use Rattle.xfs_base.specs.declared.node.NodeId.{NodeId}
 use Rattle.xfs_base.specs.declared.node.NodeId.TheVariants.{Client, Manager, Server, Cleaner, Registry}
-use Rattle.run_laws.specs.world_reads.Below.{Below}
+use Rattle.run_laws.proofs.world_reads.Below.{Below}
 use Rattle.run_laws.specs.world_reads.LoggedRuns.{LoggedRun}
 
 -- what holds of each phase of a table, and of one that is away, holds of the slot of this number

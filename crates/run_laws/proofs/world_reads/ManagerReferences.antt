@@ -7,7 +7,8 @@ use Rattle.core_world.specs.declared.any_node.AnyNode.TheVariants as any
 use Rattle.node_tellings.proofs.reference_tie.Managers.{managers_start}
 use Rattle.node_tellings.proofs.reference_tie.Registries.{registry_starts}
 use Rattle.node_tellings.proofs.reference_tie.Rising.{managers_rise, packets_rise, registry_rises}
-use Rattle.node_tellings.specs.reference_tie.References.{References, Weaker}
+use Rattle.node_tellings.specs.reference_tie.References.{References}
+use Rattle.node_tellings.proofs.reference_tie.References.{Weaker}
 use Rattle.token_protocol.specs.Basics.{In}
 use Rattle.version_model.specs.declared.work.Work.{Work}
 use Rattle.wire_msg.specs.declared.packet.Packet.{Packet}

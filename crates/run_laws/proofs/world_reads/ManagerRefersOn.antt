@@ -67,14 +67,15 @@ use Rattle.headline.specs.Logs.Role.{OfClient, OfCleaner, OfManager}
 use Rattle.run_laws.proofs.world_reads.ManagerMoment.{Coming, brought_by}
 use Rattle.run_laws.proofs.world_reads.ManagerReferences.{all_rise, weaker_then}
 use Rattle.run_laws.proofs.world_reads.Taking.{moment_next}
-use Rattle.run_laws.specs.world_reads.Joint.{IsSureUpto, Joint, There}
+use Rattle.run_laws.specs.world_reads.Joint.{Joint, There}
+use Rattle.run_laws.proofs.world_reads.Joint.{IsSureUpto}
 use Rattle.run_laws.specs.world_reads.References.{AllRefer, AnyRefers, EndFlew, Flew, ReferencesStand, its}
 use Rattle.xfs_base.specs.declared.node.NodeId.{NodeId}
 use Rattle.xfs_base.specs.declared.node.NodeId.TheVariants.{Client, Manager, Server, Cleaner, Registry}
 use Rattle.xfs_base.specs.declared.segment.End.{End}
 use Rattle.xfs_base.specs.declared.segment.LogId.{LogId}
 use Rattle.xfs_base.specs.Logs.{cleaners_number}
-use Rattle.run_laws.specs.world_reads.Below.{Below}
+use Rattle.run_laws.proofs.world_reads.Below.{Below}
 use Rattle.run_laws.specs.world_reads.LoggedRuns.{LoggedRun}
 
 -- ---- lists

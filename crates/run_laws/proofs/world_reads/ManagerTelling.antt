@@ -44,7 +44,8 @@ use Rattle.run_laws.proofs.world_index.Senders.{kinds_of_tokens}
 use Rattle.run_laws.specs.world_index.Owes.{ManagerGiven, TokensGive}
 use Rattle.run_laws.specs.world_index.Standing as index
 use Rattle.run_laws.specs.world_law.Standing as standing
-use Rattle.run_laws.specs.world_law.Owes.{ManagerTold, ServingTold, SlotTold, TurnOwes}
+use Rattle.run_laws.specs.world_law.Owes.{ManagerTold, ServingTold, SlotTold}
+use Rattle.run_laws.proofs.world_law.Owes.{TurnOwes}
 use Rattle.headline.specs.Moments.{moment, node_in}
 use Rattle.headline.specs.Logs.Role.{OfManager}
 use Rattle.run_laws.proofs.world_reads.ManagerMoment as manager
@@ -54,7 +55,7 @@ use Rattle.run_laws.proofs.world_reads.ManagerReading.{SourcesFlew}
 use Rattle.run_laws.specs.world_reads.Joint.{There}
 use Rattle.xfs_base.specs.declared.node.NodeId.{NodeId}
 use Rattle.xfs_base.specs.declared.node.NodeId.TheVariants.{Client, Manager, Server, Cleaner, Registry}
-use Rattle.run_laws.specs.world_reads.Below.{Below}
+use Rattle.run_laws.proofs.world_reads.Below.{Below}
 use Rattle.run_laws.specs.world_reads.LoggedRuns.{LoggedRun}
 
 none_some : {X : Type 0} (x : X) → None ≡ Some x → ⊥

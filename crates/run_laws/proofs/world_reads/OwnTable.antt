@@ -33,7 +33,8 @@ use Rattle.run_laws.proofs.world_reads.EntriesSame.{sure_log}
 use Rattle.run_laws.proofs.world_reads.KnownLogs.{HasLog, filed_log}
 use Rattle.run_laws.proofs.world_reads.OwnActs.{did_is_acted, told_by_owner}
 use Rattle.run_laws.proofs.world_reads.TurnRun.{moment_cluster}
-use Rattle.run_laws.specs.world_reads.Joint.{IsSureUpto, Joint, There, log_at}
+use Rattle.run_laws.specs.world_reads.Joint.{Joint, There, log_at}
+use Rattle.run_laws.proofs.world_reads.Joint.{IsSureUpto}
 use Rattle.run_laws.specs.world_reads.LoggedRuns.{LoggedRun}
 use Rattle.xfs_base.specs.declared.node.NodeId.TheVariants.{Registry}
 use Rattle.xfs_base.specs.declared.segment.LogId.{LogId}

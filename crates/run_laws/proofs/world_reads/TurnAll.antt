@@ -20,12 +20,13 @@ use Rattle.run_laws.proofs.world_reads.TurnBoth.{Both}
 use Rattle.run_laws.proofs.world_reads.TurnLives.{lives_lie}
 use Rattle.run_laws.proofs.world_reads.TurnNext.{Grows}
 use Rattle.run_laws.proofs.world_reads.TurnRun.{Step, both_then, joint_then}
-use Rattle.run_laws.specs.world_reads.Joint.{IsSureUpto, Joint, k}
+use Rattle.run_laws.specs.world_reads.Joint.{Joint, k}
+use Rattle.run_laws.proofs.world_reads.Joint.{IsSureUpto}
 use Rattle.xfs_base.specs.Blocks.{slot_of}
 use Rattle.xfs_base.specs.declared.node.NodeId.{NodeId}
 use Rattle.xfs_base.specs.declared.node.NodeId.TheVariants.{Client, Manager, Server, Cleaner, Registry}
 use Rattle.xfs_base.specs.Limits.{slot_count}
-use Rattle.run_laws.specs.world_reads.Below.{Below}
+use Rattle.run_laws.proofs.world_reads.Below.{Below}
 use Rattle.run_laws.specs.world_reads.LoggedRuns.{LoggedRun}
 
 all_from : {X : Type 0} (P : X → Type 0) (xs : List X) → ((x : X) → In x xs → P x) → AllByRecursion P xs

@@ -36,7 +36,8 @@ use Rattle.run_laws.proofs.world_law.Places.{Behind, behind}
 use Rattle.run_laws.specs.world_law.Standing as tokens
 use Rattle.run_laws.specs.world_law.Standing.{Fact, epoch_now, members}
 use Rattle.run_laws.proofs.world_law.Turns.{one_node}
-use Rattle.run_laws.specs.world_law.Owes.{ClientTold, ManagerTold, TurnOwes}
+use Rattle.run_laws.specs.world_law.Owes.{ManagerTold}
+use Rattle.run_laws.proofs.world_law.Owes.{ClientTold, TurnOwes}
 use Rattle.headline.specs.Moments.{moment, node_in}
 use Rattle.run_laws.proofs.world_reads.AfterFalls.{all_aside, client_aside}
 use Rattle.run_laws.proofs.world_reads.Taking.{Took, took_it}
@@ -45,7 +46,7 @@ use Rattle.run_laws.specs.world_reads.Joint.{k}
 use Rattle.xfs_base.specs.declared.node.NodeId.{NodeId}
 use Rattle.xfs_base.specs.declared.node.NodeId.TheVariants.{Client, Manager, Server, Cleaner, Registry}
 use Rattle.xfs_base.specs.Limits.{slot_count}
-use Rattle.run_laws.specs.world_reads.Below.{Below}
+use Rattle.run_laws.proofs.world_reads.Below.{Below}
 use Rattle.run_laws.specs.world_reads.LoggedRuns.{LoggedRun}
 
 client_number : (logs : Bool) (part c : ℕ) (n : Net) (p : Phase) → ClientAgrees logs part c n p → (lasting_of p).number ≡ c

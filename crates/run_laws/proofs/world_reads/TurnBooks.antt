@@ -14,7 +14,7 @@ use Rattle.token_law.specs.Books.{Books}
 use Rattle.token_law.specs.Net as tokens
 use Rattle.wire_msg.specs.declared.packet.Do.{Do}
 use Rattle.run_laws.specs.world_index.Owes.{Makes}
-use Rattle.run_laws.specs.world_law.Owes.{BooksGo}
+use Rattle.run_laws.proofs.world_law.Owes.{BooksGo}
 use Rattle.run_laws.proofs.world_reads.AfterStill.{same_filing, same_log}
 use Rattle.xfs_base.specs.declared.node.NodeId.{NodeId}
 use Rattle.xfs_base.specs.declared.node.NodeId.TheVariants.{Client, Manager, Server, Cleaner, Registry}

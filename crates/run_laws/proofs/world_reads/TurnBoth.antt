@@ -34,7 +34,7 @@ use Rattle.run_laws.proofs.world_law.Sent.{was_sent}
 use Rattle.run_laws.specs.world_law.Standing as tokens
 use Rattle.run_laws.proofs.world_law.Turning.{next_keeps}
 use Rattle.run_laws.proofs.world_law.Turns as token_turns
-use Rattle.run_laws.specs.world_law.Owes.{BooksGo, TurnOwes}
+use Rattle.run_laws.proofs.world_law.Owes.{BooksGo, TurnOwes}
 use Rattle.headline.specs.Moments.{moment, node_in}
 use Rattle.headline.specs.Logs.Role.{OfCleaner}
 use Rattle.run_laws.proofs.world_reads.AfterCleaner.{AdoptsWhatFlew}
@@ -43,7 +43,7 @@ use Rattle.run_laws.specs.world_reads.Joint.{Joint, k}
 use Rattle.xfs_base.specs.declared.node.NodeId.{NodeId}
 use Rattle.xfs_base.specs.declared.node.NodeId.TheVariants.{Cleaner}
 use Rattle.xfs_base.specs.Limits.{slot_count}
-use Rattle.run_laws.specs.world_reads.Below.{Below}
+use Rattle.run_laws.proofs.world_reads.Below.{Below}
 use Rattle.run_laws.specs.world_reads.LoggedRuns.{LoggedRun}
 
 -- what is delivered was sent

@@ -48,7 +48,7 @@ use Rattle.run_laws.specs.world_index.Asking.{CleanerAsks}
 use Rattle.run_laws.specs.world_index.Owes.{IndexOwes, Makes}
 use Rattle.run_laws.specs.world_index.Standing.{SentBy, WasAsked}
 use Rattle.run_laws.specs.world_law.Standing.{epoch_now}
-use Rattle.run_laws.specs.world_law.Owes.{BooksGo}
+use Rattle.run_laws.proofs.world_law.Owes.{BooksGo}
 use Rattle.headline.specs.Moments.{moment, node_in}
 use Rattle.run_laws.specs.world_lines.Lines.{IsSure, SaysBlocks}
 use Rattle.run_laws.specs.world_lines.Turns.{AllSo}
@@ -66,12 +66,13 @@ use Rattle.run_laws.proofs.world_reads.Taking.{Took, did_then, moment_next, node
 use Rattle.run_laws.proofs.world_reads.TurnBoth.{AdoptsThere, Both, IsOwed, Turned, sent_before}
 use Rattle.run_laws.proofs.world_reads.TurnMoment as now
 use Rattle.run_laws.proofs.world_reads.TurnMoment.{same_cleaner}
-use Rattle.run_laws.specs.world_reads.Joint.{IsSureUpto, k}
+use Rattle.run_laws.specs.world_reads.Joint.{k}
+use Rattle.run_laws.proofs.world_reads.Joint.{IsSureUpto}
 use Rattle.xfs_base.specs.declared.node.NodeId.TheVariants.{Cleaner}
 use Rattle.xfs_base.specs.Limits.{counter_room, u32_end, slot_count}
 use Rattle.xfs_base.specs.Steps.{still}
 use Rattle.xfs_base.proofs.Booleans.{and_first, and_second}
-use Rattle.run_laws.specs.world_reads.Below.{Below}
+use Rattle.run_laws.proofs.world_reads.Below.{Below}
 use Rattle.run_laws.specs.world_reads.LoggedRuns.{LoggedRun}
 
 -- ---- counters

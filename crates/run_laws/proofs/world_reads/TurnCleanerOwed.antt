@@ -19,10 +19,11 @@ use Rattle.run_laws.proofs.world_reads.CleanerTold.{adopted, adopts_flight}
 use Rattle.run_laws.proofs.world_reads.Taking.{Took}
 use Rattle.run_laws.proofs.world_reads.TurnBoth.{both_of}
 use Rattle.run_laws.proofs.world_reads.TurnOwed.{CleanerOwed, IndexOwed}
-use Rattle.run_laws.specs.world_reads.Joint.{IsSureUpto, Joint, k}
+use Rattle.run_laws.specs.world_reads.Joint.{Joint, k}
+use Rattle.run_laws.proofs.world_reads.Joint.{IsSureUpto}
 use Rattle.xfs_base.specs.declared.node.NodeId.TheVariants.{Cleaner}
 use Rattle.xfs_base.specs.Limits.{slot_count}
-use Rattle.run_laws.specs.world_reads.Below.{Below}
+use Rattle.run_laws.proofs.world_reads.Below.{Below}
 use Rattle.run_laws.specs.world_reads.LoggedRuns.{LoggedRun}
 
 module _ (law : Below) (logged : LoggedRun) (part : ℕ) (of_eight : part < slot_count) (apart : TellsApart logged.base)

@@ -38,7 +38,7 @@ use Rattle.world_base.specs.Events.{node_of, what_of}
 use Rattle.world_base.specs.NextWorld.{next_world}
 use Rattle.run_laws.proofs.world_index.Frames.{client_number}
 use Rattle.run_laws.specs.world_index.Owes.{IndexOwes, Makes}
-use Rattle.run_laws.specs.world_law.Owes.{BooksGo}
+use Rattle.run_laws.proofs.world_law.Owes.{BooksGo}
 use Rattle.headline.specs.Moments.{moment, node_in}
 use Rattle.run_laws.specs.world_lines.Lines.{IsSure, SaysBlocks}
 use Rattle.run_laws.specs.world_lines.Turns.{AllSo}
@@ -55,10 +55,11 @@ use Rattle.run_laws.proofs.world_reads.Taking.{Took, did_then, moment_next, node
 use Rattle.run_laws.proofs.world_reads.TurnBoth.{Both, IsOwed, Turned}
 use Rattle.run_laws.proofs.world_reads.TurnMoment as now
 use Rattle.run_laws.proofs.world_reads.TurnMoment.{same_client}
-use Rattle.run_laws.specs.world_reads.Joint.{IsSureUpto, There, flew_at, k}
+use Rattle.run_laws.specs.world_reads.Joint.{There, flew_at, k}
+use Rattle.run_laws.proofs.world_reads.Joint.{IsSureUpto}
 use Rattle.xfs_base.specs.declared.node.NodeId.TheVariants.{Client}
 use Rattle.xfs_base.proofs.Booleans.{equal_itself}
-use Rattle.run_laws.specs.world_reads.Below.{Below}
+use Rattle.run_laws.proofs.world_reads.Below.{Below}
 use Rattle.run_laws.specs.world_reads.LoggedRuns.{LoggedRun}
 
 module _ (laws : Below) (logged : LoggedRun) (part : ℕ) (apart : TellsApart logged.base) (count : ℕ) (event : Event)

@@ -40,11 +40,12 @@ use Rattle.run_laws.proofs.world_reads.TurnMoment as now
 use Rattle.run_laws.proofs.world_reads.TurnMoment.{same_client}
 use Rattle.run_laws.proofs.world_reads.TurnOwed.{IndexOwed, TokensOwed}
 use Rattle.run_laws.proofs.world_reads.TurnRun.{moment_cluster}
-use Rattle.run_laws.specs.world_reads.Joint.{IsSureUpto, Joint, There, k}
+use Rattle.run_laws.specs.world_reads.Joint.{Joint, There, k}
+use Rattle.run_laws.proofs.world_reads.Joint.{IsSureUpto}
 use Rattle.xfs_base.specs.declared.node.NodeId.TheVariants.{Client}
 use Rattle.xfs_base.specs.Steps.{still}
 use Rattle.xfs_base.specs.Limits.{slot_count}
-use Rattle.run_laws.specs.world_reads.Below.{Below}
+use Rattle.run_laws.proofs.world_reads.Below.{Below}
 use Rattle.run_laws.specs.world_reads.LoggedRuns.{LoggedRun}
 
 -- ---- where the opening of its log ends the client serves then

@@ -38,10 +38,11 @@ use Rattle.run_laws.proofs.world_reads.TurnClient.{client_fell}
 use Rattle.run_laws.proofs.world_reads.TurnLogs.{LogsKnown, client_or_not}
 use Rattle.run_laws.proofs.world_reads.TurnMoment as now
 use Rattle.run_laws.proofs.world_reads.TurnMoment.{same_client}
-use Rattle.run_laws.specs.world_reads.Joint.{IsSureUpto, There, flew_at, k}
+use Rattle.run_laws.specs.world_reads.Joint.{There, flew_at, k}
+use Rattle.run_laws.proofs.world_reads.Joint.{IsSureUpto}
 use Rattle.xfs_base.specs.declared.node.NodeId.TheVariants.{Client}
 use Rattle.xfs_base.specs.Limits.{slot_count}
-use Rattle.run_laws.specs.world_reads.Below.{Below}
+use Rattle.run_laws.proofs.world_reads.Below.{Below}
 use Rattle.run_laws.specs.world_reads.LoggedRuns.{LoggedRun}
 
 module _ (logged : LoggedRun) (part : ℕ) where

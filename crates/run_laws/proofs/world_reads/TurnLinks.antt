@@ -32,12 +32,13 @@ use Rattle.run_laws.proofs.world_reads.CleanerMoment.{sure_at}
 use Rattle.run_laws.proofs.world_reads.TurnBoth.{Both}
 use Rattle.run_laws.proofs.world_reads.TurnLogs.{LogsKnown}
 use Rattle.run_laws.proofs.world_reads.TurnMoment as now
-use Rattle.run_laws.specs.world_reads.Joint.{IsSureUpto, There, k}
+use Rattle.run_laws.specs.world_reads.Joint.{There, k}
+use Rattle.run_laws.proofs.world_reads.Joint.{IsSureUpto}
 use Rattle.xfs_base.specs.declared.block.BlockId.{BlockId}
 use Rattle.xfs_base.proofs.Booleans.{equal_itself}
 use Rattle.xfs_base.specs.Limits.{slot_count, block_logs}
 use Rattle.xfs_base.specs.Logs.{cleaners_number}
-use Rattle.run_laws.specs.world_reads.Below.{Below}
+use Rattle.run_laws.proofs.world_reads.Below.{Below}
 use Rattle.run_laws.specs.world_reads.LoggedRuns.{LoggedRun}
 
 difference : (a b : ℕ) → a < b → a + (b - a) ≡ b

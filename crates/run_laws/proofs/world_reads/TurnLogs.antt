@@ -24,13 +24,14 @@ use Rattle.run_laws.proofs.world_reads.TurnBoth.{Both, IsOwed, Turned, both_of}
 use Rattle.run_laws.proofs.world_reads.TurnCleaner.{cleaner_known}
 use Rattle.run_laws.proofs.world_reads.TurnClient.{client_known}
 use Rattle.run_laws.proofs.world_reads.TurnMoment as now
-use Rattle.run_laws.specs.world_reads.Joint.{IsSureUpto, Joint, There, flew_at, k}
+use Rattle.run_laws.specs.world_reads.Joint.{Joint, There, flew_at, k}
+use Rattle.run_laws.proofs.world_reads.Joint.{IsSureUpto}
 use Rattle.xfs_base.proofs.Booleans.{contrary}
 use Rattle.xfs_base.specs.declared.node.NodeId.{NodeId}
 use Rattle.xfs_base.specs.declared.node.NodeId.TheVariants.{Client, Manager, Server, Cleaner, Registry}
 use Rattle.xfs_base.specs.Limits.{slot_count, block_logs}
 use Rattle.xfs_base.specs.Logs.{cleaners_number}
-use Rattle.run_laws.specs.world_reads.Below.{Below}
+use Rattle.run_laws.proofs.world_reads.Below.{Below}
 use Rattle.run_laws.specs.world_reads.LoggedRuns.{LoggedRun}
 
 -- ---- names

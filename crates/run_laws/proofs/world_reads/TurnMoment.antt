@@ -18,7 +18,8 @@ use Rattle.headline.specs.Logs.{Role}
 use Rattle.headline.specs.Logs.Role.{OfClient, OfCleaner}
 use Rattle.run_laws.specs.world_logs.Standing.{CleanerOwns, OwnerSeen}
 use Rattle.run_laws.proofs.world_reads.TurnBoth.{Both}
-use Rattle.run_laws.specs.world_reads.Joint.{IsSureUpto, There, k}
+use Rattle.run_laws.specs.world_reads.Joint.{There, k}
+use Rattle.run_laws.proofs.world_reads.Joint.{IsSureUpto}
 use Rattle.run_laws.specs.world_reads.LoggedRuns.{LoggedRun}
 use Rattle.xfs_base.specs.declared.node.NodeId.TheVariants.{Client, Cleaner, Registry}
 use Rattle.xfs_base.specs.Logs.{cleaners_number}

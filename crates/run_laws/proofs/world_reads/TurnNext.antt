@@ -40,10 +40,11 @@ use Rattle.run_laws.proofs.world_reads.TurnMoment as now
 use Rattle.run_laws.proofs.world_reads.TurnStill.{IsStill, Rests, flew_still, known_still, rested}
 use Rattle.run_laws.specs.world_reads.Chains.{Follows}
 use Rattle.run_laws.specs.world_reads.Entries.{EntriesStand}
-use Rattle.run_laws.specs.world_reads.Joint.{IsSureUpto, Joint, LinesActed, There, flew_at, k}
+use Rattle.run_laws.specs.world_reads.Joint.{Joint, LinesActed, There, flew_at, k}
+use Rattle.run_laws.proofs.world_reads.Joint.{IsSureUpto}
 use Rattle.xfs_base.specs.declared.node.NodeId.TheVariants.{Cleaner}
 use Rattle.xfs_base.specs.Limits.{slot_count}
-use Rattle.run_laws.specs.world_reads.Below.{Below}
+use Rattle.run_laws.proofs.world_reads.Below.{Below}
 use Rattle.run_laws.specs.world_reads.LoggedRuns.{LoggedRun}
 
 -- The moment after one that stands to all small worlds: it stands so and follows that one, and no less is filed than was.

@@ -10,7 +10,7 @@ use Rattle.world_base.specs.declared.event.Event.{Event}
 use Rattle.world_base.specs.Events.{node_of, what_of}
 use Rattle.run_laws.specs.world_index.Owes.{IndexOwes}
 use Rattle.run_laws.specs.world_law.Standing as tokens
-use Rattle.run_laws.specs.world_law.Owes.{NodeTold}
+use Rattle.run_laws.proofs.world_law.Owes.{NodeTold}
 use Rattle.headline.specs.Moments.{moment}
 use Rattle.run_laws.proofs.world_reads.Taking.{Took}
 use Rattle.run_laws.proofs.world_reads.TurnBoth.{AdoptsThere, Both, IsOwed, IsOwedAs}

@@ -24,10 +24,11 @@ use Rattle.run_laws.proofs.world_reads.TurnLogs.{LogsKnown, cleaner_or_not, clie
 use Rattle.run_laws.proofs.world_reads.TurnNext.{Grows, LivesTell, TellsEntries, stays, taken}
 use Rattle.run_laws.proofs.world_reads.TurnOwed.{AllOwed, is_owed}
 use Rattle.run_laws.proofs.world_reads.TurnStill.{IsStill, Rests, rested}
-use Rattle.run_laws.specs.world_reads.Joint.{IsSureUpto, Joint, There, k}
+use Rattle.run_laws.specs.world_reads.Joint.{Joint, There, k}
+use Rattle.run_laws.proofs.world_reads.Joint.{IsSureUpto}
 use Rattle.xfs_base.proofs.Booleans.{contrary}
 use Rattle.xfs_base.specs.Limits.{slot_count}
-use Rattle.run_laws.specs.world_reads.Below.{Below}
+use Rattle.run_laws.proofs.world_reads.Below.{Below}
 use Rattle.run_laws.specs.world_reads.LoggedRuns.{LoggedRun}
 
 -- ---- counts

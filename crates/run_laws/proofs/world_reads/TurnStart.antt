@@ -43,8 +43,9 @@ use Rattle.run_laws.proofs.world_reads.TurnLogs.{LogsKnown}
 use Rattle.run_laws.proofs.world_reads.TurnNext.{IsKnown, joint_of}
 use Rattle.run_laws.proofs.world_reads.TurnRun.{moment_cluster}
 use Rattle.run_laws.specs.world_reads.Entries.{EntriesStand}
-use Rattle.run_laws.specs.world_reads.Joint.{IsSureUpto, Joint, WritesKind, flew_at, k}
-use Rattle.run_laws.specs.world_reads.Below.{Below}
+use Rattle.run_laws.specs.world_reads.Joint.{Joint, WritesKind, flew_at, k}
+use Rattle.run_laws.proofs.world_reads.Joint.{IsSureUpto}
+use Rattle.run_laws.proofs.world_reads.Below.{Below}
 use Rattle.run_laws.specs.world_reads.LoggedRuns.{LoggedRun}
 
 -- of a log that has just begun nothing is known to be filed, and nothing was in flight

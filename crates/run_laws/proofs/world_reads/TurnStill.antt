@@ -34,9 +34,10 @@ use Rattle.run_laws.proofs.world_reads.CleanerMoment.{sure_at}
 use Rattle.run_laws.proofs.world_reads.TurnBoth.{Both, same_moment}
 use Rattle.run_laws.proofs.world_reads.TurnLogs.{LogsKnown}
 use Rattle.run_laws.proofs.world_reads.TurnMoment as now
-use Rattle.run_laws.specs.world_reads.Joint.{IsSureUpto, There, WritesKind, flew_at, k}
+use Rattle.run_laws.specs.world_reads.Joint.{There, WritesKind, flew_at, k}
+use Rattle.run_laws.proofs.world_reads.Joint.{IsSureUpto}
 use Rattle.xfs_base.proofs.Booleans.{contrary}
-use Rattle.run_laws.specs.world_reads.Below.{Below}
+use Rattle.run_laws.proofs.world_reads.Below.{Below}
 use Rattle.run_laws.specs.world_reads.LoggedRuns.{LoggedRun}
 
 module _ (logged : LoggedRun) (part count : ℕ) where

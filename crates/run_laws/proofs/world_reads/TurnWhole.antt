@@ -50,7 +50,7 @@ use Rattle.run_laws.specs.world_reads.Joint.{Joint, There, k, log_at}
 use Rattle.run_laws.specs.world_reads.References.{ReferencesStand}
 use Rattle.xfs_base.specs.declared.node.NodeId.TheVariants.{Manager}
 use Rattle.xfs_base.specs.Limits.{slot_count}
-use Rattle.run_laws.specs.world_reads.Below.{Below}
+use Rattle.run_laws.proofs.world_reads.Below.{Below}
 use Rattle.run_laws.specs.world_reads.LoggedRuns.{LoggedRun}
 
 module _ (laws : Below) (logged : LoggedRun) (apart : TellsApart logged.base) (setup : IsSetup logged.estate.script.setup)

@@ -9,8 +9,7 @@ use Rattle.cleaner_node.specs.declared.cleaner.Phase.TheVariants as cleaning
 use Rattle.client_node.specs.Phases as clients
 use Rattle.core_world.specs.declared.any_node.AnyNode.{AnyNode}
 use Rattle.core_world.specs.declared.any_node.AnyNode.TheVariants as any
-use Rattle.index_tie.specs.Growth.{IsMore}
-use Rattle.index_tie.specs.Net.{Net, Packet as Said}
+use Rattle.index_tie.specs.Net.{Net}
 use Rattle.log_owner.specs.Sending.{server_in}
 use Rattle.log_protocol.specs.Tables as tables
 use Rattle.manager_node.specs.declared.manager.Manager.{Manager as ManagerNode}
@@ -180,10 +179,3 @@ module _ (part : ℕ) (texts : Texts) (n next : Net) where
   Makes Cleaner (any.Cleaner node) what = CleanerMakes node what
   Makes Registry (any.Registry node) what = RegistryMakes
   Makes name node what = next ≡ n
-
-  -- more is filed, no slot is gone, no packet is taken back, and no epoch or horizon falls
-  pub record GoesOn : Type 0 where
-    pub filed : IsMore n.filed next.filed
-    pub stay : (e : ℕ) → next.slots e ≡ None → n.slots e ≡ None
-    pub sent : (x : Said) → tables.In x n.sent → tables.In x next.sent
-    pub epoch : n.epoch ≤ next.epoch

@@ -1,5 +1,5 @@
 -- How a moment of a run stands to a moment of the small world of one slot's index: each node is seen there, and what packets tell of where blocks lie is so.
-use Rattle.std.specs.Prelude.{◌≡◌, ℕ, ◌+◌, ◌≤◌, ◌<◌, true, List, None, Some}
+use Rattle.std.specs.Prelude.{◌≡◌, ℕ, ◌+◌, ◌≤◌, ◌<◌, List, None, Some}
 use Rattle.client_node.specs.declared.client.Client.{Client as ClientNode}
 use Rattle.cleaner_node.specs.declared.cleaner.Cleaner.{Cleaner as CleanerNode}
 use Rattle.core_world.specs.declared.any_node.AnyNode.{AnyNode}
@@ -12,7 +12,6 @@ use Rattle.node_slots.specs.node_index_tie.ManagerEvents.{ManagerAgrees}
 use Rattle.node_slots.specs.node_index_tie.RegistryEvents.{IsHorizon, RegistryAgrees}
 use Rattle.node_slots.specs.node_index_tie.Sight.{Questions, held_in, CheckKnown, DeltasKnown, ManagerSends, ReportKnown}
 use Rattle.headline.specs.Filed.{AreTexts, Texts}
-use Rattle.node_slots.specs.node_tie.ManagerEvents.{HeldAt, Names, epoch_in, is_serving}
 use Rattle.headline.specs.Managers.{slot_in}
 use Rattle.node_slots.specs.owner_index_tie.CleanerEvents.{CleanerAgrees}
 use Rattle.node_slots.specs.owner_index_tie.ClientEvents.{ClientAgrees}
@@ -23,7 +22,6 @@ use Rattle.store_nodes.specs.declared.server.Server.{Server as ServerNode}
 use Rattle.token_protocol.specs.Basics.{In}
 use Rattle.wire_msg.specs.declared.body.Body.{Body}
 use Rattle.wire_msg.specs.declared.body.Body.TheVariants as body
-use Rattle.wire_msg.specs.declared.packet.Do.{Do}
 use Rattle.wire_msg.specs.declared.packet.Packet.{Packet}
 use Rattle.world_base.specs.Cluster.{place_of}
 use Rattle.world_base.specs.declared.cluster.Cluster.{Cluster}
@@ -132,14 +130,3 @@ module _ (k : Cluster) (part : ℕ) (texts : Texts) (first : ℕ → ℕ → Seg
     pub texts_of : AreTexts texts s.net.filed
     pub heads : (l : ℕ) → s.net.filed.head l < u32_end
     pub facts : (p : Packet) → In p sent → Fact part s p
-
--- An epoch at which nobody was active yet has got a manager in an event of the node of this name: one that serves then and knows the epoch, and that held it
--- before, or was given it in the event.
-pub record Came (k : Cluster) (part : ℕ) (s t : Scene) (name : NodeId) (what : Do) (e : ℕ) : Type 0 where
-  pub manager : ℕ
-  pub some : 0 < manager
-  pub limit : manager ≤ k.managers
-  pub named : name ≡ Manager manager
-  pub serves : is_serving (t.manager manager).phase ≡ true
-  pub knows : e ≤ epoch_in part (t.manager manager).phase
-  pub by : (HeldAt (holder part s manager) e → ⊥) → (Names part manager e what → ⊥) → ⊥

@@ -5,7 +5,7 @@ use Rattle.run_laws.specs.index_reads.Ties.{BooksAre}
 use Rattle.headline.specs.Filed.{Filed, rows_at}
 use Rattle.log_flight.specs.Flights.{FlightState}
 use Rattle.log_law.specs.Net.{Net as LogNet}
-use Rattle.log_law.specs.Restarts.{IsSureRun, last_flight}
+use Rattle.log_law.specs.Restarts.{last_flight}
 use Rattle.node_slots.specs.node_tie.RegistryEvents.{RegistrySound}
 use Rattle.node_slots.specs.owner_index_tie.CleanerMoves.{ItemMoves}
 use Rattle.run_laws.specs.reopening_law.Falls.{FallKnown}
@@ -52,10 +52,6 @@ module _ (logged : LoggedRun) (part : ℕ) where
   -- what its owner had in flight when it served last
   abbrev pub flew_at : (r : Role) → There r → ℕ → Option FlightState
   flew_at r there count = last_flight ((lines r there).stands count).moment.run
-
-  -- no restart of a client, or of the cleaner, that ended up to this count was doubtful
-  abbrev pub IsSureUpto : ℕ → Type 0
-  IsSureUpto count = (r : Role) (there : There r) → renews r ≡ false → IsSureRun ((lines r there).stands count).moment.run
 
   -- each segment of the line of a log was acted to be filed by the log's owner, a client or the cleaner, up to this count
   abbrev pub LinesActed : ℕ → Filed → Type 0

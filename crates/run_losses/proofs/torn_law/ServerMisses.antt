@@ -13,8 +13,8 @@ use Rattle.wire_msg.specs.declared.storage.Fetch.{Fetch}
 use Rattle.wire_msg.specs.declared.storage.Missing.{Missing}
 use Rattle.xfs_base.specs.declared.node.NodeId.{NodeId}
 use Rattle.node_moves.proofs.server_moves.Keeping.{event_sends}
-use Rattle.node_moves.specs.server_moves.Moves.{Sent}
-use Rattle.node_moves.specs.server_moves.Moves.Sent.{Missed}
+use Rattle.node_moves.proofs.server_moves.Moves.{Sent}
+use Rattle.node_moves.proofs.server_moves.Moves.Sent.{Missed}
 
 -- it answers this event
 pub record Answers (node : Node) (what : Do) (to : NodeId) (m : Missing) : Type 0 where

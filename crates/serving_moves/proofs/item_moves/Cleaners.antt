@@ -33,7 +33,8 @@ use Rattle.serving_moves.proofs.item_moves.Keeping.{all_pushed_plain, begun_of, 
 use Rattle.serving_moves.proofs.item_moves.Openings as openly
 use Rattle.serving_moves.proofs.item_moves.Openings.{goes_on, is_back, is_lost, may_answer}
 use Rattle.serving_moves.specs.item_moves.Events.{cleaner_losses, log_losses}
-use Rattle.serving_moves.specs.item_moves.Moves.{IsBusy, IsCleaners, IsCount, IsPrompt}
+use Rattle.serving_moves.specs.item_moves.Moves.{IsCleaners, IsCount, IsPrompt}
+use Rattle.serving_moves.proofs.item_moves.Moves.{IsBusy}
 use Rattle.headline.specs.Items.{Falls}
 use Rattle.serving_moves.specs.item_moves.Moves.Begun.{AtOnce, Waits}
 use Rattle.serving_moves.specs.item_moves.Moves.Event.{Begins, GoesOn, Idles, Cuts}

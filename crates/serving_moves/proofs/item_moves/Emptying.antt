@@ -64,7 +64,8 @@ use Rattle.xfs_base.specs.Steps.{saying, steps, still}
 use Rattle.xfs_base.proofs.Alls.{all_append, all_flat_map, all_map}
 use Rattle.serving_moves.proofs.item_moves.Keeping as moving
 use Rattle.serving_moves.proofs.item_moves.Keeping.{all_pushed_plain, first_goes, from_goes, if_goes, plainly, rests, same, steps_go, then_goes}
-use Rattle.serving_moves.specs.item_moves.Moves.{AllPlain, IsBusy, IsCount, IsPlain, ItemsStay}
+use Rattle.serving_moves.specs.item_moves.Moves.{AllPlain, IsCount, IsPlain, ItemsStay}
+use Rattle.serving_moves.proofs.item_moves.Moves.{IsBusy}
 use Rattle.serving_moves.specs.item_moves.Moves.Begun.{AtOnce, Waits}
 use Rattle.serving_moves.specs.item_moves.Moves.Move.{Ends}
 use Rattle.serving_moves.specs.item_moves.Moves.Moves.{Last}

@@ -19,7 +19,8 @@ use Rattle.xfs_base.proofs.Alls.{all_append, all_map, all_weaker}
 use Rattle.xfs_base.proofs.Booleans.{by_test}
 use Rattle.xfs_base.specs.declared.segment.SegName.{SegName}
 use Rattle.xfs_base.specs.Steps.{Stepped, saying, steps, still}
-use Rattle.serving_moves.specs.item_moves.Moves.{AllPlain, Begun, IsAside, IsSilent, MayAct, Event, IsBusy, IsPlain, IsPrompt, ItemsStay, Move, Moves, Losses}
+use Rattle.serving_moves.specs.item_moves.Moves.{AllPlain, Begun, IsAside, IsSilent, MayAct, Event, IsPlain, IsPrompt, ItemsStay, Move, Moves, Losses}
+use Rattle.serving_moves.proofs.item_moves.Moves.{IsBusy}
 use Rattle.version_model.specs.declared.act.Act.{Act}
 use Rattle.version_model.specs.declared.act.Act.TheVariants as act
 use Rattle.serving_moves.specs.item_moves.Moves.Begun.{AtOnce, Waits}

@@ -51,7 +51,8 @@ use Rattle.node_base.specs.declared.items.Items.{Items}
 use Rattle.serving_moves.proofs.item_moves.Keeping as moving
 use Rattle.serving_moves.proofs.item_moves.Keeping.{from_goes, plainly, rests, same, steps_go, then_goes}
 use Rattle.serving_moves.proofs.item_moves.Slots.{table_asks, table_check, table_deltas, table_gave, table_hears, table_recalls, table_regroups, table_report, table_takes, table_usage, table_want}
-use Rattle.serving_moves.specs.item_moves.Moves.{AllPlain, IsBusy, IsCount, IsPlain}
+use Rattle.serving_moves.specs.item_moves.Moves.{AllPlain, IsCount, IsPlain}
+use Rattle.serving_moves.proofs.item_moves.Moves.{IsBusy}
 use Rattle.serving_moves.specs.item_moves.Moves.Begun.{AtOnce, Waits}
 use Rattle.serving_moves.specs.item_moves.Moves.Move.{Ends}
 use Rattle.serving_moves.specs.item_moves.Moves.Moves.{Last}

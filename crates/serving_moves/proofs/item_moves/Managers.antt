@@ -28,7 +28,8 @@ use Rattle.node_base.specs.declared.items.Items.{Items}
 use Rattle.serving_moves.proofs.item_moves.Keeping as moving
 use Rattle.serving_moves.proofs.item_moves.Keeping.{begun_of, busy_prompt, same, unmoved}
 use Rattle.serving_moves.proofs.item_moves.ManagerServing.{Goes, checkpoint_goes, news_goes, packet_goes, tick_goes}
-use Rattle.serving_moves.specs.item_moves.Moves.{IsBusy, IsCount, IsPrompt}
+use Rattle.serving_moves.specs.item_moves.Moves.{IsCount, IsPrompt}
+use Rattle.serving_moves.proofs.item_moves.Moves.{IsBusy}
 use Rattle.headline.specs.Items.{Falls}
 use Rattle.serving_moves.specs.item_moves.Moves.Begun.{AtOnce}
 use Rattle.serving_moves.specs.item_moves.Moves.Event.{Begins, GoesOn, Idles, Cuts}

@@ -93,10 +93,6 @@ IsCleaners answer.Done = Unit {0}
 IsCleaners (answer.Count count) = Unit {0}
 IsCleaners _ = ⊥
 
-abbrev pub IsBusy : Answer → Type 0
-IsBusy answer.Busy = Unit {0}
-IsBusy _ = ⊥
-
 -- any but that the item is cut, or that a segment is lost
 abbrev pub IsPrompt : Answer → Type 0
 IsPrompt answer.Cut = ⊥

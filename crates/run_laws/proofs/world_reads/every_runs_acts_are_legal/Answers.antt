@@ -1,6 +1,6 @@
 use Rattle.run_laws.proofs.world_reads.LegalRuns.{every_moment_stands, every_run_keeps_its_indexes, every_run_without_losses_is_legal, every_runs_acts_are_legal, every_runs_holders_are_newest, every_runs_indexes_are_its_own}
 use Rattle.run_laws.proofs.world_reads.every_runs_acts_are_legal.Goals as goal
-use Rattle.run_laws.specs.world_reads.Below.{Below}
+use Rattle.run_laws.proofs.world_reads.Below.{Below}
 use Rattle.run_laws.specs.world_reads.Legal.{EveryRunsActsAreLegal}
 
 pub returns : goal.returns
