@@ -8,7 +8,7 @@ use Rattle.board.specs.declared.input.In.TheVariants.{Offer, Mail, Beat, Stop, S
 use Rattle.board.specs.declared.packet.BoardBody.{BoardBody}
 use Rattle.board.specs.declared.packet.BoardBody.TheVariants.{Prepare, Promised, Install, Append, Accepted}
 use Rattle.board.specs.State.{BoardState, chosen_part}
-use Rattle.board.specs.Transition.{Done, answer, append, apply_done, extend, extend_by, extend_or_tick, extend_waiting, has_short, heard_of, hears, install, is_better, is_for, is_ready, is_whole, keep_going, lead, lead_with, may_lead, on_accepted, on_append, on_beat, on_body, on_install, on_leader_beat, on_mail, on_offer, on_prepare, on_promised, prepare, raised, send, settled, tick, transition, unheard, would_lead}
+use Rattle.board.specs.Transition.{Done, answer, append, apply_done, extend, extend_by, extend_or_tick, extend_waiting, has_short, heard_of, hears, install, is_better, is_for, is_ready, is_whole, keep_going, lead, lead_with_own, may_lead, on_accepted, on_append, on_beat, on_body, on_install, on_leader_beat, on_mail, on_offer, on_prepare, on_promised, prepare, board_raise, send, board_settle, tick, transition, unheard, would_lead}
 use Rattle.board.specs.Waiting.{first_outside}
 use Rattle.board.specs.declared.packet.BoardPacket.{BoardPacket}
 
@@ -68,12 +68,12 @@ prepare_comes_quiet : (s : BoardState) (from ballot : ℕ) → Quiet s.applied (
 unfolding on_prepare
 prepare_comes_quiet s from ballot =
     by_test (Quiet s.applied) (nat_lt ballot s.promised) (still s)
-    (record { state = raised s ballot; outs = send s from (Promised ballot s.ballot s.list) ∷ [] }) (λ e. refl) (λ e. refl)
+    (record { state = board_raise s ballot; outs = send s from (Promised ballot s.ballot s.list) ∷ [] }) (λ e. refl) (λ e. refl)
 
 lead_quiet : (s : BoardState) (ballot last : ℕ) (list : List Command) → Quiet s.applied (lead s ballot last list)
 unfolding lead
 lead_quiet s ballot last list =
-    by_test (Quiet s.applied) (is_better s last list) (lead_with s ballot list) (lead_with s ballot s.list) (λ e. refl) (λ e. refl)
+    by_test (Quiet s.applied) (is_better s last list) (lead_with_own s ballot list) (lead_with_own s ballot s.list) (λ e. refl) (λ e. refl)
 
 promised_quiet : (s : BoardState) (ballot last : ℕ) (list : List Command) → Quiet s.applied (on_promised s ballot last list)
 unfolding on_promised
@@ -89,8 +89,8 @@ installed_quiet s from ballot list =
 install_quiet : (s : BoardState) (from ballot : ℕ) (list : List Command) → Quiet s.applied (on_install s from ballot list)
 unfolding on_install
 install_quiet s from ballot list =
-    by_test (Quiet s.applied) (nat_lt ballot s.promised) (still s) (install (raised s ballot) from ballot list)
-    (λ e. refl) (λ e. installed_quiet (raised s ballot) from ballot list)
+    by_test (Quiet s.applied) (nat_lt ballot s.promised) (still s) (install (board_raise s ballot) from ballot list)
+    (λ e. refl) (λ e. installed_quiet (board_raise s ballot) from ballot list)
 
 appended_quiet : (s : BoardState) (from count : ℕ) (c : Command) → Quiet s.applied (append s from count c)
 unfolding append
@@ -137,8 +137,8 @@ extend_waiting_shows s leads =
 done_bounded : (s : BoardState) → s.leads ≡ true → Bounded s.applied (apply_done s)
 unfolding apply_done
 done_bounded s leads =
-    let quiet = extend_waiting_quiet (settled s) in
-    let shows = extend_waiting_shows (settled s) leads in
+    let quiet = extend_waiting_quiet (board_settle s) in
+    let shows = extend_waiting_shows (board_settle s) leads in
     grind (arith, quiet, shows)
 
 accepted_bounded : (s : BoardState) (from ballot count : ℕ) → Bounded s.applied (on_accepted s from ballot count)

@@ -26,8 +26,8 @@ pub record BoardState : Type 0 where
   pub heard : Bool
 
 -- a board at the start of a run: board 1 leads ballot 1
-abbrev pub started : ℕ → BoardState
-started number = record {
+abbrev pub board_start : ℕ → BoardState
+board_start number = record {
   number = number;
   up = true;
   promised = 1;

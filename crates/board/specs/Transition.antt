@@ -111,13 +111,13 @@ on_beat s = if s.leads then on_leader_beat (unheard s) else (if would_lead s the
 -- ---- a board asks for a promise
 
 -- The promise rises to this ballot; where that is a rise the board leads no longer.
-abbrev pub raised : BoardState → ℕ → BoardState
-raised s ballot = record s { promised = ballot; leads = s.leads && (s.promised == ballot) }
+abbrev pub board_raise : BoardState → ℕ → BoardState
+board_raise s ballot = record s { promised = ballot; leads = s.leads && (s.promised == ballot) }
 
 -- It promises the ballot, or says again that it did, with what it accepted last.
 unfoldable pub on_prepare : BoardState → ℕ → ℕ → Done
 on_prepare s from ballot =
-    if nat_lt ballot s.promised then still s else record { state = raised s ballot; outs = send s from (Promised ballot s.ballot s.list) ∷ [] }
+    if nat_lt ballot s.promised then still s else record { state = board_raise s ballot; outs = send s from (Promised ballot s.ballot s.list) ∷ [] }
 
 -- ---- a board has promised
 
@@ -133,12 +133,12 @@ abbrev pub leading : BoardState → ℕ → List Command → BoardState
 leading s ballot list = record s { ballot = ballot; list = list; leads = true; known = all_known None; done = 0 }
 
 -- It leads with a list, knows nothing of the others, and has them accept the list.
-abbrev pub lead_with : BoardState → ℕ → List Command → Done
-lead_with s ballot list = record { state = leading s ballot list; outs = send_others s (Install ballot list) }
+abbrev pub lead_with_own : BoardState → ℕ → List Command → Done
+lead_with_own s ballot list = record { state = leading s ballot list; outs = send_others s (Install ballot list) }
 
 -- It leads with its own list or the answer's, whichever is of the later ballot, or longer.
 unfoldable pub lead : BoardState → ℕ → ℕ → List Command → Done
-lead s ballot last list = if is_better s last list then lead_with s ballot list else lead_with s ballot s.list
+lead s ballot last list = if is_better s last list then lead_with_own s ballot list else lead_with_own s ballot s.list
 
 unfoldable pub on_promised : BoardState → ℕ → ℕ → List Command → Done
 on_promised s ballot last list = if may_lead s ballot then lead s ballot last list else still s
@@ -153,7 +153,7 @@ install s from ballot list =
     else (if s.ballot == ballot then answer s from else still s)
 
 unfoldable pub on_install : BoardState → ℕ → ℕ → List Command → Done
-on_install s from ballot list = if nat_lt ballot s.promised then still s else install (raised s ballot) from ballot list
+on_install s from ballot list = if nat_lt ballot s.promised then still s else install (board_raise s ballot) from ballot list
 
 -- ---- a leader sends a command
 
@@ -170,11 +170,11 @@ on_append s from ballot count command = if (s.promised == ballot) && (s.ballot =
 -- ---- a board has accepted
 
 -- What is done and was not applied is applied, and what is done leaves waiting.
-abbrev pub settled : BoardState → BoardState
-settled s = record s { applied = max s.applied (length (take s.done s.list)); waiting = without (take s.done s.list) s.waiting }
+abbrev pub board_settle : BoardState → BoardState
+board_settle s = record s { applied = max s.applied (length (take s.done s.list)); waiting = without (take s.done s.list) s.waiting }
 
 unfoldable pub apply_done : BoardState → Done
-apply_done s = saying (map Apply (drop s.applied (take s.done s.list))) (extend_waiting (settled s))
+apply_done s = saying (map Apply (drop s.applied (take s.done s.list))) (extend_waiting (board_settle s))
 
 -- The greatest length that another board has accepted is done.
 abbrev pub heard_of : BoardState → ℕ → ℕ → BoardState

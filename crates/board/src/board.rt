@@ -1,6 +1,6 @@
 //! A board: its state, its start, and what it takes.
 ghost use Rattle.std.specs.Prelude.{◌≡◌, ◌++◌, length, OnOk, IfOk, IsTrue};
-ghost use Rattle.board.specs.State.{started, chosen_part};
+ghost use Rattle.board.specs.State.{board_start, chosen_part};
 ghost use Rattle.board.specs.Transition.{transition, has_room, has_all_room, is_ready, is_for, has_short, is_short, on_body, on_mail};
 
 use crate::ballots::{next_ballot, owner_of};
@@ -92,7 +92,7 @@ impl Board {
     /// The board of this number, 1, 2 or 3, at the start of a run: it has promised and accepted ballot 1, with the
     /// empty list, and board 1 leads.
     pub fn start(alloc: Global, number: u8) -> Board
-        ensures { result ≡ started number }
+        ensures { result ≡ board_start number }
     {
         Board {
             number,

@@ -1,7 +1,7 @@
 //! What a board does for the leaders of others.
 ghost use Rattle.std.specs.Prelude.{◌≡◌, ◌++◌, ◌≤◌, length, OnOk};
 ghost use Rattle.xfs_base.specs.Limits.{u32_end};
-ghost use Rattle.board.specs.Transition.{answer, raised, on_prepare, install, on_install, append, on_append};
+ghost use Rattle.board.specs.Transition.{answer, board_raise, on_prepare, install, on_install, append, on_append};
 
 use crate::board::Board;
 use crate::command::Command;
@@ -22,7 +22,7 @@ impl Board {
 
     // Its promise is of this ballot; where that is a rise it leads no longer.
     fn raise(&mut self, ballot: u32)
-        ensures { self.new ≡ raised self.old ballot }
+        ensures { self.new ≡ board_raise self.old ballot }
     {
         self.leads = self.leads && self.promised == ballot;
         self.promised = ballot;

@@ -4,7 +4,7 @@ ghost use Rattle.std.specs.List.{flat_map};
 ghost use Rattle.xfs_base.specs.Limits.{u32_end};
 ghost use Rattle.board.specs.declared.output.Out.TheVariants.{Apply as Applies};
 ghost use Rattle.board.specs.Lengths.{length_of};
-ghost use Rattle.board.specs.Transition.{boards, send, send_other, send_others, is_whole, extend, extend_by, extend_waiting, on_offer, send_lacking, send_again, tick, keep_going, on_leader_beat, would_lead, unheard, prepare, on_beat, may_lead, is_better, lead_with, lead, on_promised, settled, apply_done, on_accepted, has_all_room};
+ghost use Rattle.board.specs.Transition.{boards, send, send_other, send_others, is_whole, extend, extend_by, extend_waiting, on_offer, send_lacking, send_again, tick, keep_going, on_leader_beat, would_lead, unheard, prepare, on_beat, may_lead, is_better, lead_with_own, lead, on_promised, board_settle, apply_done, on_accepted, has_all_room};
 
 use crate::ballots::{next_ballot, owner_of};
 use crate::board::Board;
@@ -265,8 +265,8 @@ impl Board {
 
     // It leads with the list that it has.
     fn lead_with_own(&mut self, alloc: Global, outs: &mut List<Out>, ballot: u32) -> Mem<()>
-        ensures state { OnOk result (self.new ≡ (lead_with self.old ballot self.old.list).state) }
-        ensures outs { OnOk result (outs.new ≡ outs.old ++ (lead_with self.old ballot self.old.list).outs) }
+        ensures state { OnOk result (self.new ≡ (lead_with_own self.old ballot self.old.list).state) }
+        ensures outs { OnOk result (outs.new ≡ outs.old ++ (lead_with_own self.old ballot self.old.list).outs) }
     {
         let body = BoardBody::Install(ballot, copy_each(alloc, &self.list)?);
         self.send_others(alloc, outs, &body)?;
@@ -316,7 +316,7 @@ impl Board {
     // What is done is applied, and leaves waiting.
     fn settle(&mut self, alloc: Global, outs: &mut List<Out>) -> Mem<()>
         requires { length self.old.list < u32_end }
-        ensures state { OnOk result (self.new ≡ settled self.old) }
+        ensures state { OnOk result (self.new ≡ board_settle self.old) }
         ensures outs { OnOk result (outs.new ≡ outs.old ++ map Applies (drop self.old.applied (take self.old.done self.old.list))) }
     {
         let done = first_of(self.list.as_slice(), self.done);

@@ -24,9 +24,9 @@ use Rattle.board_world.specs.declared.board_event.BoardEvent.{BoardEvent}
 use Rattle.board_world.specs.declared.board_event.BoardEvent.TheVariants.{Far, Offer, Mail, Beat, Stop, Start}
 use Rattle.board_world.specs.declared.board_node.BoardNode.{BoardNode}
 use Rattle.board_world.specs.BoardRuns.{MayCome, Together}
-use Rattle.board_world.specs.BoardTurns.{turn_of}
-use Rattle.board_world.specs.NextBoards.{BoardsState, at_board, command_at, next_boards, offered, turned, turned_by}
-use Rattle.board_world.specs.Projection.{event_by, is_due, is_next, projected, projected_all}
+use Rattle.board_world.specs.BoardTurns.{board_node_take}
+use Rattle.board_world.specs.NextBoards.{BoardsState, boards_happen, command_at, boards_take, boards_offer, boards_turn, turned_by}
+use Rattle.board_world.specs.Projection.{event_by, is_due, is_next, project, project_all}
 
 begins_both : (first second : List Event) → begins_of Registry (first ++ second) ≡ begins_of Registry first + begins_of Registry second
 begins_both first second =
@@ -52,8 +52,8 @@ one_begins items before item (whats.Deliver packet) within due = record { count 
 one_begins items before item whats.Tick within due = record { count = omega arith; within = within }
 
 command_begins : (items before : ℕ) (c : Command) → before ≤ items
-    → Begins items before (projected items before c).outs (projected items before c).state
-unfolding projected
+    → Begins items before (project items before c).outs (project items before c).state
+unfolding project
 command_begins items before c within =
     by_test (λ made. Begins items before made.outs made.state) (is_due items before c) (event_by before c) (still before)
     (λ due. one_begins items before c.item c.what within due) (λ e. nothing items before within)
@@ -64,12 +64,12 @@ then_begins items before middle now first second f g =
     record { count = grind (arith, begins_both first second, f.count, g.count); within = g.within }
 
 commands_begin : (items before : ℕ) (commands : List Command) → before ≤ items
-    → Begins items before (projected_all items before commands).outs (projected_all items before commands).state
+    → Begins items before (project_all items before commands).outs (project_all items before commands).state
 commands_begin items before [] within = nothing items before within
 commands_begin items before (c ∷ commands) within =
     let one = command_begins items before c within in
-    let middle = (projected items before c).state in
-    then_begins items before middle (projected_all items middle commands).state (projected items before c).outs (projected_all items middle commands).outs one
+    let middle = (project items before c).state in
+    then_begins items before middle (project_all items middle commands).state (project items before c).outs (project_all items middle commands).outs one
     (commands_begin items middle commands one.within)
 
 -- ---- by events of boards
@@ -86,19 +86,19 @@ module _ (w : BoardsState) (within : w.begun ≤ w.items) where
   by_node place what None = stays
   by_node place what (Some node) = record {
     items = refl;
-    begins = commands_begin w.items w.begun (drop (length w.chosen) (chosen_part (turn_of w.items node what).node.board)) within;
+    begins = commands_begin w.items w.begun (drop (length w.chosen) (chosen_part (board_node_take w.items node what).node.board)) within;
   }
 
-  turn_begins : (place : ℕ) (what : inputs.In) → EventBegins w (turned w place what)
-  unfolding turned
+  turn_begins : (place : ℕ) (what : inputs.In) → EventBegins w (boards_turn w place what)
+  unfolding boards_turn
   turn_begins place what = by_node place what (slice_get w.nodes place)
 
-  board_begins : (number : ℕ) (what : inputs.In) → EventBegins w (at_board w number what)
+  board_begins : (number : ℕ) (what : inputs.In) → EventBegins w (boards_happen w number what)
   board_begins number what =
-      by_test (EventBegins w) (nat_lt 0 number && nat_le number (length w.nodes)) (turned w (number - 1) what) (still w)
+      by_test (EventBegins w) (nat_lt 0 number && nat_le number (length w.nodes)) (boards_turn w (number - 1) what) (still w)
       (λ e. turn_begins (number - 1) what) (λ e. stays)
 
-  offer_begins : (number : ℕ) (o : Option Command) → EventBegins w (offered w number o)
+  offer_begins : (number : ℕ) (o : Option Command) → EventBegins w (boards_offer w number o)
   offer_begins number None = stays
   offer_begins number (Some command) = board_begins number (input.Offer command)
 
@@ -113,11 +113,11 @@ module _ (w : BoardsState) (within : w.begun ≤ w.items) where
   far_count (events.Deliver packet) other = refl
   far_count (events.Tick node) other = refl
 
-  far_begins : (event : Event) → (node_of event ≡ Registry → ⊥) → EventBegins w (next_boards w (Far event))
+  far_begins : (event : Event) → (node_of event ≡ Registry → ⊥) → EventBegins w (boards_take w (Far event))
   far_begins event other = record { items = refl; begins = record { count = ap (λ n. n + w.begun) (far_count event other) ∙ omega arith; within = within } }
 
 pub event_begins : {N : Type 0} (t : Together N) → t.boards.begun ≤ t.boards.items → (event : BoardEvent) → MayCome t event
-    → EventBegins t.boards (next_boards t.boards event)
+    → EventBegins t.boards (boards_take t.boards event)
 event_begins t within (Far event) may = far_begins t.boards within event may.1
 event_begins t within (Offer number what item) may = offer_begins t.boards within number (command_at what item)
 event_begins t within (Mail packet) may = board_begins t.boards within packet.to (input.Mail packet)

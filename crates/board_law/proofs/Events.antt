@@ -15,9 +15,9 @@ use Rattle.board_world.specs.declared.board_event.BoardEvent.{BoardEvent}
 use Rattle.board_world.specs.declared.board_event.BoardEvent.TheVariants.{Far, Offer, Mail, Beat, Stop, Start}
 use Rattle.board_world.specs.declared.board_node.BoardNode.{BoardNode}
 use Rattle.board_world.specs.BoardRuns.{MailCame, MayMail}
-use Rattle.board_world.specs.BoardTurns.{turn_of}
-use Rattle.board_world.specs.NextBoards.{BoardsState, at_board, boards_after, command_at, first_boards, next_boards, node_at, offered, turned, turned_by}
-use Rattle.board_world.specs.Replicas.{applied_all, first_replica}
+use Rattle.board_world.specs.BoardTurns.{board_node_take}
+use Rattle.board_world.specs.NextBoards.{BoardsState, boards_happen, boards_after, command_at, boards_start, boards_take, node_at, boards_offer, boards_turn, turned_by}
+use Rattle.board_world.specs.Replicas.{applied_all, replica_start}
 use Rattle.board_law.specs.OneList.{HaveOneList, IsBehind}
 use Rattle.board_law.proofs.Tied.{AreTied, Seated, first_tied}
 use Rattle.board_law.proofs.Turns.{board_tied}
@@ -25,11 +25,11 @@ use Rattle.board_law.proofs.Turns.{board_tied}
 -- ---- tied
 
 module _ (script : Script) where
-  offered_tied : (w : BoardsState) (number : ℕ) (o : Option Command) → AreTied script w → AreTied script (offered w number o).state
+  offered_tied : (w : BoardsState) (number : ℕ) (o : Option Command) → AreTied script w → AreTied script (boards_offer w number o).state
   offered_tied w number None tied = tied
   offered_tied w number (Some command) tied = board_tied script w number (input.Offer command) (λ p t. tt) tied
 
-  pub event_tied : (w : BoardsState) (event : BoardEvent) → MayMail w event → AreTied script w → AreTied script (next_boards w event).state
+  pub event_tied : (w : BoardsState) (event : BoardEvent) → MayMail w event → AreTied script w → AreTied script (boards_take w event).state
   event_tied w (Far event) may tied = tied
   event_tied w (Offer number what item) may tied = offered_tied w number (command_at what item) tied
   event_tied w (Mail packet) may tied = board_tied script w packet.to (input.Mail packet) (λ p t. t.mail packet may) tied
@@ -37,12 +37,12 @@ module _ (script : Script) where
   event_tied w (Stop number) may tied = board_tied script w number input.Stop (λ p t. tt) tied
   event_tied w (Start number) may tied = board_tied script w number input.Start (λ p t. tt) tied
 
-  pub events_tied : (w : BoardsState) (events : List BoardEvent) → MailCame w events → AreTied script w → AreTied script (steps next_boards w events).state
+  pub events_tied : (w : BoardsState) (events : List BoardEvent) → MailCame w events → AreTied script w → AreTied script (steps boards_take w events).state
   events_tied w [] came tied = tied
-  events_tied w (event ∷ events) came tied = events_tied (next_boards w event).state events came.1 (event_tied w event came.0 tied)
+  events_tied w (event ∷ events) came tied = events_tied (boards_take w event).state events came.1 (event_tied w event came.0 tied)
 
-  pub run_tied : (events : List BoardEvent) → MailCame (first_boards script) events → AreTied script (boards_after script events).state
-  run_tied events came = events_tied (first_boards script) events came (first_tied script)
+  pub run_tied : (events : List BoardEvent) → MailCame (boards_start script) events → AreTied script (boards_after script events).state
+  run_tied events came = events_tied (boards_start script) events came (first_tied script)
 
 -- ---- one list
 
@@ -64,7 +64,7 @@ module _ (script : Script) (w : BoardsState) (tied : AreTied script w) where
       let front : applied ≡ take node.board.applied w.chosen = sym s.applied ∙ ap (λ n. take n w.chosen) s.shows.applied in
       record {
         within = subst (λ n. n ≤ length w.chosen) s.shows.applied (no_longer applied w.chosen s.applied);
-        registry = s.registry ∙ ap (λ list. (applied_all w.items (first_replica script) list).state) front;
+        registry = s.registry ∙ ap (λ list. (applied_all w.items (replica_start script) list).state) front;
       }
 
   pub have_one_list : HaveOneList script w
@@ -86,22 +86,22 @@ module _ (w : BoardsState) where
   by_node : (place : ℕ) (what : inputs.In) (found : Option BoardNode) → Prefix w.chosen (turned_by w place what found).state.chosen
   by_node place what None = same w.chosen
   by_node place what (Some node) =
-      longer w.chosen (drop (length w.chosen) (chosen_part (turn_of w.items node what).node.board))
+      longer w.chosen (drop (length w.chosen) (chosen_part (board_node_take w.items node what).node.board))
 
-  turn_grows : (place : ℕ) (what : inputs.In) → Prefix w.chosen (turned w place what).state.chosen
-  unfolding turned
+  turn_grows : (place : ℕ) (what : inputs.In) → Prefix w.chosen (boards_turn w place what).state.chosen
+  unfolding boards_turn
   turn_grows place what = by_node place what (slice_get w.nodes place)
 
-  board_grows : (number : ℕ) (what : inputs.In) → Prefix w.chosen (at_board w number what).state.chosen
+  board_grows : (number : ℕ) (what : inputs.In) → Prefix w.chosen (boards_happen w number what).state.chosen
   board_grows number what =
-      by_test (λ made. Prefix w.chosen made.state.chosen) (nat_lt 0 number && nat_le number (length w.nodes)) (turned w (number - 1) what) (still w)
+      by_test (λ made. Prefix w.chosen made.state.chosen) (nat_lt 0 number && nat_le number (length w.nodes)) (boards_turn w (number - 1) what) (still w)
       (λ e. turn_grows (number - 1) what) (λ e. same w.chosen)
 
-  offer_grows : (number : ℕ) (o : Option Command) → Prefix w.chosen (offered w number o).state.chosen
+  offer_grows : (number : ℕ) (o : Option Command) → Prefix w.chosen (boards_offer w number o).state.chosen
   offer_grows number None = same w.chosen
   offer_grows number (Some command) = board_grows number (input.Offer command)
 
-  event_grows : (event : BoardEvent) → Prefix w.chosen (next_boards w event).state.chosen
+  event_grows : (event : BoardEvent) → Prefix w.chosen (boards_take w event).state.chosen
   event_grows (Far event) = same w.chosen
   event_grows (Offer number what item) = offer_grows number (command_at what item)
   event_grows (Mail packet) = board_grows packet.to (input.Mail packet)
@@ -109,13 +109,13 @@ module _ (w : BoardsState) where
   event_grows (Stop number) = board_grows number input.Stop
   event_grows (Start number) = board_grows number input.Start
 
-pub events_grow : (w : BoardsState) (events : List BoardEvent) → Prefix w.chosen (steps next_boards w events).state.chosen
+pub events_grow : (w : BoardsState) (events : List BoardEvent) → Prefix w.chosen (steps boards_take w events).state.chosen
 events_grow w [] = same w.chosen
 events_grow w (event ∷ events) =
-    let next = (next_boards w event).state in
-    through w.chosen next.chosen (steps next_boards next events).state.chosen (event_grows w event) (events_grow next events)
+    let next = (boards_take w event).state in
+    through w.chosen next.chosen (steps boards_take next events).state.chosen (event_grows w event) (events_grow next events)
 
 pub chosen_grows : (script : Script) (events more : List BoardEvent) → Prefix (boards_after script events).state.chosen (boards_after script (events ++ more)).state.chosen
 chosen_grows script events more =
-    subst (λ (v : BoardsState). Prefix (boards_after script events).state.chosen v.chosen) (sym (steps_both next_boards (first_boards script) events more))
+    subst (λ (v : BoardsState). Prefix (boards_after script events).state.chosen v.chosen) (sym (steps_both boards_take (boards_start script) events more))
     (events_grow (boards_after script events).state more)

@@ -34,10 +34,10 @@ use Rattle.board_world.specs.declared.board_event.BoardEvent.TheVariants.{Far, O
 use Rattle.board_world.specs.declared.board_node.BoardNode.{BoardNode}
 use Rattle.board_world.specs.declared.replica.Replica.{Replica}
 use Rattle.board_world.specs.BoardRuns.{MayCome, MayMail, MayOffer}
-use Rattle.board_world.specs.BoardTurns.{mail_in, mail_of, turn_by, turn_of}
-use Rattle.board_world.specs.NextBoards.{BoardsState, after_turn, at_board, command_at, next_boards, offered, turned, turned_by}
-use Rattle.board_world.specs.Projection.{projected_all}
-use Rattle.board_world.specs.Replicas.{applied, applied_all, first_replica}
+use Rattle.board_world.specs.BoardTurns.{mail_in, mail_of, turn_by, board_node_take}
+use Rattle.board_world.specs.NextBoards.{BoardsState, after_turn, boards_happen, command_at, boards_take, boards_offer, boards_turn, turned_by}
+use Rattle.board_world.specs.Projection.{project_all}
+use Rattle.board_world.specs.Replicas.{replica_apply, applied_all, replica_start}
 use Rattle.board_law.specs.OneList.{one_registry}
 use Rattle.board_law.specs.OneRun.{HasRegistry}
 use Rattle.board_law.proofs.Keeping.{Gives, Keeps, Made, Says, Takes, all_drop, keeps, shows}
@@ -111,7 +111,7 @@ module _ {N : Type 0} (step : N → Do → NodeStep N) (first : NodeId → Setup
       abbrev registry : Replica
       registry = (one_registry script boards).state
 
-      follows_it : Follows step has.of has.steps boards.items world (applied_all boards.items registry more) (projected_all boards.items boards.begun more)
+      follows_it : Follows step has.of has.steps boards.items world (applied_all boards.items registry more) (project_all boards.items boards.begun more)
       follows_it = follows_from step has.of has.steps boards.items world registry boards.begun more g.begun g.stands more_known
 
       abbrev after : Stepped BoardsState Event
@@ -122,12 +122,12 @@ module _ {N : Type 0} (step : N → Do → NodeStep N) (first : NodeId → Setup
 
       -- the one registry goes on
       registry_then : (applied_all boards.items registry more).state ≡ (one_registry script after.state).state
-      registry_then = sym (state_both boards.items (first_replica script) boards.chosen more)
+      registry_then = sym (state_both boards.items (replica_start script) boards.chosen more)
 
       sent_then : (packet : Packet) → WasSent (one_registry script after.state).outs packet → WasSent then.sent packet
       sent_then packet at =
           elim (stands_either (one_registry script boards).outs (applied_all boards.items registry more).outs packet
-          (subst (λ outs. WasSent outs packet) (outs_both (applied boards.items) (first_replica script) boards.chosen more) at)) [
+          (subst (λ outs. WasSent outs packet) (outs_both (replica_apply boards.items) (replica_start script) boards.chosen more) at)) [
             | inl old ↦ follows_it.later packet (g.sent packet old)
             | inr new ↦ follows_it.sent packet new
           ]
@@ -156,27 +156,27 @@ module _ {N : Type 0} (step : N → Do → NodeStep N) (first : NodeId → Setup
 
     by_node : (place : ℕ) (what : inputs.In) → Takes (Known world) what → (found : Option BoardNode) → slice_get boards.nodes place ≡ found
         → GoesOn world (turned_by boards place what found)
-    unfolding turn_of
+    unfolding board_node_take
     by_node place what takes None e = stays boards world g
     by_node place what takes (Some node) e = turn_goes place node e what takes
 
-    turned_goes : (place : ℕ) (what : inputs.In) → Takes (Known world) what → GoesOn world (turned boards place what)
-    unfolding turned
+    turned_goes : (place : ℕ) (what : inputs.In) → Takes (Known world) what → GoesOn world (boards_turn boards place what)
+    unfolding boards_turn
     turned_goes place what takes = by_node place what takes (slice_get boards.nodes place) refl
 
-    board_goes : (number : ℕ) (what : inputs.In) → Takes (Known world) what → GoesOn world (at_board boards number what)
+    board_goes : (number : ℕ) (what : inputs.In) → Takes (Known world) what → GoesOn world (boards_happen boards number what)
     board_goes number what takes =
-        by_test (GoesOn world) (nat_lt 0 number && nat_le number (length boards.nodes)) (turned boards (number - 1) what) (still boards)
+        by_test (GoesOn world) (nat_lt 0 number && nat_le number (length boards.nodes)) (boards_turn boards (number - 1) what) (still boards)
         (λ e. turned_goes (number - 1) what takes) (λ e. stays boards world g)
 
     -- ---- the events
 
     offer_goes : (number : ℕ) (what : Do) (item : ℕ) → MayOffer world what → (t : Bool) (is : is_heard what ≡ t)
-        → GoesOn world (offered boards number (command_where what item t is))
+        → GoesOn world (boards_offer boards number (command_where what item t is))
     offer_goes number what item may true is = board_goes number (input.Offer (record { what = what; item = item; heard = is })) may
     offer_goes number what item may false is = stays boards world g
 
-    offered_goes : (number : ℕ) (what : Do) (item : ℕ) → MayOffer world what → GoesOn world (offered boards number (command_at what item))
+    offered_goes : (number : ℕ) (what : Do) (item : ℕ) → MayOffer world what → GoesOn world (boards_offer boards number (command_at what item))
     unfolding command_at
     offered_goes number what item may = offer_goes number what item may (is_heard what) refl
 
@@ -184,7 +184,7 @@ module _ {N : Type 0} (step : N → Do → NodeStep N) (first : NodeId → Setup
     mail_known : (packet : BoardPacket) → MayMail boards (Mail packet) → Says (Known world) packet.body
     mail_known packet at = subst (λ o. IfSome o (SaysIt (Known world))) at.1 (all_read (SaysIt (Known world)) boards.mail at.0 g.mail)
 
-    far_goes : (event : Event) → MayCome (record { boards = boards; world = world }) (Far event) → GoesOn world (next_boards boards (Far event))
+    far_goes : (event : Event) → MayCome (record { boards = boards; world = world }) (Far event) → GoesOn world (boards_take boards (Far event))
     far_goes event may =
         let next = next_world step world event in
         let b = happens_beside step has.of world (one_registry script boards).state (what_of event) g.stands (node_of event) may.1 in
@@ -200,7 +200,7 @@ module _ {N : Type 0} (step : N → Do → NodeStep N) (first : NodeId → Setup
           };
         }
 
-    pub event_goes : (event : BoardEvent) → MayCome (record { boards = boards; world = world }) event → GoesOn world (next_boards boards event)
+    pub event_goes : (event : BoardEvent) → MayCome (record { boards = boards; world = world }) event → GoesOn world (boards_take boards event)
     event_goes (Far event) may = far_goes event may
     event_goes (Offer number what item) may = offered_goes number what item may
     event_goes (Mail packet) may = board_goes packet.to (input.Mail packet) (mail_known packet may)

@@ -16,7 +16,7 @@ use Rattle.board.specs.declared.packet.BoardPacket.{BoardPacket}
 use Rattle.board.specs.Lengths.{length_of}
 use Rattle.board.specs.State.{BoardState, chosen_part}
 use Rattle.board.specs.Ballots.{next_ballot, owner_of}
-use Rattle.board.specs.Transition.{Done, answer, append, apply_done, boards, extend, extend_by, extend_or_tick, extend_waiting, has_short, heard_of, hears, install, is_better, is_for, is_ready, is_whole, keep_going, lead, lead_with, may_lead, on_accepted, on_append, on_beat, on_body, on_install, on_leader_beat, on_mail, on_offer, on_prepare, on_promised, prepare, raised, send, send_again, send_lacking, send_next, send_other, send_others, settled, tick, transition, unheard, would_lead}
+use Rattle.board.specs.Transition.{Done, answer, append, apply_done, boards, extend, extend_by, extend_or_tick, extend_waiting, has_short, heard_of, hears, install, is_better, is_for, is_ready, is_whole, keep_going, lead, lead_with_own, may_lead, on_accepted, on_append, on_beat, on_body, on_install, on_leader_beat, on_mail, on_offer, on_prepare, on_promised, prepare, board_raise, send, send_again, send_lacking, send_next, send_other, send_others, board_settle, tick, transition, unheard, would_lead}
 use Rattle.board.specs.Waiting.{first_outside, is_in}
 
 pub all_drop : {X : Type 0} (P : X → Type 0) (n : ℕ) (xs : List X) → AllByRecursion P xs → AllByRecursion P (drop n xs)
@@ -150,22 +150,22 @@ module _ (P : Command → Type 0) where
 
   -- ---- packets
 
-  raised_keeps : (s : BoardState) (ballot : ℕ) → Keeps s → Keeps (raised s ballot)
+  raised_keeps : (s : BoardState) (ballot : ℕ) → Keeps s → Keeps (board_raise s ballot)
   raised_keeps s ballot k = record { list = k.list; waiting = k.waiting }
 
   prepare_comes : (s : BoardState) (from ballot : ℕ) → Keeps s → Made (on_prepare s from ballot)
   unfolding on_prepare
   prepare_comes s from ballot k =
-      by_test Made (nat_lt ballot s.promised) (still s) (record { state = raised s ballot; outs = send s from (Promised ballot s.ballot s.list) ∷ [] })
+      by_test Made (nat_lt ballot s.promised) (still s) (record { state = board_raise s ballot; outs = send s from (Promised ballot s.ballot s.list) ∷ [] })
       (λ e. stays s k) (λ e. record { keeps = raised_keeps s ballot k; gives = (k.list, tt) })
 
-  leads_with : (s : BoardState) (ballot : ℕ) (list : List Command) → Keeps s → AllByRecursion P list → Made (lead_with s ballot list)
+  leads_with : (s : BoardState) (ballot : ℕ) (list : List Command) → Keeps s → AllByRecursion P list → Made (lead_with_own s ballot list)
   leads_with s ballot list k all = record { keeps = record { list = all; waiting = k.waiting }; gives = others_give s (Install ballot list) all }
 
   leads : (s : BoardState) (ballot last : ℕ) (list : List Command) → Keeps s → AllByRecursion P list → Made (lead s ballot last list)
   unfolding lead
   leads s ballot last list k all =
-      by_test Made (is_better s last list) (lead_with s ballot list) (lead_with s ballot s.list) (λ e. leads_with s ballot list k all)
+      by_test Made (is_better s last list) (lead_with_own s ballot list) (lead_with_own s ballot s.list) (λ e. leads_with s ballot list k all)
       (λ e. leads_with s ballot s.list k k.list)
 
   promised_comes : (s : BoardState) (ballot last : ℕ) (list : List Command) → Keeps s → AllByRecursion P list → Made (on_promised s ballot last list)
@@ -183,8 +183,8 @@ module _ (P : Command → Type 0) where
   install_comes : (s : BoardState) (from ballot : ℕ) (list : List Command) → Keeps s → AllByRecursion P list → Made (on_install s from ballot list)
   unfolding on_install
   install_comes s from ballot list k all =
-      by_test Made (nat_lt ballot s.promised) (still s) (install (raised s ballot) from ballot list) (λ e. stays s k)
-      (λ e. installs (raised s ballot) from ballot list (raised_keeps s ballot k) all)
+      by_test Made (nat_lt ballot s.promised) (still s) (install (board_raise s ballot) from ballot list) (λ e. stays s k)
+      (λ e. installs (board_raise s ballot) from ballot list (raised_keeps s ballot k) all)
 
   appends : (s : BoardState) (from count : ℕ) (c : Command) → Keeps s → P c → Made (append s from count c)
   unfolding append
@@ -198,17 +198,17 @@ module _ (P : Command → Type 0) where
   append_comes s from ballot count c k so =
       by_test Made ((s.promised == ballot) && (s.ballot == ballot)) (append s from count c) (still s) (λ e. appends s from count c k so) (λ e. stays s k)
 
-  settled_keeps : (s : BoardState) → Keeps s → Keeps (settled s)
+  settled_keeps : (s : BoardState) → Keeps s → Keeps (board_settle s)
   settled_keeps s k = record { list = k.list; waiting = all_filter P (λ command. not (is_in command (take s.done s.list))) s.waiting k.waiting }
 
   done_applied : (s : BoardState) → Keeps s → Made (apply_done s)
   unfolding apply_done
   done_applied s k =
-      let going = waiting_extended (settled s) (settled_keeps s k) in
+      let going = waiting_extended (board_settle s) (settled_keeps s k) in
       let commands = drop s.applied (take s.done s.list) in
       record {
         keeps = going.keeps;
-        gives = all_append Gives (map Apply commands) (extend_waiting (settled s)).outs (all_map Gives Apply (λ c. tt) commands) going.gives;
+        gives = all_append Gives (map Apply commands) (extend_waiting (board_settle s)).outs (all_map Gives Apply (λ c. tt) commands) going.gives;
       }
 
   accepted_comes : (s : BoardState) (from ballot count : ℕ) → Keeps s → Made (on_accepted s from ballot count)

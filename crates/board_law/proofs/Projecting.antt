@@ -14,13 +14,13 @@ use Rattle.wire_msg.specs.NodeStep.{NodeStep}
 use Rattle.world_base.specs.declared.event.Event.{Event}
 use Rattle.world_base.specs.declared.world.World.{World}
 use Rattle.world_base.specs.Events.{event_of}
-use Rattle.world_base.specs.NextWorld.{clock_after, happened_at, next_world}
+use Rattle.world_base.specs.NextWorld.{clock_after, happen_at, next_world}
 use Rattle.world_base.specs.Runs.{Leads, WasSent}
 use Rattle.board.specs.declared.command.Command.{Command}
 use Rattle.board_world.specs.declared.replica.Replica.{Replica}
 use Rattle.board_world.specs.BoardRuns.{MayOffer}
-use Rattle.board_world.specs.Projection.{begun_by, event_by, is_due, projected, projected_all}
-use Rattle.board_world.specs.Replicas.{applied, applied_all, at_clock, happened as takes, with_begun}
+use Rattle.board_world.specs.Projection.{begun_by, event_by, is_due, project, project_all}
+use Rattle.board_world.specs.Replicas.{replica_apply, applied_all, at_clock, replica_happen as takes, with_begun}
 use Rattle.board_law.specs.OneRun.{as_node}
 use Rattle.board_law.proofs.Places.{Stands, nowhere, stands_either, stands_left, stands_right}
 use Rattle.board_law.proofs.Worlds.{InWorld, Taken, event_happens, may_happen, registry_place, registry_takes}
@@ -75,13 +75,13 @@ module _ {N : Type 0} (step : N → Do → NodeStep N) (of : RegistryNode → N)
   nothing w r stands = record { leads = refl; stands = stands; begun = refl; later = λ packet at. at; sent = λ packet at. nowhere packet at }
 
   module _ (w : World N) (r : Replica) (c : Command) (stands : InWorld step of w r) (known : Known w c) where
-    taken : Taken step of w (happened_at step w (registry_place w) c.what) (takes (with_begun r (begun_by r.begun c)) c.what)
+    taken : Taken step of w (happen_at step w (registry_place w) c.what) (takes (with_begun r (begun_by r.begun c)) c.what)
     taken = registry_takes step of is w (with_begun r (begun_by r.begun c)) c.what (record { node = stands.node; clock = stands.clock })
 
     due : Follows w (takes (with_begun r (begun_by r.begun c)) c.what) (event_by r.begun c)
     due =
         let made = takes (with_begun r (begun_by r.begun c)) c.what in
-        let next : happened_at step w (registry_place w) c.what ≡ next_world step w (event_of Registry c.what) = sym (event_happens step of w c.what known) in
+        let next : happen_at step w (registry_place w) c.what ≡ next_world step w (event_of Registry c.what) = sym (event_happens step of w c.what known) in
         let t : Taken step of w (next_world step w (event_of Registry c.what)) made = subst (λ v. Taken step of w v made) next taken in
         record {
           leads = (may_happen step of w c.what known, refl);
@@ -96,30 +96,30 @@ module _ {N : Type 0} (step : N → Do → NodeStep N) (of : RegistryNode → N)
     by_due true = due
     by_due false = nothing w r stands
 
-    one : Follows w (applied items r c) (projected items r.begun c)
-    unfolding applied projected
+    one : Follows w (replica_apply items r c) (project items r.begun c)
+    unfolding replica_apply project
     one = by_due (is_due items r.begun c)
 
   sent_by_both : (w : World N) (made : Stepped Replica Packet) (event : Stepped ℕ Event) (commands : List Command) → Follows w made event
-      → Follows (after w event.outs) (applied_all items made.state commands) (projected_all items event.state commands) → (packet : Packet)
+      → Follows (after w event.outs) (applied_all items made.state commands) (project_all items event.state commands) → (packet : Packet)
       → Stands made.outs packet ⊎ Stands (applied_all items made.state commands).outs packet
-      → WasSent (after (after w event.outs) (projected_all items event.state commands).outs).sent packet
+      → WasSent (after (after w event.outs) (project_all items event.state commands).outs).sent packet
   sent_by_both w made event commands f g packet (inl at) = g.later packet (f.sent packet at)
   sent_by_both w made event commands f g packet (inr at) = g.sent packet at
 
   -- One command after another.
   follows : (w : World N) (r : Replica) (commands : List Command) → InWorld step of w r → AllByRecursion (Known w) commands
-      → Follows w (applied_all items r commands) (projected_all items r.begun commands)
+      → Follows w (applied_all items r commands) (project_all items r.begun commands)
   follows w r [] stands known = nothing w r stands
   follows w r (c ∷ commands) stands known =
-      let made = applied items r c in
-      let event = projected items r.begun c in
+      let made = replica_apply items r c in
+      let event = project items r.begun c in
       let f : Follows w made event = one w r c stands known.0 in
       let v = after w event.outs in
       let now = all_weaker (Known w) (Known v) (known_later w v f.later) commands known.1 in
-      let g : Follows v (applied_all items made.state commands) (projected_all items event.state commands) =
-      subst (λ n. Follows v (applied_all items made.state commands) (projected_all items n commands)) f.begun (follows v made.state commands f.stands now) in
-      let rest = (projected_all items event.state commands).outs in
+      let g : Follows v (applied_all items made.state commands) (project_all items event.state commands) =
+      subst (λ n. Follows v (applied_all items made.state commands) (project_all items n commands)) f.begun (follows v made.state commands f.stands now) in
+      let rest = (project_all items event.state commands).outs in
       let both : after v rest ≡ after w (event.outs ++ rest) = sym (fold_both (next_world step) w event.outs rest) in
       record {
         leads = subst (λ u. Leads step w (event.outs ++ rest) u) both (leads_both step w v (after v rest) event.outs rest f.leads g.leads);
@@ -131,6 +131,6 @@ module _ {N : Type 0} (step : N → Do → NodeStep N) (of : RegistryNode → N)
 
   -- The same where it is known otherwise how many items are begun.
   pub follows_from : (w : World N) (r : Replica) (begun : ℕ) (commands : List Command) → r.begun ≡ begun → InWorld step of w r → AllByRecursion (Known w) commands
-      → Follows w (applied_all items r commands) (projected_all items begun commands)
+      → Follows w (applied_all items r commands) (project_all items begun commands)
   follows_from w r begun commands same stands known =
-      subst (λ n. Follows w (applied_all items r commands) (projected_all items n commands)) same (follows w r commands stands known)
+      subst (λ n. Follows w (applied_all items r commands) (project_all items n commands)) same (follows w r commands stands known)

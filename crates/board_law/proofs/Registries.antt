@@ -10,8 +10,8 @@ use Rattle.board.specs.declared.output.Out.{Out}
 use Rattle.board.specs.declared.output.Out.TheVariants.{Send, Apply}
 use Rattle.board_law.specs.board_tie.Follows.{applied_in}
 use Rattle.board_world.specs.declared.replica.Replica.{Replica}
-use Rattle.board_world.specs.BoardTurns.{given_all}
-use Rattle.board_world.specs.Replicas.{applied, applied_all}
+use Rattle.board_world.specs.BoardTurns.{give_all}
+use Rattle.board_world.specs.Replicas.{replica_apply, applied_all}
 use Rattle.board_law.proofs.Places.{Stands, stands_left, stands_right}
 
 -- the outs of one list's steps, and then those of the other's
@@ -24,15 +24,15 @@ outs_both step s (x ∷ first) second =
 
 module _ (items : ℕ) where
   -- what a board gives to apply is applied, in order
-  pub given_state : (r : Replica) (outs : List Out) → (given_all items r outs).state ≡ (applied_all items r (applied_in outs)).state
+  pub given_state : (r : Replica) (outs : List Out) → (give_all items r outs).state ≡ (applied_all items r (applied_in outs)).state
   given_state r [] = refl
   given_state r (Send packet ∷ outs) = given_state r outs
-  given_state r (Apply command ∷ outs) = given_state (applied items r command).state outs
+  given_state r (Apply command ∷ outs) = given_state (replica_apply items r command).state outs
 
-  pub given_outs : (r : Replica) (outs : List Out) → (given_all items r outs).outs ≡ (applied_all items r (applied_in outs)).outs
+  pub given_outs : (r : Replica) (outs : List Out) → (give_all items r outs).outs ≡ (applied_all items r (applied_in outs)).outs
   given_outs r [] = refl
   given_outs r (Send packet ∷ outs) = given_outs r outs
-  given_outs r (Apply command ∷ outs) = ap (λ more. (applied items r command).outs ++ more) (given_outs (applied items r command).state outs)
+  given_outs r (Apply command ∷ outs) = ap (λ more. (replica_apply items r command).outs ++ more) (given_outs (replica_apply items r command).state outs)
 
   -- What the registry sends by the front of a list it sends by the list.
   pub sent_by_front : (r : Replica) (front all : List Command) (packet : Packet) → Prefix front all → Stands (applied_all items r front).outs packet
@@ -41,7 +41,7 @@ module _ (items : ℕ) where
       let rest = drop (length front) all in
       let more = (applied_all items (applied_all items r front).state rest).outs in
       let both : Stands (applied_all items r (front ++ rest)).outs packet =
-      subst (λ outs. Stands outs packet) (sym (outs_both (applied items) r front rest)) (stands_left (applied_all items r front).outs more packet at) in
+      subst (λ outs. Stands outs packet) (sym (outs_both (replica_apply items) r front rest)) (stands_left (applied_all items r front).outs more packet at) in
       subst (λ list. Stands (applied_all items r list).outs packet) (completed front all p) both
 
   -- What it sends by the rest of a list, too.
@@ -49,8 +49,8 @@ module _ (items : ℕ) where
       → Stands (applied_all items r (front ++ rest)).outs packet
   sent_by_rest r front rest packet at =
       let more = (applied_all items (applied_all items r front).state rest).outs in
-      subst (λ outs. Stands outs packet) (sym (outs_both (applied items) r front rest)) (stands_right (applied_all items r front).outs more packet at)
+      subst (λ outs. Stands outs packet) (sym (outs_both (replica_apply items) r front rest)) (stands_right (applied_all items r front).outs more packet at)
 
   pub state_both : (r : Replica) (front rest : List Command)
       → (applied_all items r (front ++ rest)).state ≡ (applied_all items (applied_all items r front).state rest).state
-  state_both r front rest = steps_both (applied items) r front rest
+  state_both r front rest = steps_both (replica_apply items) r front rest

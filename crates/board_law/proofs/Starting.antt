@@ -13,7 +13,7 @@ use Rattle.world_base.specs.Items.{items_of}
 use Rattle.world_base.specs.NextWorld.{first_node, start_world}
 use Rattle.world_base.proofs.Places.{node_there}
 use Rattle.world_base.proofs.Starting.{first_at_place}
-use Rattle.board_world.specs.Replicas.{first_replica}
+use Rattle.board_world.specs.Replicas.{replica_start}
 use Rattle.board_law.specs.OneRun.{HasRegistry}
 use Rattle.board_law.proofs.Worlds.{InWorld}
 
@@ -23,7 +23,7 @@ zeros_at (suc n) zero lt = refl
 zeros_at (suc n) (suc k) lt = zeros_at n k (omega arith)
 
 module _ {N : Type 0} (step : N → Do → NodeStep N) (first : NodeId → Setup → List Work → N) (has : HasRegistry step first) (script : Script) where
-  pub starts_in_world : InWorld step has.of (start_world first script) (first_replica script)
+  pub starts_in_world : InWorld step has.of (start_world first script) (replica_start script)
   unfolding start_world
   starts_in_world =
       let c = cluster_of script.setup in

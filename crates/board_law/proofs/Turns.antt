@@ -28,9 +28,9 @@ use Rattle.board_law.proofs.board_tie.Inputs.{follows}
 use Rattle.board_law.proofs.board_tie.Moves.{sent_later, steps_then}
 use Rattle.board_world.specs.declared.board_node.BoardNode.{BoardNode}
 use Rattle.board_world.specs.BoardRuns.{WasMailed}
-use Rattle.board_world.specs.BoardTurns.{given_all, mail_in, turn_by, turn_of}
-use Rattle.board_world.specs.NextBoards.{BoardsState, after_turn, at_board, turned, turned_by}
-use Rattle.board_world.specs.Replicas.{applied_all, first_replica}
+use Rattle.board_world.specs.BoardTurns.{give_all, mail_in, turn_by, board_node_take}
+use Rattle.board_world.specs.NextBoards.{BoardsState, after_turn, boards_happen, boards_turn, turned_by}
+use Rattle.board_world.specs.Replicas.{applied_all, replica_start}
 use Rattle.board_law.specs.OneList.{one_registry}
 use Rattle.board_law.proofs.Places.{Stands, set_cases, stands_either}
 use Rattle.board_law.proofs.Registries.{given_outs, given_state, sent_by_front, sent_by_rest, state_both}
@@ -86,14 +86,14 @@ module _ (script : Script) (w : BoardsState) (p : World Command) (tied : Tied sc
   abbrev first : List Command
   first = (p.board place).applied
 
-  registry_now : (given_all w.items node.registry made.outs).state ≡ (applied_all w.items (first_replica script) (step.world.board place).applied).state
+  registry_now : (give_all w.items node.registry made.outs).state ≡ (applied_all w.items (replica_start script) (step.world.board place).applied).state
   registry_now =
       given_state w.items node.registry made.outs
       ∙ ap (λ r. (applied_all w.items r (applied_in made.outs)).state) seat.registry
-      ∙ sym (state_both w.items (first_replica script) first (applied_in made.outs))
-      ∙ ap (λ list. (applied_all w.items (first_replica script) list).state) (sym step.applied)
+      ∙ sym (state_both w.items (replica_start script) first (applied_in made.outs))
+      ∙ ap (λ list. (applied_all w.items (replica_start script) list).state) (sym step.applied)
 
-  sits : Seated script w.items now step.world place (record { board = made.state; registry = (given_all w.items node.registry made.outs).state })
+  sits : Seated script w.items now step.world place (record { board = made.state; registry = (give_all w.items node.registry made.outs).state })
   sits = record { below = seat.below; shows = step.shows; shown = holds.shown; applied = applied_front; registry = registry_now }
 
   -- The others sit as before.
@@ -106,7 +106,7 @@ module _ (script : Script) (w : BoardsState) (p : World Command) (tied : Tied sc
         shows = subst (λ x. Shows other x one.board) (sym same) s.shows;
         shown = through (chosen_part one.board) w.chosen now s.shown holds.old;
         applied = through (step.world.board other).applied w.chosen now (subst (λ x. Prefix x.applied w.chosen) (sym same) s.applied) holds.old;
-        registry = s.registry ∙ ap (λ x. (applied_all w.items (first_replica script) x.applied).state) (sym same);
+        registry = s.registry ∙ ap (λ x. (applied_all w.items (replica_start script) x.applied).state) (sym same);
       }
 
   abbrev after : BoardsState
@@ -114,7 +114,7 @@ module _ (script : Script) (w : BoardsState) (p : World Command) (tied : Tied sc
 
   seated_after : (other : ℕ) (one : BoardNode) → slice_get after.nodes other ≡ Some one → Seated script w.items now step.world other one
   seated_after other one got =
-      let new : BoardNode = record { board = made.state; registry = (given_all w.items node.registry made.outs).state } in
+      let new : BoardNode = record { board = made.state; registry = (give_all w.items node.registry made.outs).state } in
       elim (set_cases w.nodes place other node new one there got) [
         | inl here ↦
             subst (Seated script w.items now step.world other) here.1
@@ -131,21 +131,21 @@ module _ (script : Script) (w : BoardsState) (p : World Command) (tied : Tied sc
       ]
 
   -- What its registry sends now the one registry sends.
-  handed_now : (packet : Packet) → Stands (given_all w.items node.registry made.outs).outs packet → Stands (applied_all w.items (first_replica script) now).outs packet
+  handed_now : (packet : Packet) → Stands (give_all w.items node.registry made.outs).outs packet → Stands (applied_all w.items (replica_start script) now).outs packet
   handed_now packet at =
-      let r = (applied_all w.items (first_replica script) first).state in
+      let r = (applied_all w.items (replica_start script) first).state in
       let more : Stands (applied_all w.items r (applied_in made.outs)).outs packet =
       subst (λ outs. Stands outs packet)
       (given_outs w.items node.registry made.outs ∙ ap (λ q. (applied_all w.items q (applied_in made.outs)).outs) seat.registry) at in
-      let all : Stands (applied_all w.items (first_replica script) (step.world.board place).applied).outs packet =
-      subst (λ list. Stands (applied_all w.items (first_replica script) list).outs packet) (sym step.applied)
-      (sent_by_rest w.items (first_replica script) first (applied_in made.outs) packet more) in
-      sent_by_front w.items (first_replica script) (step.world.board place).applied now packet applied_front all
+      let all : Stands (applied_all w.items (replica_start script) (step.world.board place).applied).outs packet =
+      subst (λ list. Stands (applied_all w.items (replica_start script) list).outs packet) (sym step.applied)
+      (sent_by_rest w.items (replica_start script) first (applied_in made.outs) packet more) in
+      sent_by_front w.items (replica_start script) (step.world.board place).applied now packet applied_front all
 
   handed_after : (packet : Packet) → WasSent after.handed packet → WasSent (one_registry script after).outs packet
   handed_after packet at =
-      elim (stands_either w.handed (given_all w.items node.registry made.outs).outs packet at) [
-        | inl old ↦ sent_by_front w.items (first_replica script) w.chosen now packet holds.old (tied.handed packet old)
+      elim (stands_either w.handed (give_all w.items node.registry made.outs).outs packet at) [
+        | inl old ↦ sent_by_front w.items (replica_start script) w.chosen now packet holds.old (tied.handed packet old)
         | inr new ↦ handed_now packet new
       ]
 
@@ -158,16 +158,16 @@ Comes script w input = (p : World Command) → Tied script w p → Came p input
 
 module _ (script : Script) (w : BoardsState) (place : ℕ) (input : inputs.In) (comes : Comes script w input) (tied : AreTied script w) where
   by_node : (found : Option BoardNode) → slice_get w.nodes place ≡ found → AreTied script (turned_by w place input found).state
-  unfolding turn_of
+  unfolding board_node_take
   by_node None e = tied
   by_node (Some node) e = tied_after script w tied.0 tied.1 place node e input (comes tied.0 tied.1)
 
-  turned_tied : AreTied script (turned w place input).state
-  unfolding turned
+  turned_tied : AreTied script (boards_turn w place input).state
+  unfolding boards_turn
   turned_tied = by_node (slice_get w.nodes place) refl
 
 pub board_tied : (script : Script) (w : BoardsState) (number : ℕ) (input : inputs.In) → Comes script w input → AreTied script w
-    → AreTied script (at_board w number input).state
+    → AreTied script (boards_happen w number input).state
 board_tied script w number input comes tied =
-    by_test (λ made. AreTied script made.state) (nat_lt 0 number && nat_le number (length w.nodes)) (turned w (number - 1) input) (still w)
+    by_test (λ made. AreTied script made.state) (nat_lt 0 number && nat_le number (length w.nodes)) (boards_turn w (number - 1) input) (still w)
     (λ e. turned_tied script w (number - 1) input comes tied) (λ e. tied)

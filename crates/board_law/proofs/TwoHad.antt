@@ -14,7 +14,7 @@ use Rattle.board_law.specs.board_tie.Shown.{owner}
 use Rattle.board_law.proofs.board_tie.Growing.{is_leader}
 use Rattle.board_world.specs.declared.board_event.BoardEvent.{BoardEvent}
 use Rattle.board_world.specs.BoardRuns.{MailCame}
-use Rattle.board_world.specs.NextBoards.{BoardsState, boards_after, first_boards, next_boards}
+use Rattle.board_world.specs.NextBoards.{BoardsState, boards_after, boards_start, boards_take}
 use Rattle.board_law.specs.OneList.{HadIt}
 use Rattle.board_law.proofs.Events.{chosen_grows, run_tied, there}
 use Rattle.board_law.proofs.Showing.{another}
@@ -53,16 +53,16 @@ module _ (script : Script) (w : BoardsState) (tied : AreTied script w) (number b
 -- in the front of the events, too, each packet that came was sent
 came_first : (w : BoardsState) (events more : List BoardEvent) → MailCame w (events ++ more) → MailCame w events
 came_first w [] more came = tt
-came_first w (event ∷ events) more came = (came.0, came_first (next_boards w event).state events more came.1)
+came_first w (event ∷ events) more came = (came.0, came_first (boards_take w event).state events more came.1)
 
-module _ (script : Script) (events more : List BoardEvent) (came : MailCame (first_boards script) (events ++ more)) (one other ballot : ℕ) (apart : one ≡ other → ⊥)
+module _ (script : Script) (events more : List BoardEvent) (came : MailCame (boards_start script) (events ++ more)) (one other ballot : ℕ) (apart : one ≡ other → ⊥)
     (commands : List Command) (had : HadIt (boards_after script events).state one ballot commands)
     (had_too : HadIt (boards_after script (events ++ more)).state other ballot commands) where
   by_owner : (t : Bool) → (owner_of ballot == one) ≡ t → Prefix commands (boards_after script (events ++ more)).state.chosen
   by_owner false e =
       let old = (boards_after script events).state in
       through commands old.chosen (boards_after script (events ++ more)).state.chosen
-      (had_shown script old (run_tied script events (came_first (first_boards script) events more came)) one ballot commands had e) (chosen_grows script events more)
+      (had_shown script old (run_tied script events (came_first (boards_start script) events more came)) one ballot commands had e) (chosen_grows script events more)
   by_owner true e =
       let own : owner_of ballot ≡ one = (Decides-eqb (owner_of ballot) one).0 e in
       let differs : (owner_of ballot == other) ≡ false = grind (arith, nat_tests, own, apart) in

@@ -15,12 +15,12 @@ use Rattle.xfs_base.specs.Steps.{Stepped}
 use Rattle.world_base.specs.declared.world.World.{World}
 use Rattle.world_base.specs.Cluster.{cleaner_place, node_at, place_of}
 use Rattle.world_base.specs.Events.{event_of}
-use Rattle.world_base.specs.NextWorld.{Turn, after_turn, at_place, clock_after, clock_at, happened, happened_at, next_world, sent_at, turn_by, turn_of, turned}
+use Rattle.world_base.specs.NextWorld.{Turn, after_turn, at_place, clock_after, clock_at, world_happen, happen_at, next_world, sent_at, turn_by, turn_of, turned}
 use Rattle.world_base.specs.Runs.{MayHappen, WasSent}
 use Rattle.world_base.proofs.Places.{node_there}
 use Rattle.board_world.specs.declared.replica.Replica.{Replica}
 use Rattle.board_world.specs.BoardRuns.{MayOffer}
-use Rattle.board_world.specs.Replicas.{at_clock, happened as takes}
+use Rattle.board_world.specs.Replicas.{at_clock, replica_happen as takes}
 use Rattle.board_law.specs.OneRun.{as_node}
 use Rattle.board_law.proofs.Places.{set_elsewhere, set_there, stands_left}
 
@@ -81,18 +81,18 @@ module _ {N : Type 0} (step : N → Do → NodeStep N) (of : RegistryNode → N)
           sent = refl;
         })
 
-    pub registry_takes : Taken w (happened_at step w (registry_place w) what) (takes r what)
-    unfolding happened_at takes
+    pub registry_takes : Taken w (happen_at step w (registry_place w) what) (takes r what)
+    unfolding happen_at takes
     registry_takes = subst (λ o. Taken w (turned step w (registry_place w) what o) (at_clock r what (clock_after r.clock what))) (sym clock_is) (by_clock (clock_after r.clock what))
 
-  happens_there : (w : World N) (what : Do) → happened step w Registry what ≡ happened_at step w (registry_place w) what
-  unfolding happened
+  happens_there : (w : World N) (what : Do) → world_happen step w Registry what ≡ happen_at step w (registry_place w) what
+  unfolding world_happen
   happens_there w what = refl
 
   -- As an event it may happen, to the registry.
-  pub event_happens : (w : World N) (what : Do) → MayOffer w what → next_world step w (event_of Registry what) ≡ happened_at step w (registry_place w) what
+  pub event_happens : (w : World N) (what : Do) → MayOffer w what → next_world step w (event_of Registry what) ≡ happen_at step w (registry_place w) what
   event_happens w Begin may = happens_there w Begin
-  event_happens w (Deliver packet) may = ap (λ node. happened step w node (Deliver packet)) may.1 ∙ happens_there w (Deliver packet)
+  event_happens w (Deliver packet) may = ap (λ node. world_happen step w node (Deliver packet)) may.1 ∙ happens_there w (Deliver packet)
   event_happens w Tick may = happens_there w Tick
 
   pub may_happen : (w : World N) (what : Do) → MayOffer w what → MayHappen w (event_of Registry what)
@@ -129,8 +129,8 @@ module _ {N : Type 0} (step : N → Do → NodeStep N) (of : RegistryNode → N)
       clock_beside None = nothing
       clock_beside (Some clock) = turn_beside clock
 
-      place_beside : Beside w (happened_at step w place what) r
-      unfolding happened_at
+      place_beside : Beside w (happen_at step w place what) r
+      unfolding happen_at
       place_beside = clock_beside (clock_at w place what)
 
     -- another node stands at another place
@@ -142,6 +142,6 @@ module _ {N : Type 0} (step : N → Do → NodeStep N) (of : RegistryNode → N)
     by_place node other None e = nothing
     by_place node other (Some place) e = place_beside place (apart_from node other place e)
 
-    pub happens_beside : (node : NodeId) → (node ≡ Registry → ⊥) → Beside w (happened step w node what) r
-    unfolding happened
+    pub happens_beside : (node : NodeId) → (node ≡ Registry → ⊥) → Beside w (world_happen step w node what) r
+    unfolding world_happen
     happens_beside node other = by_place node other (place_of w.cluster node) refl

@@ -15,17 +15,17 @@ use Rattle.board_world.specs.declared.board_event.BoardEvent.{BoardEvent}
 use Rattle.board_world.specs.declared.board_node.BoardNode.{BoardNode}
 use Rattle.board_world.specs.declared.replica.Replica.{Replica}
 use Rattle.board_world.specs.BoardRuns.{MailCame}
-use Rattle.board_world.specs.NextBoards.{BoardsState, boards_after, first_boards, node_at}
-use Rattle.board_world.specs.Replicas.{applied_all, first_replica}
+use Rattle.board_world.specs.NextBoards.{BoardsState, boards_after, boards_start, node_at}
+use Rattle.board_world.specs.Replicas.{applied_all, replica_start}
 
 -- the one registry, after the commands that are chosen, each once, in their order, and all that it sent
 abbrev pub one_registry : Script → BoardsState → Stepped Replica Packet
-one_registry script w = applied_all w.items (first_replica script) w.chosen
+one_registry script w = applied_all w.items (replica_start script) w.chosen
 
 -- What a board has applied are the first so many of the chosen commands: its registry is the one that they make.
 pub record IsBehind (script : Script) (w : BoardsState) (node : BoardNode) : Type 0 where
   pub within : node.board.applied ≤ length w.chosen
-  pub registry : node.registry ≡ (applied_all w.items (first_replica script) (take node.board.applied w.chosen)).state
+  pub registry : node.registry ≡ (applied_all w.items (replica_start script) (take node.board.applied w.chosen)).state
 
 -- The boards are those of a moment of the abstract protocol, at which what is chosen is chosen.
 pub record AreProtocols (w : BoardsState) : Type 0 where
@@ -45,7 +45,7 @@ pub record HaveOneList (script : Script) (w : BoardsState) : Type 0 where
 
 -- Whatever happens, where packets of boards that come were sent: there is one list.
 abbrev pub BoardsHaveOneList : Type 0
-BoardsHaveOneList = (script : Script) (events : List BoardEvent) → MailCame (first_boards script) events → HaveOneList script (boards_after script events).state
+BoardsHaveOneList = (script : Script) (events : List BoardEvent) → MailCame (boards_start script) events → HaveOneList script (boards_after script events).state
 
 -- It only grows.
 abbrev pub ChosenListsGrow : Type 0
@@ -62,6 +62,6 @@ pub record HadIt (w : BoardsState) (number its : ℕ) (commands : List Command) 
 -- A list that two boards had, with one ballot, each at a moment of its own, is chosen from then on.
 abbrev pub WhatTwoHadIsChosen : Type 0
 WhatTwoHadIsChosen =
-    (script : Script) (events then : List BoardEvent) → MailCame (first_boards script) (events ++ then) → (one other ballot : ℕ) → (one ≡ other → ⊥)
+    (script : Script) (events then : List BoardEvent) → MailCame (boards_start script) (events ++ then) → (one other ballot : ℕ) → (one ≡ other → ⊥)
     → (commands : List Command) → HadIt (boards_after script events).state one ballot commands → HadIt (boards_after script (events ++ then)).state other ballot commands
     → Prefix commands (boards_after script (events ++ then)).state.chosen

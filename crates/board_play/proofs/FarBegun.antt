@@ -18,7 +18,7 @@ use Rattle.world_base.specs.declared.event.Event.TheVariants.{Begin, Tick}
 use Rattle.world_base.specs.Events.{event_of}
 use Rattle.world_base.specs.Items.{actor_of, items_of}
 use Rattle.world_base.specs.Runs.{begins_of, begun_in}
-use Rattle.play.specs.Manner.{plays_line}
+use Rattle.play.specs.Manner.{play_line}
 use Rattle.play.specs.Plays.{actors_of}
 use Rattle.play.proofs.EachBegun.{for_each, more_begun}
 use Rattle.play.proofs.Manners.{line_good}
@@ -31,15 +31,15 @@ use Rattle.board_world.specs.declared.board_event.BoardEvent.{BoardEvent}
 use Rattle.board_world.specs.declared.board_event.BoardEvent.TheVariants.{Far, Offer, Mail, Beat, Stop, Start}
 use Rattle.board_world.specs.declared.board_node.BoardNode.{BoardNode}
 use Rattle.board_world.specs.BoardRuns.{Together}
-use Rattle.board_world.specs.BoardTurns.{turn_of}
-use Rattle.board_world.specs.NextBoards.{BoardsState, at_board, command_at, is_up, next_boards, offered, turned, turned_by}
-use Rattle.board_world.specs.Projection.{event_by, is_due, projected, projected_all}
+use Rattle.board_world.specs.BoardTurns.{board_node_take}
+use Rattle.board_world.specs.NextBoards.{BoardsState, boards_happen, command_at, is_up, boards_take, boards_offer, boards_turn, turned_by}
+use Rattle.board_world.specs.Projection.{event_by, is_due, project, project_all}
 use Rattle.board_play.specs.declared.player.Player.{Player}
 use Rattle.board_play.specs.declared.sent.Sender.{Sender}
 use Rattle.board_play.specs.declared.sent.Sender.TheVariants as senders
 use Rattle.board_play.specs.declared.sent.Sent.{Sent}
 use Rattle.board_play.specs.Begun.{far_of}
-use Rattle.board_play.specs.Plays.{beats, beats_all, begins, begins_at, board_event, coming, delivered, delivery, event_at, happens, happens_where, least_up, mailing, manner_of, offer_to, offers, opens, opens_by, opens_for, played, starts, ticks, together, with_offer, with_one_more}
+use Rattle.board_play.specs.Plays.{player_beat, beat_all, player_begin, begin_at, board_event, coming, delivered, delivery, event_at, player_happen, happen_where, least_up, mailing, manner_of, offer_to, player_offer, opens, opens_by, opens_for, player_play, player_start, ticks, together, with_offer, with_one_more}
 use Rattle.board_play.specs.Plays as plays
 use Rattle.board_play.proofs.BoardLines.{AsksBoard, board_line}
 
@@ -66,8 +66,8 @@ registry_only whats.Begin = refl
 registry_only (whats.Deliver packet) = refl
 registry_only whats.Tick = refl
 
-one_quiet : (items begun : ℕ) (command : Command) → far_begun_in (projected items begun command).outs ≡ []
-unfolding projected
+one_quiet : (items begun : ℕ) (command : Command) → far_begun_in (project items begun command).outs ≡ []
+unfolding project
 one_quiet items begun command =
     elim (is_due items begun command) as
     (λ t. far_begun_in (cond t (event_by begun command) (record { state = begun; outs = [] })).outs ≡ []) [
@@ -75,29 +75,29 @@ one_quiet items begun command =
       | false ↦ refl
     ]
 
-all_quiet : (items begun : ℕ) (commands : List Command) → far_begun_in (projected_all items begun commands).outs ≡ []
+all_quiet : (items begun : ℕ) (commands : List Command) → far_begun_in (project_all items begun commands).outs ≡ []
 all_quiet items begun [] = refl
 all_quiet items begun (c ∷ commands) =
-    let now = projected items begun c in
-    let rest = (projected_all items now.state commands).outs in
+    let now = project items begun c in
+    let rest = (project_all items now.state commands).outs in
     far_begun_more now.outs rest ∙ ap (λ nodes. nodes ++ far_begun_in rest) (one_quiet items begun c) ∙ all_quiet items now.state commands
 
 turn_quiet : (w : BoardsState) (place : ℕ) (input : In) (node : Option BoardNode) → far_begun_in (turned_by w place input node).outs ≡ []
 turn_quiet w place input None = refl
 turn_quiet w place input (Some node) =
     all_quiet w.items w.begun
-    (drop (length w.chosen) (chosen_part (turn_of w.items node input).node.board))
+    (drop (length w.chosen) (chosen_part (board_node_take w.items node input).node.board))
 
-board_quiet : (w : BoardsState) (number : ℕ) (input : In) → far_begun_in (at_board w number input).outs ≡ []
-unfolding turned
+board_quiet : (w : BoardsState) (number : ℕ) (input : In) → far_begun_in (boards_happen w number input).outs ≡ []
+unfolding boards_turn
 board_quiet w number input =
     elim (nat_lt 0 number && nat_le number (length w.nodes)) as
-    (λ t. far_begun_in (cond t (turned w (number - 1) input) (record { state = w; outs = [] })).outs ≡ []) [
+    (λ t. far_begun_in (cond t (boards_turn w (number - 1) input) (record { state = w; outs = [] })).outs ≡ []) [
       | true ↦ turn_quiet w (number - 1) input (slice_get w.nodes (number - 1))
       | false ↦ refl
     ]
 
-offer_quiet : (w : BoardsState) (number : ℕ) (command : Option Command) → far_begun_in (offered w number command).outs ≡ []
+offer_quiet : (w : BoardsState) (number : ℕ) (command : Option Command) → far_begun_in (boards_offer w number command).outs ≡ []
 offer_quiet w number None = refl
 offer_quiet w number (Some command) = board_quiet w number (inputs.Offer command)
 
@@ -110,7 +110,7 @@ far_events (Beat number) = []
 far_events (Stop number) = []
 far_events (Start number) = []
 
-event_begins : (w : BoardsState) (event : BoardEvent) → far_begun_in (next_boards w event).outs ≡ far_begun_in (far_events event)
+event_begins : (w : BoardsState) (event : BoardEvent) → far_begun_in (boards_take w event).outs ≡ far_begun_in (far_events event)
 event_begins w (Far event) = refl
 event_begins w (Offer number what item) = offer_quiet w number (command_at what item)
 event_begins w (Mail packet) = board_quiet w packet.to (inputs.Mail packet)
@@ -122,20 +122,20 @@ module _ {N : Type 0} (step : N → Do → NodeStep N) where
   abbrev begun : Player N → List NodeId
   begun p = far_begun_in p.events
 
-  happens_begins : (p : Player N) (event : BoardEvent) → begun (happens step p event) ≡ begun p ++ far_begun_in (far_events event)
-  unfolding happens
+  happens_begins : (p : Player N) (event : BoardEvent) → begun (player_happen step p event) ≡ begun p ++ far_begun_in (far_events event)
+  unfolding player_happen
   happens_begins p event =
-      far_begun_more p.events (next_boards p.boards event).outs ∙ ap (λ nodes. begun p ++ nodes) (event_begins p.boards event)
+      far_begun_more p.events (boards_take p.boards event).outs ∙ ap (λ nodes. begun p ++ nodes) (event_begins p.boards event)
 
   -- what is no Begin begins nothing
   abbrev IsQuiet : Option BoardEvent → Type 0
   IsQuiet None = Unit {0}
   IsQuiet (Some event) = far_begun_in (far_events event) ≡ []
 
-  quiet_begins : (p : Player N) (event : BoardEvent) → IsQuiet (Some event) → begun (happens step p event) ≡ begun p
+  quiet_begins : (p : Player N) (event : BoardEvent) → IsQuiet (Some event) → begun (player_happen step p event) ≡ begun p
   quiet_begins p event quiet = happens_begins p event ∙ ap (λ nodes. begun p ++ nodes) quiet ∙ append-nil (begun p)
 
-  where_begins : (p : Player N) (event : Option BoardEvent) → IsQuiet event → begun (happens_where step p event) ≡ begun p
+  where_begins : (p : Player N) (event : Option BoardEvent) → IsQuiet event → begun (happen_where step p event) ≡ begun p
   where_begins p None quiet = refl
   where_begins p (Some event) quiet = quiet_begins p event quiet
 
@@ -166,23 +166,23 @@ module _ {N : Type 0} (step : N → Do → NodeStep N) where
   delivers_begins p number (Some sent) =
       where_begins p (coming (together p) sent.sender sent.place) (coming_is_quiet (together p) sent.sender sent.place)
 
-  beat_begins : (p : Player N) (board : ℕ) → begun (beats step p board) ≡ begun p
-  unfolding beats
-  beat_begins p board = elim (is_up p.boards board) as (λ t. begun (cond t (happens step p (Beat board)) p) ≡ begun p) [
+  beat_begins : (p : Player N) (board : ℕ) → begun (player_beat step p board) ≡ begun p
+  unfolding player_beat
+  beat_begins p board = elim (is_up p.boards board) as (λ t. begun (cond t (player_happen step p (Beat board)) p) ≡ begun p) [
     | true ↦ quiet_begins p (Beat board) refl
     | false ↦ refl
   ]
 
-  beats_begin : (p : Player N) → begun (beats_all step p) ≡ begun p
+  beats_begin : (p : Player N) → begun (beat_all step p) ≡ begun p
   beats_begin p =
-      let one = beats step p 1 in
-      let two = beats step one 2 in
+      let one = player_beat step p 1 in
+      let two = player_beat step one 2 in
       beat_begins two 3 ∙ beat_begins one 2 ∙ beat_begins p 1
 
   tick_begins : (p : Player N) (node : NodeId) → begun (ticks step p node) ≡ begun p
   unfolding ticks
   tick_begins p node =
-      elim (same_node node Registry) as (λ t. begun (cond t (beats_all step p) (happens step p (Far (Tick node)))) ≡ begun p) [
+      elim (same_node node Registry) as (λ t. begun (cond t (beat_all step p) (player_happen step p (Far (Tick node)))) ≡ begun p) [
         | true ↦ beats_begin p
         | false ↦ quiet_begins p (Far (Tick node)) refl
       ]
@@ -193,13 +193,13 @@ module _ {N : Type 0} (step : N → Do → NodeStep N) where
 
   -- ---- a line begins the item that it is
 
-  begin_begins : (p : Player N) (node : NodeId) → begun (begins step p node) ≡ begun p ++ far_of (node ∷ [])
-  unfolding begins
+  begin_begins : (p : Player N) (node : NodeId) → begun (player_begin step p node) ≡ begun p ++ far_of (node ∷ [])
+  unfolding player_begin
   begin_begins p node =
       let q = with_one_more p in
       elim (same_node node Registry) as
       (λ t. same_node node Registry ≡ t
-      → begun (cond t (offers step q) (happens step q (Far (Begin node)))) ≡ begun p ++ cond (not t) (node ∷ []) []) [
+      → begun (cond t (player_offer step q) (player_happen step q (Far (Begin node)))) ≡ begun p ++ cond (not t) (node ∷ []) []) [
         | true ↦ λ e.
             where_begins (with_offer q) (offer_to (least_up q.boards) whats.Begin (with_offer q).offered)
             (offer_is_quiet (least_up q.boards) whats.Begin (with_offer q).offered)
@@ -232,7 +232,7 @@ module _ {N : Type 0} (step : N → Do → NodeStep N) where
       by_event (inl is) = turn_begins p work (Stop a.board) is refl a.no_item
       by_event (inr is) = turn_begins p work (Start a.board) is refl a.no_item
 
-  line_begins : (p : Player N) (line : Line) → begun (plays_line (manner_of step) p line) ≡ begun p ++ actor_in (actor_of line.work)
+  line_begins : (p : Player N) (line : Line) → begun (play_line (manner_of step) p line) ≡ begun p ++ actor_in (actor_of line.work)
   unfolding opens
   line_begins p line =
       let q = opens_by step p line.work (board_event line.work) in
@@ -244,19 +244,19 @@ module _ {N : Type 0} (step : N → Do → NodeStep N) where
   first_actor None actors = refl
   first_actor (Some node) actors = sym (far_more (node ∷ []) actors)
 
-  lines_begin : (p : Player N) (lines : List Line) → begun (fold (plays_line (manner_of step)) p lines) ≡ begun p ++ far_of (actors_of lines)
+  lines_begin : (p : Player N) (lines : List Line) → begun (fold (play_line (manner_of step)) p lines) ≡ begun p ++ far_of (actors_of lines)
   lines_begin p [] = sym (append-nil (begun p))
   lines_begin p (l ∷ lines) =
-      lines_begin (plays_line (manner_of step) p l) lines
+      lines_begin (play_line (manner_of step) p l) lines
       ∙ ap (λ nodes. nodes ++ far_of (actors_of lines)) (line_begins p l)
       ∙ append_assoc (begun p) (actor_in (actor_of l.work)) (far_of (actors_of lines))
       ∙ ap (λ nodes. begun p ++ nodes) (first_actor (actor_of l.work) (actors_of lines))
 
 -- the items of all nodes but the registry are begun in the order of their lines
 pub far_in_order : {N : Type 0} (step : N → Do → NodeStep N) (first : NodeId → Setup → List Work → N) (script : Script)
-    → far_of (begun_in (played step first script).events) ≡ far_of (actors_of script.lines)
-unfolding played
-far_in_order step first script = lines_begin step (starts first script) script.lines
+    → far_of (begun_in (player_play step first script).events) ≡ far_of (actors_of script.lines)
+unfolding player_play
+far_in_order step first script = lines_begin step (player_start first script) script.lines
 
 -- ---- the items of one node that isn't the registry
 

@@ -11,17 +11,17 @@ use Rattle.xfs_base.specs.declared.node.NodeId.TheVariants.{Registry}
 use Rattle.xfs_base.specs.declared.setup.Setup.{Setup}
 use Rattle.world_base.specs.Runs.{IsRun, begins_of}
 use Rattle.board_play.specs.Played.{IsBoardPlayed}
-use Rattle.board_play.specs.Plays.{estate_of, played, together}
+use Rattle.board_play.specs.Plays.{estate_of, player_play, together}
 use Rattle.board_play.proofs.FarBegun.{far_begins_all, far_in_order}
 use Rattle.board_play.proofs.RunOf.{HasRun, play_runs}
 
 module _ {N : Type 0} (law : RunsWithBoardsAreOneRun N) (step : N → Do → NodeStep N) (first : NodeId → Setup → List Work → N) (has : HasRegistry step first) (script : Script) where
-  runs : HasRun step first script (played step first script)
+  runs : HasRun step first script (player_play step first script)
   runs = play_runs step first script (λ events end run. (law step first has script events end run).handed)
 
   pub play_is : IsSetup script.setup → IsBoardPlayed step first (estate_of step first script)
   play_is setup =
-      let p = played step first script in
+      let p = player_play step first script in
       let h = runs in
       let one = law step first has script p.happened (together p) h.leads in
       let order = far_in_order step first script in

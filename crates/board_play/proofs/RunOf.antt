@@ -24,14 +24,14 @@ use Rattle.board.specs.declared.packet.BoardPacket.{BoardPacket}
 use Rattle.board_world.specs.declared.board_event.BoardEvent.{BoardEvent}
 use Rattle.board_world.specs.declared.board_event.BoardEvent.TheVariants.{Far, Offer, Mail, Beat, Stop, Start}
 use Rattle.board_world.specs.BoardRuns.{BoardsLead, IsBoardRun, MayCome, MayOffer, Together, first_together, next_together}
-use Rattle.board_world.specs.NextBoards.{BoardsState, boards_after, first_boards, is_up, next_boards}
+use Rattle.board_world.specs.NextBoards.{BoardsState, boards_after, boards_start, is_up, boards_take}
 use Rattle.board_play.specs.declared.player.Player.{Player}
 use Rattle.board_play.specs.declared.sent.Sender.{Sender}
 use Rattle.board_play.specs.declared.sent.Sender.TheVariants as senders
 use Rattle.board_play.specs.declared.sent.Sent.{Sent}
-use Rattle.play.specs.Manner.{plays_line}
+use Rattle.play.specs.Manner.{play_line}
 use Rattle.play.proofs.Manners.{all_keep, line_good}
-use Rattle.board_play.specs.Plays.{beats, beats_all, begins, begins_at, board_event, coming, delivered, delivery, event_at, happens, happens_where, least_up, mailing, manner_of, offer_to, offers, opens, opens_by, opens_for, played, starts, ticks, together, with_offer, with_one_more}
+use Rattle.board_play.specs.Plays.{player_beat, beat_all, player_begin, begin_at, board_event, coming, delivered, delivery, event_at, player_happen, happen_where, least_up, mailing, manner_of, offer_to, player_offer, opens, opens_by, opens_for, player_play, player_start, ticks, together, with_offer, with_one_more}
 use Rattle.board_play.specs.Plays as plays
 
 not_registry : (node : NodeId) → same_node node Registry ≡ false → node ≡ Registry → ⊥
@@ -60,18 +60,18 @@ module _ {N : Type 0} (step : N → Do → NodeStep N) (first : NodeId → Setup
     pub boards : (boards_after script p.happened).state ≡ p.boards
     pub events : (boards_after script p.happened).outs ≡ p.events
 
-  happens_runs : (p : Player N) (event : BoardEvent) → MayCome (together p) event → HasRun p → HasRun (happens step p event)
-  unfolding happens
+  happens_runs : (p : Player N) (event : BoardEvent) → MayCome (together p) event → HasRun p → HasRun (player_happen step p event)
+  unfolding player_happen
   happens_runs p event may run =
-      let last = ap (λ (b : BoardsState). next_boards b event) run.boards in
+      let last = ap (λ (b : BoardsState). boards_take b event) run.boards in
       record {
         leads = one_more start p.happened (together p) event run.leads may;
-        boards = steps_both next_boards (first_boards script) p.happened (event ∷ []) ∙ ap (λ (s : Stepped BoardsState Event). s.state) last;
+        boards = steps_both boards_take (boards_start script) p.happened (event ∷ []) ∙ ap (λ (s : Stepped BoardsState Event). s.state) last;
         events =
-            outs_both next_boards (first_boards script) p.happened (event ∷ [])
+            outs_both boards_take (boards_start script) p.happened (event ∷ [])
             ∙ ap (λ (s : Stepped BoardsState Event). (boards_after script p.happened).outs ++ (s.outs ++ [])) last
-            ∙ ap (λ outs. (boards_after script p.happened).outs ++ outs) (append-nil (next_boards p.boards event).outs)
-            ∙ ap (λ events. events ++ (next_boards p.boards event).outs) run.events;
+            ∙ ap (λ outs. (boards_after script p.happened).outs ++ outs) (append-nil (boards_take p.boards event).outs)
+            ∙ ap (λ events. events ++ (boards_take p.boards event).outs) run.events;
       }
 
   -- what a registry of a board sent, the one registry sent
@@ -81,31 +81,31 @@ module _ {N : Type 0} (step : N → Do → NodeStep N) (first : NodeId → Setup
     MayWhere t None = Unit {0}
     MayWhere t (Some event) = MayCome t event
 
-    happens_where_runs : (p : Player N) (event : Option BoardEvent) → MayWhere (together p) event → HasRun p → HasRun (happens_where step p event)
-    happens_where_runs p None may run = run
-    happens_where_runs p (Some event) may run = happens_runs p event may run
+    happen_where_runs : (p : Player N) (event : Option BoardEvent) → MayWhere (together p) event → HasRun p → HasRun (happen_where step p event)
+    happen_where_runs p None may run = run
+    happen_where_runs p (Some event) may run = happens_runs p event may run
 
     may_offer : (t : Together N) (board : Option ℕ) (what : Do) (item : ℕ) → MayOffer t.world what → MayWhere t (offer_to board what item)
     may_offer t None what item may = tt
     may_offer t (Some board) what item may = may
 
-    offers_runs : (p : Player N) → HasRun p → HasRun (offers step p)
+    offers_runs : (p : Player N) → HasRun p → HasRun (player_offer step p)
     offers_runs p run =
         let event = offer_to (least_up p.boards) whats.Begin (with_offer p).offered in
-        happens_where_runs (with_offer p) event (may_offer (together p) (least_up p.boards) whats.Begin (with_offer p).offered tt)
+        happen_where_runs (with_offer p) event (may_offer (together p) (least_up p.boards) whats.Begin (with_offer p).offered tt)
         (record { leads = run.leads; boards = run.boards; events = run.events })
 
-    begins_at_runs : (p : Player N) (node : NodeId) → HasRun p → HasRun (begins_at step p node)
-    begins_at_runs p node run =
-        elim (same_node node Registry) as (λ t. same_node node Registry ≡ t → HasRun (cond t (offers step p) (happens step p (Far (Begin node))))) [
+    begin_at_runs : (p : Player N) (node : NodeId) → HasRun p → HasRun (begin_at step p node)
+    begin_at_runs p node run =
+        elim (same_node node Registry) as (λ t. same_node node Registry ≡ t → HasRun (cond t (player_offer step p) (player_happen step p (Far (Begin node))))) [
           | true ↦ λ e. offers_runs p run
           | false ↦ λ e. happens_runs p (Far (Begin node)) (tt, not_registry node e) run
         ] refl
 
-    begins_runs : (p : Player N) (node : NodeId) → HasRun p → HasRun (begins step p node)
-    unfolding begins
+    begins_runs : (p : Player N) (node : NodeId) → HasRun p → HasRun (player_begin step p node)
+    unfolding player_begin
     begins_runs p node run =
-        let begun = begins_at_runs (with_one_more p) node (record { leads = run.leads; boards = run.boards; events = run.events }) in
+        let begun = begin_at_runs (with_one_more p) node (record { leads = run.leads; boards = run.boards; events = run.events }) in
         record { leads = begun.leads; boards = begun.boards; events = begun.events }
 
     may_deliver : (t : Together N) (packet : Packet) → WasSent t.world.sent packet → MayWhere t (event_at t.boards packet.to (whats.Deliver packet))
@@ -134,26 +134,26 @@ module _ {N : Type 0} (step : N → Do → NodeStep N) (first : NodeId → Setup
     delivers_runs : (p : Player N) (number : ℕ) (sent : Option Sent) → HasRun p → HasRun (plays.delivers step p number sent)
     delivers_runs p number None run = run
     delivers_runs p number (Some sent) run =
-        let came = happens_where_runs p (coming (together p) sent.sender sent.place) (comes_may p sent.sender sent.place run) run in
+        let came = happen_where_runs p (coming (together p) sent.sender sent.place) (comes_may p sent.sender sent.place run) run in
         record { leads = came.leads; boards = came.boards; events = came.events }
 
-    beat_runs : (p : Player N) (board : ℕ) → HasRun p → HasRun (beats step p board)
-    unfolding beats
-    beat_runs p board run = elim (is_up p.boards board) as (λ t. HasRun (cond t (happens step p (Beat board)) p)) [
+    beat_runs : (p : Player N) (board : ℕ) → HasRun p → HasRun (player_beat step p board)
+    unfolding player_beat
+    beat_runs p board run = elim (is_up p.boards board) as (λ t. HasRun (cond t (player_happen step p (Beat board)) p)) [
       | true ↦ happens_runs p (Beat board) tt run
       | false ↦ run
     ]
 
-    beats_run : (p : Player N) → HasRun p → HasRun (beats_all step p)
+    beats_run : (p : Player N) → HasRun p → HasRun (beat_all step p)
     beats_run p run =
-        let one = beats step p 1 in
-        let two = beats step one 2 in
+        let one = player_beat step p 1 in
+        let two = player_beat step one 2 in
         beat_runs two 3 (beat_runs one 2 (beat_runs p 1 run))
 
     tick_runs : (p : Player N) (node : NodeId) → HasRun p → HasRun (ticks step p node)
     unfolding ticks
     tick_runs p node run =
-        elim (same_node node Registry) as (λ t. same_node node Registry ≡ t → HasRun (cond t (beats_all step p) (happens step p (Far (Tick node))))) [
+        elim (same_node node Registry) as (λ t. same_node node Registry ≡ t → HasRun (cond t (beat_all step p) (player_happen step p (Far (Tick node))))) [
           | true ↦ λ e. beats_run p run
           | false ↦ λ e. happens_runs p (Far (Tick node)) (tt, not_registry node e) run
         ] refl
@@ -177,12 +177,12 @@ module _ {N : Type 0} (step : N → Do → NodeStep N) (first : NodeId → Setup
     may_turn t (works.BoardStart board) = tt
     may_turn t work = tt
 
-    line_runs : (p : Player N) (line : Line) → HasRun p → HasRun (plays_line (manner_of step) p line)
+    line_runs : (p : Player N) (line : Line) → HasRun p → HasRun (play_line (manner_of step) p line)
     unfolding opens
     line_runs p line run =
         let opened = opens_runs p line.work (board_event line.work) (may_turn (together p) line.work) run in
         line_good (manner_of step) HasRun (λ q s led. record { leads = led.leads; boards = led.boards; events = led.events }) delivery_runs tick_runs p line opened
 
-    pub play_runs : HasRun (played step first script)
-    unfolding played
-    play_runs = all_keep (plays_line (manner_of step)) HasRun line_runs (starts first script) script.lines (record { leads = refl; boards = refl; events = refl })
+    pub play_runs : HasRun (player_play step first script)
+    unfolding player_play
+    play_runs = all_keep (play_line (manner_of step)) HasRun line_runs (player_start first script) script.lines (record { leads = refl; boards = refl; events = refl })

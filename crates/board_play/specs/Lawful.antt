@@ -14,35 +14,35 @@ use Rattle.board_world.specs.declared.board_event.BoardEvent.TheVariants.{Far, B
 use Rattle.board_world.specs.NextBoards.{is_up}
 use Rattle.board_play.specs.declared.player.Player.{Player}
 use Rattle.board_play.specs.declared.sent.Sent.{Sent}
-use Rattle.board_play.specs.Plays.{beats, beats_all, coming, delivered, delivers, happens, happens_where, made_by, manner_of, sent_more, ticks, together}
+use Rattle.board_play.specs.Plays.{player_beat, beat_all, coming, delivered, delivers, player_happen, happen_where, made_by, manner_of, sent_more, ticks, together}
 
 module _ {N : Type 0} (step : N → Do → NodeStep N) where
-  happens_keeps : (p : Player N) (event : BoardEvent) → left (happens step p event).schedule ≡ left p.schedule
-  unfolding happens
+  happens_keeps : (p : Player N) (event : BoardEvent) → left (player_happen step p event).schedule ≡ left p.schedule
+  unfolding player_happen
   happens_keeps p event =
       sent_since_keeps p.schedule (length p.sent) (length (p.sent ++ sent_more event (together p) (made_by step p event)))
 
-  happens_where_keeps : (p : Player N) (event : Option BoardEvent) → left (happens_where step p event).schedule ≡ left p.schedule
+  happens_where_keeps : (p : Player N) (event : Option BoardEvent) → left (happen_where step p event).schedule ≡ left p.schedule
   happens_where_keeps p None = refl
   happens_where_keeps p (Some event) = happens_keeps p event
 
-  beat_keeps : (p : Player N) (board : ℕ) → left (beats step p board).schedule ≡ left p.schedule
-  unfolding beats
-  beat_keeps p board = elim (is_up p.boards board) as (λ t. left (cond t (happens step p (Beat board)) p).schedule ≡ left p.schedule) [
+  beat_keeps : (p : Player N) (board : ℕ) → left (player_beat step p board).schedule ≡ left p.schedule
+  unfolding player_beat
+  beat_keeps p board = elim (is_up p.boards board) as (λ t. left (cond t (player_happen step p (Beat board)) p).schedule ≡ left p.schedule) [
     | true ↦ happens_keeps p (Beat board)
     | false ↦ refl
   ]
 
-  beats_keep : (p : Player N) → left (beats_all step p).schedule ≡ left p.schedule
+  beats_keep : (p : Player N) → left (beat_all step p).schedule ≡ left p.schedule
   beats_keep p =
-      let one = beats step p 1 in
-      let two = beats step one 2 in
+      let one = player_beat step p 1 in
+      let two = player_beat step one 2 in
       beat_keeps two 3 ∙ beat_keeps one 2 ∙ beat_keeps p 1
 
   tick_keeps : (p : Player N) (node : NodeId) → left (ticks step p node).schedule ≡ left p.schedule
   unfolding ticks
   tick_keeps p node =
-      elim (same_node node Registry) as (λ t. left (cond t (beats_all step p) (happens step p (Far (Tick node)))).schedule ≡ left p.schedule) [
+      elim (same_node node Registry) as (λ t. left (cond t (beat_all step p) (player_happen step p (Far (Tick node)))).schedule ≡ left p.schedule) [
         | true ↦ beats_keep p
         | false ↦ happens_keeps p (Far (Tick node))
       ]
@@ -51,7 +51,7 @@ module _ {N : Type 0} (step : N → Do → NodeStep N) where
   delivers_keeps p number None = refl
   delivers_keeps p number (Some sent) =
       let event = coming (together p) sent.sender sent.place in
-      repeated_keeps (happens_where step p event).schedule number ∙ happens_where_keeps p event
+      repeated_keeps (happen_where step p event).schedule number ∙ happens_where_keeps p event
 
   delivery_keeps : (p : Player N) (number : ℕ) → left (delivered step p number).schedule ≡ left p.schedule
   unfolding delivered

@@ -19,14 +19,14 @@ use Rattle.world_base.specs.declared.event.Event.TheVariants.{Begin, Tick}
 use Rattle.world_base.specs.Events.{event_of}
 use Rattle.world_base.specs.Items.{actor_of}
 use Rattle.world_base.specs.NextWorld.{start_world}
-use Rattle.world_base.specs.Schedule.{ScheduleState, item_begun, repeated, started, told}
-use Rattle.play.specs.Manner.{Manner, plays_line}
-use Rattle.play.specs.Plays.{answers, sent_since}
+use Rattle.world_base.specs.Schedule.{ScheduleState, item_begun, repeated, schedule_start, schedule_take}
+use Rattle.play.specs.Manner.{Manner, play_line}
+use Rattle.play.specs.Plays.{answers, send_since}
 use Rattle.board.specs.declared.packet.BoardPacket.{BoardPacket}
 use Rattle.board_world.specs.declared.board_event.BoardEvent.{BoardEvent}
 use Rattle.board_world.specs.declared.board_event.BoardEvent.TheVariants.{Far, Offer, Mail, Beat, Stop, Start}
 use Rattle.board_world.specs.BoardRuns.{Together, by_events}
-use Rattle.board_world.specs.NextBoards.{BoardsState, first_boards, is_up, next_boards}
+use Rattle.board_world.specs.NextBoards.{BoardsState, boards_start, is_up, boards_take}
 use Rattle.board_play.specs.declared.estate.BoardEstate.{BoardEstate}
 use Rattle.board_play.specs.declared.player.Player.{Player}
 use Rattle.board_play.specs.declared.sent.Sender.{Sender}
@@ -40,20 +40,20 @@ abbrev pub sent_at : Sender → ℕ → Sent
 sent_at sender place = record { sender = sender; place = place }
 
 -- what a sender sent since it had sent so much
-abbrev pub sent_by : Sender → ℕ → ℕ → List Sent
-sent_by sender before now = map (sent_at sender) (range_with_len before (now - before))
+abbrev pub send_by : Sender → ℕ → ℕ → List Sent
+send_by sender before now = map (sent_at sender) (range_with_len before (now - before))
 
 -- what nodes sent, where the event happened to one of them: what the one registry sends is on its way once a board's registry sends it
-abbrev pub sent_far : BoardEvent → ℕ → ℕ → List Sent
-sent_far (Far event) before now = sent_by senders.Nodes before now
-sent_far event before now = []
+abbrev pub send_far : BoardEvent → ℕ → ℕ → List Sent
+send_far (Far event) before now = send_by senders.Nodes before now
+send_far event before now = []
 
 -- what went out by an event: of the nodes, of the boards' registries, and of the boards
 abbrev pub sent_more : {N : Type 0} → BoardEvent → Together N → Together N → List Sent
 sent_more event old new =
-    sent_far event (length old.world.sent) (length new.world.sent)
-    ++ (sent_by senders.Registries (length old.boards.handed) (length new.boards.handed)
-    ++ sent_by senders.Boards (length old.boards.mail) (length new.boards.mail))
+    send_far event (length old.world.sent) (length new.world.sent)
+    ++ (send_by senders.Registries (length old.boards.handed) (length new.boards.handed)
+    ++ send_by senders.Boards (length old.boards.mail) (length new.boards.mail))
 
 -- ---- the play's parts
 
@@ -67,9 +67,9 @@ with_event p event made more = record {
   boards = made.boards;
   world = made.world;
   happened = p.happened ++ event ∷ [];
-  events = p.events ++ (next_boards p.boards event).outs;
+  events = p.events ++ (boards_take p.boards event).outs;
   sent = p.sent ++ more;
-  schedule = sent_since p.schedule (length p.sent) (length (p.sent ++ more));
+  schedule = send_since p.schedule (length p.sent) (length (p.sent ++ more));
   unanswered = p.unanswered - answers (drop (length p.world.acts) made.world.acts);
   offered = p.offered;
 }
@@ -112,8 +112,8 @@ with_offer p = record {
 }
 
 -- a line that is no item is told to the schedule
-abbrev pub told_of : {N : Type 0} → Player N → Work → Player N
-told_of p work = with_schedule p (told work p.unanswered p.schedule)
+abbrev pub player_tell : {N : Type 0} → Player N → Work → Player N
+player_tell p work = with_schedule p (schedule_take work p.unanswered p.schedule)
 
 -- the schedule knows that an item was begun
 abbrev pub item_told : {N : Type 0} → Player N → Player N
@@ -164,53 +164,53 @@ board_event work = None
 module _ {N : Type 0} (step : N → Do → NodeStep N) where
   -- what an event makes of all
   abbrev pub made_by : Player N → BoardEvent → Together N
-  made_by p event = by_events step p.world (next_boards p.boards event)
+  made_by p event = by_events step p.world (boards_take p.boards event)
 
   -- an event happens
-  unfoldable pub happens : Player N → BoardEvent → Player N
-  happens p event = with_event p event (made_by p event) (sent_more event (together p) (made_by p event))
+  unfoldable pub player_happen : Player N → BoardEvent → Player N
+  player_happen p event = with_event p event (made_by p event) (sent_more event (together p) (made_by p event))
 
-  abbrev pub happens_where : Player N → Option BoardEvent → Player N
-  happens_where p None = p
-  happens_where p (Some event) = happens p event
+  abbrev pub happen_where : Player N → Option BoardEvent → Player N
+  happen_where p None = p
+  happen_where p (Some event) = player_happen p event
 
   -- the next item of the registry is offered, by its number
-  abbrev pub offers : Player N → Player N
-  offers p = happens_where (with_offer p) (offer_to (least_up p.boards) whats.Begin (with_offer p).offered)
+  abbrev pub player_offer : Player N → Player N
+  player_offer p = happen_where (with_offer p) (offer_to (least_up p.boards) whats.Begin (with_offer p).offered)
 
-  abbrev pub begins_at : Player N → NodeId → Player N
-  begins_at p node = if same_node node Registry then offers p else happens p (Far (Begin node))
+  abbrev pub begin_at : Player N → NodeId → Player N
+  begin_at p node = if same_node node Registry then player_offer p else player_happen p (Far (Begin node))
 
   -- a node begins its next item; the registry's is offered
-  unfoldable pub begins : Player N → NodeId → Player N
-  begins p node = item_told (begins_at (with_one_more p) node)
+  unfoldable pub player_begin : Player N → NodeId → Player N
+  player_begin p node = item_told (begin_at (with_one_more p) node)
 
   -- a packet that was sent is delivered
   abbrev pub delivers : Player N → ℕ → Option Sent → Player N
   delivers p number None = p
-  delivers p number (Some sent) = delivery_told number (happens_where p (coming (together p) sent.sender sent.place))
+  delivers p number (Some sent) = delivery_told number (happen_where p (coming (together p) sent.sender sent.place))
 
   unfoldable pub delivered : Player N → ℕ → Player N
   delivered p number = delivers p number (slice_get p.sent number)
 
   -- time passes at a board that is up
-  unfoldable pub beats : Player N → ℕ → Player N
-  beats p board = if is_up p.boards board then happens p (Beat board) else p
+  unfoldable pub player_beat : Player N → ℕ → Player N
+  player_beat p board = if is_up p.boards board then player_happen p (Beat board) else p
 
-  abbrev pub beats_all : Player N → Player N
-  beats_all p = beats (beats (beats p 1) 2) 3
+  abbrev pub beat_all : Player N → Player N
+  beat_all p = player_beat (player_beat (player_beat p 1) 2) 3
 
   -- time passes at a node; in the registry's place at each board
   unfoldable pub ticks : Player N → NodeId → Player N
-  ticks p node = if same_node node Registry then beats_all p else happens p (Far (Tick node))
+  ticks p node = if same_node node Registry then beat_all p else player_happen p (Far (Tick node))
 
   abbrev pub opens_for : Player N → Work → Option NodeId → Player N
-  opens_for p work None = told_of p work
-  opens_for p work (Some node) = begins p node
+  opens_for p work None = player_tell p work
+  opens_for p work (Some node) = player_begin p node
 
   abbrev pub opens_by : Player N → Work → Option BoardEvent → Player N
   opens_by p work None = opens_for p work (actor_of work)
-  opens_by p work (Some event) = told_of (happens p event) work
+  opens_by p work (Some event) = player_tell (player_happen p event) work
 
   -- an item is begun at its line, and a board stops or starts at its line; any other line is told to the schedule
   unfoldable pub opens : Player N → Work → Player N
@@ -229,26 +229,26 @@ module _ {N : Type 0} (step : N → Do → NodeStep N) where
   }
 
 -- the play before the first line
-abbrev pub starts : {N : Type 0} → (NodeId → Setup → List Work → N) → Script → Player N
-starts first script = record {
-  boards = first_boards script;
+abbrev pub player_start : {N : Type 0} → (NodeId → Setup → List Work → N) → Script → Player N
+player_start first script = record {
+  boards = boards_start script;
   world = start_world first script;
   happened = [];
   events = [];
   sent = [];
-  schedule = started;
+  schedule = schedule_start;
   unanswered = 0;
   offered = 0;
 }
 
 -- the play of a script, line by line
-unfoldable pub played : {N : Type 0} → (N → Do → NodeStep N) → (NodeId → Setup → List Work → N) → Script → Player N
-played step first script = fold (plays_line (manner_of step)) (starts first script) script.lines
+unfoldable pub player_play : {N : Type 0} → (N → Do → NodeStep N) → (NodeId → Setup → List Work → N) → Script → Player N
+player_play step first script = fold (play_line (manner_of step)) (player_start first script) script.lines
 
 -- the estate that a play leaves, of the run that it stands for, and what happened to nodes and boards
-abbrev pub left_by : {N : Type 0} → Script → Player N → BoardEstate N
-left_by script p = record { estate = record { script = script; events = p.events; world = p.world }; events = p.happened }
+abbrev pub into_estate : {N : Type 0} → Script → Player N → BoardEstate N
+into_estate script p = record { estate = record { script = script; events = p.events; world = p.world }; events = p.happened }
 
 -- the run that a script determines, with boards
 abbrev pub estate_of : {N : Type 0} → (N → Do → NodeStep N) → (NodeId → Setup → List Work → N) → Script → BoardEstate N
-estate_of step first script = left_by script (played step first script)
+estate_of step first script = into_estate script (player_play step first script)

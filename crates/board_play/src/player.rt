@@ -3,7 +3,7 @@ ghost use Rattle.std.specs.Prelude.{◌≡◌, ◌+◌, ◌<◌, ◌≤◌, ◌^
 ghost use Rattle.node_base.specs.Setups.{IsSetup};
 ghost use Rattle.world_base.specs.Items.{actor_of as actor_in};
 ghost use Rattle.world_base.specs.NextWorld.{next_world};
-ghost use Rattle.board_play.specs.Plays.{beats, beats_all, begins, begins_at, happens, happens_where, left_by, offers, opens_for, starts, told_of, played};
+ghost use Rattle.board_play.specs.Plays.{player_beat, beat_all, player_begin, begin_at, player_happen, happen_where, into_estate, player_offer, opens_for, player_start, player_tell, player_play};
 
 use crate::BoardEstate;
 use crate::coming::{board_event, coming, least_up, offer_to};
@@ -89,7 +89,7 @@ fn happen_all<N: Member>(
 impl<N: Drop> Player<N> {
     /// What the play of a script leaves.
     pub(crate) fn into_estate(self, script: Script) -> BoardEstate<N>
-        ensures { result ≡ left_by script self }
+        ensures { result ≡ into_estate script self }
     {
         let (world, events, happened) = self.into_parts();
         BoardEstate {
@@ -107,7 +107,7 @@ impl<N: Member> Player<N> {
     /// The play before the first line.
     fn start(alloc: Global, script: &Script) -> Mem<Player<N>>
         requires { IsSetup script.now.setup }
-        ensures { IfOk result (λ player. player ≡ starts N.first script.now) }
+        ensures { IfOk result (λ player. player ≡ player_start N.first script.now) }
     {
         Ok(Player {
             boards: Boards::start(alloc, script)?,
@@ -122,9 +122,9 @@ impl<N: Member> Player<N> {
     }
 
     /// An event happens.
-    #[tactic(auto, unfolding(crate::specs::Plays::happens))]
+    #[tactic(auto, unfolding(crate::specs::Plays::player_happen))]
     fn happen(&mut self, alloc: Global, event: BoardEvent) -> Mem<()>
-        ensures exact { OnOk result (self.new ≡ happens N.transition self.old event) }
+        ensures exact { OnOk result (self.new ≡ player_happen N.transition self.old event) }
         ensures no_more { OnOk result (self.new.unanswered ≤ self.old.unanswered) }
     {
         let told = self.world.sent.len();
@@ -156,7 +156,7 @@ impl<N: Member> Player<N> {
 
     /// An event happens where there is one.
     fn happen_where(&mut self, alloc: Global, event: Option<BoardEvent>) -> Mem<()>
-        ensures exact { OnOk result (self.new ≡ happens_where N.transition self.old event) }
+        ensures exact { OnOk result (self.new ≡ happen_where N.transition self.old event) }
         ensures no_more { OnOk result (self.new.unanswered ≤ self.old.unanswered) }
     {
         match event {
@@ -167,7 +167,7 @@ impl<N: Member> Player<N> {
 
     /// The next item of the registry is offered.
     fn offer(&mut self, alloc: Global) -> Mem<()>
-        ensures exact { OnOk result (self.new ≡ offers N.transition self.old) }
+        ensures exact { OnOk result (self.new ≡ player_offer N.transition self.old) }
         ensures no_more { OnOk result (self.new.unanswered ≤ self.old.unanswered) }
     {
         self.offered = self.offered.saturating_add(1);
@@ -176,7 +176,7 @@ impl<N: Member> Player<N> {
     }
 
     fn begin_at(&mut self, alloc: Global, node: NodeId) -> Mem<()>
-        ensures exact { OnOk result (self.new ≡ begins_at N.transition self.old node) }
+        ensures exact { OnOk result (self.new ≡ begin_at N.transition self.old node) }
         ensures no_more { OnOk result (self.new.unanswered ≤ self.old.unanswered) }
     {
         if node == NodeId::Registry {
@@ -187,10 +187,10 @@ impl<N: Member> Player<N> {
     }
 
     /// A node begins its next item; the registry's is offered.
-    #[tactic(auto, unfolding(crate::specs::Plays::begins))]
+    #[tactic(auto, unfolding(crate::specs::Plays::player_begin))]
     fn begin(&mut self, alloc: Global, node: NodeId) -> Mem<()>
         requires { self.old.unanswered + 1 < 2 ^ 64 }
-        ensures exact { OnOk result (self.new ≡ begins N.transition self.old node) }
+        ensures exact { OnOk result (self.new ≡ player_begin N.transition self.old node) }
         ensures one_more { OnOk result (self.new.unanswered ≤ self.old.unanswered + 1) }
     {
         self.unanswered += 1;
@@ -200,9 +200,9 @@ impl<N: Member> Player<N> {
     }
 
     /// Time passes at a board that is up.
-    #[tactic(auto, unfolding(crate::specs::Plays::beats))]
+    #[tactic(auto, unfolding(crate::specs::Plays::player_beat))]
     fn beat(&mut self, alloc: Global, board: u8) -> Mem<()>
-        ensures exact { OnOk result (self.new ≡ beats N.transition self.old board) }
+        ensures exact { OnOk result (self.new ≡ player_beat N.transition self.old board) }
         ensures no_more { OnOk result (self.new.unanswered ≤ self.old.unanswered) }
     {
         if self.boards.is_up(board) {
@@ -213,7 +213,7 @@ impl<N: Member> Player<N> {
     }
 
     fn beat_all(&mut self, alloc: Global) -> Mem<()>
-        ensures exact { OnOk result (self.new ≡ beats_all N.transition self.old) }
+        ensures exact { OnOk result (self.new ≡ beat_all N.transition self.old) }
         ensures no_more { OnOk result (self.new.unanswered ≤ self.old.unanswered) }
     {
         self.beat(alloc, 1)?;
@@ -223,7 +223,7 @@ impl<N: Member> Player<N> {
 
     /// The schedule is told of a line that is no item.
     fn tell(&mut self, work: &Work)
-        ensures exact { self.new ≡ told_of self.old work.now }
+        ensures exact { self.new ≡ player_tell self.old work.now }
         ensures as_many { self.new.unanswered ≡ self.old.unanswered }
     {
         self.schedule.take(work, self.unanswered);
@@ -231,7 +231,7 @@ impl<N: Member> Player<N> {
 
     /// A board stops or starts at its line.
     fn turn_board(&mut self, alloc: Global, event: BoardEvent, work: &Work) -> Mem<()>
-        ensures exact { OnOk result (self.new ≡ told_of (happens N.transition self.old event) work.now) }
+        ensures exact { OnOk result (self.new ≡ player_tell (player_happen N.transition self.old event) work.now) }
         ensures no_more { OnOk result (self.new.unanswered ≤ self.old.unanswered) }
     {
         self.happen(alloc, event)?;
@@ -254,10 +254,10 @@ impl<N: Member> Player<N> {
     }
 
     /// Plays all lines of a script.
-    #[tactic(auto, unfolding(crate::specs::Plays::played))]
+    #[tactic(auto, unfolding(crate::specs::Plays::player_play))]
     pub fn play(alloc: Global, script: &Script) -> Mem<Player<N>>
         requires { IsSetup script.now.setup }
-        ensures { IfOk result (λ player. player ≡ played N.transition N.first script.now) }
+        ensures { IfOk result (λ player. player ≡ player_play N.transition N.first script.now) }
     {
         let mut player = Player::start(alloc, script)?;
         play_lines(alloc, &mut player, script)?;

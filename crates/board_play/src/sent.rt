@@ -1,6 +1,6 @@
 //! What is on its way.
 ghost use Rattle.std.specs.Prelude.{◌≡◌, ◌++◌, OnOk};
-ghost use Rattle.board_play.specs.Plays.{sent_by, sent_far};
+ghost use Rattle.board_play.specs.Plays.{send_by, send_far};
 
 use board_world::BoardEvent;
 use xfs_base::{List, Mem};
@@ -27,7 +27,7 @@ pub struct Sent {
 
 /// Puts what a sender sent since it had sent so much behind all that was sent.
 pub(crate) fn send_by(sent: &mut List<Sent>, sender: Sender, before: usize, now: usize) -> Mem<()>
-    ensures { OnOk result (sent.new ≡ sent.old ++ sent_by sender before now) }
+    ensures { OnOk result (sent.new ≡ sent.old ++ send_by sender before now) }
 {
     for place in before..now {
         sent.push(Sent { sender, place })?;
@@ -42,7 +42,7 @@ pub(crate) fn send_far(
     before: usize,
     now: usize,
 ) -> Mem<()>
-    ensures { OnOk result (sent.new ≡ sent.old ++ sent_far event.now before now) }
+    ensures { OnOk result (sent.new ≡ sent.old ++ send_far event.now before now) }
 {
     match event {
         BoardEvent::Far(_) => send_by(sent, Sender::Nodes, before, now),

@@ -18,7 +18,7 @@ use Rattle.world_base.specs.Runs.{MayHappen, WasSent}
 use Rattle.board.specs.declared.packet.BoardPacket.{BoardPacket}
 use Rattle.board_world.specs.declared.board_event.BoardEvent.{BoardEvent}
 use Rattle.board_world.specs.declared.board_event.BoardEvent.TheVariants.{Far, Offer, Mail, Beat, Stop, Start}
-use Rattle.board_world.specs.NextBoards.{BoardsState, first_boards, next_boards}
+use Rattle.board_world.specs.NextBoards.{BoardsState, boards_start, boards_take}
 
 -- a packet is one of those that boards said to each other
 abbrev pub WasMailed : List BoardPacket → BoardPacket → Type 0
@@ -36,7 +36,7 @@ MayMail w (Start number) = Unit {0}
 -- in all of these events each packet of a board that comes was sent
 abbrev pub MailCame : BoardsState → List BoardEvent → Type 0
 MailCame w [] = Unit {0}
-MailCame w (event ∷ events) = MayMail w event × MailCame (next_boards w event).state events
+MailCame w (event ∷ events) = MayMail w event × MailCame (boards_take w event).state events
 
 -- The boards, and the world of all nodes, in which the one registry takes what is chosen.
 pub record Together (N : Type 0) : Type 0 where
@@ -64,7 +64,7 @@ module _ {N : Type 0} (step : N → Do → NodeStep N) where
   by_events w made = record { boards = made.state; world = fold (next_world step) w made.outs }
 
   abbrev pub next_together : Together N → BoardEvent → Together N
-  next_together t event = by_events t.world (next_boards t.boards event)
+  next_together t event = by_events t.world (boards_take t.boards event)
 
   -- these events lead from one moment to another: each may come at the moment that it meets
   abbrev pub BoardsLead : Together N → List BoardEvent → Together N → Type 0
@@ -73,7 +73,7 @@ module _ {N : Type 0} (step : N → Do → NodeStep N) where
 
   -- before the first event of a script
   abbrev pub first_together : (NodeId → Setup → List Work → N) → Script → Together N
-  first_together first script = record { boards = first_boards script; world = start_world first script }
+  first_together first script = record { boards = boards_start script; world = start_world first script }
 
   -- these events are a run of a script with boards, which ends so
   abbrev pub IsBoardRun : (NodeId → Setup → List Work → N) → Script → List BoardEvent → Together N → Type 0

@@ -16,8 +16,8 @@ use Rattle.board.specs.declared.packet.BoardPacket.{BoardPacket}
 use Rattle.board_world.specs.declared.board_event.BoardEvent.{BoardEvent}
 use Rattle.board_world.specs.declared.board_event.BoardEvent.TheVariants.{Far, Offer, Mail, Beat, Stop, Start}
 use Rattle.board_world.specs.declared.board_node.BoardNode.{BoardNode}
-use Rattle.board_world.specs.BoardTurns.{BoardTurn, first_node, turn_of}
-use Rattle.board_world.specs.Projection.{projected_all}
+use Rattle.board_world.specs.BoardTurns.{BoardTurn, board_node_start, board_node_take}
+use Rattle.board_world.specs.Projection.{project_all}
 
 pub record BoardsState : Type 0 where
   -- how many items the registry has
@@ -34,10 +34,10 @@ pub record BoardsState : Type 0 where
   pub begun : ℕ
 
 -- before the first event of a script
-abbrev pub first_boards : Script → BoardsState
-first_boards script = record {
+abbrev pub boards_start : Script → BoardsState
+boards_start script = record {
   items = length (items_of script.lines Registry);
-  nodes = first_node script 1 ∷ first_node script 2 ∷ first_node script 3 ∷ [];
+  nodes = board_node_start script 1 ∷ board_node_start script 2 ∷ board_node_start script 3 ∷ [];
   mail = [];
   handed = [];
   chosen = [];
@@ -59,8 +59,8 @@ is_up w number = is_up_at (node_at w number)
 -- What a board shows to be chosen beyond what was is chosen now, and happens to the registry.
 abbrev pub chosen_more : BoardsState → List Command → Stepped BoardsState Event
 chosen_more w more = record {
-  state = record w { chosen = w.chosen ++ more; begun = (projected_all w.items w.begun more).state };
-  outs = (projected_all w.items w.begun more).outs;
+  state = record w { chosen = w.chosen ++ more; begun = (project_all w.items w.begun more).state };
+  outs = (project_all w.items w.begun more).outs;
 }
 
 abbrev pub shown_by : BoardsState → BoardNode → Stepped BoardsState Event
@@ -73,34 +73,34 @@ after_turn w place turn =
 
 abbrev pub turned_by : BoardsState → ℕ → In → Option BoardNode → Stepped BoardsState Event
 turned_by w place input None = still w
-turned_by w place input (Some node) = after_turn w place (turn_of w.items node input)
+turned_by w place input (Some node) = after_turn w place (board_node_take w.items node input)
 
-unfoldable pub turned : BoardsState → ℕ → In → Stepped BoardsState Event
-turned w place input = turned_by w place input (slice_get w.nodes place)
+unfoldable pub boards_turn : BoardsState → ℕ → In → Stepped BoardsState Event
+boards_turn w place input = turned_by w place input (slice_get w.nodes place)
 
 -- this happens at the board of this number; nothing does where there is none
-abbrev pub at_board : BoardsState → ℕ → In → Stepped BoardsState Event
-at_board w number input = if nat_lt 0 number && nat_le number (length w.nodes) then turned w (number - 1) input else still w
+abbrev pub boards_happen : BoardsState → ℕ → In → Stepped BoardsState Event
+boards_happen w number input = if nat_lt 0 number && nat_le number (length w.nodes) then boards_turn w (number - 1) input else still w
 
 -- that this happens to the registry, as a command
 unfoldable pub command_at : Do → ℕ → Option Command
 command_at what item = command_of what item
 
 -- a board is offered what happens to the registry; nothing where the registry takes no notice of it
-abbrev pub offered : BoardsState → ℕ → Option Command → Stepped BoardsState Event
-offered w number None = still w
-offered w number (Some command) = at_board w number (input.Offer command)
+abbrev pub boards_offer : BoardsState → ℕ → Option Command → Stepped BoardsState Event
+boards_offer w number None = still w
+boards_offer w number (Some command) = boards_happen w number (input.Offer command)
 
 -- The next state of the boards, and the events of the nodes that the event stands for: itself, where it is of a node far from the boards, and else what happens
 -- to the registry by the commands that became chosen at it.
-abbrev pub next_boards : BoardsState → BoardEvent → Stepped BoardsState Event
-next_boards w (Far event) = record { state = w; outs = event ∷ [] }
-next_boards w (Offer number what item) = offered w number (command_at what item)
-next_boards w (Mail packet) = at_board w packet.to (input.Mail packet)
-next_boards w (Beat number) = at_board w number input.Beat
-next_boards w (Stop number) = at_board w number input.Stop
-next_boards w (Start number) = at_board w number input.Start
+abbrev pub boards_take : BoardsState → BoardEvent → Stepped BoardsState Event
+boards_take w (Far event) = record { state = w; outs = event ∷ [] }
+boards_take w (Offer number what item) = boards_offer w number (command_at what item)
+boards_take w (Mail packet) = boards_happen w packet.to (input.Mail packet)
+boards_take w (Beat number) = boards_happen w number input.Beat
+boards_take w (Stop number) = boards_happen w number input.Stop
+boards_take w (Start number) = boards_happen w number input.Start
 
 -- The boards after all of these events, from the start of a script, and the events of the nodes that they stand for.
 abbrev pub boards_after : Script → List BoardEvent → Stepped BoardsState Event
-boards_after script events = steps next_boards (first_boards script) events
+boards_after script events = steps boards_take (boards_start script) events

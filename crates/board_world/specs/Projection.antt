@@ -23,9 +23,9 @@ abbrev pub event_by : ℕ → Command → Stepped ℕ Event
 event_by begun command = record { state = begun_by begun command; outs = event_of Registry command.what ∷ [] }
 
 -- a command as an event of the registry, after so many of its items were begun
-unfoldable pub projected : ℕ → ℕ → Command → Stepped ℕ Event
-projected items begun command = if is_due items begun command then event_by begun command else still begun
+unfoldable pub project : ℕ → ℕ → Command → Stepped ℕ Event
+project items begun command = if is_due items begun command then event_by begun command else still begun
 
 -- all of these commands, in their order
-abbrev pub projected_all : ℕ → ℕ → List Command → Stepped ℕ Event
-projected_all items begun commands = steps (projected items) begun commands
+abbrev pub project_all : ℕ → ℕ → List Command → Stepped ℕ Event
+project_all items begun commands = steps (project items) begun commands

@@ -13,8 +13,8 @@ use Rattle.board_world.specs.declared.replica.Replica.{Replica}
 use Rattle.board_world.specs.Projection.{is_due, begun_by}
 
 -- before the first event of a script, with the items that are the registry's
-abbrev pub first_replica : Script → Replica
-first_replica script = record { node = registry_start script.setup (items_of script.lines Registry); clock = 0; begun = 0 }
+abbrev pub replica_start : Script → Replica
+replica_start script = record { node = registry_start script.setup (items_of script.lines Registry); clock = 0; begun = 0 }
 
 -- what it sends bears the clock of the event; nothing happens where that would pass the end of all clocks
 abbrev pub at_clock : Replica → Do → Option ℕ → Stepped Replica Packet
@@ -25,17 +25,17 @@ at_clock r what (Some clock) = record {
 }
 
 -- this happens to it
-unfoldable pub happened : Replica → Do → Stepped Replica Packet
-happened r what = at_clock r what (clock_after r.clock what)
+unfoldable pub replica_happen : Replica → Do → Stepped Replica Packet
+replica_happen r what = at_clock r what (clock_after r.clock what)
 
 abbrev pub with_begun : Replica → ℕ → Replica
 with_begun r begun = record { node = r.node; clock = r.clock; begun = begun }
 
 -- A command is applied: it happens to the registry, where it does to one of so many items of which so many are begun.
-unfoldable pub applied : ℕ → Replica → Command → Stepped Replica Packet
-applied items r command =
-    if is_due items r.begun command then happened (with_begun r (begun_by r.begun command)) command.what else still r
+unfoldable pub replica_apply : ℕ → Replica → Command → Stepped Replica Packet
+replica_apply items r command =
+    if is_due items r.begun command then replica_happen (with_begun r (begun_by r.begun command)) command.what else still r
 
 -- all of these commands, in their order
 abbrev pub applied_all : ℕ → Replica → List Command → Stepped Replica Packet
-applied_all items r commands = steps (applied items) r commands
+applied_all items r commands = steps (replica_apply items) r commands

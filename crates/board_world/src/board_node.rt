@@ -1,7 +1,7 @@
 //! A board with its registry.
 ghost use Rattle.std.specs.Prelude.{◌≡◌, ◌++◌, IfOk, OnOk};
 ghost use Rattle.node_base.specs.Setups.{IsSetup};
-ghost use Rattle.board_world.specs.BoardTurns.{first_node, mail_of, mail_in, given, given_all, turn_of};
+ghost use Rattle.board_world.specs.BoardTurns.{board_node_start, mail_of, mail_in, board_node_give, give_all, board_node_take};
 
 use crate::Replica;
 use board::{Board, BoardPacket, In, Out};
@@ -37,8 +37,8 @@ fn give(
     handed: &mut List<SharedPacket>,
     out: Out,
 ) -> Mem<()>
-    ensures registry { OnOk result (registry.new ≡ (given items registry.old out).state) }
-    ensures handed { OnOk result (handed.new ≡ handed.old ++ (given items registry.old out).outs) }
+    ensures registry { OnOk result (registry.new ≡ (board_node_give items registry.old out).state) }
+    ensures handed { OnOk result (handed.new ≡ handed.old ++ (board_node_give items registry.old out).outs) }
     ensures mail { OnOk result (mail.new ≡ mail.old ++ mail_of out) }
 {
     match out {
@@ -55,8 +55,8 @@ fn give_all(
     handed: &mut List<SharedPacket>,
     outs: List<Out>,
 ) -> Mem<()>
-    ensures registry { OnOk result (registry.new ≡ (given_all items registry.old outs).state) }
-    ensures handed { OnOk result (handed.new ≡ handed.old ++ (given_all items registry.old outs).outs) }
+    ensures registry { OnOk result (registry.new ≡ (give_all items registry.old outs).state) }
+    ensures handed { OnOk result (handed.new ≡ handed.old ++ (give_all items registry.old outs).outs) }
     ensures mail { OnOk result (mail.new ≡ mail.old ++ mail_in outs) }
 {
     for out in outs.into_vec() {
@@ -69,7 +69,7 @@ impl BoardNode {
     /// The board of this number before the first event of a script.
     pub fn start(alloc: Global, number: u8, script: &Script) -> Mem<BoardNode>
         requires { IsSetup script.now.setup }
-        ensures { IfOk result (λ node. node ≡ first_node script.now number) }
+        ensures { IfOk result (λ node. node ≡ board_node_start script.now number) }
     {
         Ok(BoardNode {
             board: Board::start(alloc, number),
@@ -79,7 +79,7 @@ impl BoardNode {
 
     /// What the board and its registry do on an input, in a run in which the registry has so many items. What goes to
     /// other boards is put behind the mail, and what the registry sends behind what was handed on.
-    #[tactic(auto, unfolding(crate::specs::BoardTurns::turn_of))]
+    #[tactic(auto, unfolding(crate::specs::BoardTurns::board_node_take))]
     pub fn take(
         &mut self,
         alloc: Global,
@@ -88,9 +88,9 @@ impl BoardNode {
         handed: &mut List<SharedPacket>,
         input: In,
     ) -> Mem<()>
-        ensures node { OnOk result (self.new ≡ (turn_of items self.old input).node) }
-        ensures mail { OnOk result (mail.new ≡ mail.old ++ (turn_of items self.old input).mail) }
-        ensures handed { OnOk result (handed.new ≡ handed.old ++ (turn_of items self.old input).handed) }
+        ensures node { OnOk result (self.new ≡ (board_node_take items self.old input).node) }
+        ensures mail { OnOk result (mail.new ≡ mail.old ++ (board_node_take items self.old input).mail) }
+        ensures handed { OnOk result (handed.new ≡ handed.old ++ (board_node_take items self.old input).handed) }
     {
         let outs = self.board.take(alloc, input)?;
         give_all(alloc, &mut self.registry, items, mail, handed, outs)

@@ -1,7 +1,7 @@
 //! The three boards.
 ghost use Rattle.std.specs.Prelude.{◌≡◌, ◌<◌, ◌∷◌, ◌++◌, [], length, IfOk, OnOk};
 ghost use Rattle.node_base.specs.Setups.{IsSetup};
-ghost use Rattle.board_world.specs.NextBoards.{first_boards, is_up, turned, at_board, command_at, offered, next_boards};
+ghost use Rattle.board_world.specs.NextBoards.{boards_start, is_up, boards_turn, boards_happen, command_at, boards_offer, boards_take};
 
 use crate::choosing::{beyond, choose};
 use crate::projecting::project_all;
@@ -73,7 +73,7 @@ impl Boards {
     /// The boards before the first event of a script: board 1 leads, and nothing is chosen.
     pub fn start(alloc: Global, script: &Script) -> Mem<Boards>
         requires { IsSetup script.now.setup }
-        ensures { IfOk result (λ boards. boards ≡ first_boards script.now) }
+        ensures { IfOk result (λ boards. boards ≡ boards_start script.now) }
     {
         let items = items_of(alloc, script.lines.as_slice(), NodeId::Registry)?;
         let mut nodes = Vec::new(alloc);
@@ -126,11 +126,11 @@ impl Boards {
 
     // The board at a place has its turn; what it shows to be chosen beyond what was is chosen, and happens to the
     // registry.
-    #[tactic(auto, unfolding(crate::specs::NextBoards::turned))]
+    #[tactic(auto, unfolding(crate::specs::NextBoards::boards_turn))]
     fn turn(&mut self, alloc: Global, place: usize, input: In) -> Mem<List<Event>>
         requires { place < length self.old.nodes }
-        ensures state { OnOk result (self.new ≡ (turned self.old place input).state) }
-        ensures events { IfOk result (λ events. events ≡ (turned self.old place input).outs) }
+        ensures state { OnOk result (self.new ≡ (boards_turn self.old place input).state) }
+        ensures events { IfOk result (λ events. events ≡ (boards_turn self.old place input).outs) }
     {
         let node = &mut self.nodes[place];
         node.take(alloc, self.items, &mut self.mail, &mut self.handed, input)?;
@@ -142,8 +142,8 @@ impl Boards {
 
     // This happens at the board of this number; nothing does where there is none.
     fn happen(&mut self, alloc: Global, number: u8, input: In) -> Mem<List<Event>>
-        ensures state { OnOk result (self.new ≡ (at_board self.old number input).state) }
-        ensures events { IfOk result (λ events. events ≡ (at_board self.old number input).outs) }
+        ensures state { OnOk result (self.new ≡ (boards_happen self.old number input).state) }
+        ensures events { IfOk result (λ events. events ≡ (boards_happen self.old number input).outs) }
     {
         let count = usize::from(number);
         if 0 < count && count <= self.nodes.len() {
@@ -155,8 +155,8 @@ impl Boards {
 
     // A board is offered a command; nothing happens where there is none.
     fn offer(&mut self, alloc: Global, number: u8, command: Option<Command>) -> Mem<List<Event>>
-        ensures state { OnOk result (self.new ≡ (offered self.old number command).state) }
-        ensures events { IfOk result (λ events. events ≡ (offered self.old number command).outs) }
+        ensures state { OnOk result (self.new ≡ (boards_offer self.old number command).state) }
+        ensures events { IfOk result (λ events. events ≡ (boards_offer self.old number command).outs) }
     {
         match command {
             Some(command) => self.happen(alloc, number, In::Offer(command)),
@@ -169,8 +169,8 @@ impl Boards {
     /// happens at a board of another number than 1, 2 and 3, nor where a board is offered what the registry takes no
     /// notice of.
     pub fn take(&mut self, alloc: Global, event: &BoardEvent) -> Mem<List<Event>>
-        ensures state { OnOk result (self.new ≡ (next_boards self.old event.now).state) }
-        ensures events { IfOk result (λ events. events ≡ (next_boards self.old event.now).outs) }
+        ensures state { OnOk result (self.new ≡ (boards_take self.old event.now).state) }
+        ensures events { IfOk result (λ events. events ≡ (boards_take self.old event.now).outs) }
     {
         match event {
             BoardEvent::Far(event) => itself(alloc, event),

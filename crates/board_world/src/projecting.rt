@@ -1,7 +1,7 @@
 //! Which commands happen to a registry that takes them in their order, and as which events.
 ghost use Rattle.std.specs.Prelude.{◌≡◌, ◌++◌, OnOk, IfOk};
 ghost use Rattle.wire_msg.specs.Kinds.{is_begin};
-ghost use Rattle.board_world.specs.Projection.{is_next, is_due, begun_by, projected, projected_all};
+ghost use Rattle.board_world.specs.Projection.{is_next, is_due, begun_by, project, project_all};
 
 use board::Command;
 use std::alloc::Global;
@@ -45,7 +45,7 @@ pub(crate) fn begun_by(begun: u32, command: &Command) -> u32
 }
 
 // A command becomes an event of the registry, or nothing.
-#[tactic(auto, unfolding(crate::specs::Projection::projected))]
+#[tactic(auto, unfolding(crate::specs::Projection::project))]
 fn project(
     alloc: Global,
     events: &mut List<Event>,
@@ -53,8 +53,8 @@ fn project(
     begun: &mut u32,
     command: &Command,
 ) -> Mem<()>
-    ensures begun { OnOk result (begun.new ≡ (projected items begun.old command.now).state) }
-    ensures events { OnOk result (events.new ≡ events.old ++ (projected items begun.old command.now).outs) }
+    ensures begun { OnOk result (begun.new ≡ (project items begun.old command.now).state) }
+    ensures events { OnOk result (events.new ≡ events.old ++ (project items begun.old command.now).outs) }
 {
     if !is_due(items, *begun, command) {
         return Ok(());
@@ -72,8 +72,8 @@ pub(crate) fn project_all(
     begun: &mut u32,
     commands: &[Command],
 ) -> Mem<List<Event>>
-    ensures begun { OnOk result (begun.new ≡ (projected_all items begun.old commands.now).state) }
-    ensures events { IfOk result (λ events. events ≡ (projected_all items begun.old commands.now).outs) }
+    ensures begun { OnOk result (begun.new ≡ (project_all items begun.old commands.now).state) }
+    ensures events { IfOk result (λ events. events ≡ (project_all items begun.old commands.now).outs) }
 {
     let mut events = List::new(alloc);
     for command in commands {

@@ -1,7 +1,7 @@
 //! The registry that a board keeps.
 ghost use Rattle.std.specs.Prelude.{◌≡◌, ◌++◌, Some, IfOk, OnOk};
 ghost use Rattle.node_base.specs.Setups.{IsSetup};
-ghost use Rattle.board_world.specs.Replicas.{first_replica, at_clock, happened, applied};
+ghost use Rattle.board_world.specs.Replicas.{replica_start, at_clock, replica_happen, replica_apply};
 
 use crate::projecting::{begun_by, is_due};
 use board::Command;
@@ -40,7 +40,7 @@ impl Replica {
     /// The registry before the first event of a script, with its items.
     pub fn start(alloc: Global, script: &Script) -> Mem<Replica>
         requires { IsSetup script.now.setup }
-        ensures { IfOk result (λ replica. replica ≡ first_replica script.now) }
+        ensures { IfOk result (λ replica. replica ≡ replica_start script.now) }
     {
         let items = items_of(alloc, script.lines.as_slice(), NodeId::Registry)?;
         Ok(Replica {
@@ -51,10 +51,10 @@ impl Replica {
     }
 
     // This happens to it; nothing does where its clock would pass the end of all clocks.
-    #[tactic(auto, unfolding(crate::specs::Replicas::happened))]
+    #[tactic(auto, unfolding(crate::specs::Replicas::replica_happen))]
     fn happen(&mut self, alloc: Global, handed: &mut List<SharedPacket>, what: &Do) -> Mem<()>
-        ensures state { OnOk result (self.new ≡ (happened self.old what.now).state) }
-        ensures handed { OnOk result (handed.new ≡ handed.old ++ (happened self.old what.now).outs) }
+        ensures state { OnOk result (self.new ≡ (replica_happen self.old what.now).state) }
+        ensures handed { OnOk result (handed.new ≡ handed.old ++ (replica_happen self.old what.now).outs) }
     {
         match clock_after(self.clock, what) {
             None => Ok(()),
@@ -81,7 +81,7 @@ impl Replica {
 
     /// A command is applied, in a run in which the registry has so many items. What the registry sends is put behind
     /// what was handed on. A Begin of another item than the next is nothing.
-    #[tactic(auto, unfolding(crate::specs::Replicas::applied))]
+    #[tactic(auto, unfolding(crate::specs::Replicas::replica_apply))]
     pub fn apply(
         &mut self,
         alloc: Global,
@@ -89,8 +89,8 @@ impl Replica {
         handed: &mut List<SharedPacket>,
         command: &Command,
     ) -> Mem<()>
-        ensures state { OnOk result (self.new ≡ (applied items self.old command.now).state) }
-        ensures handed { OnOk result (handed.new ≡ handed.old ++ (applied items self.old command.now).outs) }
+        ensures state { OnOk result (self.new ≡ (replica_apply items self.old command.now).state) }
+        ensures handed { OnOk result (handed.new ≡ handed.old ++ (replica_apply items self.old command.now).outs) }
     {
         if !is_due(items, self.begun, command) {
             return Ok(());

@@ -16,7 +16,7 @@ use Rattle.delta_index.proofs.EntryAlgebra.{is_newer-trans, newer_than_none, fir
 use Rattle.delta_index.proofs.JoinAlgebra.{join-append}
 use Rattle.index_pages.specs.declared.layout.Page.{Page}
 use Rattle.index_pages.specs.Layout.{first_block}
-use Rattle.index_pages.specs.Pages.{put, put_newer, cleaned, all_rows, changed_rows}
+use Rattle.index_pages.specs.Pages.{put, pages_merge, pages_clean, all_rows, changed_rows}
 use Rattle.index_pages.specs.Calls.{with_first, page_with}
 use Rattle.index_pages.proofs.Numbering.{IsNumbered, kept_put, kept_clean, none_numbered}
 use Rattle.index_pages.proofs.PlainTable.{entry_of-insert, rows-put}
@@ -125,7 +125,7 @@ module _ (holds : SegRef → Rows) (k : Checkpointed) (c : IsCovered holds k) (q
 
 covered_written : (holds : SegRef → Rows) (k : Checkpointed) (segments : List SegRef) → rows_in holds segments ≡ rows_of (plan_of k.pages k.parts).pages
     → IsCovered holds k → IsCovered holds (after_event k (Written segments))
-unfolding cleaned
+unfolding pages_clean
 covered_written holds k segments laid c =
     record {
       firsts = c.firsts;
@@ -235,7 +235,7 @@ module _ (holds : SegRef → Rows) (k : Checkpointed) (c : IsCovered holds k) (b
           subst (λ e. Covers (join (rows_in holds k.parts) q) e (put_on_now q)) (sym (is_now q)) (covers_now (join (rows_in holds k.parts)) covers q))
 
 covered_event : (holds : SegRef → Rows) (k : Checkpointed) (event : Event) → MayCome holds k event → IsCovered holds k → IsCovered holds (after_event k event)
-unfolding put_newer
+unfolding pages_merge
 covered_event holds k (Merged block entry) fits c =
     elim (is_newer entry (entry_of k.pages.rows block)) as
     (λ t. is_newer entry (entry_of k.pages.rows block) ≡ t → IsCovered holds (record { pages = cond t (put k.pages block entry) k.pages; parts = k.parts })) [

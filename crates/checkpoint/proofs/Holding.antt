@@ -13,7 +13,7 @@ use Rattle.checkpoint.specs.declared.input.In.TheVariants.{Begin, Settled, Ack}
 use Rattle.checkpoint.specs.declared.output.Out.{Out}
 use Rattle.checkpoint.specs.declared.output.Out.TheVariants.{Kept, Stale}
 use Rattle.checkpoint.specs.WriterState.{Rows, WorkState, WriterState, items_of}
-use Rattle.checkpoint.specs.Transition.{part_at, is_idle, finished, gives, go_on, settled, acked, answer, transition}
+use Rattle.checkpoint.specs.Transition.{part_at, is_idle, writer_finish, gives, go_on, settled, acked, answer, transition}
 use Rattle.checkpoint.specs.Laws.{Asked, Run, rows_of, rows_in, rows_of_items, fresh, given_after, asked_after, after_input, after_inputs, run_of, SettlesAsGiven, AllSettleAsGiven, DoneAsAsked}
 
 -- the checkpoint in hand will name what was asked for, once this much more is settled
@@ -58,7 +58,7 @@ module _ (holds : SegRef → Rows) (a : Asked) where
   goes s slot epoch (page ∷ left) parts horizon given o =
       let w : WorkState = record { slot = slot; epoch = epoch; left = page ∷ left; parts = parts; horizon = horizon } in
       let some : (length (page ∷ left) == 0) ≡ false = grind (arith, nat_tests) in
-      subst (λ t. Good holds a given (cond t (finished s w) (gives s w))) (sym some)
+      subst (λ t. Good holds a given (cond t (writer_finish s w) (gives s w))) (sym some)
       (tt, record { slot = o.slot; epoch = o.epoch; horizon = o.horizon; rows = ap (λ r. rows_in holds parts ++ r) (split slot (page ∷ left)) ∙ o.rows })
 
   goes_on : (s : WriterState) (w : WorkState) (given : Rows) → Owes holds w [] a → Good holds a given (go_on s w)

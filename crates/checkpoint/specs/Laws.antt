@@ -6,14 +6,14 @@ use Rattle.xfs_base.specs.declared.segment.LogId.{LogId}
 use Rattle.xfs_base.specs.declared.segment.SegRef.{SegRef}
 use Rattle.segment_format.specs.declared.segment.Item.{Item}
 use Rattle.segment_format.specs.declared.segment.Item.TheVariants.{Block, Delta, Part}
-use Rattle.index_pages.specs.Pages.{PagesState, no_pages, put_newer, cleaned}
+use Rattle.index_pages.specs.Pages.{PagesState, pages_new, pages_merge, pages_clean}
 use Rattle.checkpoint.specs.declared.input.In.{In}
 use Rattle.checkpoint.specs.declared.input.In.TheVariants.{Begin, Settled, Ack}
 use Rattle.checkpoint.specs.declared.output.Out.{Out}
 use Rattle.checkpoint.specs.declared.output.Out.TheVariants.{Parts, Done, Kept, Stale}
 use Rattle.checkpoint.specs.Plan.{plan_of}
 use Rattle.checkpoint.specs.WriterState.{Rows, WriterState}
-use Rattle.checkpoint.specs.Transition.{started, part_at, is_idle, transition}
+use Rattle.checkpoint.specs.Transition.{writer_start, part_at, is_idle, transition}
 
 -- the rows of these pages, one page after the other
 abbrev pub rows_of : List Rows → Rows
@@ -54,7 +54,7 @@ pub record Run : Type 0 where
 
 -- a writer that was started
 abbrev pub fresh : LogId → Run
-fresh log = record { state = started log; given = []; asked = record { slot = 0; epoch = 0; horizon = []; rows = [] } }
+fresh log = record { state = writer_start log; given = []; asked = record { slot = 0; epoch = 0; horizon = []; rows = [] } }
 
 abbrev pub given_after : Rows → List Out → Rows
 given_after given [] = given
@@ -113,7 +113,7 @@ pub record Checkpointed : Type 0 where
 
 -- a slot of which nothing is known
 abbrev pub nothing_checkpointed : Checkpointed
-nothing_checkpointed = record { pages = no_pages; parts = [] }
+nothing_checkpointed = record { pages = pages_new; parts = [] }
 
 -- an entry is merged, or a checkpoint is planned, whose pages are written into these segments
 pub data Event : Type 0 where
@@ -121,8 +121,8 @@ pub data Event : Type 0 where
   Written : List SegRef → Event
 
 abbrev pub after_event : Checkpointed → Event → Checkpointed
-after_event k (Merged block entry) = record k { pages = put_newer k.pages block entry }
-after_event k (Written segments) = record { pages = cleaned k.pages; parts = (plan_of k.pages k.parts).parts ++ segments }
+after_event k (Merged block entry) = record k { pages = pages_merge k.pages block entry }
+after_event k (Written segments) = record { pages = pages_clean k.pages; parts = (plan_of k.pages k.parts).parts ++ segments }
 
 abbrev pub after_events : Checkpointed → List Event → Checkpointed
 after_events k [] = k

@@ -12,16 +12,16 @@ use Rattle.checkpoint.specs.declared.output.Out.TheVariants.{Parts, Done, Kept, 
 use Rattle.checkpoint.specs.WriterState.{WorkState, WriterState, items_of}
 
 -- nothing was done yet
-abbrev pub started : LogId → WriterState
-started log = record { log = log; number = 0; work = None; asked = None }
+abbrev pub writer_start : LogId → WriterState
+writer_start log = record { log = log; number = 0; work = None; asked = None }
 
 -- the segment of a log at its end
 abbrev pub part_at : LogId → End → SegRef
 part_at log end = record { name = record { log = log; seq = end.seq; pass = end.pass }; group = end.group }
 
 -- all pages are written: the checkpoint is done, and its answer is awaited
-abbrev pub finished : WriterState → WorkState → Stepped WriterState Out
-finished s w = record {
+abbrev pub writer_finish : WriterState → WorkState → Stepped WriterState Out
+writer_finish s w = record {
   state = record s { work = None; asked = Some w.epoch };
   outs = Done w.slot w.epoch w.parts w.horizon ∷ [];
 }
@@ -34,14 +34,14 @@ gives s w = record {
 }
 
 abbrev pub go_on : WriterState → WorkState → Stepped WriterState Out
-go_on s w = if length w.left == 0 then finished s w else gives s w
+go_on s w = if length w.left == 0 then writer_finish s w else gives s w
 
 -- a checkpoint is begun where none is in hand
 abbrev pub is_idle : WriterState → Bool
 is_idle s = not (is_some s.work || (is_some s.asked || (s.number == u32_end)))
 
-abbrev pub begun : WriterState → WorkState → Stepped WriterState Out
-begun s w = if is_idle s then go_on (record s { number = s.number + 1 }) w else still s
+abbrev pub on_begin : WriterState → WorkState → Stepped WriterState Out
+on_begin s w = if is_idle s then go_on (record s { number = s.number + 1 }) w else still s
 
 -- the segment that was given out last is settled: it will be named
 abbrev pub settled : WriterState → Option WorkState → End → Stepped WriterState Out
@@ -67,6 +67,6 @@ on_ack s epoch number = acked s s.asked epoch number
 
 -- what the writer does on an input
 abbrev pub transition : WriterState → In → Stepped WriterState Out
-transition s (Begin slot epoch pages parts horizon) = begun s (record { slot = slot; epoch = epoch; left = pages; parts = parts; horizon = horizon })
+transition s (Begin slot epoch pages parts horizon) = on_begin s (record { slot = slot; epoch = epoch; left = pages; parts = parts; horizon = horizon })
 transition s (Settled end) = on_settled s end
 transition s (Ack epoch number) = on_ack s epoch number

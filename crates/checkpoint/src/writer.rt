@@ -1,6 +1,6 @@
 //! The writer of checkpoints.
 ghost use Rattle.std.specs.Prelude.{◌≡◌, ◌++◌, IfOk, OnOk};
-ghost use Rattle.checkpoint.specs.Transition.{started, part_at, answer, finished, go_on, begun, on_settled, on_ack, transition};
+ghost use Rattle.checkpoint.specs.Transition.{writer_start, part_at, answer, writer_finish, go_on, on_begin, on_settled, on_ack, transition};
 
 use crate::input::In;
 use crate::output::Out;
@@ -70,7 +70,7 @@ fn answer(own: u32, epoch: u32) -> Out
 impl Writer {
     /// A writer into this log, which has done nothing yet.
     pub fn start(_alloc: Global, log: LogId) -> Mem<Writer>
-        ensures { IfOk result (λ writer. writer ≡ started log) }
+        ensures { IfOk result (λ writer. writer ≡ writer_start log) }
     {
         Ok(Writer {
             log,
@@ -120,8 +120,8 @@ impl Writer {
     }
 
     fn on_begin(&mut self, alloc: Global, outs: &mut List<Out>, work: Work) -> Mem<()>
-        ensures state { OnOk result (self.new ≡ (begun self.old work).state) }
-        ensures outs { OnOk result (outs.new ≡ outs.old ++ (begun self.old work).outs) }
+        ensures state { OnOk result (self.new ≡ (on_begin self.old work).state) }
+        ensures outs { OnOk result (outs.new ≡ outs.old ++ (on_begin self.old work).outs) }
     {
         if self.work.is_some() || self.asked.is_some() || self.number == u32::MAX {
             return Ok(());
@@ -159,8 +159,8 @@ impl Writer {
     }
 
     fn finish(&mut self, outs: &mut List<Out>, work: Work) -> Mem<()>
-        ensures state { OnOk result (self.new ≡ (finished self.old work).state) }
-        ensures outs { OnOk result (outs.new ≡ outs.old ++ (finished self.old work).outs) }
+        ensures state { OnOk result (self.new ≡ (writer_finish self.old work).state) }
+        ensures outs { OnOk result (outs.new ≡ outs.old ++ (writer_finish self.old work).outs) }
     {
         self.work = None;
         self.asked = Some(work.epoch);

@@ -3,7 +3,7 @@ ghost use Rattle.std.specs.Prelude.{◌≡◌, ◌++◌, [], length, IfOk, OnOk,
 ghost use Rattle.std.specs.BTreeMap.{insert_entry};
 ghost use Rattle.stripe_code.specs.Stripe.{IsCut};
 ghost use Rattle.xfs_base.specs.Blocks.{block_cmp};
-ghost use Rattle.cleaner_job.specs.Hands.{is_in_hand, known_group, begun_hand, taken_over, takes_in_hand, fetches_for, fetches, hand_hears, hand_confirmed, asked_of, kept_ask, checks};
+ghost use Rattle.cleaner_job.specs.Hands.{is_in_hand, known_group, hand_begin, take_over, take_in_hand, hand_fetch, fetches, hand_hear, hand_confirmed, asked_of, kept_ask, hand_check};
 
 use group_map::{Group, GroupMap};
 use log_owner::send_fetch;
@@ -96,7 +96,7 @@ impl Checks {
 impl Hand {
     /// Asks the servers that have not answered for their fragments.
     pub fn fetch(&self, alloc: Global, effects: &mut Effects) -> Mem<()>
-        ensures { OnOk result (effects.new ≡ effects.old ++ fetches_for self.now.seg.name self.now.reading) }
+        ensures { OnOk result (effects.new ≡ effects.old ++ hand_fetch self.now.seg.name self.now.reading) }
     {
         match &self.reading {
             None => Ok(()),
@@ -105,7 +105,7 @@ impl Hand {
     }
 
     /// A server tells of its fragment.
-    #[tactic(auto, unfolding(crate::specs::Hands::hand_hears))]
+    #[tactic(auto, unfolding(crate::specs::Hands::hand_hear))]
     pub fn hear(
         &mut self,
         alloc: Global,
@@ -114,8 +114,8 @@ impl Hand {
         server: u8,
         told: Told,
     ) -> Mem<Next>
-        ensures state { OnOk result (self.new ≡ (hand_hears self.old groups.now ask server told).state) }
-        ensures next { IfOk result (λ next. next ≡ (hand_hears self.old groups.now ask server told).next) }
+        ensures state { OnOk result (self.new ≡ (hand_hear self.old groups.now ask server told).state) }
+        ensures next { IfOk result (λ next. next ≡ (hand_hear self.old groups.now ask server told).next) }
     {
         match &mut self.reading {
             // It is dropped by a call, here and below, so that each part of it is dropped in one proof.
@@ -147,11 +147,11 @@ impl Hand {
     }
 
     /// The question of a check: a new one for a block that wasn't checked, or that was moved.
-    #[tactic(auto, unfolding(crate::specs::Hands::checks))]
+    #[tactic(auto, unfolding(crate::specs::Hands::hand_check))]
     pub fn check(&mut self, questions: &mut Questions, block: BlockId) -> Mem<u32>
-        ensures hand { OnOk result (self.new ≡ (checks self.old questions.old block).hand) }
-        ensures questions { OnOk result (questions.new ≡ (checks self.old questions.old block).questions) }
-        ensures ask { IfOk result (λ ask. ask ≡ (checks self.old questions.old block).ask) }
+        ensures hand { OnOk result (self.new ≡ (hand_check self.old questions.old block).hand) }
+        ensures questions { OnOk result (questions.new ≡ (hand_check self.old questions.old block).questions) }
+        ensures ask { IfOk result (λ ask. ask ≡ (hand_check self.old questions.old block).ask) }
     {
         match self.kept_ask(block) {
             Some(ask) => Ok(ask),
@@ -175,7 +175,7 @@ impl Hand {
 
 // Asks the servers that have not answered for their fragments of a segment.
 fn fetch_all(alloc: Global, effects: &mut Effects, name: SegName, reading: &Reading) -> Mem<()>
-    ensures { OnOk result (effects.new ≡ effects.old ++ fetches_for name (Some reading.now)) }
+    ensures { OnOk result (effects.new ≡ effects.old ++ hand_fetch name (Some reading.now)) }
 {
     let ask = reading.ask();
     let servers = reading.unanswered(alloc)?;
@@ -196,7 +196,7 @@ pub fn fetch(alloc: Global, effects: &mut Effects, hand: &Option<Hand>) -> Mem<(
 }
 
 /// The segment is in hand already, or its reading begins; none is in hand where its group isn't known.
-#[tactic(auto, unfolding(crate::specs::Hands::takes_in_hand))]
+#[tactic(auto, unfolding(crate::specs::Hands::take_in_hand))]
 pub(crate) fn take_in_hand(
     alloc: Global,
     groups: &Option<GroupMap>,
@@ -204,8 +204,8 @@ pub(crate) fn take_in_hand(
     hand: &mut Option<Hand>,
     seg: SegRef,
 ) -> Mem<()>
-    ensures hand { OnOk result (hand.new ≡ (takes_in_hand groups.now questions.old hand.old seg).hand) }
-    ensures questions { OnOk result (questions.new ≡ (takes_in_hand groups.now questions.old hand.old seg).questions) }
+    ensures hand { OnOk result (hand.new ≡ (take_in_hand groups.now questions.old hand.old seg).hand) }
+    ensures questions { OnOk result (questions.new ≡ (take_in_hand groups.now questions.old hand.old seg).questions) }
 {
     if is_in_hand(hand, seg) {
         return Ok(());
@@ -231,8 +231,8 @@ fn take_over(
     questions: &mut Questions,
     seg: SegRef,
 ) -> Mem<Option<Hand>>
-    ensures hand { IfOk result (λ hand. hand ≡ (taken_over questions.old seg (known_group groups.now seg.group)).hand) }
-    ensures questions { OnOk result (questions.new ≡ (taken_over questions.old seg (known_group groups.now seg.group)).questions) }
+    ensures hand { IfOk result (λ hand. hand ≡ (take_over questions.old seg (known_group groups.now seg.group)).hand) }
+    ensures questions { OnOk result (questions.new ≡ (take_over questions.old seg (known_group groups.now seg.group)).questions) }
 {
     match known_group(groups, seg.group) {
         None => Ok(None),
@@ -246,7 +246,7 @@ fn take_over(
 // The first round of the reading of a segment begins.
 fn begin(alloc: Global, seg: SegRef, group: &Group, ask: u32) -> Mem<Hand>
     requires { IsCut (length group.now.members) group.now.parity }
-    ensures { IfOk result (λ hand. hand ≡ begun_hand seg group.now ask) }
+    ensures { IfOk result (λ hand. hand ≡ hand_begin seg group.now ask) }
 {
     let target = Target { seg, block: None };
     Ok(Hand {

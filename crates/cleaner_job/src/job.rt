@@ -1,7 +1,7 @@
 //! A job of the cleaner, with the questions of the node under which its questions are out.
 ghost use Rattle.std.specs.Prelude.{◌≡◌, IfOk, OnOk, Some};
-ghost use Rattle.cleaner_job.specs.Hands.{takes_in_hand};
-ghost use Rattle.cleaner_job.specs.Jobs.{ask_of, drawn_unless, greeted, is_whole, dropped, lists_of, usages_of, hand_of, check_of, is_out, read_over, job_hears, job_confirmed, job_checks, job_moved, job_read, new_job, hand_moved, hello_of};
+ghost use Rattle.cleaner_job.specs.Hands.{take_in_hand};
+ghost use Rattle.cleaner_job.specs.Jobs.{ask_of, drawn_unless, note_greeted, is_whole, dropped, lists_of, usages_of, hand_of, check_of, is_out, read_over, job_hear, job_confirmed, job_check, note_moved, note_read, job_start, hand_moved, hello_of};
 
 use crate::hand::{Hand, take_in_hand};
 use group_map::GroupMap;
@@ -45,7 +45,7 @@ impl Crosses for Job {}
 impl Job {
     /// A job of so many segments that has asked nothing.
     pub fn start(alloc: Global, count: u32) -> Mem<Job>
-        ensures { IfOk result (λ job. job ≡ new_job count) }
+        ensures { IfOk result (λ job. job ≡ job_start count) }
     {
         Ok(Job {
             cleaning: Cleaning::start(alloc, count)?,
@@ -64,14 +64,14 @@ impl Job {
         questions: &mut Questions,
         seg: SegRef,
     ) -> Mem<()>
-        ensures job { OnOk result (self.new ≡ record self.old { hand = (takes_in_hand groups.now questions.old self.old.hand seg).hand }) }
-        ensures questions { OnOk result (questions.new ≡ (takes_in_hand groups.now questions.old self.old.hand seg).questions) }
+        ensures job { OnOk result (self.new ≡ record self.old { hand = (take_in_hand groups.now questions.old self.old.hand seg).hand }) }
+        ensures questions { OnOk result (questions.new ≡ (take_in_hand groups.now questions.old self.old.hand seg).questions) }
     {
         take_in_hand(alloc, groups, questions, &mut self.hand, seg)
     }
 
     /// A server tells of its fragment of the segment in hand.
-    #[tactic(auto, unfolding(crate::specs::Jobs::job_hears))]
+    #[tactic(auto, unfolding(crate::specs::Jobs::job_hear))]
     pub fn hear(
         &mut self,
         alloc: Global,
@@ -80,8 +80,8 @@ impl Job {
         server: u8,
         told: Told,
     ) -> Mem<Next>
-        ensures state { OnOk result (self.new ≡ (job_hears self.old groups.now ask server told).state) }
-        ensures next { IfOk result (λ next. next ≡ (job_hears self.old groups.now ask server told).next) }
+        ensures state { OnOk result (self.new ≡ (job_hear self.old groups.now ask server told).state) }
+        ensures next { IfOk result (λ next. next ≡ (job_hear self.old groups.now ask server told).next) }
     {
         match &mut self.hand {
             None => {
@@ -138,11 +138,11 @@ impl Job {
     }
 
     /// The question of a check of a block, where a segment is in hand.
-    #[tactic(auto, unfolding(crate::specs::Jobs::job_checks))]
+    #[tactic(auto, unfolding(crate::specs::Jobs::job_check))]
     pub fn check(&mut self, questions: &mut Questions, block: BlockId) -> Mem<Option<u32>>
-        ensures job { OnOk result (self.new ≡ (job_checks self.old questions.old block).job) }
-        ensures questions { OnOk result (questions.new ≡ (job_checks self.old questions.old block).questions) }
-        ensures ask { IfOk result (λ ask. ask ≡ (job_checks self.old questions.old block).ask) }
+        ensures job { OnOk result (self.new ≡ (job_check self.old questions.old block).job) }
+        ensures questions { OnOk result (questions.new ≡ (job_check self.old questions.old block).questions) }
+        ensures ask { IfOk result (λ ask. ask ≡ (job_check self.old questions.old block).ask) }
     {
         match &mut self.hand {
             None => Ok(None),
@@ -257,7 +257,7 @@ pub fn is_out(question: Option<u32>, ask: u32) -> bool
 
 /// The question under which the maps are asked for is answered.
 pub fn note_greeted(job: &mut Option<Job>)
-    ensures { job.new ≡ greeted job.old }
+    ensures { job.new ≡ note_greeted job.old }
 {
     if let Some(job) = job {
         job.hello = None;
@@ -266,7 +266,7 @@ pub fn note_greeted(job: &mut Option<Job>)
 
 /// The segment in hand is read, or lost.
 pub fn note_read(job: &mut Option<Job>)
-    ensures { job.new ≡ job_read job.old }
+    ensures { job.new ≡ note_read job.old }
 {
     if let Some(job) = job {
         job.end_reading();
@@ -275,7 +275,7 @@ pub fn note_read(job: &mut Option<Job>)
 
 /// What was live in the segment in hand is moved.
 pub fn note_moved(job: &mut Option<Job>)
-    ensures { job.new ≡ job_moved job.old }
+    ensures { job.new ≡ note_moved job.old }
 {
     if let Some(job) = job {
         job.note_moved();

@@ -1,6 +1,6 @@
 //! What of the cleaner outlives a crash.
 ghost use Rattle.std.specs.Prelude.{◌≡◌};
-ghost use Rattle.cleaner_job.specs.Lasting.{lasting_room};
+ghost use Rattle.cleaner_job.specs.Lasting.{lasting_has_room};
 
 use node_base::{Items, Questions, has_room};
 use xfs_base::Crosses;
@@ -31,7 +31,7 @@ impl Crosses for Lasting {}
 impl Lasting {
     /// Whether each counter is at least 65,536 below its end.
     pub fn has_room(&self) -> bool
-        ensures { result ≡ lasting_room self.now }
+        ensures { result ≡ lasting_has_room self.now }
     {
         has_room(self.inc) && has_room(self.questions.last)
     }

@@ -1,8 +1,8 @@
 //! The log of a cleaner, and what it has at the start of a run.
 ghost use Rattle.std.specs.Prelude.{◌≡◌, IfOk};
 ghost use Rattle.cleaner_job.specs.Starting.{cleaner_log, no_end};
-ghost use Rattle.client_log.specs.LogState.{started as first_log};
-ghost use Rattle.delta_feed.specs.FeedState.{started as first_feed};
+ghost use Rattle.client_log.specs.LogState.{log_start as first_log};
+ghost use Rattle.delta_feed.specs.FeedState.{feed_start as first_feed};
 
 use client_log::Log;
 use delta_feed::Feed;

@@ -1,7 +1,7 @@
 //! What the cleaner's log and its job have the node do.
 ghost use Rattle.std.specs.Prelude.{◌≡◌, ◌++◌, OnOk};
 ghost use Rattle.std.specs.List.{flat_map};
-ghost use Rattle.cleaner_job.specs.Jobs.{drops};
+ghost use Rattle.cleaner_job.specs.Jobs.{act_dropped};
 ghost use Rattle.log_owner.specs.Opening.{stored};
 
 use log_owner::sending::send_store;
@@ -30,7 +30,7 @@ fn send_stored(effects: &mut Effects, out: client_log::Out) -> Mem<()>
 
 /// The segment in hand is dropped with the first word to delete it.
 pub fn act_dropped(effects: &mut Effects, is_first: bool, name: SegName) -> Mem<()>
-    ensures { OnOk result (effects.new ≡ effects.old ++ drops is_first name) }
+    ensures { OnOk result (effects.new ≡ effects.old ++ act_dropped is_first name) }
 {
     if is_first {
         effects.act(Act::Dropped { seg: name })?;

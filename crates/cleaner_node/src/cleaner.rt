@@ -1,7 +1,7 @@
 //! The cleaner as a node.
 ghost use Rattle.std.specs.Prelude.{◌≡◌, ◌++◌, IfOk, OnOk};
 ghost use Rattle.node_base.specs.Setups.{IsSetup};
-ghost use Rattle.cleaner_node.specs.CleanerEvents.{first_life, cleaner_start, crashes, next_life, says_back, back, after_opening, restarts_in, restarts, wish_at, answers, down_begins, opening_begins, serving_begins, down_wishes, opening_wishes, serving_wishes, on_begin, hears, on_deliver, on_time, happens, phase_room, opening_of, is_serving, takes, cleaner_step};
+ghost use Rattle.cleaner_node.specs.CleanerEvents.{first_life, cleaner_start, crash, next_life, say_back, back, after_opening, restart_in, restart, wish_at, cleaner_answer, begin_down, begin_opening, begin_serving, down_wishes, opening_wishes, serving_wishes, on_begin, cleaner_hear, on_deliver, on_time, happens, phase_has_room, opening_of, is_serving, takes, cleaner_step};
 ghost use Rattle.cleaner_node.specs.declared.cleaner.Phase.TheVariants.{Opening as Opens};
 
 use cleaner_job::Lasting;
@@ -156,7 +156,7 @@ impl Phase {
 
     // Whether each counter is at least 65,536 below its end.
     fn has_room(&self) -> bool
-        ensures { result ≡ phase_room self.now }
+        ensures { result ≡ phase_has_room self.now }
     {
         match self {
             Phase::Down(lasting) => lasting.has_room(),
@@ -240,8 +240,8 @@ fn on_begin(alloc: Global, effects: &mut Effects, servers: u8, phase: Phase) -> 
 }
 
 fn begin_down(alloc: Global, effects: &mut Effects, servers: u8, lasting: Lasting) -> Mem<Phase>
-    ensures phase { IfOk result (λ p. p ≡ (down_begins servers lasting).state) }
-    ensures effects { OnOk result (effects.new ≡ effects.old ++ (down_begins servers lasting).outs) }
+    ensures phase { IfOk result (λ p. p ≡ (begin_down servers lasting).state) }
+    ensures effects { OnOk result (effects.new ≡ effects.old ++ (begin_down servers lasting).outs) }
 {
     let mut lasting = lasting;
     let Some(number) = lasting.items.begin() else {
@@ -271,8 +271,8 @@ fn down_wishes(
 }
 
 fn begin_opening(effects: &mut Effects, lasting: Lasting, opening: Opening) -> Mem<Phase>
-    ensures phase { IfOk result (λ p. p ≡ (opening_begins lasting opening).state) }
-    ensures effects { OnOk result (effects.new ≡ effects.old ++ (opening_begins lasting opening).outs) }
+    ensures phase { IfOk result (λ p. p ≡ (begin_opening lasting opening).state) }
+    ensures effects { OnOk result (effects.new ≡ effects.old ++ (begin_opening lasting opening).outs) }
 {
     let mut lasting = lasting;
     let Some(number) = lasting.items.begin() else {
@@ -313,8 +313,8 @@ fn opening_wishes(
 }
 
 fn begin_serving(alloc: Global, effects: &mut Effects, emptying: Emptying) -> Mem<Phase>
-    ensures phase { IfOk result (λ p. p ≡ (serving_begins emptying).state) }
-    ensures effects { OnOk result (effects.new ≡ effects.old ++ (serving_begins emptying).outs) }
+    ensures phase { IfOk result (λ p. p ≡ (begin_serving emptying).state) }
+    ensures effects { OnOk result (effects.new ≡ effects.old ++ (begin_serving emptying).outs) }
 {
     let mut emptying = emptying;
     let Some(number) = emptying.lasting.items.begin() else {
@@ -353,8 +353,8 @@ fn serving_wishes(
 
 // The item is answered at its begin, and nothing changes.
 fn answer(effects: &mut Effects, phase: Phase, number: u32, answer: Answer) -> Mem<Phase>
-    ensures phase { IfOk result (λ p. p ≡ (answers phase number answer).state) }
-    ensures effects { OnOk result (effects.new ≡ effects.old ++ (answers phase number answer).outs) }
+    ensures phase { IfOk result (λ p. p ≡ (cleaner_answer phase number answer).state) }
+    ensures effects { OnOk result (effects.new ≡ effects.old ++ (cleaner_answer phase number answer).outs) }
 {
     match effects.answer(number, answer) {
         Ok(()) => Ok(phase),
@@ -366,10 +366,10 @@ fn answer(effects: &mut Effects, phase: Phase, number: u32, answer: Answer) -> M
 }
 
 // The cleaner crashes: the item that is open is cut.
-#[tactic(auto, unfolding(crate::specs::CleanerEvents::crashes))]
+#[tactic(auto, unfolding(crate::specs::CleanerEvents::crash))]
 fn crash(effects: &mut Effects, lasting: Lasting, number: u32) -> Mem<Phase>
-    ensures phase { IfOk result (λ p. p ≡ (crashes lasting number).state) }
-    ensures effects { OnOk result (effects.new ≡ effects.old ++ (crashes lasting number).outs) }
+    ensures phase { IfOk result (λ p. p ≡ (crash lasting number).state) }
+    ensures effects { OnOk result (effects.new ≡ effects.old ++ (crash lasting number).outs) }
 {
     let mut lasting = lasting;
     lasting.items.answer(effects, Answer::Cut)?;
@@ -378,7 +378,7 @@ fn crash(effects: &mut Effects, lasting: Lasting, number: u32) -> Mem<Phase>
 }
 
 // The next incarnation begins: it opens its log.
-#[tactic(auto, unfolding(crate::specs::CleanerEvents::restarts))]
+#[tactic(auto, unfolding(crate::specs::CleanerEvents::restart))]
 fn restart(
     alloc: Global,
     effects: &mut Effects,
@@ -386,8 +386,8 @@ fn restart(
     lasting: Lasting,
     number: u32,
 ) -> Mem<Phase>
-    ensures phase { IfOk result (λ p. p ≡ (restarts servers lasting number).state) }
-    ensures effects { OnOk result (effects.new ≡ effects.old ++ (restarts servers lasting number).outs) }
+    ensures phase { IfOk result (λ p. p ≡ (restart servers lasting number).state) }
+    ensures effects { OnOk result (effects.new ≡ effects.old ++ (restart servers lasting number).outs) }
 {
     restart_in(alloc, effects, servers, next_life(lasting, number))
 }
@@ -403,8 +403,8 @@ fn next_life(lasting: Lasting, number: u32) -> Lasting
 }
 
 fn restart_in(alloc: Global, effects: &mut Effects, servers: u8, lasting: Lasting) -> Mem<Phase>
-    ensures phase { IfOk result (λ p. p ≡ (restarts_in servers lasting).state) }
-    ensures effects { OnOk result (effects.new ≡ effects.old ++ (restarts_in servers lasting).outs) }
+    ensures phase { IfOk result (λ p. p ≡ (restart_in servers lasting).state) }
+    ensures effects { OnOk result (effects.new ≡ effects.old ++ (restart_in servers lasting).outs) }
 {
     let mut lasting = lasting;
     let owner = Owner {
@@ -434,10 +434,10 @@ fn on_deliver(
 }
 
 // A cleaner that is down takes no packet.
-#[tactic(auto, unfolding(crate::specs::CleanerEvents::hears))]
+#[tactic(auto, unfolding(crate::specs::CleanerEvents::cleaner_hear))]
 fn hear(alloc: Global, effects: &mut Effects, phase: &mut Phase, packet: &Packet) -> Mem<()>
-    ensures phase { OnOk result (phase.new ≡ (hears phase.old packet.now).state) }
-    ensures effects { OnOk result (effects.new ≡ effects.old ++ (hears phase.old packet.now).outs) }
+    ensures phase { OnOk result (phase.new ≡ (cleaner_hear phase.old packet.now).state) }
+    ensures effects { OnOk result (effects.new ≡ effects.old ++ (cleaner_hear phase.old packet.now).outs) }
 {
     match phase {
         Phase::Down(_) => Ok(()),
@@ -454,7 +454,7 @@ fn hear(alloc: Global, effects: &mut Effects, phase: &mut Phase, packet: &Packet
 }
 
 // A packet comes to a cleaner that opens its log.
-#[tactic(auto, unfolding(crate::specs::CleanerEvents::hears))]
+#[tactic(auto, unfolding(crate::specs::CleanerEvents::cleaner_hear))]
 fn hear_opening(
     alloc: Global,
     effects: &mut Effects,
@@ -462,8 +462,8 @@ fn hear_opening(
     opening: Opening,
     packet: &Packet,
 ) -> Mem<Phase>
-    ensures phase { IfOk result (λ p. p ≡ (hears (Opens lasting opening) packet.now).state) }
-    ensures effects { OnOk result (effects.new ≡ effects.old ++ (hears (Opens lasting opening) packet.now).outs) }
+    ensures phase { IfOk result (λ p. p ≡ (cleaner_hear (Opens lasting opening) packet.now).state) }
+    ensures effects { OnOk result (effects.new ≡ effects.old ++ (cleaner_hear (Opens lasting opening) packet.now).outs) }
 {
     let mut lasting = lasting;
     let progress = opening.take(alloc, effects, &mut lasting.questions, packet)?;
@@ -540,8 +540,8 @@ fn back(alloc: Global, effects: &mut Effects, lasting: Lasting, opened: Opened) 
 
 // All slots are told of the log, and the restart is answered.
 fn say_back(alloc: Global, effects: &mut Effects, emptying: &mut Emptying) -> Mem<()>
-    ensures state { OnOk result (emptying.new ≡ (says_back emptying.old).state) }
-    ensures effects { OnOk result (effects.new ≡ effects.old ++ (says_back emptying.old).outs) }
+    ensures state { OnOk result (emptying.new ≡ (say_back emptying.old).state) }
+    ensures effects { OnOk result (effects.new ≡ effects.old ++ (say_back emptying.old).outs) }
 {
     emptying.push_all(alloc, effects)?;
     emptying.lasting.items.answer(effects, Answer::Done)

@@ -1,7 +1,7 @@
 //! What a cleaner that serves does for its job.
 ghost use Rattle.std.specs.Prelude.{◌≡◌, ◌++◌, IfOk, OnOk};
 ghost use Rattle.xfs_base.specs.Steps.{steps};
-ghost use Rattle.cleaner_serving.specs.Jobs.{cleans, job_takes, says, asks_maps, asks_list, asks_usage, asks_check, checks_block, holds, reads, moves, puts, puts_block, deletes, finishes, on_listed, on_usage, on_live, on_dead, on_deleted};
+ghost use Rattle.cleaner_serving.specs.Jobs.{emptying_clean, emptying_take, says, ask_maps, ask_list, ask_usage, ask_check, emptying_check, emptying_hold, emptying_read, move_all, emptying_put, put_block, emptying_delete, emptying_finish, on_listed, on_usage, on_live, on_dead, on_deleted};
 
 use crate::emptying::Emptying;
 use cleaner_job::job::{check_of, is_out, lists_of, usages_of};
@@ -16,20 +16,20 @@ use xfs_base::{BlockId, Entry, List, Mem, NodeId, Place, SegName, SegRef, Value}
 
 impl Emptying {
     /// The job that is under way takes an input, and what it says is done.
-    #[tactic(auto, unfolding(crate::specs::Jobs::cleans))]
+    #[tactic(auto, unfolding(crate::specs::Jobs::emptying_clean))]
     pub(crate) fn clean(&mut self, alloc: Global, effects: &mut Effects, given: In) -> Mem<()>
-        ensures state { OnOk result (self.new ≡ (cleans self.old given).state) }
-        ensures effects { OnOk result (effects.new ≡ effects.old ++ (cleans self.old given).outs) }
+        ensures state { OnOk result (self.new ≡ (emptying_clean self.old given).state) }
+        ensures effects { OnOk result (effects.new ≡ effects.old ++ (emptying_clean self.old given).outs) }
     {
         let outs = self.take(alloc, given)?;
         self.say_all(alloc, effects, outs)
     }
 
     // What the job that is under way says to an input.
-    #[tactic(auto, unfolding(crate::specs::Jobs::job_takes))]
+    #[tactic(auto, unfolding(crate::specs::Jobs::emptying_take))]
     fn take(&mut self, alloc: Global, given: In) -> Mem<List<Out>>
-        ensures state { OnOk result (self.new ≡ (job_takes self.old given).state) }
-        ensures outs { IfOk result (λ outs. outs ≡ (job_takes self.old given).outs) }
+        ensures state { OnOk result (self.new ≡ (emptying_take self.old given).state) }
+        ensures outs { IfOk result (λ outs. outs ≡ (emptying_take self.old given).outs) }
     {
         match &mut self.job {
             // It is dropped by a call, so that each part of it is dropped in one proof.
@@ -70,8 +70,8 @@ impl Emptying {
 
     // The registry is asked for the maps.
     fn ask_maps(&mut self, effects: &mut Effects) -> Mem<()>
-        ensures state { OnOk result (self.new ≡ (asks_maps self.old self.old.job).state) }
-        ensures effects { OnOk result (effects.new ≡ effects.old ++ (asks_maps self.old self.old.job).outs) }
+        ensures state { OnOk result (self.new ≡ (ask_maps self.old self.old.job).state) }
+        ensures effects { OnOk result (effects.new ≡ effects.old ++ (ask_maps self.old self.old.job).outs) }
     {
         match &mut self.job {
             None => Ok(()),
@@ -84,8 +84,8 @@ impl Emptying {
 
     // A server is asked for its list.
     fn ask_list(&mut self, effects: &mut Effects, server: u8) -> Mem<()>
-        ensures state { OnOk result (self.new ≡ (asks_list self.old self.old.job server).state) }
-        ensures effects { OnOk result (effects.new ≡ effects.old ++ (asks_list self.old self.old.job server).outs) }
+        ensures state { OnOk result (self.new ≡ (ask_list self.old self.old.job server).state) }
+        ensures effects { OnOk result (effects.new ≡ effects.old ++ (ask_list self.old self.old.job server).outs) }
     {
         match &mut self.job {
             None => Ok(()),
@@ -98,8 +98,8 @@ impl Emptying {
 
     // The manager of a slot is asked for its counts.
     fn ask_usage(&mut self, effects: &mut Effects, slot: u8) -> Mem<()>
-        ensures state { OnOk result (self.new ≡ (asks_usage self.old self.old.job slot).state) }
-        ensures effects { OnOk result (effects.new ≡ effects.old ++ (asks_usage self.old self.old.job slot).outs) }
+        ensures state { OnOk result (self.new ≡ (ask_usage self.old self.old.job slot).state) }
+        ensures effects { OnOk result (effects.new ≡ effects.old ++ (ask_usage self.old self.old.job slot).outs) }
     {
         match &mut self.job {
             None => Ok(()),
@@ -112,10 +112,10 @@ impl Emptying {
     }
 
     // The manager of a block is asked whether it lies at a place of the segment in hand.
-    #[tactic(auto, unfolding(crate::specs::Jobs::asks_check))]
+    #[tactic(auto, unfolding(crate::specs::Jobs::ask_check))]
     fn ask_check(&mut self, effects: &mut Effects, block: BlockId, place: Place) -> Mem<()>
-        ensures state { OnOk result (self.new ≡ (asks_check self.old block place).state) }
-        ensures effects { OnOk result (effects.new ≡ effects.old ++ (asks_check self.old block place).outs) }
+        ensures state { OnOk result (self.new ≡ (ask_check self.old block place).state) }
+        ensures effects { OnOk result (effects.new ≡ effects.old ++ (ask_check self.old block place).outs) }
     {
         let Some(ask) = self.check(block)? else {
             return Ok(());
@@ -125,10 +125,10 @@ impl Emptying {
     }
 
     // The question of a check of a block, where a segment is in hand.
-    #[tactic(auto, unfolding(crate::specs::Jobs::checks_block))]
+    #[tactic(auto, unfolding(crate::specs::Jobs::emptying_check))]
     fn check(&mut self, block: BlockId) -> Mem<Option<u32>>
-        ensures state { OnOk result (self.new ≡ (checks_block self.old block).state) }
-        ensures ask { IfOk result (λ ask. ask ≡ (checks_block self.old block).ask) }
+        ensures state { OnOk result (self.new ≡ (emptying_check self.old block).state) }
+        ensures ask { IfOk result (λ ask. ask ≡ (emptying_check self.old block).ask) }
     {
         match &mut self.job {
             None => Ok(None),
@@ -137,18 +137,18 @@ impl Emptying {
     }
 
     // A segment is read, and is then the one in hand.
-    #[tactic(auto, unfolding(crate::specs::Jobs::reads))]
+    #[tactic(auto, unfolding(crate::specs::Jobs::emptying_read))]
     fn read(&mut self, alloc: Global, effects: &mut Effects, seg: SegRef) -> Mem<()>
-        ensures state { OnOk result (self.new ≡ (reads self.old seg).state) }
-        ensures effects { OnOk result (effects.new ≡ effects.old ++ (reads self.old seg).outs) }
+        ensures state { OnOk result (self.new ≡ (emptying_read self.old seg).state) }
+        ensures effects { OnOk result (effects.new ≡ effects.old ++ (emptying_read self.old seg).outs) }
     {
         self.hold(alloc, seg)?;
         self.fetch(alloc, effects)
     }
 
-    #[tactic(auto, unfolding(crate::specs::Jobs::holds))]
+    #[tactic(auto, unfolding(crate::specs::Jobs::emptying_hold))]
     fn hold(&mut self, alloc: Global, seg: SegRef) -> Mem<()>
-        ensures { OnOk result (self.new ≡ holds self.old seg) }
+        ensures { OnOk result (self.new ≡ emptying_hold self.old seg) }
     {
         match &mut self.job {
             None => Ok(()),
@@ -157,15 +157,15 @@ impl Emptying {
     }
 
     // Live blocks are written to the cleaner's log. Nothing is in flight, so that nothing is settled by it.
-    #[tactic(auto, unfolding(crate::specs::Jobs::moves))]
+    #[tactic(auto, unfolding(crate::specs::Jobs::move_all))]
     fn move_all(
         &mut self,
         alloc: Global,
         effects: &mut Effects,
         blocks: List<(BlockId, Entry, Value)>,
     ) -> Mem<()>
-        ensures state { OnOk result (self.new ≡ (moves self.old blocks).state) }
-        ensures effects { OnOk result (effects.new ≡ effects.old ++ (moves self.old blocks).outs) }
+        ensures state { OnOk result (self.new ≡ (move_all self.old blocks).state) }
+        ensures effects { OnOk result (effects.new ≡ effects.old ++ (move_all self.old blocks).outs) }
     {
         self.put_all(alloc, effects, blocks)?;
         self.put(alloc, effects, client_log::In::Seal)
@@ -177,8 +177,8 @@ impl Emptying {
         effects: &mut Effects,
         blocks: List<(BlockId, Entry, Value)>,
     ) -> Mem<()>
-        ensures state { OnOk result (self.new ≡ (steps puts_block self.old blocks).state) }
-        ensures effects { OnOk result (effects.new ≡ effects.old ++ (steps puts_block self.old blocks).outs) }
+        ensures state { OnOk result (self.new ≡ (steps put_block self.old blocks).state) }
+        ensures effects { OnOk result (effects.new ≡ effects.old ++ (steps put_block self.old blocks).outs) }
     {
         for moved in blocks.into_vec() {
             self.put_block(alloc, effects, moved)?;
@@ -186,15 +186,15 @@ impl Emptying {
         Ok(())
     }
 
-    #[tactic(auto, unfolding(crate::specs::Jobs::puts_block))]
+    #[tactic(auto, unfolding(crate::specs::Jobs::put_block))]
     fn put_block(
         &mut self,
         alloc: Global,
         effects: &mut Effects,
         moved: (BlockId, Entry, Value),
     ) -> Mem<()>
-        ensures state { OnOk result (self.new ≡ (puts_block self.old moved).state) }
-        ensures effects { OnOk result (effects.new ≡ effects.old ++ (puts_block self.old moved).outs) }
+        ensures state { OnOk result (self.new ≡ (put_block self.old moved).state) }
+        ensures effects { OnOk result (effects.new ≡ effects.old ++ (put_block self.old moved).outs) }
     {
         let (block, entry, value) = moved;
         let given = client_log::In::Put {
@@ -206,10 +206,10 @@ impl Emptying {
     }
 
     // The log takes an input, and what it writes is sent.
-    #[tactic(auto, unfolding(crate::specs::Jobs::puts))]
+    #[tactic(auto, unfolding(crate::specs::Jobs::emptying_put))]
     fn put(&mut self, alloc: Global, effects: &mut Effects, given: client_log::In) -> Mem<()>
-        ensures state { OnOk result (self.new ≡ (puts self.old given).state) }
-        ensures effects { OnOk result (effects.new ≡ effects.old ++ (puts self.old given).outs) }
+        ensures state { OnOk result (self.new ≡ (emptying_put self.old given).state) }
+        ensures effects { OnOk result (effects.new ≡ effects.old ++ (emptying_put self.old given).outs) }
     {
         let outs = self.log.take(alloc, given)?;
         send_stores(effects, outs)
@@ -217,8 +217,8 @@ impl Emptying {
 
     // A server is to delete the segment in hand, which is dropped with the first such word.
     fn delete(&mut self, effects: &mut Effects, server: u8, name: SegName) -> Mem<()>
-        ensures state { OnOk result (self.new ≡ (deletes self.old self.old.job server name).state) }
-        ensures effects { OnOk result (effects.new ≡ effects.old ++ (deletes self.old self.old.job server name).outs) }
+        ensures state { OnOk result (self.new ≡ (emptying_delete self.old self.old.job server name).state) }
+        ensures effects { OnOk result (effects.new ≡ effects.old ++ (emptying_delete self.old self.old.job server name).outs) }
     {
         match &mut self.job {
             None => Ok(()),
@@ -233,8 +233,8 @@ impl Emptying {
 
     // The job is over, and its item is answered.
     fn finish(&mut self, effects: &mut Effects, count: u32) -> Mem<()>
-        ensures state { OnOk result (self.new ≡ (finishes self.old count).state) }
-        ensures effects { OnOk result (effects.new ≡ effects.old ++ (finishes self.old count).outs) }
+        ensures state { OnOk result (self.new ≡ (emptying_finish self.old count).state) }
+        ensures effects { OnOk result (effects.new ≡ effects.old ++ (emptying_finish self.old count).outs) }
     {
         drop(self.job.take());
         self.lasting.items.answer(effects, Answer::Count(count))

@@ -1,7 +1,7 @@
 //! A cleaner that serves.
 ghost use Rattle.std.specs.Prelude.{◌≡◌, ◌++◌, [], IfOk, OnOk};
-ghost use Rattle.cleaner_serving.specs.EmptyingEvents.{at_first, served, promises_slot, promises_all, begins_job, on_clean, settles, writes_one, writes, on_stored, on_ack, asks_for_maps, on_body, on_packet, on_tick, emptying_room};
-ghost use Rattle.log_owner.specs.Sending.{pushes_all};
+ghost use Rattle.cleaner_serving.specs.EmptyingEvents.{emptying_start, emptying_back, promise_slot, promise_all, begin_job, on_clean, emptying_settle, write_one, emptying_write, on_stored, on_ack, ask_for_maps, on_body, on_packet, on_tick, emptying_has_room};
+ghost use Rattle.log_owner.specs.Sending.{push_all};
 ghost use Rattle.xfs_base.specs.Steps.{steps};
 
 use cleaner_job::job::note_moved;
@@ -47,7 +47,7 @@ impl Crosses for Emptying {}
 impl Emptying {
     /// A cleaner at the start of a run: its log is empty.
     pub fn start(alloc: Global, lasting: Lasting, managers: u8, groups: GroupMap) -> Mem<Emptying>
-        ensures { IfOk result (λ emptying. emptying ≡ at_first lasting managers groups) }
+        ensures { IfOk result (λ emptying. emptying ≡ emptying_start lasting managers groups) }
     {
         // It is dropped by a call, so that each part of it is dropped in one proof.
         match start_log(alloc, lasting.inc, &groups) {
@@ -69,7 +69,7 @@ impl Emptying {
 
     /// A cleaner whose log is open again.
     pub fn back(lasting: Lasting, opened: Opened) -> Emptying
-        ensures { result ≡ served lasting opened }
+        ensures { result ≡ emptying_back lasting opened }
     {
         let (maps, promised, log, feed, chain) = opened.into_parts();
         drop(chain);
@@ -104,7 +104,7 @@ impl Emptying {
 
     /// Whether each counter is at least 65,536 below its end.
     pub fn has_room(&self) -> bool
-        ensures { result ≡ emptying_room self.now }
+        ensures { result ≡ emptying_has_room self.now }
     {
         self.lasting.has_room()
             && has_room(self.maps.version)
@@ -130,7 +130,7 @@ impl Emptying {
         self.begin_job(alloc, effects, number, count)
     }
 
-    #[tactic(auto, unfolding(crate::specs::EmptyingEvents::begins_job))]
+    #[tactic(auto, unfolding(crate::specs::EmptyingEvents::begin_job))]
     fn begin_job(
         &mut self,
         alloc: Global,
@@ -138,8 +138,8 @@ impl Emptying {
         number: u32,
         count: u32,
     ) -> Mem<()>
-        ensures state { OnOk result (self.new ≡ (begins_job self.old number count).state) }
-        ensures effects { OnOk result (effects.new ≡ effects.old ++ (begins_job self.old number count).outs) }
+        ensures state { OnOk result (self.new ≡ (begin_job self.old number count).state) }
+        ensures effects { OnOk result (effects.new ≡ effects.old ++ (begin_job self.old number count).outs) }
     {
         self.lasting.items.wait(number);
         let job = Job::start(alloc, count)?;
@@ -149,10 +149,10 @@ impl Emptying {
     }
 
     // The job is told what each slot is promised to.
-    #[tactic(auto, unfolding(crate::specs::EmptyingEvents::promises_all))]
+    #[tactic(auto, unfolding(crate::specs::EmptyingEvents::promise_all))]
     fn promise_all(&mut self, alloc: Global, effects: &mut Effects) -> Mem<()>
-        ensures state { OnOk result (self.new ≡ (promises_all self.old).state) }
-        ensures effects { OnOk result (effects.new ≡ effects.old ++ (promises_all self.old).outs) }
+        ensures state { OnOk result (self.new ≡ (promise_all self.old).state) }
+        ensures effects { OnOk result (effects.new ≡ effects.old ++ (promise_all self.old).outs) }
     {
         for slot in 0..8_u8 {
             self.promise_slot(alloc, effects, slot)?;
@@ -160,10 +160,10 @@ impl Emptying {
         Ok(())
     }
 
-    #[tactic(auto, unfolding(crate::specs::EmptyingEvents::promises_slot))]
+    #[tactic(auto, unfolding(crate::specs::EmptyingEvents::promise_slot))]
     fn promise_slot(&mut self, alloc: Global, effects: &mut Effects, slot: u8) -> Mem<()>
-        ensures state { OnOk result (self.new ≡ (promises_slot self.old slot).state) }
-        ensures effects { OnOk result (effects.new ≡ effects.old ++ (promises_slot self.old slot).outs) }
+        ensures state { OnOk result (self.new ≡ (promise_slot self.old slot).state) }
+        ensures effects { OnOk result (effects.new ≡ effects.old ++ (promise_slot self.old slot).outs) }
     {
         let epoch = self.promised.epoch(slot);
         self.clean(alloc, effects, In::Promise { slot, epoch })
@@ -183,8 +183,8 @@ impl Emptying {
     }
 
     fn ask_for_maps(&mut self, effects: &mut Effects) -> Mem<()>
-        ensures state { OnOk result (self.new ≡ (asks_for_maps self.old).state) }
-        ensures effects { OnOk result (effects.new ≡ effects.old ++ (asks_for_maps self.old).outs) }
+        ensures state { OnOk result (self.new ≡ (ask_for_maps self.old).state) }
+        ensures effects { OnOk result (effects.new ≡ effects.old ++ (ask_for_maps self.old).outs) }
     {
         let ask = self.lasting.questions.draw();
         send_hello(effects, self.lasting.inc, ask)
@@ -231,7 +231,7 @@ impl Emptying {
     /// Tells each slot's manager what it has not acknowledged of the log.
     pub fn push_all(&mut self, alloc: Global, effects: &mut Effects) -> Mem<()>
         ensures state { OnOk result (self.new ≡ self.old) }
-        ensures effects { OnOk result (effects.new ≡ effects.old ++ pushes_all self.old.promised.managers self.old.feed) }
+        ensures effects { OnOk result (effects.new ≡ effects.old ++ push_all self.old.promised.managers self.old.feed) }
     {
         push_all(alloc, effects, &mut self.feed, self.promised.managers)
     }
@@ -267,15 +267,15 @@ impl Emptying {
     }
 
     /// Hands the log an input, and does what it says.
-    #[tactic(auto, unfolding(crate::specs::EmptyingEvents::writes))]
+    #[tactic(auto, unfolding(crate::specs::EmptyingEvents::emptying_write))]
     pub(crate) fn write(
         &mut self,
         alloc: Global,
         effects: &mut Effects,
         given: client_log::In,
     ) -> Mem<()>
-        ensures state { OnOk result (self.new ≡ (writes self.old given).state) }
-        ensures effects { OnOk result (effects.new ≡ effects.old ++ (writes self.old given).outs) }
+        ensures state { OnOk result (self.new ≡ (emptying_write self.old given).state) }
+        ensures effects { OnOk result (effects.new ≡ effects.old ++ (emptying_write self.old given).outs) }
     {
         let outs = self.log.take(alloc, given)?;
         self.write_all(alloc, effects, outs)
@@ -287,8 +287,8 @@ impl Emptying {
         effects: &mut Effects,
         outs: List<client_log::Out>,
     ) -> Mem<()>
-        ensures state { OnOk result (self.new ≡ (steps writes_one self.old outs).state) }
-        ensures effects { OnOk result (effects.new ≡ effects.old ++ (steps writes_one self.old outs).outs) }
+        ensures state { OnOk result (self.new ≡ (steps write_one self.old outs).state) }
+        ensures effects { OnOk result (effects.new ≡ effects.old ++ (steps write_one self.old outs).outs) }
     {
         for out in outs.into_vec() {
             self.write_one(alloc, effects, out)?;
@@ -296,10 +296,10 @@ impl Emptying {
         Ok(())
     }
 
-    #[tactic(auto, unfolding(crate::specs::EmptyingEvents::writes_one))]
+    #[tactic(auto, unfolding(crate::specs::EmptyingEvents::write_one))]
     fn write_one(&mut self, alloc: Global, effects: &mut Effects, out: client_log::Out) -> Mem<()>
-        ensures state { OnOk result (self.new ≡ (writes_one self.old out).state) }
-        ensures effects { OnOk result (effects.new ≡ effects.old ++ (writes_one self.old out).outs) }
+        ensures state { OnOk result (self.new ≡ (write_one self.old out).state) }
+        ensures effects { OnOk result (effects.new ≡ effects.old ++ (write_one self.old out).outs) }
     {
         match out {
             client_log::Out::Send { fragment, member } => send_store(effects, fragment, member),
@@ -308,7 +308,7 @@ impl Emptying {
     }
 
     // A segment of moved blocks is settled: the managers are told, and the job goes on.
-    #[tactic(auto, unfolding(crate::specs::EmptyingEvents::settles))]
+    #[tactic(auto, unfolding(crate::specs::EmptyingEvents::emptying_settle))]
     fn settle(
         &mut self,
         alloc: Global,
@@ -316,8 +316,8 @@ impl Emptying {
         end: End,
         rows: List<(BlockId, Entry)>,
     ) -> Mem<()>
-        ensures state { OnOk result (self.new ≡ (settles self.old end rows).state) }
-        ensures effects { OnOk result (effects.new ≡ effects.old ++ (settles self.old end rows).outs) }
+        ensures state { OnOk result (self.new ≡ (emptying_settle self.old end rows).state) }
+        ensures effects { OnOk result (effects.new ≡ effects.old ++ (emptying_settle self.old end rows).outs) }
     {
         effects.act(Act::Filed {
             seg: name_of(cleaner_log(), end),

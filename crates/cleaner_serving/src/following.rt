@@ -1,6 +1,6 @@
 //! How a cleaner that serves follows the maps and the managers.
 ghost use Rattle.std.specs.Prelude.{◌≡◌, ◌++◌, OnOk};
-ghost use Rattle.cleaner_serving.specs.EmptyingEvents.{renews, promises, reports, polled, on_poll, hears_slot, hears_slots, job_regrouped, log_regrouped, takes_news, on_news, welcomes_over, welcomes, on_welcome};
+ghost use Rattle.cleaner_serving.specs.EmptyingEvents.{emptying_renew, emptying_promise, emptying_report, on_polled, on_poll, hear_slot, hear_slots, regroup_job, regroup_log, take_news, on_news, welcome_over, emptying_welcome, on_welcome};
 
 use crate::emptying::Emptying;
 use cleaner_job::job::{hello_of, is_out, note_greeted};
@@ -37,8 +37,8 @@ impl Emptying {
         manager: u8,
         poll: Poll,
     ) -> Mem<()>
-        ensures state { OnOk result (self.new ≡ (polled self.old manager poll).state) }
-        ensures effects { OnOk result (effects.new ≡ effects.old ++ (polled self.old manager poll).outs) }
+        ensures state { OnOk result (self.new ≡ (on_polled self.old manager poll).state) }
+        ensures effects { OnOk result (effects.new ≡ effects.old ++ (on_polled self.old manager poll).outs) }
     {
         if poll.epoch < self.promised.epoch(poll.slot) {
             return Ok(());
@@ -47,8 +47,8 @@ impl Emptying {
     }
 
     fn report(&mut self, alloc: Global, effects: &mut Effects, manager: u8, poll: Poll) -> Mem<()>
-        ensures state { OnOk result (self.new ≡ (reports self.old manager poll).state) }
-        ensures effects { OnOk result (effects.new ≡ effects.old ++ (reports self.old manager poll).outs) }
+        ensures state { OnOk result (self.new ≡ (emptying_report self.old manager poll).state) }
+        ensures effects { OnOk result (effects.new ≡ effects.old ++ (emptying_report self.old manager poll).outs) }
     {
         let Poll { slot, epoch } = poll;
         self.promise(alloc, slot, epoch, manager)?;
@@ -81,10 +81,10 @@ impl Emptying {
         self.welcome(alloc, effects, welcome)
     }
 
-    #[tactic(auto, unfolding(crate::specs::EmptyingEvents::welcomes))]
+    #[tactic(auto, unfolding(crate::specs::EmptyingEvents::emptying_welcome))]
     fn welcome(&mut self, alloc: Global, effects: &mut Effects, welcome: &Welcome) -> Mem<()>
-        ensures state { OnOk result (self.new ≡ (welcomes self.old welcome.now).state) }
-        ensures effects { OnOk result (effects.new ≡ effects.old ++ (welcomes self.old welcome.now).outs) }
+        ensures state { OnOk result (self.new ≡ (emptying_welcome self.old welcome.now).state) }
+        ensures effects { OnOk result (effects.new ≡ effects.old ++ (emptying_welcome self.old welcome.now).outs) }
     {
         if !is_out(hello_of(&self.job), welcome.ask) {
             return Ok(());
@@ -101,8 +101,8 @@ impl Emptying {
         slots: &List<SlotNews>,
         groups: Option<GroupMap>,
     ) -> Mem<()>
-        ensures state { OnOk result (self.new ≡ (welcomes_over self.old slots.now groups).state) }
-        ensures effects { OnOk result (effects.new ≡ effects.old ++ (welcomes_over self.old slots.now groups).outs) }
+        ensures state { OnOk result (self.new ≡ (welcome_over self.old slots.now groups).state) }
+        ensures effects { OnOk result (effects.new ≡ effects.old ++ (welcome_over self.old slots.now groups).outs) }
     {
         let Some(groups) = groups else {
             return Ok(());
@@ -123,10 +123,10 @@ impl Emptying {
     }
 
     // Newer groups come first, then the slots with a greater epoch in order, then settling is looked at.
-    #[tactic(auto, unfolding(crate::specs::EmptyingEvents::takes_news))]
+    #[tactic(auto, unfolding(crate::specs::EmptyingEvents::take_news))]
     fn take_news(&mut self, alloc: Global, effects: &mut Effects, news: &News) -> Mem<()>
-        ensures state { OnOk result (self.new ≡ (takes_news self.old news.now).state) }
-        ensures effects { OnOk result (effects.new ≡ effects.old ++ (takes_news self.old news.now).outs) }
+        ensures state { OnOk result (self.new ≡ (take_news self.old news.now).state) }
+        ensures effects { OnOk result (effects.new ≡ effects.old ++ (take_news self.old news.now).outs) }
     {
         let newer = self.maps.take(alloc, news)?;
         self.regroup_job(alloc, effects, newer, &news.groups)?;
@@ -141,8 +141,8 @@ impl Emptying {
         newer: bool,
         groups: &GroupMap,
     ) -> Mem<()>
-        ensures state { OnOk result (self.new ≡ (job_regrouped self.old newer groups.now).state) }
-        ensures effects { OnOk result (effects.new ≡ effects.old ++ (job_regrouped self.old newer groups.now).outs) }
+        ensures state { OnOk result (self.new ≡ (regroup_job self.old newer groups.now).state) }
+        ensures effects { OnOk result (effects.new ≡ effects.old ++ (regroup_job self.old newer groups.now).outs) }
     {
         if !newer {
             return Ok(());
@@ -158,8 +158,8 @@ impl Emptying {
         newer: bool,
         groups: &GroupMap,
     ) -> Mem<()>
-        ensures state { OnOk result (self.new ≡ (log_regrouped self.old newer groups.now).state) }
-        ensures effects { OnOk result (effects.new ≡ effects.old ++ (log_regrouped self.old newer groups.now).outs) }
+        ensures state { OnOk result (self.new ≡ (regroup_log self.old newer groups.now).state) }
+        ensures effects { OnOk result (effects.new ≡ effects.old ++ (regroup_log self.old newer groups.now).outs) }
     {
         if !newer {
             return Ok(());
@@ -168,10 +168,10 @@ impl Emptying {
         self.write(alloc, effects, client_log::In::Maps(groups))
     }
 
-    #[tactic(auto, unfolding(crate::specs::EmptyingEvents::hears_slots))]
+    #[tactic(auto, unfolding(crate::specs::EmptyingEvents::hear_slots))]
     fn hear_slots(&mut self, alloc: Global, effects: &mut Effects, slots: &[SlotNews]) -> Mem<()>
-        ensures state { OnOk result (self.new ≡ (hears_slots self.old slots.now).state) }
-        ensures effects { OnOk result (effects.new ≡ effects.old ++ (hears_slots self.old slots.now).outs) }
+        ensures state { OnOk result (self.new ≡ (hear_slots self.old slots.now).state) }
+        ensures effects { OnOk result (effects.new ≡ effects.old ++ (hear_slots self.old slots.now).outs) }
     {
         for news in slots {
             self.hear_slot(alloc, effects, news)?;
@@ -180,10 +180,10 @@ impl Emptying {
     }
 
     // A slot of a greater epoch is promised to it.
-    #[tactic(auto, unfolding(crate::specs::EmptyingEvents::hears_slot))]
+    #[tactic(auto, unfolding(crate::specs::EmptyingEvents::hear_slot))]
     fn hear_slot(&mut self, alloc: Global, effects: &mut Effects, news: &SlotNews) -> Mem<()>
-        ensures state { OnOk result (self.new ≡ (hears_slot self.old news.now).state) }
-        ensures effects { OnOk result (effects.new ≡ effects.old ++ (hears_slot self.old news.now).outs) }
+        ensures state { OnOk result (self.new ≡ (hear_slot self.old news.now).state) }
+        ensures effects { OnOk result (effects.new ≡ effects.old ++ (hear_slot self.old news.now).outs) }
     {
         let (slot, epoch) = (news.slot, news.epoch);
         if epoch <= self.promised.epoch(slot) {
@@ -194,9 +194,9 @@ impl Emptying {
     }
 
     // The slot is promised to this epoch of this manager.
-    #[tactic(auto, unfolding(crate::specs::EmptyingEvents::promises))]
+    #[tactic(auto, unfolding(crate::specs::EmptyingEvents::emptying_promise))]
     fn promise(&mut self, alloc: Global, slot: u8, epoch: u32, manager: u8) -> Mem<()>
-        ensures { OnOk result (self.new ≡ promises self.old slot epoch manager) }
+        ensures { OnOk result (self.new ≡ emptying_promise self.old slot epoch manager) }
     {
         self.renew(alloc, slot, epoch)?;
         self.promised.promise(slot, epoch, manager);
@@ -205,7 +205,7 @@ impl Emptying {
 
     // A new manager may know no more of the log than the base of its feed.
     fn renew(&mut self, alloc: Global, slot: u8, epoch: u32) -> Mem<()>
-        ensures { OnOk result (self.new ≡ renews self.old slot epoch) }
+        ensures { OnOk result (self.new ≡ emptying_renew self.old slot epoch) }
     {
         if epoch <= self.promised.epoch(slot) {
             return Ok(());

@@ -2,7 +2,7 @@
 ghost use Rattle.std.specs.Prelude.{◌≡◌, ◌++◌, IfOk, OnOk};
 ghost use Rattle.cleaner_job.specs.Hands.{fetches};
 ghost use Rattle.cleaner_job.specs.Jobs.{hand_of};
-ghost use Rattle.cleaner_serving.specs.Jobs.{on_found, on_missing, on_told, told_by, confirmed, after_told, after_confirmed, reads_again, ends_reading};
+ghost use Rattle.cleaner_serving.specs.Jobs.{on_found, on_missing, on_told, emptying_hear, confirmed, after_told, after_confirmed, emptying_read_again, end_reading};
 
 use crate::emptying::Emptying;
 use cleaner_job::hand::fetch;
@@ -70,10 +70,10 @@ impl Emptying {
     }
 
     // What the reading of the segment in hand does on an answer.
-    #[tactic(auto, unfolding(crate::specs::Jobs::told_by))]
+    #[tactic(auto, unfolding(crate::specs::Jobs::emptying_hear))]
     fn hear(&mut self, alloc: Global, ask: u32, server: u8, told: Told) -> Mem<Next>
-        ensures state { OnOk result (self.new ≡ (told_by self.old ask server told).state) }
-        ensures next { IfOk result (λ next. next ≡ (told_by self.old ask server told).next) }
+        ensures state { OnOk result (self.new ≡ (emptying_hear self.old ask server told).state) }
+        ensures next { IfOk result (λ next. next ≡ (emptying_hear self.old ask server told).next) }
     {
         let Some(job) = &mut self.job else {
             drop(told);
@@ -102,10 +102,10 @@ impl Emptying {
 
     // A round ended without the segment. The cleaner asks nothing between rounds: a further round begins,
     // or the segment is lost.
-    #[tactic(auto, unfolding(crate::specs::Jobs::reads_again))]
+    #[tactic(auto, unfolding(crate::specs::Jobs::emptying_read_again))]
     fn read_again(&mut self, alloc: Global, effects: &mut Effects) -> Mem<()>
-        ensures state { OnOk result (self.new ≡ (reads_again self.old).state) }
-        ensures effects { OnOk result (effects.new ≡ effects.old ++ (reads_again self.old).outs) }
+        ensures state { OnOk result (self.new ≡ (emptying_read_again self.old).state) }
+        ensures effects { OnOk result (effects.new ≡ effects.old ++ (emptying_read_again self.old).outs) }
     {
         let ask = self.lasting.questions.draw();
         let next = self.confirmed(alloc, ask)?;
@@ -145,15 +145,15 @@ impl Emptying {
     }
 
     // The segment in hand is read, or lost.
-    #[tactic(auto, unfolding(crate::specs::Jobs::ends_reading))]
+    #[tactic(auto, unfolding(crate::specs::Jobs::end_reading))]
     fn end_reading(
         &mut self,
         alloc: Global,
         effects: &mut Effects,
         read: Option<Segment>,
     ) -> Mem<()>
-        ensures state { OnOk result (self.new ≡ (ends_reading self.old read).state) }
-        ensures effects { OnOk result (effects.new ≡ effects.old ++ (ends_reading self.old read).outs) }
+        ensures state { OnOk result (self.new ≡ (end_reading self.old read).state) }
+        ensures effects { OnOk result (effects.new ≡ effects.old ++ (end_reading self.old read).outs) }
     {
         note_read(&mut self.job);
         self.clean(alloc, effects, In::Read(read))

@@ -22,8 +22,8 @@ use Rattle.version_model.specs.declared.work.Work.{Work}
 use Rattle.version_model.specs.declared.work.Work.TheVariants as work
 
 -- a call that has this call on blocks to make
-abbrev pub call_for : Plan → BlockCall → Call
-call_for p step = record { plan = p; step = step; reading = None }
+abbrev pub call_new : Plan → BlockCall → Call
+call_new p step = record { plan = p; step = step; reading = None }
 
 -- the block that a call on blocks is on; none where it waits for all that is dirty
 abbrev pub block_of : BlockCall → Option BlockId
@@ -33,11 +33,11 @@ block_of (PutAt block ver value) = Some block
 block_of Sync = None
 
 abbrev pub going_by : PlanState → Next → Going
-going_by p (Step step) = On (call_for (File p) step)
+going_by p (Step step) = On (call_new (File p) step)
 going_by p (Reply answer) = Ends answer
 
-abbrev pub going : PlanState → Going
-going p = going_by p (plan.next_call p)
+abbrev pub stands_by : PlanState → Going
+stands_by p = going_by p (plan.file_plan_next p)
 
 -- the answer of a call that is one call on blocks
 abbrev pub answer_of : BlockAnswer → Answer
@@ -47,9 +47,9 @@ answer_of answer.Changed = Finished
 answer_of answer.Synced = Finished
 
 -- where a call stands once its call on blocks is answered
-abbrev pub after_answer : Plan → BlockAnswer → Going
-after_answer One a = Ends (answer_of a)
-after_answer (File p) a = going (plan.after_answer p a)
+abbrev pub plan_answered : Plan → BlockAnswer → Going
+plan_answered One a = Ends (answer_of a)
+plan_answered (File p) a = stands_by (plan.file_plan_answered p a)
 
 -- neither an item nor a client has a greater number
 abbrev pub may_make : ℕ → ℕ → Bool
@@ -57,13 +57,13 @@ may_make number self = nat_le number max_lines && (nat_le 1 self && nat_le self 
 
 -- the call on files of an item
 abbrev pub file_call : FileCall → ℕ → ℕ → Option Going
-file_call call number self = if may_make number self then Some (going (plan.start call (plan.made_by number self))) else None
+file_call call number self = if may_make number self then Some (stands_by (plan.start call (plan.made_by number self))) else None
 
 -- the call of an item; none where the item is no call, or is one on files that its number or its client can't make
 abbrev pub call_of : Work → ℕ → ℕ → Option Going
-call_of (work.Bput client block value) number self = Some (On (call_for One (Put block value)))
-call_of (work.Bget client block) number self = Some (On (call_for One (Get block)))
-call_of (work.Sync client) number self = Some (On (call_for One Sync))
+call_of (work.Bput client block value) number self = Some (On (call_new One (Put block value)))
+call_of (work.Bget client block) number self = Some (On (call_new One (Get block)))
+call_of (work.Sync client) number self = Some (On (call_new One Sync))
 call_of (work.File client call) number self = file_call call number self
 call_of (work.Crash node) number self = None
 call_of (work.Restart node) number self = None

@@ -11,7 +11,7 @@ use Rattle.segment_reading.specs.declared.reading.Next.{Next}
 use Rattle.segment_reading.specs.declared.reading.Next.TheVariants as next
 use Rattle.segment_reading.specs.declared.target.BlockAt.{BlockAt}
 use Rattle.segment_reading.specs.declared.target.Target.{Target}
-use Rattle.segment_reading.specs.Reading.{ReadingState, Step, to_ask, on_answer}
+use Rattle.segment_reading.specs.Reading.{ReadingState, Step, reading_unanswered, reading_take}
 use Rattle.stripe_code.specs.declared.round.Told.{Told}
 use Rattle.stripe_code.specs.Fragments.{same_name}
 use Rattle.token_client.specs.State.{TokensState, held_of}
@@ -29,7 +29,7 @@ kept_while tokens None = None
 kept_while tokens (Some r) = if is_fetched tokens r.target.block then Some r else None
 
 abbrev pub fetches : ReadingState → List Effect
-fetches r = map (fetch r.target.seg.name r.ask) (to_ask r)
+fetches r = map (fetch r.target.seg.name r.ask) (reading_unanswered r)
 
 abbrev pub target_of : BlockId → Place → Target
 target_of block place = record { seg = place.seg; block = Some (record { item = place.item; block = block }) }
@@ -61,24 +61,24 @@ pub record Heard : Type 0 where
 abbrev pub heard_as : Step → Heard
 heard_as step = record { reading = Some step.state; next = step.next }
 
-abbrev pub heard : Option ReadingState → Option GroupMapState → ℕ → ℕ → Told → Heard
-heard None groups ask server t = record { reading = None; next = next.Wait }
-heard (Some r) None ask server t = record { reading = Some r; next = next.Wait }
-heard (Some r) (Some groups) ask server t = heard_as (on_answer r groups ask server t)
+abbrev pub hear_reading : Option ReadingState → Option GroupMapState → ℕ → ℕ → Told → Heard
+hear_reading None groups ask server t = record { reading = None; next = next.Wait }
+hear_reading (Some r) None ask server t = record { reading = Some r; next = next.Wait }
+hear_reading (Some r) (Some groups) ask server t = heard_as (reading_take r groups ask server t)
 
 abbrev pub reading_in : Option Call → Option ReadingState
 reading_in None = None
 reading_in (Some call) = call.reading
 
-abbrev pub call_with : Option Call → Option ReadingState → Option Call
-call_with None r = None
-call_with (Some call) r = Some (record call { reading = r })
+abbrev pub set_reading : Option Call → Option ReadingState → Option Call
+set_reading None r = None
+set_reading (Some call) r = Some (record call { reading = r })
 
 -- the block of the reading of the open call
 abbrev pub block_read : Option ReadingState → Option BlockAt
 block_read None = None
 block_read (Some r) = r.target.block
 
-abbrev pub fetches_again : Option ReadingState → List Effect
-fetches_again None = []
-fetches_again (Some r) = fetches r
+abbrev pub fetch_again : Option ReadingState → List Effect
+fetch_again None = []
+fetch_again (Some r) = fetches r

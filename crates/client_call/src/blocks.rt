@@ -1,7 +1,7 @@
 //! Calls on blocks: what they do to the tokens and to the cache, and what they say.
 ghost use Rattle.std.specs.Prelude.{◌≡◌, ◌++◌, ◌∷◌, [], ◌==◌, ◌&&◌, if◌then◌else◌, is_none, length, IfOk, OnOk, None, Some};
 ghost use Rattle.client_call.specs.Blocks.{value_of};
-ghost use Rattle.coop_cache.specs.Transition.{left};
+ghost use Rattle.coop_cache.specs.Transition.{cache_leave};
 ghost use Rattle.file_plan.specs.declared.block_call.BlockAnswer.TheVariants.{Got, Synced as WasSynced};
 ghost use Rattle.node_base.specs.declared.effects.Effect.TheVariants.{Does};
 ghost use Rattle.token_client.specs.State.{held_of};
@@ -96,7 +96,7 @@ pub fn note_written(
     value: &Value,
 ) -> Mem<()>
     ensures tokens { OnOk result (tokens.new ≡ (on_wrote tokens.old block value.now).state) }
-    ensures cache { OnOk result (cache.new ≡ left cache.old block) }
+    ensures cache { OnOk result (cache.new ≡ cache_leave cache.old block) }
 {
     let wrote = In::Wrote {
         block,

@@ -1,6 +1,6 @@
 //! The call that is open.
 ghost use Rattle.std.specs.Prelude.{◌≡◌, IfOk, Some};
-ghost use Rattle.client_call.specs.Calls.{call_for, block_of, going, call_of, file_call, may_make, after_answer, answer_of};
+ghost use Rattle.client_call.specs.Calls.{call_new, block_of, stands_by, call_of, file_call, may_make, plan_answered, answer_of};
 
 use file_plan::planning::made_by;
 use file_plan::{BlockAnswer, BlockCall, FilePlan, Next};
@@ -55,7 +55,7 @@ pub enum Going {
 impl Call {
     /// A call that has this call on blocks to make.
     pub fn new(plan: Plan, step: BlockCall) -> Call
-        ensures { result ≡ call_for plan step }
+        ensures { result ≡ call_new plan step }
     {
         Call {
             plan,
@@ -113,7 +113,7 @@ impl Call {
 impl Plan {
     /// Where a call stands once its call on blocks is answered.
     pub fn answered(self, alloc: Global, answer: BlockAnswer) -> Mem<Going>
-        ensures { IfOk result (λ stands. stands ≡ after_answer self answer) }
+        ensures { IfOk result (λ stands. stands ≡ plan_answered self answer) }
     {
         match self {
             Plan::One => Ok(Going::Ends(answer_of(answer))),
@@ -144,7 +144,7 @@ fn may_make(number: u32, client: u8) -> bool
 }
 
 fn stands_by(alloc: Global, plan: FilePlan) -> Mem<Going>
-    ensures { IfOk result (λ stands. stands ≡ going plan) }
+    ensures { IfOk result (λ stands. stands ≡ stands_by plan) }
 {
     match plan.next(alloc) {
         Ok(Next::Step(step)) => Ok(Going::On(Call::new(Plan::File(plan), step))),

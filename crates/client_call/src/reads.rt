@@ -1,6 +1,6 @@
 //! Reading a block from a log.
 ghost use Rattle.std.specs.Prelude.{◌≡◌, ◌++◌, IfOk, OnOk, None, Some, map};
-ghost use Rattle.client_call.specs.Reads.{block_read, call_with, fetches, fetches_again, heard, is_fetched, kept_while, reading_in, same_at, same_target, target_of, value_at};
+ghost use Rattle.client_call.specs.Reads.{block_read, set_reading, fetches, fetch_again, hear_reading, is_fetched, kept_while, reading_in, same_at, same_target, target_of, value_at};
 ghost use Rattle.log_owner.specs.Sending.{fetch};
 
 use crate::Call;
@@ -54,8 +54,8 @@ fn hear_reading(
     server: u8,
     told: Told,
 ) -> Mem<Next>
-    ensures reading { OnOk result (reading.new ≡ (heard reading.old groups.now ask server told).reading) }
-    ensures next { IfOk result (λ next. next ≡ (heard reading.old groups.now ask server told).next) }
+    ensures reading { OnOk result (reading.new ≡ (hear_reading reading.old groups.now ask server told).reading) }
+    ensures next { IfOk result (λ next. next ≡ (hear_reading reading.old groups.now ask server told).next) }
 {
     match (reading, groups) {
         (Some(reading), Some(groups)) => reading.take(alloc, groups, ask, server, told),
@@ -120,7 +120,7 @@ pub fn value_at(alloc: Global, segment: &Segment, item: u16) -> Mem<Value>
 
 /// A reading ends with the fetch that it is for.
 pub fn end_reading(tokens: &Tokens, call: &mut Option<Call>)
-    ensures { call.new ≡ call_with call.old (kept_while tokens.now (reading_in call.old)) }
+    ensures { call.new ≡ set_reading call.old (kept_while tokens.now (reading_in call.old)) }
 {
     if let Some(call) = call {
         let reading = call.reading.take();
@@ -130,7 +130,7 @@ pub fn end_reading(tokens: &Tokens, call: &mut Option<Call>)
 
 /// Asks the servers again that have not answered.
 pub fn fetch_again(alloc: Global, effects: &mut Effects, call: &Option<Call>) -> Mem<()>
-    ensures { OnOk result (effects.new ≡ effects.old ++ fetches_again (reading_in call.now)) }
+    ensures { OnOk result (effects.new ≡ effects.old ++ fetch_again (reading_in call.now)) }
 {
     let Some(call) = call else {
         return Ok(());
@@ -144,7 +144,7 @@ pub fn fetch_again(alloc: Global, effects: &mut Effects, call: &Option<Call>) ->
 /// The reading of the open call is taken out of it.
 pub fn take_reading(call: &mut Option<Call>) -> Option<Reading>
     ensures reading { result ≡ reading_in call.old }
-    ensures call { call.new ≡ call_with call.old None }
+    ensures call { call.new ≡ set_reading call.old None }
 {
     match call {
         Some(call) => call.reading.take(),
@@ -159,7 +159,7 @@ pub fn ask_reading(
     call: &mut Option<Call>,
     reading: Reading,
 ) -> Mem<()>
-    ensures call { OnOk result (call.new ≡ call_with call.old (Some reading)) }
+    ensures call { OnOk result (call.new ≡ set_reading call.old (Some reading)) }
     ensures effects { OnOk result (effects.new ≡ effects.old ++ fetches reading) }
 {
     match send_fetches(alloc, effects, &reading) {
@@ -196,8 +196,8 @@ pub fn hear(
     server: u8,
     told: Told,
 ) -> Mem<Next>
-    ensures call { OnOk result (call.new ≡ call_with call.old (heard (reading_in call.old) groups.now ask server told).reading) }
-    ensures next { IfOk result (λ next. next ≡ (heard (reading_in call.old) groups.now ask server told).next) }
+    ensures call { OnOk result (call.new ≡ set_reading call.old (hear_reading (reading_in call.old) groups.now ask server told).reading) }
+    ensures next { IfOk result (λ next. next ≡ (hear_reading (reading_in call.old) groups.now ask server told).next) }
 {
     match call {
         Some(call) => hear_reading(alloc, &mut call.reading, groups, ask, server, told),
@@ -210,7 +210,7 @@ pub fn hear(
 
 /// The open call reads so.
 pub fn set_reading(call: &mut Option<Call>, reading: Option<Reading>)
-    ensures { call.new ≡ call_with call.old reading }
+    ensures { call.new ≡ set_reading call.old reading }
 {
     match call {
         Some(call) => drop(mem::replace(&mut call.reading, reading)),

@@ -16,21 +16,21 @@ use Rattle.log_flight.specs.declared.dirty.Change.{Change}
 use Rattle.log_flight.specs.declared.flight.Fate.{Fate}
 use Rattle.log_flight.specs.declared.flight.Fate.TheVariants.{Restripe, Settle, Wait}
 use Rattle.log_flight.specs.Fate.{fate_of}
-use Rattle.log_flight.specs.Flights.{FlightState, group_for, flown, is_of, noting}
+use Rattle.log_flight.specs.Flights.{FlightState, group_for, flown, is_of, flight_note}
 use Rattle.log_flight.specs.Items.{items_of}
 use Rattle.log_flight.specs.Texts.{has_text}
 use Rattle.client_log.specs.declared.input.In.{In}
 use Rattle.client_log.specs.declared.input.In.TheVariants.{Put, Parts, Seal, Acked, Maps, Tick}
 use Rattle.client_log.specs.LogState.{LogState}
-use Rattle.client_log.specs.Transition.{Done, all_sends, launched, next_name, prior_from, writes, has_next, is_idle, is_full, can_go_on, sealed, if_full, waits, on_put, on_seal, on_parts, restriped, landed, settled, can_follow, followed, looked_at, on_acked, on_maps, on_tick, transition}
+use Rattle.client_log.specs.Transition.{Done, sending_send, log_launch, next_name, prior_from, log_write, has_next, is_idle, is_full, can_go_on, log_seal, log_go_on, waits, on_put, on_seal, on_parts, restriped, landed, settled, can_follow, followed, looked_at, on_acked, on_maps, on_tick, transition}
 use Rattle.client_log.specs.History.{AreSealed, NothingIsLost, WaitsOrFlies}
 
 -- all of these wait after a step, or the first of them fly and the rest wait
 abbrev Keeps : List (BlockId × Change) → Done → Type 0
 Keeps waiting d = (d.state.dirty ≡ waiting) ⊎ AreSealed waiting d.state
 
-keeps_sealed : (t : LogState) → Keeps t.dirty (sealed t)
-unfolding sealed launched
+keeps_sealed : (t : LogState) → Keeps t.dirty (log_seal t)
+unfolding log_seal log_launch
 keeps_sealed t =
     let first : List (BlockId × Change) = take segment_blocks t.dirty in
     inr (record {
@@ -43,12 +43,12 @@ keeps_sealed t =
       all = sym (take-append-drop segment_blocks t.dirty);
     })
 
-keeps_if_full : (t : LogState) → Keeps t.dirty (if_full t)
-unfolding if_full
-keeps_if_full t = elim (is_full t) as (λ b. Keeps t.dirty (cond b (sealed t) (still t))) [ true ↦ keeps_sealed t | false ↦ inl refl ]
+keeps_if_full : (t : LogState) → Keeps t.dirty (log_go_on t)
+unfolding log_go_on
+keeps_if_full t = elim (is_full t) as (λ b. Keeps t.dirty (cond b (log_seal t) (still t))) [ true ↦ keeps_sealed t | false ↦ inl refl ]
 
 keeps_followed : (t : LogState) (g : FlightState) (fate : Fate) → Keeps t.dirty (followed t g fate)
-unfolding restriped launched settled
+unfolding restriped log_launch settled
 keeps_followed t g Restripe = inl refl
 keeps_followed t g Settle = keeps_if_full (landed t g)
 keeps_followed t g Wait = inl refl
@@ -67,27 +67,27 @@ keeps_put : (s : LogState) (block : BlockId) (change : Change)
 unfolding on_put
 keeps_put s block change =
     let t : LogState = waits s block change in
-    elim (can_go_on t) as (λ b. Keeps (cond b t.dirty s.dirty) (cond b (if_full t) (still s))) [ true ↦ keeps_if_full t | false ↦ inl refl ]
+    elim (can_go_on t) as (λ b. Keeps (cond b t.dirty s.dirty) (cond b (log_go_on t) (still s))) [ true ↦ keeps_if_full t | false ↦ inl refl ]
 
 keeps_seal : (s : LogState) → Keeps s.dirty (on_seal s)
 unfolding on_seal
 keeps_seal s =
-    elim (is_idle s && nat_lt 0 (length s.dirty) && has_next s.end.seq) as (λ b. Keeps s.dirty (cond b (sealed s) (still s)))
+    elim (is_idle s && nat_lt 0 (length s.dirty) && has_next s.end.seq) as (λ b. Keeps s.dirty (cond b (log_seal s) (still s)))
     [ true ↦ keeps_sealed s | false ↦ inl refl ]
 
 keeps_parts : (s : LogState) (items : List Item) → Keeps s.dirty (on_parts s items)
-unfolding on_parts launched
+unfolding on_parts log_launch
 keeps_parts s items =
-    elim (is_idle s && has_next s.end.seq && has_text items) as (λ b. Keeps s.dirty (cond b (writes s items) (still s))) [ true ↦ inl refl | false ↦ inl refl ]
+    elim (is_idle s && has_next s.end.seq && has_text items) as (λ b. Keeps s.dirty (cond b (log_write s items) (still s))) [ true ↦ inl refl | false ↦ inl refl ]
 
 keeps_acked : (s : LogState) (name : SegName) (index generation : ℕ) → Keeps s.dirty (on_acked s name index generation)
 unfolding on_acked
 keeps_acked s name index generation =
     elim s.flight as (λ o. Keeps s.dirty
-    (elim o [ None ↦ still s | Some f ↦ cond (is_of f name index generation) (looked_at s s (noting f index)) (still s) ])) [
+    (elim o [ None ↦ still s | Some f ↦ cond (is_of f name index generation) (looked_at s s (flight_note f index)) (still s) ])) [
       | None ↦ inl refl
-      | Some f ↦ elim (is_of f name index generation) as (λ b. Keeps s.dirty (cond b (looked_at s s (noting f index)) (still s)))
-          [ true ↦ keeps_looked s s (noting f index) refl | false ↦ inl refl ]
+      | Some f ↦ elim (is_of f name index generation) as (λ b. Keeps s.dirty (cond b (looked_at s s (flight_note f index)) (still s)))
+          [ true ↦ keeps_looked s s (flight_note f index) refl | false ↦ inl refl ]
     ]
 
 keeps_maps : (s : LogState) (groups : GroupMapState) → Keeps s.dirty (on_maps s groups)
@@ -99,7 +99,7 @@ keeps_maps s groups =
 keeps_tick : (s : LogState) → Keeps s.dirty (on_tick s)
 unfolding on_tick
 keeps_tick s =
-    elim s.flight as (λ o. Keeps s.dirty (elim o [ None ↦ still s | Some f ↦ record { state = s; outs = all_sends f } ]))
+    elim s.flight as (λ o. Keeps s.dirty (elim o [ None ↦ still s | Some f ↦ record { state = s; outs = sending_send f } ]))
     [ None ↦ inl refl | Some f ↦ inl refl ]
 
 pub nothing_lost : (s : LogState) (input : In) → NothingIsLost s input (transition s input).state

@@ -18,13 +18,13 @@ use Rattle.log_flight.specs.declared.dirty.Change.{Change}
 use Rattle.log_flight.specs.declared.flight.Fate.{Fate}
 use Rattle.log_flight.specs.declared.flight.Fate.TheVariants.{Restripe, Settle, Wait}
 use Rattle.log_flight.specs.Fate.{fate_of}
-use Rattle.log_flight.specs.Flights.{FlightState, is_of, noting}
+use Rattle.log_flight.specs.Flights.{FlightState, is_of, flight_note}
 use Rattle.log_flight.specs.Items.{items_of}
 use Rattle.log_flight.specs.Texts.{has_text}
 use Rattle.client_log.specs.declared.input.In.{In}
 use Rattle.client_log.specs.declared.input.In.TheVariants.{Put, Parts, Seal, Acked, Maps, Tick}
-use Rattle.client_log.specs.LogState.{LogState, started}
-use Rattle.client_log.specs.Transition.{Done, all_sends, launched, writes, has_next, is_idle, is_full, can_go_on, sealed, if_full, waits, on_put, on_seal, on_parts, restriped, landed, settled, can_follow, followed, looked_at, on_acked, on_maps, on_tick, transition}
+use Rattle.client_log.specs.LogState.{LogState, log_start}
+use Rattle.client_log.specs.Transition.{Done, sending_send, log_launch, log_write, has_next, is_idle, is_full, can_go_on, log_seal, log_go_on, waits, on_put, on_seal, on_parts, restriped, landed, settled, can_follow, followed, looked_at, on_acked, on_maps, on_tick, transition}
 use Rattle.client_log.specs.History.{state_after, put_with, put_by, last_put, AreLastPuts, WereFlying, HoldsLastPuts}
 
 -- ---- lists of changes
@@ -106,16 +106,16 @@ module _ (b : BlockId) (c : Change) where
 abbrev Kept : LogState → Done → Type 0
 Kept t d = (d.state.dirty ≡ t.dirty) ⊎ (d.state.dirty ≡ drop segment_blocks t.dirty)
 
-kept_sealed : (t : LogState) → Kept t (sealed t)
-unfolding sealed launched
+kept_sealed : (t : LogState) → Kept t (log_seal t)
+unfolding log_seal log_launch
 kept_sealed t = inr refl
 
-kept_if_full : (t : LogState) → Kept t (if_full t)
-unfolding if_full
-kept_if_full t = elim (is_full t) as (λ b. Kept t (cond b (sealed t) (still t))) [ true ↦ kept_sealed t | false ↦ inl refl ]
+kept_if_full : (t : LogState) → Kept t (log_go_on t)
+unfolding log_go_on
+kept_if_full t = elim (is_full t) as (λ b. Kept t (cond b (log_seal t) (still t))) [ true ↦ kept_sealed t | false ↦ inl refl ]
 
 kept_followed : (t : LogState) (g : FlightState) (fate : Fate) → Kept t (followed t g fate)
-unfolding restriped launched settled
+unfolding restriped log_launch settled
 kept_followed t g Restripe = inl refl
 kept_followed t g Settle = kept_if_full (landed t g)
 kept_followed t g Wait = inl refl
@@ -132,21 +132,21 @@ kept_looked before t g e =
 kept_seal : (s : LogState) → Kept s (on_seal s)
 unfolding on_seal
 kept_seal s =
-    elim (is_idle s && nat_lt 0 (length s.dirty) && has_next s.end.seq) as (λ b. Kept s (cond b (sealed s) (still s)))
+    elim (is_idle s && nat_lt 0 (length s.dirty) && has_next s.end.seq) as (λ b. Kept s (cond b (log_seal s) (still s)))
     [ true ↦ kept_sealed s | false ↦ inl refl ]
 
 kept_parts : (s : LogState) (items : List Item) → Kept s (on_parts s items)
-unfolding on_parts launched
+unfolding on_parts log_launch
 kept_parts s items =
-    elim (is_idle s && has_next s.end.seq && has_text items) as (λ b. Kept s (cond b (writes s items) (still s))) [ true ↦ inl refl | false ↦ inl refl ]
+    elim (is_idle s && has_next s.end.seq && has_text items) as (λ b. Kept s (cond b (log_write s items) (still s))) [ true ↦ inl refl | false ↦ inl refl ]
 
 kept_acked : (s : LogState) (name : SegName) (index generation : ℕ) → Kept s (on_acked s name index generation)
 unfolding on_acked
 kept_acked s name index generation =
-    elim s.flight as (λ o. Kept s (elim o [ None ↦ still s | Some f ↦ cond (is_of f name index generation) (looked_at s s (noting f index)) (still s) ])) [
+    elim s.flight as (λ o. Kept s (elim o [ None ↦ still s | Some f ↦ cond (is_of f name index generation) (looked_at s s (flight_note f index)) (still s) ])) [
       | None ↦ inl refl
-      | Some f ↦ elim (is_of f name index generation) as (λ b. Kept s (cond b (looked_at s s (noting f index)) (still s)))
-          [ true ↦ kept_looked s s (noting f index) refl | false ↦ inl refl ]
+      | Some f ↦ elim (is_of f name index generation) as (λ b. Kept s (cond b (looked_at s s (flight_note f index)) (still s)))
+          [ true ↦ kept_looked s s (flight_note f index) refl | false ↦ inl refl ]
     ]
 
 kept_maps : (s : LogState) (groups : GroupMapState) → Kept s (on_maps s groups)
@@ -158,7 +158,7 @@ kept_maps s groups =
 kept_tick : (s : LogState) → Kept s (on_tick s)
 unfolding on_tick
 kept_tick s =
-    elim s.flight as (λ o. Kept s (elim o [ None ↦ still s | Some f ↦ record { state = s; outs = all_sends f } ])) [ None ↦ inl refl | Some f ↦ inl refl ]
+    elim s.flight as (λ o. Kept s (elim o [ None ↦ still s | Some f ↦ record { state = s; outs = sending_send f } ])) [ None ↦ inl refl | Some f ↦ inl refl ]
 
 -- ---- over a history
 
@@ -180,8 +180,8 @@ put_waits : (b : BlockId) (c : Change) (known : BlockId → Option Change) (s : 
 unfolding on_put
 put_waits b c known s w =
     let t : LogState = waits s b c in
-    elim (can_go_on t) as (λ g. Waiting (λ x. cond g (now b c known x) (known x)) (cond g (if_full t) (still s)).state.dirty) [
-      | true ↦ waiting_kept (now b c known) t (if_full t) (kept_if_full t) (waiting_put b c known s w)
+    elim (can_go_on t) as (λ g. Waiting (λ x. cond g (now b c known x) (known x)) (cond g (log_go_on t) (still s)).state.dirty) [
+      | true ↦ waiting_kept (now b c known) t (log_go_on t) (kept_if_full t) (waiting_put b c known s w)
       | false ↦ w
     ]
 
@@ -208,8 +208,8 @@ unfolding Apart
 waiting start e history = waiting_by start history (λ b. None) (subst (Waiting (λ b. None)) (sym e) (record { fresh = tt; apart = tt }))
 
 pub last_waits : (log : LogId) (inc : ℕ) (end : End) (groups : GroupMapState) (history : List In)
-    → AreLastPuts (started log inc end groups) history (state_after (started log inc end groups) history).dirty
-last_waits log inc end groups history = (waiting (started log inc end groups) refl history).fresh
+    → AreLastPuts (log_start log inc end groups) history (state_after (log_start log inc end groups) history).dirty
+last_waits log inc end groups history = (waiting (log_start log inc end groups) refl history).fresh
 
 -- ---- what is sealed
 
@@ -223,21 +223,21 @@ module _ (s : LogState) (Held : List Item → Type 0) (same : (items : List Item
     | Some g ↦ λ h. same g.segment.items (record { flight = g; was = sym h; same = refl })
   ] e
 
-  held_writes : (t : LogState) (items : List Item) → Held items → Holds (writes t items)
-  unfolding launched
+  held_writes : (t : LogState) (items : List Item) → Held items → Holds (log_write t items)
+  unfolding log_launch
   held_writes t items h = h
 
-  held_sealed : (t : LogState) → Held (items_of 0 (take segment_blocks t.dirty)) → Holds (sealed t)
-  unfolding sealed
+  held_sealed : (t : LogState) → Held (items_of 0 (take segment_blocks t.dirty)) → Holds (log_seal t)
+  unfolding log_seal
   held_sealed t h = held_writes (record t { dirty = drop segment_blocks t.dirty }) (items_of 0 (take segment_blocks t.dirty)) h
 
-  held_if_full : (t : LogState) → Holds (still t) → Held (items_of 0 (take segment_blocks t.dirty)) → Holds (if_full t)
-  unfolding if_full
-  held_if_full t k h = elim (is_full t) as (λ b. Holds (cond b (sealed t) (still t))) [ true ↦ held_sealed t h | false ↦ k ]
+  held_if_full : (t : LogState) → Holds (still t) → Held (items_of 0 (take segment_blocks t.dirty)) → Holds (log_go_on t)
+  unfolding log_go_on
+  held_if_full t k h = elim (is_full t) as (λ b. Holds (cond b (log_seal t) (still t))) [ true ↦ held_sealed t h | false ↦ k ]
 
   held_looked : (t : LogState) (f g : FlightState) → s.flight ≡ Some f → g.segment.items ≡ f.segment.items → Held (items_of 0 (take segment_blocks t.dirty))
       → Holds (looked_at s t g)
-  unfolding looked_at restriped launched settled
+  unfolding looked_at restriped log_launch settled
   held_looked t f g was e h =
       let again : Held g.segment.items = same g.segment.items (record { flight = f; was = was; same = e }) in
       elim (can_follow t g (fate_of t.groups g)) as (λ b. Holds (cond b (followed t g (fate_of t.groups g)) (still s))) [
@@ -290,7 +290,7 @@ module _ (start : LogState) (empty : start.dirty ≡ []) (history : List In) whe
       let t : LogState = waits past b c in
       let fresh : Fresh (now b c known) (take segment_blocks t.dirty) =
       all_take (λ x. now b c known x.0 ≡ Some x.1) segment_blocks t.dirty (waiting_put b c known past (waiting start empty history)).fresh in
-      elim (can_go_on t) as (λ g. can_go_on t ≡ g → Seals input (cond g (if_full t) (still past))) [
+      elim (can_go_on t) as (λ g. can_go_on t ≡ g → Seals input (cond g (log_go_on t) (still past))) [
         | true ↦ λ e. held_if_full past (HoldsLastPuts start history input) (λ items w. inl w) t
             (held_still past (HoldsLastPuts start history input) (λ items w. inl w) t refl) (first_last input t.dirty (last e fresh))
         | false ↦ λ e. held_still past (HoldsLastPuts start history input) (λ items w. inl w) past refl
@@ -298,14 +298,14 @@ module _ (start : LogState) (empty : start.dirty ≡ []) (history : List In) whe
 
   seals_seal : Seals Seal (on_seal past)
   unfolding on_seal
-  seals_seal = elim (is_idle past && nat_lt 0 (length past.dirty) && has_next past.end.seq) as (λ b. Seals Seal (cond b (sealed past) (still past))) [
+  seals_seal = elim (is_idle past && nat_lt 0 (length past.dirty) && has_next past.end.seq) as (λ b. Seals Seal (cond b (log_seal past) (still past))) [
     | true ↦ held_sealed past (HoldsLastPuts start history Seal) (λ items w. inl w) past (first_last Seal past.dirty known_first)
     | false ↦ held_still past (HoldsLastPuts start history Seal) (λ items w. inl w) past refl
   ]
 
   seals_parts : (items : List Item) → Seals (Parts items) (on_parts past items)
   unfolding on_parts
-  seals_parts items = elim (is_idle past && has_next past.end.seq && has_text items) as (λ b. Seals (Parts items) (cond b (writes past items) (still past))) [
+  seals_parts items = elim (is_idle past && has_next past.end.seq && has_text items) as (λ b. Seals (Parts items) (cond b (log_write past items) (still past))) [
     | true ↦ held_writes past (HoldsLastPuts start history (Parts items)) (λ fact w. inl w) past items (inr (inl refl))
     | false ↦ held_still past (HoldsLastPuts start history (Parts items)) (λ fact w. inl w) past refl
   ]
@@ -317,10 +317,10 @@ module _ (start : LogState) (empty : start.dirty ≡ []) (history : List In) whe
       let quiet : Seals input (still past) = held_still past (HoldsLastPuts start history input) (λ items w. inl w) past refl in
       elim past.flight as
       (λ o. past.flight ≡ o
-      → Seals input (elim o [ None ↦ still past | Some f ↦ cond (is_of f name index generation) (looked_at past past (noting f index)) (still past) ])) [
+      → Seals input (elim o [ None ↦ still past | Some f ↦ cond (is_of f name index generation) (looked_at past past (flight_note f index)) (still past) ])) [
         | None ↦ λ e. quiet
-        | Some f ↦ λ e. elim (is_of f name index generation) as (λ b. Seals input (cond b (looked_at past past (noting f index)) (still past))) [
-          | true ↦ held_looked past (HoldsLastPuts start history input) (λ items w. inl w) past f (noting f index) e refl
+        | Some f ↦ λ e. elim (is_of f name index generation) as (λ b. Seals input (cond b (looked_at past past (flight_note f index)) (still past))) [
+          | true ↦ held_looked past (HoldsLastPuts start history input) (λ items w. inl w) past f (flight_note f index) e refl
               (first_last input past.dirty known_first)
           | false ↦ quiet
         ]
@@ -340,7 +340,7 @@ module _ (start : LogState) (empty : start.dirty ≡ []) (history : List In) whe
   unfolding on_tick
   seals_tick =
       let quiet : Seals Tick (still past) = held_still past (HoldsLastPuts start history Tick) (λ items w. inl w) past refl in
-      elim past.flight as (λ o. Seals Tick (elim o [ None ↦ still past | Some f ↦ record { state = past; outs = all_sends f } ]))
+      elim past.flight as (λ o. Seals Tick (elim o [ None ↦ still past | Some f ↦ record { state = past; outs = sending_send f } ]))
       [ None ↦ quiet | Some f ↦ quiet ]
 
   seals : (input : In) → Seals input (transition past input)
@@ -354,6 +354,6 @@ module _ (start : LogState) (empty : start.dirty ≡ []) (history : List In) whe
   seals Tick = seals_tick
 
 pub last_sealed : (log : LogId) (inc : ℕ) (end : End) (groups : GroupMapState) (history : List In) (input : In)
-    → IfSome (transition (state_after (started log inc end groups) history) input).state.flight
-    (λ g. HoldsLastPuts (started log inc end groups) history input g.segment.items)
-last_sealed log inc end groups history input = seals (started log inc end groups) refl history input
+    → IfSome (transition (state_after (log_start log inc end groups) history) input).state.flight
+    (λ g. HoldsLastPuts (log_start log inc end groups) history input g.segment.items)
+last_sealed log inc end groups history input = seals (log_start log inc end groups) refl history input

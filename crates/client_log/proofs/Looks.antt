@@ -7,19 +7,19 @@ use Rattle.group_map.specs.GroupMapState.{GroupMapState}
 use Rattle.log_flight.specs.declared.flight.Fate.{Fate}
 use Rattle.log_flight.specs.declared.flight.Fate.TheVariants.{Restripe, Settle, Wait}
 use Rattle.log_flight.specs.Fate.{fate_of}
-use Rattle.log_flight.specs.Flights.{FlightState, is_of, noting}
+use Rattle.log_flight.specs.Flights.{FlightState, is_of, flight_note}
 use Rattle.client_log.specs.LogState.{LogState}
-use Rattle.client_log.specs.Looks.{heard, looked, noted_at, flight_can_follow, flight_follows}
-use Rattle.client_log.specs.Transition.{Done, launched, restriped, settled, can_follow, followed, looked_at, on_acked, on_maps}
+use Rattle.client_log.specs.Looks.{log_hear, log_look, log_note, flight_can_follow, log_follow}
+use Rattle.client_log.specs.Transition.{Done, log_launch, restriped, settled, can_follow, followed, looked_at, on_acked, on_maps}
 
 -- an input comes to this step, and no number is at its end that the fate raises
 pub record Comes (done : Done) (s : LogState) (fate : Fate) : Type 0 where
   pub can : flight_can_follow s fate ≡ true
-  pub goes : done ≡ flight_follows s fate
+  pub goes : done ≡ log_follow s fate
 
 -- what follows a fate doesn't depend on what flies in the log
 regardless : (s : LogState) (o : Option FlightState) (f : FlightState) (fate : Fate) → followed (record s { flight = o }) f fate ≡ followed s f fate
-unfolding restriped launched settled
+unfolding restriped log_launch settled
 regardless s o f Restripe = refl
 regardless s o f Settle = refl
 regardless s o f Wait = refl
@@ -55,22 +55,22 @@ goes true false x fate e = no_fate fate e
 goes false c x fate e = no_fate fate e
 
 module _ (s : LogState) (name : SegName) (index generation : ℕ) where
-  acked_stays_at : (o : Option FlightState) → heard (record s { flight = o }) name index generation ≡ None
+  acked_stays_at : (o : Option FlightState) → log_hear (record s { flight = o }) name index generation ≡ None
       → on_acked (record s { flight = o }) name index generation ≡ still (record s { flight = o })
-  unfolding heard on_acked looked_at
+  unfolding log_hear on_acked looked_at
   acked_stays_at None e = refl
   acked_stays_at (Some f) e =
       let t : LogState = record s { flight = Some f } in
-      let x : Fate = fate_of s.groups (noting f index) in
-      stays (is_of f name index generation) (can_follow t f x) x (followed t (noting f index) x) (still t) e
+      let x : Fate = fate_of s.groups (flight_note f index) in
+      stays (is_of f name index generation) (can_follow t f x) x (followed t (flight_note f index) x) (still t) e
 
-  acked_goes_at : (o : Option FlightState) (fate : Fate) → heard (record s { flight = o }) name index generation ≡ Some fate
-      → Comes (on_acked (record s { flight = o }) name index generation) (noted_at (record s { flight = o }) index) fate
-  unfolding heard on_acked looked_at flight_follows
+  acked_goes_at : (o : Option FlightState) (fate : Fate) → log_hear (record s { flight = o }) name index generation ≡ Some fate
+      → Comes (on_acked (record s { flight = o }) name index generation) (log_note (record s { flight = o }) index) fate
+  unfolding log_hear on_acked looked_at log_follow
   acked_goes_at None fate e = no_fate fate e
   acked_goes_at (Some f) fate e =
       let t : LogState = record s { flight = Some f } in
-      let g : FlightState = noting f index in
+      let g : FlightState = flight_note f index in
       let x : Fate = fate_of s.groups g in
       let k : Goes (is_of f name index generation) (can_follow t f x) x fate = goes (is_of f name index generation) (can_follow t f x) x fate e in
       record {
@@ -81,16 +81,16 @@ module _ (s : LogState) (name : SegName) (index generation : ℕ) where
             ∙ sym (regardless t (Some g) g fate);
       }
 
-  pub acked_stays : heard s name index generation ≡ None → on_acked s name index generation ≡ still s
+  pub acked_stays : log_hear s name index generation ≡ None → on_acked s name index generation ≡ still s
   acked_stays = acked_stays_at s.flight
 
-  pub acked_goes : (fate : Fate) → heard s name index generation ≡ Some fate → Comes (on_acked s name index generation) (noted_at s index) fate
+  pub acked_goes : (fate : Fate) → log_hear s name index generation ≡ Some fate → Comes (on_acked s name index generation) (log_note s index) fate
   acked_goes = acked_goes_at s.flight
 
 module _ (s : LogState) (groups : GroupMapState) where
-  maps_stays_at : (o : Option FlightState) → looked (record s { flight = o }) groups ≡ None
+  maps_stays_at : (o : Option FlightState) → log_look (record s { flight = o }) groups ≡ None
       → on_maps (record s { flight = o }) groups ≡ still (record s { flight = o })
-  unfolding looked on_maps looked_at
+  unfolding log_look on_maps looked_at
   maps_stays_at None e = no_fate Wait (sym e)
   maps_stays_at (Some f) e =
       let t : LogState = record s { flight = Some f } in
@@ -99,9 +99,9 @@ module _ (s : LogState) (groups : GroupMapState) where
       ap (λ b. cond b (followed u f x) (still t)) (can_regardless t (Some f) groups f f.noted x)
       ∙ stays true (can_follow t f x) x (followed u f x) (still t) e
 
-  maps_goes_at : (o : Option FlightState) (fate : Fate) → looked (record s { flight = o }) groups ≡ Some fate
+  maps_goes_at : (o : Option FlightState) (fate : Fate) → log_look (record s { flight = o }) groups ≡ Some fate
       → Comes (on_maps (record s { flight = o }) groups) (record s { flight = o; groups = groups }) fate
-  unfolding looked on_maps looked_at flight_follows
+  unfolding log_look on_maps looked_at log_follow
   maps_goes_at None fate e = record { can = refl; goes = refl }
   maps_goes_at (Some f) fate e =
       let t : LogState = record s { flight = Some f } in
@@ -113,8 +113,8 @@ module _ (s : LogState) (groups : GroupMapState) where
         goes = ap (λ b. cond b (followed u f x) (still t)) (can_regardless t (Some f) groups f f.noted x ∙ k.can) ∙ ap (followed u f) k.decided;
       }
 
-  pub maps_stays : looked s groups ≡ None → on_maps s groups ≡ still s
+  pub maps_stays : log_look s groups ≡ None → on_maps s groups ≡ still s
   maps_stays = maps_stays_at s.flight
 
-  pub maps_goes : (fate : Fate) → looked s groups ≡ Some fate → Comes (on_maps s groups) (record s { groups = groups }) fate
+  pub maps_goes : (fate : Fate) → log_look s groups ≡ Some fate → Comes (on_maps s groups) (record s { groups = groups }) fate
   maps_goes = maps_goes_at s.flight

@@ -11,7 +11,7 @@ use Rattle.group_map.specs.GroupMapState.{GroupMapState}
 use Rattle.log_flight.specs.declared.dirty.Change.{Change}
 use Rattle.log_flight.specs.declared.flight.Fate.TheVariants.{Restripe, Settle}
 use Rattle.log_flight.specs.Fate.{fate_of}
-use Rattle.log_flight.specs.Flights.{FlightState, is_of, none_noted, noting}
+use Rattle.log_flight.specs.Flights.{FlightState, is_of, none_noted, flight_note}
 use Rattle.log_flight.specs.Items.{items_of}
 use Rattle.client_log.specs.declared.input.In.{In}
 use Rattle.client_log.specs.declared.input.In.TheVariants.{Put, Parts, Seal, Acked, Maps, Tick}
@@ -19,7 +19,7 @@ use Rattle.client_log.specs.declared.output.Out.{Out}
 use Rattle.client_log.specs.declared.output.Out.TheVariants.{Send, Settled}
 use Rattle.segment_format.specs.Rows.{rows_of}
 use Rattle.client_log.specs.LogState.{LogState}
-use Rattle.client_log.specs.Transition.{Done, transition, prior_from, end_from, next_attempt, waits, can_go_on}
+use Rattle.client_log.specs.Transition.{Done, transition, prior_from, end_of, next_attempt, waits, can_go_on}
 
 -- a log that began so and took these inputs
 abbrev pub state_after : LogState → List In → LogState
@@ -63,7 +63,7 @@ abbrev pub noted_by : FlightState → In → FlightState
 noted_by f (Put block entry value) = f
 noted_by f (Parts items) = f
 noted_by f Seal = f
-noted_by f (Acked name index generation) = if is_of f name index generation then noting f index else f
+noted_by f (Acked name index generation) = if is_of f name index generation then flight_note f index else f
 noted_by f (Maps new) = f
 noted_by f Tick = f
 
@@ -72,7 +72,7 @@ noted_by f Tick = f
 pub record IsDue (s : LogState) (input : In) (end : End) (rows : List (BlockId × Entry)) : Type 0 where
   pub flight : FlightState
   pub was : s.flight ≡ Some flight
-  pub is_end : end ≡ end_from flight.segment
+  pub is_end : end ≡ end_of flight.segment
   pub are_rows : rows ≡ rows_of flight.segment
   pub due : fate_of (groups_with s.groups input) (noted_by flight input) ≡ Settle
 
@@ -103,7 +103,7 @@ pub record IsNextAttempt (s : LogState) (input : In) (g : FlightState) : Type 0 
 
 -- what flew before, if anything did, is the end now
 abbrev pub HasLanded : LogState → LogState → Type 0
-HasLanded s after = IfSome s.flight (λ f. after.end ≡ end_from f.segment)
+HasLanded s after = IfSome s.flight (λ f. after.end ≡ end_of f.segment)
 
 -- a new segment, by its first attempt, behind the end, of which nothing is noted; what flew before has landed
 pub record IsBegun (s after : LogState) (g : FlightState) : Type 0 where

@@ -19,5 +19,5 @@ pub record LogState : Type 0 where
   pub flight : Option FlightState
   pub groups : GroupMapState
 
-abbrev pub started : LogId → ℕ → End → GroupMapState → LogState
-started log inc end groups = record { log = log; inc = inc; end = end; dirty = []; flight = None; groups = groups }
+abbrev pub log_start : LogId → ℕ → End → GroupMapState → LogState
+log_start log inc end groups = record { log = log; inc = inc; end = end; dirty = []; flight = None; groups = groups }

@@ -16,8 +16,8 @@ use Rattle.log_flight.specs.declared.dirty.Change.{Change}
 use Rattle.log_flight.specs.declared.flight.Fate.{Fate}
 use Rattle.log_flight.specs.declared.flight.Fate.TheVariants.{Restripe, Settle, Wait}
 use Rattle.log_flight.specs.Fate.{fate_of}
-use Rattle.log_flight.specs.Flights.{FlightState, is_noted, group_for, flown, is_of, noting}
-use Rattle.log_flight.specs.Fragments.{piece}
+use Rattle.log_flight.specs.Flights.{FlightState, is_noted, group_for, flown, is_of, flight_note}
+use Rattle.log_flight.specs.Fragments.{flight_fragment}
 use Rattle.log_flight.specs.Items.{items_of}
 use Rattle.log_flight.specs.Texts.{has_text}
 use Rattle.client_log.specs.declared.input.In.{In}
@@ -34,23 +34,23 @@ Done = Stepped LogState Out
 
 -- the fragment of a flight at a place, to its member, but for one that is noted
 abbrev pub send_at : FlightState → Member → ℕ → List Out
-send_at f member place = if is_noted f.noted place then [] else Send (piece f.segment f.group place) member ∷ []
+send_at f member place = if is_noted f.noted place then [] else Send (flight_fragment f.segment f.group place) member ∷ []
 
 -- the same of each member from a place on
 abbrev pub sends : FlightState → List Member → ℕ → List Out
 sends f [] place = []
 sends f (m ∷ ms) place = send_at f m place ++ sends f ms (place + 1)
 
-unfoldable pub all_sends : FlightState → List Out
-all_sends f = sends f f.group.members 0
+unfoldable pub sending_send : FlightState → List Out
+sending_send f = sends f f.group.members 0
 
 -- ---- beginning a segment
 
 -- a segment of this name, with these items, is in flight, and each member is sent its fragment
-unfoldable pub launched : LogState → SegName → Prior → List Item → Done
-launched s name prior items =
+unfoldable pub log_launch : LogState → SegName → Prior → List Item → Done
+log_launch s name prior items =
     let f = flown name prior items (group_for s.groups s.log.0 name.seq) in
-    record { state = record s { flight = Some f }; outs = all_sends f }
+    record { state = record s { flight = Some f }; outs = sending_send f }
 
 -- the segment after the end, by the first attempt
 abbrev pub next_name : LogState → SegName
@@ -61,12 +61,12 @@ abbrev pub prior_from : End → Prior
 prior_from e = record { pass = e.pass; group = e.group }
 
 -- the next segment has these items
-abbrev pub writes : LogState → List Item → Done
-writes s items = launched s (next_name s) (prior_from s.end) items
+abbrev pub log_write : LogState → List Item → Done
+log_write s items = log_launch s (next_name s) (prior_from s.end) items
 
 -- the blocks that wait first are written
-unfoldable pub sealed : LogState → Done
-sealed s = writes (record s { dirty = drop segment_blocks s.dirty }) (items_of 0 (take segment_blocks s.dirty))
+unfoldable pub log_seal : LogState → Done
+log_seal s = log_write (record s { dirty = drop segment_blocks s.dirty }) (items_of 0 (take segment_blocks s.dirty))
 
 -- ---- what has no effect: a number that cannot rise
 
@@ -84,8 +84,8 @@ is_full s = is_idle s && nat_le segment_blocks (length s.dirty)
 abbrev pub can_go_on : LogState → Bool
 can_go_on s = not (is_full s) || has_next s.end.seq
 
-unfoldable pub if_full : LogState → Done
-if_full s = if is_full s then sealed s else still s
+unfoldable pub log_go_on : LogState → Done
+log_go_on s = if is_full s then log_seal s else still s
 
 -- ---- the inputs
 
@@ -95,37 +95,37 @@ waits s block change = record s { dirty = insert_entry same_block s.dirty block 
 
 -- Put: the version waits, and a full log is sealed.
 unfoldable pub on_put : LogState → BlockId → Change → Done
-on_put s block change = if can_go_on (waits s block change) then if_full (waits s block change) else still s
+on_put s block change = if can_go_on (waits s block change) then log_go_on (waits s block change) else still s
 
 -- Seal: where nothing is in flight and something waits, what waits first is written.
 unfoldable pub on_seal : LogState → Done
-on_seal s = if is_idle s && nat_lt 0 (length s.dirty) && has_next s.end.seq then sealed s else still s
+on_seal s = if is_idle s && nat_lt 0 (length s.dirty) && has_next s.end.seq then log_seal s else still s
 
 -- Parts: a segment of these items is written, where nothing is in flight and a segment may have them.
 unfoldable pub on_parts : LogState → List Item → Done
-on_parts s items = if is_idle s && has_next s.end.seq && has_text items then writes s items else still s
+on_parts s items = if is_idle s && has_next s.end.seq && has_text items then log_write s items else still s
 
 -- the segment with the name of its next attempt, over the group that is chosen now
 abbrev pub next_attempt : SegName → SegName
 next_attempt n = record n { pass = record n.pass { att = n.pass.att + 1 } }
 
 unfoldable pub restriped : LogState → FlightState → Done
-restriped s f = launched s (next_attempt f.segment.name) f.segment.prior f.segment.items
+restriped s f = log_launch s (next_attempt f.segment.name) f.segment.prior f.segment.items
 
 -- the end that a settled segment is
-abbrev pub end_from : Segment → End
-end_from s = record { seq = s.name.seq; pass = s.name.pass; group = s.group }
+abbrev pub end_of : Segment → End
+end_of s = record { seq = s.name.seq; pass = s.name.pass; group = s.group }
 
 -- nothing is in flight behind this end
 abbrev pub landed_at : LogState → End → LogState
 landed_at s end = record s { end = end; flight = None }
 
 abbrev pub landed : LogState → FlightState → LogState
-landed s f = landed_at s (end_from f.segment)
+landed s f = landed_at s (end_of f.segment)
 
 -- the segment is the end, and what it says of blocks is told; a full log is sealed
 unfoldable pub settled : LogState → FlightState → Done
-settled s f = saying (Settled (end_from f.segment) (rows_of f.segment) ∷ []) (if_full (landed s f))
+settled s f = saying (Settled (end_of f.segment) (rows_of f.segment) ∷ []) (log_go_on (landed s f))
 
 -- whether no number that the fate raises is at its end
 abbrev pub can_follow : LogState → FlightState → Fate → Bool
@@ -146,7 +146,7 @@ looked_at before s f = if can_follow s f (fate_of s.groups f) then followed s f 
 unfoldable pub on_acked : LogState → SegName → ℕ → ℕ → Done
 on_acked s name index generation = elim s.flight [
   | None ↦ still s
-  | Some f ↦ if is_of f name index generation then looked_at s s (noting f index) else still s
+  | Some f ↦ if is_of f name index generation then looked_at s s (flight_note f index) else still s
 ]
 
 -- Maps: the groups as the node has them now, and settling is looked at.
@@ -160,7 +160,7 @@ on_maps s groups = elim s.flight [
 unfoldable pub on_tick : LogState → Done
 on_tick s = elim s.flight [
   | None ↦ still s
-  | Some f ↦ record { state = s; outs = all_sends f }
+  | Some f ↦ record { state = s; outs = sending_send f }
 ]
 
 -- what each input makes of a log

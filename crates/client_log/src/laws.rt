@@ -8,20 +8,20 @@ ghost use Rattle.xfs_base.specs.declared.segment.LogId.{LogId};
 ghost use Rattle.group_map.specs.GroupMapState.{GroupMapState};
 ghost use Rattle.log_flight.specs.declared.dirty.Change.{Change};
 ghost use Rattle.client_log.specs.declared.input.In.{In};
-ghost use Rattle.client_log.specs.LogState.{LogState, started};
+ghost use Rattle.client_log.specs.LogState.{LogState, log_start};
 ghost use Rattle.client_log.specs.Transition.{transition, waits, can_go_on, on_put};
 ghost use Rattle.client_log.specs.History.{state_after, IsInLine, EndRisesByOne, TellsWhatIsDue, FlightFollows, AreLastPuts, HoldsLastPuts, NothingIsLost, WaitsOrFlies};
 
 /// The segment in flight has the next number, is of its owner's incarnation, and names the end as the one
 /// before it.
 pub fn flight_is_next()
-    ensures { (log : LogId) (inc : ℕ) (end : End) (groups : GroupMapState) (history : List In) → IsInLine (state_after (started log inc end groups) history) }
+    ensures { (log : LogId) (inc : ℕ) (end : End) (groups : GroupMapState) (history : List In) → IsInLine (state_after (log_start log inc end groups) history) }
 {}
 
 /// The end never falls: it stays, or rises by one with a segment that is settled.
 pub fn end_rises_by_one()
     ensures { (log : LogId) (inc : ℕ) (end : End) (groups : GroupMapState) (history : List In) (input : In)
-        → EndRisesByOne (state_after (started log inc end groups) history) (transition (state_after (started log inc end groups) history) input) }
+        → EndRisesByOne (state_after (log_start log inc end groups) history) (transition (state_after (log_start log inc end groups) history) input) }
 {}
 
 /// What is told as settled is the flight, with what its Deltas say, once no more of its members are lost
@@ -43,15 +43,15 @@ pub fn attempts_rise()
 /// What waits of a block is what was put last of it, among the puts that had an effect.
 pub fn last_put_waits()
     ensures { (log : LogId) (inc : ℕ) (end : End) (groups : GroupMapState) (history : List In)
-        → AreLastPuts (started log inc end groups) history (state_after (started log inc end groups) history).dirty }
+        → AreLastPuts (log_start log inc end groups) history (state_after (log_start log inc end groups) history).dirty }
 {}
 
 /// What is sealed of a block is what was put last of it, among the puts that had an effect: a flight holds
 /// what flew before, what was given as items, or changes of which each was put last.
 pub fn last_put_is_sealed()
     ensures { (log : LogId) (inc : ℕ) (end : End) (groups : GroupMapState) (history : List In) (input : In)
-        → IfSome (transition (state_after (started log inc end groups) history) input).state.flight
-        (λ g. HoldsLastPuts (started log inc end groups) history input g.segment.items) }
+        → IfSome (transition (state_after (log_start log inc end groups) history) input).state.flight
+        (λ g. HoldsLastPuts (log_start log inc end groups) history input g.segment.items) }
 {}
 
 /// A put that has an effect is not lost: its version waits, or is in flight. It has none only where it would

@@ -2,7 +2,7 @@
 ghost use Rattle.std.specs.Prelude.{◌≡◌, ◌↔◌, ◌++◌, [], None, Some, OnOk, IfOk, IsTrue, MatchOption};
 ghost use Rattle.std.specs.Option.{option_map};
 ghost use Rattle.segment_format.specs.Format.{IsLog};
-ghost use Rattle.client_log.specs.LogState.{started};
+ghost use Rattle.client_log.specs.LogState.{log_start};
 ghost use Rattle.client_log.specs.Transition.{transition};
 
 use crate::{Change, In, Out};
@@ -57,7 +57,7 @@ impl Log {
     /// nothing is in flight. The end of a log that has no segment yet is all zero. The log is 1 to 13.
     pub fn start(alloc: Global, log: LogId, inc: u32, end: End, groups: GroupMap) -> Mem<Log>
         requires { IsLog log.0 }
-        ensures { IfOk result (λ made. made ≡ started log inc end groups) }
+        ensures { IfOk result (λ made. made ≡ log_start log inc end groups) }
     {
         Ok(Log {
             log,

@@ -1,6 +1,6 @@
 //! What is sent of a segment in flight.
 ghost use Rattle.std.specs.Prelude.{◌≡◌, ◌<◌, ◌++◌, length, OnOk};
-ghost use Rattle.client_log.specs.Transition.{send_at, all_sends};
+ghost use Rattle.client_log.specs.Transition.{send_at, sending_send};
 
 use crate::Out;
 use group_map::Member;
@@ -9,9 +9,9 @@ use std::alloc::Global;
 use xfs_base::{List, Mem};
 
 /// Sends each member its fragment, but for those that are noted.
-#[tactic(auto, unfolding(crate::specs::Transition::all_sends))]
+#[tactic(auto, unfolding(crate::specs::Transition::sending_send))]
 pub(crate) fn send(alloc: Global, outs: &mut List<Out>, flight: &Flight) -> Mem<()>
-    ensures { OnOk result (outs.new ≡ outs.old ++ all_sends flight.now) }
+    ensures { OnOk result (outs.new ≡ outs.old ++ sending_send flight.now) }
 {
     for (place, member) in flight.members().iter().enumerate() {
         send_at(alloc, outs, flight, *member, place)?;

@@ -5,8 +5,8 @@ ghost use Rattle.segment_format.specs.Format.{IsLog};
 ghost use Rattle.segment_format.specs.Rows.{rows_of};
 ghost use Rattle.log_flight.specs.Texts.{HasText};
 ghost use Rattle.client_log.specs.declared.output.Out.TheVariants.{Settled};
-ghost use Rattle.client_log.specs.Looks.{due, heard, heard_of, looked, noted_at, flight_can_follow, flight_follows};
-ghost use Rattle.client_log.specs.Transition.{launched, writes, sealed, if_full, can_go_on, is_full, waits, landed_at, can_follow, next_attempt, end_from, on_put, on_seal, on_parts, on_acked, on_maps, on_tick};
+ghost use Rattle.client_log.specs.Looks.{due, log_hear, hear_of, log_look, log_note, flight_can_follow, log_follow};
+ghost use Rattle.client_log.specs.Transition.{log_launch, log_write, log_seal, log_go_on, can_go_on, is_full, waits, landed_at, can_follow, next_attempt, end_of, on_put, on_seal, on_parts, on_acked, on_maps, on_tick};
 
 use crate::sending::send;
 use crate::{Change, Log, Out};
@@ -130,9 +130,9 @@ impl Log {
 
     // What a server's answer comes to: what becomes of the flight, where the answer is of it and no number
     // is at its end that this raises.
-    #[tactic(auto, unfolding(crate::specs::Looks::heard))]
+    #[tactic(auto, unfolding(crate::specs::Looks::log_hear))]
     fn hear(&self, name: SegName, index: u8, generation: u32) -> Option<Fate>
-        ensures { result ≡ heard self.now name index generation }
+        ensures { result ≡ log_hear self.now name index generation }
     {
         match &self.flight {
             None => None,
@@ -141,7 +141,7 @@ impl Log {
     }
 
     fn hear_of(&self, flight: &Flight, name: SegName, index: u8, generation: u32) -> Option<Fate>
-        ensures { result ≡ heard_of self.now flight.now name index generation }
+        ensures { result ≡ hear_of self.now flight.now name index generation }
     {
         if !flight.is_of(name, index, generation) {
             return None;
@@ -151,9 +151,9 @@ impl Log {
 
     // What becomes of the flight with these groups, where no number is at its end that this raises; Wait
     // where none is in flight.
-    #[tactic(auto, unfolding(crate::specs::Looks::looked))]
+    #[tactic(auto, unfolding(crate::specs::Looks::log_look))]
     fn look(&self, groups: &GroupMap) -> Option<Fate>
-        ensures { result ≡ looked self.now groups.now }
+        ensures { result ≡ log_look self.now groups.now }
     {
         match &self.flight {
             None => Some(Fate::Wait),
@@ -192,7 +192,7 @@ impl Log {
 
     // The fragment of the flight at this place is noted.
     fn note(&mut self, index: u8)
-        ensures { self.new ≡ noted_at self.old index }
+        ensures { self.new ≡ log_note self.old index }
     {
         if let Some(flight) = &mut self.flight {
             flight.note(index);
@@ -200,11 +200,11 @@ impl Log {
     }
 
     // The fate of the flight follows.
-    #[tactic(auto, unfolding(crate::specs::Looks::flight_follows))]
+    #[tactic(auto, unfolding(crate::specs::Looks::log_follow))]
     fn follow(&mut self, alloc: Global, outs: &mut List<Out>, fate: Fate) -> Mem<()>
         requires { IsTrue (flight_can_follow self.old fate) }
-        ensures state { OnOk result (self.new ≡ (flight_follows self.old fate).state) }
-        ensures outs { OnOk result (outs.new ≡ outs.old ++ (flight_follows self.old fate).outs) }
+        ensures state { OnOk result (self.new ≡ (log_follow self.old fate).state) }
+        ensures outs { OnOk result (outs.new ≡ outs.old ++ (log_follow self.old fate).outs) }
     {
         match fate {
             Fate::Restripe => self.restripe(alloc, outs),
@@ -214,11 +214,11 @@ impl Log {
     }
 
     // The segment is striped anew, by its next attempt.
-    #[tactic(auto, unfolding(crate::specs::Looks::flight_follows, crate::specs::Transition::restriped, crate::specs::Transition::launched))]
+    #[tactic(auto, unfolding(crate::specs::Looks::log_follow, crate::specs::Transition::restriped, crate::specs::Transition::log_launch))]
     fn restripe(&mut self, alloc: Global, outs: &mut List<Out>) -> Mem<()>
         requires { IsTrue (flight_can_follow self.old Fate.Restripe) }
-        ensures state { OnOk result (self.new ≡ (flight_follows self.old Fate.Restripe).state) }
-        ensures outs { OnOk result (outs.new ≡ outs.old ++ (flight_follows self.old Fate.Restripe).outs) }
+        ensures state { OnOk result (self.new ≡ (log_follow self.old Fate.Restripe).state) }
+        ensures outs { OnOk result (outs.new ≡ outs.old ++ (log_follow self.old Fate.Restripe).outs) }
     {
         let Some(flight) = self.flight.take() else {
             return Ok(());
@@ -230,11 +230,11 @@ impl Log {
     }
 
     // The segment is settled, and where as many blocks wait as a segment takes they are written next.
-    #[tactic(auto, unfolding(crate::specs::Looks::flight_follows, crate::specs::Transition::settled))]
+    #[tactic(auto, unfolding(crate::specs::Looks::log_follow, crate::specs::Transition::settled))]
     fn settle(&mut self, alloc: Global, outs: &mut List<Out>) -> Mem<()>
         requires { IsTrue (flight_can_follow self.old Fate.Settle) }
-        ensures state { OnOk result (self.new ≡ (flight_follows self.old Fate.Settle).state) }
-        ensures outs { OnOk result (outs.new ≡ outs.old ++ (flight_follows self.old Fate.Settle).outs) }
+        ensures state { OnOk result (self.new ≡ (log_follow self.old Fate.Settle).state) }
+        ensures outs { OnOk result (outs.new ≡ outs.old ++ (log_follow self.old Fate.Settle).outs) }
     {
         let Some(flight) = &self.flight else {
             return Ok(());
@@ -246,8 +246,8 @@ impl Log {
     // Nothing is in flight behind this end.
     fn land(&mut self, alloc: Global, outs: &mut List<Out>, end: End) -> Mem<()>
         requires { IsTrue (can_go_on (landed_at self.old end)) }
-        ensures state { OnOk result (self.new ≡ (if_full (landed_at self.old end)).state) }
-        ensures outs { OnOk result (outs.new ≡ outs.old ++ (if_full (landed_at self.old end)).outs) }
+        ensures state { OnOk result (self.new ≡ (log_go_on (landed_at self.old end)).state) }
+        ensures outs { OnOk result (outs.new ≡ outs.old ++ (log_go_on (landed_at self.old end)).outs) }
     {
         self.end = end;
         drop(self.flight.take());
@@ -255,11 +255,11 @@ impl Log {
     }
 
     // A full log is sealed.
-    #[tactic(auto, unfolding(crate::specs::Transition::if_full))]
+    #[tactic(auto, unfolding(crate::specs::Transition::log_go_on))]
     fn go_on(&mut self, alloc: Global, outs: &mut List<Out>) -> Mem<()>
         requires { IsTrue (can_go_on self.old) }
-        ensures state { OnOk result (self.new ≡ (if_full self.old).state) }
-        ensures outs { OnOk result (outs.new ≡ outs.old ++ (if_full self.old).outs) }
+        ensures state { OnOk result (self.new ≡ (log_go_on self.old).state) }
+        ensures outs { OnOk result (outs.new ≡ outs.old ++ (log_go_on self.old).outs) }
     {
         if !self.is_full() {
             return Ok(());
@@ -275,11 +275,11 @@ impl Log {
     }
 
     // The blocks that wait first are written.
-    #[tactic(auto, unfolding(crate::specs::Transition::sealed))]
+    #[tactic(auto, unfolding(crate::specs::Transition::log_seal))]
     fn seal(&mut self, alloc: Global, outs: &mut List<Out>) -> Mem<()>
         requires { self.old.end.seq < u32_end }
-        ensures state { OnOk result (self.new ≡ (sealed self.old).state) }
-        ensures outs { OnOk result (outs.new ≡ outs.old ++ (sealed self.old).outs) }
+        ensures state { OnOk result (self.new ≡ (log_seal self.old).state) }
+        ensures outs { OnOk result (outs.new ≡ outs.old ++ (log_seal self.old).outs) }
     {
         let changes = self.dirty.take_first()?;
         let items = items_of(alloc, changes)?;
@@ -290,8 +290,8 @@ impl Log {
     fn write(&mut self, alloc: Global, outs: &mut List<Out>, items: List<Item>) -> Mem<()>
         requires seq { self.old.end.seq < u32_end }
         requires text { HasText items }
-        ensures state { OnOk result (self.new ≡ (writes self.old items).state) }
-        ensures outs { OnOk result (outs.new ≡ outs.old ++ (writes self.old items).outs) }
+        ensures state { OnOk result (self.new ≡ (log_write self.old items).state) }
+        ensures outs { OnOk result (outs.new ≡ outs.old ++ (log_write self.old items).outs) }
     {
         let name = SegName {
             log: self.log,
@@ -309,7 +309,7 @@ impl Log {
     }
 
     // A segment of this name is in flight, over the group that the map chooses for it.
-    #[tactic(auto, unfolding(crate::specs::Transition::launched, crate::specs::Transition::on_tick))]
+    #[tactic(auto, unfolding(crate::specs::Transition::log_launch, crate::specs::Transition::on_tick))]
     fn launch(
         &mut self,
         alloc: Global,
@@ -320,8 +320,8 @@ impl Log {
     ) -> Mem<()>
         requires log { IsLog name.log.0 }
         requires text { HasText items }
-        ensures state { OnOk result (self.new ≡ (launched self.old name prior items).state) }
-        ensures outs { OnOk result (outs.new ≡ outs.old ++ (launched self.old name prior items).outs) }
+        ensures state { OnOk result (self.new ≡ (log_launch self.old name prior items).state) }
+        ensures outs { OnOk result (outs.new ≡ outs.old ++ (log_launch self.old name prior items).outs) }
     {
         let flight = flight_over(alloc, &self.groups, self.log, name, prior, items)?;
         drop(mem::replace(&mut self.flight, Some(flight)));
@@ -342,8 +342,8 @@ fn next_attempt(name: SegName) -> SegName
 
 // A segment is told as settled; the end that it is.
 fn tell_settled(alloc: Global, outs: &mut List<Out>, segment: &Segment) -> Mem<End>
-    ensures end { IfOk result (λ end. end ≡ end_from segment.now) }
-    ensures outs { OnOk result (outs.new ≡ outs.old ++ Settled (end_from segment.now) (rows_of segment.now) ∷ []) }
+    ensures end { IfOk result (λ end. end ≡ end_of segment.now) }
+    ensures outs { OnOk result (outs.new ≡ outs.old ++ Settled (end_of segment.now) (rows_of segment.now) ∷ []) }
 {
     let rows = rows_of(alloc, segment)?;
     let end = end_of(segment);
@@ -352,7 +352,7 @@ fn tell_settled(alloc: Global, outs: &mut List<Out>, segment: &Segment) -> Mem<E
 }
 
 fn end_of(segment: &Segment) -> End
-    ensures { result ≡ end_from segment.now }
+    ensures { result ≡ end_of segment.now }
 {
     End {
         seq: segment.name.seq,

@@ -10,11 +10,11 @@ use Rattle.delta_feed.specs.FeedState as feed
 use Rattle.delta_feed.specs.FeedState.{FeedState}
 use Rattle.group_map.specs.GroupMapState.{GroupMapState}
 use Rattle.log_owner.specs.declared.promised.Promised.{Promised}
-use Rattle.log_owner.specs.Promised.{first_managers}
+use Rattle.log_owner.specs.Promised.{managers_start}
 use Rattle.node_base.specs.declared.maps.Maps.{Maps}
-use Rattle.node_base.specs.Maps.{at_start}
+use Rattle.node_base.specs.Maps.{maps_start}
 use Rattle.token_client.specs.State as tokens
-use Rattle.token_client.specs.State.{started}
+use Rattle.token_client.specs.State.{tokens_start}
 use Rattle.xfs_base.specs.declared.segment.End.{End}
 
 -- the end of an empty log
@@ -26,29 +26,29 @@ abbrev pub cached_upto : ℕ → ℕ
 cached_upto capacity = if capacity == 0 then 1 else capacity
 
 -- nothing is cached, and the log is empty
-abbrev pub first_serving : Lasting → ℕ → ℕ → GroupMapState → Serving
-first_serving l managers capacity groups =
+abbrev pub serves_first : Lasting → ℕ → ℕ → GroupMapState → Serving
+serves_first l managers capacity groups =
     record {
       lasting = l;
-      maps = at_start groups;
-      managers = first_managers managers;
-      tokens = tokens.started 1 (replicate slot_count 1);
-      log = log.started (record { 0 = l.number }) 1 empty_end groups;
-      feed = feed.started 0;
-      cache = cache.started (cached_upto capacity);
+      maps = maps_start groups;
+      managers = managers_start managers;
+      tokens = tokens.tokens_start 1 (replicate slot_count 1);
+      log = log.log_start (record { 0 = l.number }) 1 empty_end groups;
+      feed = feed.feed_start 0;
+      cache = cache.cache_start (cached_upto capacity);
       call = None;
     }
 
 -- a client whose log is open again: nothing is cached
-abbrev pub returned : Lasting → ℕ → Maps → Promised → LogState → FeedState → Serving
-returned l capacity maps promised log feed =
+abbrev pub serves_again : Lasting → ℕ → Maps → Promised → LogState → FeedState → Serving
+serves_again l capacity maps promised log feed =
     record {
       lasting = l;
       maps = maps;
       managers = promised.managers;
-      tokens = started l.inc promised.epochs;
+      tokens = tokens_start l.inc promised.epochs;
       log = log;
       feed = feed;
-      cache = cache.started (cached_upto capacity);
+      cache = cache.cache_start (cached_upto capacity);
       call = None;
     }

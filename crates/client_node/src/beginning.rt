@@ -2,10 +2,10 @@
 ghost use Rattle.std.specs.Prelude.{◌≡◌, ◌++◌, ℕ, IfOk, OnOk};
 ghost use Rattle.client_node.specs.declared.phase.Phase.TheVariants.{Down, Opening as Opens, Serving as Serves};
 ghost use Rattle.client_node.specs.Parts.{after_down, after_opening, after_serving};
-ghost use Rattle.client_node.specs.Phases.{wish_at, on_begin, crashed, restarted};
-ghost use Rattle.client_serving.specs.Lasting.{next_life};
+ghost use Rattle.client_node.specs.Phases.{wish_at, on_begin, cut, restart};
+ghost use Rattle.client_serving.specs.Lasting.{live_on};
 ghost use Rattle.log_owner.specs.declared.opening.Opening.{Opening as AnOpening};
-ghost use Rattle.node_base.specs.Beginning.{answered};
+ghost use Rattle.node_base.specs.Beginning.{items_answer};
 
 use crate::crash::fall;
 use client_running::open;
@@ -69,8 +69,8 @@ fn restart(
     lasting: &mut Lasting,
     number: u32,
 ) -> Mem<Opening>
-    ensures phase { IfOk result (λ opening. Opens lasting.new opening ≡ (restarted servers (next_life lasting.old number)).state) }
-    ensures effects { OnOk result (effects.new ≡ effects.old ++ (restarted servers (next_life lasting.old number)).outs) }
+    ensures phase { IfOk result (λ opening. Opens lasting.new opening ≡ (restart servers (live_on lasting.old number)).state) }
+    ensures effects { OnOk result (effects.new ≡ effects.old ++ (restart servers (live_on lasting.old number)).outs) }
 {
     lasting.live_on(number);
     let owner = Owner {
@@ -138,8 +138,8 @@ pub(crate) fn begin_serving(
 
 // The client crashes: the item that is open is cut, and that of the crash is answered.
 fn cut(effects: &mut Effects, lasting: &mut Lasting, number: u32) -> Mem<()>
-    ensures lasting { OnOk result (lasting.new ≡ record lasting.old { items = answered lasting.old.items }) }
-    ensures effects { OnOk result (effects.new ≡ effects.old ++ (crashed lasting.old number).outs) }
+    ensures lasting { OnOk result (lasting.new ≡ record lasting.old { items = items_answer lasting.old.items }) }
+    ensures effects { OnOk result (effects.new ≡ effects.old ++ (cut lasting.old number).outs) }
 {
     lasting.answer(effects, Answer::Cut)?;
     effects.answer(number, Answer::Done)

@@ -1,8 +1,8 @@
 //! The client as a node: what each event makes of it.
 ghost use Rattle.std.specs.Prelude.{◌≡◌, ◌++◌, ℕ, IfOk, IfSome, OnOk};
 ghost use Rattle.client_node.specs.declared.phase.Phase.TheVariants.{Opening as Opens};
-ghost use Rattle.client_node.specs.Phases.{client_step, on_begin, on_deliver, delivers, on_time, client_room, is_serving, opening_of, takes};
-ghost use Rattle.client_node.specs.Starting.{first_client};
+ghost use Rattle.client_node.specs.Phases.{client_step, on_begin, on_deliver, client_deliver, client_tick, client_has_room, is_serving, opening_of, takes};
+ghost use Rattle.client_node.specs.Starting.{client_start};
 ghost use Rattle.node_base.specs.Setups.{IsSetup};
 ghost use Rattle.segment_format.specs.Format.{IsLog};
 
@@ -60,7 +60,7 @@ impl Client {
     pub fn start(alloc: Global, number: u8, setup: &Setup, items: List<Work>) -> Mem<Client>
         requires log { IsLog number }
         requires setup { IsSetup setup.now }
-        ensures { IfOk result (λ client. client ≡ first_client number setup.now items) }
+        ensures { IfOk result (λ client. client ≡ client_start number setup.now items) }
     {
         let groups = groups_of(alloc, setup)?;
         let lasting = Lasting::start(number, items);
@@ -81,7 +81,7 @@ impl Client {
 
     // Whether each counter is at least 65,536 below its end.
     fn has_room(&self) -> bool
-        ensures { result ≡ client_room self.now }
+        ensures { result ≡ client_has_room self.now }
     {
         let lasting = self.phase.lasting();
         has_room(lasting.inc) && (has_room(lasting.questions.last) && phase_has_room(&self.phase))
@@ -119,8 +119,8 @@ impl Client {
     #[tactic(auto, unfolding(crate::specs::Phases::on_deliver))]
     fn deliver(&mut self, alloc: Global, effects: &mut Effects, packet: &Packet) -> Mem<()>
         ensures phase { OnOk result
-            (self.new ≡ record self.old { phase = (delivers self.old.peers self.old.cache self.old.phase packet.now).state }) }
-        ensures effects { OnOk result (effects.new ≡ effects.old ++ (delivers self.old.peers self.old.cache self.old.phase packet.now).outs) }
+            (self.new ≡ record self.old { phase = (client_deliver self.old.peers self.old.cache self.old.phase packet.now).state }) }
+        ensures effects { OnOk result (effects.new ≡ effects.old ++ (client_deliver self.old.peers self.old.cache self.old.phase packet.now).outs) }
     {
         if !is_well_formed(self.peers, packet) {
             return Ok(());
@@ -230,10 +230,10 @@ fn hear_here(
 }
 
 // Time passes. At a client that serves the open call is looked at then.
-#[tactic(auto, unfolding(crate::specs::Phases::on_time))]
+#[tactic(auto, unfolding(crate::specs::Phases::client_tick))]
 fn tick(alloc: Global, effects: &mut Effects, cache: u16, phase: &mut Phase) -> Mem<()>
-    ensures phase { OnOk result (phase.new ≡ (on_time cache phase.old).state) }
-    ensures effects { OnOk result (effects.new ≡ effects.old ++ (on_time cache phase.old).outs) }
+    ensures phase { OnOk result (phase.new ≡ (client_tick cache phase.old).state) }
+    ensures effects { OnOk result (effects.new ≡ effects.old ++ (client_tick cache phase.old).outs) }
 {
     match phase {
         Phase::Down(_) => Ok(()),
@@ -246,11 +246,11 @@ fn tick(alloc: Global, effects: &mut Effects, cache: u16, phase: &mut Phase) -> 
 }
 
 // Time passes at a client that opens its log.
-#[tactic(auto, unfolding(crate::specs::Phases::on_time))]
+#[tactic(auto, unfolding(crate::specs::Phases::client_tick))]
 fn tick_here(alloc: Global, effects: &mut Effects, cache: u16, phase: &mut Phase) -> Mem<()>
-    ensures phase { OnOk result (IfSome (opening_of phase.old) (λ o. phase.new ≡ (on_time cache (Opens o.0 o.1)).state)) }
+    ensures phase { OnOk result (IfSome (opening_of phase.old) (λ o. phase.new ≡ (client_tick cache (Opens o.0 o.1)).state)) }
     ensures effects { OnOk result
-        (IfSome (opening_of phase.old) (λ o. effects.new ≡ effects.old ++ (on_time cache (Opens o.0 o.1)).outs)) }
+        (IfSome (opening_of phase.old) (λ o. effects.new ≡ effects.old ++ (client_tick cache (Opens o.0 o.1)).outs)) }
 {
     let Some((lasting, opening)) = phase.take_opening(alloc) else {
         return Ok(());

@@ -1,8 +1,8 @@
 //! A client whose log is open again.
 ghost use Rattle.std.specs.Prelude.{◌≡◌, ◌++◌, ◌∷◌, IfOk, OnOk};
-ghost use Rattle.client_node.specs.Phases.{after_opening, back, served};
-ghost use Rattle.log_owner.specs.Sending.{pushes_all};
-ghost use Rattle.node_base.specs.Beginning.{answered, answers_unanswered};
+ghost use Rattle.client_node.specs.Phases.{phase_after, back, served};
+ghost use Rattle.log_owner.specs.Sending.{push_all};
+ghost use Rattle.node_base.specs.Beginning.{items_answer, answers_unanswered};
 ghost use Rattle.node_base.specs.declared.effects.Effect.TheVariants.{Does};
 ghost use Rattle.version_model.specs.declared.act.Act.TheVariants.{Back};
 ghost use Rattle.version_model.specs.declared.answer.Answer.TheVariants as answer;
@@ -25,8 +25,8 @@ pub(crate) fn phase_after(
     cache: u16,
     progress: Progress,
 ) -> Mem<Phase>
-    ensures phase { IfOk result (λ phase. phase ≡ (after_opening lasting cache progress).state) }
-    ensures effects { OnOk result (effects.new ≡ effects.old ++ (after_opening lasting cache progress).outs) }
+    ensures phase { IfOk result (λ phase. phase ≡ (phase_after lasting cache progress).state) }
+    ensures effects { OnOk result (effects.new ≡ effects.old ++ (phase_after lasting cache progress).outs) }
 {
     match progress {
         Progress::Opening(opening) => Ok(Phase::Opening(lasting, opening)),
@@ -39,7 +39,7 @@ pub(crate) fn phase_after(
 
 // The log is lost: the client is down, and the restart is answered so.
 fn lost(effects: &mut Effects, lasting: Lasting, seg: SegName) -> Mem<Lasting>
-    ensures lasting { IfOk result (λ left. left ≡ record lasting { items = answered lasting.items }) }
+    ensures lasting { IfOk result (λ left. left ≡ record lasting { items = items_answer lasting.items }) }
     ensures effects { OnOk result (effects.new ≡ effects.old ++ answers_unanswered lasting.items.unanswered (answer.Lost seg)) }
 {
     let mut lasting = lasting;
@@ -89,11 +89,11 @@ fn say_back(
     serving: &mut Serving,
     chain: List<SegName>,
 ) -> Mem<()>
-    ensures serving { OnOk result (serving.new ≡ record serving.old { lasting = record serving.old.lasting { items = answered serving.old.lasting.items } }) }
+    ensures serving { OnOk result (serving.new ≡ record serving.old { lasting = record serving.old.lasting { items = items_answer serving.old.lasting.items } }) }
     ensures effects { OnOk result
         (effects.new ≡ effects.old
         ++ (Does (Back serving.old.lasting.number chain)
-        ∷ (pushes_all serving.old.managers serving.old.feed ++ answers_unanswered serving.old.lasting.items.unanswered answer.Done))) }
+        ∷ (push_all serving.old.managers serving.old.feed ++ answers_unanswered serving.old.lasting.items.unanswered answer.Done))) }
 {
     effects.act(Act::Back {
         client: serving.lasting.number,

@@ -1,7 +1,7 @@
 //! The ends of counters: whether each is at least 65,536 below its end.
 ghost use Rattle.std.specs.Prelude.{◌≡◌};
-ghost use Rattle.client_node.specs.Phases.{phase_room};
-ghost use Rattle.client_node.specs.Room.{asked_again, epochs_room, open_block, serving_room};
+ghost use Rattle.client_node.specs.Phases.{phase_has_room};
+ghost use Rattle.client_node.specs.Room.{asked_again, epochs_have_room, open_block, serving_has_room};
 
 use crate::Phase;
 use client_serving::Serving;
@@ -12,7 +12,7 @@ use xfs_base::limits::SLOT_COUNT;
 
 /// Whether each counter of a phase is.
 pub(crate) fn phase_has_room(phase: &Phase) -> bool
-    ensures { result ≡ phase_room phase.now }
+    ensures { result ≡ phase_has_room phase.now }
 {
     match phase {
         Phase::Down(_) => true,
@@ -22,7 +22,7 @@ pub(crate) fn phase_has_room(phase: &Phase) -> bool
 }
 
 fn serving_has_room(serving: &Serving) -> bool
-    ensures { result ≡ serving_room serving.now }
+    ensures { result ≡ serving_has_room serving.now }
 {
     has_room(serving.maps.version)
         && has_room(serving.tokens.asked())
@@ -32,9 +32,9 @@ fn serving_has_room(serving: &Serving) -> bool
 }
 
 // Whether each promised epoch is at least 65,536 below its end.
-#[tactic(auto, unfolding(crate::specs::Room::epochs_room))]
+#[tactic(auto, unfolding(crate::specs::Room::epochs_have_room))]
 fn epochs_have_room(tokens: &Tokens) -> bool
-    ensures { result ≡ epochs_room tokens.now }
+    ensures { result ≡ epochs_have_room tokens.now }
 {
     for slot in 0..SLOT_COUNT {
         if !has_room(tokens.promised(slot)) {

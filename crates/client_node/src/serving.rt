@@ -1,11 +1,11 @@
 //! A client that begins to serve.
 ghost use Rattle.std.specs.Prelude.{◌≡◌, IfOk};
 ghost use Rattle.client_log.specs.LogState as logs;
-ghost use Rattle.client_node.specs.Serving.{cached_upto, empty_end, first_serving, returned};
+ghost use Rattle.client_node.specs.Serving.{cached_upto, empty_end, serves_first, serves_again};
 ghost use Rattle.coop_cache.specs.CacheState as caches;
 ghost use Rattle.delta_feed.specs.FeedState as feeds;
 ghost use Rattle.segment_format.specs.Format.{IsLog};
-ghost use Rattle.token_client.specs.State.{started};
+ghost use Rattle.token_client.specs.State.{tokens_start};
 
 use client_log::Log;
 use client_serving::{Lasting, Serving};
@@ -27,7 +27,7 @@ pub(crate) fn serves_first(
     groups: GroupMap,
 ) -> Mem<Serving>
     requires { IsLog lasting.number }
-    ensures { IfOk result (λ made. made ≡ first_serving lasting managers cache groups) }
+    ensures { IfOk result (λ made. made ≡ serves_first lasting managers cache groups) }
 {
     match first_log(alloc, lasting.log(), &groups) {
         Ok((log, feed)) => {
@@ -53,7 +53,7 @@ pub(crate) fn serves_again(
     log: Log,
     feed: Feed,
 ) -> Mem<Serving>
-    ensures { IfOk result (λ made. made ≡ returned lasting cache maps promised log feed) }
+    ensures { IfOk result (λ made. made ≡ serves_again lasting cache maps promised log feed) }
 {
     let inc = lasting.inc;
     serves(alloc, lasting, inc, cache, maps, promised, (log, feed))
@@ -69,7 +69,7 @@ fn serves(
     promised: Promised,
     written: (Log, Feed),
 ) -> Mem<Serving>
-    ensures { IfOk result (λ made. made ≡ record (returned lasting cache maps promised written.0 written.1) { tokens = started inc promised.epochs }) }
+    ensures { IfOk result (λ made. made ≡ record (serves_again lasting cache maps promised written.0 written.1) { tokens = tokens_start inc promised.epochs }) }
 {
     let (log, feed) = written;
     match fresh(alloc, inc, promised, cache) {
@@ -95,8 +95,8 @@ fn serves(
 
 // Tokens that know of no block, and a cache of none.
 fn fresh(alloc: Global, inc: u32, promised: Promised, cache: u16) -> Mem<(Tokens, Cache)>
-    ensures tokens { IfOk result (λ made. made.0 ≡ started inc promised.epochs) }
-    ensures cache { IfOk result (λ made. made.1 ≡ caches.started (cached_upto cache)) }
+    ensures tokens { IfOk result (λ made. made.0 ≡ tokens_start inc promised.epochs) }
+    ensures cache { IfOk result (λ made. made.1 ≡ caches.cache_start (cached_upto cache)) }
 {
     let tokens = Tokens::start(alloc, inc, promised.listed(alloc)?)?;
     match Cache::start(alloc, cached_upto(cache)) {
@@ -111,8 +111,8 @@ fn fresh(alloc: Global, inc: u32, promised: Promised, cache: u16) -> Mem<(Tokens
 // The empty log of the start, and its feed.
 fn first_log(alloc: Global, log: LogId, groups: &GroupMap) -> Mem<(Log, Feed)>
     requires { IsLog log.0 }
-    ensures log { IfOk result (λ made. made.0 ≡ logs.started log 1 empty_end groups.now) }
-    ensures feed { IfOk result (λ made. made.1 ≡ feeds.started 0) }
+    ensures log { IfOk result (λ made. made.0 ≡ logs.log_start log 1 empty_end groups.now) }
+    ensures feed { IfOk result (λ made. made.1 ≡ feeds.feed_start 0) }
 {
     let copy = groups.copy(alloc)?;
     let log = Log::start(alloc, log, 1, empty_end(), copy)?;

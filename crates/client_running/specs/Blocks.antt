@@ -4,10 +4,10 @@ use Rattle.client_log.specs.declared.input.In.TheVariants as log_in
 use Rattle.client_call.specs.Blocks.{value_of}
 use Rattle.client_call.specs.Fitting.{put_fits}
 use Rattle.client_serving.specs.declared.serving.Serving.{Serving}
-use Rattle.client_serving.specs.Flights.{held_at, writes}
-use Rattle.client_serving.specs.Follow.{hands, seals, notes_gone}
+use Rattle.client_serving.specs.Flights.{held_at, serving_write}
+use Rattle.client_serving.specs.Follow.{hand, serving_seal, note_gone}
 use Rattle.client_serving.specs.Sends.{Done, gives}
-use Rattle.coop_cache.specs.Transition.{touched, left}
+use Rattle.coop_cache.specs.Transition.{touch, cache_leave}
 use Rattle.file_plan.specs.declared.block_call.BlockAnswer.{BlockAnswer}
 use Rattle.file_plan.specs.declared.block_call.BlockAnswer.TheVariants as answer
 use Rattle.file_plan.specs.declared.block_call.BlockCall.{BlockCall}
@@ -36,25 +36,25 @@ abbrev pub answers : Done → BlockAnswer → Made
 answers d a = record { done = d; answer = Some a }
 
 -- the block is asked for, unless it is asked for already
-abbrev pub needs : Serving → BlockId → Mode → Made
-needs s block mode = waits (hands s (Need block mode))
+abbrev pub blocks_need : Serving → BlockId → Mode → Made
+blocks_need s block mode = waits (hand s (Need block mode))
 
 abbrev pub got : Serving → BlockId → Held → Made
 got s block h =
     answers
-    (gives (record s { cache = touched s.cache block }) (Does (Read s.lasting.number block h.ver (value_of h)) ∷ []))
+    (gives (record s { cache = touch s.cache block }) (Does (Read s.lasting.number block h.ver (value_of h)) ∷ []))
     (answer.Got h.ver (value_of h))
 
 -- Get: a block that is held is read.
-unfoldable pub gets : Serving → BlockId → Made
-gets s block = if is_nothing (held_at s block).mode then needs s block Copy else got s block (held_at s block)
+unfoldable pub blocks_get : Serving → BlockId → Made
+blocks_get s block = if is_nothing (held_at s block).mode then blocks_need s block Copy else got s block (held_at s block)
 
 -- a block has a new version, and is clean no more
 abbrev pub wrote : Serving → BlockId → Option (List ℕ) → Serving
-wrote s block value = record s { tokens = (on_wrote s.tokens block value).state; cache = left s.cache block }
+wrote s block value = record s { tokens = (on_wrote s.tokens block value).state; cache = cache_leave s.cache block }
 
 abbrev pub put_of : Serving → BlockId → Option (List ℕ) → Done
-put_of s block value = writes s (log_in.Put block (record { ver = (held_at s block).ver; hop = 0; place = None }) value)
+put_of s block value = serving_write s (log_in.Put block (record { ver = (held_at s block).ver; hop = 0; place = None }) value)
 
 -- the block is written: that is acted, it is clean no more, and waits to be written to the log
 unfoldable pub changes : Serving → BlockId → Option (List ℕ) → Made
@@ -64,34 +64,34 @@ changes s block value =
     answers (gives d.state (Does (Wrote s.lasting.number block value) ∷ d.outs)) (answer.Put (held_at w block).ver)
 
 -- a block that was granted to be written, and isn't, is let go: it has no value yet
-abbrev pub lets_go : Serving → BlockId → Serving
-lets_go s block =
+abbrev pub blocks_let_go : Serving → BlockId → Serving
+blocks_let_go s block =
     if is_none (held_at s block).value
-    then notes_gone (record s { tokens = (on_evict s.tokens block).state }) block
+    then note_gone (record s { tokens = (on_evict s.tokens block).state }) block
     else s
 
 -- What no segment can hold is never written: the call waits. No call of a program is such a one: the types of its numbers leave none.
 abbrev pub held_back : Serving → BlockId → Made
-held_back s block = waits (gives (lets_go s block) [])
+held_back s block = waits (gives (blocks_let_go s block) [])
 
-unfoldable pub changes_if_fits : Serving → BlockId → Option (List ℕ) → Made
-changes_if_fits s block value =
+unfoldable pub blocks_change : Serving → BlockId → Option (List ℕ) → Made
+blocks_change s block value =
     if put_fits block ((held_at s block).ver + 1) value then changes s block value else held_back s block
 
 -- Put: a block that may be written is: it is owned and isn't to be given up.
-unfoldable pub puts : Serving → BlockId → Option (List ℕ) → Made
-puts s block value = if may_write (held_at s block) then changes_if_fits s block value else needs s block Own
+unfoldable pub blocks_put : Serving → BlockId → Option (List ℕ) → Made
+blocks_put s block value = if may_write (held_at s block) then blocks_change s block value else blocks_need s block Own
 
 abbrev pub changed : Serving → BlockId → Made
-changed s block = answers (gives (lets_go s block) []) answer.Changed
+changed s block = answers (gives (blocks_let_go s block) []) answer.Changed
 
 abbrev pub puts_again : Serving → BlockId → ℕ → Option (List ℕ) → Made
-puts_again s block ver value = if (held_at s block).ver == ver then changes_if_fits s block value else changed s block
+puts_again s block ver value = if (held_at s block).ver == ver then blocks_change s block value else changed s block
 
 -- PutAt: the same, where the version is still the named one.
-unfoldable pub puts_at : Serving → BlockId → ℕ → Option (List ℕ) → Made
-puts_at s block ver value =
-    if may_write (held_at s block) then puts_again s block ver value else needs s block Own
+unfoldable pub blocks_put_at : Serving → BlockId → ℕ → Option (List ℕ) → Made
+blocks_put_at s block ver value =
+    if may_write (held_at s block) then puts_again s block ver value else blocks_need s block Own
 
 -- nothing waits to be written, and nothing is in flight
 abbrev pub is_settled : Serving → Bool
@@ -104,12 +104,12 @@ abbrev pub synced_answer : Serving → Option BlockAnswer
 synced_answer s = if is_settled s then Some answer.Synced else None
 
 -- Sync: the log is sealed; it is answered once all is settled.
-unfoldable pub syncs : Serving → Made
-syncs s = (let d = seals s in record { done = gives d.state (d.outs ++ synced_acts d.state); answer = synced_answer d.state })
+unfoldable pub blocks_sync : Serving → Made
+blocks_sync s = (let d = serving_seal s in record { done = gives d.state (d.outs ++ synced_acts d.state); answer = synced_answer d.state })
 
 -- what a call on blocks does
-unfoldable pub makes : Serving → BlockCall → Made
-makes s (Get block) = gets s block
-makes s (Put block value) = puts s block value
-makes s (PutAt block ver value) = puts_at s block ver value
-makes s Sync = syncs s
+unfoldable pub blocks_make : Serving → BlockCall → Made
+blocks_make s (Get block) = blocks_get s block
+blocks_make s (Put block value) = blocks_put s block value
+blocks_make s (PutAt block ver value) = blocks_put_at s block ver value
+blocks_make s Sync = blocks_sync s

@@ -1,6 +1,6 @@
 //! A call begins at a client that serves.
 ghost use Rattle.std.specs.Prelude.{◌≡◌, ◌++◌, IfOk, OnOk};
-ghost use Rattle.client_running.specs.Opens.{begins_call, call_at, opens};
+ghost use Rattle.client_running.specs.Opens.{begin_call, call_at, opens};
 ghost use Rattle.node_base.specs.Beginning.{work_at};
 
 use crate::running::{go_on, run};
@@ -41,8 +41,8 @@ fn begin_call(
     number: u32,
     going: Option<Going>,
 ) -> Mem<()>
-    ensures state { OnOk result (serving.new ≡ (begins_call serving.old number going).state) }
-    ensures effects { OnOk result (effects.new ≡ effects.old ++ (begins_call serving.old number going).outs) }
+    ensures state { OnOk result (serving.new ≡ (begin_call serving.old number going).state) }
+    ensures effects { OnOk result (effects.new ≡ effects.old ++ (begin_call serving.old number going).outs) }
 {
     let Some(going) = going else {
         return effects.answer(number, Answer::Done);

@@ -1,6 +1,6 @@
 //! Calls on blocks.
 ghost use Rattle.std.specs.Prelude.{◌≡◌, ◌++◌, IfOk, OnOk, true};
-ghost use Rattle.client_running.specs.Blocks.{gets, puts, puts_at, needs, syncs, changes_if_fits, lets_go, makes};
+ghost use Rattle.client_running.specs.Blocks.{blocks_get, blocks_put, blocks_put_at, blocks_need, blocks_sync, blocks_change, blocks_let_go, blocks_make};
 ghost use Rattle.client_serving.specs.Flights.{held_at};
 ghost use Rattle.token_client.specs.Held.{may_write};
 
@@ -15,16 +15,16 @@ use version_model::Act;
 use xfs_base::{BlockId, Entry, Mem, Mode, Value};
 
 /// Makes a call on blocks: its answer, or none where it must wait.
-#[tactic(auto, unfolding(crate::specs::Blocks::makes))]
+#[tactic(auto, unfolding(crate::specs::Blocks::blocks_make))]
 pub(crate) fn make(
     alloc: Global,
     effects: &mut Effects,
     serving: &mut Serving,
     call: &BlockCall,
 ) -> Mem<Option<BlockAnswer>>
-    ensures state { OnOk result (serving.new ≡ (makes serving.old call.now).done.state) }
-    ensures effects { OnOk result (effects.new ≡ effects.old ++ (makes serving.old call.now).done.outs) }
-    ensures answer { IfOk result (λ answer. answer ≡ (makes serving.old call.now).answer) }
+    ensures state { OnOk result (serving.new ≡ (blocks_make serving.old call.now).done.state) }
+    ensures effects { OnOk result (effects.new ≡ effects.old ++ (blocks_make serving.old call.now).done.outs) }
+    ensures answer { IfOk result (λ answer. answer ≡ (blocks_make serving.old call.now).answer) }
 {
     match call {
         BlockCall::Get(block) => get(alloc, effects, serving, *block),
@@ -36,16 +36,16 @@ pub(crate) fn make(
     }
 }
 
-#[tactic(auto, unfolding(crate::specs::Blocks::gets))]
+#[tactic(auto, unfolding(crate::specs::Blocks::blocks_get))]
 fn get(
     alloc: Global,
     effects: &mut Effects,
     serving: &mut Serving,
     block: BlockId,
 ) -> Mem<Option<BlockAnswer>>
-    ensures state { OnOk result (serving.new ≡ (gets serving.old block).done.state) }
-    ensures effects { OnOk result (effects.new ≡ effects.old ++ (gets serving.old block).done.outs) }
-    ensures answer { IfOk result (λ answer. answer ≡ (gets serving.old block).answer) }
+    ensures state { OnOk result (serving.new ≡ (blocks_get serving.old block).done.state) }
+    ensures effects { OnOk result (effects.new ≡ effects.old ++ (blocks_get serving.old block).done.outs) }
+    ensures answer { IfOk result (λ answer. answer ≡ (blocks_get serving.old block).answer) }
 {
     if serving.tokens.mode(block).is_nothing() {
         return need(alloc, effects, serving, block, Mode::Copy);
@@ -61,7 +61,7 @@ fn get(
     Ok(Some(answer))
 }
 
-#[tactic(auto, unfolding(crate::specs::Blocks::puts))]
+#[tactic(auto, unfolding(crate::specs::Blocks::blocks_put))]
 fn put(
     alloc: Global,
     effects: &mut Effects,
@@ -69,9 +69,9 @@ fn put(
     block: BlockId,
     value: &Value,
 ) -> Mem<Option<BlockAnswer>>
-    ensures state { OnOk result (serving.new ≡ (puts serving.old block value.now).done.state) }
-    ensures effects { OnOk result (effects.new ≡ effects.old ++ (puts serving.old block value.now).done.outs) }
-    ensures answer { IfOk result (λ answer. answer ≡ (puts serving.old block value.now).answer) }
+    ensures state { OnOk result (serving.new ≡ (blocks_put serving.old block value.now).done.state) }
+    ensures effects { OnOk result (effects.new ≡ effects.old ++ (blocks_put serving.old block value.now).done.outs) }
+    ensures answer { IfOk result (λ answer. answer ≡ (blocks_put serving.old block value.now).answer) }
 {
     if !serving.tokens.may_write(block) {
         return need(alloc, effects, serving, block, Mode::Own);
@@ -79,7 +79,7 @@ fn put(
     change(alloc, effects, serving, block, value)
 }
 
-#[tactic(auto, unfolding(crate::specs::Blocks::puts_at))]
+#[tactic(auto, unfolding(crate::specs::Blocks::blocks_put_at))]
 fn put_at(
     alloc: Global,
     effects: &mut Effects,
@@ -88,9 +88,9 @@ fn put_at(
     ver: u64,
     value: &Value,
 ) -> Mem<Option<BlockAnswer>>
-    ensures state { OnOk result (serving.new ≡ (puts_at serving.old block ver value.now).done.state) }
-    ensures effects { OnOk result (effects.new ≡ effects.old ++ (puts_at serving.old block ver value.now).done.outs) }
-    ensures answer { IfOk result (λ answer. answer ≡ (puts_at serving.old block ver value.now).answer) }
+    ensures state { OnOk result (serving.new ≡ (blocks_put_at serving.old block ver value.now).done.state) }
+    ensures effects { OnOk result (effects.new ≡ effects.old ++ (blocks_put_at serving.old block ver value.now).done.outs) }
+    ensures answer { IfOk result (λ answer. answer ≡ (blocks_put_at serving.old block ver value.now).answer) }
 {
     if !serving.tokens.may_write(block) {
         return need(alloc, effects, serving, block, Mode::Own);
@@ -110,26 +110,26 @@ fn need(
     block: BlockId,
     mode: Mode,
 ) -> Mem<Option<BlockAnswer>>
-    ensures state { OnOk result (serving.new ≡ (needs serving.old block mode).done.state) }
-    ensures effects { OnOk result (effects.new ≡ effects.old ++ (needs serving.old block mode).done.outs) }
-    ensures answer { IfOk result (λ answer. answer ≡ (needs serving.old block mode).answer) }
+    ensures state { OnOk result (serving.new ≡ (blocks_need serving.old block mode).done.state) }
+    ensures effects { OnOk result (effects.new ≡ effects.old ++ (blocks_need serving.old block mode).done.outs) }
+    ensures answer { IfOk result (λ answer. answer ≡ (blocks_need serving.old block mode).answer) }
 {
     serving.hand(alloc, effects, In::Need { block, mode })?;
     Ok(None)
 }
 
-#[tactic(auto, unfolding(crate::specs::Blocks::syncs))]
+#[tactic(auto, unfolding(crate::specs::Blocks::blocks_sync))]
 fn sync(alloc: Global, effects: &mut Effects, serving: &mut Serving) -> Mem<Option<BlockAnswer>>
-    ensures state { OnOk result (serving.new ≡ (syncs serving.old).done.state) }
-    ensures effects { OnOk result (effects.new ≡ effects.old ++ (syncs serving.old).done.outs) }
-    ensures answer { IfOk result (λ answer. answer ≡ (syncs serving.old).answer) }
+    ensures state { OnOk result (serving.new ≡ (blocks_sync serving.old).done.state) }
+    ensures effects { OnOk result (effects.new ≡ effects.old ++ (blocks_sync serving.old).done.outs) }
+    ensures answer { IfOk result (λ answer. answer ≡ (blocks_sync serving.old).answer) }
 {
     serving.seal(alloc, effects)?;
     synced(effects, serving.lasting.number, is_settled(&serving.log))
 }
 
 // Writes a block that may be written. The lemma says that a segment can hold what is put, so it is never held back.
-#[tactic(auto, unfolding(crate::specs::Blocks::changes_if_fits, crate::specs::Blocks::changes))]
+#[tactic(auto, unfolding(crate::specs::Blocks::blocks_change, crate::specs::Blocks::changes))]
 fn change(
     alloc: Global,
     effects: &mut Effects,
@@ -138,9 +138,9 @@ fn change(
     value: &Value,
 ) -> Mem<Option<BlockAnswer>>
     requires { may_write (held_at serving.old block) ≡ true }
-    ensures state { OnOk result (serving.new ≡ (changes_if_fits serving.old block value.now).done.state) }
-    ensures effects { OnOk result (effects.new ≡ effects.old ++ (changes_if_fits serving.old block value.now).done.outs) }
-    ensures answer { IfOk result (λ answer. answer ≡ (changes_if_fits serving.old block value.now).answer) }
+    ensures state { OnOk result (serving.new ≡ (blocks_change serving.old block value.now).done.state) }
+    ensures effects { OnOk result (effects.new ≡ effects.old ++ (blocks_change serving.old block value.now).done.outs) }
+    ensures answer { IfOk result (λ answer. answer ≡ (blocks_change serving.old block value.now).answer) }
 {
     prove_put_fits(&serving.tokens, block, value);
     effects.act(Act::Wrote {
@@ -165,7 +165,7 @@ fn change(
 
 // A block that was granted to be written, and wasn't, is let go: it has no value yet.
 fn let_go(alloc: Global, serving: &mut Serving, block: BlockId) -> Mem<()>
-    ensures { OnOk result (serving.new ≡ lets_go serving.old block) }
+    ensures { OnOk result (serving.new ≡ blocks_let_go serving.old block) }
 {
     if !serving.tokens.value(block).is_none() {
         return Ok(());

@@ -1,6 +1,6 @@
 //! The open call: it is looked at at the end of each event.
 ghost use Rattle.std.specs.Prelude.{◌≡◌, ◌++◌, IfOk, OnOk};
-ghost use Rattle.client_running.specs.Running.{goes_on, runs_once, answers_call, runs_upto, runs};
+ghost use Rattle.client_running.specs.Running.{running_go_on, run_once, take_answer, run_upto, run};
 
 use crate::blocks::make;
 use client_call::call::hold;
@@ -15,18 +15,18 @@ use xfs_base::Mem;
 const MOST_STEPS: u32 = 4096;
 
 /// Runs the open call until it must wait or is answered.
-#[tactic(auto, unfolding(crate::specs::Running::runs))]
+#[tactic(auto, unfolding(crate::specs::Running::run))]
 pub fn run(alloc: Global, effects: &mut Effects, serving: &mut Serving) -> Mem<()>
-    ensures state { OnOk result (serving.new ≡ (runs serving.old).state) }
-    ensures effects { OnOk result (effects.new ≡ effects.old ++ (runs serving.old).outs) }
+    ensures state { OnOk result (serving.new ≡ (run serving.old).state) }
+    ensures effects { OnOk result (effects.new ≡ effects.old ++ (run serving.old).outs) }
 {
     run_upto(alloc, effects, serving, MOST_STEPS)
 }
 
 // Makes so many calls on blocks at most.
 fn run_upto(alloc: Global, effects: &mut Effects, serving: &mut Serving, limit: u32) -> Mem<()>
-    ensures state { OnOk result (serving.new ≡ (runs_upto limit serving.old).state) }
-    ensures effects { OnOk result (effects.new ≡ effects.old ++ (runs_upto limit serving.old).outs) }
+    ensures state { OnOk result (serving.new ≡ (run_upto limit serving.old).state) }
+    ensures effects { OnOk result (effects.new ≡ effects.old ++ (run_upto limit serving.old).outs) }
 {
     let mut left = limit;
     while 0 < left {
@@ -40,11 +40,11 @@ fn run_upto(alloc: Global, effects: &mut Effects, serving: &mut Serving, limit: 
 }
 
 // Makes the present call on blocks of the open call; says whether it was answered.
-#[tactic(auto, unfolding(crate::specs::Running::runs_once))]
+#[tactic(auto, unfolding(crate::specs::Running::run_once))]
 fn run_once(alloc: Global, effects: &mut Effects, serving: &mut Serving) -> Mem<bool>
-    ensures state { OnOk result (serving.new ≡ (runs_once serving.old).done.state) }
-    ensures effects { OnOk result (effects.new ≡ effects.old ++ (runs_once serving.old).done.outs) }
-    ensures goes { IfOk result (λ goes. goes ≡ (runs_once serving.old).goes) }
+    ensures state { OnOk result (serving.new ≡ (run_once serving.old).done.state) }
+    ensures effects { OnOk result (effects.new ≡ effects.old ++ (run_once serving.old).done.outs) }
+    ensures goes { IfOk result (λ goes. goes ≡ (run_once serving.old).goes) }
 {
     if serving.call.is_none() {
         return Ok(false);
@@ -69,9 +69,9 @@ fn take_answer(
     call: Call,
     made: Option<BlockAnswer>,
 ) -> Mem<bool>
-    ensures state { OnOk result (serving.new ≡ (answers_call serving.old call made).done.state) }
-    ensures effects { OnOk result (effects.new ≡ effects.old ++ (answers_call serving.old call made).done.outs) }
-    ensures goes { IfOk result (λ goes. goes ≡ (answers_call serving.old call made).goes) }
+    ensures state { OnOk result (serving.new ≡ (take_answer serving.old call made).done.state) }
+    ensures effects { OnOk result (effects.new ≡ effects.old ++ (take_answer serving.old call made).done.outs) }
+    ensures goes { IfOk result (λ goes. goes ≡ (take_answer serving.old call made).goes) }
 {
     match made {
         None => {
@@ -87,10 +87,10 @@ fn take_answer(
 }
 
 /// The open call stands so: it goes on, or its item is answered.
-#[tactic(auto, unfolding(crate::specs::Running::goes_on))]
+#[tactic(auto, unfolding(crate::specs::Running::running_go_on))]
 pub(crate) fn go_on(effects: &mut Effects, serving: &mut Serving, going: Going) -> Mem<()>
-    ensures state { OnOk result (serving.new ≡ (goes_on serving.old going).state) }
-    ensures effects { OnOk result (effects.new ≡ effects.old ++ (goes_on serving.old going).outs) }
+    ensures state { OnOk result (serving.new ≡ (running_go_on serving.old going).state) }
+    ensures effects { OnOk result (effects.new ≡ effects.old ++ (running_go_on serving.old going).outs) }
 {
     match going {
         Going::On(call) => {

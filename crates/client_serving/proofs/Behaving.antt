@@ -2,7 +2,7 @@
 use Rattle.std.proofs.Common.{◌≡◌, ℕ, ◌==◌, ◌&&◌, Bool, not, List, [], ◌∷◌, ◌++◌, Option, Some, None, is_none, refl}
 use Rattle.std.specs.Prelude.{fold, nat_lt}
 use Rattle.std.specs.List.{AllByRecursion, list_any}
-use Rattle.client_call.specs.Reads.{Heard, block_read, fetches, fetches_again, heard, reading_in, same_target, target_of, value_at}
+use Rattle.client_call.specs.Reads.{Heard, block_read, fetches, fetch_again, hear_reading, reading_in, same_target, target_of, value_at}
 use Rattle.client_log.specs.declared.input.In.{In as LogIn}
 use Rattle.client_log.specs.declared.input.In.TheVariants as log_in
 use Rattle.client_log.specs.declared.output.Out.{Out as LogOut}
@@ -11,32 +11,32 @@ use Rattle.client_log.specs.LogState.{LogState}
 use Rattle.client_log.specs.Transition as log
 use Rattle.client_serving.specs.Behaves.{Behaves, MayDo}
 use Rattle.client_serving.specs.declared.serving.Serving.{Serving}
-use Rattle.client_serving.specs.Flights.{feeds, gives_if_clean, gives_up, held_at, keeps_clean, notes_settled, seals_again, settled_rows, settles, writes, writes_one}
-use Rattle.client_serving.specs.Follow.{evicts, follows, follows_one, hands, notes_clean, notes_copy, notes_gone, seals, takes_back}
-use Rattle.client_serving.specs.Grants.{is_stamp, supplies}
+use Rattle.client_serving.specs.Flights.{feeds, give_if_clean, gives_up, held_at, keep_row, notes_settled, seals_again, settle_rows, serving_settle, serving_write, write_one}
+use Rattle.client_serving.specs.Follow.{evicts, serving_follow, follow_one, hand, note_clean, note_copy, note_gone, serving_seal, take_back}
+use Rattle.client_serving.specs.Grants.{is_stamp, send_supply}
 use Rattle.client_serving.specs.Lasting.{log_of}
-use Rattle.client_serving.specs.Packets.{again, asks_for_maps, ends_fetch, hears, is_acked, is_gone, is_news, may_report, on_ack, on_body, on_forward, on_gone, on_grant, on_news, on_packet, on_poll, on_recall, on_supply, on_tick, on_told, on_welcome, polled, promised_in, promises, regroups, renews, reports, says_again, takes_news, told_at, told_by}
-use Rattle.client_serving.specs.Reads.{ask_after, begins, begins_over, confirmed_next, confirms, drawn_after, ends_reading, group_in, loses, loses_at, reads, reads_over, with_reading}
+use Rattle.client_serving.specs.Packets.{again, asks_for_maps, end_fetch, serving_hear, is_acked, is_gone, is_news, may_report, on_ack, take_body, on_forward, on_gone, on_grant, on_news, serving_take, on_poll, on_recall, on_supply, on_tick, on_told, on_welcome, polled, promised_in, serving_promise, regroups, serving_renew, reports, says_again, takes_news, told_at, told_by}
+use Rattle.client_serving.specs.Reads.{ask_after, begin_reading, begins_over, go_on_reading, serving_confirm, drawn_after, ends_reading, group_in, loses, lose_at, serving_read, reads_over, with_reading}
 use Rattle.client_serving.specs.Sends.{Done, before_want, deltas, gave, report, want}
 use Rattle.coop_cache.specs.declared.output.Out as cache_out
 use Rattle.coop_cache.specs.declared.output.Out.TheVariants.{Victim}
-use Rattle.coop_cache.specs.Transition.{cleaned, left}
+use Rattle.coop_cache.specs.Transition.{cache_clean, cache_leave}
 use Rattle.delta_feed.specs.declared.output.Out as feed_out
 use Rattle.delta_feed.specs.declared.output.Out.TheVariants.{Range}
 use Rattle.delta_feed.specs.FeedState.{FeedState}
-use Rattle.delta_feed.specs.Transition.{acknowledged, new_epoch, pushed, ticked}
+use Rattle.delta_feed.specs.Transition.{acknowledged, new_epoch, feed_push, feed_tick}
 use Rattle.group_map.specs.declared.group.Group.{Group}
 use Rattle.group_map.specs.GroupMapState.{GroupMapState}
 use Rattle.log_owner.specs.declared.promised.Managers.{Managers}
 use Rattle.log_owner.specs.Opening.{stored}
 use Rattle.log_owner.specs.Sealing.{is_settling}
-use Rattle.log_owner.specs.Sending.{fetch, name_of, pushes, pushes_all, range}
+use Rattle.log_owner.specs.Sending.{fetch, name_of, sending_push, push_all, range}
 use Rattle.node_base.specs.Asking.{next_ask}
 use Rattle.node_base.specs.Beginning.{answers_unanswered}
 use Rattle.node_base.specs.declared.effects.Effect.{Effect}
 use Rattle.node_base.specs.declared.effects.Effect.TheVariants.{Does}
-use Rattle.node_base.specs.Known.{names_known}
-use Rattle.node_base.specs.Maps.{fits, is_older, taken}
+use Rattle.node_base.specs.Known.{names_known_groups}
+use Rattle.node_base.specs.Maps.{fits, is_older, maps_take}
 use Rattle.node_base.specs.Room.{has_long_room}
 use Rattle.segment_reading.specs.declared.reading.Next.{Next}
 use Rattle.segment_reading.specs.declared.reading.Next.TheVariants as next
@@ -44,7 +44,7 @@ use Rattle.segment_reading.specs.declared.reading.Stage.{Stage}
 use Rattle.segment_reading.specs.declared.reading.Stage.TheVariants.{Asking, Between, Doubted, Over}
 use Rattle.segment_reading.specs.declared.target.BlockAt.{BlockAt}
 use Rattle.segment_reading.specs.declared.target.Target.{Target}
-use Rattle.segment_reading.specs.Reading.{ReadingState, Step, begun, on_confirmed, to_ask}
+use Rattle.segment_reading.specs.Reading.{ReadingState, Step, reading_start, on_confirmed, reading_unanswered}
 use Rattle.stripe_code.specs.declared.round.Told.{Told}
 use Rattle.stripe_code.specs.declared.round.Told.TheVariants as told
 use Rattle.token_client.specs.declared.held.Giving.{Giving}
@@ -120,16 +120,16 @@ module _ (n i : ℕ) where
   says_range : (managers : Managers) (o : feed_out.Out) → MayDo i (range managers o)
   says_range managers (Range slot first upto rows) = tt
 
-  says_pushes : (managers : Managers) (feed : FeedState) (slot : ℕ) → AllByRecursion (MayDo i) (pushes managers feed slot)
-  says_pushes managers feed slot = all_map (MayDo i) (range managers) (says_range managers) (pushed feed slot)
+  says_pushes : (managers : Managers) (feed : FeedState) (slot : ℕ) → AllByRecursion (MayDo i) (sending_push managers feed slot)
+  says_pushes managers feed slot = all_map (MayDo i) (range managers) (says_range managers) (feed_push feed slot)
 
-  says_pushes_all : (managers : Managers) (feed : FeedState) → AllByRecursion (MayDo i) (pushes_all managers feed)
-  says_pushes_all managers feed = all_map (MayDo i) (range managers) (says_range managers) (ticked feed)
+  says_pushes_all : (managers : Managers) (feed : FeedState) → AllByRecursion (MayDo i) (push_all managers feed)
+  says_pushes_all managers feed = all_map (MayDo i) (range managers) (says_range managers) (feed_tick feed)
 
   says_fetches : (r : ReadingState) → AllByRecursion (MayDo i) (fetches r)
-  says_fetches r = all_map (MayDo i) (fetch r.target.seg.name r.ask) (λ server. tt) (to_ask r)
+  says_fetches r = all_map (MayDo i) (fetch r.target.seg.name r.ask) (λ server. tt) (reading_unanswered r)
 
-  says_fetches_again : (r : Option ReadingState) → AllByRecursion (MayDo i) (fetches_again r)
+  says_fetches_again : (r : Option ReadingState) → AllByRecursion (MayDo i) (fetch_again r)
   says_fetches_again None = tt
   says_fetches_again (Some r) = says_fetches r
 
@@ -141,7 +141,7 @@ module _ (n i : ℕ) where
   says_stored (log_out.Send fragment member) = (tt, tt)
   says_stored (log_out.Settled end rows) = tt
 
-  says_supplies : (f : Forward) (o : outputs.Out) → AllByRecursion (MayDo i) (supplies f o)
+  says_supplies : (f : Forward) (o : outputs.Out) → AllByRecursion (MayDo i) (send_supply f o)
   says_supplies f (output.Supply block ver value) = (tt, tt)
   says_supplies f (output.Want block req again mode) = tt
   says_supplies f (output.Gave block stamp) = tt
@@ -164,19 +164,19 @@ module _ (n i : ℕ) where
   unfolding evicts
   evicts_its s (Victim block) h = h
 
-  notes_clean_its : (s : Serving) (block : BlockId) → Is n i s → Is n i (notes_clean s block)
-  unfolding notes_clean
-  notes_clean_its s block h = fold_its evicts evicts_its (record s { cache = (cleaned s.cache block).state }) (cleaned s.cache block).outs h
+  note_clean_its : (s : Serving) (block : BlockId) → Is n i s → Is n i (note_clean s block)
+  unfolding note_clean
+  note_clean_its s block h = fold_its evicts evicts_its (record s { cache = (cache_clean s.cache block).state }) (cache_clean s.cache block).outs h
 
-  notes_gone_its : (s : Serving) (block : BlockId) → Is n i s → Is n i (notes_gone s block)
-  unfolding notes_gone
-  notes_gone_its s block h =
-      by_test (λ (t : Serving). Is n i t) (is_nothing (held_of s.tokens.blocks block).mode) (record s { cache = left s.cache block }) s (λ t. h) (λ t. h)
+  note_gone_its : (s : Serving) (block : BlockId) → Is n i s → Is n i (note_gone s block)
+  unfolding note_gone
+  note_gone_its s block h =
+      by_test (λ (t : Serving). Is n i t) (is_nothing (held_of s.tokens.blocks block).mode) (record s { cache = cache_leave s.cache block }) s (λ t. h) (λ t. h)
 
-  notes_copy_its : (s : Serving) (block : BlockId) → Is n i s → Is n i (notes_copy s block)
-  unfolding notes_copy
-  notes_copy_its s block h =
-      by_test (λ (t : Serving). Is n i t) (same_mode (held_of s.tokens.blocks block).mode Copy) (notes_clean s block) s (λ t. notes_clean_its s block h) (λ t. h)
+  note_copy_its : (s : Serving) (block : BlockId) → Is n i s → Is n i (note_copy s block)
+  unfolding note_copy
+  note_copy_its s block h =
+      by_test (λ (t : Serving). Is n i t) (same_mode (held_of s.tokens.blocks block).mode Copy) (note_clean s block) s (λ t. note_clean_its s block h) (λ t. h)
 
   -- ---- readings
 
@@ -184,20 +184,20 @@ module _ (n i : ℕ) where
   unfolding loses
   loses_so s block seg h = record { does = (tt, says_loss s.lasting.items.unanswered seg); its = h }
 
-  loses_at_so : (s : Serving) (at : Option BlockAt) (seg : SegName) → Is n i s → Goes n i (loses_at s at seg)
-  loses_at_so s None seg h = still_so s h
-  loses_at_so s (Some at) seg h = loses_so s at.block seg h
+  lose_at_so : (s : Serving) (at : Option BlockAt) (seg : SegName) → Is n i s → Goes n i (lose_at s at seg)
+  lose_at_so s None seg h = still_so s h
+  lose_at_so s (Some at) seg h = loses_so s at.block seg h
 
   begins_over_so : (s : Serving) (target : Target) (group : Option Group) → Is n i s → Goes n i (begins_over s target group)
   begins_over_so s target None h = still_so s h
-  begins_over_so s target (Some group) h = record { does = says_fetches (begun target group (next_ask s.lasting.questions)); its = h }
+  begins_over_so s target (Some group) h = record { does = says_fetches (reading_start target group (next_ask s.lasting.questions)); its = h }
 
-  begins_so : (s : Serving) (target : Target) → Is n i s → Goes n i (begins s target)
-  unfolding begins
-  begins_so s target h = begins_over_so s target (group_in s.maps.groups target.seg.group) h
+  begin_reading_so : (s : Serving) (target : Target) → Is n i s → Goes n i (begin_reading s target)
+  unfolding begin_reading
+  begin_reading_so s target h = begins_over_so s target (group_in s.maps.groups target.seg.group) h
 
-  confirmed_so : (s : Serving) (r : ReadingState) (x : Next) → Is n i s → Goes n i (confirmed_next s r x)
-  confirmed_so s r next.Lost h = loses_at_so s r.target.block r.target.seg.name h
+  confirmed_so : (s : Serving) (r : ReadingState) (x : Next) → Is n i s → Goes n i (go_on_reading s r x)
+  confirmed_so s r next.Lost h = lose_at_so s r.target.block r.target.seg.name h
   confirmed_so s r next.Ask h = record { does = says_fetches r; its = h }
   confirmed_so s r next.Wait h = still_so (with_reading s (Some r)) h
   confirmed_so s r next.Again h = still_so (with_reading s (Some r)) h
@@ -209,60 +209,60 @@ module _ (n i : ℕ) where
   drawn_its s Doubted h = h
   drawn_its s Over h = h
 
-  confirms_so : (s : Serving) (r : ReadingState) → Is n i s → Goes n i (confirms s r)
-  unfolding confirms
-  confirms_so s r h =
+  serving_confirm_so : (s : Serving) (r : ReadingState) → Is n i s → Goes n i (serving_confirm s r)
+  unfolding serving_confirm
+  serving_confirm_so s r h =
       let step : Step = on_confirmed r (ask_after s r.ask r.stage) in
       confirmed_so (drawn_after s r.stage) step.state step.next (drawn_its s r.stage h)
 
   reads_over_so : (s : Serving) (target : Target) (reading : Option ReadingState) → Is n i s → Goes n i (reads_over s target reading)
-  reads_over_so s target None h = begins_so s target h
+  reads_over_so s target None h = begin_reading_so s target h
   reads_over_so s target (Some r) h =
-      by_test (λ (d : Done). Goes n i d) (same_target r.target target) (confirms s r) (begins s target) (λ t. confirms_so s r h) (λ t. begins_so s target h)
+      by_test (λ (d : Done). Goes n i d) (same_target r.target target) (serving_confirm s r) (begin_reading s target) (λ t. serving_confirm_so s r h) (λ t. begin_reading_so s target h)
 
-  reads_so : (s : Serving) (block : BlockId) (place : Place) → Is n i s → Goes n i (reads s block place)
-  unfolding reads
-  reads_so s block place h =
+  serving_read_so : (s : Serving) (block : BlockId) (place : Place) → Is n i s → Goes n i (serving_read s block place)
+  unfolding serving_read
+  serving_read_so s block place h =
       by_test (λ (d : Done). Goes n i d) (is_none s.call) (still s) (reads_over (with_reading s None) (target_of block place) (reading_in s.call))
       (λ t. still_so s h) (λ t. reads_over_so (with_reading s None) (target_of block place) (reading_in s.call) h)
 
   -- ---- what the tokens say
 
-  seals_so : (s : Serving) → Is n i s → Goes n i (seals s)
-  unfolding seals
-  seals_so s h = record { does = all_flat_map (MayDo i) stored says_stored (log.on_seal s.log).outs; its = h }
+  serving_seal_so : (s : Serving) → Is n i s → Goes n i (serving_seal s)
+  unfolding serving_seal
+  serving_seal_so s h = record { does = all_flat_map (MayDo i) stored says_stored (log.on_seal s.log).outs; its = h }
 
-  follows_one_so : (s : Serving) (o : outputs.Out) → Is n i s → Goes n i (follows_one s o)
-  unfolding follows_one
-  follows_one_so s (output.Want block req again mode) h = record {
+  follow_one_so : (s : Serving) (o : outputs.Out) → Is n i s → Goes n i (follow_one s o)
+  unfolding follow_one
+  follow_one_so s (output.Want block req again mode) h = record {
     does = all_append (MayDo i) (before_want s block again) (want s block req again mode ∷ []) (says_before s block again) ((tt, h.1), tt);
     its = h;
   }
-  follows_one_so s (output.Gave block stamp) h = record {
+  follow_one_so s (output.Gave block stamp) h = record {
     does = all_append (MayDo i) (deltas s block) (gave s block stamp ∷ []) (says_pushes s.managers s.feed (slot_of block.ino.0)) (tt, tt);
     its = h;
   }
-  follows_one_so s (output.Flush block) h = seals_so s h
-  follows_one_so s (output.Read block place) h = reads_so s block place h
-  follows_one_so s (output.Ready block) h = still_so (notes_copy s block) (notes_copy_its s block h)
-  follows_one_so s (output.Supply block ver value) h = still_so s h
+  follow_one_so s (output.Flush block) h = serving_seal_so s h
+  follow_one_so s (output.Read block place) h = serving_read_so s block place h
+  follow_one_so s (output.Ready block) h = still_so (note_copy s block) (note_copy_its s block h)
+  follow_one_so s (output.Supply block ver value) h = still_so s h
 
-  follows_so : (s : Serving) (outs : List outputs.Out) → Is n i s → Goes n i (follows s outs)
-  unfolding follows
-  follows_so s outs h = steps_so follows_one follows_one_so s outs h
+  serving_follow_so : (s : Serving) (outs : List outputs.Out) → Is n i s → Goes n i (serving_follow s outs)
+  unfolding serving_follow
+  serving_follow_so s outs h = steps_so follow_one follow_one_so s outs h
 
-  hands_so : (s : Serving) (x : inputs.In) → Is n i s → Goes n i (hands s x)
-  unfolding hands
-  hands_so s x h =
+  hand_so : (s : Serving) (x : inputs.In) → Is n i s → Goes n i (hand s x)
+  unfolding hand
+  hand_so s x h =
       let r : client.Done = client.transition s.tokens x in
-      follows_so (ends_reading (record s { tokens = r.state })) r.outs h
+      serving_follow_so (ends_reading (record s { tokens = r.state })) r.outs h
 
-  takes_back_so : (s : Serving) (block : BlockId) (stamp : Stamp) (keep : Bool) → Is n i s → Goes n i (takes_back s block stamp keep)
-  unfolding takes_back
-  takes_back_so s block stamp keep h =
-      let d : Done = hands s (input.Recalled block stamp keep) in
-      let g : Goes n i d = hands_so s (input.Recalled block stamp keep) h in
-      record { does = g.does; its = notes_gone_its d.state block g.its }
+  take_back_so : (s : Serving) (block : BlockId) (stamp : Stamp) (keep : Bool) → Is n i s → Goes n i (take_back s block stamp keep)
+  unfolding take_back
+  take_back_so s block stamp keep h =
+      let d : Done = hand s (input.Recalled block stamp keep) in
+      let g : Goes n i d = hand_so s (input.Recalled block stamp keep) h in
+      record { does = g.does; its = note_gone_its d.state block g.its }
 
   -- ---- the log
 
@@ -270,45 +270,45 @@ module _ (n i : ℕ) where
   unfolding notes_settled
   notes_settled_its s row h = h
 
-  keeps_clean_its : (s : Serving) (row : BlockId × Entry) → Is n i s → Is n i (keeps_clean s row)
-  unfolding keeps_clean
-  keeps_clean_its s row h =
-      by_test (λ (t : Serving). Is n i t) (not (is_dirty (held_at s row.0)) && is_held (held_at s row.0).mode) (notes_clean s row.0) s
-      (λ t. notes_clean_its s row.0 h) (λ t. h)
+  keep_row_its : (s : Serving) (row : BlockId × Entry) → Is n i s → Is n i (keep_row s row)
+  unfolding keep_row
+  keep_row_its s row h =
+      by_test (λ (t : Serving). Is n i t) (not (is_dirty (held_at s row.0)) && is_held (held_at s row.0).mode) (note_clean s row.0) s
+      (λ t. note_clean_its s row.0 h) (λ t. h)
 
   gives_up_so : (s : Serving) (block : BlockId) (giving : Option Giving) → Is n i s → Goes n i (gives_up s block giving)
   gives_up_so s block None h = still_so s h
-  gives_up_so s block (Some g) h = takes_back_so s block g.stamp g.keep h
+  gives_up_so s block (Some g) h = take_back_so s block g.stamp g.keep h
 
-  gives_if_clean_so : (s : Serving) (block : BlockId) → Is n i s → Goes n i (gives_if_clean s block)
-  unfolding gives_if_clean
-  gives_if_clean_so s block h =
+  give_if_clean_so : (s : Serving) (block : BlockId) → Is n i s → Goes n i (give_if_clean s block)
+  unfolding give_if_clean
+  give_if_clean_so s block h =
       by_test (λ (d : Done). Goes n i d) (is_dirty (held_at s block)) (still s) (gives_up s block (held_at s block).giving)
       (λ t. still_so s h) (λ t. gives_up_so s block (held_at s block).giving h)
 
-  settles_so : (s : Serving) (end : End) (rows : List (BlockId × Entry)) → Is n i s → Goes n i (settles s end rows)
-  unfolding settles
-  settles_so s end rows h =
-      let fed : Serving = feeds (settled_rows s rows) end rows in
-      let its : Is n i fed = fold_its keeps_clean keeps_clean_its (fold notes_settled s rows) rows (fold_its notes_settled notes_settled_its s rows h) in
-      after_so (Does (Filed (name_of (log_of s.lasting) end)) ∷ pushes_all fed.managers fed.feed) (steps gives_if_clean fed (dirty_in s.tokens.blocks))
-      (tt, says_pushes_all fed.managers fed.feed) (steps_so gives_if_clean gives_if_clean_so fed (dirty_in s.tokens.blocks) its)
+  serving_settle_so : (s : Serving) (end : End) (rows : List (BlockId × Entry)) → Is n i s → Goes n i (serving_settle s end rows)
+  unfolding serving_settle
+  serving_settle_so s end rows h =
+      let fed : Serving = feeds (settle_rows s rows) end rows in
+      let its : Is n i fed = fold_its keep_row keep_row_its (fold notes_settled s rows) rows (fold_its notes_settled notes_settled_its s rows h) in
+      after_so (Does (Filed (name_of (log_of s.lasting) end)) ∷ push_all fed.managers fed.feed) (steps give_if_clean fed (dirty_in s.tokens.blocks))
+      (tt, says_pushes_all fed.managers fed.feed) (steps_so give_if_clean give_if_clean_so fed (dirty_in s.tokens.blocks) its)
 
-  writes_one_so : (s : Serving) (o : LogOut) → Is n i s → Goes n i (writes_one s o)
-  unfolding writes_one
-  writes_one_so s (log_out.Send fragment member) h = record { does = (tt, tt); its = h }
-  writes_one_so s (log_out.Settled end rows) h = settles_so s end rows h
+  write_one_so : (s : Serving) (o : LogOut) → Is n i s → Goes n i (write_one s o)
+  unfolding write_one
+  write_one_so s (log_out.Send fragment member) h = record { does = (tt, tt); its = h }
+  write_one_so s (log_out.Settled end rows) h = serving_settle_so s end rows h
 
   seals_again_so : (s : Serving) (settling : Bool) → Is n i s → Goes n i (seals_again s settling)
   seals_again_so s settling h =
-      by_test (λ (d : Done). Goes n i d) (settling && is_giving s.tokens) (seals s) (still s) (λ t. seals_so s h) (λ t. still_so s h)
+      by_test (λ (d : Done). Goes n i d) (settling && is_giving s.tokens) (serving_seal s) (still s) (λ t. serving_seal_so s h) (λ t. still_so s h)
 
-  writes_so : (s : Serving) (x : LogIn) → Is n i s → Goes n i (writes s x)
-  unfolding writes
-  writes_so s x h =
+  serving_write_so : (s : Serving) (x : LogIn) → Is n i s → Goes n i (serving_write s x)
+  unfolding serving_write
+  serving_write_so s x h =
       let r : Stepped LogState LogOut = log.transition s.log x in
-      let d : Done = steps writes_one (record s { log = r.state }) r.outs in
-      let g : Goes n i d = steps_so writes_one writes_one_so (record s { log = r.state }) r.outs h in
+      let d : Done = steps write_one (record s { log = r.state }) r.outs in
+      let g : Goes n i d = steps_so write_one write_one_so (record s { log = r.state }) r.outs h in
       after_so d.outs (seals_again d.state (list_any is_settling r.outs)) g.does (seals_again_so d.state (list_any is_settling r.outs) g.its)
 
   -- ---- packets about blocks
@@ -317,17 +317,17 @@ module _ (n i : ℕ) where
   unfolding on_grant
   on_grant_so s m h =
       by_test (λ (d : Done). Goes n i d) (is_own m.mode && not (has_long_room m.entry.ver)) (still s)
-      (hands s (input.Granted m.block m.stamp m.inc m.req m.mode m.entry))
-      (λ t. still_so s h) (λ t. hands_so s (input.Granted m.block m.stamp m.inc m.req m.mode m.entry) h)
+      (hand s (input.Granted m.block m.stamp m.inc m.req m.mode m.entry))
+      (λ t. still_so s h) (λ t. hand_so s (input.Granted m.block m.stamp m.inc m.req m.mode m.entry) h)
 
   on_supply_so : (s : Serving) (m : Supply) → Is n i s → Goes n i (on_supply s m)
   unfolding on_supply
-  on_supply_so s m h = hands_so s (input.Supplied m.block m.stamp m.inc m.req m.ver m.value) h
+  on_supply_so s m h = hand_so s (input.Supplied m.block m.stamp m.inc m.req m.ver m.value) h
 
   on_forward_so : (s : Serving) (f : Forward) → Is n i s → Goes n i (on_forward s f)
   unfolding on_forward
   on_forward_so s f h = record {
-    does = all_flat_map (MayDo i) (supplies f) (says_supplies f) (client.on_forwarded s.tokens f.block f.stamp f.ver).outs;
+    does = all_flat_map (MayDo i) (send_supply f) (says_supplies f) (client.on_forwarded s.tokens f.block f.stamp f.ver).outs;
     its = h;
   }
 
@@ -336,8 +336,8 @@ module _ (n i : ℕ) where
   on_recall_so s r h =
       let d : client.Done = client.on_recalled s.tokens r.block r.stamp r.keep in
       let t : Serving = record s { tokens = d.state } in
-      by_test (λ (x : Done). Goes n i x) (is_stamp (held_at s r.block).stamp r.stamp) (says_again s r d) (takes_back s r.block r.stamp r.keep)
-      (λ e. record { does = says_again_so t r d.outs; its = h }) (λ e. takes_back_so s r.block r.stamp r.keep h)
+      by_test (λ (x : Done). Goes n i x) (is_stamp (held_at s r.block).stamp r.stamp) (says_again s r d) (take_back s r.block r.stamp r.keep)
+      (λ e. record { does = says_again_so t r d.outs; its = h }) (λ e. take_back_so s r.block r.stamp r.keep h)
 
   on_gone_so : (s : Serving) (m : Gone) → Is n i s → Goes n i (on_gone s m)
   unfolding on_gone
@@ -351,20 +351,20 @@ module _ (n i : ℕ) where
 
   -- ---- fragments
 
-  ends_fetch_so : (s : Serving) (at : BlockAt) (x : Next) → Is n i s → Goes n i (ends_fetch s at x)
-  ends_fetch_so s at next.Again h = hands_so s (input.Reask at.block) h
-  ends_fetch_so s at (next.Read segment) h = hands_so s (input.Fetched at.block (value_at segment at.item)) h
-  ends_fetch_so s at next.Wait h = still_so s h
-  ends_fetch_so s at next.Ask h = still_so s h
-  ends_fetch_so s at next.Lost h = still_so s h
+  end_fetch_so : (s : Serving) (at : BlockAt) (x : Next) → Is n i s → Goes n i (end_fetch s at x)
+  end_fetch_so s at next.Again h = hand_so s (input.Reask at.block) h
+  end_fetch_so s at (next.Read segment) h = hand_so s (input.Fetched at.block (value_at segment at.item)) h
+  end_fetch_so s at next.Wait h = still_so s h
+  end_fetch_so s at next.Ask h = still_so s h
+  end_fetch_so s at next.Lost h = still_so s h
 
   told_at_so : (s : Serving) (at : Option BlockAt) (x : Heard) → Is n i s → Goes n i (told_at s at x)
   told_at_so s None x h = still_so s h
-  told_at_so s (Some at) x h = ends_fetch_so (with_reading s x.reading) at x.next h
+  told_at_so s (Some at) x h = end_fetch_so (with_reading s x.reading) at x.next h
 
   on_told_so : (s : Serving) (from : NodeId) (ask : ℕ) (t : Told) → Is n i s → Goes n i (on_told s from ask t)
   unfolding told_by
-  on_told_so s (node.Server server) ask t h = told_at_so s (block_read (reading_in s.call)) (heard (reading_in s.call) s.maps.groups ask server t) h
+  on_told_so s (node.Server server) ask t h = told_at_so s (block_read (reading_in s.call)) (hear_reading (reading_in s.call) s.maps.groups ask server t) h
   on_told_so s (node.Client k) ask t h = still_so s h
   on_told_so s (node.Manager k) ask t h = still_so s h
   on_told_so s node.Cleaner ask t h = still_so s h
@@ -372,28 +372,28 @@ module _ (n i : ℕ) where
 
   -- ---- promises
 
-  renews_its : (s : Serving) (slot epoch : ℕ) → Is n i s → Is n i (renews s slot epoch)
-  unfolding renews
+  renews_its : (s : Serving) (slot epoch : ℕ) → Is n i s → Is n i (serving_renew s slot epoch)
+  unfolding serving_renew
   renews_its s slot epoch h =
       by_test (λ (t : Serving). Is n i t) (nat_lt (epoch_of s.tokens.epochs slot) epoch) (record s { feed = new_epoch s.feed slot }) s (λ t. h) (λ t. h)
 
-  promises_its : (s : Serving) (slot epoch manager : ℕ) → Is n i s → Is n i (promises s slot epoch manager).state
-  unfolding promises
+  promises_its : (s : Serving) (slot epoch manager : ℕ) → Is n i s → Is n i (serving_promise s slot epoch manager).state
+  unfolding serving_promise
   promises_its s slot epoch manager h = renews_its s slot epoch h
 
   promised_in_so : (s : Serving) (news : SlotNews) → Is n i s → Goes n i (promised_in s news)
   promised_in_so s news h =
-      let p : Stepped Serving outputs.Out = promises s news.slot news.epoch news.manager in
-      follows_so p.state p.outs (promises_its s news.slot news.epoch news.manager h)
+      let p : Stepped Serving outputs.Out = serving_promise s news.slot news.epoch news.manager in
+      serving_follow_so p.state p.outs (promises_its s news.slot news.epoch news.manager h)
 
   reports_so : (slot epoch : ℕ) (p : Stepped Serving outputs.Out) → Is n i p.state → Goes n i (reports slot epoch p)
-  reports_so slot epoch p h = after_so (report p.state slot epoch ∷ []) (follows p.state p.outs) (tt, tt) (follows_so p.state p.outs h)
+  reports_so slot epoch p h = after_so (report p.state slot epoch ∷ []) (serving_follow p.state p.outs) (tt, tt) (serving_follow_so p.state p.outs h)
 
   polled_so : (s : Serving) (manager : ℕ) (p : Poll) → Is n i s → Goes n i (polled s manager p)
   unfolding polled
   polled_so s manager p h =
-      by_test (λ (d : Done). Goes n i d) (may_report s p) (reports p.slot p.epoch (promises s p.slot p.epoch manager)) (still s)
-      (λ t. reports_so p.slot p.epoch (promises s p.slot p.epoch manager) (promises_its s p.slot p.epoch manager h)) (λ t. still_so s h)
+      by_test (λ (d : Done). Goes n i d) (may_report s p) (reports p.slot p.epoch (serving_promise s p.slot p.epoch manager)) (still s)
+      (λ t. reports_so p.slot p.epoch (serving_promise s p.slot p.epoch manager) (promises_its s p.slot p.epoch manager h)) (λ t. still_so s h)
 
   on_poll_so : (s : Serving) (from : NodeId) (p : Poll) → Is n i s → Goes n i (on_poll s from p)
   on_poll_so s (node.Manager manager) p h = polled_so s manager p h
@@ -404,19 +404,19 @@ module _ (n i : ℕ) where
 
   -- ---- maps
 
-  hears_so : (s : Serving) (news : SlotNews) → Is n i s → Goes n i (hears s news)
-  unfolding hears
-  hears_so s news h = by_test (λ (d : Done). Goes n i d) (is_news s news) (promised_in s news) (still s) (λ t. promised_in_so s news h) (λ t. still_so s h)
+  serving_hear_so : (s : Serving) (news : SlotNews) → Is n i s → Goes n i (serving_hear s news)
+  unfolding serving_hear
+  serving_hear_so s news h = by_test (λ (d : Done). Goes n i d) (is_news s news) (promised_in s news) (still s) (λ t. promised_in_so s news h) (λ t. still_so s h)
 
   regroups_so : (s : Serving) (newer : Bool) (m : GroupMapState) → Is n i s → Goes n i (regroups s newer m)
-  regroups_so s newer m h = by_test (λ (d : Done). Goes n i d) newer (writes s (log_in.Maps m)) (still s) (λ t. writes_so s (log_in.Maps m) h) (λ t. still_so s h)
+  regroups_so s newer m h = by_test (λ (d : Done). Goes n i d) newer (serving_write s (log_in.Maps m)) (still s) (λ t. serving_write_so s (log_in.Maps m) h) (λ t. still_so s h)
 
   takes_news_so : (s : Serving) (news : News) → Is n i s → Goes n i (takes_news s news)
   unfolding takes_news
   takes_news_so s news h =
-      let t : Serving = record s { maps = taken s.maps news } in
-      let d : Done = steps hears t news.slots in
-      let g : Goes n i d = steps_so hears hears_so t news.slots h in
+      let t : Serving = record s { maps = maps_take s.maps news } in
+      let d : Done = steps serving_hear t news.slots in
+      let g : Goes n i d = steps_so serving_hear serving_hear_so t news.slots h in
       after_so d.outs (regroups d.state (is_older s.maps news) news.groups) g.does (regroups_so d.state (is_older s.maps news) news.groups g.its)
 
   on_news_so : (s : Serving) (news : News) → Is n i s → Goes n i (on_news s news)
@@ -434,36 +434,36 @@ module _ (n i : ℕ) where
 
   -- ---- a packet, and time
 
-  on_body_so : (s : Serving) (from : NodeId) (b : Body) → Is n i s → Goes n i (on_body s from b)
-  on_body_so s from (body.Grant m) h = on_grant_so s m h
-  on_body_so s from (body.Supply m) h = on_supply_so s m h
-  on_body_so s from (body.Forward m) h = on_forward_so s m h
-  on_body_so s from (body.Recall m) h = on_recall_so s m h
-  on_body_so s from (body.Gone m) h = on_gone_so s m h
-  on_body_so s from (body.DeltaAck m) h = on_ack_so s m h
-  on_body_so s from (body.Poll m) h = on_poll_so s from m h
-  on_body_so s from (body.Stored m) h = writes_so s (log_in.Acked m.name m.index m.generation) h
-  on_body_so s from (body.Fragment m) h = on_told_so s from m.ask (told.Held m.fragment) h
-  on_body_so s from (body.Missing m) h = on_told_so s from m.ask (told.Missing m.generation) h
-  on_body_so s from (body.MapNews m) h = on_news_so s m h
-  on_body_so s from (body.Welcome m) h = on_welcome_so s m h
-  on_body_so s from _ h = still_so s h
+  take_body_so : (s : Serving) (from : NodeId) (b : Body) → Is n i s → Goes n i (take_body s from b)
+  take_body_so s from (body.Grant m) h = on_grant_so s m h
+  take_body_so s from (body.Supply m) h = on_supply_so s m h
+  take_body_so s from (body.Forward m) h = on_forward_so s m h
+  take_body_so s from (body.Recall m) h = on_recall_so s m h
+  take_body_so s from (body.Gone m) h = on_gone_so s m h
+  take_body_so s from (body.DeltaAck m) h = on_ack_so s m h
+  take_body_so s from (body.Poll m) h = on_poll_so s from m h
+  take_body_so s from (body.Stored m) h = serving_write_so s (log_in.Acked m.name m.index m.generation) h
+  take_body_so s from (body.Fragment m) h = on_told_so s from m.ask (told.Held m.fragment) h
+  take_body_so s from (body.Missing m) h = on_told_so s from m.ask (told.Missing m.generation) h
+  take_body_so s from (body.MapNews m) h = on_news_so s m h
+  take_body_so s from (body.Welcome m) h = on_welcome_so s m h
+  take_body_so s from _ h = still_so s h
 
-  on_packet_so : (s : Serving) (p : Packet) → Is n i s → Goes n i (on_packet s p)
-  unfolding on_packet
-  on_packet_so s p h =
-      by_test (λ (d : Done). Goes n i d) (names_known s.maps p.body) (on_body s p.from p.body) (asks_for_maps s) (λ t. on_body_so s p.from p.body h)
+  serving_take_so : (s : Serving) (p : Packet) → Is n i s → Goes n i (serving_take s p)
+  unfolding serving_take
+  serving_take_so s p h =
+      by_test (λ (d : Done). Goes n i d) (names_known_groups s.maps p.body) (take_body s p.from p.body) (asks_for_maps s) (λ t. take_body_so s p.from p.body h)
       (λ t. asks_for_maps_so s h)
 
   on_tick_so : (s : Serving) → Is n i s → Goes n i (on_tick s)
   unfolding on_tick
   on_tick_so s h =
-      let w : Done = hands s input.Tick in
-      let l : Done = writes w.state log_in.Tick in
-      let waits : Goes n i w = hands_so s input.Tick h in
-      let logs : Goes n i l = writes_so w.state log_in.Tick waits.its in
-      let pushed_out : List Effect = pushes_all l.state.managers l.state.feed in
-      let fetched : List Effect = fetches_again (reading_in w.state.call) in
+      let w : Done = hand s input.Tick in
+      let l : Done = serving_write w.state log_in.Tick in
+      let waits : Goes n i w = hand_so s input.Tick h in
+      let logs : Goes n i l = serving_write_so w.state log_in.Tick waits.its in
+      let pushed_out : List Effect = push_all l.state.managers l.state.feed in
+      let fetched : List Effect = fetch_again (reading_in w.state.call) in
       record {
         does = all_append (MayDo i) w.outs (fetched ++ (l.outs ++ pushed_out)) waits.does
             (all_append (MayDo i) fetched (l.outs ++ pushed_out) (says_fetches_again (reading_in w.state.call))
@@ -474,8 +474,8 @@ module _ (n i : ℕ) where
 behaves : (s : Serving) (d : Done) → Goes s.lasting.number s.lasting.inc d → Behaves s d
 behaves s d g = record { does = g.does; number = g.its.0; inc = g.its.1 }
 
-pub packet_so : (s : Serving) (p : Packet) → Behaves s (on_packet s p)
-packet_so s p = behaves s (on_packet s p) (on_packet_so s.lasting.number s.lasting.inc s p (refl, refl))
+pub packet_so : (s : Serving) (p : Packet) → Behaves s (serving_take s p)
+packet_so s p = behaves s (serving_take s p) (serving_take_so s.lasting.number s.lasting.inc s p (refl, refl))
 
 pub tick_so : (s : Serving) → Behaves s (on_tick s)
 tick_so s = behaves s (on_tick s) (on_tick_so s.lasting.number s.lasting.inc s (refl, refl))

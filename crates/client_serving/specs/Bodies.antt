@@ -16,9 +16,9 @@ on_map_body s from (body.Welcome m) = on_welcome s m
 on_map_body s from _ = still s
 
 -- a body about the log, its own or one that is read, or about the maps; any other changes nothing
-abbrev pub on_log_body : Serving → NodeId → Body → Done
-on_log_body s from (body.DeltaAck m) = still (on_ack s m)
-on_log_body s from (body.Stored m) = on_stored s m
-on_log_body s from (body.Fragment m) = on_found s from m
-on_log_body s from (body.Missing m) = on_missing s from m
-on_log_body s from other = on_map_body s from other
+abbrev pub take_log_body : Serving → NodeId → Body → Done
+take_log_body s from (body.DeltaAck m) = still (on_ack s m)
+take_log_body s from (body.Stored m) = on_stored s m
+take_log_body s from (body.Fragment m) = on_found s from m
+take_log_body s from (body.Missing m) = on_missing s from m
+take_log_body s from other = on_map_body s from other

@@ -9,14 +9,14 @@ use Rattle.wire_msg.specs.declared.tokens.Forward.{Forward}
 use Rattle.xfs_base.specs.declared.node.NodeId.TheVariants as node
 use Rattle.xfs_base.specs.declared.token.Stamp.{Stamp}
 
-abbrev pub supplies : Forward → Out → List Effect
-supplies f (out.Supply block ver value) =
+abbrev pub send_supply : Forward → Out → List Effect
+send_supply f (out.Supply block ver value) =
     Send (node.Client f.to) (body.Supply (record { block = block; stamp = f.stamp; inc = f.inc; req = f.req; ver = ver; value = value })) ∷ []
-supplies f (out.Want block req again mode) = []
-supplies f (out.Gave block stamp) = []
-supplies f (out.Flush block) = []
-supplies f (out.Read block place) = []
-supplies f (out.Ready block) = []
+send_supply f (out.Want block req again mode) = []
+send_supply f (out.Gave block stamp) = []
+send_supply f (out.Flush block) = []
+send_supply f (out.Read block place) = []
+send_supply f (out.Ready block) = []
 
 abbrev pub is_stamp : Stamp → Stamp → Bool
 is_stamp a b = (a.epoch == b.epoch) && (a.turn == b.turn)

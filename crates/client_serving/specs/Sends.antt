@@ -4,7 +4,7 @@ use Rattle.client_serving.specs.declared.serving.Serving.{Serving}
 use Rattle.delta_feed.specs.FeedState.{FeedState}
 use Rattle.log_owner.specs.declared.promised.Managers.{Managers}
 use Rattle.log_owner.specs.Promised.{manager_of}
-use Rattle.log_owner.specs.Sending.{pushes}
+use Rattle.log_owner.specs.Sending.{sending_push}
 use Rattle.node_base.specs.declared.effects.Effect.{Effect}
 use Rattle.node_base.specs.declared.effects.Effect.TheVariants.{Send}
 use Rattle.token_client.specs.State.{held_in}
@@ -29,7 +29,7 @@ asked_of s block = manager_of s.managers (slot_of block.ino.0)
 
 -- what the manager of a block has not acknowledged of the log
 abbrev pub deltas : Serving → BlockId → List Effect
-deltas s block = pushes s.managers s.feed (slot_of block.ino.0)
+deltas s block = sending_push s.managers s.feed (slot_of block.ino.0)
 
 abbrev pub want : Serving → BlockId → ℕ → ℕ → Mode → Effect
 want s block req again mode =
@@ -37,12 +37,12 @@ want s block req again mode =
 
 -- What goes before a want of a slot that was sent again so often. A want names the end of the client's log: before one that was never sent
 -- goes all of that log that the slot's manager has not acknowledged, and before one that is sent again nothing.
-abbrev pub ahead_of_want : Managers → FeedState → ℕ → ℕ → List Effect
-ahead_of_want managers feed slot again = if again == 0 then pushes managers feed slot else []
+abbrev pub push_first : Managers → FeedState → ℕ → ℕ → List Effect
+push_first managers feed slot again = if again == 0 then sending_push managers feed slot else []
 
 -- what goes before a want of a client
 abbrev pub before_want : Serving → BlockId → ℕ → List Effect
-before_want s block again = ahead_of_want s.managers s.feed (slot_of block.ino.0) again
+before_want s block again = push_first s.managers s.feed (slot_of block.ino.0) again
 
 -- a want, and what goes before it
 abbrev pub wants : Serving → BlockId → ℕ → ℕ → Mode → List Effect

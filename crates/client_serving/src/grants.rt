@@ -1,7 +1,7 @@
 //! What managers and other clients say of a block.
 ghost use Rattle.std.specs.Prelude.{◌≡◌, ◌++◌, ◌==◌, ◌&&◌, OnOk, option_map};
 ghost use Rattle.std.specs.List.{flat_map};
-ghost use Rattle.client_serving.specs.Grants.{is_stamp, is_want, supplies};
+ghost use Rattle.client_serving.specs.Grants.{is_stamp, is_want, send_supply};
 ghost use Rattle.client_serving.specs.Packets.{again, on_gone, on_grant, on_recall, on_supply};
 ghost use Rattle.token_client.specs.State.{epoch_of, held_of};
 ghost use Rattle.token_client.specs.Transition.{on_forwarded};
@@ -124,7 +124,7 @@ pub(crate) fn forward(
 ) -> Mem<()>
     ensures tokens { OnOk result (tokens.new ≡ (on_forwarded tokens.old forward.block forward.stamp forward.ver).state) }
     ensures effects { OnOk result
-        (effects.new ≡ effects.old ++ flat_map (supplies forward) (on_forwarded tokens.old forward.block forward.stamp forward.ver).outs) }
+        (effects.new ≡ effects.old ++ flat_map (send_supply forward) (on_forwarded tokens.old forward.block forward.stamp forward.ver).outs) }
 {
     let input = In::Forwarded {
         block: forward.block,
@@ -136,7 +136,7 @@ pub(crate) fn forward(
 }
 
 fn send_supplies(effects: &mut Effects, forward: Forward, outs: List<Out>) -> Mem<()>
-    ensures { OnOk result (effects.new ≡ effects.old ++ flat_map (supplies forward) outs) }
+    ensures { OnOk result (effects.new ≡ effects.old ++ flat_map (send_supply forward) outs) }
 {
     for out in outs.into_vec() {
         send_supply(effects, forward, out)?;
@@ -145,7 +145,7 @@ fn send_supplies(effects: &mut Effects, forward: Forward, outs: List<Out>) -> Me
 }
 
 fn send_supply(effects: &mut Effects, forward: Forward, out: Out) -> Mem<()>
-    ensures { OnOk result (effects.new ≡ effects.old ++ supplies forward out) }
+    ensures { OnOk result (effects.new ≡ effects.old ++ send_supply forward out) }
 {
     let Out::Supply { block, ver, value } = out else {
         return Ok(());

@@ -1,7 +1,7 @@
 //! What of a client outlives a crash.
 ghost use Rattle.std.specs.Prelude.{◌≡◌, ◌++◌, OnOk};
-ghost use Rattle.client_serving.specs.Lasting.{first_lasting, next_life};
-ghost use Rattle.node_base.specs.Beginning.{answered, answers_unanswered};
+ghost use Rattle.client_serving.specs.Lasting.{lasting_start, live_on};
+ghost use Rattle.node_base.specs.Beginning.{items_answer, answers_unanswered};
 
 use node_base::{Effects, Items, Questions};
 use version_model::{Answer, Work};
@@ -34,7 +34,7 @@ impl Drop for Lasting {
 impl Lasting {
     /// That of a client at the start.
     pub fn start(number: u8, items: List<Work>) -> Lasting
-        ensures { result ≡ first_lasting number items }
+        ensures { result ≡ lasting_start number items }
     {
         Lasting {
             number,
@@ -53,7 +53,7 @@ impl Lasting {
 
     /// The next incarnation begins, whose restart, the item of this number, is not answered yet.
     pub fn live_on(&mut self, number: u32)
-        ensures { self.new ≡ next_life self.old number }
+        ensures { self.new ≡ live_on self.old number }
     {
         if self.inc < u32::MAX {
             self.inc += 1;
@@ -63,7 +63,7 @@ impl Lasting {
 
     /// Answers the item that is open.
     pub fn answer(&mut self, effects: &mut Effects, answer: Answer) -> Mem<()>
-        ensures state { OnOk result (self.new ≡ record self.old { items = answered self.old.items }) }
+        ensures state { OnOk result (self.new ≡ record self.old { items = items_answer self.old.items }) }
         ensures effects { OnOk result (effects.new ≡ effects.old ++ answers_unanswered self.old.items.unanswered answer) }
     {
         self.items.answer(effects, answer)

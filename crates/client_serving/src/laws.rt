@@ -3,9 +3,9 @@
 ghost use Rattle.std.specs.Prelude.{◌≡◌, ◌<◌, ◌++◌, ◌∷◌, [], ℕ, false};
 ghost use Rattle.client_serving.specs.Behaves.{Behaves};
 ghost use Rattle.client_serving.specs.declared.serving.Serving.{Serving};
-ghost use Rattle.client_serving.specs.Packets.{asks_for_maps, on_packet, on_tick};
+ghost use Rattle.client_serving.specs.Packets.{asks_for_maps, serving_take, on_tick};
 ghost use Rattle.client_serving.specs.Sends.{deltas, want, wants};
-ghost use Rattle.node_base.specs.Known.{names_known};
+ghost use Rattle.node_base.specs.Known.{names_known_groups};
 ghost use Rattle.wire_msg.specs.declared.packet.Packet.{Packet};
 ghost use Rattle.xfs_base.specs.declared.block.BlockId.{BlockId};
 ghost use Rattle.xfs_base.specs.declared.token.Mode.{Mode};
@@ -20,7 +20,7 @@ pub fn the_log_goes_before_a_new_want()
 /// A packet that names a group that isn't known is dropped: nothing of the client changes but the number of its last
 /// question, and nothing is sent but that question, for the maps.
 pub fn unknown_groups_are_asked_for()
-    ensures { (s : Serving) (p : Packet) → names_known s.maps p.body ≡ false → on_packet s p ≡ asks_for_maps s }
+    ensures { (s : Serving) (p : Packet) → names_known_groups s.maps p.body ≡ false → serving_take s p ≡ asks_for_maps s }
 {}
 
 /// Whatever packet comes, and as time passes, a client that serves stays the client that it is, in its incarnation.
@@ -28,6 +28,6 @@ pub fn unknown_groups_are_asked_for()
 /// what it supplies; it asks servers for fragments, or tells them to store one, and the registry for the maps. It acts
 /// only that segments are filed, and answers only that one is lost.
 pub fn does_only_what_a_client_may()
-    ensures packet { (s : Serving) (p : Packet) → Behaves s (on_packet s p) }
+    ensures packet { (s : Serving) (p : Packet) → Behaves s (serving_take s p) }
     ensures tick { (s : Serving) → Behaves s (on_tick s) }
 {}

@@ -1,8 +1,8 @@
 //! Promises: polls of managers, and maps.
 ghost use Rattle.std.specs.Prelude.{◌≡◌, ◌<◌, ◌++◌, ◌∷◌, [], IfOk, OnOk};
-ghost use Rattle.client_serving.specs.Packets.{hears, on_news, on_poll, on_welcome, promises, renews};
+ghost use Rattle.client_serving.specs.Packets.{serving_hear, on_news, on_poll, on_welcome, serving_promise, serving_renew};
 ghost use Rattle.log_owner.specs.Sending.{hello};
-ghost use Rattle.node_base.specs.Asking.{next_ask, drawn};
+ghost use Rattle.node_base.specs.Asking.{next_ask, draw};
 ghost use Rattle.xfs_base.specs.Steps.{steps};
 ghost use Rattle.xfs_base.specs.Limits.{slot_count};
 
@@ -57,11 +57,11 @@ impl Serving {
     }
 
     // The slot is promised to this epoch of this manager; what the tokens have the client do.
-    #[tactic(auto, unfolding(crate::specs::Packets::promises))]
+    #[tactic(auto, unfolding(crate::specs::Packets::serving_promise))]
     fn promise(&mut self, alloc: Global, slot: u8, epoch: u32, manager: u8) -> Mem<List<Out>>
         requires { slot < slot_count }
-        ensures state { OnOk result (self.new ≡ (promises self.old slot epoch manager).state) }
-        ensures outs { IfOk result (λ outs. outs ≡ (promises self.old slot epoch manager).outs) }
+        ensures state { OnOk result (self.new ≡ (serving_promise self.old slot epoch manager).state) }
+        ensures outs { IfOk result (λ outs. outs ≡ (serving_promise self.old slot epoch manager).outs) }
     {
         self.renew(alloc, slot, epoch)?;
         self.managers.set(slot, manager);
@@ -71,10 +71,10 @@ impl Serving {
     }
 
     // A new manager is told all from the base on.
-    #[tactic(auto, unfolding(crate::specs::Packets::renews))]
+    #[tactic(auto, unfolding(crate::specs::Packets::serving_renew))]
     fn renew(&mut self, alloc: Global, slot: u8, epoch: u32) -> Mem<()>
         requires { slot < slot_count }
-        ensures { OnOk result (self.new ≡ renews self.old slot epoch) }
+        ensures { OnOk result (self.new ≡ serving_renew self.old slot epoch) }
     {
         if self.tokens.promised(slot) < epoch {
             drop(self.feed.take(alloc, delta_feed::In::NewEpoch { slot })?);
@@ -119,8 +119,8 @@ impl Serving {
     }
 
     fn hear_all(&mut self, alloc: Global, effects: &mut Effects, slots: &[SlotNews]) -> Mem<()>
-        ensures state { OnOk result (self.new ≡ (steps hears self.old slots.now).state) }
-        ensures effects { OnOk result (effects.new ≡ effects.old ++ (steps hears self.old slots.now).outs) }
+        ensures state { OnOk result (self.new ≡ (steps serving_hear self.old slots.now).state) }
+        ensures effects { OnOk result (effects.new ≡ effects.old ++ (steps serving_hear self.old slots.now).outs) }
     {
         for slot in slots {
             self.hear(alloc, effects, slot)?;
@@ -128,10 +128,10 @@ impl Serving {
         Ok(())
     }
 
-    #[tactic(auto, unfolding(crate::specs::Packets::hears))]
+    #[tactic(auto, unfolding(crate::specs::Packets::serving_hear))]
     fn hear(&mut self, alloc: Global, effects: &mut Effects, news: &SlotNews) -> Mem<()>
-        ensures state { OnOk result (self.new ≡ (hears self.old news.now).state) }
-        ensures effects { OnOk result (effects.new ≡ effects.old ++ (hears self.old news.now).outs) }
+        ensures state { OnOk result (self.new ≡ (serving_hear self.old news.now).state) }
+        ensures effects { OnOk result (effects.new ≡ effects.old ++ (serving_hear self.old news.now).outs) }
     {
         if SLOT_COUNT <= news.slot || news.epoch <= self.tokens.promised(news.slot) {
             return Ok(());
@@ -143,7 +143,7 @@ impl Serving {
 
 /// The maps are asked for, under a new question.
 pub(crate) fn ask_for_maps(effects: &mut Effects, lasting: &mut Lasting) -> Mem<()>
-    ensures lasting { OnOk result (lasting.new ≡ record lasting.old { questions = drawn lasting.old.questions }) }
+    ensures lasting { OnOk result (lasting.new ≡ record lasting.old { questions = draw lasting.old.questions }) }
     ensures effects { OnOk result (effects.new ≡ effects.old ++ hello lasting.old.inc (next_ask lasting.old.questions) ∷ []) }
 {
     send_hello(effects, lasting.inc, lasting.questions.draw())

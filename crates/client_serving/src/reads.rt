@@ -1,8 +1,8 @@
 //! Reading a block from a log.
 ghost use Rattle.std.specs.Prelude.{◌≡◌, ◌++◌, ◌∷◌, OnOk, None};
-ghost use Rattle.client_serving.specs.Packets.{ends_fetch, on_told};
-ghost use Rattle.client_serving.specs.Reads.{ask_after, begins, confirmed_next, confirms, drawn_after, loses_at, reads};
-ghost use Rattle.node_base.specs.Beginning.{answered, answers_unanswered};
+ghost use Rattle.client_serving.specs.Packets.{end_fetch, on_told};
+ghost use Rattle.client_serving.specs.Reads.{ask_after, begin_reading, go_on_reading, serving_confirm, drawn_after, lose_at, serving_read};
+ghost use Rattle.node_base.specs.Beginning.{items_answer, answers_unanswered};
 ghost use Rattle.node_base.specs.declared.effects.Effect.TheVariants.{Lose};
 ghost use Rattle.token_client.specs.Transition.{on_quit};
 ghost use Rattle.version_model.specs.declared.answer.Answer.TheVariants.{Lost};
@@ -23,7 +23,7 @@ use xfs_base::{BlockId, Mem, NodeId, Place, SegName};
 impl Serving {
     /// A block is to be read at a place: that is confirmed where it is being read there and was asked for
     /// again, and else it is read anew.
-    #[tactic(auto, unfolding(crate::specs::Reads::reads))]
+    #[tactic(auto, unfolding(crate::specs::Reads::serving_read))]
     pub(crate) fn read(
         &mut self,
         alloc: Global,
@@ -31,8 +31,8 @@ impl Serving {
         block: BlockId,
         place: Place,
     ) -> Mem<()>
-        ensures state { OnOk result (self.new ≡ (reads self.old block place).state) }
-        ensures effects { OnOk result (effects.new ≡ effects.old ++ (reads self.old block place).outs) }
+        ensures state { OnOk result (self.new ≡ (serving_read self.old block place).state) }
+        ensures effects { OnOk result (effects.new ≡ effects.old ++ (serving_read self.old block place).outs) }
     {
         if self.call.is_none() {
             return Ok(());
@@ -49,10 +49,10 @@ impl Serving {
         }
     }
 
-    #[tactic(auto, unfolding(crate::specs::Reads::begins))]
+    #[tactic(auto, unfolding(crate::specs::Reads::begin_reading))]
     fn begin_reading(&mut self, alloc: Global, effects: &mut Effects, target: Target) -> Mem<()>
-        ensures state { OnOk result (self.new ≡ (begins self.old target).state) }
-        ensures effects { OnOk result (effects.new ≡ effects.old ++ (begins self.old target).outs) }
+        ensures state { OnOk result (self.new ≡ (begin_reading self.old target).state) }
+        ensures effects { OnOk result (effects.new ≡ effects.old ++ (begin_reading self.old target).outs) }
     {
         let Some(groups) = &self.maps.groups else {
             return Ok(());
@@ -65,10 +65,10 @@ impl Serving {
     }
 
     // The place of a block was confirmed: a further round begins, or the segment is lost.
-    #[tactic(auto, unfolding(crate::specs::Reads::confirms))]
+    #[tactic(auto, unfolding(crate::specs::Reads::serving_confirm))]
     fn confirm(&mut self, alloc: Global, effects: &mut Effects, reading: Reading) -> Mem<()>
-        ensures state { OnOk result (self.new ≡ (confirms self.old reading).state) }
-        ensures effects { OnOk result (effects.new ≡ effects.old ++ (confirms self.old reading).outs) }
+        ensures state { OnOk result (self.new ≡ (serving_confirm self.old reading).state) }
+        ensures effects { OnOk result (effects.new ≡ effects.old ++ (serving_confirm self.old reading).outs) }
     {
         let mut reading = reading;
         let ask = self.ask_after(reading.ask(), reading.stage());
@@ -99,8 +99,8 @@ impl Serving {
         reading: Reading,
         next: Next,
     ) -> Mem<()>
-        ensures state { OnOk result (self.new ≡ (confirmed_next self.old reading next).state) }
-        ensures effects { OnOk result (effects.new ≡ effects.old ++ (confirmed_next self.old reading next).outs) }
+        ensures state { OnOk result (self.new ≡ (go_on_reading self.old reading next).state) }
+        ensures effects { OnOk result (effects.new ≡ effects.old ++ (go_on_reading self.old reading next).outs) }
     {
         match next {
             Next::Lost => {
@@ -124,8 +124,8 @@ impl Serving {
         wanted: Option<BlockAt>,
         seg: SegName,
     ) -> Mem<()>
-        ensures state { OnOk result (self.new ≡ (loses_at self.old wanted seg).state) }
-        ensures effects { OnOk result (effects.new ≡ effects.old ++ (loses_at self.old wanted seg).outs) }
+        ensures state { OnOk result (self.new ≡ (lose_at self.old wanted seg).state) }
+        ensures effects { OnOk result (effects.new ≡ effects.old ++ (lose_at self.old wanted seg).outs) }
     {
         match wanted {
             Some(wanted) => lose(
@@ -174,8 +174,8 @@ impl Serving {
         wanted: BlockAt,
         next: Next,
     ) -> Mem<()>
-        ensures state { OnOk result (self.new ≡ (ends_fetch self.old wanted next).state) }
-        ensures effects { OnOk result (effects.new ≡ effects.old ++ (ends_fetch self.old wanted next).outs) }
+        ensures state { OnOk result (self.new ≡ (end_fetch self.old wanted next).state) }
+        ensures effects { OnOk result (effects.new ≡ effects.old ++ (end_fetch self.old wanted next).outs) }
     {
         match next {
             Next::Again => self.hand(
@@ -209,7 +209,7 @@ pub(crate) fn lose(
     block: BlockId,
     seg: SegName,
 ) -> Mem<()>
-    ensures lasting { OnOk result (lasting.new ≡ record lasting.old { items = answered lasting.old.items }) }
+    ensures lasting { OnOk result (lasting.new ≡ record lasting.old { items = items_answer lasting.old.items }) }
     ensures call { OnOk result (call.new ≡ None) }
     ensures tokens { OnOk result (tokens.new ≡ (on_quit tokens.old block).state) }
     ensures effects { OnOk result (effects.new ≡ effects.old ++ Lose seg ∷ answers_unanswered lasting.old.items.unanswered (Lost seg)) }

@@ -1,8 +1,8 @@
 //! What a client that serves sends to managers: wants, what is given up, and what is held of a slot.
 ghost use Rattle.std.specs.Prelude.{◌≡◌, ◌++◌, ◌∷◌, [], OnOk};
-ghost use Rattle.client_serving.specs.Sends.{ahead_of_want};
+ghost use Rattle.client_serving.specs.Sends.{push_first};
 ghost use Rattle.log_owner.specs.Promised.{manager_of};
-ghost use Rattle.log_owner.specs.Sending.{pushes};
+ghost use Rattle.log_owner.specs.Sending.{sending_push};
 ghost use Rattle.node_base.specs.declared.effects.Effect.TheVariants.{Send};
 ghost use Rattle.token_client.specs.State.{held_in};
 ghost use Rattle.wire_msg.specs.declared.body.Body.TheVariants.{Want as WantBody, Gave as GaveBody, Report as Reports};
@@ -28,7 +28,7 @@ pub(crate) fn send_want(
     ensures feed { OnOk result (feed.new ≡ feed.old) }
     ensures effects { OnOk result
         (effects.new ≡ effects.old
-        ++ (ahead_of_want managers feed.old (slot_of want.block.ino.0) want.again
+        ++ (push_first managers feed.old (slot_of want.block.ino.0) want.again
         ++ Send (manager_of managers (slot_of want.block.ino.0)) (WantBody want) ∷ [])) }
 {
     let slot = want.block.ino.slot();
@@ -46,7 +46,7 @@ fn push_first(
     again: u32,
 ) -> Mem<()>
     ensures feed { OnOk result (feed.new ≡ feed.old) }
-    ensures effects { OnOk result (effects.new ≡ effects.old ++ ahead_of_want managers feed.old slot again) }
+    ensures effects { OnOk result (effects.new ≡ effects.old ++ push_first managers feed.old slot again) }
 {
     if again == 0 {
         push(alloc, effects, feed, managers, slot)?;
@@ -65,7 +65,7 @@ pub(crate) fn send_gave(
     ensures feed { OnOk result (feed.new ≡ feed.old) }
     ensures effects { OnOk result
         (effects.new ≡ effects.old
-        ++ (pushes managers feed.old (slot_of gave.block.ino.0) ++ Send (manager_of managers (slot_of gave.block.ino.0)) (GaveBody gave) ∷ [])) }
+        ++ (sending_push managers feed.old (slot_of gave.block.ino.0) ++ Send (manager_of managers (slot_of gave.block.ino.0)) (GaveBody gave) ∷ [])) }
 {
     push(alloc, effects, feed, managers, gave.block.ino.slot())?;
     say_gave(effects, managers, gave)

@@ -1,7 +1,7 @@
 //! A client that serves.
 ghost use Rattle.std.specs.Prelude.{◌≡◌, ◌++◌, OnOk};
-ghost use Rattle.client_serving.specs.Bodies.{on_log_body};
-ghost use Rattle.client_serving.specs.Packets.{on_ack, on_body, on_packet, on_tick};
+ghost use Rattle.client_serving.specs.Bodies.{take_log_body};
+ghost use Rattle.client_serving.specs.Packets.{on_ack, take_body, serving_take, on_tick};
 
 use crate::Lasting;
 use crate::grants::forward;
@@ -73,10 +73,10 @@ impl Serving {
     }
 
     /// Takes a packet. One that names a group that isn't known is dropped, and the maps are asked for.
-    #[tactic(auto, unfolding(crate::specs::Packets::on_packet, crate::specs::Packets::asks_for_maps))]
+    #[tactic(auto, unfolding(crate::specs::Packets::serving_take, crate::specs::Packets::asks_for_maps))]
     pub fn take(&mut self, alloc: Global, effects: &mut Effects, packet: &Packet) -> Mem<()>
-        ensures state { OnOk result (self.new ≡ (on_packet self.old packet.now).state) }
-        ensures effects { OnOk result (effects.new ≡ effects.old ++ (on_packet self.old packet.now).outs) }
+        ensures state { OnOk result (self.new ≡ (serving_take self.old packet.now).state) }
+        ensures effects { OnOk result (effects.new ≡ effects.old ++ (serving_take self.old packet.now).outs) }
     {
         if names_known_groups(&self.maps, &packet.body) {
             self.take_body(alloc, effects, packet)
@@ -88,8 +88,8 @@ impl Serving {
     // A packet about blocks, or another.
     #[tactic(auto, unfolding(crate::specs::Packets::on_forward))]
     fn take_body(&mut self, alloc: Global, effects: &mut Effects, packet: &Packet) -> Mem<()>
-        ensures state { OnOk result (self.new ≡ (on_body self.old packet.now.from packet.now.body).state) }
-        ensures effects { OnOk result (effects.new ≡ effects.old ++ (on_body self.old packet.now.from packet.now.body).outs) }
+        ensures state { OnOk result (self.new ≡ (take_body self.old packet.now.from packet.now.body).state) }
+        ensures effects { OnOk result (effects.new ≡ effects.old ++ (take_body self.old packet.now.from packet.now.body).outs) }
     {
         match &packet.body {
             Body::Grant(grant) => self.on_grant(alloc, effects, **grant),
@@ -103,8 +103,8 @@ impl Serving {
 
     // A packet about a log, the maps or the promises.
     fn take_log_body(&mut self, alloc: Global, effects: &mut Effects, packet: &Packet) -> Mem<()>
-        ensures state { OnOk result (self.new ≡ (on_log_body self.old packet.now.from packet.now.body).state) }
-        ensures effects { OnOk result (effects.new ≡ effects.old ++ (on_log_body self.old packet.now.from packet.now.body).outs) }
+        ensures state { OnOk result (self.new ≡ (take_log_body self.old packet.now.from packet.now.body).state) }
+        ensures effects { OnOk result (effects.new ≡ effects.old ++ (take_log_body self.old packet.now.from packet.now.body).outs) }
     {
         let from = packet.from;
         match &packet.body {

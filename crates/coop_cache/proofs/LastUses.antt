@@ -14,8 +14,8 @@ use Rattle.xfs_base.proofs.StepLoops.{steps_both}
 use Rattle.coop_cache.specs.declared.input.In.{In}
 use Rattle.coop_cache.specs.declared.input.In.TheVariants.{Clean, Touch, Dirty, Gone}
 use Rattle.coop_cache.specs.declared.output.Out.TheVariants.{Victim}
-use Rattle.coop_cache.specs.CacheState.{CacheState, started}
-use Rattle.coop_cache.specs.Transition.{without, used_last, excess, is_clean, touched, transition}
+use Rattle.coop_cache.specs.CacheState.{CacheState, cache_start}
+use Rattle.coop_cache.specs.Transition.{without, used_last, excess, is_clean, touch, transition}
 use Rattle.coop_cache.specs.Use.{state_after, uses, is_used, last_use, IsByUse, IsLeastUsed}
 use Rattle.coop_cache.proofs.Orders.{without-absent}
 
@@ -106,7 +106,7 @@ module _ (f : BlockId → ℕ) (n : ℕ) (block : BlockId) (past : (b : BlockId)
   unused_rises : (bs : List BlockId) → list_any (same_block block) bs ≡ false → IsRising f bs → IsRising used_now bs
   unused_rises bs h r = subst (IsRising used_now) (without-absent block bs h) (kept bs r)
 
-  touch_rises : (s : CacheState) → IsRising f s.blocks → IsRising used_now (touched s block).blocks
+  touch_rises : (s : CacheState) → IsRising f s.blocks → IsRising used_now (touch s block).blocks
   touch_rises s r =
       elim (is_clean s block) as
       (λ t. is_clean s block ≡ t → IsRising used_now (cond t (record { blocks = used_last block s.blocks; capacity = s.capacity }) s).blocks) [
@@ -213,7 +213,7 @@ by_use capacity history =
     let blocks : List BlockId = (state_after capacity history).blocks in
     pairs_of (last_use history) blocks
     (same_rises (after_more never 0 history) (last_use history) (from_start history) blocks
-    (all_rises never 0 (started capacity) history (λ b. omega arith) tt))
+    (all_rises never 0 (cache_start capacity) history (λ b. omega arith) tt))
 
 none_told : (capacity : ℕ) (history : List In) → All (IsLeastUsed history (state_after capacity history).blocks) []
 none_told capacity history = All-nil (IsLeastUsed history (state_after capacity history).blocks)
@@ -225,10 +225,10 @@ victims_least capacity history (Clean block) =
     let s : CacheState = state_after capacity history in
     let blocks : List BlockId = used_last block s.blocks in
     let all : List In = history ++ Clean block ∷ [] in
-    subst (λ t. All (IsLeastUsed all t.blocks) (transition s (Clean block)).outs) (sym (steps_both transition (started capacity) history (Clean block ∷ [])))
+    subst (λ t. All (IsLeastUsed all t.blocks) (transition s (Clean block)).outs) (sym (steps_both transition (cache_start capacity) history (Clean block ∷ [])))
     (left_out all (excess s.capacity blocks) blocks
     (same_rises (after_more never 0 all) (last_use all) (from_start all) blocks
-    (cached_rises never 0 (started capacity) history block (λ b. omega arith) tt)))
+    (cached_rises never 0 (cache_start capacity) history block (λ b. omega arith) tt)))
 victims_least capacity history (Touch block) = none_told capacity (history ++ Touch block ∷ [])
 victims_least capacity history (Dirty block) = none_told capacity (history ++ Dirty block ∷ [])
 victims_least capacity history (Gone block) = none_told capacity (history ++ Gone block ∷ [])
@@ -283,7 +283,7 @@ all_fit s [] fits = fits
 all_fit s (input ∷ later) fits = all_fit (transition s input).state later (one_fits s input fits)
 
 pub fits_after : (capacity : ℕ) (history : List In) → length (state_after capacity history).blocks ≤ (state_after capacity history).capacity
-fits_after capacity history = all_fit (started capacity) history (omega arith)
+fits_after capacity history = all_fit (cache_start capacity) history (omega arith)
 
 pub capacity_kept : (capacity : ℕ) (history : List In) → length (state_after capacity history).blocks ≤ capacity
-capacity_kept capacity history = omega (arith, fits_after capacity history, capacity_stays (started capacity) history)
+capacity_kept capacity history = omega (arith, fits_after capacity history, capacity_stays (cache_start capacity) history)

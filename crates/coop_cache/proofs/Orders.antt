@@ -14,7 +14,7 @@ use Rattle.xfs_base.specs.declared.block.BlockId.{BlockId}
 use Rattle.xfs_base.specs.Blocks.{same_block}
 use Rattle.xfs_base.proofs.BlockOrder.{same_block_exact}
 use Rattle.coop_cache.specs.CacheState.{CacheState}
-use Rattle.coop_cache.specs.Transition.{without, used_last, excess, touched}
+use Rattle.coop_cache.specs.Transition.{without, used_last, excess, touch}
 
 -- a block that isn't there is taken from nothing
 pub without-absent : (block : BlockId) (bs : List BlockId) → list_any (same_block block) bs ≡ false → without block bs ≡ bs
@@ -151,10 +151,10 @@ module _ (capacity : ℕ) (block : BlockId) (bs : List BlockId) (some : 0 < capa
       ] refl
 
 -- what a use of a block makes of the order
-pub touched-promoted : (capacity : ℕ) (block : BlockId) (bs : List BlockId) → IsDistinct same_block bs
-    → record { blocks = reverse (cond (list_any (same_block block) bs) (block ∷ remove_key (same_block block) bs) bs); capacity = capacity } ≡ touched
+pub touch-promoted : (capacity : ℕ) (block : BlockId) (bs : List BlockId) → IsDistinct same_block bs
+    → record { blocks = reverse (cond (list_any (same_block block) bs) (block ∷ remove_key (same_block block) bs) bs); capacity = capacity } ≡ touch
     (record { blocks = reverse bs; capacity = capacity }) block
-touched-promoted capacity block bs d =
+touch-promoted capacity block bs d =
     let used : reverse (block ∷ remove_key (same_block block) bs) ≡ used_last block (reverse bs) =
     reverse-append (block ∷ []) (remove_key (same_block block) bs) ∙ ap (λ r. r ++ block ∷ []) (reverse-remove_key block bs d) in
     let s : List BlockId → CacheState = λ ks. record { blocks = ks; capacity = capacity } in

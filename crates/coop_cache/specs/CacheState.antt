@@ -9,5 +9,5 @@ pub record CacheState : Type 0 where
   pub capacity : ℕ
 
 -- no block
-abbrev pub started : ℕ → CacheState
-started capacity = record { blocks = []; capacity = capacity }
+abbrev pub cache_start : ℕ → CacheState
+cache_start capacity = record { blocks = []; capacity = capacity }

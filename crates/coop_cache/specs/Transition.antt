@@ -23,8 +23,8 @@ abbrev pub excess : ℕ → List BlockId → ℕ
 excess capacity blocks = length blocks - capacity
 
 -- the block becomes the most recently used; what is too many leaves, the least recently used first
-abbrev pub cleaned : CacheState → BlockId → Stepped CacheState Out
-cleaned s block =
+abbrev pub cache_clean : CacheState → BlockId → Stepped CacheState Out
+cache_clean s block =
     let blocks : List BlockId = used_last block s.blocks in
     record {
       state = record { blocks = drop (excess s.capacity blocks) blocks; capacity = s.capacity };
@@ -35,16 +35,16 @@ abbrev pub is_clean : CacheState → BlockId → Bool
 is_clean s block = list_any (same_block block) s.blocks
 
 -- a block that is there becomes the most recently used
-abbrev pub touched : CacheState → BlockId → CacheState
-touched s block = if is_clean s block then record { blocks = used_last block s.blocks; capacity = s.capacity } else s
+abbrev pub touch : CacheState → BlockId → CacheState
+touch s block = if is_clean s block then record { blocks = used_last block s.blocks; capacity = s.capacity } else s
 
 -- a block that is changed, or no longer cached, doesn't count
-abbrev pub left : CacheState → BlockId → CacheState
-left s block = record { blocks = without block s.blocks; capacity = s.capacity }
+abbrev pub cache_leave : CacheState → BlockId → CacheState
+cache_leave s block = record { blocks = without block s.blocks; capacity = s.capacity }
 
 -- what each input makes of a cache
 abbrev pub transition : CacheState → In → Stepped CacheState Out
-transition s (Clean block) = cleaned s block
-transition s (Touch block) = still (touched s block)
-transition s (Dirty block) = still (left s block)
-transition s (Gone block) = still (left s block)
+transition s (Clean block) = cache_clean s block
+transition s (Touch block) = still (touch s block)
+transition s (Dirty block) = still (cache_leave s block)
+transition s (Gone block) = still (cache_leave s block)

@@ -8,12 +8,12 @@ use Rattle.coop_cache.specs.declared.input.In.{In}
 use Rattle.coop_cache.specs.declared.input.In.TheVariants.{Clean, Touch, Dirty, Gone}
 use Rattle.coop_cache.specs.declared.output.Out.{Out}
 use Rattle.coop_cache.specs.declared.output.Out.TheVariants.{Victim}
-use Rattle.coop_cache.specs.CacheState.{CacheState, started}
+use Rattle.coop_cache.specs.CacheState.{CacheState, cache_start}
 use Rattle.coop_cache.specs.Transition.{transition}
 
 -- a cache that began with this capacity and took these inputs
 abbrev pub state_after : ℕ → List In → CacheState
-state_after capacity inputs = (steps transition (started capacity) inputs).state
+state_after capacity inputs = (steps transition (cache_start capacity) inputs).state
 
 -- whether an input uses the block
 abbrev pub uses : In → BlockId → Bool

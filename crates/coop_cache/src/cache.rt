@@ -3,8 +3,8 @@ ghost use Rattle.std.specs.Prelude.{◌≡◌, ◌<◌, ◌++◌, OnOk, IfOk, ma
 ghost use Rattle.std.specs.Option.{option_map};
 ghost use Rattle.xfs_base.specs.declared.block.BlockId.{BlockId};
 ghost use Rattle.coop_cache.specs.declared.output.Out.TheVariants.{Victim};
-ghost use Rattle.coop_cache.specs.CacheState.{started};
-ghost use Rattle.coop_cache.specs.Transition.{cleaned, touched, left, transition};
+ghost use Rattle.coop_cache.specs.CacheState.{cache_start};
+ghost use Rattle.coop_cache.specs.Transition.{cache_clean, touch, cache_leave, transition};
 
 use crate::{In, Out};
 use lru::LruCache;
@@ -42,7 +42,7 @@ impl Cache {
     /// An empty cache of that many clean blocks at most. The capacity is above 0.
     pub fn start(alloc: Global, capacity: u16) -> Mem<Cache>
         requires { 0 < capacity }
-        ensures { IfOk result (λ cache. cache ≡ started capacity) }
+        ensures { IfOk result (λ cache. cache ≡ cache_start capacity) }
     {
         let capacity = NonZeroUsize::new(usize::from(capacity)).unwrap();
         Ok(Cache {
@@ -71,8 +71,8 @@ impl Cache {
 
     // Here and below, the count shows that each block stands once and that all fit.
     fn clean(&mut self, block: BlockId) -> Mem<Option<BlockId>>
-        ensures state { OnOk result (self.new ≡ (cleaned self.old block).state) }
-        ensures outs { IfOk result (λ victim. map Victim (option_to_list victim) ≡ (cleaned self.old block).outs) }
+        ensures state { OnOk result (self.new ≡ (cache_clean self.old block).state) }
+        ensures outs { IfOk result (λ victim. map Victim (option_to_list victim) ≡ (cache_clean self.old block).outs) }
     {
         let _count = self.blocks.len();
         let was_here = self.blocks.contains(&block);
@@ -81,14 +81,14 @@ impl Cache {
     }
 
     fn touch(&mut self, block: BlockId)
-        ensures { self.new ≡ touched self.old block }
+        ensures { self.new ≡ touch self.old block }
     {
         let _count = self.blocks.len();
         let _was_here = self.blocks.promote(&block);
     }
 
     fn leave(&mut self, block: BlockId)
-        ensures { self.new ≡ left self.old block }
+        ensures { self.new ≡ cache_leave self.old block }
     {
         let _count = self.blocks.len();
         let _was_here = self.blocks.pop(&block);

@@ -1,8 +1,8 @@
 -- A node of any kind: its first state, and its transition.
 use Rattle.std.specs.Prelude.{List}
 use Rattle.client_node.specs.Phases.{client_step}
-use Rattle.client_node.specs.Starting.{first_client}
-use Rattle.manager_node.specs.Events.{first_manager, manager_step}
+use Rattle.client_node.specs.Starting.{client_start}
+use Rattle.manager_node.specs.Events.{manager_start, manager_step}
 use Rattle.cleaner_node.specs.CleanerEvents.{cleaner_step, cleaner_start}
 use Rattle.registry_node.specs.Events.{registry_step, registry_start}
 use Rattle.store_nodes.specs.ServerEvents.{server_step, server_start}
@@ -29,8 +29,8 @@ any_step (Registry node) what = as_any Registry (registry_step node what)
 
 -- a node of a setup before its first event, with its items
 abbrev pub any_start : NodeId → Setup → List Work → AnyNode
-any_start (nodes.Client number) setup items = Client (first_client number setup items)
-any_start (nodes.Manager number) setup items = Manager (first_manager number setup items)
+any_start (nodes.Client number) setup items = Client (client_start number setup items)
+any_start (nodes.Manager number) setup items = Manager (manager_start number setup items)
 any_start (nodes.Server number) setup items = Server (server_start number setup items)
 any_start nodes.Cleaner setup items = Cleaner (cleaner_start setup items)
 any_start nodes.Registry setup items = Registry (registry_start setup items)

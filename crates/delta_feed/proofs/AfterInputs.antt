@@ -10,7 +10,7 @@ use Rattle.xfs_base.specs.Limits.{slot_count}
 use Rattle.delta_feed.specs.declared.feed.FiledDeltas.{FiledDeltas}
 use Rattle.delta_feed.specs.declared.input.In.{In}
 use Rattle.delta_feed.specs.declared.input.In.TheVariants.{Settled, Ack, NewEpoch, Push, Tick}
-use Rattle.delta_feed.specs.FeedState.{FeedState, started, acked_of}
+use Rattle.delta_feed.specs.FeedState.{FeedState, feed_start, acked_of}
 use Rattle.delta_feed.specs.Transition.{acknowledged, new_epoch, transition}
 use Rattle.delta_feed.specs.History.{state_after, greatest, settled_numbers, end_of, filed_by, renews, acks_since, acknowledged_by}
 
@@ -200,14 +200,14 @@ either_base false base was fact = fact
 
 pub is_after : (base : ℕ) (inputs : List In) → IsAfter base inputs (state_after base inputs)
 is_after base inputs = record {
-  base_is = base_after (started base) inputs;
-  filed_is = filed_after (started base) inputs;
-  end_is = end_after (started base) inputs;
-  eight = eight_after (started base) inputs refl;
+  base_is = base_after (feed_start base) inputs;
+  filed_is = filed_after (feed_start base) inputs;
+  end_is = end_after (feed_start base) inputs;
+  eight = eight_after (feed_start base) inputs refl;
   acked_is = λ slot l.
-      acks_after slot l (started base) refl inputs
+      acks_after slot l (feed_start base) refl inputs
       ∙ ap (λ m. greatest m (acks_since slot inputs))
-      (either_base (list_any (renews slot) inputs) base (get_or (started base).acked slot 0) (get_or-replicate slot_count slot base 0 l));
+      (either_base (list_any (renews slot) inputs) base (get_or (feed_start base).acked slot 0) (get_or-replicate slot_count slot base 0 l));
 }
 
 pub acked_after : (base : ℕ) (inputs : List In) (s : FeedState) → IsAfter base inputs s → (slot : ℕ) → slot < slot_count

@@ -11,7 +11,7 @@ use Rattle.delta_feed.specs.declared.input.In.{In}
 use Rattle.delta_feed.specs.declared.input.In.TheVariants.{Settled, Ack, NewEpoch, Push, Tick}
 use Rattle.delta_feed.specs.declared.output.Out.TheVariants.{Range}
 use Rattle.delta_feed.specs.FeedState.{FeedState, acked_of}
-use Rattle.delta_feed.specs.Transition.{rows_after, pushed, transition}
+use Rattle.delta_feed.specs.Transition.{rows_after, feed_push, transition}
 use Rattle.delta_feed.specs.History.{state_after, end_of, filed_by, acknowledged_by}
 use Rattle.delta_feed.specs.RangeLaws.{TellsRange, IsTrueRange}
 use Rattle.delta_feed.proofs.AfterInputs.{IsAfter, is_after, acked_after}
@@ -30,8 +30,8 @@ tells base h s slot k in_range some = record {
   own = own_rows_after slot (acked_of s slot) s.filed;
 }
 
-pub pushes_true : (base : ℕ) (h : List In) (s : FeedState) (slot : ℕ) → IsAfter base h s → All (IsTrueRange base h) (pushed s slot)
-unfolding pushed
+pub pushes_true : (base : ℕ) (h : List In) (s : FeedState) (slot : ℕ) → IsAfter base h s → All (IsTrueRange base h) (feed_push s slot)
+unfolding feed_push
 pushes_true base h s slot k =
     elim (nat_lt slot slot_count && nat_lt (acked_of s slot) s.end) as (λ t. (nat_lt slot slot_count && nat_lt (acked_of s slot) s.end) ≡ t
     → All (IsTrueRange base h) (cond t (Range slot (acked_of s slot + 1) s.end (rows_after slot (acked_of s slot) s.filed) ∷ []) [])) [
@@ -40,10 +40,10 @@ pushes_true base h s slot k =
       | false ↦ λ p. All-nil (IsTrueRange base h)
     ] refl
 
-ticks_true : (base : ℕ) (h : List In) (s : FeedState) → IsAfter base h s → (slots : List ℕ) → All (IsTrueRange base h) (flat_map (pushed s) slots)
+ticks_true : (base : ℕ) (h : List In) (s : FeedState) → IsAfter base h s → (slots : List ℕ) → All (IsTrueRange base h) (flat_map (feed_push s) slots)
 ticks_true base h s k [] = All-nil (IsTrueRange base h)
 ticks_true base h s k (slot ∷ slots) =
-    All-append (IsTrueRange base h) (pushed s slot) (flat_map (pushed s) slots) (pushes_true base h s slot k) (ticks_true base h s k slots)
+    All-append (IsTrueRange base h) (feed_push s slot) (flat_map (feed_push s) slots) (pushes_true base h s slot k) (ticks_true base h s k slots)
 
 pub ranges_true : (base : ℕ) (h : List In) (input : In) → All (IsTrueRange base h) (transition (state_after base h) input).outs
 ranges_true base h (Settled seq rows) = All-nil (IsTrueRange base h)
@@ -53,8 +53,8 @@ ranges_true base h (Push slot) = pushes_true base h (state_after base h) slot (i
 ranges_true base h Tick = ticks_true base h (state_after base h) (is_after base h) (range_with_len 0 slot_count)
 
 pub lacking_told : (base : ℕ) (h : List In) (s : FeedState) (slot : ℕ) → IsAfter base h s → slot < slot_count → acknowledged_by base slot h < end_of base h
-    → (rows : List (BlockId × Entry)) × (pushed s slot ≡ Range slot (acknowledged_by base slot h + 1) (end_of base h) rows ∷ [])
-unfolding pushed
+    → (rows : List (BlockId × Entry)) × (feed_push s slot ≡ Range slot (acknowledged_by base slot h + 1) (end_of base h) rows ∷ [])
+unfolding feed_push
 lacking_told base h s slot k in_range lacks =
     let acked : acked_of s slot ≡ acknowledged_by base slot h = acked_after base h s k slot in_range in
     let less : acked_of s slot < s.end = rw (acked, k.end_is) lacks in
@@ -66,8 +66,8 @@ lacking_told base h s slot k in_range lacks =
     )
 
 pub known_untold : (base : ℕ) (h : List In) (s : FeedState) (slot : ℕ) → IsAfter base h s → slot < slot_count → end_of base h ≤ acknowledged_by base slot h
-    → pushed s slot ≡ []
-unfolding pushed
+    → feed_push s slot ≡ []
+unfolding feed_push
 known_untold base h s slot k in_range knows =
     let acked : acked_of s slot ≡ acknowledged_by base slot h = acked_after base h s k slot in_range in
     let least : s.end ≤ acked_of s slot = rw (acked, k.end_is) knows in

@@ -20,8 +20,8 @@ pub record IsInOrder (filed : List FiledDeltas) (end : ℕ) : Type 0 where
   pub upto : All (λ f. f.seq ≤ end) filed
 
 -- nothing above the base, and each slot knows the log up to it
-abbrev pub started : ℕ → FeedState
-started base = record { base = base; filed = []; end = base; acked = replicate slot_count base }
+abbrev pub feed_start : ℕ → FeedState
+feed_start base = record { base = base; filed = []; end = base; acked = replicate slot_count base }
 
 -- up to which segment a slot has acknowledged the log; the base at a slot that there isn't
 abbrev pub acked_of : FeedState → ℕ → ℕ

@@ -7,12 +7,12 @@ use Rattle.xfs_base.specs.Steps.{steps}
 use Rattle.delta_feed.specs.declared.feed.FiledDeltas.{FiledDeltas}
 use Rattle.delta_feed.specs.declared.input.In.{In}
 use Rattle.delta_feed.specs.declared.input.In.TheVariants.{Settled, Ack, NewEpoch, Push, Tick}
-use Rattle.delta_feed.specs.FeedState.{FeedState, started}
+use Rattle.delta_feed.specs.FeedState.{FeedState, feed_start}
 use Rattle.delta_feed.specs.Transition.{transition}
 
 -- a feed that began at a base, once it took these inputs
 abbrev pub state_after : ℕ → List In → FeedState
-state_after base inputs = (steps transition (started base) inputs).state
+state_after base inputs = (steps transition (feed_start base) inputs).state
 
 -- the greatest of some numbers and a least one
 abbrev pub greatest : ℕ → List ℕ → ℕ

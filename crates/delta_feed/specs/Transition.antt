@@ -44,20 +44,20 @@ abbrev pub new_epoch : FeedState → ℕ → FeedState
 new_epoch s slot = if nat_lt slot slot_count then record s { acked = slice_set s.acked slot s.base } else s
 
 -- what the slot has not acknowledged, if there is anything, from there to the end
-unfoldable pub pushed : FeedState → ℕ → List Out
-pushed s slot =
+unfoldable pub feed_push : FeedState → ℕ → List Out
+feed_push s slot =
     if nat_lt slot slot_count && nat_lt (acked_of s slot) s.end
     then Range slot (acked_of s slot + 1) s.end (rows_after slot (acked_of s slot) s.filed) ∷ []
     else []
 
 -- the same for each slot in order
-abbrev pub ticked : FeedState → List Out
-ticked s = flat_map (pushed s) (range_with_len 0 slot_count)
+abbrev pub feed_tick : FeedState → List Out
+feed_tick s = flat_map (feed_push s) (range_with_len 0 slot_count)
 
 -- what each input makes of a feed
 abbrev pub transition : FeedState → In → Stepped FeedState Out
 transition s (Settled seq rows) = still (settled s seq rows)
 transition s (Ack slot applied) = still (acknowledged s slot applied)
 transition s (NewEpoch slot) = still (new_epoch s slot)
-transition s (Push slot) = record { state = s; outs = pushed s slot }
-transition s Tick = record { state = s; outs = ticked s }
+transition s (Push slot) = record { state = s; outs = feed_push s slot }
+transition s Tick = record { state = s; outs = feed_tick s }

@@ -1,9 +1,9 @@
 //! The feed.
 ghost use Rattle.std.specs.Prelude.{◌≡◌, ◌++◌, ◌≤◌, ℕ, length, drop, IfOk, OnOk};
-ghost use Rattle.delta_feed.specs.FeedState.{acked_of, started};
+ghost use Rattle.delta_feed.specs.FeedState.{acked_of, feed_start};
 ghost use Rattle.std.specs.List.Sorted.{IsNonDecreasingBy};
 ghost use Rattle.delta_feed.specs.declared.feed.FiledDeltas.{FiledDeltas};
-ghost use Rattle.delta_feed.specs.Transition.{slot_rows, all_rows, rows_after, settled, acknowledged, new_epoch, pushed, ticked, transition};
+ghost use Rattle.delta_feed.specs.Transition.{slot_rows, all_rows, rows_after, settled, acknowledged, new_epoch, feed_push, feed_tick, transition};
 
 use crate::{In, Out};
 use std::alloc::Global;
@@ -66,7 +66,7 @@ impl Feed {
     /// A feed of nothing above the base: what the slots know of the log up to that segment they know from
     /// elsewhere. Each slot has acknowledged the base.
     pub fn start(alloc: Global, base: u32) -> Mem<Feed>
-        ensures { IfOk result (λ feed. feed ≡ started base) }
+        ensures { IfOk result (λ feed. feed ≡ feed_start base) }
     {
         Ok(Feed {
             base,
@@ -131,9 +131,9 @@ impl Feed {
         }
     }
 
-    #[tactic(auto, unfolding(crate::specs::Transition::pushed))]
+    #[tactic(auto, unfolding(crate::specs::Transition::feed_push))]
     fn push(&self, alloc: Global, outs: &mut List<Out>, slot: u8) -> Mem<()>
-        ensures { OnOk result (outs.new ≡ outs.old ++ pushed self.now slot) }
+        ensures { OnOk result (outs.new ≡ outs.old ++ feed_push self.now slot) }
     {
         let acked = self.acked(slot);
         if slot < SLOT_COUNT && acked < self.end {
@@ -149,7 +149,7 @@ impl Feed {
     }
 
     fn tick(&self, alloc: Global, outs: &mut List<Out>) -> Mem<()>
-        ensures { OnOk result (outs.new ≡ outs.old ++ ticked self.now) }
+        ensures { OnOk result (outs.new ≡ outs.old ++ feed_tick self.now) }
     {
         for slot in 0..SLOT_COUNT {
             self.push(alloc, outs, slot)?;

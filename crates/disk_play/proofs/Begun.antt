@@ -5,8 +5,8 @@ use Rattle.fragment_store.specs.ShelfState.{ShelfState}
 use Rattle.play.proofs.EachBegun.{for_each, more_begun}
 use Rattle.play.proofs.Manners.{line_good}
 use Rattle.play.specs.declared.player.Player.{Player}
-use Rattle.play.specs.Manner.{plays_line}
-use Rattle.play.specs.Plays.{actors_of, happens}
+use Rattle.play.specs.Manner.{play_line}
+use Rattle.play.specs.Plays.{actors_of, player_happen}
 use Rattle.script_text.specs.declared.script.Line.{Line}
 use Rattle.script_text.specs.declared.script.Script.{Script}
 use Rattle.version_model.specs.declared.work.Work.{Work}
@@ -32,7 +32,7 @@ use Rattle.disk_play.specs.declared.course.Seat.{Seat}
 use Rattle.disk_play.specs.declared.stop.Fate.{Fate}
 use Rattle.disk_play.specs.declared.stop.Fate.TheVariants.{Answered, Unanswered, Lost}
 use Rattle.disk_play.specs.declared.stop.Stop.{Stop}
-use Rattle.disk_play.specs.Courses.{Deck, asked_of, begins_on, delivered_on, delivers_on, fate_for, happens_at, happens_on, happens_to, manner_on, on_course, one_more, opens_on, opens_on_for, played_on, player_by, running, seat_of, shelf_at, started_at, starts_on, stops_at, tells, ticks_on, unanswered_of, with_player, with_stop, woken, woken_at}
+use Rattle.disk_play.specs.Courses.{Deck, asked_of, begins_on, delivered_on, delivers_on, fate_for, happens_at, happens_on, happens_to, manner_on, on_course, one_more, opens_on, opens_on_for, played_on, player_by, running, seat_of, shelf_at, started_at, starts_on, stops_at, course_tell, ticks_on, unanswered_of, with_player, with_stop, course_wake, woken_at}
 use Rattle.disk_play.proofs.Places.{get_set_same}
 use Rattle.disk_play.proofs.Seating.{seat_is, seated}
 use Rattle.shelved_nodes.specs.Asking.{only_where}
@@ -53,8 +53,8 @@ begin_counts stop (Some old) None = refl
 begin_counts stop (Some old) (Some new) = only_loses stop _
 
 module _ {N : Type 0} (c : Course N) (node : NodeId) where
-  pub woken_events : (woken c node).player ≡ c.player
-  unfolding woken
+  pub woken_events : (course_wake c node).player ≡ c.player
+  unfolding course_wake
   woken_events = by (seat_of c.stops node)
     where
       by : (o : Option Seat) → (woken_at c o).player ≡ c.player
@@ -62,8 +62,8 @@ module _ {N : Type 0} (c : Course N) (node : NodeId) where
       by (Some seat) = by_test (λ (d : Course N). d.player ≡ c.player) seat.stop.stopped (with_stop c seat.place running) c (λ t. refl) (λ t. refl)
 
   -- a node that was woken isn't stopped
-  woken_runs : (seat : Seat) → seat_of (woken c node).stops node ≡ Some seat → seat.stop.stopped ≡ false
-  unfolding woken
+  woken_runs : (seat : Seat) → seat_of (course_wake c node).stops node ≡ Some seat → seat.stop.stopped ≡ false
+  unfolding course_wake
   woken_runs seat = by (seat_of c.stops node) refl
     where
       by_stop : (was : Seat) → seat_of c.stops node ≡ Some was → (t : Bool) → was.stop.stopped ≡ t
@@ -97,7 +97,7 @@ module _ {N : Type 0} (step : N → Do → NodeStep N) (shelf_of : N → Option 
   -- what is no Begin begins nothing
   to_begins : (d : Deck N) (seat : Option Seat) (event : Event) → begun_in (event ∷ []) ≡ []
       → begun_of (happens_to step shelf_of d seat event).course ≡ begun_of d.course
-  unfolding happens
+  unfolding player_happen
   to_begins d None event none = settled_begins Answered d.course.player event (next_world step d.course.player.world event) none
   to_begins d (Some seat) event none =
       by_test (λ (x : Deck N). begun_of x.course ≡ begun_of d.course) seat.stop.stopped d (happens_at step shelf_of d seat event) (λ t. refl)
@@ -110,7 +110,7 @@ module _ {N : Type 0} (step : N → Do → NodeStep N) (shelf_of : N → Option 
   -- and a Begin counts at a node that isn't stopped
   begin_begins : (d : Deck N) (node : NodeId) → ((seat : Seat) → seat_of d.course.stops node ≡ Some seat → seat.stop.stopped ≡ false)
       → begun_of (happens_on step shelf_of d (Begin node)).course ≡ begun_of d.course ++ node ∷ []
-  unfolding happens_on happens
+  unfolding happens_on player_happen
   begin_begins d node runs = by (seat_of d.course.stops node) refl
     where
       c : Course N
@@ -127,7 +127,7 @@ module _ {N : Type 0} (step : N → Do → NodeStep N) (shelf_of : N → Option 
   begins_begins : (d : Deck N) (node : NodeId) → begun_of (begins_on step shelf_of d node).course ≡ begun_of d.course ++ node ∷ []
   unfolding begins_on
   begins_begins d node =
-      begin_begins (on_course (λ c. one_more (woken c node)) d) node (woken_runs d.course node)
+      begin_begins (on_course (λ c. one_more (course_wake c node)) d) node (woken_runs d.course node)
       ∙ ap (λ p. begun_in p.events ++ node ∷ []) (woken_events d.course node)
 
   tick_begins : (d : Deck N) (node : NodeId) → begun_of (ticks_on step shelf_of d node).course ≡ begun_of d.course
@@ -153,8 +153,8 @@ module _ {N : Type 0} (step : N → Do → NodeStep N) (shelf_of : N → Option 
   starts_begin c None = refl
   starts_begin c (Some seat) = refl
 
-  tells_begins : (c : Course N) (work : Work) → begun_of (tells c work) ≡ begun_of c
-  unfolding tells
+  tells_begins : (c : Course N) (work : Work) → begun_of (course_tell c work) ≡ begun_of c
+  unfolding course_tell
   tells_begins c (works.ServerStop server passes) = stops_begin c (nodes.Server server) passes (seat_of c.stops (nodes.Server server))
   tells_begins c (works.ServerStart server) = starts_begin c (seat_of c.stops (nodes.Server server))
   tells_begins c _ = refl
@@ -166,7 +166,7 @@ module _ {N : Type 0} (step : N → Do → NodeStep N) (shelf_of : N → Option 
   opens_begins d work (Some node) rest = ap (λ nodes. nodes ++ rest) (begins_begins d node) ∙ append_assoc (begun_of d.course) (node ∷ []) rest
 
   line_begins : (d : Deck N) (line : Line) (rest : List NodeId)
-      → begun_of (plays_line (manner_on step shelf_of) d line).course ++ rest ≡ begun_of d.course ++ cons_option (actor_of line.work) rest
+      → begun_of (play_line (manner_on step shelf_of) d line).course ++ rest ≡ begun_of d.course ++ cons_option (actor_of line.work) rest
   unfolding opens_on
   line_begins d line rest =
       let e = opens_on_for step shelf_of d line.work (actor_of line.work) in
@@ -174,9 +174,9 @@ module _ {N : Type 0} (step : N → Do → NodeStep N) (shelf_of : N → Option 
       (λ x number same. delivery_begins x number ∙ same) (λ x node same. tick_begins x node ∙ same) d line refl in
       ap (λ nodes. nodes ++ rest) played ∙ opens_begins d line.work (actor_of line.work) rest
 
-  lines_begin : (d : Deck N) (lines : List Line) → begun_of (fold (plays_line (manner_on step shelf_of)) d lines).course ≡ begun_of d.course ++ actors_of lines
+  lines_begin : (d : Deck N) (lines : List Line) → begun_of (fold (play_line (manner_on step shelf_of)) d lines).course ≡ begun_of d.course ++ actors_of lines
   lines_begin d [] = sym (append-nil (begun_of d.course))
-  lines_begin d (l ∷ lines) = lines_begin (plays_line (manner_on step shelf_of) d l) lines ∙ line_begins d l (actors_of lines)
+  lines_begin d (l ∷ lines) = lines_begin (play_line (manner_on step shelf_of) d l) lines ∙ line_begins d l (actors_of lines)
 
   module _ (first : NodeId → Setup → List Work → N) (script : Script) where
     pub play_begins : begun_in (played_on step shelf_of first script).course.player.events ≡ actors_of script.lines

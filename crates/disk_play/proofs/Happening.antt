@@ -1,7 +1,7 @@
 -- What an event is, by the seat of its node.
 use Rattle.std.proofs.Common.{◌≡◌, Bool, true, false, cond, Option, Some, None, refl, ap, ◌∙◌}
 use Rattle.fragment_store.specs.ShelfState.{ShelfState}
-use Rattle.play.specs.Plays.{happens}
+use Rattle.play.specs.Plays.{player_happen}
 use Rattle.wire_msg.specs.declared.packet.Do.{Do}
 use Rattle.wire_msg.specs.NodeStep.{NodeStep}
 use Rattle.world_base.specs.declared.event.Event.{Event}
@@ -14,7 +14,7 @@ use Rattle.disk_play.specs.Courses.{Deck, happens_at, happens_on, happens_to, on
 module _ {N : Type 0} (step : N → Do → NodeStep N) (shelf_of : N → Option ShelfState) (d : Deck N) where
   -- of a node that has none
   pub on_none : (event : Event) → seat_of d.course.stops (node_of event) ≡ None → happens_on step shelf_of d event
-      ≡ on_course (λ c. with_player c (happens step c.player event)) d
+      ≡ on_course (λ c. with_player c (player_happen step c.player event)) d
   unfolding happens_on
   on_none event fact = ap (λ o. happens_to step shelf_of d o event) fact
 

@@ -4,7 +4,7 @@ use Rattle.fragment_store.specs.ShelfState.{ShelfState}
 use Rattle.play.specs.Lawful.{repeated_keeps, sent_since_keeps}
 use Rattle.play.specs.Manner.{IsLawful}
 use Rattle.play.specs.declared.player.Player.{Player}
-use Rattle.play.specs.Plays.{happens}
+use Rattle.play.specs.Plays.{player_happen}
 use Rattle.wire_msg.specs.declared.packet.Do.{Do}
 use Rattle.wire_msg.specs.declared.packet.Packet.{Packet}
 use Rattle.wire_msg.specs.NodeStep.{NodeStep}
@@ -31,7 +31,7 @@ module _ {N : Type 0} (step : N → Do → NodeStep N) (shelf_of : N → Option 
   settled_keeps Lost p event world = refl
 
   to_keeps : (d : Deck N) (seat : Option Seat) (event : Event) → left_of (happens_to step shelf_of d seat event) ≡ left_of d
-  unfolding happens
+  unfolding player_happen
   to_keeps d None event =
       sent_since_keeps d.course.player.schedule (length d.course.player.world.sent) (length (next_world step d.course.player.world event).sent)
   to_keeps d (Some seat) event =

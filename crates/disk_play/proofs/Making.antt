@@ -19,7 +19,7 @@ use Rattle.disk_play.specs.declared.stop.Fate.TheVariants.{Answered, Unanswered,
 use Rattle.disk_play.specs.declared.stop.Stop.{Stop}
 use Rattle.disk_play.specs.Courses.{fate_by, passes_for}
 use Rattle.disk_play.specs.Disks.{OnDisk, changed, on_disk, runs_again, to_stop, welcome_of, welcomed, welcomed_by}
-use Rattle.disk_play.specs.Standing.{Runs, Took, armed}
+use Rattle.disk_play.specs.Standing.{Runs, Took, arm}
 use Rattle.wire_msg.specs.declared.packet.Do.{Do}
 use Rattle.xfs_base.proofs.Booleans.{by_test, contrary, not_true}
 use Rattle.std.proofs.lemmas.Bool.{eqb-false, eqb-true}
@@ -41,43 +41,43 @@ there_too (Some n) met = enough n met
     enough : (m : ℕ) → nat_le 4 m ≡ true → nat_le 2 m ≡ true
     enough m e = grind (arith, nat_tests)
 
-pub state_armed : (shelf : Kept MemState) (passes : Option ℕ) → (armed shelf passes).state ≡ shelf.state
+pub state_armed : (shelf : Kept MemState) (passes : Option ℕ) → (arm shelf passes).state ≡ shelf.state
 state_armed shelf None = refl
 state_armed shelf (Some n) = refl
 
-passes_armed : (shelf : Kept MemState) (passes : Option ℕ) → shelf.disk.drive.passes ≡ None → (armed shelf passes).disk.drive.passes ≡ passes
+passes_armed : (shelf : Kept MemState) (passes : Option ℕ) → shelf.disk.drive.passes ≡ None → (arm shelf passes).disk.drive.passes ≡ passes
 passes_armed shelf None waits = waits
 passes_armed shelf (Some n) waits = refl
 
-stopped_armed : (shelf : Kept MemState) (passes : Option ℕ) → (armed shelf passes).disk.drive.stopped ≡ shelf.disk.drive.stopped
+stopped_armed : (shelf : Kept MemState) (passes : Option ℕ) → (arm shelf passes).disk.drive.stopped ≡ shelf.disk.drive.stopped
 stopped_armed shelf None = refl
 stopped_armed shelf (Some n) = refl
 
 module _ (law : ChangesEndByPasses) (shelf : Kept MemState) (passes : Option ℕ) (runs : Runs shelf) (t : DiskState) (r : Record) where
   -- a change that is made and answered is there
   pub made_there : (mid : Kept MemState) → t ≢ shelf.state → mid.state ≡ t
-      → (mid ≡ armed shelf passes) ⊎ MemTook (armed shelf passes).disk (armed shelf passes).state t r true mid.disk
+      → (mid ≡ arm shelf passes) ⊎ MemTook (arm shelf passes).disk (arm shelf passes).state t r true mid.disk
       → mid.state ≡ cond (is_there passes) t shelf.state
   made_there mid other made (inl same) = absurd (other (sym made ∙ ap (λ (k : Kept MemState). k.state) same ∙ state_armed shelf passes))
   made_there mid other made (inr took) =
-      let ends = law (armed shelf passes).disk (armed shelf passes).state t r true mid.disk (stopped_armed shelf passes ∙ runs.runs) took in
+      let ends = law (arm shelf passes).disk (arm shelf passes).state t r true mid.disk (stopped_armed shelf passes ∙ runs.runs) took in
       let met : is_answered passes ≡ true = sym (ends.answered ∙ ap is_answered (passes_armed shelf passes runs.waits)) in
       made ∙ ap (λ (b : Bool). cond b t shelf.state) (sym (there_too passes met))
 
   -- one that a stop cut stands or not, as so many passed
-  pub cut_stands : OneState → (mid : MemState) → MemTook (armed shelf passes).disk (armed shelf passes).state t r false mid
+  pub cut_stands : OneState → (mid : MemState) → MemTook (arm shelf passes).disk (arm shelf passes).state t r false mid
       → (u : DiskState) → StandsFor u (disk_bytes mid) → u ≡ cond (is_there passes) t shelf.state
   cut_stands one mid took u stands =
-      let ends = law (armed shelf passes).disk (armed shelf passes).state t r false mid (stopped_armed shelf passes ∙ runs.runs) took in
+      let ends = law (arm shelf passes).disk (arm shelf passes).state t r false mid (stopped_armed shelf passes ∙ runs.runs) took in
       let cut : StandsFor (cond (is_there passes) t shelf.state) (disk_bytes mid) =
       subst (λ (s : DiskState). StandsFor (cond (is_there passes) t s) (disk_bytes mid)) (state_armed shelf passes)
-      (subst (λ (p : Option ℕ). StandsFor (cond (is_there p) t (armed shelf passes).state) (disk_bytes mid)) (passes_armed shelf passes runs.waits)
+      (subst (λ (p : Option ℕ). StandsFor (cond (is_there p) t (arm shelf passes).state) (disk_bytes mid)) (passes_armed shelf passes runs.waits)
       (ends.cut refl)) in
       one u (cond (is_there passes) t shelf.state) (disk_bytes mid) stands cut
 
 -- ---- the same, of a shelf that is equal to the armed one
 
-drive_armed : (shelf : Kept MemState) (passes : Option ℕ) → (armed shelf passes).disk.drive ≡ to_stop passes shelf.disk.drive
+drive_armed : (shelf : Kept MemState) (passes : Option ℕ) → (arm shelf passes).disk.drive ≡ to_stop passes shelf.disk.drive
 drive_armed shelf None = refl
 drive_armed shelf (Some n) = refl
 
@@ -91,24 +91,24 @@ run_again d e false same answered = sym (ap (λ (b : Bool). cond b (reopened e) 
     not_false false met = contrary (sym met)
 
 module _ (law : ChangesEndByPasses) (shelf : Kept MemState) (passes : Option ℕ) (runs : Runs shelf) (ask : Ask) (set : Kept MemState)
-    (is : set ≡ armed shelf passes) where
-  asked_armed : after_ask (armed shelf passes).state ask ≡ after_ask shelf.state ask
+    (is : set ≡ arm shelf passes) where
+  asked_armed : after_ask (arm shelf passes).state ask ≡ after_ask shelf.state ask
   asked_armed = ap (λ (s : DiskState). after_ask s ask) (state_armed shelf passes)
 
   abbrev said : Record
   said = record_of set.state.shelf ask
 
   took_armed : (ok : Bool) (mid : MemState) → MemTook set.disk set.state (after_ask set.state ask) said ok mid
-      → MemTook (armed shelf passes).disk (armed shelf passes).state (after_ask shelf.state ask) said ok mid
+      → MemTook (arm shelf passes).disk (arm shelf passes).state (after_ask shelf.state ask) said ok mid
   took_armed ok mid took =
-      subst (λ (t : DiskState). MemTook (armed shelf passes).disk (armed shelf passes).state t said ok mid) asked_armed
+      subst (λ (t : DiskState). MemTook (arm shelf passes).disk (arm shelf passes).state t said ok mid) asked_armed
       (subst (λ (k : Kept MemState). MemTook k.disk k.state (after_ask k.state ask) said ok mid) is took)
 
   -- the disk then, which is let run again
   ran_set : (ok : Bool) (mid : MemState) → MemTook set.disk set.state (after_ask set.state ask) said ok mid
       → cond ok (started mid.drive) (reopened mid.drive) ≡ (changed passes ask (on_disk shelf)).drive
   ran_set ok mid took =
-      let ends = law (armed shelf passes).disk (armed shelf passes).state (after_ask shelf.state ask) said ok mid (stopped_armed shelf passes ∙ runs.runs)
+      let ends = law (arm shelf passes).disk (arm shelf passes).state (after_ask shelf.state ask) said ok mid (stopped_armed shelf passes ∙ runs.runs)
       (took_armed ok mid took) in
       run_again (with_record (record_of shelf.state.shelf ask) (to_stop passes shelf.disk.drive)) mid.drive ok
       (ends.drive ∙ ap (with_record said) (drive_armed shelf passes)

@@ -6,7 +6,7 @@ use Rattle.disk_shelf.specs.Kept.{Kept}
 use Rattle.disk_shelf.specs.MemDisk.{MemState}
 use Rattle.fragment_store.specs.ShelfState.{ShelfState}
 use Rattle.play.specs.declared.player.Player.{Player}
-use Rattle.play.specs.Plays.{happens}
+use Rattle.play.specs.Plays.{player_happen}
 use Rattle.script_text.specs.declared.script.Script.{Script}
 use Rattle.version_model.specs.declared.work.Work.{Work}
 use Rattle.version_model.specs.declared.work.Work.TheVariants as works
@@ -26,7 +26,7 @@ use Rattle.disk_play.specs.declared.course.Seat.{Seat}
 use Rattle.disk_play.specs.declared.stop.Fate.{Fate}
 use Rattle.disk_play.specs.declared.stop.Fate.TheVariants.{Answered, Unanswered, Lost}
 use Rattle.disk_play.specs.declared.stop.Stop.{Stop}
-use Rattle.disk_play.specs.Courses.{Deck, fate_for, happens_at, player_by, running, seat_of, started_at, stops_at, tells, unanswered_of, with_player, with_stop, woken, woken_at}
+use Rattle.disk_play.specs.Courses.{Deck, fate_for, happens_at, player_by, running, seat_of, started_at, stops_at, course_tell, unanswered_of, with_player, with_stop, course_wake, woken_at}
 use Rattle.disk_play.specs.Standing.{Follow, Follows, Stands}
 use Rattle.disk_play.proofs.Places.{length_set, none_within}
 use Rattle.disk_play.proofs.Running.{leads_on}
@@ -48,8 +48,8 @@ module _ {N : Type 0} where
   put_beside : (c : Course N) (place : ℕ) (stop : Stop) → IsBeside c (with_stop c place stop)
   put_beside c place stop = record { events = refl; world = refl; stops = length_set c.stops place stop }
 
-  pub woken_beside : (c : Course N) (node : NodeId) → IsBeside c (woken c node)
-  unfolding woken
+  pub woken_beside : (c : Course N) (node : NodeId) → IsBeside c (course_wake c node)
+  unfolding course_wake
   woken_beside c node = by (seat_of c.stops node)
     where
       by : (o : Option Seat) → IsBeside c (woken_at c o)
@@ -71,8 +71,8 @@ module _ {N : Type 0} where
   told_beside : (c d : Course N) (p : Player N) → IsBeside c d → p.events ≡ d.player.events → p.world ≡ d.player.world → IsBeside c (with_player d p)
   told_beside c d p b events world = record { events = events ∙ b.events; world = world ∙ b.world; stops = b.stops }
 
-  pub tells_beside : (c : Course N) (work : Work) → IsBeside c (tells c work)
-  unfolding tells
+  pub tells_beside : (c : Course N) (work : Work) → IsBeside c (course_tell c work)
+  unfolding course_tell
   tells_beside c (works.ServerStop server passes) =
       told_beside c _ _ (stops_beside c (nodes.Server server) passes (seat_of c.stops (nodes.Server server))) refl refl
   tells_beside c (works.ServerStart server) = told_beside c _ _ (starts_beside c (seat_of c.stops (nodes.Server server))) refl refl
@@ -90,8 +90,8 @@ module _ {N : Type 0} (c : Course N) where
   starts_unanswered None = refl
   starts_unanswered (Some seat) = refl
 
-  pub tells_unanswered : (work : Work) → (tells c work).player.unanswered ≡ c.player.unanswered
-  unfolding tells
+  pub tells_unanswered : (work : Work) → (course_tell c work).player.unanswered ≡ c.player.unanswered
+  unfolding course_tell
   tells_unanswered (works.ServerStop server passes) = stops_unanswered (nodes.Server server) passes (seat_of c.stops (nodes.Server server))
   tells_unanswered (works.ServerStart server) = starts_unanswered (seat_of c.stops (nodes.Server server))
   tells_unanswered _ = refl
@@ -107,16 +107,16 @@ module _ {N : Type 0} (step : N → Do → NodeStep N) (first : NodeId → Setup
   }
 
   -- a line that is no item
-  pub stands_told : (c d : Course N) (work : Work) (shelves : List (Kept MemState)) → d ≡ tells c work → Stands step first shelf_of script c shelves
+  pub stands_told : (c d : Course N) (work : Work) (shelves : List (Kept MemState)) → d ≡ course_tell c work → Stands step first shelf_of script c shelves
       → Stands step first shelf_of script d shelves
   stands_told c d work shelves is stands =
-      subst (λ x. Stands step first shelf_of script x shelves) (sym is) (stands_beside c (tells c work) shelves (tells_beside c work) stands)
+      subst (λ x. Stands step first shelf_of script x shelves) (sym is) (stands_beside c (course_tell c work) shelves (tells_beside c work) stands)
 
   -- an event of a node that has no seat
   pub elsewhere_stands : (c : Course N) (shelves : List (Kept MemState)) (event : Event) → seat_of c.stops (node_of event) ≡ None
       → MayHappen c.player.world event → Stands step first shelf_of script c shelves
-      → Stands step first shelf_of script (with_player c (happens step c.player event)) shelves
-  unfolding happens
+      → Stands step first shelf_of script (with_player c (player_happen step c.player event)) shelves
+  unfolding player_happen
   elsewhere_stands c shelves event none may stands = record {
     run = leads_on step (start_world first script) c.player.events c.player.world event stands.run may;
     stops = stands.stops;

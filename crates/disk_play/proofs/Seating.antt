@@ -19,7 +19,7 @@ use Rattle.wire_msg.specs.NodeStep.{NodeStep}
 use Rattle.world_base.specs.declared.event.Event.{Event}
 use Rattle.world_base.specs.declared.world.World.{World}
 use Rattle.world_base.specs.Events.{node_of, what_of}
-use Rattle.world_base.specs.NextWorld.{happened, next_world, start_world}
+use Rattle.world_base.specs.NextWorld.{world_happen, next_world, start_world}
 use Rattle.world_base.specs.Runs.{MayHappen}
 use Rattle.xfs_base.proofs.Booleans.{contrary}
 use Rattle.xfs_base.specs.declared.node.NodeId.{NodeId}
@@ -30,7 +30,7 @@ use Rattle.disk_play.specs.declared.course.Seat.{Seat}
 use Rattle.disk_play.specs.declared.stop.Fate.{Fate}
 use Rattle.disk_play.specs.declared.stop.Fate.TheVariants.{Answered, Unanswered, Lost}
 use Rattle.disk_play.specs.declared.stop.Stop.{Stop}
-use Rattle.disk_play.specs.Courses.{asked_of, course_at, deck_of, disk_after, disks_at, fate_for, player_by, seat_of, seat_with, settled, shelf_at, stop_for, took, with_world}
+use Rattle.disk_play.specs.Courses.{asked_of, course_at, deck_of, disk_after, disks_at, fate_for, player_by, seat_of, seat_with, course_settle, shelf_at, stop_for, took, with_world}
 use Rattle.disk_play.specs.Standing.{Follow, Follows, GivesOf, Stands, Took}
 use Rattle.disk_play.specs.Disks.{change_at, on_disks}
 use Rattle.disk_play.proofs.Places.{get_set_other, get_set_same, length_set, set_changes}
@@ -115,10 +115,10 @@ module _ {N : Type 0} (step : N → Do → NodeStep N) (first : NodeId → Setup
 
     -- the event as its parts, and the world that it made
     module _ (w : World N) (node : NodeId) (what : Do) (is_node : node ≡ node_of event) (is_what : what ≡ what_of event)
-        (is_world : w ≡ happened step c.player.world node what) where
+        (is_world : w ≡ world_happen step c.player.world node what) where
       pub next_is : w ≡ next
       next_is =
-          is_world ∙ ap (λ n. happened step c.player.world n what) is_node ∙ ap (λ x. happened step c.player.world (node_of event) x) is_what
+          is_world ∙ ap (λ n. world_happen step c.player.world n what) is_node ∙ ap (λ x. world_happen step c.player.world (node_of event) x) is_what
 
       -- the call that was found by the shelf at the seat
       pub asked_so : (call : Option Ask) (x shelf : Kept MemState) → slice_get shelves seat.place ≡ Some x → slice_get shelves seat.place ≡ Some shelf
@@ -272,10 +272,10 @@ module _ {N : Type 0} (step : N → Do → NodeStep N) (first : NodeId → Setup
           turned = at next stops'
 
           -- what is settled is what happens
-          pub settled_so : settled step first script (fate_for seat.stop call) turned event (length c.player.world.sent) (length c.player.world.acts) ≡ course_at step shelf_of c seat event
-          settled_so = by (fate_for seat.stop call) ∙ ap (took c seat event next) (sym seen)
+          pub course_settle_so : course_settle step first script (fate_for seat.stop call) turned event (length c.player.world.sent) (length c.player.world.acts) ≡ course_at step shelf_of c seat event
+          course_settle_so = by (fate_for seat.stop call) ∙ ap (took c seat event next) (sym seen)
             where
-              by : (f : Fate) → settled step first script f turned event (length c.player.world.sent) (length c.player.world.acts) ≡ record {
+              by : (f : Fate) → course_settle step first script f turned event (length c.player.world.sent) (length c.player.world.acts) ≡ record {
                 player = player_by f c.player event next;
                 stops = stops';
               }
@@ -286,24 +286,24 @@ module _ {N : Type 0} (step : N → Do → NodeStep N) (first : NodeId → Setup
 
           pub settled_as : (fate : Fate) (w : World N) (stops : List Stop) (same : Event) (sent done : ℕ) → fate ≡ fate_for seat.stop call → w ≡ next
               → stops ≡ stops' → same ≡ event → sent ≡ length c.player.world.sent → done ≡ length c.player.world.acts
-              → settled step first script fate
+              → course_settle step first script fate
               (record {
                 player = record { world = w; events = c.player.events; schedule = c.player.schedule; unanswered = c.player.unanswered };
                 stops = stops;
               })
               same sent done ≡ course_at step shelf_of c seat event
           settled_as fate w stops same sent done f x s e a b =
-              ap (λ f. settled step first script f (at w stops) same sent done) f
-              ∙ ap (λ v. settled step first script (fate_for seat.stop call) (at v stops) same sent done) x
-              ∙ ap (λ l. settled step first script (fate_for seat.stop call) (at next l) same sent done) s
-              ∙ ap (λ k. settled step first script (fate_for seat.stop call) turned k sent done) e
-              ∙ ap (λ n. settled step first script (fate_for seat.stop call) turned event n done) a
-              ∙ ap (λ n. settled step first script (fate_for seat.stop call) turned event (length c.player.world.sent) n) b
-              ∙ settled_so
+              ap (λ f. course_settle step first script f (at w stops) same sent done) f
+              ∙ ap (λ v. course_settle step first script (fate_for seat.stop call) (at v stops) same sent done) x
+              ∙ ap (λ l. course_settle step first script (fate_for seat.stop call) (at next l) same sent done) s
+              ∙ ap (λ k. course_settle step first script (fate_for seat.stop call) turned k sent done) e
+              ∙ ap (λ n. course_settle step first script (fate_for seat.stop call) turned event n done) a
+              ∙ ap (λ n. course_settle step first script (fate_for seat.stop call) turned event (length c.player.world.sent) n) b
+              ∙ course_settle_so
 
     -- the call that was found by the shelf at the seat changes it
     pub found_differs : (w : World N) (node : NodeId) (what : Do) → node ≡ node_of event → what ≡ what_of event
-        → w ≡ happened step c.player.world node what
+        → w ≡ world_happen step c.player.world node what
         → (call : Option Ask) (x shelf : Kept MemState) → slice_get shelves seat.place ≡ Some x → slice_get shelves seat.place ≡ Some shelf
         → call ≡ asked_of what (Some x.state.shelf) (shelf_at shelf_of w node) → GivesOf what x.state.shelf (shelf_at shelf_of w node) call
         → IfSome call (λ ask. shelf_after shelf.state.shelf ask ≢ shelf.state.shelf)

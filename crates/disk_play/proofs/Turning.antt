@@ -10,7 +10,7 @@ use Rattle.world_base.specs.Cluster.{node_at, place_of}
 use Rattle.world_base.specs.declared.event.Event.{Event}
 use Rattle.world_base.specs.declared.world.World.{World}
 use Rattle.world_base.specs.Events.{node_of, what_of}
-use Rattle.world_base.specs.NextWorld.{after_turn, at_place, clock_at, happened, happened_at, next_world, turn_by, turn_of, turned}
+use Rattle.world_base.specs.NextWorld.{after_turn, at_place, clock_at, world_happen, happen_at, next_world, turn_by, turn_of, turned}
 use Rattle.world_base.specs.Runs.{Leads}
 use Rattle.xfs_base.specs.declared.node.NodeId.{NodeId}
 use Rattle.disk_play.specs.Courses.{kept_at, kept_by, shelf_at}
@@ -32,7 +32,7 @@ module _ {N : Type 0} (step : N → Do → NodeStep N) (w : World N) (what : Do)
   by_clock p (Some clock) = by_turn p clock (slice_get w.nodes p) refl
 
   by_place : (o : Option ℕ) → Turned o (at_place step w what o).nodes
-  unfolding happened_at
+  unfolding happen_at
   by_place None = Same refl
   by_place (Some p) = by_clock p (clock_at w p what)
 
@@ -41,17 +41,17 @@ module _ {N : Type 0} (step : N → Do → NodeStep N) (w : World N) (what : Do)
   cluster_turned p (Some clock) = refl
 
   cluster_placed : (o : Option ℕ) → (at_place step w what o).cluster ≡ w.cluster
-  unfolding happened_at
+  unfolding happen_at
   cluster_placed None = refl
   cluster_placed (Some p) = cluster_turned p (clock_at w p what)
 
 module _ {N : Type 0} (step : N → Do → NodeStep N) (w : World N) (event : Event) where
   pub next_cluster : (next_world step w event).cluster ≡ w.cluster
-  unfolding happened
+  unfolding world_happen
   next_cluster = cluster_placed step w (what_of event) (place_of w.cluster (node_of event))
 
   next_turned : Turned step w (what_of event) (place_of w.cluster (node_of event)) (next_world step w event).nodes
-  unfolding happened
+  unfolding world_happen
   next_turned = by_place step w (what_of event) (place_of w.cluster (node_of event))
 
   module _ (shelf_of : N → Option ShelfState) where

@@ -9,8 +9,8 @@ use Rattle.disk_shelf.specs.MemDisk.{MemState}
 use Rattle.disk_shelf.specs.Stops.{is_answered, is_there, passes_after}
 use Rattle.fragment_store.specs.ShelfState.{ShelfState}
 use Rattle.play.specs.declared.player.Player.{Player}
-use Rattle.play.specs.Manner.{Manner, plays_line}
-use Rattle.play.specs.Plays.{answers, delivery_told, happens, sent_since, starts, told_of, with_event, with_one_more, with_schedule}
+use Rattle.play.specs.Manner.{Manner, play_line}
+use Rattle.play.specs.Plays.{answers, delivery_told, player_happen, send_since, player_start, told_of, with_event, with_one_more, with_schedule}
 use Rattle.script_text.specs.declared.script.Script.{Script}
 use Rattle.shelved_nodes.specs.Asking.{asked}
 use Rattle.version_model.specs.declared.act.Act.{Act}
@@ -142,12 +142,12 @@ module _ {N : Type 0} where
       with_stop (with_player c (player_by (fate_for seat.stop call) c.player event world)) seat.place (stop_for seat.stop call)
 
   -- what was sent since there was so much goes out
-  abbrev pub with_sent : Course N → ℕ → Course N
-  with_sent c sent = with_player c (with_schedule c.player (sent_since c.player.schedule sent (length c.player.world.sent)))
+  abbrev pub course_send : Course N → ℕ → Course N
+  course_send c sent = with_player c (with_schedule c.player (send_since c.player.schedule sent (length c.player.world.sent)))
 
   -- an event that made this world stands behind the others, and what was answered since is no longer unanswered
-  abbrev pub noted : Course N → Event → ℕ → Course N
-  noted c event done = with_player c
+  abbrev pub course_note : Course N → Event → ℕ → Course N
+  course_note c event done = with_player c
       (record {
         world = c.player.world;
         events = c.player.events ++ event ∷ [];
@@ -164,8 +164,8 @@ module _ {N : Type 0} where
   woken_at c None = c
   woken_at c (Some seat) = if seat.stop.stopped then with_stop c seat.place running else c
 
-  unfoldable pub woken : Course N → NodeId → Course N
-  woken c node = woken_at c (seat_of c.stops node)
+  unfoldable pub course_wake : Course N → NodeId → Course N
+  course_wake c node = woken_at c (seat_of c.stops node)
 
   -- how many items of a node were begun and have no answer
   abbrev pub unanswered_of : NodeId → Player N → ℕ
@@ -184,8 +184,8 @@ module _ {N : Type 0} where
   started_at c (Some seat) = with_stop c seat.place running
 
   -- and the queue is drained, unless the packets are held back
-  abbrev pub queue_drained : Course N → Course N
-  queue_drained c = with_player c (with_schedule c.player (item_begun c.player.unanswered c.player.schedule))
+  abbrev pub course_drain : Course N → Course N
+  course_drain c = with_player c (with_schedule c.player (item_begun c.player.unanswered c.player.schedule))
 
   abbrev pub one_more : Course N → Course N
   one_more c = with_player c (with_one_more c.player)
@@ -193,15 +193,15 @@ module _ {N : Type 0} where
   abbrev pub delivery_noted : ℕ → Course N → Course N
   delivery_noted number c = with_player c (delivery_told number c.player)
 
-  abbrev pub with_told : Course N → Work → Course N
-  with_told c work = with_player c (told_of c.player work)
+  abbrev pub course_take : Course N → Work → Course N
+  course_take c work = with_player c (told_of c.player work)
 
   -- a line that is no item
-  unfoldable pub tells : Course N → Work → Course N
-  tells c (works.ServerStop server passes) =
-      with_told (stops_at c (nodes.Server server) passes (seat_of c.stops (nodes.Server server))) (works.ServerStop server passes)
-  tells c (works.ServerStart server) = queue_drained (started_at c (seat_of c.stops (nodes.Server server)))
-  tells c work = with_told c work
+  unfoldable pub course_tell : Course N → Work → Course N
+  course_tell c (works.ServerStop server passes) =
+      course_take (stops_at c (nodes.Server server) passes (seat_of c.stops (nodes.Server server))) (works.ServerStop server passes)
+  course_tell c (works.ServerStart server) = course_drain (started_at c (seat_of c.stops (nodes.Server server)))
+  course_tell c work = course_take c work
 
 -- the shelf of a node; none where there is no such node, or it keeps none
 abbrev pub kept_by : {N : Type 0} → (N → Option ShelfState) → Option N → Option ShelfState
@@ -221,14 +221,14 @@ asked_of what (Some old) (Some new) = asked what old new
 asked_of what old new = None
 
 -- what of an event counts that made this world
-abbrev pub settled : {N : Type 0} → (N → Do → NodeStep N) → (NodeId → Setup → List Work → N) → Script → Fate → Course N → Event → ℕ → ℕ → Course N
-settled step first script Answered c event sent done = noted (with_sent c sent) event done
-settled step first script Unanswered c event sent done = noted c event done
-settled step first script Lost c event sent done = with_world c (fold (next_world step) (start_world first script) c.player.events)
+abbrev pub course_settle : {N : Type 0} → (N → Do → NodeStep N) → (NodeId → Setup → List Work → N) → Script → Fate → Course N → Event → ℕ → ℕ → Course N
+course_settle step first script Answered c event sent done = course_note (course_send c sent) event done
+course_settle step first script Unanswered c event sent done = course_note c event done
+course_settle step first script Lost c event sent done = with_world c (fold (next_world step) (start_world first script) c.player.events)
 
 -- before the first line all servers run, each with an empty disk
 abbrev pub course_on : {N : Type 0} → (NodeId → Setup → List Work → N) → Script → Course N
-course_on first script = record { player = starts first script; stops = replicate script.setup.servers running }
+course_on first script = record { player = player_start first script; stops = replicate script.setup.servers running }
 
 abbrev pub starts_on : {N : Type 0} → (NodeId → Setup → List Work → N) → Script → Deck N
 starts_on first script = record { course = course_on first script; disks = replicate script.setup.servers new_disk }
@@ -250,7 +250,7 @@ module _ {N : Type 0} (step : N → Do → NodeStep N) (shelf_of : N → Option 
 
   -- a stopped server takes no event
   abbrev pub happens_to : Deck N → Option Seat → Event → Deck N
-  happens_to d None event = on_course (λ c. with_player c (happens step c.player event)) d
+  happens_to d None event = on_course (λ c. with_player c (player_happen step c.player event)) d
   happens_to d (Some seat) event = if seat.stop.stopped then d else happens_at d seat event
 
   -- an event happens
@@ -259,7 +259,7 @@ module _ {N : Type 0} (step : N → Do → NodeStep N) (shelf_of : N → Option 
 
   -- a node begins its next item; one that is stopped is started first
   unfoldable pub begins_on : Deck N → NodeId → Deck N
-  begins_on d node = on_course queue_drained (happens_on (on_course (λ c. one_more (woken c node)) d) (Begin node))
+  begins_on d node = on_course course_drain (happens_on (on_course (λ c. one_more (course_wake c node)) d) (Begin node))
 
   -- a packet that was sent is delivered, also to a server that is stopped, which doesn't take it
   abbrev pub delivers_on : Deck N → ℕ → Option Packet → Deck N
@@ -274,7 +274,7 @@ module _ {N : Type 0} (step : N → Do → NodeStep N) (shelf_of : N → Option 
   ticks_on d node = happens_on d (Tick node)
 
   abbrev pub opens_on_for : Deck N → Work → Option NodeId → Deck N
-  opens_on_for d work None = on_course (λ c. tells c work) d
+  opens_on_for d work None = on_course (λ c. course_tell c work) d
   opens_on_for d work (Some node) = begins_on d node
 
   -- an item is begun at its line; any other line stops or starts a server, or is told to the schedule
@@ -295,7 +295,7 @@ module _ {N : Type 0} (step : N → Do → NodeStep N) (shelf_of : N → Option 
 
   -- the play of a script, line by line
   unfoldable pub played_on : (NodeId → Setup → List Work → N) → Script → Deck N
-  played_on first script = fold (plays_line manner_on) (starts_on first script) script.lines
+  played_on first script = fold (play_line manner_on) (starts_on first script) script.lines
 
   -- the run that a script determines, with servers that stop, and the world in which it ends
   abbrev pub disk_estate_of : (NodeId → Setup → List Work → N) → Script → Estate N

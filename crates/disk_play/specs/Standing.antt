@@ -34,9 +34,9 @@ pub record IsNew (shelf : Kept MemState) : Type 0 where
   pub new : on_disk shelf ≡ new_disk
 
 -- a stop is set, where one is to wait
-abbrev pub armed : Kept MemState → Option ℕ → Kept MemState
-armed shelf None = shelf
-armed shelf (Some passes) = record shelf { disk = record shelf.disk { drive = set_to_stop shelf.disk.drive passes } }
+abbrev pub arm : Kept MemState → Option ℕ → Kept MemState
+arm shelf None = shelf
+arm shelf (Some passes) = record shelf { disk = record shelf.disk { drive = set_to_stop shelf.disk.drive passes } }
 
 -- the shelf at a place is another, made of the one that was there
 pub record ChangesAt (old new : List (Kept MemState)) (place : ℕ) (Makes : Kept MemState → Kept MemState → Type 0) : Type 0 where

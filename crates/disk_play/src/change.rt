@@ -7,7 +7,7 @@ ghost use Rattle.disk_shelf.specs.Kept.{Kept};
 ghost use Rattle.disk_shelf.specs.MemDisk.{MemState, disk_bytes};
 ghost use Rattle.disk_shelf.specs.Records.{StandsFor};
 ghost use Rattle.shelved_nodes.specs.Changes.{shelf_after};
-ghost use Rattle.disk_play.specs.Standing.{ChangesAt, IsNew, Runs, Took, armed};
+ghost use Rattle.disk_play.specs.Standing.{ChangesAt, IsNew, Runs, Took, arm};
 
 use crate::Stop;
 use crate::course::Seat;
@@ -68,7 +68,7 @@ fn is_small(ask: &Ask) -> bool
 /// A stop that waits is set, where one does.
 fn arm(shelf: &mut DiskShelf<MemDisk>, passes: Option<u32>)
     requires { Runs shelf.old }
-    ensures { shelf.new ≡ armed shelf.old passes }
+    ensures { shelf.new ≡ arm shelf.old passes }
 {
     if let Some(count) = passes {
         shelf.stop_after(count);

@@ -1,6 +1,6 @@
 //! The course of a play with servers that stop: the play, and which servers are stopped.
 ghost use Rattle.std.specs.Prelude.{◌≡◌, ◌<◌, ◌≤◌, IfOk, IfSome, OnOk, length, replicate, slice_set};
-ghost use Rattle.disk_play.specs.Courses.{queue_drained, running, seat_of, started_at, stops_at, tells, with_stop, with_told, woken};
+ghost use Rattle.disk_play.specs.Courses.{course_drain, running, seat_of, started_at, stops_at, course_tell, with_stop, course_take, course_wake};
 ghost use Rattle.xfs_base.specs.declared.node.NodeId.TheVariants as nodes;
 
 use crate::Stop;
@@ -82,9 +82,9 @@ impl<N> Course<N> {
     }
 
     /// A stopped server is started; one that runs stays as it is.
-    #[tactic(auto, unfolding(crate::specs::Courses::woken))]
+    #[tactic(auto, unfolding(crate::specs::Courses::course_wake))]
     pub fn wake(&mut self, alloc: Global, node: NodeId)
-        ensures { self.new ≡ woken self.old node }
+        ensures { self.new ≡ course_wake self.old node }
     {
         if let Some(seat) = seat_of(&self.stops, node) {
             if seat.stop.stopped {
@@ -95,7 +95,7 @@ impl<N> Course<N> {
 
     /// The queue is drained, unless the packets are held back.
     pub fn drain(&mut self)
-        ensures { self.new ≡ queue_drained self.old }
+        ensures { self.new ≡ course_drain self.old }
     {
         self.player.schedule.item(self.player.unanswered);
     }
@@ -127,15 +127,15 @@ impl<N> Course<N> {
 
     // A line is told to the schedule.
     fn take(&mut self, work: &Work)
-        ensures { self.new ≡ with_told self.old work.now }
+        ensures { self.new ≡ course_take self.old work.now }
     {
         self.player.schedule.take(work, self.player.unanswered);
     }
 
     /// A line that is no item: it stops a server or starts one, or is told to the schedule.
-    #[tactic(auto, unfolding(crate::specs::Courses::tells))]
+    #[tactic(auto, unfolding(crate::specs::Courses::course_tell))]
     pub fn tell(&mut self, alloc: Global, work: &Work)
-        ensures { self.new ≡ tells self.old work.now }
+        ensures { self.new ≡ course_tell self.old work.now }
     {
         match work {
             Work::ServerStop { server, passes } => {

@@ -1,7 +1,7 @@
 //! Playing a script with servers that stop and keep their disk.
 ghost use Rattle.std.specs.Prelude.{◌≡◌, ◌+◌, ◌<◌, ◌≤◌, ◌^◌, IfOk, MatchOption, OnOk, None, Some};
 ghost use Rattle.node_base.specs.Setups.{IsSetup};
-ghost use Rattle.play.specs.Manner.{comes, goes_out, plays_line, rounded};
+ghost use Rattle.play.specs.Manner.{playing_come, playing_go, play_line, playing_round};
 ghost use Rattle.play.specs.Plays.{actors_of};
 ghost use Rattle.world_base.specs.Events.{node_of};
 ghost use Rattle.world_base.specs.Runs.{BeginsAll, MayHappen, begun_in};
@@ -156,11 +156,11 @@ impl<N: Shelved> DiskPlayer<N> {
     }
 
     /// Time passes at every node that isn't stopped, in their order.
-    #[tactic(auto, unfolding(play::specs::Manner::rounded))]
+    #[tactic(auto, unfolding(play::specs::Manner::playing_round))]
     fn round(&mut self, alloc: Global, script: &Script) -> Mem<()>
         requires setup { IsSetup script.now.setup }
         requires stands { Stands N.transition N.first N.shelf_of script.now self.old.course self.old.shelves.items }
-        ensures exact { OnOk result (deck_of self.new.course self.new.shelves.items ≡ rounded (manner_on N.transition N.shelf_of) (deck_of self.old.course self.old.shelves.items)) }
+        ensures exact { OnOk result (deck_of self.new.course self.new.shelves.items ≡ playing_round (manner_on N.transition N.shelf_of) (deck_of self.old.course self.old.shelves.items)) }
         ensures stands { OnOk result (Stands N.transition N.first N.shelf_of script.now self.new.course self.new.shelves.items) }
         ensures no_more { OnOk result (self.new.course.player.unanswered ≤ self.old.course.player.unanswered) }
     {
@@ -175,7 +175,7 @@ impl<N: Shelved> DiskPlayer<N> {
     fn come(&mut self, alloc: Global, script: &Script, next: Next) -> Mem<()>
         requires setup { IsSetup script.now.setup }
         requires stands { Stands N.transition N.first N.shelf_of script.now self.old.course self.old.shelves.items }
-        ensures exact { OnOk result (deck_of self.new.course self.new.shelves.items ≡ comes (manner_on N.transition N.shelf_of) (deck_of self.old.course self.old.shelves.items) next) }
+        ensures exact { OnOk result (deck_of self.new.course self.new.shelves.items ≡ playing_come (manner_on N.transition N.shelf_of) (deck_of self.old.course self.old.shelves.items) next) }
         ensures stands { OnOk result (Stands N.transition N.first N.shelf_of script.now self.new.course self.new.shelves.items) }
         ensures no_more { OnOk result (self.new.course.player.unanswered ≤ self.old.course.player.unanswered) }
     {
@@ -187,11 +187,11 @@ impl<N: Shelved> DiskPlayer<N> {
     }
 
     /// All that the schedule says happens for the line in hand.
-    #[tactic(auto, unfolding(play::specs::Manner::goes_out))]
+    #[tactic(auto, unfolding(play::specs::Manner::playing_go))]
     fn go(&mut self, alloc: Global, script: &Script) -> Mem<()>
         requires setup { IsSetup script.now.setup }
         requires stands { Stands N.transition N.first N.shelf_of script.now self.old.course self.old.shelves.items }
-        ensures exact { OnOk result (deck_of self.new.course self.new.shelves.items ≡ goes_out (manner_on N.transition N.shelf_of) (deck_of self.old.course self.old.shelves.items)) }
+        ensures exact { OnOk result (deck_of self.new.course self.new.shelves.items ≡ playing_go (manner_on N.transition N.shelf_of) (deck_of self.old.course self.old.shelves.items)) }
         ensures stands { OnOk result (Stands N.transition N.first N.shelf_of script.now self.new.course self.new.shelves.items) }
         ensures no_more { OnOk result (self.new.course.player.unanswered ≤ self.old.course.player.unanswered) }
     {
@@ -228,12 +228,12 @@ impl<N: Shelved> DiskPlayer<N> {
     }
 
     /// Plays a line.
-    #[tactic(auto, unfolding(play::specs::Manner::plays_line))]
+    #[tactic(auto, unfolding(play::specs::Manner::play_line))]
     fn line(&mut self, alloc: Global, script: &Script, line: &Line) -> Mem<()>
         requires setup { IsSetup script.now.setup }
         requires stands { Stands N.transition N.first N.shelf_of script.now self.old.course self.old.shelves.items }
         requires room { self.old.course.player.unanswered + 1 < 2 ^ 64 }
-        ensures exact { OnOk result (deck_of self.new.course self.new.shelves.items ≡ plays_line (manner_on N.transition N.shelf_of) (deck_of self.old.course self.old.shelves.items) line.now) }
+        ensures exact { OnOk result (deck_of self.new.course self.new.shelves.items ≡ play_line (manner_on N.transition N.shelf_of) (deck_of self.old.course self.old.shelves.items) line.now) }
         ensures stands { OnOk result (Stands N.transition N.first N.shelf_of script.now self.new.course self.new.shelves.items) }
         ensures one_more { OnOk result (self.new.course.player.unanswered ≤ self.old.course.player.unanswered + 1) }
     {

@@ -2,7 +2,7 @@
 ghost use Rattle.std.specs.Prelude.{◌≡◌, OnOk, fold};
 ghost use Rattle.node_base.specs.Setups.{IsSetup};
 ghost use Rattle.world_base.specs.NextWorld.{next_world, start_world};
-ghost use Rattle.disk_play.specs.Courses.{noted, settled, with_sent, with_world};
+ghost use Rattle.disk_play.specs.Courses.{course_note, course_settle, course_send, with_world};
 
 use crate::Course;
 use crate::replay::world_after;
@@ -17,7 +17,7 @@ use xfs_base::Mem;
 impl<N> Course<N> {
     // What was sent since there was so much goes out.
     fn send(&mut self, sent: usize) -> Mem<()>
-        ensures { OnOk result (self.new ≡ with_sent self.old sent) }
+        ensures { OnOk result (self.new ≡ course_send self.old sent) }
     {
         let now = self.player.world.sent.len();
         send_since(&mut self.player.schedule, sent, now)
@@ -25,7 +25,7 @@ impl<N> Course<N> {
 
     // An event that made the world what it is stands behind the others, and what it answered is no longer unanswered.
     fn note(&mut self, event: Event, done: usize) -> Mem<()>
-        ensures { OnOk result (self.new ≡ noted self.old event done) }
+        ensures { OnOk result (self.new ≡ course_note self.old event done) }
     {
         let answered = answers_since(self.player.world.acts.as_slice(), done);
         self.player.events.push(event)?;
@@ -56,7 +56,7 @@ impl<N: Member> Course<N> {
         done: usize,
     ) -> Mem<()>
         requires { IsSetup script.now.setup }
-        ensures { OnOk result (self.new ≡ settled N.transition N.first script.now fate self.old event sent done) }
+        ensures { OnOk result (self.new ≡ course_settle N.transition N.first script.now fate self.old event sent done) }
     {
         match fate {
             Fate::Answered => {

@@ -3,7 +3,7 @@ ghost use Rattle.std.specs.Prelude.{◌≡◌, ◌≢◌, ◌⊎◌, ◌↔◌, 
 ghost use Rattle.xfs_base.specs.Causes.{Rose};
 ghost use Rattle.xfs_base.specs.Segments.{pass_cmp};
 ghost use Rattle.xfs_base.specs.Stamps.{is_greater};
-ghost use Rattle.fragment_store.specs.Calls.{store_refused, kept, on_fence, on_list, on_delete, on_fill, on_lose, barred};
+ghost use Rattle.fragment_store.specs.Calls.{refusal, shelf_store, on_fence, on_list, on_delete, on_fill, on_lose, barred};
 ghost use Rattle.fragment_store.specs.ShelfState.{held_at, is_held, is_marked, fence_of};
 ghost use Rattle.disk_shelf.specs.declared.disk_error.DiskError.TheVariants.{Memory, Closed, Fault};
 ghost use Rattle.disk_shelf.specs.Disk.{LeavesOnly};
@@ -255,19 +255,19 @@ impl<D: Disk> DiskShelf<D> {
     ) -> Result<(), DiskError>
         requires small { length fragment.bytes ≤ 4294967261 }
         requires below { length (D.seen self.old.disk) + length fragment.bytes + 40 < 2 ^ 64 }
-        ensures ok { OnOk result (self.new.state ≡ record self.old.state { shelf = kept self.old.state.shelf fragment }) }
-        ensures either { (self.new.state ≡ self.old.state) ⊎ (self.new.state ≡ record self.old.state { shelf = kept self.old.state.shelf fragment }) }
+        ensures ok { OnOk result (self.new.state ≡ record self.old.state { shelf = shelf_store self.old.state.shelf fragment }) }
+        ensures either { (self.new.state ≡ self.old.state) ⊎ (self.new.state ≡ record self.old.state { shelf = shelf_store self.old.state.shelf fragment }) }
         ensures idle { IsTrue (is_held self.old.state.shelf fragment.meta.name) → self.new ≡ self.old }
-        ensures taken { OnOk result (store_refused self.old.state.shelf fragment.meta.name generation ≡ None) }
-        ensures refused { (e : _) → IsFalse self.old.closed → store_refused self.old.state.shelf fragment.meta.name generation ≡ Some e → IsErrOf result (in_disk e) }
+        ensures taken { OnOk result (refusal self.old.state.shelf fragment.meta.name generation ≡ None) }
+        ensures refused { (e : _) → IsFalse self.old.closed → refusal self.old.state.shelf fragment.meta.name generation ≡ Some e → IsErrOf result (in_disk e) }
         ensures lasts { OnOk result (Leaves D.may_leave self.new.disk (StandsFor self.new.state)) }
-        ensures any_moment { LeavesEither D.moment D.left_since self.old self.new (record self.old.state { shelf = kept self.old.state.shelf fragment }) }
+        ensures any_moment { LeavesEither D.moment D.left_since self.old self.new (record self.old.state { shelf = shelf_store self.old.state.shelf fragment }) }
         ensures closed { IsErrOf result Closed ↔ IsTrue self.old.closed }
         ensures same { (e : _) → e ≢ Fault → IsErrOf result e → (self.new.state ≡ self.old.state) × (D.seen self.new.disk ≡ D.seen self.old.disk) }
         ensures fault { IsErrOf result Fault → Rose (D.faults self.old.disk) (D.faults self.new.disk) }
         ensures closes { IsTrue self.new.closed ↔ (IsTrue self.old.closed ⊎ IsErrOf result Fault) }
-        ensures exact { OnOk result ((self.new ≡ self.old) ⊎ TookRecord D.seen D.may_leave D.by_room D.by_write D.by_sync self.old.disk self.old.state (record self.old.state { shelf = kept self.old.state.shelf fragment }) (Record.Held fragment) true self.new.disk) }
-        ensures cut { IsErrOf result Fault → TookRecord D.seen D.may_leave D.by_room D.by_write D.by_sync self.old.disk self.old.state (record self.old.state { shelf = kept self.old.state.shelf fragment }) (Record.Held fragment) false self.new.disk }
+        ensures exact { OnOk result ((self.new ≡ self.old) ⊎ TookRecord D.seen D.may_leave D.by_room D.by_write D.by_sync self.old.disk self.old.state (record self.old.state { shelf = shelf_store self.old.state.shelf fragment }) (Record.Held fragment) true self.new.disk) }
+        ensures cut { IsErrOf result Fault → TookRecord D.seen D.may_leave D.by_room D.by_write D.by_sync self.old.disk self.old.state (record self.old.state { shelf = shelf_store self.old.state.shelf fragment }) (Record.Held fragment) false self.new.disk }
     {
         if self.closed {
             return Err(DiskError::Closed);

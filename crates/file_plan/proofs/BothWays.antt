@@ -11,7 +11,7 @@ use Rattle.std.proofs.lemmas.Bool.{leb-true, le-leb}
 use Rattle.xfs_base.proofs.Booleans.{and_first, and_second}
 use Rattle.version_model.specs.History.{Content}
 use Rattle.file_plan.specs.Names.{Row, name_cmp, is_good}
-use Rattle.file_plan.specs.Format.{kind_byte, kind_of, is_kind_byte, content_of, row_text, rows_text, name_length, front_row, has_row, with_row, rows_from, in_order, read_bucket, read_size, file_end}
+use Rattle.file_plan.specs.Format.{kind_byte, kind_of, is_kind_byte, value_of, row_text, bucket_bytes, name_length, front_row, has_row, with_row, rows_from, in_order, read_bucket, read_size, file_end}
 use Rattle.file_plan.specs.Formats.{IsStored, IsRow, IsBucketOf, IsSizeOf, BucketsAreExact, SizesAreExact}
 use Rattle.file_plan.proofs.Buckets.{bucket_read}
 use Rattle.file_plan.proofs.Measuring.{size_bound}
@@ -83,7 +83,7 @@ drop_small n bytes small i = subst (λ (b : ℕ). b < 256) (sym (get_or-drop n b
 
 -- the bytes are the text of the entries that are read
 abbrev IsRead : List ℕ → List Row → Type 0
-IsRead bytes rows = (bytes ≡ rows_text rows) × AllByRecursion IsRow rows
+IsRead bytes rows = (bytes ≡ bucket_bytes rows) × AllByRecursion IsRow rows
 
 none_read : (bytes : List ℕ) (rows : List Row) → Some rows ≡ None → IsRead bytes rows
 none_read bytes rows e = let no' : ⊥ = cc in absurd no'
@@ -119,7 +119,7 @@ ordered (Some found) rows e = by (is_sorted name_cmp found) refl e
     by true s e = let same : found ≡ rows = cc in (e, ap (λ (rs : List Row). is_sorted name_cmp rs) (sym same) ∙ s)
     by false s e = let no' : ⊥ = cc in absurd no'
 
-some_content : (bytes : List ℕ) → 0 < length bytes → Some bytes ≡ content_of bytes
+some_content : (bytes : List ℕ) → 0 < length bytes → Some bytes ≡ value_of bytes
 some_content [] h = absurd (omega (arith, h))
 some_content (b ∷ bs) h = refl
 
@@ -128,7 +128,7 @@ bucket_form None rows stored e = let same : [] ≡ rows = cc in subst (IsBucketO
 bucket_form (Some bytes) rows stored e =
     let o = ordered (rows_from (length bytes) bytes) rows e in
     let r = rows_read (length bytes) bytes stored.1 rows o.0 in
-    record { text = some_content bytes stored.0 ∙ ap content_of r.0; rising = o.1; each = r.1 }
+    record { text = some_content bytes stored.0 ∙ ap value_of r.0; rising = o.1; each = r.1 }
 
 pub buckets_exact : BucketsAreExact
 buckets_exact value rows stored = (bucket_form value rows stored, bucket_read value rows)

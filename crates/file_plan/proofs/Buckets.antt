@@ -18,7 +18,7 @@ use Rattle.xfs_base.proofs.BlockOrder.{lookup-insert_entry, insert_entry-put}
 use Rattle.version_model.specs.History.{Content}
 use Rattle.file_plan.specs.declared.node.Node.{Node}
 use Rattle.file_plan.specs.Names.{Name, Row, name_cmp, is_good, named}
-use Rattle.file_plan.specs.Format.{kind_byte, kind_of, is_kind_byte, content_of, row_text, rows_text, front_row, has_row, with_row, rows_from, in_order, read_bucket}
+use Rattle.file_plan.specs.Format.{kind_byte, kind_of, is_kind_byte, value_of, row_text, bucket_bytes, front_row, has_row, with_row, rows_from, in_order, read_bucket}
 use Rattle.file_plan.specs.Formats.{IsRow, IsBucketOf}
 use Rattle.file_plan.specs.Tree.{IsEntry, IsBucket}
 use Rattle.xfs_base.specs.declared.block.Ino.{Ino}
@@ -61,25 +61,25 @@ has_front row rest good =
     and_true _ _ (length_first row.0 rest (length (row_text row ++ rest)) (omega arith))
     (and_true (is_kind_byte (kind_byte row.1.kind)) _ (kind_known row.1.kind) (ap is_good (take_at row.0 rest (length row.0) refl) ∙ good))
 
-pub rows_back : (rows : List Row) (n : ℕ) → length (rows_text rows) ≤ n → AllByRecursion IsRow rows → rows_from n (rows_text rows) ≡ Some rows
+pub rows_back : (rows : List Row) (n : ℕ) → length (bucket_bytes rows) ≤ n → AllByRecursion IsRow rows → rows_from n (bucket_bytes rows) ≡ Some rows
 rows_back [] n short all = refl
 rows_back (row ∷ rows) zero short all = absurd (omega (arith, short))
 rows_back (row ∷ rows) (suc n) short all =
-    let e = length-append row.0 (rows_text rows) in
-    let less : length (rows_text rows) ≤ n = omega (arith, e, short) in
-    ap (λ (b : Bool). cond b (with_row (front_row (rows_text (row ∷ rows))) (rows_from n (drop (length row.0) (row.0 ++ rows_text rows)))) None)
-    (has_front row (rows_text rows) all.0.good)
-    ∙ ap (λ (r : Row). with_row r (rows_from n (drop (length row.0) (row.0 ++ rows_text rows)))) (front_is row (rows_text rows) all.0.ino)
-    ∙ ap (λ (bytes : List ℕ). with_row row (rows_from n bytes)) (drop_at row.0 (rows_text rows) (length row.0) refl)
+    let e = length-append row.0 (bucket_bytes rows) in
+    let less : length (bucket_bytes rows) ≤ n = omega (arith, e, short) in
+    ap (λ (b : Bool). cond b (with_row (front_row (bucket_bytes (row ∷ rows))) (rows_from n (drop (length row.0) (row.0 ++ bucket_bytes rows)))) None)
+    (has_front row (bucket_bytes rows) all.0.good)
+    ∙ ap (λ (r : Row). with_row r (rows_from n (drop (length row.0) (row.0 ++ bucket_bytes rows)))) (front_is row (bucket_bytes rows) all.0.ino)
+    ∙ ap (λ (bytes : List ℕ). with_row row (rows_from n bytes)) (drop_at row.0 (bucket_bytes rows) (length row.0) refl)
     ∙ ap (with_row row) (rows_back rows n less all.1)
 
-read_content : (bytes : List ℕ) → read_bucket (content_of bytes) ≡ in_order (rows_from (length bytes) bytes)
+read_content : (bytes : List ℕ) → read_bucket (value_of bytes) ≡ in_order (rows_from (length bytes) bytes)
 read_content [] = refl
 read_content (b ∷ bs) = refl
 
 pub bucket_read : (value : Content) (rows : List Row) → IsBucketOf value rows → read_bucket value ≡ Some rows
 bucket_read value rows fact =
-    ap read_bucket fact.text ∙ read_content (rows_text rows) ∙ ap in_order (rows_back rows (length (rows_text rows)) (omega arith) fact.each)
+    ap read_bucket fact.text ∙ read_content (bucket_bytes rows) ∙ ap in_order (rows_back rows (length (bucket_bytes rows)) (omega arith) fact.each)
     ∙ ap (λ (b : Bool). cond b (Some rows) None) fact.rising
 
 forms : (kinds : Ino → Option Kind) (bucket : ℕ) (rows : List Row) → AllByRecursion (IsEntry kinds bucket) rows → AllByRecursion IsRow rows
@@ -141,17 +141,17 @@ all-insert P k node (row ∷ rows) here all =
 
 -- the bytes that an entry more takes
 pub length-insert : (k : Name) (node : Node) (rows : List Row) → named k rows ≡ None
-    → length (rows_text (insert_entry name_cmp rows k node)) ≡ length (rows_text rows) + (6 + length k)
+    → length (bucket_bytes (insert_entry name_cmp rows k node)) ≡ length (bucket_bytes rows) + (6 + length k)
 length-insert k node [] none = let nil : List ℕ = [] in let e = length-append k nil in omega (arith, e)
 length-insert k node (row ∷ rows) none =
     elim (name_cmp k row.0) as
     (λ (o : Ordering). cond (is_eq o) (Some row.1) (named k rows) ≡ None
-    → length (rows_text (match_ordering o ((k, node) ∷ row ∷ rows) ((row.0, node) ∷ rows) (row ∷ insert_entry name_cmp rows k node))) ≡ length
-    (rows_text (row ∷ rows)) + (6 + length k)) [
-      | Less ↦ λ _. let e = length-append k (rows_text (row ∷ rows)) in omega (arith, e)
+    → length (bucket_bytes (match_ordering o ((k, node) ∷ row ∷ rows) ((row.0, node) ∷ rows) (row ∷ insert_entry name_cmp rows k node))) ≡ length
+    (bucket_bytes (row ∷ rows)) + (6 + length k)) [
+      | Less ↦ λ _. let e = length-append k (bucket_bytes (row ∷ rows)) in omega (arith, e)
       | Equal ↦ λ h. let e : Some row.1 ≡ None = h in cc
-      | Greater ↦ λ h. let e = length-append row.0 (rows_text rows) in let f =
-          length-append row.0 (rows_text (insert_entry name_cmp rows k node)) in omega (arith, e, f, length-insert k node rows h)
+      | Greater ↦ λ h. let e = length-append row.0 (bucket_bytes rows) in let f =
+          length-append row.0 (bucket_bytes (insert_entry name_cmp rows k node)) in omega (arith, e, f, length-insert k node rows h)
     ] none
 
 -- ---- an entry less

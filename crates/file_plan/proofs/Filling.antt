@@ -10,9 +10,9 @@ use Rattle.version_model.specs.declared.file_call.FileCall.TheVariants as call
 use Rattle.version_model.specs.History.{Content}
 use Rattle.file_plan.specs.declared.node.Node.{Node}
 use Rattle.file_plan.specs.Names.{Name, Row, is_directory, bucket_number}
-use Rattle.file_plan.specs.Format.{bytes_in, content_of, overlaid, size_content, read_size, file_end}
+use Rattle.file_plan.specs.Format.{bytes_in, value_of, overlaid, size_value, read_size, file_end}
 use Rattle.file_plan.specs.Calls.{size_block, block_size}
-use Rattle.file_plan.specs.Plan.{start, after_answer, looked_at, filling, end_of, blocks_of, made_by}
+use Rattle.file_plan.specs.Plan.{start, file_plan_answered, looked_at, filling, end_of, blocks_of, made_by}
 use Rattle.file_plan.specs.declared.state.PlanState.TheVariants.{Ends, Measures, Fills, Takes, Patches, Grows}
 use Rattle.file_plan.specs.declared.state.Job.TheVariants.{Puts}
 use Rattle.file_plan.specs.declared.state.Task.TheVariants.{Raises}
@@ -74,12 +74,12 @@ module _ (file : Ino) (end : ℕ) (Q : Post) (m : ℕ) where
   part n more blk low bytes w some first within room q =
       let data' : blk ≢ size_block = λ e. omega (arith, e, room) in
       let old = w.value file blk in
-      let value : Content = content_of (overlaid (bytes_in old) low (take (block_size - low) bytes)) in
+      let value : Content = value_of (overlaid (bytes_in old) low (take (block_size - low) bytes)) in
       let e = length-drop (block_size - low) bytes in
       let zero_first : 0 < block_size = omega arith in
       let r : 0 + length (drop (block_size - low) bytes) ≤ block_size * n = omega (arith, e, within, first) in
       let s : blk + 1 + n ≤ size_block = omega (arith, room) in
-      written_at w file blk (w.ver file blk) value (λ a v. Comes (twice n m) (after_answer (Patches file blk low bytes end (w.ver file blk) old) a) v Q) refl
+      written_at w file blk (w.ver file blk) value (λ a v. Comes (twice n m) (file_plan_answered (Patches file blk low bytes end (w.ver file blk) old) a) v Q) refl
       (more (blk + 1) 0 (drop (block_size - low) bytes) (write w file blk value) zero_first r s
       (λ v f. q v (filled_more file blk low first data' bytes some w.value value (laid_over old low (take (block_size - low) bytes)) v.value f)))
 
@@ -199,18 +199,18 @@ module _ (kinds : Ino → Option Kind) (w : World) (sound : Sound kinds w.value)
           (bytes_over w.value v.value v.value file size size offset new fact filled now (λ b n. refl) (omega (arith, le)))
       by false e =
           let le : size < offset + length new = grind (arith, nat_tests) in
-          let u = put_at v.value file size_block (size_content end) in
+          let u = put_at v.value file size_block (size_value end) in
           let now : IsFile u file end = record {
-            stored = put_here v.value file size_block (size_content end);
+            stored = put_here v.value file size_block (size_value end);
             bound = fits;
-            blocks = λ b n. subst (IsBlock end b) (sym (put_beside v.value file size_block (size_content end) file b n))
+            blocks = λ b n. subst (IsBlock end b) (sym (put_beside v.value file size_block (size_value end) file b n))
                 (filled.blocks end (λ _. omega arith) b n (raised size end b (w.value file b) (omega (arith, le)) (fact.blocks b n)));
           } in
-          written_at v file size_block (v.ver file size_block) (size_content end)
-          (λ a x. Comes 0 (after_answer (Grows file end (v.ver file size_block)) a) x Q) refl
+          written_at v file size_block (v.ver file size_block) (size_value end)
+          (λ a x. Comes 0 (file_plan_answered (Grows file end (v.ver file size_block)) a) x Q) refl
           (put_meets_tree (overlaid ((tree_of w.value).bytes file) offset new) u end
-          (λ i b h. put_other v.value file size_block (size_content end) i b h ∙ filled.others i b h) now
-          (bytes_over w.value v.value u file size end offset new fact filled now (λ b n. put_beside v.value file size_block (size_content end) file b n)
+          (λ i b h. put_other v.value file size_block (size_value end) i b h ∙ filled.others i b h) now
+          (bytes_over w.value v.value u file size end offset new fact filled now (λ b n. put_beside v.value file size_block (size_value end) file b n)
           (omega (arith, le))))
 
   pub puts : (offset : ℕ) (new : List ℕ) → offset + length new ≤ file_end

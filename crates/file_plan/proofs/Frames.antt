@@ -9,7 +9,7 @@ use Rattle.std.proofs.lemmas.Bool.Decides.{nat_tests, eqb_tells}
 use Rattle.version_model.specs.History.{Content}
 use Rattle.file_plan.specs.declared.node.Node.{Node}
 use Rattle.file_plan.specs.Names.{Name, Row, name_cmp, bucket_number, named}
-use Rattle.file_plan.specs.Format.{bytes_in, content_of, rows_text, read_size}
+use Rattle.file_plan.specs.Format.{bytes_in, value_of, bucket_bytes, read_size}
 use Rattle.file_plan.specs.declared.block_call.BlockAnswer.{BlockAnswer}
 use Rattle.file_plan.specs.Calls.{block_at, size_block, block_size}
 use Rattle.file_plan.specs.declared.block_call.BlockCall.TheVariants.{PutAt}
@@ -116,15 +116,15 @@ apart_kinds kinds a b m n p q h e = h (sym p ∙ ap kinds e ∙ q)
 
 module _ (kinds : Ino → Option Kind) (t : Table) (sound : Sound kinds t) (dir : Ino) (fact : kinds dir ≡ Some kind.Directory) (bucket : ℕ) (rows : List Row)
     (before : IsBucket kinds bucket (t dir bucket) rows)
-    (now : List Row) (after : IsBucket kinds bucket (content_of (rows_text now)) now) where
+    (now : List Row) (after : IsBucket kinds bucket (value_of (bucket_bytes now)) now) where
   abbrev pub with_rows : Table
-  with_rows = put_at t dir bucket (content_of (rows_text now))
+  with_rows = put_at t dir bucket (value_of (bucket_bytes now))
 
   pub bucket_now : IsBucket kinds bucket (with_rows dir bucket) now
-  bucket_now = record { text = put_here t dir bucket (content_of (rows_text now)); rising = after.rising; each = after.each }
+  bucket_now = record { text = put_here t dir bucket (value_of (bucket_bytes now)); rising = after.rising; each = after.each }
 
   pub file_beside : (ino : Ino) (n : Option Kind) → kinds ino ≡ n → n ≢ Some kind.Directory → (blk : ℕ) → with_rows ino blk ≡ t ino blk
-  file_beside ino n k other blk = put_other t dir bucket (content_of (rows_text now)) ino blk (apart_kinds kinds ino dir n (Some kind.Directory) k fact other)
+  file_beside ino n k other blk = put_other t dir bucket (value_of (bucket_bytes now)) ino blk (apart_kinds kinds ino dir n (Some kind.Directory) k fact other)
 
   bucket_of : (d : Ino) (k : ℕ) → kinds d ≡ Some kind.Directory → k < 8 → (d ≡ dir) ⊎ (d ≢ dir) → (k ≡ bucket) ⊎ (k ≢ bucket)
       → (r : List Row) × IsBucket kinds k (with_rows d k) r
@@ -135,10 +135,10 @@ module _ (kinds : Ino → Option Kind) (t : Table) (sound : Sound kinds t) (dir 
   )
   bucket_of d k i small (inl e) (inr g) = let old =
       sound.directories d k i small in
-      (old.0, subst (λ (v : Content). IsBucket kinds k v old.0) (sym (put_beside t dir bucket (content_of (rows_text now)) d k g)) old.1)
+      (old.0, subst (λ (v : Content). IsBucket kinds k v old.0) (sym (put_beside t dir bucket (value_of (bucket_bytes now)) d k g)) old.1)
   bucket_of d k i small (inr e) g = let old =
       sound.directories d k i small in
-      (old.0, subst (λ (v : Content). IsBucket kinds k v old.0) (sym (put_other t dir bucket (content_of (rows_text now)) d k e)) old.1)
+      (old.0, subst (λ (v : Content). IsBucket kinds k v old.0) (sym (put_other t dir bucket (value_of (bucket_bytes now)) d k e)) old.1)
 
   pub sound_now : Sound kinds with_rows
   sound_now = record {
@@ -154,7 +154,7 @@ module _ (kinds : Ino → Option Kind) (t : Table) (sound : Sound kinds t) (dir 
   entries_now name r own change d q = by (ino_cases d dir) (eq_cases (bucket_number q) bucket)
     where
       value : Content
-      value = content_of (rows_text now)
+      value = value_of (bucket_bytes now)
 
       elsewhere : with_rows d (bucket_number q) ≡ t d (bucket_number q) → eq_by_cmp name_cmp q name ≡ false
           → (tree_of with_rows).entries d q ≡ (with_entry (tree_of t) dir name r).entries d q
@@ -187,7 +187,7 @@ module _ (kinds : Ino → Option Kind) (t : Table) (sound : Sound kinds t) (dir 
 
 -- ---- an entry more, an entry less
 
-length_content : (bytes : List ℕ) → length (bytes_in (content_of bytes)) ≡ length bytes
+length_content : (bytes : List ℕ) → length (bytes_in (value_of bytes)) ≡ length bytes
 length_content [] = refl
 length_content (b ∷ bs) = refl
 
@@ -198,11 +198,11 @@ pub room_is : (kinds : Ino → Option Kind) (t : Table) (dir : Ino) (name : Name
 room_is kinds t dir name rows node fact none =
     ap (λ (n : ℕ). nat_le n block_size)
     (length-insert name node rows none
-    ∙ ap (λ (n : ℕ). n + (6 + length name)) (sym (ap (λ (v : Content). length (bytes_in v)) fact.text ∙ length_content (rows_text rows))))
+    ∙ ap (λ (n : ℕ). n + (6 + length name)) (sym (ap (λ (v : Content). length (bytes_in v)) fact.text ∙ length_content (bucket_bytes rows))))
 
 pub bucket_more : (kinds : Ino → Option Kind) (bucket : ℕ) (value : Content) (name : Name) (rows : List Row) (node : Node) → IsBucket kinds bucket value rows
     → IsEntry kinds bucket (name, node)
-    → IsBucket kinds bucket (content_of (rows_text (insert_entry name_cmp rows name node))) (insert_entry name_cmp rows name node)
+    → IsBucket kinds bucket (value_of (bucket_bytes (insert_entry name_cmp rows name node))) (insert_entry name_cmp rows name node)
 bucket_more kinds bucket value name rows node fact entry = record {
   text = refl;
   rising = rising-insert name node rows fact.rising;
@@ -210,7 +210,7 @@ bucket_more kinds bucket value name rows node fact entry = record {
 }
 
 pub bucket_less : (kinds : Ino → Option Kind) (bucket : ℕ) (value : Content) (name : Name) (rows : List Row) → IsBucket kinds bucket value rows
-    → IsBucket kinds bucket (content_of (rows_text (without name rows))) (without name rows)
+    → IsBucket kinds bucket (value_of (bucket_bytes (without name rows))) (without name rows)
 bucket_less kinds bucket value name rows fact = record {
   text = refl;
   rising = from_T _ (rising-remove name rows (is_T (is_sorted name_cmp rows) fact.rising));

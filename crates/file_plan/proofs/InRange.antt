@@ -29,8 +29,8 @@ use Rattle.file_plan.specs.declared.state.Task.{Task}
 use Rattle.file_plan.specs.declared.state.Task.TheVariants.{Tells, Cuts, Raises, Clears}
 use Rattle.file_plan.specs.Calls.{root, block_size}
 use Rattle.file_plan.specs.Names.{Name, Row, name_cmp, same_node, is_directory, named, names_are_good}
-use Rattle.file_plan.specs.Format.{bytes_in, content_of, cut_of, rows_text, name_length, front_row, has_row, rest_of_rows, with_row, rows_from, in_order, read_rows, size_in, file_end}
-use Rattle.file_plan.specs.Plan.{walking, walking_path, walked_to, walked, filling, fetching, in_block, emptying, blocks_of, measured, gathering, insert_all, gathered, fits, entering, leaving, putting, end_of, needs_file, at_entry, unfound, looked_at, looked, entered, on_got, on_written, on_changed, on_synced, after_answer, start_named, start}
+use Rattle.file_plan.specs.Format.{bytes_in, value_of, cut_of, bucket_bytes, name_length, front_row, has_row, rest_of_rows, with_row, rows_from, in_order, read_rows, size_in, file_end}
+use Rattle.file_plan.specs.Plan.{walking, walking_path, walked_to, walked, filling, fetching, in_block, emptying, blocks_of, measured, gathering, insert_all, gathered, fits, entering, leaving, putting, end_of, needs_file, at_entry, unfound, looked_at, looked, entered, on_got, on_written, on_changed, on_synced, file_plan_answered, start_named, start}
 use Rattle.file_plan.specs.Ranges.{IsInRange, IsAnswer}
 use Rattle.file_plan.proofs.Parsing.{row_length}
 use Rattle.file_plan.proofs.RowPlaces.{without_shorter}
@@ -43,8 +43,8 @@ either false x y f g = g refl
 
 -- the entries that are read take as many bytes as they were read from
 is_read_more : (bytes : List ℕ) → has_row bytes ≡ true → (o : Option (List Row))
-    → ((more : List Row) → o ≡ Some more → length (rows_text more) ≡ length (rest_of_rows bytes)) → (rows : List Row)
-    → with_row (front_row bytes) o ≡ Some rows → length (rows_text rows) ≡ length bytes
+    → ((more : List Row) → o ≡ Some more → length (bucket_bytes more) ≡ length (rest_of_rows bytes)) → (rows : List Row)
+    → with_row (front_row bytes) o ≡ Some rows → length (bucket_bytes rows) ≡ length bytes
 is_read_more bytes has None go rows e = let no' : ⊥ = cc in absurd no'
 is_read_more bytes has (Some more) go rows e =
     let same : front_row bytes ∷ more ≡ rows = cc in
@@ -53,26 +53,26 @@ is_read_more bytes has (Some more) go rows e =
     let b = length-drop 6 bytes in
     let c = length-drop (name_length bytes) (drop 6 bytes) in
     let d = length-take (name_length bytes) (drop 6 bytes) in
-    let f = length-append (take (name_length bytes) (drop 6 bytes)) (rows_text more) in
-    subst (λ (rs : List Row). length (rows_text rs) ≡ length bytes) same (omega (arith, long, a, b, c, d, f))
+    let f = length-append (take (name_length bytes) (drop 6 bytes)) (bucket_bytes more) in
+    subst (λ (rs : List Row). length (bucket_bytes rs) ≡ length bytes) same (omega (arith, long, a, b, c, d, f))
 
 is_read_step : (bytes : List ℕ) (b : Bool) → has_row bytes ≡ b → (o : Option (List Row))
-    → ((more : List Row) → o ≡ Some more → length (rows_text more) ≡ length (rest_of_rows bytes)) → (rows : List Row)
-    → cond b (with_row (front_row bytes) o) None ≡ Some rows → length (rows_text rows) ≡ length bytes
+    → ((more : List Row) → o ≡ Some more → length (bucket_bytes more) ≡ length (rest_of_rows bytes)) → (rows : List Row)
+    → cond b (with_row (front_row bytes) o) None ≡ Some rows → length (bucket_bytes rows) ≡ length bytes
 is_read_step bytes true has o go rows e = is_read_more bytes has o go rows e
 is_read_step bytes false has o go rows e = let no' : ⊥ = cc in absurd no'
 
-rows_length : (n : ℕ) (bytes : List ℕ) (rows : List Row) → rows_from n bytes ≡ Some rows → length (rows_text rows) ≡ length bytes
-rows_length n [] rows e = let same : [] ≡ rows = cc in subst (λ (rs : List Row). length (rows_text rs) ≡ 0) same refl
+rows_length : (n : ℕ) (bytes : List ℕ) (rows : List Row) → rows_from n bytes ≡ Some rows → length (bucket_bytes rows) ≡ length bytes
+rows_length n [] rows e = let same : [] ≡ rows = cc in subst (λ (rs : List Row). length (bucket_bytes rs) ≡ 0) same refl
 rows_length zero (b ∷ bs) rows e = let no' : ⊥ = cc in absurd no'
 rows_length (suc n) (b ∷ bs) rows e =
     is_read_step (b ∷ bs) (has_row (b ∷ bs)) refl (rows_from n (rest_of_rows (b ∷ bs))) (λ more h. rows_length n (rest_of_rows (b ∷ bs)) more h) rows e
 
 -- entries that were read from so many bytes
 abbrev Short : Option (List Row) → Type 0
-Short o = IfSome o (λ rows. length (rows_text rows) ≤ max_value)
+Short o = IfSome o (λ rows. length (bucket_bytes rows) ≤ max_value)
 
-ordered_short : (n : ℕ) (o : Option (List Row)) → n ≤ max_value → ((rows : List Row) → o ≡ Some rows → length (rows_text rows) ≡ n) → Short (in_order o)
+ordered_short : (n : ℕ) (o : Option (List Row)) → n ≤ max_value → ((rows : List Row) → o ≡ Some rows → length (bucket_bytes rows) ≡ n) → Short (in_order o)
 ordered_short n None le h = tt
 ordered_short n (Some rows) le h = by (is_sorted name_cmp rows)
   where
@@ -97,7 +97,7 @@ size_short (Some (b ∷ bs)) = by (length (b ∷ bs) == 8) (from_be_bytes w64 (b
         le false e = tt
     by false n = tt
 
-is_value : (bytes : List ℕ) → length bytes ≤ max_value → IsValue (content_of bytes)
+is_value : (bytes : List ℕ) → length bytes ≤ max_value → IsValue (value_of bytes)
 is_value [] le = tt
 is_value (b ∷ bs) le = (omega arith, le)
 
@@ -179,18 +179,18 @@ in_gathered : (dir : Ino) (blk left : ℕ) (rows : List Row) (o : Option (List R
 in_gathered dir blk left rows None le = tt
 in_gathered dir blk left rows (Some more) le = in_gathering dir (blk + 1) left (insert_all rows more) le
 
-module _ (dir : Ino) (name : Name) (ver : ℕ) (rows : List Row) (short : length (rows_text rows) ≤ max_value) where
+module _ (dir : Ino) (name : Name) (ver : ℕ) (rows : List Row) (short : length (bucket_bytes rows) ≤ max_value) where
   in_entering : (node : Node) (job : Job) → IsInRange (entering dir name ver rows node job)
   in_entering node job =
       either (fits now) (Enters dir name ver now node.ino job) (Ends (File DirFull))
-      (λ e. let le : length (rows_text now) ≤ block_size = leb-true (length (rows_text now)) block_size e in is_value (rows_text now) (omega (arith, le)))
+      (λ e. let le : length (bucket_bytes now) ≤ block_size = leb-true (length (bucket_bytes now)) block_size e in is_value (bucket_bytes now) (omega (arith, le)))
       (λ _. tt)
     where
       now : List Row
       now = insert_entry name_cmp rows name node
 
   in_leaving : (ino : Ino) (job : Job) → IsInRange (leaving dir name ver rows ino job)
-  in_leaving ino job = let le = without_shorter name rows in is_value (rows_text (remove_entry (is_at (name_cmp name)) rows)) (omega (arith, le, short))
+  in_leaving ino job = let le = without_shorter name rows in is_value (bucket_bytes (remove_entry (is_at (name_cmp name)) rows)) (omega (arith, le, short))
 
   in_at_entry : (job : Job) (node : Node) → IsInRange (at_entry dir name ver rows job node)
   in_at_entry (Puts offset bytes) node = in_putting node.ino offset bytes
@@ -278,7 +278,7 @@ in_synced (Empties ino blk left v) h = h
 in_synced (Gathers dir blk left rows) h = h
 in_synced _ h = tt
 
-pub in_after : (s : PlanState) (a : BlockAnswer) → IsAnswer a → IsInRange s → IsInRange (after_answer s a)
+pub in_after : (s : PlanState) (a : BlockAnswer) → IsAnswer a → IsInRange s → IsInRange (file_plan_answered s a)
 in_after s (Got ver value) fact h = in_got s ver value fact h
 in_after s (Written ver) fact h = in_written s h
 in_after s Changed fact h = in_changed s h

@@ -6,7 +6,7 @@ use Rattle.file_plan.specs.declared.block_call.BlockAnswer.{BlockAnswer}
 use Rattle.file_plan.specs.declared.block_call.Next.{Next}
 use Rattle.file_plan.specs.declared.block_call.Next.TheVariants.{Step, Reply}
 use Rattle.file_plan.specs.declared.state.PlanState.{PlanState}
-use Rattle.file_plan.specs.Plan.{after_answer, after_all, next_call}
+use Rattle.file_plan.specs.Plan.{file_plan_answered, after_all, file_plan_next}
 use Rattle.file_plan.specs.declared.state.PlanState.TheVariants.{Ends}
 use Rattle.file_plan.specs.Driving.{World, serve, Rests, GoesOn, Replies}
 
@@ -15,8 +15,8 @@ Post = Answer → World → Type 0
 
 -- from a state a plan replies after at most n block calls, with Q
 abbrev pub Comes : ℕ → PlanState → World → Post → Type 0
-Comes zero s w Q = Rests (next_call s) w Q
-Comes (suc n) s w Q = GoesOn (next_call s) w Q (λ answer v. Comes n (after_answer s answer) v Q)
+Comes zero s w Q = Rests (file_plan_next s) w Q
+Comes (suc n) s w Q = GoesOn (file_plan_next s) w Q (λ answer v. Comes n (file_plan_answered s answer) v Q)
 
 pub ended : (n : ℕ) (answer : Answer) (w : World) (Q : Post) → Q answer w → Comes n (Ends answer) w Q
 ended zero answer w Q q = q
@@ -33,24 +33,24 @@ rests_goes (Step call) w Q more h = absurd h
 
 pub more_steps : (n m : ℕ) (s : PlanState) (w : World) (Q : Post) → n ≤ m → Comes n s w Q → Comes m s w Q
 more_steps zero zero s w Q le h = h
-more_steps zero (suc m) s w Q le h = rests_goes (next_call s) w Q (λ a v. Comes m (after_answer s a) v Q) h
+more_steps zero (suc m) s w Q le h = rests_goes (file_plan_next s) w Q (λ a v. Comes m (file_plan_answered s a) v Q) h
 more_steps (suc n) zero s w Q le h = absurd (omega arith)
 more_steps (suc n) (suc m) s w Q le h =
     let less : n ≤ m = omega arith in
-    goes (next_call s) w Q (λ a v. Comes n (after_answer s a) v Q) (λ a v. Comes m (after_answer s a) v Q)
-    (λ a v g. more_steps n m (after_answer s a) v Q less g) h
+    goes (file_plan_next s) w Q (λ a v. Comes n (file_plan_answered s a) v Q) (λ a v. Comes m (file_plan_answered s a) v Q)
+    (λ a v g. more_steps n m (file_plan_answered s a) v Q less g) h
 
-after_last : (s : PlanState) (answers : List BlockAnswer) (a : BlockAnswer) → after_all s (answers ++ a ∷ []) ≡ after_answer (after_all s answers) a
+after_last : (s : PlanState) (answers : List BlockAnswer) (a : BlockAnswer) → after_all s (answers ++ a ∷ []) ≡ file_plan_answered (after_all s answers) a
 after_last s [] a = refl
-after_last s (b ∷ answers) a = after_last (after_answer s b) answers a
+after_last s (b ∷ answers) a = after_last (file_plan_answered s b) answers a
 
 -- what holds state by state holds of the plan over the answers
 pub replies : (s : PlanState) (n : ℕ) (answers : List BlockAnswer) (w : World) (Q : Post) → Comes n (after_all s answers) w Q
-    → Replies (λ as'. next_call (after_all s as')) n answers w Q
+    → Replies (λ as'. file_plan_next (after_all s as')) n answers w Q
 replies s zero answers w Q h = h
 replies s (suc n) answers w Q h =
-    goes (next_call (after_all s answers)) w Q (λ a v. Comes n (after_answer (after_all s answers) a) v Q)
-    (λ a v. Replies (λ as'. next_call (after_all s as')) n (answers ++ a ∷ []) v Q)
+    goes (file_plan_next (after_all s answers)) w Q (λ a v. Comes n (file_plan_answered (after_all s answers) a) v Q)
+    (λ a v. Replies (λ as'. file_plan_next (after_all s as')) n (answers ++ a ∷ []) v Q)
     (λ a v g. replies s n (answers ++ a ∷ []) v Q (subst (λ (t : PlanState). Comes n t v Q) (sym (after_last s answers a)) g)) h
 
 -- n more steps after one for each name

@@ -8,9 +8,9 @@ use Rattle.version_model.specs.declared.answer.FileFault.TheVariants.{Exists, Di
 use Rattle.version_model.specs.declared.file_call.FileCall.TheVariants as call
 use Rattle.file_plan.specs.declared.node.Node.{Node}
 use Rattle.file_plan.specs.Names.{Name, Row, name_cmp, is_good, bucket_number, named}
-use Rattle.file_plan.specs.Format.{content_of, rows_text}
+use Rattle.file_plan.specs.Format.{value_of, bucket_bytes}
 use Rattle.file_plan.specs.declared.state.Job.{Job}
-use Rattle.file_plan.specs.Plan.{start, after_answer, looked_at, walking_path, entered, fits, made_by}
+use Rattle.file_plan.specs.Plan.{start, file_plan_answered, looked_at, walking_path, entered, fits, made_by}
 use Rattle.file_plan.specs.declared.state.PlanState.TheVariants.{Ends, Enters}
 use Rattle.file_plan.specs.declared.state.Job.TheVariants.{Makes}
 use Rattle.file_plan.specs.Tree.{tree_of, IsEntry, IsBucket, Sound, answered, refused, at_path, entered_as, does_make, with_entry, Meets, kept_as}
@@ -25,9 +25,9 @@ use Rattle.file_plan.specs.declared.node.Kind.TheVariants as kind
 
 -- the bucket is written
 pub enters : (w : World) (dir : Ino) (name : Name) (ver : ℕ) (rows : List Row) (ino : Ino) (job : Job) (n : ℕ) (Q : Post) → w.ver dir (bucket_number name) ≡ ver
-    → Comes n (entered job ino) (write w dir (bucket_number name) (content_of (rows_text rows))) Q → Comes (suc n) (Enters dir name ver rows ino job) w Q
+    → Comes n (entered job ino) (write w dir (bucket_number name) (value_of (bucket_bytes rows))) Q → Comes (suc n) (Enters dir name ver rows ino job) w Q
 enters w dir name ver rows ino job n Q same h =
-    written_at w dir (bucket_number name) ver (content_of (rows_text rows)) (λ a v. Comes n (after_answer (Enters dir name ver rows ino job) a) v Q) same h
+    written_at w dir (bucket_number name) ver (value_of (bucket_bytes rows)) (λ a v. Comes n (file_plan_answered (Enters dir name ver rows ino job) a) v Q) same h
 
 module _ (kinds : Ino → Option Kind) (w : World) (sound : Sound kinds w.value) where
   -- the table with an entry more holds the tree with it
@@ -35,7 +35,7 @@ module _ (kinds : Ino → Option Kind) (w : World) (sound : Sound kinds w.value)
       → IsBucket kinds (bucket_number name) (w.value dir (bucket_number name)) rows
       → (node : Node) → IsEntry kinds (bucket_number name) (name, node) → (given answer : Answer) → given ≡ answer
       → Meets kinds w.value (answered (with_entry (tree_of w.value) dir name (Some node)) answer) given
-      (write w dir (bucket_number name) (content_of (rows_text (insert_entry name_cmp rows name node)))).value
+      (write w dir (bucket_number name) (value_of (bucket_bytes (insert_entry name_cmp rows name node)))).value
   holds_more dir fact name rows before node entry given answer same =
       let b = bucket_number name in
       let now = insert_entry name_cmp rows name node in

@@ -12,7 +12,7 @@ use Rattle.version_model.specs.declared.answer.FileFault.TheVariants.{NoEntry, I
 use Rattle.version_model.specs.declared.file_call.FileCall.TheVariants as call
 use Rattle.file_plan.specs.declared.node.Node.{Node}
 use Rattle.file_plan.specs.Names.{Name, Row, is_directory, bucket_number}
-use Rattle.file_plan.specs.Format.{bytes_in, file_end, size_content, read_size}
+use Rattle.file_plan.specs.Format.{bytes_in, file_end, size_value, read_size}
 use Rattle.file_plan.specs.Calls.{size_block, block_size}
 use Rattle.file_plan.specs.declared.state.Task.{Task}
 use Rattle.file_plan.specs.Format.{cut_of}
@@ -31,7 +31,7 @@ pub size_bound : (n : ℕ) → n ≤ file_end → n < 2 ^ 64
 size_bound n h = omega arith
 
 -- a size is read as it was written
-pub size_back : (size : ℕ) → size ≤ file_end → read_size (size_content size) ≡ Some size
+pub size_back : (size : ℕ) → size ≤ file_end → read_size (size_value size) ≡ Some size
 size_back zero h = refl
 size_back (suc n) h =
     let e = from_be_bytes-to_be_bytes_8 (suc n) (size_bound (suc n) h) in

@@ -23,8 +23,8 @@ use Rattle.file_plan.specs.declared.state.PlanState.{PlanState}
 use Rattle.file_plan.specs.declared.state.PlanState.TheVariants.{Ends, Walks, Looks, Enters, Syncs}
 use Rattle.file_plan.specs.Calls.{block_at, root}
 use Rattle.file_plan.specs.Names.{Name, Row, name_cmp, bucket_number, same_node, is_directory, named, names_are_good}
-use Rattle.file_plan.specs.Format.{content_of, rows_text, read_bucket}
-use Rattle.file_plan.specs.Plan.{walking, walking_path, walked_to, walked, fits, leaving, unfound, looked_at, looked, entered, on_got, on_written, on_changed, on_synced, after_answer, next_call, start_named, start, after_all, made_by}
+use Rattle.file_plan.specs.Format.{value_of, bucket_bytes, read_bucket}
+use Rattle.file_plan.specs.Plan.{walking, walking_path, walked_to, walked, fits, leaving, unfound, looked_at, looked, entered, on_got, on_written, on_changed, on_synced, file_plan_answered, file_plan_next, start_named, start, after_all, made_by}
 use Rattle.file_plan.specs.WriteOrder.{TakesOut, PutsIn, HasWritten, HasSettled, AddsBeforeItRemoves}
 use Rattle.file_plan.proofs.WritesKept.{either, last, from_here, written_more, written_last, settled_more}
 
@@ -138,13 +138,13 @@ module _ (A S B T : Type 0) (f : A → B) (g : S → T) where
 
   -- the bucket was written
   move_entered : (dir : Ino) (name : Name) (rows : List Row) (ino : Ino) (job : Job)
-      → (PutsIn (block_at dir (bucket_number name)) (content_of (rows_text rows)) → B) → IsWriting S name rows job → InMove B T (entered job ino)
+      → (PutsIn (block_at dir (bucket_number name)) (value_of (bucket_bytes rows)) → B) → IsWriting S name rows job → InMove B T (entered job ino)
   move_entered dir name rows ino (Links linked from old) new h =
-      new (record { dir = dir; name = name; node = linked; rows = h.0; is_bucket = refl; text = ap (λ (rs : List Row). content_of (rows_text rs)) h.1 })
+      new (record { dir = dir; name = name; node = linked; rows = h.0; is_bucket = refl; text = ap (λ (rs : List Row). value_of (bucket_bytes rs)) h.1 })
   move_entered dir name rows ino (Unlinks old) new h = tt
   move_entered dir name rows ino _ new h = absurd h
 
-  move_written : (s : PlanState) → ((block : BlockId) (ver : ℕ) (value : Content) → next_call s ≡ Step (PutAt block ver value) → PutsIn block value → B)
+  move_written : (s : PlanState) → ((block : BlockId) (ver : ℕ) (value : Content) → file_plan_next s ≡ Step (PutAt block ver value) → PutsIn block value → B)
       → InMove A S s → InMove B T (on_written s)
   move_written (Ends answer) new h = tt
   move_written (Walks dir name onto rest job) new h = h
@@ -161,7 +161,7 @@ module _ (A S B T : Type 0) (f : A → B) (g : S → T) where
   move_changed (Syncs dir name node) h = f h
   move_changed _ h = absurd h
 
-  move_synced : (s : PlanState) → (next_call s ≡ Step Sync → A → T) → InMove A S s → InMove B T (on_synced s)
+  move_synced : (s : PlanState) → (file_plan_next s ≡ Step Sync → A → T) → InMove A S s → InMove B T (on_synced s)
   move_synced (Ends answer) new h = tt
   move_synced (Walks dir name onto rest job) new h = h
   move_synced (Looks dir name job) new h = still_at_entry S T g job h
@@ -170,8 +170,8 @@ module _ (A S B T : Type 0) (f : A → B) (g : S → T) where
   move_synced _ new h = absurd h
 
   move_after : (s : PlanState) (a : BlockAnswer)
-      → ((made : ℕ) (block : BlockId) (ver : ℕ) (value : Content) → a ≡ Written made → next_call s ≡ Step (PutAt block ver value) → PutsIn block value → B)
-      → (a ≡ Synced → next_call s ≡ Step Sync → A → T) → InMove A S s → InMove B T (after_answer s a)
+      → ((made : ℕ) (block : BlockId) (ver : ℕ) (value : Content) → a ≡ Written made → file_plan_next s ≡ Step (PutAt block ver value) → PutsIn block value → B)
+      → (a ≡ Synced → file_plan_next s ≡ Step Sync → A → T) → InMove A S s → InMove B T (file_plan_answered s a)
   move_after s (Got ver value) new settled h = move_got s ver value h
   move_after s (Written made) new settled h = move_written s (λ block ver value e t. new made block ver value refl e t) h
   move_after s Changed new settled h = move_changed s h
@@ -200,7 +200,7 @@ module _ (s0 : PlanState) where
   move_all (a ∷ rest) front h = subst Stands (append_assoc front (a ∷ []) rest) (move_all rest (front ++ a ∷ []) (move_more front a h))
 
 -- a move writes no whole block
-move_put : (A S : Type 0) (s : PlanState) (block : BlockId) (value : Content) → next_call s ≡ Step (Put block value) → InMove A S s → ⊥
+move_put : (A S : Type 0) (s : PlanState) (block : BlockId) (value : Content) → file_plan_next s ≡ Step (Put block value) → InMove A S s → ⊥
 move_put A S (Ends answer) block value e h = cc
 move_put A S (Walks dir name onto rest job) block value e h = cc
 move_put A S (Looks dir name job) block value e h = cc
@@ -210,29 +210,29 @@ move_put A S _ block value e h = h
 
 -- the writes of a bucket
 move_write : (S : Type 0) (dir : Ino) (name : Name) (rows : List Row) (job : Job) → IsWriting S name rows job
-    → PutsIn (block_at dir (bucket_number name)) (content_of (rows_text rows))
-    ⊎ (TakesOut (block_at dir (bucket_number name)) (content_of (rows_text rows)) × S)
+    → PutsIn (block_at dir (bucket_number name)) (value_of (bucket_bytes rows))
+    ⊎ (TakesOut (block_at dir (bucket_number name)) (value_of (bucket_bytes rows)) × S)
 move_write S dir name rows (Links linked from old) h =
-    inl (record { dir = dir; name = name; node = linked; rows = h.0; is_bucket = refl; text = ap (λ (rs : List Row). content_of (rows_text rs)) h.1 })
+    inl (record { dir = dir; name = name; node = linked; rows = h.0; is_bucket = refl; text = ap (λ (rs : List Row). value_of (bucket_bytes rs)) h.1 })
 move_write S dir name rows (Unlinks old) h =
-    inr (record { dir = dir; name = name; rows = h.1.0; is_bucket = refl; text = ap (λ (rs : List Row). content_of (rows_text rs)) h.1.1 }, h.0)
+    inr (record { dir = dir; name = name; rows = h.1.0; is_bucket = refl; text = ap (λ (rs : List Row). value_of (bucket_bytes rs)) h.1.1 }, h.0)
 move_write S dir name rows _ h = absurd h
 
-move_put_at : (A S : Type 0) (s : PlanState) (block : BlockId) (ver : ℕ) (value : Content) → next_call s ≡ Step (PutAt block ver value) → InMove A S s
+move_put_at : (A S : Type 0) (s : PlanState) (block : BlockId) (ver : ℕ) (value : Content) → file_plan_next s ≡ Step (PutAt block ver value) → InMove A S s
     → PutsIn block value ⊎ (TakesOut block value × S)
 move_put_at A S (Ends answer) block ver value e h = let no' : ⊥ = cc in absurd no'
 move_put_at A S (Walks dir name onto rest job) block ver value e h = let no' : ⊥ = cc in absurd no'
 move_put_at A S (Looks dir name job) block ver value e h = let no' : ⊥ = cc in absurd no'
 move_put_at A S (Enters dir name v rows ino job) block ver value e h =
     let at : block_at dir (bucket_number name) ≡ block = cc in
-    let text : content_of (rows_text rows) ≡ value = cc in
+    let text : value_of (bucket_bytes rows) ≡ value = cc in
     subst (λ (b : BlockId). PutsIn b value ⊎ (TakesOut b value × S)) at
     (subst (λ (v : Content). PutsIn (block_at dir (bucket_number name)) v ⊎ (TakesOut (block_at dir (bucket_number name)) v × S)) text
     (move_write S dir name rows job h))
 move_put_at A S (Syncs dir name node) block ver value e h = let no' : ⊥ = cc in absurd no'
 move_put_at A S _ block ver value e h = absurd h
 
-move_sync : (A S : Type 0) (s : PlanState) → next_call s ≡ Step Sync → InMove A S s → A
+move_sync : (A S : Type 0) (s : PlanState) → file_plan_next s ≡ Step Sync → InMove A S s → A
 move_sync A S (Ends answer) e h = let no' : ⊥ = cc in absurd no'
 move_sync A S (Walks dir name onto rest job) e h = let no' : ⊥ = cc in absurd no'
 move_sync A S (Looks dir name job) e h = let no' : ⊥ = cc in absurd no'

@@ -9,7 +9,7 @@ use Rattle.version_model.specs.declared.answer.FileFault.TheVariants.{NoEntry, E
 use Rattle.version_model.specs.declared.file_call.FileCall.TheVariants as call
 use Rattle.file_plan.specs.declared.node.Node.{Node}
 use Rattle.file_plan.specs.Names.{Name, Row, name_cmp, is_good, is_directory, bucket_number, named}
-use Rattle.file_plan.specs.Format.{content_of, rows_text}
+use Rattle.file_plan.specs.Format.{value_of, bucket_bytes}
 use Rattle.file_plan.specs.declared.state.Job.{Job}
 use Rattle.file_plan.specs.Names.{same_node}
 use Rattle.file_plan.specs.Plan.{start, looked, looked_at, leaving, walking_path, fits, made_by}
@@ -53,11 +53,11 @@ module _ (kinds : Ino → Option Kind) (w : World) (sound : Sound kinds w.value)
     abbrev now : List Row
     now = insert_entry name_cmp rows name node
 
-    next_one : IsBucket kinds (bucket_number name) (content_of (rows_text now)) now
+    next_one : IsBucket kinds (bucket_number name) (value_of (bucket_bytes now)) now
     next_one = bucket_more kinds (bucket_number name) (w.value dir (bucket_number name)) name rows node before entry
 
     abbrev w1 : World
-    w1 = write w dir (bucket_number name) (content_of (rows_text now))
+    w1 = write w dir (bucket_number name) (value_of (bucket_bytes now))
 
     s1 : Sound kinds w1.value
     s1 = sound_now kinds w.value sound dir fact (bucket_number name) rows before now next_one
@@ -85,10 +85,10 @@ module _ (kinds : Ino → Option Kind) (w : World) (sound : Sound kinds w.value)
         sym (entries_are kinds w1.value from (bucket_number old) rows_1 bucket_1 old refl) ∙ entries_1 from old
         ∙ still ((same_ino from dir) && eq_by_cmp name_cmp old name) ((tree_of w.value).entries from old) there
 
-    less : IsBucket kinds (bucket_number old) (content_of (rows_text (without old rows_1))) (without old rows_1)
+    less : IsBucket kinds (bucket_number old) (value_of (bucket_bytes (without old rows_1))) (without old rows_1)
     less = bucket_less kinds (bucket_number old) (w1.value from (bucket_number old)) old rows_1 bucket_1
 
-    moved : Meets kinds w.value both_ways Done (write w1 from (bucket_number old) (content_of (rows_text (without old rows_1)))).value
+    moved : Meets kinds w.value both_ways Done (write w1 from (bucket_number old) (value_of (bucket_bytes (without old rows_1)))).value
     moved = record {
       said = refl;
       sound = sound_now kinds w1.value s1 from from_is (bucket_number old) rows_1 bucket_1 (without old rows_1) less;

@@ -4,7 +4,7 @@ use Rattle.std.specs.Prelude.{◌⊎◌, ◌≢◌, nat_le, nat_lt, max}
 use Rattle.std.proofs.lemmas.Bool.Decides.{nat_tests}
 use Rattle.std.proofs.lemmas.List.{length-take, length-drop, length-replicate, get_or-take, get_or-drop, get_or_append_left, get_or-append_right}
 use Rattle.version_model.specs.History.{Content}
-use Rattle.file_plan.specs.Format.{bytes_in, content_of, overlaid}
+use Rattle.file_plan.specs.Format.{bytes_in, value_of, overlaid}
 use Rattle.file_plan.specs.Calls.{size_block, block_size}
 use Rattle.file_plan.specs.Tree.{Table, IsBlock}
 use Rattle.file_plan.specs.Driving.{put_at}
@@ -103,11 +103,11 @@ pub record Laid (old new : Content) (low : ℕ) (piece : List ℕ) : Type 0 wher
   pub bytes : (j : ℕ) → j < block_size → get_or (bytes_in new) j 0 ≡ cell (get_or (bytes_in old) j 0) j low piece
   pub bound : length (bytes_in new) ≤ max (length (bytes_in old)) (low + length piece)
 
-bytes_back : (bytes : List ℕ) → bytes_in (content_of bytes) ≡ bytes
+bytes_back : (bytes : List ℕ) → bytes_in (value_of bytes) ≡ bytes
 bytes_back [] = refl
 bytes_back (b ∷ bs) = refl
 
-pub laid_over : (old : Content) (low : ℕ) (piece : List ℕ) → Laid old (content_of (overlaid (bytes_in old) low piece)) low piece
+pub laid_over : (old : Content) (low : ℕ) (piece : List ℕ) → Laid old (value_of (overlaid (bytes_in old) low piece)) low piece
 laid_over old low piece = record {
   bytes = λ j small. ap (λ (bs : List ℕ). get_or bs j 0) (bytes_back (overlaid (bytes_in old) low piece)) ∙ overlaid_at (bytes_in old) low piece j;
   bound = let e = ap length (bytes_back (overlaid (bytes_in old) low piece)) in let f = length_overlaid (bytes_in old) low piece in omega (arith, e, f);

@@ -9,7 +9,7 @@ use Rattle.std.proofs.lemmas.List.{append-nil}
 use Rattle.std.specs.List.{list_all}
 use Rattle.std.proofs.lemmas.Bool.{le-leb, leb-true}
 use Rattle.file_plan.specs.Names.{Row, is_good, has_name_length, is_name_byte}
-use Rattle.file_plan.specs.Format.{content_of, is_kind_byte, name_length, front_row, has_row, rest_of_rows, with_row, rows_from}
+use Rattle.file_plan.specs.Format.{value_of, is_kind_byte, name_length, front_row, has_row, rest_of_rows, with_row, rows_from}
 
 -- ---- the entry at the front
 
@@ -106,7 +106,7 @@ good_short name good =
 -- ---- values
 
 -- bytes that are a value are none that are refused
-pub bad_value : (bytes : List ℕ) (n : ℕ) → IsValue (content_of bytes) → false ≡ (length bytes == 0)
+pub bad_value : (bytes : List ℕ) (n : ℕ) → IsValue (value_of bytes) → false ≡ (length bytes == 0)
     → (n ≡ length bytes) × ((length bytes ≡ 0) ⊎ (max_value < length bytes)) → ⊥
 bad_value [] n fact some h = let e : false ≡ true = some in cc
 bad_value (b ∷ bs) n fact some h = by h.1
@@ -116,7 +116,7 @@ bad_value (b ∷ bs) n fact some h = by h.1
     by (inr e) = omega (arith, e, fact.1)
 
 -- a front of some bytes is a value
-pub some_content : (bytes : List ℕ) (n : ℕ) → 0 < n → 0 < length bytes → content_of (take n bytes) ≡ Some (take n bytes)
+pub some_content : (bytes : List ℕ) (n : ℕ) → 0 < n → 0 < length bytes → value_of (take n bytes) ≡ Some (take n bytes)
 some_content bytes zero h some = absurd (omega (arith, h))
 some_content [] (suc n) h some = absurd (omega (arith, some))
 some_content (b ∷ bs) (suc n) h some = refl

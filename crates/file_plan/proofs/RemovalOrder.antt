@@ -25,8 +25,8 @@ use Rattle.file_plan.specs.declared.state.Task.{Task}
 use Rattle.file_plan.specs.declared.state.Task.TheVariants.{Tells, Cuts, Raises, Clears}
 use Rattle.file_plan.specs.Calls.{block_at, root}
 use Rattle.file_plan.specs.Names.{Name, Row, name_cmp, bucket_number, is_directory, named, names_are_good}
-use Rattle.file_plan.specs.Format.{content_of, rows_text, read_bucket, read_size}
-use Rattle.file_plan.specs.Plan.{walking, walking_path, walked_to, walked, emptying, blocks_of, measured, leaving, looked_at, looked, entered, on_got, on_written, on_changed, on_synced, after_answer, next_call, start_named, start, after_all, made_by}
+use Rattle.file_plan.specs.Format.{value_of, bucket_bytes, read_bucket, read_size}
+use Rattle.file_plan.specs.Plan.{walking, walking_path, walked_to, walked, emptying, blocks_of, measured, leaving, looked_at, looked, entered, on_got, on_written, on_changed, on_synced, file_plan_answered, file_plan_next, start_named, start, after_all, made_by}
 use Rattle.file_plan.specs.WriteOrder.{TakesOut, HasWritten, RemovesEntryFirst}
 use Rattle.file_plan.proofs.WritesKept.{either, last, from_here, written_more, written_last}
 
@@ -105,7 +105,7 @@ module _ (H K : Type 0) (kept : H → K) where
   removal_got (Closes ino v) ver value h = kept h
   removal_got _ ver value h = absurd h
 
-  removal_written : (s : PlanState) → ((block : BlockId) (ver : ℕ) (value : Content) → next_call s ≡ Step (PutAt block ver value) → TakesOut block value → K)
+  removal_written : (s : PlanState) → ((block : BlockId) (ver : ℕ) (value : Content) → file_plan_next s ≡ Step (PutAt block ver value) → TakesOut block value → K)
       → InRemoval H s → InRemoval K (on_written s)
   removal_written (Ends answer) new h = tt
   removal_written (Walks dir name onto rest job) new h = h
@@ -113,7 +113,7 @@ module _ (H K : Type 0) (kept : H → K) where
   removal_written (Enters dir name v rows ino job) new h =
       by_removal (λ j. InRemoval K (entered j ino)) (
         new _ v _ refl
-            (record { dir = dir; name = name; rows = h.1.0; is_bucket = refl; text = ap (λ (rs : List Row). content_of (rows_text rs)) h.1.1 }),
+            (record { dir = dir; name = name; rows = h.1.0; is_bucket = refl; text = ap (λ (rs : List Row). value_of (bucket_bytes rs)) h.1.1 }),
         tt,
       )
       job h.0
@@ -153,8 +153,8 @@ module _ (H K : Type 0) (kept : H → K) where
   removal_synced _ h = absurd h
 
   removal_after : (s : PlanState) (a : BlockAnswer)
-      → ((made : ℕ) (block : BlockId) (ver : ℕ) (value : Content) → a ≡ Written made → next_call s ≡ Step (PutAt block ver value) → TakesOut block value → K)
-      → InRemoval H s → InRemoval K (after_answer s a)
+      → ((made : ℕ) (block : BlockId) (ver : ℕ) (value : Content) → a ≡ Written made → file_plan_next s ≡ Step (PutAt block ver value) → TakesOut block value → K)
+      → InRemoval H s → InRemoval K (file_plan_answered s a)
   removal_after s (Got ver value) new h = removal_got s ver value h
   removal_after s (Written made) new h = removal_written s (λ block ver value e t. new made block ver value refl e t) h
   removal_after s Changed new h = removal_changed s h
@@ -179,7 +179,7 @@ module _ (s0 : PlanState) where
       (removal_all rest (front ++ a ∷ []) (removal_more front a h))
 
 -- a whole block that a removal writes
-removal_put : (H : Type 0) (s : PlanState) (block : BlockId) (value : Content) → next_call s ≡ Step (Put block value) → InRemoval H s → H × (value ≡ None)
+removal_put : (H : Type 0) (s : PlanState) (block : BlockId) (value : Content) → file_plan_next s ≡ Step (Put block value) → InRemoval H s → H × (value ≡ None)
 removal_put H (Ends answer) block value e h = let no' : ⊥ = cc in absurd no'
 removal_put H (Walks dir name onto rest job) block value e h = let no' : ⊥ = cc in absurd no'
 removal_put H (Looks dir name job) block value e h = let no' : ⊥ = cc in absurd no'
@@ -190,15 +190,15 @@ removal_put H (Closes ino v) block value e h = let no' : ⊥ = cc in absurd no'
 removal_put H _ block value e h = absurd h
 
 -- a write of a removal over a version
-removal_put_at : (H : Type 0) (s : PlanState) (block : BlockId) (ver : ℕ) (value : Content) → next_call s ≡ Step (PutAt block ver value) → InRemoval H s
+removal_put_at : (H : Type 0) (s : PlanState) (block : BlockId) (ver : ℕ) (value : Content) → file_plan_next s ≡ Step (PutAt block ver value) → InRemoval H s
     → TakesOut block value ⊎ (H × (value ≡ None))
 removal_put_at H (Ends answer) block ver value e h = let no' : ⊥ = cc in absurd no'
 removal_put_at H (Walks dir name onto rest job) block ver value e h = let no' : ⊥ = cc in absurd no'
 removal_put_at H (Looks dir name job) block ver value e h = let no' : ⊥ = cc in absurd no'
 removal_put_at H (Enters dir name v rows ino job) block ver value e h =
     let at : block_at dir (bucket_number name) ≡ block = cc in
-    let text : content_of (rows_text rows) ≡ value = cc in
-    inl (record { dir = dir; name = name; rows = h.1.0; is_bucket = sym at; text = sym text ∙ ap (λ (rs : List Row). content_of (rows_text rs)) h.1.1 })
+    let text : value_of (bucket_bytes rows) ≡ value = cc in
+    inl (record { dir = dir; name = name; rows = h.1.0; is_bucket = sym at; text = sym text ∙ ap (λ (rs : List Row). value_of (bucket_bytes rs)) h.1.1 })
 removal_put_at H (Measures ino task) block ver value e h = let no' : ⊥ = cc in absurd no'
 removal_put_at H (Empties ino blk left v) block ver value e h = let no' : ⊥ = cc in absurd no'
 removal_put_at H (Closes ino v) block ver value e h = let none : None ≡ value = cc in inr (h, sym none)

@@ -8,9 +8,9 @@ use Rattle.version_model.specs.declared.file_call.FileCall.TheVariants as call
 use Rattle.version_model.specs.History.{Content}
 use Rattle.file_plan.specs.declared.node.Node.{Node}
 use Rattle.file_plan.specs.Names.{Name, Row, is_directory, bucket_number}
-use Rattle.file_plan.specs.Format.{content_of, rows_text}
+use Rattle.file_plan.specs.Format.{value_of, bucket_bytes}
 use Rattle.file_plan.specs.Calls.{size_block}
-use Rattle.file_plan.specs.Plan.{start, after_answer, looked_at, leaving, emptying, blocks_of, made_by}
+use Rattle.file_plan.specs.Plan.{start, file_plan_answered, looked_at, leaving, emptying, blocks_of, made_by}
 use Rattle.file_plan.specs.declared.state.PlanState.TheVariants.{Ends, Measures, Closes}
 use Rattle.file_plan.specs.declared.state.Job.TheVariants.{Removes}
 use Rattle.file_plan.specs.declared.state.Task.TheVariants.{Clears}
@@ -70,7 +70,7 @@ one_more file blk left t u c = record {
 empties : (file : Ino) (ver : ℕ) (Q : Post) (left blk : ℕ) (w : World) → blk + left ≤ size_block → w.ver file size_block ≡ ver
     → ((v : World) → Cleared file blk left w.value v.value → Q Done v) → Comes (suc left) (emptying file blk left ver) w Q
 empties file ver Q zero blk w within same q =
-    written_at w file size_block ver None (λ a v. Comes 0 (after_answer (Closes file ver) a) v Q) same
+    written_at w file size_block ver None (λ a v. Comes 0 (file_plan_answered (Closes file ver) a) v Q) same
     (q (write w file size_block None) (closed file blk w.value))
 empties file ver Q (suc left) blk w within same q =
     let less : blk + 1 + left ≤ size_block = omega (arith, within) in
@@ -133,7 +133,7 @@ module _ (kinds : Ino → Option Kind) (w : World) (sound : Sound kinds w.value)
   remove_node dir fact name rows before node false d entry =
       let b = bucket_number name in
       let now = without name rows in
-      let value = content_of (rows_text now) in
+      let value = value_of (bucket_bytes now) in
       let next_one = bucket_less kinds b (w.value dir b) name rows before in
       let w1 = write w dir b value in
       let k = entry.kept ∙ ap Some (file_is node d) in

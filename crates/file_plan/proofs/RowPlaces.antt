@@ -11,7 +11,7 @@ use Rattle.std.specs.declared.cmp.Ordering.TheVariants.{Less, Equal, Greater}
 use Rattle.std.proofs.lemmas.List.{drop_more, drop_all, set_split}
 use Rattle.file_plan.specs.declared.node.Node.{Node}
 use Rattle.file_plan.specs.Names.{Name, Row, name_cmp}
-use Rattle.file_plan.specs.Format.{rows_text}
+use Rattle.file_plan.specs.Format.{bucket_bytes}
 use Rattle.file_plan.proofs.Buckets.{name_total, one_name, is_T, from_T, first, second}
 
 -- ---- an entry comes
@@ -104,14 +104,14 @@ not_ge Equal h = let e : true ≡ false = h in cc
 not_ge Greater h = let e : true ≡ false = h in cc
 
 -- without an entry the bytes are no more
-pub without_shorter : (name : Name) (rows : List Row) → length (rows_text (remove_entry (is_at (name_cmp name)) rows)) ≤ length (rows_text rows)
+pub without_shorter : (name : Name) (rows : List Row) → length (bucket_bytes (remove_entry (is_at (name_cmp name)) rows)) ≤ length (bucket_bytes rows)
 without_shorter name [] = omega arith
 without_shorter name (row ∷ rows) = by (is_at (name_cmp name) row.0) (without_shorter name rows)
   where
-    by : (b : Bool) → length (rows_text (remove_entry (is_at (name_cmp name)) rows)) ≤ length (rows_text rows)
-        → length (rows_text (cond b rows (row ∷ remove_entry (is_at (name_cmp name)) rows))) ≤ length (rows_text (row ∷ rows))
-    by true h = let e = length-append row.0 (rows_text rows) in omega (arith, e)
+    by : (b : Bool) → length (bucket_bytes (remove_entry (is_at (name_cmp name)) rows)) ≤ length (bucket_bytes rows)
+        → length (bucket_bytes (cond b rows (row ∷ remove_entry (is_at (name_cmp name)) rows))) ≤ length (bucket_bytes (row ∷ rows))
+    by true h = let e = length-append row.0 (bucket_bytes rows) in omega (arith, e)
     by false h =
-        let e = length-append row.0 (rows_text rows) in
-        let f = length-append row.0 (rows_text (remove_entry (is_at (name_cmp name)) rows)) in
+        let e = length-append row.0 (bucket_bytes rows) in
+        let f = length-append row.0 (bucket_bytes (remove_entry (is_at (name_cmp name)) rows)) in
         omega (arith, h, e, f)

@@ -23,7 +23,7 @@ use Rattle.file_plan.specs.declared.state.PlanState.{PlanState}
 use Rattle.file_plan.specs.declared.state.Job.{Job}
 use Rattle.file_plan.specs.declared.state.Task.{Task}
 use Rattle.file_plan.specs.Names.{same_node}
-use Rattle.file_plan.specs.Plan.{walking, walking_path, walked_to, walked, filling, fetching, emptying, blocks_of, measured, gathering, insert_all, gathered, fits, entering, leaving, end_of, putting, needs_file, at_entry, found, unfound, looked_at, looked, entered, on_got, on_written, on_changed, on_synced, after_answer, next_call, start_named, start, after_all, plan, made_by}
+use Rattle.file_plan.specs.Plan.{walking, walking_path, walked_to, walked, filling, fetching, emptying, blocks_of, measured, gathering, insert_all, gathered, fits, entering, leaving, end_of, putting, needs_file, at_entry, found, unfound, looked_at, looked, entered, on_got, on_written, on_changed, on_synced, file_plan_answered, file_plan_next, start_named, start, after_all, plan, made_by}
 use Rattle.file_plan.specs.declared.state.PlanState.TheVariants.{Ends, Walks, Looks, Enters, Syncs, Measures, Fetches, Fills, Takes, Patches, Grows, Empties, Closes, Gathers}
 use Rattle.file_plan.specs.declared.state.Job.TheVariants.{Makes, Puts, Gets, Sizes, Lists, Removes, Moves, Links, Unlinks}
 use Rattle.file_plan.specs.declared.state.Task.TheVariants.{Tells, Cuts, Raises, Clears}
@@ -137,7 +137,7 @@ module _ (P : BlockId → ℕ → Type 0) where
 
 -- what is known stays known, and what is read is known from then on
 module _ (P R : BlockId → ℕ → Type 0) (kept : (block : BlockId) (ver : ℕ) → P block ver → R block ver) where
-  on_got_knows : (s : PlanState) (ver : ℕ) (value : Content) → ((block : BlockId) → next_call s ≡ Step (Get block) → R block ver) → Knows P s
+  on_got_knows : (s : PlanState) (ver : ℕ) (value : Content) → ((block : BlockId) → file_plan_next s ≡ Step (Get block) → R block ver) → Knows P s
       → Knows R (on_got s ver value)
   on_got_knows (Ends answer) ver value new h = tt
   on_got_knows (Walks dir name onto rest job) ver value new h = knows_walked R name onto rest job _
@@ -170,7 +170,7 @@ module _ (P R : BlockId → ℕ → Type 0) (kept : (block : BlockId) (ver : ℕ
   on_synced_knows _ h = tt
 
   after_knows : (s : PlanState) (a : BlockAnswer)
-      → ((block : BlockId) (ver : ℕ) (old : Content) → next_call s ≡ Step (Get block) → a ≡ Got ver old → R block ver) → Knows P s → Knows R (after_answer s a)
+      → ((block : BlockId) (ver : ℕ) (old : Content) → file_plan_next s ≡ Step (Get block) → a ≡ Got ver old → R block ver) → Knows P s → Knows R (file_plan_answered s a)
   after_knows s (Got ver value) new h = on_got_knows s ver value (λ block e. new block ver value e refl) h
   after_knows s (Written ver) new h = on_written_knows s h
   after_knows s Changed new h = on_changed_knows s h
@@ -180,11 +180,11 @@ module _ (P R : BlockId → ℕ → Type 0) (kept : (block : BlockId) (ver : ℕ
 
 module _ (s0 : PlanState) where
   abbrev Read : List BlockAnswer → BlockId → ℕ → Type 0
-  Read answers = HasRead (λ answers'. next_call (after_all s0 answers')) answers
+  Read answers = HasRead (λ answers'. file_plan_next (after_all s0 answers')) answers
 
-  last : (answers : List BlockAnswer) (a : BlockAnswer) (s : PlanState) → after_all s (answers ++ a ∷ []) ≡ after_answer (after_all s answers) a
+  last : (answers : List BlockAnswer) (a : BlockAnswer) (s : PlanState) → after_all s (answers ++ a ∷ []) ≡ file_plan_answered (after_all s answers) a
   last [] a s = refl
-  last (b ∷ answers) a s = last answers a (after_answer s b)
+  last (b ∷ answers) a s = last answers a (file_plan_answered s b)
 
   one_more : (answers : List BlockAnswer) (a : BlockAnswer) → Knows (Read answers) (after_all s0 answers)
       → Knows (Read (answers ++ a ∷ [])) (after_all s0 (answers ++ a ∷ []))
@@ -201,7 +201,7 @@ module _ (s0 : PlanState) where
       (all_known rest (front ++ a ∷ []) (one_more front a h))
 
 -- a state that writes over a version keeps that version
-named_known : (P : BlockId → ℕ → Type 0) (s : PlanState) (block : BlockId) (ver : ℕ) (value : Content) → next_call s ≡ Step (PutAt block ver value) → Knows P s
+named_known : (P : BlockId → ℕ → Type 0) (s : PlanState) (block : BlockId) (ver : ℕ) (value : Content) → file_plan_next s ≡ Step (PutAt block ver value) → Knows P s
     → P block ver
 named_known P (Enters dir name v rows ino job) block ver value e h = let same : block_at dir (bucket_number name) ≡ block = cc in let at : v ≡ ver =
     cc in subst (λ (n : ℕ). P block n) at (subst (λ (b : BlockId). P b v) same h)
@@ -235,8 +235,8 @@ over_reads c number client answers block ver value e =
 -- ---- a refused write
 
 -- a state whose write was refused reads the block
-reads_next : (s : PlanState) (block : BlockId) (ver : ℕ) (value : Content) → next_call s ≡ Step (PutAt block ver value)
-    → next_call (on_changed s) ≡ Step (Get block)
+reads_next : (s : PlanState) (block : BlockId) (ver : ℕ) (value : Content) → file_plan_next s ≡ Step (PutAt block ver value)
+    → file_plan_next (on_changed s) ≡ Step (Get block)
 reads_next (Enters dir name v rows ino job) block ver value e = let same : block_at dir (bucket_number name) ≡ block =
     cc in ap (λ (b : BlockId). Step (Get b)) same
 reads_next (Patches ino blk low bytes end v old) block ver value e = let same : block_at ino blk ≡ block = cc in ap (λ (b : BlockId). Step (Get b)) same
@@ -247,4 +247,4 @@ reads_next _ block ver value e = let no' : ⊥ = cc in absurd no'
 pub reads_again : ReadsAgain
 reads_again c number client answers block ver value e =
     let s0 = start c (made_by number client) in
-    ap next_call (last s0 answers Changed s0) ∙ reads_next (after_all s0 answers) block ver value e
+    ap file_plan_next (last s0 answers Changed s0) ∙ reads_next (after_all s0 answers) block ver value e

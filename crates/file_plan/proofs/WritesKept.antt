@@ -9,7 +9,7 @@ use Rattle.file_plan.specs.declared.block_call.BlockCall.TheVariants.{PutAt}
 use Rattle.file_plan.specs.declared.block_call.Next.{Next}
 use Rattle.file_plan.specs.declared.block_call.Next.TheVariants.{Step}
 use Rattle.file_plan.specs.declared.state.PlanState.{PlanState}
-use Rattle.file_plan.specs.Plan.{after_answer, next_call, after_all}
+use Rattle.file_plan.specs.Plan.{file_plan_answered, file_plan_next, after_all}
 use Rattle.file_plan.specs.WriteOrder.{HasWritten, HasSettled}
 
 -- a fact that holds of the states to which each of two outcomes leads
@@ -18,13 +18,13 @@ either P true x y f g = f
 either P false x y f g = g
 
 -- the states after one answer more
-pub last : (answers : List BlockAnswer) (a : BlockAnswer) (s : PlanState) → after_all s (answers ++ a ∷ []) ≡ after_answer (after_all s answers) a
+pub last : (answers : List BlockAnswer) (a : BlockAnswer) (s : PlanState) → after_all s (answers ++ a ∷ []) ≡ file_plan_answered (after_all s answers) a
 last [] a s = refl
-last (b ∷ answers) a s = last answers a (after_answer s b)
+last (b ∷ answers) a s = last answers a (file_plan_answered s b)
 
 module _ (s0 : PlanState) where
   abbrev pub from_here : List BlockAnswer → Next
-  from_here answers = next_call (after_all s0 answers)
+  from_here answers = file_plan_next (after_all s0 answers)
 
   pub written_more : (IsSuch : BlockId → Content → Type 0) (answers : List BlockAnswer) (a : BlockAnswer) → HasWritten from_here answers IsSuch
       → HasWritten from_here (answers ++ a ∷ []) IsSuch

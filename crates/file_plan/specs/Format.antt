@@ -15,9 +15,9 @@ bytes_in None = []
 bytes_in (Some bytes) = bytes
 
 -- the value that has these bytes
-abbrev pub content_of : List ℕ → Content
-content_of [] = None
-content_of (b ∷ bs) = Some (b ∷ bs)
+abbrev pub value_of : List ℕ → Content
+value_of [] = None
+value_of (b ∷ bs) = Some (b ∷ bs)
 
 -- the bytes with the new ones from a place on, and zeros in a gap
 abbrev pub overlaid : List ℕ → ℕ → List ℕ → List ℕ
@@ -45,8 +45,8 @@ kind_of b = if b == 1 then File else Directory
 abbrev pub row_text : Row → List ℕ
 row_text row = kind_byte row.1.kind ∷ (to_be_bytes w32 row.1.ino.0 ++ length row.0 ∷ row.0)
 
-abbrev pub rows_text : List Row → List ℕ
-rows_text rows = flat_map row_text rows
+abbrev pub bucket_bytes : List Row → List ℕ
+bucket_bytes rows = flat_map row_text rows
 
 -- the length of the name of the entry at the front
 abbrev pub name_length : List ℕ → ℕ
@@ -94,9 +94,9 @@ abbrev pub file_end : ℕ
 file_end = max_bytes
 
 -- a size of 0 is Absent
-abbrev pub size_content : ℕ → Content
-size_content zero = None
-size_content (suc n) = Some (to_be_bytes w64 (suc n))
+abbrev pub size_value : ℕ → Content
+size_value zero = None
+size_value (suc n) = Some (to_be_bytes w64 (suc n))
 
 -- None where it isn't of its form
 abbrev pub size_in : List ℕ → Option ℕ

@@ -5,7 +5,7 @@ use Rattle.std.specs.List.{AllByRecursion}
 use Rattle.std.specs.FinMap.Entries.{is_sorted}
 use Rattle.version_model.specs.History.{Content}
 use Rattle.file_plan.specs.Names.{Row, name_cmp, is_good}
-use Rattle.file_plan.specs.Format.{content_of, rows_text, read_bucket, read_size, file_end}
+use Rattle.file_plan.specs.Format.{value_of, bucket_bytes, read_bucket, read_size, file_end}
 
 -- a value that a block may have: Absent, or some bytes
 abbrev pub IsStored : Content → Type 0
@@ -18,7 +18,7 @@ pub record IsRow (row : Row) : Type 0 where
 
 -- a value is a row of these entries, in strictly rising order of names
 pub record IsBucketOf (value : Content) (rows : List Row) : Type 0 where
-  pub text : value ≡ content_of (rows_text rows)
+  pub text : value ≡ value_of (bucket_bytes rows)
   pub rising : is_sorted name_cmp rows ≡ true
   pub each : AllByRecursion IsRow rows
 

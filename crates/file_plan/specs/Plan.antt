@@ -24,7 +24,7 @@ use Rattle.file_plan.specs.declared.state.PlanState.TheVariants.{Ends, Walks, Lo
 use Rattle.file_plan.specs.declared.state.Task.{Task}
 use Rattle.file_plan.specs.declared.state.Task.TheVariants.{Tells, Cuts, Raises, Clears}
 use Rattle.file_plan.specs.Names.{Name, Row, name_cmp, same_node, is_directory, bucket_number, named, names_are_good}
-use Rattle.file_plan.specs.Format.{bytes_in, content_of, overlaid, cut_of, rows_text, read_bucket, size_content, read_size, file_end}
+use Rattle.file_plan.specs.Format.{bytes_in, value_of, overlaid, cut_of, bucket_bytes, read_bucket, size_value, read_size, file_end}
 use Rattle.file_plan.specs.Calls.{block_at, root, size_block, block_size}
 
 abbrev pub refuses : FileFault → PlanState
@@ -102,7 +102,7 @@ gathered dir blk left rows None = refuses BadDir
 gathered dir blk left rows (Some more) = gathering dir (blk + 1) left (insert_all rows more)
 
 abbrev pub fits : List Row → Bool
-fits rows = nat_le (length (rows_text rows)) block_size
+fits rows = nat_le (length (bucket_bytes rows)) block_size
 
 -- a new entry, where none has the name
 abbrev pub entering : Ino → Name → ℕ → List Row → Node → Job → PlanState
@@ -212,28 +212,28 @@ on_synced (Syncs dir name node) = Looks dir name (Unlinks node)
 on_synced s = s
 
 -- an answer that isn't one to the call that was made changes nothing
-abbrev pub after_answer : PlanState → BlockAnswer → PlanState
-after_answer s (Got ver value) = on_got s ver value
-after_answer s (Written ver) = on_written s
-after_answer s Changed = on_changed s
-after_answer s Synced = on_synced s
+abbrev pub file_plan_answered : PlanState → BlockAnswer → PlanState
+file_plan_answered s (Got ver value) = on_got s ver value
+file_plan_answered s (Written ver) = on_written s
+file_plan_answered s Changed = on_changed s
+file_plan_answered s Synced = on_synced s
 
-abbrev pub next_call : PlanState → Next
-next_call (Ends answer) = Reply answer
-next_call (Walks dir name onto rest job) = Step (Get (block_at dir (bucket_number name)))
-next_call (Looks dir name job) = Step (Get (block_at dir (bucket_number name)))
-next_call (Enters dir name ver rows ino job) = Step (PutAt (block_at dir (bucket_number name)) ver (content_of (rows_text rows)))
-next_call (Syncs dir name node) = Step Sync
-next_call (Measures ino task) = Step (Get (block_at ino size_block))
-next_call (Fetches ino blk low left got) = Step (Get (block_at ino blk))
-next_call (Fills ino blk bytes end) = Step (Put (block_at ino blk) (Some (take block_size bytes)))
-next_call (Takes ino blk low bytes end) = Step (Get (block_at ino blk))
-next_call (Patches ino blk low bytes end ver old) =
-    Step (PutAt (block_at ino blk) ver (content_of (overlaid (bytes_in old) low (take (block_size - low) bytes))))
-next_call (Grows ino end ver) = Step (PutAt (block_at ino size_block) ver (size_content end))
-next_call (Empties ino blk left ver) = Step (Put (block_at ino blk) None)
-next_call (Closes ino ver) = Step (PutAt (block_at ino size_block) ver None)
-next_call (Gathers dir blk left rows) = Step (Get (block_at dir blk))
+abbrev pub file_plan_next : PlanState → Next
+file_plan_next (Ends answer) = Reply answer
+file_plan_next (Walks dir name onto rest job) = Step (Get (block_at dir (bucket_number name)))
+file_plan_next (Looks dir name job) = Step (Get (block_at dir (bucket_number name)))
+file_plan_next (Enters dir name ver rows ino job) = Step (PutAt (block_at dir (bucket_number name)) ver (value_of (bucket_bytes rows)))
+file_plan_next (Syncs dir name node) = Step Sync
+file_plan_next (Measures ino task) = Step (Get (block_at ino size_block))
+file_plan_next (Fetches ino blk low left got) = Step (Get (block_at ino blk))
+file_plan_next (Fills ino blk bytes end) = Step (Put (block_at ino blk) (Some (take block_size bytes)))
+file_plan_next (Takes ino blk low bytes end) = Step (Get (block_at ino blk))
+file_plan_next (Patches ino blk low bytes end ver old) =
+    Step (PutAt (block_at ino blk) ver (value_of (overlaid (bytes_in old) low (take (block_size - low) bytes))))
+file_plan_next (Grows ino end ver) = Step (PutAt (block_at ino size_block) ver (size_value end))
+file_plan_next (Empties ino blk left ver) = Step (Put (block_at ino blk) None)
+file_plan_next (Closes ino ver) = Step (PutAt (block_at ino size_block) ver None)
+file_plan_next (Gathers dir blk left rows) = Step (Get (block_at dir blk))
 
 -- ---- the plan
 
@@ -260,8 +260,8 @@ start c ino = if names_are_good c then start_named c ino else refuses BadName
 
 abbrev pub after_all : PlanState → List BlockAnswer → PlanState
 after_all s [] = s
-after_all s (a ∷ answers) = after_all (after_answer s a) answers
+after_all s (a ∷ answers) = after_all (file_plan_answered s a) answers
 
 -- what a call does next, from the answers that it had
 abbrev pub plan : FileCall → ℕ → ℕ → List BlockAnswer → Next
-plan c number client answers = next_call (after_all (start c (made_by number client)) answers)
+plan c number client answers = file_plan_next (after_all (start c (made_by number client)) answers)

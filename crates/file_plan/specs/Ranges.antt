@@ -7,7 +7,7 @@ use Rattle.file_plan.specs.declared.block_call.BlockAnswer.{BlockAnswer}
 use Rattle.file_plan.specs.declared.block_call.BlockAnswer.TheVariants.{Got, Changed, Synced}
 use Rattle.file_plan.specs.declared.block_call.BlockAnswer.TheVariants.{Put as Written}
 use Rattle.file_plan.specs.Calls.{block_size}
-use Rattle.file_plan.specs.Format.{content_of, rows_text, file_end}
+use Rattle.file_plan.specs.Format.{value_of, bucket_bytes, file_end}
 
 -- so many bytes from a byte of a block on end within a file
 pub record IsInFile (blk low count : ℕ) : Type 0 where
@@ -25,7 +25,7 @@ abbrev pub IsInRange : PlanState → Type 0
 IsInRange (Ends answer) = Unit {0}
 IsInRange (Walks dir name onto rest job) = Unit {0}
 IsInRange (Looks dir name job) = Unit {0}
-IsInRange (Enters dir name ver rows ino job) = IsValue (content_of (rows_text rows))
+IsInRange (Enters dir name ver rows ino job) = IsValue (value_of (bucket_bytes rows))
 IsInRange (Syncs dir name node) = Unit {0}
 IsInRange (Measures ino task) = Unit {0}
 IsInRange (Fetches ino blk low left got) = IsInFile blk low left × (length got + left ≤ file_end)

@@ -15,7 +15,7 @@ use Rattle.file_plan.specs.declared.node.Kind.{Kind}
 use Rattle.file_plan.specs.declared.node.Kind.TheVariants as kind
 use Rattle.file_plan.specs.declared.node.Node.{Node}
 use Rattle.file_plan.specs.Names.{Name, Row, name_cmp, same_ino, is_directory, bucket_number, named, names_are_good}
-use Rattle.file_plan.specs.Format.{bytes_in, content_of, overlaid, rows_text, read_bucket, size_content, read_size, file_end}
+use Rattle.file_plan.specs.Format.{bytes_in, value_of, overlaid, bucket_bytes, read_bucket, size_value, read_size, file_end}
 use Rattle.file_plan.specs.Formats.{IsRow}
 use Rattle.file_plan.specs.Calls.{root, size_block, block_size}
 use Rattle.file_plan.specs.Plan.{shown}
@@ -55,7 +55,7 @@ pub record IsEntry (kinds : Ino → Option Kind) (bucket : ℕ) (row : Row) : Ty
 
 -- a value is the bucket that holds these entries
 pub record IsBucket (kinds : Ino → Option Kind) (bucket : ℕ) (value : Content) (rows : List Row) : Type 0 where
-  pub text : value ≡ content_of (rows_text rows)
+  pub text : value ≡ value_of (bucket_bytes rows)
   pub rising : is_sorted name_cmp rows ≡ true
   pub each : AllByRecursion (IsEntry kinds bucket) rows
 
@@ -65,7 +65,7 @@ pub record IsBlock (size blk : ℕ) (value : Content) : Type 0 where
   pub below : 0 < length (bytes_in value) → block_size * blk + length (bytes_in value) ≤ size
 
 pub record IsFile (t : Table) (file : Ino) (size : ℕ) : Type 0 where
-  pub stored : t file size_block ≡ size_content size
+  pub stored : t file size_block ≡ size_value size
   pub bound : size ≤ file_end
   pub blocks : (blk : ℕ) → blk ≢ size_block → IsBlock size blk (t file blk)
 

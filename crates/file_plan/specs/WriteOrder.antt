@@ -14,7 +14,7 @@ use Rattle.file_plan.specs.declared.block_call.Next.{Next}
 use Rattle.file_plan.specs.declared.block_call.Next.TheVariants.{Step}
 use Rattle.file_plan.specs.declared.node.Node.{Node}
 use Rattle.file_plan.specs.Names.{Name, Row, name_cmp, bucket_number}
-use Rattle.file_plan.specs.Format.{content_of, rows_text}
+use Rattle.file_plan.specs.Format.{value_of, bucket_bytes}
 use Rattle.file_plan.specs.Calls.{block_at}
 use Rattle.file_plan.specs.Plan.{plan}
 
@@ -24,7 +24,7 @@ pub record TakesOut (block : BlockId) (value : Content) : Type 0 where
   pub name : Name
   pub rows : List Row
   pub is_bucket : block ≡ block_at dir (bucket_number name)
-  pub text : value ≡ content_of (rows_text (remove_entry (is_at (name_cmp name)) rows))
+  pub text : value ≡ value_of (bucket_bytes (remove_entry (is_at (name_cmp name)) rows))
 
 -- a bucket is written with one entry more
 pub record PutsIn (block : BlockId) (value : Content) : Type 0 where
@@ -33,7 +33,7 @@ pub record PutsIn (block : BlockId) (value : Content) : Type 0 where
   pub node : Node
   pub rows : List Row
   pub is_bucket : block ≡ block_at dir (bucket_number name)
-  pub text : value ≡ content_of (rows_text (insert_entry name_cmp rows name node))
+  pub text : value ≡ value_of (bucket_bytes (insert_entry name_cmp rows name node))
 
 -- among these answers of a plan is one that says that such a write over a version was made
 pub record HasWritten (plan : List BlockAnswer → Next) (answers : List BlockAnswer) (IsSuch : BlockId → Content → Type 0) : Type 0 where

@@ -1,6 +1,6 @@
 //! What a call does on each answer to its calls on blocks.
 ghost use Rattle.std.specs.Prelude.{◌≡◌, IfOk};
-ghost use Rattle.file_plan.specs.Plan.{after_answer, on_got, on_written, on_changed, on_synced};
+ghost use Rattle.file_plan.specs.Plan.{file_plan_answered, on_got, on_written, on_changed, on_synced};
 ghost use Rattle.xfs_base.specs.Value.{IsValue};
 ghost use Rattle.file_plan.specs.Ranges.{IsInRange};
 
@@ -19,7 +19,7 @@ use xfs_base::{Mem, Value};
 /// An answer came; one that isn't of the call that was made changes nothing.
 pub(crate) fn answered(alloc: Global, state: PlanState, answer: &BlockAnswer) -> Mem<PlanState>
     requires { IsInRange state }
-    ensures next { IfOk result (λ next. next ≡ after_answer state answer.now) }
+    ensures next { IfOk result (λ next. next ≡ file_plan_answered state answer.now) }
     ensures in_range { IfOk result (λ next. IsInRange next) }
 {
     match answer {

@@ -3,7 +3,7 @@
 ghost use Rattle.std.specs.Prelude.{◌≡◌, ◌&&◌, ◌++◌, ◌<◌, ◌+◌, IfOk, IfSome, OnOk, None, Some, length, IsTrue};
 ghost use Rattle.std.specs.FinMap.Entries.{is_sorted};
 ghost use Rattle.file_plan.specs.Names.{name_cmp, is_good};
-ghost use Rattle.file_plan.specs.Format.{kind_byte, kind_of, is_kind_byte, row_text, rows_text, has_row, front_row, rest_of_rows, rows_from, read_rows};
+ghost use Rattle.file_plan.specs.Format.{kind_byte, kind_of, is_kind_byte, row_text, bucket_bytes, has_row, front_row, rest_of_rows, rows_from, read_rows};
 
 use crate::name::is_good;
 use crate::{Kind, Name, Node};
@@ -48,7 +48,7 @@ fn add_row(bytes: &mut Vec<u8>, name: &Name, node: Node) -> Mem<()>
 
 /// The bytes of the bucket that holds these entries.
 pub fn bucket_bytes(alloc: Global, rows: &[(Name, Node)]) -> Mem<Vec<u8>>
-    ensures { IfOk result (λ bytes. bytes.items ≡ rows_text rows.now) }
+    ensures { IfOk result (λ bytes. bytes.items ≡ bucket_bytes rows.now) }
 {
     let mut bytes = Vec::new(alloc);
     for (name, node) in rows {

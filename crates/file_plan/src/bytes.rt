@@ -1,7 +1,7 @@
 //! Bytes of blocks.
 ghost use Rattle.std.specs.Prelude.{◌≡◌, ◌+◌, ◌<◌, ◌^◌, ◌++◌, IfOk, length, drop};
 ghost use Rattle.xfs_base.specs.Value.{IsValue};
-ghost use Rattle.file_plan.specs.Format.{bytes_in, content_of, overlaid, cut_of};
+ghost use Rattle.file_plan.specs.Format.{bytes_in, value_of, overlaid, cut_of};
 
 use std::alloc::{AllocError, Global};
 use xfs_base::{List, Mem, Value, ValueError};
@@ -19,8 +19,8 @@ pub(crate) fn bytes_of(value: &Value) -> &[u8]
 
 /// The value of these bytes, Absent where there are none.
 pub(crate) fn value_of(alloc: Global, bytes: &[u8]) -> Mem<Value>
-    requires { IsValue (content_of bytes.now) }
-    ensures { IfOk result (λ value. value ≡ content_of bytes.now) }
+    requires { IsValue (value_of bytes.now) }
+    ensures { IfOk result (λ value. value ≡ value_of bytes.now) }
 {
     if bytes.is_empty() {
         return Ok(Value::absent());

@@ -2,9 +2,9 @@
 ghost use Rattle.std.specs.Prelude.{◌≡◌, ◌-◌, ◌<◌, ◌≤◌, IfOk, Some, length, take};
 ghost use Rattle.xfs_base.specs.Limits.{max_lines};
 ghost use Rattle.file_plan.specs.Calls.{block_size};
-ghost use Rattle.file_plan.specs.Format.{bytes_in, content_of, overlaid};
+ghost use Rattle.file_plan.specs.Format.{bytes_in, value_of, overlaid};
 ghost use Rattle.file_plan.specs.Ranges.{IsInRange};
-ghost use Rattle.file_plan.specs.Plan.{made_by, start, after_answer, next_call, plan};
+ghost use Rattle.file_plan.specs.Plan.{made_by, start, file_plan_answered, file_plan_next, plan};
 
 use crate::answered::answered;
 use crate::bucket::bucket_bytes;
@@ -73,7 +73,7 @@ impl FilePlan {
     /// The plan after one more answer. An answer that isn't one to the call that was made changes
     /// nothing.
     pub fn answered(self, alloc: Global, answer: &BlockAnswer) -> Mem<FilePlan>
-        ensures { IfOk result (λ plan. plan ≡ after_answer self answer.now) }
+        ensures { IfOk result (λ plan. plan ≡ file_plan_answered self answer.now) }
     {
         let FilePlan { state } = self;
         Ok(FilePlan {
@@ -83,7 +83,7 @@ impl FilePlan {
 
     /// What the call does next: a call on blocks, or its answer.
     pub fn next(&self, alloc: Global) -> Mem<Next>
-        ensures { IfOk result (λ step. step ≡ next_call self.now) }
+        ensures { IfOk result (λ step. step ≡ file_plan_next self.now) }
     {
         next_of(alloc, &self.state)
     }
@@ -93,7 +93,7 @@ impl Crosses for FilePlan {}
 
 fn next_of(alloc: Global, state: &PlanState) -> Mem<Next>
     requires { IsInRange state.now }
-    ensures { IfOk result (λ step. step ≡ next_call state.now) }
+    ensures { IfOk result (λ step. step ≡ file_plan_next state.now) }
 {
     match state {
         PlanState::Ends(answer) => Ok(Next::Reply(answer.copy(alloc)?)),
@@ -186,7 +186,7 @@ fn filled(alloc: Global, bytes: &[u8]) -> Mem<Value>
 fn patched(alloc: Global, old: &Value, low: u32, bytes: &[u8]) -> Mem<Value>
     requires within { low < block_size }
     requires some { 0 < length bytes.now }
-    ensures { IfOk result (λ value. value ≡ content_of (overlaid (bytes_in old.now) low (take (block_size - low) bytes.now))) }
+    ensures { IfOk result (λ value. value ≡ value_of (overlaid (bytes_in old.now) low (take (block_size - low) bytes.now))) }
 {
     let count = ((BLOCK_SIZE - low) as usize).min(bytes.len());
     let (piece, _) = bytes.split_at(count);

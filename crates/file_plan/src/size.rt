@@ -1,6 +1,6 @@
 //! The form of a size.
 ghost use Rattle.std.specs.Prelude.{◌≡◌, ◌≤◌, IfOk, IfSome};
-ghost use Rattle.file_plan.specs.Format.{size_content, size_in, file_end};
+ghost use Rattle.file_plan.specs.Format.{size_value, size_in, file_end};
 
 use crate::bytes::value_of;
 use crate::places::FILE_END;
@@ -9,7 +9,7 @@ use xfs_base::{Mem, Value};
 
 /// The value of a file's size block: eight bytes, big-endian, and Absent for 0.
 pub fn size_value(alloc: Global, size: u32) -> Mem<Value>
-    ensures { IfOk result (λ value. value ≡ size_content size) }
+    ensures { IfOk result (λ value. value ≡ size_value size) }
 {
     if size == 0 {
         return Ok(Value::absent());

@@ -19,7 +19,7 @@ use Rattle.xfs_base.proofs.Members.{contains_first, contains_rest}
 use Rattle.xfs_base.proofs.Orders.{pass_cmp_total}
 use Rattle.fragment_store.specs.declared.store_error.StoreError.TheVariants.{WrongGeneration, Marked}
 use Rattle.fragment_store.specs.ShelfState.{ShelfState, same_name, log_cmp, held_at, is_held, is_marked, fence_of}
-use Rattle.fragment_store.specs.Calls.{with_fragment, store_refused, kept, on_fence, on_delete}
+use Rattle.fragment_store.specs.Calls.{with_fragment, refusal, shelf_store, on_fence, on_delete}
 use Rattle.fragment_store.specs.Histories.{Call, DeletedAreAway, after_call, after_calls}
 use Rattle.fragment_store.specs.Histories.Call.{Store, Fence, Delete, Fill}
 use Rattle.fragment_store.proofs.Entries.{none_held}
@@ -72,19 +72,19 @@ fence_rises s log pass other =
     (rises_or_stays s log pass other (eq_by_cmp log_cmp other log) refl h))
     (λ h. not_below_itself (fence_of s.fences other))
 
-kept_rises : (s : ShelfState) (f : Fragment) (log : LogId) → Rises s log (kept s f)
+kept_rises : (s : ShelfState) (f : Fragment) (log : LogId) → Rises s log (shelf_store s f)
 kept_rises s f log =
     by_test (Rises s log) (is_held s f.meta.name) s (record s { held = with_fragment f s.held }) (λ h. not_below_itself (fence_of s.fences log))
     (λ h. not_below_itself (fence_of s.fences log))
 
 fence_after_call : (s : ShelfState) (c : Call) (log : LogId) → Rises s log (after_call s c)
 fence_after_call s (Store f generation) log =
-    by_test (Rises s log) (is_none (store_refused s f.meta.name generation)) (kept s f) s (λ h. kept_rises s f log)
+    by_test (Rises s log) (is_none (refusal s f.meta.name generation)) (shelf_store s f) s (λ h. kept_rises s f log)
     (λ h. not_below_itself (fence_of s.fences log))
 fence_after_call s (Fence log' pass) log = fence_rises s log' pass log
 fence_after_call s (Delete name) log = not_below_itself (fence_of s.fences log)
 fence_after_call s (Fill f) log =
-    by_test (Rises s log) (is_marked s.marks f.meta.name) s (kept s f) (λ h. not_below_itself (fence_of s.fences log)) (λ h. kept_rises s f log)
+    by_test (Rises s log) (is_marked s.marks f.meta.name) s (shelf_store s f) (λ h. not_below_itself (fence_of s.fences log)) (λ h. kept_rises s f log)
 
 pub never_fall : (s : ShelfState) (calls : List Call) (log : LogId)
     → IsFalse (is_greater (pass_cmp (fence_of s.fences log) (fence_of (after_calls s calls).fences log)))
@@ -98,17 +98,17 @@ never_fall s (c ∷ cs) log =
 abbrev StaysMarked : ShelfState → SegName → ShelfState → Type 0
 StaysMarked s name later = is_marked s.marks name ≡ true → is_marked later.marks name ≡ true
 
-kept_marks : (s : ShelfState) (f : Fragment) (name : SegName) → StaysMarked s name (kept s f)
+kept_marks : (s : ShelfState) (f : Fragment) (name : SegName) → StaysMarked s name (shelf_store s f)
 kept_marks s f name = by_test (StaysMarked s name) (is_held s f.meta.name) s (record s { held = with_fragment f s.held }) (λ h m. m) (λ h m. m)
 
 marks_after_call : (s : ShelfState) (c : Call) (name : SegName) → StaysMarked s name (after_call s c)
 marks_after_call s (Store f generation) name =
-    by_test (StaysMarked s name) (is_none (store_refused s f.meta.name generation)) (kept s f) s (λ h. kept_marks s f name) (λ h m. m)
+    by_test (StaysMarked s name) (is_none (refusal s f.meta.name generation)) (shelf_store s f) s (λ h. kept_marks s f name) (λ h m. m)
 marks_after_call s (Fence log pass) name =
     by_test (StaysMarked s name) (is_greater (pass_cmp pass (fence_of s.fences log))) (record s { fences = insert_entry log_cmp s.fences log pass }) s
     (λ h m. m) (λ h m. m)
 marks_after_call s (Delete gone) name = λ m. is_marked-with s.marks gone name ∙ or_second (same_name name gone) (is_marked s.marks name) m
-marks_after_call s (Fill f) name = by_test (StaysMarked s name) (is_marked s.marks f.meta.name) s (kept s f) (λ h m. m) (λ h. kept_marks s f name)
+marks_after_call s (Fill f) name = by_test (StaysMarked s name) (is_marked s.marks f.meta.name) s (shelf_store s f) (λ h m. m) (λ h. kept_marks s f name)
 
 pub marks_stay : (s : ShelfState) (calls : List Call) (name : SegName) → IsTrue (is_marked s.marks name) → IsTrue (is_marked (after_calls s calls).marks name)
 marks_stay s [] name m = m
@@ -126,7 +126,7 @@ beside s new name f none h true e =
     contrary (sym (ap is_some none) ∙ (ap (λ n. is_some (held_at s.held n)) (sym (one_name name new.meta.name e)) ∙ ap is_some h))
 beside s new name f none h false e = h
 
-kept_held : (s : ShelfState) (new : Fragment) (name : SegName) (f : Fragment) → held_at s.held name ≡ Some f → held_at (kept s new).held name ≡ Some f
+kept_held : (s : ShelfState) (new : Fragment) (name : SegName) (f : Fragment) → held_at s.held name ≡ Some f → held_at (shelf_store s new).held name ≡ Some f
 kept_held s new name f h =
     by_test (λ (later : ShelfState). held_at later.held name ≡ Some f) (is_held s new.meta.name) s (record s { held = with_fragment new s.held }) (λ e. h)
     (λ e. let none = none_held (held_at s.held new.meta.name) e in
@@ -140,14 +140,14 @@ deleted_or_held s gone name f h false e = inl (held-without gone s.held name ∙
 held_after_call : (s : ShelfState) (c : Call) (name : SegName) (f : Fragment) → held_at s.held name ≡ Some f
     → HeldOr (c ≡ Delete name) name f (after_call s c)
 held_after_call s (Store new generation) name f h =
-    by_test (HeldOr (Store new generation ≡ Delete name) name f) (is_none (store_refused s new.meta.name generation)) (kept s new) s
+    by_test (HeldOr (Store new generation ≡ Delete name) name f) (is_none (refusal s new.meta.name generation)) (shelf_store s new) s
     (λ e. inl (kept_held s new name f h)) (λ e. inl h)
 held_after_call s (Fence log pass) name f h =
     by_test (HeldOr (Fence log pass ≡ Delete name) name f) (is_greater (pass_cmp pass (fence_of s.fences log)))
     (record s { fences = insert_entry log_cmp s.fences log pass }) s (λ e. inl h) (λ e. inl h)
 held_after_call s (Delete gone) name f h = deleted_or_held s gone name f h (same_name gone name) refl
 held_after_call s (Fill new) name f h =
-    by_test (HeldOr (Fill new ≡ Delete name) name f) (is_marked s.marks new.meta.name) s (kept s new) (λ e. inl h) (λ e. inl (kept_held s new name f h))
+    by_test (HeldOr (Fill new ≡ Delete name) name f) (is_marked s.marks new.meta.name) s (shelf_store s new) (λ e. inl h) (λ e. inl (kept_held s new name f h))
 
 abbrev HeldOrDeleted : SegName → Fragment → ShelfState → List Call → Type 0
 HeldOrDeleted name f s calls = HeldOr (Contains calls (Delete name)) name f (after_calls s calls)
@@ -179,7 +179,7 @@ with_away new held marks none unmarked away name marked =
     apart true e = contrary (sym unmarked ∙ (ap (is_marked marks) (sym (one_name name new.meta.name e)) ∙ marked))
     apart false e = away name marked
 
-kept_away : (s : ShelfState) (new : Fragment) → is_marked s.marks new.meta.name ≡ false → DeletedAreAway s → DeletedAreAway (kept s new)
+kept_away : (s : ShelfState) (new : Fragment) → is_marked s.marks new.meta.name ≡ false → DeletedAreAway s → DeletedAreAway (shelf_store s new)
 kept_away s new unmarked away =
     by_test DeletedAreAway (is_held s new.meta.name) s (record s { held = with_fragment new s.held }) (λ e. away)
     (λ e. with_away new s.held s.marks (none_held (held_at s.held new.meta.name) e) unmarked away)
@@ -201,14 +201,14 @@ deletion_away s gone away =
 
 away_after_call : (s : ShelfState) (c : Call) → DeletedAreAway s → DeletedAreAway (after_call s c)
 away_after_call s (Store new generation) away =
-    by_test DeletedAreAway (is_none (store_refused s new.meta.name generation)) (kept s new) s
+    by_test DeletedAreAway (is_none (refusal s new.meta.name generation)) (shelf_store s new) s
     (λ e. kept_away s new (not_marked (not (nat_eq generation s.generation)) (is_marked s.marks new.meta.name) (WrongGeneration s.generation) Marked _ e) away)
     (λ e. away)
 away_after_call s (Fence log pass) away =
     by_test DeletedAreAway (is_greater (pass_cmp pass (fence_of s.fences log))) (record s { fences = insert_entry log_cmp s.fences log pass }) s (λ e. away)
     (λ e. away)
 away_after_call s (Delete gone) away = deletion_away s gone away
-away_after_call s (Fill new) away = by_test DeletedAreAway (is_marked s.marks new.meta.name) s (kept s new) (λ e. away) (λ e. kept_away s new e away)
+away_after_call s (Fill new) away = by_test DeletedAreAway (is_marked s.marks new.meta.name) s (shelf_store s new) (λ e. away) (λ e. kept_away s new e away)
 
 pub deleted_stay_away : (s : ShelfState) (calls : List Call) → DeletedAreAway s → DeletedAreAway (after_calls s calls)
 deleted_stay_away s [] away = away

@@ -21,16 +21,16 @@ with_fragment f (g ∷ gs) = if is_greater (seg_cmp f.meta.name g.meta.name) the
 
 -- why a fragment of this name may not be kept, in this order: it is meant for another generation, its name was deleted, or its
 -- pass is below the fence of its log
-abbrev pub store_refused : ShelfState → SegName → ℕ → Option StoreError
-store_refused s name generation =
+abbrev pub refusal : ShelfState → SegName → ℕ → Option StoreError
+refusal s name generation =
     if not (nat_eq generation s.generation) then Some (WrongGeneration s.generation)
     else if is_marked s.marks name then Some Marked
     else if is_greater (pass_cmp (fence_of s.fences name.log) name.pass) then Some (Fenced (fence_of s.fences name.log))
     else None
 
 -- the shelf with this fragment too; a fragment that is held stays
-abbrev pub kept : ShelfState → Fragment → ShelfState
-kept s f = if is_held s f.meta.name then s else record s { held = with_fragment f s.held }
+abbrev pub shelf_store : ShelfState → Fragment → ShelfState
+shelf_store s f = if is_held s f.meta.name then s else record s { held = with_fragment f s.held }
 
 -- the greater of the pass and the fence of the log is the fence
 abbrev pub on_fence : ShelfState → LogId → Pass → ShelfState
@@ -46,7 +46,7 @@ on_delete s name = record s { held = filter (λ f. not (same_name name f.meta.na
 
 -- the fragment is kept unless its name is marked
 abbrev pub on_fill : ShelfState → Fragment → ShelfState
-on_fill s f = if is_marked s.marks f.meta.name then s else kept s f
+on_fill s f = if is_marked s.marks f.meta.name then s else shelf_store s f
 
 -- all is gone, and the next generation begins
 abbrev pub on_lose : ShelfState → ShelfState

@@ -5,7 +5,7 @@ use Rattle.xfs_base.specs.declared.segment.LogId.{LogId}
 use Rattle.xfs_base.specs.declared.segment.Pass.{Pass}
 use Rattle.xfs_base.specs.declared.segment.SegName.{SegName}
 use Rattle.fragment_store.specs.ShelfState.{ShelfState, held_at, is_marked}
-use Rattle.fragment_store.specs.Calls.{store_refused, kept, on_fence, on_delete, on_fill}
+use Rattle.fragment_store.specs.Calls.{refusal, shelf_store, on_fence, on_delete, on_fill}
 
 pub data Call : Type 0 where
   Store : Fragment → ℕ → Call
@@ -15,7 +15,7 @@ pub data Call : Type 0 where
 
 -- the shelf after one of them
 abbrev pub after_call : ShelfState → Call → ShelfState
-after_call s (Store f generation) = if is_none (store_refused s f.meta.name generation) then kept s f else s
+after_call s (Store f generation) = if is_none (refusal s f.meta.name generation) then shelf_store s f else s
 after_call s (Fence log pass) = on_fence s log pass
 after_call s (Delete name) = on_delete s name
 after_call s (Fill f) = on_fill s f

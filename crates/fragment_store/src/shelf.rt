@@ -5,7 +5,7 @@ ghost use Rattle.xfs_base.specs.declared.segment.SegName.{SegName};
 ghost use Rattle.xfs_base.specs.Segments.{seg_cmp};
 ghost use Rattle.fragment_store.specs.declared.store_error.StoreError.TheVariants.{Memory};
 ghost use Rattle.fragment_store.specs.ShelfState.{ShelfState, new_shelf, held_at, is_held, is_marked, fence_of};
-ghost use Rattle.fragment_store.specs.Calls.{store_refused, kept, on_fence, on_list, on_delete, on_fill, on_lose, barred, in_order};
+ghost use Rattle.fragment_store.specs.Calls.{refusal, shelf_store, on_fence, on_list, on_delete, on_fill, on_lose, barred, in_order};
 
 use crate::{Missing, StoreError};
 use std::alloc::Global;
@@ -87,8 +87,8 @@ impl Shelf {
         fragment: Fragment,
         generation: u32,
     ) -> Result<(), StoreError>
-        ensures ok { OnOk result (self.new ≡ kept self.old fragment) }
-        ensures refused { (e : _) → e ≢ Memory → IsErrOf result e ↔ (store_refused self.old fragment.meta.name generation ≡ Some e) }
+        ensures ok { OnOk result (self.new ≡ shelf_store self.old fragment) }
+        ensures refused { (e : _) → e ≢ Memory → IsErrOf result e ↔ (refusal self.old fragment.meta.name generation ≡ Some e) }
         ensures err { OnErr result (self.new ≡ self.old) }
     {
         if let Some(refusal) = self.refusal(fragment.meta.name, generation) {
@@ -204,7 +204,7 @@ impl Shelf {
     /// Why `store` refuses a fragment of this name that is meant for this generation, `None` where it takes
     /// it: the first of `WrongGeneration`, `Marked` and `Fenced` that holds, as there. Takes no memory.
     pub fn refusal(&self, name: SegName, generation: u32) -> Option<StoreError>
-        ensures { result ≡ store_refused self.now name generation }
+        ensures { result ≡ refusal self.now name generation }
     {
         if generation != self.generation {
             return Some(StoreError::WrongGeneration(self.generation));
@@ -243,7 +243,7 @@ impl Shelf {
     fn keep(&mut self, _alloc: Global, fragment: Fragment) -> Mem<bool>
         requires { IsFalse (is_marked self.old.marks fragment.meta.name) }
         ensures new { IfOk result (λ new. new ≡ not (is_held self.old fragment.meta.name)) }
-        ensures ok { OnOk result (self.new ≡ kept self.old fragment) }
+        ensures ok { OnOk result (self.new ≡ shelf_store self.old fragment) }
         ensures err { OnErr result (self.new ≡ self.old) }
     {
         if self.held.contains_key(&fragment.meta.name) {

@@ -2,7 +2,7 @@
 use Rattle.std.proofs.Common.{ℕ, zero, suc, ◌-◌, ◌<◌, ◌≤◌, List, [], ◌∷◌, arith}
 use Rattle.std.specs.Prelude.{slice_index, slice_set}
 use Rattle.group_map.specs.GroupMapState.{GroupMapState}
-use Rattle.group_map.specs.Groups.{generation_at, lost}
+use Rattle.group_map.specs.Groups.{generation_at, after_loss}
 use Rattle.group_map.specs.Losses.{Loss, after_losses, MayLoseAll}
 
 -- a greater number is written over one of the list
@@ -17,8 +17,8 @@ pub never_fall : (state : GroupMapState) (losses : List Loss) → MayLoseAll sta
     → generation_at state.generations server ≤ generation_at (after_losses state losses).generations server
 never_fall state [] may server = omega arith
 never_fall state (l ∷ ls) may server =
-    let first : generation_at state.generations server ≤ generation_at (lost state l.server l.generation).generations server =
+    let first : generation_at state.generations server ≤ generation_at (after_loss state l.server l.generation).generations server =
     rises state.generations (l.server - 1) (server - 1) l.generation may.0.newer in
-    let later : generation_at (lost state l.server l.generation).generations server ≤ generation_at
-    (after_losses (lost state l.server l.generation) ls).generations server = never_fall (lost state l.server l.generation) ls may.1 server in
+    let later : generation_at (after_loss state l.server l.generation).generations server ≤ generation_at
+    (after_losses (after_loss state l.server l.generation) ls).generations server = never_fall (after_loss state l.server l.generation) ls may.1 server in
     omega arith

@@ -6,7 +6,7 @@ use Rattle.std.proofs.lemmas.List.Folds.{find-append}
 use Rattle.xfs_base.proofs.Booleans.{and_first}
 use Rattle.group_map.specs.declared.group.Group.{Group}
 use Rattle.group_map.specs.GroupMapState.{GroupMapState}
-use Rattle.group_map.specs.Groups.{group_of, retired, has_server, lost, numbered, followers, generations_after}
+use Rattle.group_map.specs.Groups.{group_of, retired, has_server, after_loss, numbered, followers, generations_after}
 use Rattle.group_map.specs.Losses.{Loss, after_losses, IsLater}
 
 find-retired : (server id : ℕ) (gs : List Group) → find (λ g. g.id == id) (map (retired server) gs) ≡ option_map (retired server) (find (λ g. g.id == id) gs)
@@ -20,9 +20,9 @@ find-retired server id (g ∷ gs) =
     ]
 
 -- a loss leaves the group at its id
-group_of-lost : (state : GroupMapState) (server generation id : ℕ) (group : Group) → group_of state id ≡ Some group
-    → group_of (lost state server generation) id ≡ Some (retired server group)
-group_of-lost state server generation id group e =
+group_of-after_loss : (state : GroupMapState) (server generation id : ℕ) (group : Group) → group_of state id ≡ Some group
+    → group_of (after_loss state server generation) id ≡ Some (retired server group)
+group_of-after_loss state server generation id group e =
     let new : List Group = numbered (length state.groups + 1) (followers (generations_after state.generations server generation) server state.groups) in
     find-append (λ (g : Group). g.id == id) (map (retired server) state.groups) new
     ∙ ap (λ o. option_or o (find (λ (g : Group). g.id == id) new)) (find-retired server id state.groups ∙ ap (option_map (retired server)) e)
@@ -40,8 +40,8 @@ IsLater-after : (state : GroupMapState) (losses : List Loss) (id : ℕ) (old new
     → IsSomeAnd (group_of (after_losses state losses) id) (IsLater old)
 IsLater-after state [] id old new l e = subst (λ o. IsSomeAnd o (IsLater old)) (sym e) l
 IsLater-after state (s ∷ ss) id old new l e =
-    IsLater-after (lost state s.server s.generation) ss id old (retired s.server new) (IsLater-retired s.server old new l)
-    (group_of-lost state s.server s.generation id new e)
+    IsLater-after (after_loss state s.server s.generation) ss id old (retired s.server new) (IsLater-retired s.server old new l)
+    (group_of-after_loss state s.server s.generation id new e)
 
 pub stays : (state : GroupMapState) (losses : List Loss) (id : ℕ) (group : Group) → group_of state id ≡ Some group
     → IsSomeAnd (group_of (after_losses state losses) id) (IsLater group)

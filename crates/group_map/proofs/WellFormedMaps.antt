@@ -5,7 +5,7 @@ use Rattle.std.specs.List.{IsDistinct}
 use Rattle.std.proofs.lemmas.List.{length-map, length-set, length-replicate, length-append}
 use Rattle.group_map.specs.declared.group.Group.{Group}
 use Rattle.group_map.specs.GroupMapState.{GroupMapState}
-use Rattle.group_map.specs.Groups.{started, lost, numbered, first_layout, followers, generations_after, retired, is_hit}
+use Rattle.group_map.specs.Groups.{group_map_start, after_loss, numbered, first_layout, followers, generations_after, retired, is_hit}
 use Rattle.xfs_base.specs.declared.setup.GroupSetup.{GroupSetup}
 use Rattle.xfs_base.specs.Limits.{u32_end}
 use Rattle.group_map.specs.Losses.{Loss, MayLoseAll, after_losses}
@@ -20,10 +20,10 @@ any_current-started : (gs : List GroupSetup) → 1 ≤ length gs → any_current
 any_current-started [] l = absurd (omega arith)
 any_current-started (g ∷ gs) l = refl
 
-pub IsGroupMap-started : (servers : ℕ) (gs : List GroupSetup) → 1 ≤ length gs → length gs ≤ u32_end → bad_size gs ≡ None
+pub IsGroupMap-group_map_start : (servers : ℕ) (gs : List GroupSetup) → 1 ≤ length gs → length gs ≤ u32_end → bad_size gs ≡ None
     → All (λ g. All (IsServer servers) g.servers) gs → All (λ g. IsDistinct nat_eq g.servers) gs → All (λ g. IsParity g.parity) gs
-    → IsGroupMap (started servers gs)
-IsGroupMap-started servers gs one few e exist differ parity = record {
+    → IsGroupMap (group_map_start servers gs)
+IsGroupMap-group_map_start servers gs one few e exist differ parity = record {
   each_server = length-replicate servers 1;
   by_id = IsNumbered-numbered 1 (map first_layout gs);
   few = subst (λ n. n ≤ u32_end) (sym (length-numbered 1 (map first_layout gs) ∙ length-map gs first_layout)) few;
@@ -44,9 +44,9 @@ by_id-lost gs server generations h =
     (subst (λ n. IsNumbered n (numbered (length gs + 1) (followers generations server gs))) e
     (IsNumbered-numbered (length gs + 1) (followers generations server gs)))
 
-pub IsGroupMap-lost : (state : GroupMapState) (server generation : ℕ) → IsServer state.servers server
-    → length state.groups + length (filter (is_hit server) state.groups) ≤ u32_end → IsGroupMap state → IsGroupMap (lost state server generation)
-IsGroupMap-lost state server generation exists room h =
+pub IsGroupMap-after_loss : (state : GroupMapState) (server generation : ℕ) → IsServer state.servers server
+    → length state.groups + length (filter (is_hit server) state.groups) ≤ u32_end → IsGroupMap state → IsGroupMap (after_loss state server generation)
+IsGroupMap-after_loss state server generation exists room h =
     let now : List ℕ = generations_after state.generations server generation in
     record {
       each_server = length-set state.generations (server - 1) generation ∙ h.each_server;
@@ -60,4 +60,4 @@ IsGroupMap-lost state server generation exists room h =
 pub IsGroupMap-after : (state : GroupMapState) (losses : List Loss) → IsGroupMap state → MayLoseAll state losses → IsGroupMap (after_losses state losses)
 IsGroupMap-after state [] h may = h
 IsGroupMap-after state (l ∷ ls) h may =
-    IsGroupMap-after (lost state l.server l.generation) ls (IsGroupMap-lost state l.server l.generation may.0.exists may.0.room h) may.1
+    IsGroupMap-after (after_loss state l.server l.generation) ls (IsGroupMap-after_loss state l.server l.generation may.0.exists may.0.room h) may.1

@@ -25,8 +25,8 @@ abbrev pub current_ids : List Group → List ℕ
 current_ids groups = map (λ g. g.id) (filter (λ g. g.current) groups)
 
 -- the current group at place (log + seq) mod the number of current groups
-abbrev pub chosen : List Group → ℕ → ℕ → ℕ
-chosen groups log seq = slice_index (current_ids groups) ((log + seq) % length (current_ids groups))
+abbrev pub group_map_choose : List Group → ℕ → ℕ → ℕ
+group_map_choose groups log seq = slice_index (current_ids groups) ((log + seq) % length (current_ids groups))
 
 -- current groups of these layouts, with ids from this one on
 abbrev pub numbered : ℕ → List Layout → List Group
@@ -42,8 +42,8 @@ abbrev pub first_layout : GroupSetup → Layout
 first_layout g = record { members = first_members g.servers; parity = g.parity }
 
 -- the map at first: ids from 1, all generations 1, all groups current
-abbrev pub started : ℕ → List GroupSetup → GroupMapState
-started servers groups = record { servers = servers; generations = replicate servers 1; groups = numbered 1 (map first_layout groups) }
+abbrev pub group_map_start : ℕ → List GroupSetup → GroupMapState
+group_map_start servers groups = record { servers = servers; generations = replicate servers 1; groups = numbered 1 (map first_layout groups) }
 
 abbrev pub has_server : ℕ → Group → Bool
 has_server server g = list_any (λ m. m.server == server) g.members
@@ -73,8 +73,8 @@ generations_after generations server generation = slice_set generations (server 
 
 -- the map after a loss of the server: it is at the new generation, and each current group that has it
 -- is obsolete and followed, in order of id, by a new one of the same servers at their generations
-abbrev pub lost : GroupMapState → ℕ → ℕ → GroupMapState
-lost state server generation = record {
+abbrev pub after_loss : GroupMapState → ℕ → ℕ → GroupMapState
+after_loss state server generation = record {
   servers = state.servers;
   generations = generations_after state.generations server generation;
   groups = map (retired server) state.groups

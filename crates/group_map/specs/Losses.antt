@@ -3,7 +3,7 @@ use Rattle.std.specs.Prelude.{◌≡◌, ℕ, ◌+◌, ◌<◌, ◌≤◌, IsTru
 use Rattle.xfs_base.specs.Limits.{u32_end}
 use Rattle.group_map.specs.declared.group.Group.{Group}
 use Rattle.group_map.specs.GroupMapState.{GroupMapState}
-use Rattle.group_map.specs.Groups.{generation_at, is_hit, lost}
+use Rattle.group_map.specs.Groups.{generation_at, is_hit, after_loss}
 use Rattle.group_map.specs.WellFormed.{IsServer}
 
 -- a server that lost what it kept, and its generation from then on
@@ -19,12 +19,12 @@ pub record MayLose (state : GroupMapState) (loss : Loss) : Type 0 where
 
 abbrev pub after_losses : GroupMapState → List Loss → GroupMapState
 after_losses state [] = state
-after_losses state (l ∷ ls) = after_losses (lost state l.server l.generation) ls
+after_losses state (l ∷ ls) = after_losses (after_loss state l.server l.generation) ls
 
 -- each loss meets that where it comes
 abbrev pub MayLoseAll : GroupMapState → List Loss → Type 0
 MayLoseAll state [] = Unit {0}
-MayLoseAll state (l ∷ ls) = MayLose state l × MayLoseAll (lost state l.server l.generation) ls
+MayLoseAll state (l ∷ ls) = MayLose state l × MayLoseAll (after_loss state l.server l.generation) ls
 
 -- the second is the first at a later time: the same but for `current`, and current only if the first is
 pub record IsLater (old new : Group) : Type 0 where

@@ -2,7 +2,7 @@
 ghost use Rattle.std.specs.Prelude.{◌≡◌, ◌↔◌, ◌+◌, ◌<◌, ◌≤◌, IfOk, OnOk, OnErr, IsErrOf, IsTrue, MatchResult, IsSomeAnd, Some, None, All, length, filter, nat_eq, slice_index};
 ghost use Rattle.std.specs.List.{IsDistinct};
 ghost use Rattle.xfs_base.specs.Limits.{u32_end};
-ghost use Rattle.group_map.specs.Groups.{group_of, generation_at, current_ids, chosen, started, is_hit, lost};
+ghost use Rattle.group_map.specs.Groups.{group_of, generation_at, current_ids, group_map_choose, group_map_start, is_hit, after_loss};
 ghost use Rattle.group_map.specs.Sizes.{IsParity, bad_size};
 ghost use Rattle.group_map.specs.WellFormed.{IsServer, IsStripe, IsPresent};
 
@@ -55,7 +55,7 @@ impl GroupMap {
         requires exist { All (λ g. All (IsServer servers) g.servers) groups.now }
         requires differ { All (λ g. IsDistinct nat_eq g.servers) groups.now }
         requires parity { All (λ g. IsParity g.parity) groups.now }
-        ensures ok { IfOk result (λ map. map ≡ started servers groups.now) }
+        ensures ok { IfOk result (λ map. map ≡ group_map_start servers groups.now) }
         ensures bad_size { (n : _) → IsErrOf result (GroupError.BadSize n) ↔ (bad_size groups.now ≡ Some n) }
         ensures fits { OnOk result (bad_size groups.now ≡ None) }
     {
@@ -75,7 +75,7 @@ impl GroupMap {
         requires differ { All (λ g. IsDistinct nat_eq g.servers) groups.now }
         requires parity { All (λ g. IsParity g.parity) groups.now }
         requires fits { bad_size groups.now ≡ None }
-        ensures { IfOk result (λ map. map ≡ started servers groups.now) }
+        ensures { IfOk result (λ map. map ≡ group_map_start servers groups.now) }
     {
         let generations = vec![in alloc; 1u32; usize::from(servers)]?;
         let groups = first_groups(alloc, groups)?;
@@ -121,7 +121,7 @@ impl GroupMap {
     /// The id of the group for a segment: of the current groups in order of id the one at place (log +
     /// seq) mod their number.
     pub fn choose(&self, log: LogId, seq: u32) -> u32
-        ensures exact { result ≡ chosen self.now.groups log.0 seq }
+        ensures exact { result ≡ group_map_choose self.now.groups log.0 seq }
         ensures current { IsSomeAnd (group_of self.now result) (λ group. IsTrue group.current) }
     {
         let groups = self.groups.as_slice();
@@ -137,7 +137,7 @@ impl GroupMap {
         requires exists { IsServer self.old.servers server }
         requires newer { generation_at self.old.generations server < generation }
         requires room { length self.old.groups + length (filter (is_hit server) self.old.groups) ≤ u32_end }
-        ensures ok { OnOk result (self.new ≡ lost self.old server generation) }
+        ensures ok { OnOk result (self.new ≡ after_loss self.old server generation) }
         ensures err { OnErr result (self.new ≡ self.old) }
     {
         let mut generations = self.generations.copy(alloc)?.into_vec();

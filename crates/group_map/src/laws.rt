@@ -4,7 +4,7 @@ ghost use Rattle.std.specs.Prelude.{◌≡◌, ◌≤◌, ℕ, IsTrue, IsSomeAnd
 ghost use Rattle.std.specs.List.{IsDistinct};
 ghost use Rattle.group_map.specs.declared.group.Group.{Group};
 ghost use Rattle.group_map.specs.GroupMapState.{GroupMapState};
-ghost use Rattle.group_map.specs.Groups.{group_of, generation_at, started};
+ghost use Rattle.group_map.specs.Groups.{group_of, generation_at, group_map_start};
 ghost use Rattle.group_map.specs.Losses.{Loss, after_losses, MayLoseAll, IsLater};
 ghost use Rattle.group_map.specs.Sizes.{IsParity, bad_size};
 ghost use Rattle.group_map.specs.WellFormed.{IsServer, IsGroupMap};
@@ -27,7 +27,7 @@ pub fn generations_never_fall()
 pub fn map_starts_well_formed()
     ensures { (servers : ℕ) (groups : List GroupSetup) → 1 ≤ length groups → length groups ≤ u32_end → bad_size groups ≡ None
         → All (λ g. All (IsServer servers) g.servers) groups → All (λ g. IsDistinct nat_eq g.servers) groups → All (λ g. IsParity g.parity) groups
-        → IsGroupMap (started servers groups) }
+        → IsGroupMap (group_map_start servers groups) }
 {}
 
 /// What is true of a map stays true: among others, there is always a current group.

@@ -1,7 +1,7 @@
 -- What is filled in was cut from a text that the answers join to.
 use Rattle.std.proofs.Common.{inl, inr, ◌≡◌, ℕ, List, [], ◌∷◌, Option, Some, None, refl}
 use Rattle.std.specs.Prelude.{Contains, ◌==◌, ◌&&◌}
-use Rattle.stripe_code.specs.Round.{RoundSoFar, taken, state_of}
+use Rattle.stripe_code.specs.Round.{RoundSoFar, round_take, state_of}
 use Rattle.stripe_code.specs.declared.round.RoundState.{RoundState}
 use Rattle.stripe_code.specs.declared.round.RoundState.TheVariants.{Read, Short, Waiting}
 use Rattle.stripe_code.specs.declared.round.Told.{Told}
@@ -15,7 +15,7 @@ use Rattle.group_rebuild.specs.declared.output.Out.TheVariants.{Fetch, Fill, Fin
 use Rattle.group_rebuild.specs.declared.reads.Present.{Present}
 use Rattle.group_rebuild.specs.declared.wanted.Wanted.{Wanted}
 use Rattle.group_rebuild.specs.Counted.{IsFilledFrom}
-use Rattle.group_rebuild.specs.Reads.{ReadsState, one_more, fetches, go_on, counts, judged, answered, on_answer}
+use Rattle.group_rebuild.specs.Reads.{ReadsState, one_more, fetches, go_on, counts, reads_judge, answered, reads_take}
 use Rattle.group_rebuild.specs.Wanted.{refilled}
 
 abbrev fill : Fragment → Out
@@ -36,7 +36,7 @@ no_fill-go_on (w ∷ ws) r f h = no_fill w.meta.name (one_more r.ask) w.others f
 abbrev WasCut : RoundState → Wanted → Fragment → Type 0
 WasCut st w f = (text : List ℕ) × (st ≡ Read text) × (f ≡ refilled w text)
 
-was_cut : (r : ReadsState) (w : Wanted) (round : RoundSoFar) (st : RoundState) (f : Fragment) → Contains (judged r w round st).outs (Fill f) → WasCut st w f
+was_cut : (r : ReadsState) (w : Wanted) (round : RoundSoFar) (st : RoundState) (f : Fragment) → Contains (reads_judge r w round st).outs (Fill f) → WasCut st w f
 was_cut r w round (Read text) f h =
     let next = record r { filled = one_more r.filled } in
     elim (contains_cases (fill (refilled w text)) (fill f) (go_on r.left next).outs h) [
@@ -51,13 +51,13 @@ from_answer : (r : ReadsState) (present : Option Present) (ask server : ℕ) (to
 from_answer r None ask server told f e h = absurd (contains_nothing (fill f) h)
 from_answer r (Some p) ask server told f e h =
     by_test (λ (st : Stepped ReadsState Out). Contains st.outs (Fill f) → IsFilledFrom r server told f) ((ask == r.ask) && counts p server told)
-    (judged r p.wanted (taken p.round server told) (state_of (taken p.round server told))) (still r)
-    (λ t k. let was = was_cut r p.wanted (taken p.round server told) (state_of (taken p.round server told)) f k in
+    (reads_judge r p.wanted (round_take p.round server told) (state_of (round_take p.round server told))) (still r)
+    (λ t k. let was = was_cut r p.wanted (round_take p.round server told) (state_of (round_take p.round server told)) f k in
     record { present = p; is_read = e; text = was.0; read = was.1; cut = was.2 })
     (λ t k. absurd (contains_nothing (fill f) k))
     h
 
-pub filled_from : (r : ReadsState) (ask server : ℕ) (told : Told) (f : Fragment) → Contains (on_answer r ask server told).outs (Fill f)
+pub filled_from : (r : ReadsState) (ask server : ℕ) (told : Told) (f : Fragment) → Contains (reads_take r ask server told).outs (Fill f)
     → IsFilledFrom r server told f
-unfolding on_answer
+unfolding reads_take
 filled_from r ask server told f h = from_answer r r.present ask server told f refl h

@@ -6,7 +6,7 @@ use Rattle.std.specs.BTreeMap.{is_at, insert_entry}
 use Rattle.xfs_base.specs.declared.fragment.FragMeta.{FragMeta}
 use Rattle.xfs_base.specs.declared.segment.SegName.{SegName}
 use Rattle.xfs_base.specs.Segments.{seg_cmp}
-use Rattle.group_rebuild.specs.Transition.{listed_with, without}
+use Rattle.group_rebuild.specs.Transition.{listed_with, remove_names}
 
 -- the number that comes, and those after it
 pub count_step : (f : ℕ → List ℕ) (front : List ℕ) (i n : ℕ) → i < n
@@ -27,12 +27,12 @@ listed_step metas i es d lt =
     listed_suc metas i es d lt ∙ ap (λ n. listed_with (drop n metas) (insert_entry seg_cmp es (get_or metas i d).name (get_or metas i d))) (sym (add-one i))
 
 without_suc : (names : List SegName) (i : ℕ) (es : List (SegName × FragMeta)) (d : SegName) → i < length names
-    → without (drop i names) es ≡ without (drop (suc i) names) (remove_entry (is_at (seg_cmp (get_or names i d))) es)
+    → remove_names (drop i names) es ≡ remove_names (drop (suc i) names) (remove_entry (is_at (seg_cmp (get_or names i d))) es)
 without_suc [] i es d lt = absurd (omega arith)
 without_suc (n ∷ ns) zero es d lt = refl
 without_suc (n ∷ ns) (suc i) es d lt = without_suc ns i es d (omega arith)
 
 pub without_step : (names : List SegName) (i : ℕ) (es : List (SegName × FragMeta)) (d : SegName) → i < length names
-    → without (drop i names) es ≡ without (drop (i + 1) names) (remove_entry (is_at (seg_cmp (get_or names i d))) es)
+    → remove_names (drop i names) es ≡ remove_names (drop (i + 1) names) (remove_entry (is_at (seg_cmp (get_or names i d))) es)
 without_step names i es d lt =
-    without_suc names i es d lt ∙ ap (λ n. without (drop n names) (remove_entry (is_at (seg_cmp (get_or names i d))) es)) (sym (add-one i))
+    without_suc names i es d lt ∙ ap (λ n. remove_names (drop n names) (remove_entry (is_at (seg_cmp (get_or names i d))) es)) (sym (add-one i))

@@ -1,7 +1,7 @@
 -- Reading the wanted segments, one after the other: what each input makes of it.
 use Rattle.std.specs.Prelude.{ℕ, ◌+◌, Bool, true, ◌==◌, ◌&&◌, if◌then◌else◌, min, List, [], ◌∷◌, Option, Some, None, map, All}
 use Rattle.std.specs.Option.{ForSome}
-use Rattle.stripe_code.specs.Round.{RoundSoFar, new_round, asks, told_fits, taken, state_of, unanswered}
+use Rattle.stripe_code.specs.Round.{RoundSoFar, round_start, asks, told_fits, round_take, state_of, unanswered}
 use Rattle.stripe_code.specs.declared.round.RoundState.{RoundState}
 use Rattle.stripe_code.specs.declared.round.RoundState.TheVariants.{Read, Short, Waiting}
 use Rattle.stripe_code.specs.declared.round.Told.{Told}
@@ -31,8 +31,8 @@ pub record AreReads (left : List Wanted) (present : Option Present) : Type 0 whe
   pub now : ForSome present (λ p. IsWanted p.wanted)
 
 -- before the first of these
-abbrev pub at_first : List Wanted → ReadsState
-at_first wanted = record { left = wanted; present = None; ask = 0; filled = 0; gone = 0 }
+abbrev pub reads_of : List Wanted → ReadsState
+reads_of wanted = record { left = wanted; present = None; ask = 0; filled = 0; gone = 0 }
 
 -- a count rises, but not past its type's end
 abbrev pub one_more : ℕ → ℕ
@@ -46,7 +46,7 @@ fetches name ask servers = map (λ server. Fetch server name ask) servers
 abbrev pub go_on : List Wanted → ReadsState → Stepped ReadsState Out
 go_on [] r = record { state = record r { left = []; present = None }; outs = Finished r.filled r.gone ∷ [] }
 go_on (w ∷ ws) r = record {
-  state = record r { left = ws; present = Some (record { wanted = w; round = new_round w.n w.parity w.others }); ask = one_more r.ask };
+  state = record r { left = ws; present = Some (record { wanted = w; round = round_start w.n w.parity w.others }); ask = one_more r.ask };
   outs = fetches w.meta.name (one_more r.ask) w.others;
 }
 
@@ -59,21 +59,21 @@ abbrev pub counts : Present → ℕ → Told → Bool
 counts p server told = asks p.round server && (is_of p.wanted told && told_fits p.round told)
 
 -- as the round stands: the fragment is filled in and counted, or the name is counted gone, or more answers are awaited
-abbrev pub judged : ReadsState → Wanted → RoundSoFar → RoundState → Stepped ReadsState Out
-judged r w round (Read text) = saying (Fill (refilled w text) ∷ []) (go_on r.left (record r { filled = one_more r.filled }))
-judged r w round (Short pairs) = go_on r.left (record r { gone = one_more r.gone })
-judged r w round Waiting = still (record r { present = Some (record { wanted = w; round = round }) })
+abbrev pub reads_judge : ReadsState → Wanted → RoundSoFar → RoundState → Stepped ReadsState Out
+reads_judge r w round (Read text) = saying (Fill (refilled w text) ∷ []) (go_on r.left (record r { filled = one_more r.filled }))
+reads_judge r w round (Short pairs) = go_on r.left (record r { gone = one_more r.gone })
+reads_judge r w round Waiting = still (record r { present = Some (record { wanted = w; round = round }) })
 
 abbrev pub answered : ReadsState → Option Present → ℕ → ℕ → Told → Stepped ReadsState Out
 answered r None ask server told = still r
 answered r (Some p) ask server told =
     if (ask == r.ask) && counts p server told
-    then judged r p.wanted (taken p.round server told) (state_of (taken p.round server told))
+    then reads_judge r p.wanted (round_take p.round server told) (state_of (round_take p.round server told))
     else still r
 
 -- what a server told in answer to a question
-unfoldable pub on_answer : ReadsState → ℕ → ℕ → Told → Stepped ReadsState Out
-on_answer r ask server told = answered r r.present ask server told
+unfoldable pub reads_take : ReadsState → ℕ → ℕ → Told → Stepped ReadsState Out
+reads_take r ask server told = answered r r.present ask server told
 
 abbrev pub asked_again : ℕ → Option Present → List Out
 asked_again ask None = []

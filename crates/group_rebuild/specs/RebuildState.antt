@@ -18,5 +18,5 @@ pub record RebuildState : Type 0 where
   pub reads : Option ReadsState
 
 -- nothing is known yet
-abbrev pub started : ℕ → GroupMapState → RebuildState
-started server groups = record { server = server; groups = groups; heard = []; listed = []; reads = None }
+abbrev pub rebuild_start : ℕ → GroupMapState → RebuildState
+rebuild_start server groups = record { server = server; groups = groups; heard = []; listed = []; reads = None }

@@ -15,7 +15,7 @@ use Rattle.group_rebuild.specs.declared.output.Out.{Out}
 use Rattle.group_rebuild.specs.declared.output.Out.TheVariants as out
 use Rattle.group_rebuild.specs.RebuildState.{RebuildState}
 use Rattle.group_rebuild.specs.Reads as reads
-use Rattle.group_rebuild.specs.Reads.{ReadsState, at_first, go_on}
+use Rattle.group_rebuild.specs.Reads.{ReadsState, reads_of, go_on}
 use Rattle.group_rebuild.specs.Wanted.{wanted_in}
 
 -- another server whose list is not in
@@ -37,8 +37,8 @@ abbrev pub listed_with : List FragMeta → List (SegName × FragMeta) → List (
 listed_with metas entries = fold (λ es m. insert_entry seg_cmp es m.name m) entries metas
 
 -- without these names
-abbrev pub without : List SegName → List (SegName × FragMeta) → List (SegName × FragMeta)
-without names entries = fold (λ es name. remove_entry (is_at (seg_cmp name)) es) entries names
+abbrev pub remove_names : List SegName → List (SegName × FragMeta) → List (SegName × FragMeta)
+remove_names names entries = fold (λ es name. remove_entry (is_at (seg_cmp name)) es) entries names
 
 -- this server's list is in
 abbrev pub heard_from : RebuildState → ℕ → List FragMeta → RebuildState
@@ -49,14 +49,14 @@ abbrev pub with_reads : RebuildState → Stepped ReadsState Out → Stepped Rebu
 with_reads s r = record { state = record s { reads = Some r.state }; outs = r.outs }
 
 -- all lists are in: the names that are held or marked are passed over, and the first of the others is read
-abbrev pub begun : RebuildState → List SegName → Stepped RebuildState Out
-begun s barred =
-    let listed = without barred s.listed in
+abbrev pub rebuild_begin : RebuildState → List SegName → Stepped RebuildState Out
+rebuild_begin s barred =
+    let listed = remove_names barred s.listed in
     let wanted = wanted_in s.server s.groups (values_of listed) in
-    with_reads (record s { listed = listed }) (go_on wanted (at_first wanted))
+    with_reads (record s { listed = listed }) (go_on wanted (reads_of wanted))
 
 abbrev pub begun_if_all : RebuildState → List SegName → Stepped RebuildState Out
-begun_if_all s barred = if length (awaited s) == 0 then begun s barred else still s
+begun_if_all s barred = if length (awaited s) == 0 then rebuild_begin s barred else still s
 
 unfoldable pub on_listed : RebuildState → ℕ → List FragMeta → List SegName → Stepped RebuildState Out
 on_listed s server metas barred =
@@ -65,7 +65,7 @@ on_listed s server metas barred =
 
 abbrev pub told_by : RebuildState → Option ReadsState → ℕ → ℕ → Told → Stepped RebuildState Out
 told_by s None ask server told = still s
-told_by s (Some r) ask server told = with_reads s (reads.on_answer r ask server told)
+told_by s (Some r) ask server told = with_reads s (reads.reads_take r ask server told)
 
 abbrev pub on_told : RebuildState → ℕ → ℕ → Told → Stepped RebuildState Out
 on_told s ask server told = told_by s s.reads ask server told

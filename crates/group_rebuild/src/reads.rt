@@ -1,9 +1,9 @@
 //! The reading of the wanted segments, one after the other.
 ghost use Rattle.std.specs.Prelude.{◌≡◌, ◌++◌, OnOk, All, IsTrue, Some, None};
 ghost use Rattle.group_rebuild.specs.declared.output.Out.TheVariants.{Fetch};
-ghost use Rattle.group_rebuild.specs.Reads.{ReadsState, counts, fetches, go_on, judged, on_answer, on_tick, at_first};
+ghost use Rattle.group_rebuild.specs.Reads.{ReadsState, counts, fetches, go_on, reads_judge, reads_take, on_tick, reads_of};
 ghost use Rattle.group_rebuild.specs.Wanted.{IsWanted};
-ghost use Rattle.stripe_code.specs.Round.{asks, told_fits, taken, state_of};
+ghost use Rattle.stripe_code.specs.Round.{asks, told_fits, round_take, state_of};
 
 use crate::output::Out;
 use crate::wanted::{Wanted, refilled};
@@ -53,7 +53,7 @@ impl Reads {
     /// Before the first of these.
     pub fn of(wanted: VecDeque<Wanted>) -> Reads
         requires { All IsWanted wanted.items }
-        ensures { result ≡ at_first wanted.items }
+        ensures { result ≡ reads_of wanted.items }
     {
         Reads {
             left: wanted,
@@ -87,7 +87,7 @@ impl Reads {
 
     /// Takes what a server told. It is dropped unless it answers the present question, the server is asked, and
     /// a fragment can be one of the segment's, of the length that was listed.
-    #[tactic(auto, unfolding(crate::specs::Reads::on_answer))]
+    #[tactic(auto, unfolding(crate::specs::Reads::reads_take))]
     pub fn take(
         &mut self,
         alloc: Global,
@@ -96,8 +96,8 @@ impl Reads {
         server: u8,
         told: Told,
     ) -> Mem<()>
-        ensures state { OnOk result (self.new ≡ (on_answer self.old ask server told).state) }
-        ensures outs { OnOk result (outs.new ≡ outs.old ++ (on_answer self.old ask server told).outs) }
+        ensures state { OnOk result (self.new ≡ (reads_take self.old ask server told).state) }
+        ensures outs { OnOk result (outs.new ≡ outs.old ++ (reads_take self.old ask server told).outs) }
     {
         match self.present.take() {
             None => Ok(()),
@@ -137,9 +137,9 @@ impl Reads {
         requires asked { IsTrue (asks present.round server) }
         requires fits { IsTrue (told_fits present.round told) }
         ensures state { OnOk result
-            (self.new ≡ (judged self.old present.wanted (taken present.round server told) (state_of (taken present.round server told))).state) }
+            (self.new ≡ (reads_judge self.old present.wanted (round_take present.round server told) (state_of (round_take present.round server told))).state) }
         ensures outs { OnOk result
-            (outs.new ≡ outs.old ++ (judged self.old present.wanted (taken present.round server told) (state_of (taken present.round server told))).outs) }
+            (outs.new ≡ outs.old ++ (reads_judge self.old present.wanted (round_take present.round server told) (state_of (round_take present.round server told))).outs) }
     {
         let mut present = present;
         match present.round.take(alloc, server, told)? {

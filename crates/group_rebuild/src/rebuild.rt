@@ -1,8 +1,8 @@
 //! The rebuild.
 ghost use Rattle.std.specs.Prelude.{◌≡◌, ◌++◌, ◌==◌, IfOk, OnOk, Some, None};
 ghost use Rattle.std.specs.List.{list_any};
-ghost use Rattle.group_rebuild.specs.RebuildState.{started};
-ghost use Rattle.group_rebuild.specs.Transition.{awaited, listed_with, without, awaits, lists, begun, on_listed, on_told, on_tick, transition};
+ghost use Rattle.group_rebuild.specs.RebuildState.{rebuild_start};
+ghost use Rattle.group_rebuild.specs.Transition.{awaited, listed_with, remove_names, awaits, lists, rebuild_begin, on_listed, on_told, on_tick, transition};
 
 use crate::input::In;
 use crate::output::Out;
@@ -56,7 +56,7 @@ impl Crosses for Rebuild {}
 impl Rebuild {
     /// A rebuild of this server, of which nothing is known yet. Its first Tick asks the others for their lists.
     pub fn start(alloc: Global, server: u8, groups: GroupMap) -> Mem<Rebuild>
-        ensures { IfOk result (λ rebuild. rebuild ≡ started server groups) }
+        ensures { IfOk result (λ rebuild. rebuild ≡ rebuild_start server groups) }
     {
         Ok(Rebuild {
             server,
@@ -123,8 +123,8 @@ impl Rebuild {
 
     // The names that are barred are passed over, and the first of the others is read.
     fn begin(&mut self, alloc: Global, outs: &mut List<Out>, barred: &[SegName]) -> Mem<()>
-        ensures state { OnOk result (self.new ≡ (begun self.old barred.now).state) }
-        ensures outs { OnOk result (outs.new ≡ outs.old ++ (begun self.old barred.now).outs) }
+        ensures state { OnOk result (self.new ≡ (rebuild_begin self.old barred.now).state) }
+        ensures outs { OnOk result (outs.new ≡ outs.old ++ (rebuild_begin self.old barred.now).outs) }
     {
         remove_names(&mut self.listed, barred);
         let wanted = wanted_in(alloc, self.server, &self.groups, &self.listed)?;
@@ -215,7 +215,7 @@ fn add_metas(listed: &mut BTreeMap<SegName, FragMeta>, metas: &[FragMeta]) -> Me
 }
 
 fn remove_names(listed: &mut BTreeMap<SegName, FragMeta>, names: &[SegName])
-    ensures { listed.new.entries ≡ without names.now listed.old.entries }
+    ensures { listed.new.entries ≡ remove_names names.now listed.old.entries }
 {
     for name in names {
         listed.remove(name);

@@ -2,7 +2,7 @@
 -- item asks for is not acted.
 use Rattle.std.specs.List.{filter}
 use Rattle.std.specs.Prelude.{◌≡◌, ℕ, Bool, true, false, List, [], ◌∷◌, ◌++◌, Option, Some, None}
-use Rattle.client_call.specs.Calls.{after_answer}
+use Rattle.client_call.specs.Calls.{plan_answered}
 use Rattle.client_call.specs.declared.call.Call.{Call}
 use Rattle.client_call.specs.declared.call.Going.{Going}
 use Rattle.client_call.specs.declared.call.Going.TheVariants.{Ends, On}
@@ -69,7 +69,7 @@ pub data Stretch (client : ℕ) (item : Option ℕ) : Going → List Act → Opt
   Waits : {call new : Call} → new.plan ≡ call.plan → new.step ≡ call.step → Stretch client item (On call) [] (Some new)
   -- Its call on blocks is answered so: what the answer tells of is acted, and nothing else, and then it goes on as its plan says.
   Told : {call : Call} {acts : List Act} {after : Option Call} (a : BlockAnswer) → IsAnswerTo call.step a
-      → Stretch client item (after_answer call.plan a) acts after → Stretch client item (On call) (told client call.step a ++ acts) after
+      → Stretch client item (plan_answered call.plan a) acts after → Stretch client item (On call) (told client call.step a ++ acts) after
   -- It is done: its item is answered, and nothing is acted behind.
   Finishes : (a : Answer) → Stretch client item (Ends a) (answered_so (nodes.Client client) item a) None
 

@@ -2,7 +2,7 @@
 use Rattle.std.specs.Prelude.{◌≡◌, ◌<◌, ℕ, suc, List, Some, slice_get}
 use Rattle.core_world.specs.declared.any_node.AnyNode.{AnyNode}
 use Rattle.log_scan.specs.Transition.{least_horizon}
-use Rattle.registry.specs.Board.{all_news}
+use Rattle.registry.specs.Board.{board_slots}
 use Rattle.registry.specs.BoardState.{BoardState}
 use Rattle.token_protocol.specs.Basics.{In}
 use Rattle.version_model.specs.declared.act.Act.TheVariants.{Dropped}
@@ -43,4 +43,4 @@ abbrev pub DeletesBelowHorizons : Estate AnyNode → Type 0
 DeletesBelowHorizons e =
     (count : ℕ) (r : Role) → IsThere e.script.setup.clients e.script.setup.managers r → (b : BoardState)
     → board_of (node_named (moment e count) Registry) ≡ Some b → (name : SegName) → Deletes name (moment e count).sent
-    → name.log ≡ record { 0 = log_by r } → name.seq < least_horizon (log_by r) (all_news b)
+    → name.log ≡ record { 0 = log_by r } → name.seq < least_horizon (log_by r) (board_slots b)

@@ -111,10 +111,10 @@ module _ (node : AnyNode) (what : Do) (s : NodeStep AnyNode) where
 
 -- each counter of a node is at least 65,536 below its end: where one isn't, an event changes nothing
 abbrev pub has_counters : AnyNode → Bool
-has_counters (any.Client c) = clients.client_room c
+has_counters (any.Client c) = clients.client_has_room c
 has_counters (any.Manager m) = managers.phase_has_room m.phase
 has_counters (any.Server v) = storing.is_far_from_ends v
-has_counters (any.Cleaner c) = cleaners.phase_room c.phase
+has_counters (any.Cleaner c) = cleaners.phase_has_room c.phase
 has_counters (any.Registry r) = has_room r.board.version
 
 -- clients, managers and the cleaner crash and start again; a server loses its disk

@@ -6,7 +6,7 @@ use Rattle.core_world.specs.declared.any_node.AnyNode.TheVariants as any
 use Rattle.delta_index.specs.Join.{join}
 use Rattle.group_map.specs.declared.group.Group.{Group}
 use Rattle.log_scan.specs.Transition.{least_horizon}
-use Rattle.registry.specs.Board.{all_news}
+use Rattle.registry.specs.Board.{board_slots}
 use Rattle.registry_node.specs.declared.node.RegistryNode.{RegistryNode}
 use Rattle.segment_format.specs.declared.segment.Item.{Item}
 use Rattle.segment_format.specs.declared.segment.Item.TheVariants.{Block, Delta, Part}
@@ -103,5 +103,5 @@ module _ (e : Estate AnyNode) (count : ℕ) where
     pub stored : (l q : ℕ) → 0 < q → q ≤ f.head l → IsStored (f.segment l q)
     -- from the least horizon on that the registry keeps, each but the last is the prior of the next
     pub linked : (l q : ℕ) (registry : RegistryNode) → node_named (moment e count) nodes.Registry ≡ Some (any.Registry registry) → 0 < q
-        → least_horizon l (all_news registry.board) ≤ q → q < f.head l
+        → least_horizon l (board_slots registry.board) ≤ q → q < f.head l
         → (f.segment l (suc q)).prior.pass ≡ (f.segment l q).name.pass

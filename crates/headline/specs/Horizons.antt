@@ -3,7 +3,7 @@ use Rattle.std.specs.Prelude.{◌≡◌, ◌⊎◌, ◌≤◌, ℕ, suc, List, O
 use Rattle.core_world.specs.declared.any_node.AnyNode.{AnyNode}
 use Rattle.core_world.specs.declared.any_node.AnyNode.TheVariants as any
 use Rattle.log_scan.specs.Transition.{least_horizon}
-use Rattle.registry.specs.Board.{all_news}
+use Rattle.registry.specs.Board.{board_slots}
 use Rattle.registry.specs.BoardState.{BoardState}
 use Rattle.token_protocol.specs.Basics.{In}
 use Rattle.version_model.specs.declared.act.Act.{Act}
@@ -34,4 +34,4 @@ IsOpened clients c = ((1 ≤ c) × (c ≤ clients)) ⊎ (c ≡ cleaner_log.0)
 -- at each moment the least horizon of each such log that the registry keeps is no further than what its owner told to be filed
 abbrev pub HorizonsReached : Estate AnyNode → Type 0
 HorizonsReached e = (count c : ℕ) → IsOpened e.script.setup.clients c → (b : BoardState) → board_of (node_named (moment e count) nodes.Registry) ≡ Some b
-    → Reached (did e c count) (least_horizon c (all_news b))
+    → Reached (did e c count) (least_horizon c (board_slots b))

@@ -7,7 +7,7 @@ use Rattle.client_node.specs.declared.phase.Phase.TheVariants as client
 use Rattle.core_world.specs.declared.any_node.AnyNode.{AnyNode}
 use Rattle.core_world.specs.declared.any_node.AnyNode.TheVariants as any
 use Rattle.fragment_store.specs.Calls.{on_lose}
-use Rattle.manager_map.specs.Slots.{after_move, entry_at}
+use Rattle.manager_map.specs.Slots.{manager_map_advance, entry_at}
 use Rattle.manager_node.specs.declared.phase.Phase.{Phase as ManagerPhase}
 use Rattle.manager_node.specs.declared.phase.Phase.TheVariants as manager
 use Rattle.node_base.specs.Beginning.{next_item}
@@ -87,7 +87,7 @@ IsRebuild _ = ⊥
 -- the registry gives the slot to the manager, and this is its next epoch
 abbrev pub GivesSlot : AnyNode → AnyNode → ℕ → ℕ → ℕ → Type 0
 GivesSlot (any.Registry r) (any.Registry now) slot manager epoch =
-    (now.board.entries ≡ after_move r.board.entries slot manager) × (epoch ≡ (entry_at now.board.entries slot).epoch)
+    (now.board.entries ≡ manager_map_advance r.board.entries slot manager) × (epoch ≡ (entry_at now.board.entries slot).epoch)
 GivesSlot _ _ slot manager epoch = ⊥
 
 -- of a node that was one before the event and is one behind it

@@ -9,8 +9,8 @@ use Rattle.log_flight.specs.Flights.{server_of}
 use Rattle.segment_format.specs.declared.segment.Segment.{Segment}
 use Rattle.segment_format.specs.ReadingItems.{answer_of}
 use Rattle.segment_format.specs.Text.{text_of}
-use Rattle.stripe_code.specs.Joined.{HasLengths, excess, joined, missing_from}
-use Rattle.stripe_code.specs.Stripe.{IsCut, part_of}
+use Rattle.stripe_code.specs.Joined.{HasLengths, too_many, joined, missing_from}
+use Rattle.stripe_code.specs.Stripe.{IsCut, part_len}
 use Rattle.token_protocol.specs.Basics.{In}
 use Rattle.version_model.specs.declared.act.Act.TheVariants as act
 use Rattle.world_base.specs.declared.estate.Estate.{Estate}
@@ -53,8 +53,8 @@ module _ (w : World AnyNode) (name : SegName) where
 pub record IsReadBack (w : World AnyNode) (s : Segment) (group : Group) : Type 0 where
   pub size : IsCut (length (parts_held w s.name group)) group.parity
   pub long : (v : ℕ) (f : Fragment) → held_on (shelf_at w v) s.name ≡ Some f → f.meta.len ≡ length (text_of s)
-  pub lengths : HasLengths (part_of (length (text_of s)) (length (parts_held w s.name group) - group.parity)) (parts_held w s.name group)
-  pub enough : excess group.parity (missing_from 0 (parts_held w s.name group)) ≡ None
+  pub lengths : HasLengths (part_len (length (text_of s)) (length (parts_held w s.name group) - group.parity)) (parts_held w s.name group)
+  pub enough : too_many group.parity (missing_from 0 (parts_held w s.name group)) ≡ None
   pub joins : joined (parts_held w s.name group) group.parity (length (text_of s)) ≡ text_of s
   pub decodes : answer_of (text_of s) ≡ Ok s
 

@@ -9,7 +9,7 @@ use Rattle.xfs_base.proofs.BlockOrder.{same_block_exact}
 use Rattle.xfs_base.proofs.Booleans.{contrary, or_first, or_second}
 use Rattle.xfs_base.proofs.Members.{contains_nothing, contains_first, contains_rest, contains_cases}
 use Rattle.index_pages.specs.Layout.{first_block}
-use Rattle.index_pages.specs.Pages.{no_pages, changed_from}
+use Rattle.index_pages.specs.Pages.{pages_new, changed_from}
 use Rattle.index_pages.specs.Calls.{Call, after_calls, pages_begun, puts_since_clean, IsPutOn, place_from, page_with}
 use Rattle.index_pages.proofs.Numbering.{IsApart, IsNumbered, any_place, numbered}
 
@@ -98,20 +98,20 @@ module _ (blocks : List BlockId) where
       more true h = contains_rest k n rest h
       more false h = h
 
-pub changed_are_put_on : (calls : List Call) (number : ℕ) → Contains (changed_from 0 (after_calls no_pages calls).pages) number ↔ IsPutOn calls number
+pub changed_are_put_on : (calls : List Call) (number : ℕ) → Contains (changed_from 0 (after_calls pages_new calls).pages) number ↔ IsPutOn calls number
 changed_are_put_on calls number = (to, from)
   where
-    fact : IsNumbered (after_calls no_pages calls) (pages_begun calls) (puts_since_clean calls)
+    fact : IsNumbered (after_calls pages_new calls) (pages_begun calls) (puts_since_clean calls)
     fact = numbered calls
 
-    to : Contains (changed_from 0 (after_calls no_pages calls).pages) number → IsPutOn calls number
+    to : Contains (changed_from 0 (after_calls pages_new calls).pages) number → IsPutOn calls number
     to h =
         as_put (from_changed (puts_since_clean calls) 0 number (pages_begun calls) fact.apart (subst (λ ps. Contains (changed_from 0 ps) number) fact.pages h))
       where
         as_put : IsOn (puts_since_clean calls) 0 (pages_begun calls) number → IsPutOn calls number
         as_put (b, there, found) = (b, there, fact.numbers (first_block b) ∙ found)
 
-    from : IsPutOn calls number → Contains (changed_from 0 (after_calls no_pages calls).pages) number
+    from : IsPutOn calls number → Contains (changed_from 0 (after_calls pages_new calls).pages) number
     from (b, there, found) =
         subst (λ ps. Contains (changed_from 0 ps) number) (sym fact.pages)
         (to_changed (puts_since_clean calls) 0 number (pages_begun calls) b there (sym (fact.numbers (first_block b)) ∙ found))

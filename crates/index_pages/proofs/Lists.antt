@@ -13,7 +13,7 @@ use Rattle.xfs_base.specs.Blocks.{block_cmp}
 use Rattle.xfs_base.proofs.BlockOrder.{block_cmp_total}
 use Rattle.index_pages.specs.declared.layout.Page.{Page}
 use Rattle.index_pages.specs.Layout.{first_block}
-use Rattle.index_pages.specs.Pages.{PagesState, page_of, begun, row_of}
+use Rattle.index_pages.specs.Pages.{PagesState, page_of, begin_page, row_of}
 use Rattle.std.proofs.lemmas.List.{append_assoc, take_at, length_push}
 
 -- what is put at a new key and then removed leaves the entries as they were
@@ -38,7 +38,7 @@ take_push xs y =
 
 -- a page that was begun and is taken back leaves all as it was
 pub undone : (old now : PagesState) (block : BlockId) (rows : List (BlockId × Entry)) (numbers : List (BlockId × ℕ)) (pages : List Page)
-    → page_of old block ≡ None → now ≡ begun old block
+    → page_of old block ≡ None → now ≡ begin_page old block
     → rows ≡ now.rows → numbers ≡ remove_entry (is_at (block_cmp (first_block block))) now.numbers → pages ≡ take (length now.pages - 1) now.pages
     → record { rows = rows; numbers = numbers; pages = pages } ≡ old
 undone old now block rows numbers pages absent fact r n p =

@@ -17,7 +17,7 @@ use Rattle.delta_index.specs.Entries.{no_entry, is_newer}
 use Rattle.delta_index.specs.Index.{entry_of}
 use Rattle.delta_index.proofs.JoinAlgebra.{same_block-eq}
 use Rattle.index_pages.specs.Layout.{first_block}
-use Rattle.index_pages.specs.Pages.{PagesState, no_pages, page_of, changed_page, put, put_newer, put_at, put_on, put_anew, clean_page, cleaned}
+use Rattle.index_pages.specs.Pages.{PagesState, pages_new, page_of, changed_page, put, pages_merge, put_at, put_on, put_anew, clean_page, pages_clean}
 use Rattle.index_pages.specs.Calls.{Call, after_call, after_calls, put_over, last_put, takes, taken_from, pages_begun, puts_since_clean, with_first, with_page, with_put, place_from, page_with}
 use Rattle.index_pages.specs.Calls.Call.{Put, Merge, Clean}
 use Rattle.index_pages.proofs.PlainTable.{one_call}
@@ -212,11 +212,11 @@ kept_put s firsts blocks block entry i =
           (kept_anew s firsts blocks block entry i (sym absent))
     ] refl
 
-pub kept_clean : (s : PagesState) (firsts blocks : List BlockId) → IsNumbered s firsts blocks → IsNumbered (cleaned s) firsts []
-unfolding cleaned
+pub kept_clean : (s : PagesState) (firsts blocks : List BlockId) → IsNumbered s firsts blocks → IsNumbered (pages_clean s) firsts []
+unfolding pages_clean
 kept_clean s firsts blocks i = record { pages = ap (map clean_page) i.pages ∙ clean_pages blocks firsts; numbers = i.numbers; apart = i.apart }
 
-pub none_numbered : IsNumbered no_pages [] []
+pub none_numbered : IsNumbered pages_new [] []
 none_numbered = record { pages = refl; numbers = λ f. refl; apart = tt }
 
 -- ---- any calls
@@ -237,7 +237,7 @@ kept_table s before call table q = one_call s call q ∙ ap (λ e. put_over q e 
 -- a call that takes numbers its page and notes its block; another changes no page
 kept_one : (s : PagesState) (before : List Call) (firsts blocks : List BlockId) (call : Call) → IsAfter s before firsts blocks
     → IsNumbered (after_call s call) (cond (takes before call) (with_page firsts call) firsts) (cond (takes before call) (with_put blocks call) blocks)
-unfolding put_newer
+unfolding pages_merge
 kept_one s before firsts blocks (Put block entry) i = kept_put s firsts blocks block entry i.numbered
 kept_one s before firsts blocks (Merge block entry) i =
     subst (λ e. IsNumbered (cond (is_newer entry (entry_of s.rows block)) (put s block entry) s)
@@ -268,5 +268,5 @@ kept s before firsts blocks (call ∷ calls) i =
     (subst (IsNumbered (after_calls s (call ∷ calls)) (fold with_page (cond (takes before call) (with_page firsts call) firsts) rest))
     (sym (fold_taken with_put blocks (takes before call) call rest)) more)
 
-pub numbered : (calls : List Call) → IsNumbered (after_calls no_pages calls) (pages_begun calls) (puts_since_clean calls)
-numbered calls = kept no_pages [] [] [] calls (record { table = λ q. refl; numbered = none_numbered })
+pub numbered : (calls : List Call) → IsNumbered (after_calls pages_new calls) (pages_begun calls) (puts_since_clean calls)
+numbered calls = kept pages_new [] [] [] calls (record { table = λ q. refl; numbered = none_numbered })

@@ -11,7 +11,7 @@ use Rattle.xfs_base.proofs.BlockOrder.{block_cmp_total, lookup-insert_entry, sam
 use Rattle.delta_index.specs.Entries.{no_entry, is_newer}
 use Rattle.delta_index.specs.Index.{entry_of, merged}
 use Rattle.delta_index.proofs.JoinAlgebra.{same_block-eq}
-use Rattle.index_pages.specs.Pages.{PagesState, put, put_newer, put_at, cleaned, page_of}
+use Rattle.index_pages.specs.Pages.{PagesState, put, pages_merge, put_at, pages_clean, page_of}
 use Rattle.index_pages.specs.Calls.{Call, after_call, after_calls, put_over}
 use Rattle.index_pages.specs.Calls.Call.{Put, Merge, Clean}
 
@@ -37,19 +37,19 @@ rows-put s block entry = at_page (page_of s block)
     at_page None = refl
 
 -- the rows of the pages once an entry is merged
-pub rows-put_newer : (s : PagesState) (block : BlockId) (entry : Entry) → (put_newer s block entry).rows ≡ merged s.rows block entry
-unfolding put_newer merged
-rows-put_newer s block entry = at_test (is_newer entry (entry_of s.rows block))
+pub rows-pages_merge : (s : PagesState) (block : BlockId) (entry : Entry) → (pages_merge s block entry).rows ≡ merged s.rows block entry
+unfolding pages_merge merged
+rows-pages_merge s block entry = at_test (is_newer entry (entry_of s.rows block))
   where
     at_test : (t : Bool) → (cond t (put s block entry) s).rows ≡ cond t (insert_entry block_cmp s.rows block entry) s.rows
     at_test true = rows-put s block entry
     at_test false = refl
 
 pub one_call : (s : PagesState) (call : Call) (q : BlockId) → entry_of (after_call s call).rows q ≡ put_over q (entry_of s.rows q) call
-unfolding cleaned merged
+unfolding pages_clean merged
 one_call s (Put block entry) q = ap (λ r. entry_of r q) (rows-put s block entry) ∙ entry_of-insert s.rows block entry q
 one_call s (Merge block entry) q =
-    ap (λ r. entry_of r q) (rows-put_newer s block entry) ∙ at_test (is_newer entry (entry_of s.rows block)) refl
+    ap (λ r. entry_of r q) (rows-pages_merge s block entry) ∙ at_test (is_newer entry (entry_of s.rows block)) refl
   where
     at_test : (t : Bool) → is_newer entry (entry_of s.rows block) ≡ t
         → entry_of (cond t (insert_entry block_cmp s.rows block entry) s.rows) q ≡ put_over q (entry_of s.rows q) (Merge block entry)

@@ -7,7 +7,7 @@ use Rattle.xfs_base.specs.Blocks.{same_block}
 use Rattle.delta_index.specs.Entries.{no_entry, is_newer}
 use Rattle.index_pages.specs.declared.layout.Page.{Page}
 use Rattle.index_pages.specs.Layout.{first_block}
-use Rattle.index_pages.specs.Pages.{PagesState, no_pages, page_of, put, put_newer, cleaned}
+use Rattle.index_pages.specs.Pages.{PagesState, pages_new, page_of, put, pages_merge, pages_clean}
 
 pub data Call : Type 0 where
   Put : BlockId → Entry → Call
@@ -16,8 +16,8 @@ pub data Call : Type 0 where
 
 abbrev pub after_call : PagesState → Call → PagesState
 after_call s (Put block entry) = put s block entry
-after_call s (Merge block entry) = put_newer s block entry
-after_call s Clean = cleaned s
+after_call s (Merge block entry) = pages_merge s block entry
+after_call s Clean = pages_clean s
 
 -- the pages once all of these were called, in order
 abbrev pub after_calls : PagesState → List Call → PagesState
@@ -75,7 +75,7 @@ puts_since_clean calls = fold with_put [] (taken calls)
 
 -- since the last clean something was put at a block of the page of this number
 abbrev pub IsPutOn : List Call → ℕ → Type 0
-IsPutOn calls number = (block : BlockId) × Contains (puts_since_clean calls) block × (page_of (after_calls no_pages calls) block ≡ Some number)
+IsPutOn calls number = (block : BlockId) × Contains (puts_since_clean calls) block × (page_of (after_calls pages_new calls) block ≡ Some number)
 
 -- where a block stands in a list whose first place has this number
 abbrev pub place_from : ℕ → BlockId → List BlockId → Option ℕ

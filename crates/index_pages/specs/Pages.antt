@@ -19,8 +19,8 @@ pub record PagesState : Type 0 where
   -- the pages, in order of number
   pub pages : List Page
 
-abbrev pub no_pages : PagesState
-no_pages = record { rows = []; numbers = []; pages = [] }
+abbrev pub pages_new : PagesState
+pages_new = record { rows = []; numbers = []; pages = [] }
 
 -- the number of a block's page; none where nothing of that page was put
 abbrev pub page_of : PagesState → BlockId → Option ℕ
@@ -39,8 +39,8 @@ put_on s page block entry = record {
 }
 
 -- the page of a block comes to be, with the next number
-abbrev pub begun : PagesState → BlockId → PagesState
-begun s block = record {
+abbrev pub begin_page : PagesState → BlockId → PagesState
+begin_page s block = record {
   rows = s.rows;
   numbers = insert_entry block_cmp s.numbers (first_block block) (length s.pages);
   pages = s.pages ++ changed_page block ∷ [];
@@ -64,8 +64,8 @@ unfoldable pub put : PagesState → BlockId → Entry → PagesState
 put s block entry = put_at (page_of s block) s block entry
 
 -- the entry is put at its block where it is above what was put there last
-unfoldable pub put_newer : PagesState → BlockId → Entry → PagesState
-put_newer s block entry = if is_newer entry (entry_of s.rows block) then put s block entry else s
+unfoldable pub pages_merge : PagesState → BlockId → Entry → PagesState
+pages_merge s block entry = if is_newer entry (entry_of s.rows block) then put s block entry else s
 
 abbrev pub room_for : Option ℕ → ℕ → Bool
 room_for (Some page) count = true
@@ -80,8 +80,8 @@ abbrev pub clean_page : Page → Page
 clean_page page = record { first = page.first; changed = false }
 
 -- no page has changed
-unfoldable pub cleaned : PagesState → PagesState
-cleaned s = record { rows = s.rows; numbers = s.numbers; pages = map clean_page s.pages }
+unfoldable pub pages_clean : PagesState → PagesState
+pages_clean s = record { rows = s.rows; numbers = s.numbers; pages = map clean_page s.pages }
 
 -- the numbers of the pages that changed, where the first of these has this number
 abbrev pub changed_from : ℕ → List Page → List ℕ
@@ -119,5 +119,5 @@ abbrev pub first_of : List Page → ℕ → BlockId
 first_of pages number = first_at (slice_get pages number)
 
 -- what was put on a page, by block
-unfoldable pub page_rows : PagesState → ℕ → List (BlockId × Entry)
-page_rows s page = held s.rows (blocks_on (first_of s.pages page))
+unfoldable pub pages_rows : PagesState → ℕ → List (BlockId × Entry)
+pages_rows s page = held s.rows (blocks_on (first_of s.pages page))

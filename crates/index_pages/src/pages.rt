@@ -4,7 +4,7 @@ ghost use Rattle.xfs_base.specs.Limits.{u32_end};
 ghost use Rattle.delta_index.specs.Entries.{is_newer};
 ghost use Rattle.delta_index.specs.Index.{entry_of};
 ghost use Rattle.index_pages.specs.Layout.{first_block};
-ghost use Rattle.index_pages.specs.Pages.{no_pages, page_of, put_on, begun, put_anew, put, put_newer, has_room, cleaned, changed_from, held, rows_on, all_rows, changed_rows, first_of, page_rows};
+ghost use Rattle.index_pages.specs.Pages.{pages_new, page_of, put_on, begin_page, put_anew, put, pages_merge, has_room, pages_clean, changed_from, held, rows_on, all_rows, changed_rows, first_of, pages_rows};
 
 use crate::layout::{Page, blocks_on, first_block};
 use std::alloc::{AllocError, Global};
@@ -87,7 +87,7 @@ fn first_of(pages: &[Page], page: u32) -> BlockId
 impl Pages {
     /// An index of nothing. It keeps the allocator and takes no memory.
     pub fn new(alloc: Global) -> Pages
-        ensures { result ≡ no_pages }
+        ensures { result ≡ pages_new }
     {
         Pages {
             rows: BTreeMap::new(alloc),
@@ -158,7 +158,7 @@ impl Pages {
     // Begins the page of a block.
     fn begin_page(&mut self, block: BlockId) -> Mem<()>
         requires room { length self.old.pages < u32_end }
-        ensures ok { OnOk result (self.new ≡ begun self.old block) }
+        ensures ok { OnOk result (self.new ≡ begin_page self.old block) }
         ensures err { OnErr result (self.new ≡ self.old) }
     {
         let number = self.pages.len() as u32;
@@ -206,11 +206,11 @@ impl Pages {
     /// what `get` gives, and answers whether it did: of equal ones the earlier stays. Only a block whose
     /// page is there, or can be begun, is put; where a page more than 4,294,967,295 would be needed, that is
     /// want of memory. Where memory is wanting nothing changes.
-    #[tactic(auto, unfolding(crate::specs::Pages::put_newer))]
+    #[tactic(auto, unfolding(crate::specs::Pages::pages_merge))]
     pub fn merge(&mut self, alloc: Global, block: BlockId, entry: Entry) -> Mem<bool>
         ensures taken { IfOk result (λ taken. taken ≡ is_newer entry (entry_of self.old.rows block)) }
         ensures room { IfOk result (λ taken. IsTrue taken → IsTrue (has_room self.old block)) }
-        ensures ok { OnOk result (self.new ≡ put_newer self.old block entry) }
+        ensures ok { OnOk result (self.new ≡ pages_merge self.old block entry) }
         ensures err { OnErr result (self.new ≡ self.old) }
     {
         if !is_newer_entry(entry, self.get(block)) {
@@ -237,9 +237,9 @@ impl Pages {
     }
 
     /// From here on no page has changed. Takes no memory.
-    #[tactic(auto, unfolding(crate::specs::Pages::cleaned))]
+    #[tactic(auto, unfolding(crate::specs::Pages::pages_clean))]
     pub fn clean(&mut self)
-        ensures { self.new ≡ cleaned self.old }
+        ensures { self.new ≡ pages_clean self.old }
     {
         for page in self.pages.iter_mut() {
             *page = Page {
@@ -250,10 +250,10 @@ impl Pages {
     }
 
     /// What was put on a page, by block; at most 64 rows. The page must be there.
-    #[tactic(auto, unfolding(crate::specs::Pages::page_rows))]
+    #[tactic(auto, unfolding(crate::specs::Pages::pages_rows))]
     pub fn rows(&self, alloc: Global, page: u32) -> Mem<List<(BlockId, Entry)>>
         requires { page < length self.now.pages }
-        ensures { IfOk result (λ rows. rows ≡ page_rows self.now page) }
+        ensures { IfOk result (λ rows. rows ≡ pages_rows self.now page) }
     {
         let blocks = blocks_on(alloc, first_of(&self.pages, page))?;
         held(alloc, &self.rows, blocks.as_slice())

@@ -13,10 +13,10 @@ use Rattle.xfs_base.proofs.Booleans.{by_test, and_first, and_second}
 use Rattle.stripe_cleaner.specs.declared.checks.Check.{Check}
 use Rattle.stripe_cleaner.specs.declared.checks.Fate.{Fate}
 use Rattle.stripe_cleaner.specs.declared.checks.Fate.TheVariants as fate
-use Rattle.stripe_cleaner.specs.Checks.{checks_from, after_live, after_dead, after_moved, live_at, dead_at, is_dead, all_dead}
+use Rattle.stripe_cleaner.specs.Checks.{checks_of, after_live, after_dead, after_moved, live_at, dead_at, is_dead, all_dead}
 use Rattle.stripe_cleaner.specs.Histories.{blocks_of}
 
-pub blocks-checks : (n : ℕ) (items : List Item) → map (λ (c : Check). c.block) (checks_from n items) ≡ blocks_of items
+pub blocks-checks : (n : ℕ) (items : List Item) → map (λ (c : Check). c.block) (checks_of n items) ≡ blocks_of items
 blocks-checks n [] = refl
 blocks-checks n (Block block value ∷ items) = ap (λ bs. block ∷ bs) (blocks-checks (n + 1) items)
 blocks-checks n (Delta block ver hop item ∷ items) = blocks-checks (n + 1) items
@@ -66,7 +66,7 @@ live_block block entry c =
 pub dead_block : (block : BlockId) (c : Check) → (dead_at block c).block ≡ c.block
 dead_block block c = by_test (λ (d : Check). d.block ≡ c.block) (same_block c.block block) (record c { fate = after_dead c.fate }) c (λ t. refl) (λ t. refl)
 
-pub none_dead : (n : ℕ) (items : List Item) → AllByRecursion (λ (c : Check). is_dead c.fate ≡ false) (checks_from n items)
+pub none_dead : (n : ℕ) (items : List Item) → AllByRecursion (λ (c : Check). is_dead c.fate ≡ false) (checks_of n items)
 none_dead n [] = tt
 none_dead n (Block block value ∷ items) = (refl, none_dead (n + 1) items)
 none_dead n (Delta block ver hop item ∷ items) = none_dead (n + 1) items

@@ -24,14 +24,14 @@ use Rattle.stripe_cleaner.specs.declared.input.In.TheVariants as input
 use Rattle.stripe_cleaner.specs.declared.output.Out.{Out}
 use Rattle.stripe_cleaner.specs.declared.phase.Phase.{Phase}
 use Rattle.stripe_cleaner.specs.declared.phase.Phase.TheVariants.{Reading, Checking}
-use Rattle.stripe_cleaner.specs.Checks.{checks_from, after_live, after_dead, live_at, dead_at, moved_at, is_dead, any_asked, all_dead, questions}
+use Rattle.stripe_cleaner.specs.Checks.{checks_of, after_live, after_dead, live_at, dead_at, moved_at, is_dead, any_asked, all_dead, questions}
 use Rattle.stripe_cleaner.specs.CleaningState.{CleaningState}
 use Rattle.stripe_cleaner.specs.Histories.{blocks_of}
-use Rattle.stripe_cleaner.specs.Job.{Turn, next, same_name, checking, looked_at, is_moving}
+use Rattle.stripe_cleaner.specs.Job.{Turn, next, same_name, job_check, job_look, is_moving}
 use Rattle.stripe_cleaner.specs.JobState.{JobState}
-use Rattle.stripe_cleaner.specs.Listing.{begun}
+use Rattle.stripe_cleaner.specs.Listing.{listing_begin}
 use Rattle.stripe_cleaner.specs.Promises.{promised_at, promised_with, is_above, is_promised}
-use Rattle.stripe_cleaner.specs.Transition.{Done, turned, is_greeting, welcomed, on_welcome, forgetting, on_promise, listed_in, counted_in, read_in, answered_in, moved_in, deleted_in, on_usage, is_heard, may_move, on_live, on_dead, transition}
+use Rattle.stripe_cleaner.specs.Transition.{Done, turned, is_greeting, welcomed, on_welcome, forgetting, on_promise, listed_in, counted_in, read_in, answered_in, moved_in, deleted_in, on_usage, cleaning_hears, may_move, on_live, on_dead, transition}
 use Rattle.stripe_cleaner.proofs.Turns.{says_lists, says_questions, next_fine, checking_fine, looked_fine, listed_in_fine, counted_in_fine, forgetting_fine, mapped_fine, deleted_in_fine, awaits_fine}
 use Rattle.log_protocol.specs.IndexState.{IndexState}
 use Rattle.log_protocol.specs.IndexSteps.{IndexSteps, promises, counts, drops_row}
@@ -153,7 +153,7 @@ module _ (b : BlockId) (f : Filed) where
       by false u v twin has alive = same (λ fact _ _. false≢true (sym twin ∙ fact))
 
   looked : (w : IndexState) (j : JobState) (segment : SegRef) (was_asked : Bool) (checks : List Check) → IsChecked b f w.dead_at segment.name checks
-      → Turned w (looked_at j segment was_asked checks)
+      → Turned w (job_look j segment was_asked checks)
   looked w j segment was_asked checks k = let e =
       ends w segment.name checks k in
       record {
@@ -166,9 +166,9 @@ module _ (b : BlockId) (f : Filed) where
       }
 
   checked_first : (w : IndexState) (j : JobState) (segment : SegRef) (read : Segment) → IsWithin f segment.name
-      → (is_filed_name f segment.name ≡ true → read ≡ f.segment segment.name.log.0 segment.name.seq) → Turned w (checking j segment (checks_from 0 read.items))
+      → (is_filed_name f segment.name ≡ true → read ≡ f.segment segment.name.log.0 segment.name.seq) → Turned w (job_check j segment (checks_of 0 read.items))
   checked_first w j segment read within text =
-      let checks = checks_from 0 read.items in
+      let checks = checks_of 0 read.items in
       let k : IsChecked b f w.dead_at segment.name checks = record {
         within = within;
         blocks = λ fact. blocks-checks 0 read.items ∙ ap (λ (s : Segment). blocks_of s.items) (text fact);
@@ -192,7 +192,7 @@ module _ (b : BlockId) (f : Filed) where
   read_turned : (w : IndexState) (read : Option Segment) (p : Phase) → Known b f w.dead_at w.dropped p → ReadFor f read p → Turned w (read_in read p)
   read_turned w None (Reading j segment) k owes = by_nothing w (next j) (next_fine (IsChecked b f w.dead_at) (IsDropped b f w.dropped) j.left j)
   read_turned w (Some read) (Reading j segment) k owes =
-      by_test (Turned w) (same_name read.name segment.name) (checking j segment (checks_from 0 read.items)) (still (Reading j segment))
+      by_test (Turned w) (same_name read.name segment.name) (job_check j segment (checks_of 0 read.items)) (still (Reading j segment))
       (λ t. checked_first w j segment read owes.0 (λ fact. owes.1 fact (tells_apart seg_cmp_exact read.name segment.name t)))
       (λ t. by_nothing w (still (Reading j segment)) (tt, tt))
   read_turned w read p k owes = by_nothing w (still p) (k, tt)
@@ -233,7 +233,7 @@ module _ (b : BlockId) (f : Filed) where
           (λ t so. so)
 
       by : (t u v : Bool) → is_filed_name f segment.name ≡ t → has_block b f segment.name ≡ u → same_block b block ≡ v
-          → Turned w (looked_at j segment (any_asked checks) (map (dead_at block) checks))
+          → Turned w (job_look j segment (any_asked checks) (map (dead_at block) checks))
       by true true true fact has same =
           let l = segment.name.log.0 in
           let q = segment.name.seq in
@@ -331,7 +331,7 @@ module _ (b : BlockId) (f : Filed) where
   welcome_known w s slots groups c =
       by_test (λ (d : Done). Known b f w.dead_at w.dropped d.state.phase × AllByRecursion (DeletesDropped b f w.dropped) d.outs)
       (is_greeting s.phase && (length slots == 8)) (welcomed s slots groups) (still s)
-      (λ _. (tt, says_lists (DeletesDropped b f w.dropped) (λ server. tt) (begun slots groups).awaited))
+      (λ _. (tt, says_lists (DeletesDropped b f w.dropped) (λ server. tt) (listing_begin slots groups).awaited))
       (λ _. (c.known, tt))
 
   promise_known : (w : IndexState) (s : CleaningState) (slot epoch : ℕ) → Cleans b f w s
@@ -368,7 +368,7 @@ module _ (b : BlockId) (f : Filed) where
       → StaysOn w (on_live s block epoch entry)
   unfolding on_live
   live_answered w s block epoch entry c =
-      by_test (StaysOn w) (is_heard s.promised block epoch && may_move entry) (turned s (answered_in (live_at block entry) s.phase)) (still s)
+      by_test (StaysOn w) (cleaning_hears s.promised block epoch && may_move entry) (turned s (answered_in (live_at block entry) s.phase)) (still s)
       (λ _. turns w s (answered_in (live_at block entry) s.phase) c (live_turned w block entry s.phase c.known))
       (λ _. quiet w s c)
 
@@ -376,16 +376,16 @@ module _ (b : BlockId) (f : Filed) where
   same_number x t y h = grind (arith, nat_tests)
 
   -- a Dead that is heard is of the promised epoch
-  pub heard_at : (s : CleaningState) (block : BlockId) (epoch : ℕ) → block ≡ b → is_heard s.promised block epoch ≡ true → epoch ≡ promise_of b s
+  pub heard_at : (s : CleaningState) (block : BlockId) (epoch : ℕ) → block ≡ b → cleaning_hears s.promised block epoch ≡ true → epoch ≡ promise_of b s
   heard_at s block epoch at heard =
       same_number epoch (nat_lt (slot_of block.ino.0) 8) (promised_at s.promised (slot_of block.ino.0)) heard
       ∙ ap (λ (k : BlockId). promised_at s.promised (slot_of k.ino.0)) at
 
   pub dead_answered : (w : IndexState) (s : CleaningState) (block : BlockId) (epoch : ℕ) → Cleans b f w s
-      → (block ≡ b → is_heard s.promised block epoch ≡ true → ToldFor b f w epoch s.phase) → StaysOn w (on_dead s block epoch)
+      → (block ≡ b → cleaning_hears s.promised block epoch ≡ true → ToldFor b f w epoch s.phase) → StaysOn w (on_dead s block epoch)
   unfolding on_dead
   dead_answered w s block epoch c told =
-      by_test (StaysOn w) (is_heard s.promised block epoch) (turned s (answered_in (dead_at block) s.phase)) (still s)
+      by_test (StaysOn w) (cleaning_hears s.promised block epoch) (turned s (answered_in (dead_at block) s.phase)) (still s)
       (λ heard. turns w s (answered_in (dead_at block) s.phase) c
       (dead_turned w block epoch s.phase c.known (λ at. told at heard) (λ at some. latest c.promised (heard_at s block epoch at heard) some)))
       (λ _. quiet w s c)

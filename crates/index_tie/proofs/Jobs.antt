@@ -19,7 +19,7 @@ use Rattle.stripe_cleaner.specs.declared.output.Out as job_outputs
 use Rattle.stripe_cleaner.specs.declared.output.Out.TheVariants as job_output
 use Rattle.stripe_cleaner.specs.declared.phase.Phase.{Phase}
 use Rattle.stripe_cleaner.specs.declared.phase.Phase.TheVariants.{Checking}
-use Rattle.stripe_cleaner.specs.CleaningState.{CleaningState, started}
+use Rattle.stripe_cleaner.specs.CleaningState.{CleaningState, cleaning_start}
 use Rattle.stripe_cleaner.specs.Promises.{promised_at, is_above, promised_with}
 use Rattle.stripe_cleaner.specs.Transition as job
 use Rattle.log_protocol.specs.Tables.{In}
@@ -257,14 +257,14 @@ module _ (part : ℕ) (holds : SegRef → Rows) where
 
   -- ---- a job begins
 
-  pub job_begins : (n : Net) (count : ℕ) → Good part holds n → Good part holds (record n { job = started count; number = suc n.number })
+  pub job_begins : (n : Net) (count : ℕ) → Good part holds n → Good part holds (record n { job = cleaning_start count; number = suc n.number })
   job_begins n count g = record {
     filed = g.filed;
     epochs = g.epochs;
     begun = g.begun;
     views = λ b inside.
         let i = g.views b inside in
-        let m = record n { job = started count; number = suc n.number } in
+        let m = record n { job = cleaning_start count; number = suc n.number } in
         let went_on =
         went part holds b n m i i.state Ended (same_filed n.filed) i.tells (λ d _. omega arith) in
         record {

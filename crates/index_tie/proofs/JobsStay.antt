@@ -14,7 +14,7 @@ use Rattle.stripe_cleaner.specs.declared.checks.Check.{Check}
 use Rattle.stripe_cleaner.specs.declared.phase.Phase.{Phase}
 use Rattle.stripe_cleaner.specs.declared.phase.Phase.TheVariants.{Checking, Deleting}
 use Rattle.stripe_cleaner.specs.Checks.{is_dead}
-use Rattle.stripe_cleaner.specs.CleaningState.{started}
+use Rattle.stripe_cleaner.specs.CleaningState.{cleaning_start}
 use Rattle.stripe_cleaner.specs.Histories.{blocks_of}
 use Rattle.stripe_cleaner.specs.Job.{counted, same_name}
 use Rattle.stripe_cleaner.specs.Promises.{promised_at}
@@ -25,12 +25,12 @@ use Rattle.index_tie.specs.Cleaning.{IsWithin, IsDropped, Known, promise_of, Job
 pub jobs_begin : JobsBegin
 jobs_begin b f w count = record { promised = inl (none_yet (slot_of b.ino.0)); known = tt }
   where
-    none_yet : (slot : ℕ) → promised_at (started count).promised slot ≡ 0
+    none_yet : (slot : ℕ) → promised_at (cleaning_start count).promised slot ≡ 0
     none_yet slot = by (nat_lt slot slot_count) refl
       where
-        by : (t : Bool) → nat_lt slot slot_count ≡ t → promised_at (started count).promised slot ≡ 0
+        by : (t : Bool) → nat_lt slot slot_count ≡ t → promised_at (cleaning_start count).promised slot ≡ 0
         by true less = get_or-replicate slot_count slot 0 0 (grind (arith, nat_tests))
-        by false past = get_or-eq_default (started count).promised 0 (grind (arith, nat_tests))
+        by false past = get_or-eq_default (cleaning_start count).promised 0 (grind (arith, nat_tests))
 
 -- ---- more is filed
 

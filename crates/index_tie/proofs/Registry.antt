@@ -280,10 +280,10 @@ module _ (part : ℕ) (holds : SegRef → Rows) where
       ))
 
   -- where blocks lie doesn't hang on which pages have changed
-  pub cleans : (n : Net) (e : ℕ) (s : SlotState) → Good part holds n → n.slots e ≡ Some s → Good part holds (with_slot n e (slot.cleaned s))
+  pub cleans : (n : Net) (e : ℕ) (s : SlotState) → Good part holds n → n.slots e ≡ Some s → Good part holds (with_slot n e (slot.slot_clean s))
   cleans n e s g at =
       let same = g.epochs e s at in
-      with_slot_good part holds n e (slot.cleaned s) g same (not_zero part holds n e s g at)
+      with_slot_good part holds n e (slot.slot_clean s) g same (not_zero part holds n e s g at)
       (λ b inside i. let m = i.slots e s at in
       record { state = i.state; steps = Ended; frame = itself e i.state; shows = record { active = m.active; applied = m.applied; index = m.index } })
 
@@ -448,11 +448,11 @@ module _ (part : ℕ) (holds : SegRef → Rows) where
       → n.slots e ≡ None → 0 < e → e ≤ n.epoch
       → Contains (takeover.transition (course_of news groups clients inputs).state input).outs (Active e index beliefs applied)
       → HasRead part holds n e news (after_input (course_of news groups clients inputs) input)
-      → Good part holds (with_slot n e (slot.started e index beliefs applied))
+      → Good part holds (with_slot n e (slot.slot_start e index beliefs applied))
   takes_over n e news groups clients inputs input index beliefs applied g none some begun hands has =
       let c = after_input (course_of news groups clients inputs) input in
       let over = taken_over news groups clients inputs input e index beliefs applied hands in
-      with_slot_good part holds n e (slot.started e index beliefs applied) g refl (λ is_zero. omega arith)
+      with_slot_good part holds n e (slot.slot_start e index beliefs applied) g refl (λ is_zero. omega arith)
       (λ b inside i.
       let w = i.state in
       let known = found part holds b (Sound part holds b n w) (CleanerReported e (end_of c.state.reports 9).seq) n.sent i.sent has.reported in

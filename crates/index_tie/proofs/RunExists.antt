@@ -19,7 +19,7 @@ use Rattle.segment_format.specs.Rows.{rows_of}
 use Rattle.checkpoint.specs.WriterState.{Rows}
 use Rattle.delta_index.specs.Index.{entry_of}
 use Rattle.delta_index.proofs.IndexJoin.{index_join}
-use Rattle.slot_beliefs.specs.Index.{Indexed, nothing_indexed, indexed_all}
+use Rattle.slot_beliefs.specs.Index.{Indexed, block_index_new, merge_all}
 use Rattle.takeover.specs.declared.input.In.{In as TakeoverIn}
 use Rattle.takeover.specs.declared.input.In.TheVariants.{Report}
 use Rattle.takeover.specs.declared.output.Out.TheVariants.{Active}
@@ -28,7 +28,7 @@ use Rattle.takeover.specs.Reports as reports
 use Rattle.takeover.specs.Reports.{no_end, end_of}
 use Rattle.takeover.specs.Transition as takeover
 use Rattle.token_manager.specs.declared.input.In.TheVariants.{Deltas}
-use Rattle.token_manager.specs.Transition.{started, cleaned, transition}
+use Rattle.token_manager.specs.Transition.{slot_start, slot_clean, transition}
 use Rattle.headline.specs.Filed.{IsSegment}
 use Rattle.index_tie.specs.Growth.{with_segment}
 use Rattle.index_tie.specs.Slots.{DeltasTell}
@@ -39,7 +39,7 @@ use Rattle.index_tie.specs.Net.Runs.{Begun, On}
 use Rattle.index_tie.specs.NetLaws.{TakenOver}
 use Rattle.index_tie.proofs.Rows.{join_has}
 use Rattle.index_tie.proofs.Runs.{one_at, zero_at, all_zeros, no_row}
-use Rattle.index_tie.proofs.Slots.{rows-indexed_all}
+use Rattle.index_tie.proofs.Slots.{rows-merge_all}
 use Rattle.index_tie.proofs.Takeovers.{of_log_in}
 
 -- the block, and the segment that client 1 files: its version 1, absent
@@ -99,7 +99,7 @@ abbrev planned : Net
 planned = with_packet started_net (CheckpointPlanned 1 [] ones)
 
 abbrev cleaned_net : Net
-cleaned_net = with_slot planned 1 (cleaned (started 1 [] [] zeros))
+cleaned_net = with_slot planned 1 (slot_clean (slot_start 1 [] [] zeros))
 
 abbrev checkpointed : Net
 checkpointed = with_packet cleaned_net (CheckpointDone 1 ones [])
@@ -117,13 +117,13 @@ abbrev reported : Net
 reported = with_packet promised (CleanerReported 2 0)
 
 abbrev taken : Net
-taken = with_slot reported 2 (started 2 [] [] zeros)
+taken = with_slot reported 2 (slot_start 2 [] [] zeros)
 
 abbrev filed : Net
 filed = record taken { filed = with_segment taken.filed 1 segment }
 
 abbrev told : Net
-told = with_slot filed 2 (transition (started 2 [] [] zeros) (Deltas log 1 1 (rows_of segment))).state
+told = with_slot filed 2 (transition (slot_start 2 [] [] zeros) (Deltas log 1 1 (rows_of segment))).state
 
 has_read : HasRead 0 holds reported 2 news course
 has_read = record {
@@ -156,9 +156,9 @@ tells b = record { some = omega arith; known = omega arith; filed = one_is; join
 runs : Runs 0 holds (opening any) told
 runs =
     On (On (On (On (On (On (On (On (On (On (Begun {n = started_net})
-    (Plans {n = started_net} 1 (started 1 [] [] zeros) [] ones refl refl tt
+    (Plans {n = started_net} 1 (slot_start 1 [] [] zeros) [] ones refl refl tt
     (λ l some limit. let o = of_log_in ones l some limit in let i = one_at (l - 1) (omega arith) in let z = zero_at zeros all_zeros (l - 1) in omega arith)))
-    (Cleans {n = planned} 1 (started 1 [] [] zeros) refl))
+    (Cleans {n = planned} 1 (slot_start 1 [] [] zeros) refl))
     (Checkpoints {n = cleaned_net} 1 [] ones [] (inl refl) refl))
     (Keeps {n = checkpointed} ones [] (inl refl) (λ l some limit. omega arith)))
     (Moves {n = kept}))
@@ -166,10 +166,10 @@ runs =
     (Reports {n = promised}))
     (Activates {n = reported} 2 news groups 0 [] report [] [] zeros refl (omega arith) (omega arith) hands has_read))
     (ClientFiles {n = taken} 1 segment (omega arith) (omega arith) its_segment (λ b inside. newer b)))
-    (GetsDeltas {n = filed} 2 (started 2 [] [] zeros) log 1 1 (rows_of segment) refl (omega arith) (λ b inside. tells b))
+    (GetsDeltas {n = filed} 2 (slot_start 2 [] [] zeros) log 1 1 (rows_of segment) refl (omega arith) (λ b inside. tells b))
 
 -- the slot applied the Deltas
-applied_it : (transition (started 2 [] [] zeros) (Deltas log 1 1 (rows_of segment))).state.index ≡ indexed_all nothing_indexed (rows_of segment)
+applied_it : (transition (slot_start 2 [] [] zeros) (Deltas log 1 1 (rows_of segment))).state.index ≡ merge_all block_index_new (rows_of segment)
 applied_it = refl
 
 pub taken_over : TakenOver
@@ -180,11 +180,11 @@ taken_over = record {
   run = runs;
   block = block;
   inside = refl;
-  deposed = cleaned (started 1 [] [] zeros);
-  present = (transition (started 2 [] [] zeros) (Deltas log 1 1 (rows_of segment))).state;
+  deposed = slot_clean (slot_start 1 [] [] zeros);
+  present = (transition (slot_start 2 [] [] zeros) (Deltas log 1 1 (rows_of segment))).state;
   was = refl;
   manages = refl;
   knows_nothing = refl;
-  knows = ap (λ (i : Indexed). (entry_of i.rows block).ver) applied_it ∙ ap (λ r. (entry_of r block).ver) (rows-indexed_all nothing_indexed (rows_of segment))
+  knows = ap (λ (i : Indexed). (entry_of i.rows block).ver) applied_it ∙ ap (λ r. (entry_of r block).ver) (rows-merge_all block_index_new (rows_of segment))
       ∙ ap (λ (e : Entry). e.ver) (index_join (rows_of segment) block);
 }

@@ -13,7 +13,7 @@ use Rattle.delta_index.specs.Entries.{no_entry}
 use Rattle.delta_index.specs.Join.{join}
 use Rattle.slot_beliefs.specs.Recalls.{applied_of}
 use Rattle.token_manager.specs.SlotState.{SlotState}
-use Rattle.token_manager.specs.Transition.{started}
+use Rattle.token_manager.specs.Transition.{slot_start}
 use Rattle.log_protocol.specs.Tables.{In}
 use Rattle.log_protocol.specs.IndexState.{IndexState, Joins, new_block}
 use Rattle.log_protocol.specs.IndexState as index
@@ -144,12 +144,12 @@ module _ (any : ℕ → ℕ → Segment) (b : BlockId) where
       joins = nothing_joins (λ l. 0);
     }));
     tells = begun_tells;
-    slots = put_each (λ e o. (s : SlotState) → o ≡ Some s → Manages b none_filed begun_state s) (λ e. None) 1 (Some (started 1 [] [] zeros))
-        (λ s fact. subst (Manages b none_filed begun_state) (some_is (started 1 [] [] zeros) s fact)
+    slots = put_each (λ e o. (s : SlotState) → o ≡ Some s → Manages b none_filed begun_state s) (λ e. None) 1 (Some (slot_start 1 [] [] zeros))
+        (λ s fact. subst (Manages b none_filed begun_state) (some_is (slot_start 1 [] [] zeros) s fact)
         (record { active = refl; applied = λ l some. sym (zero_at zeros all_zeros (l - 1)); index = names_nothing b none_filed 0 }))
         (λ e other s fact. absurd (some_none s (sym fact)));
-    none = put_each (λ e o. o ≡ None → begun_state.active e ≡ 0) (λ e. None) 1 (Some (started 1 [] [] zeros))
-        (λ fact. absurd (some_none (started 1 [] [] zeros) fact)) (λ e other fact. at_other e 1 1 0 other);
+    none = put_each (λ e o. o ≡ None → begun_state.active e ≡ 0) (λ e. None) 1 (Some (slot_start 1 [] [] zeros))
+        (λ fact. absurd (some_none (slot_start 1 [] [] zeros) fact)) (λ e other fact. at_other e 1 1 0 other);
     epoch = refl;
     horizon = λ e l some limit. of_log_in ones l some limit ∙ one_at (l - 1) (omega arith);
     parts = λ e. record {
@@ -169,8 +169,8 @@ module _ (any : ℕ → ℕ → Segment) (b : BlockId) where
 opens : (part : ℕ) (holds : SegRef → Rows) (any : ℕ → ℕ → Segment) → Good part holds (opening any)
 opens part holds any = record {
   filed = record { others = λ l out. refl; each = λ l q some limit. absurd (omega arith) };
-  epochs = put_each (λ e o. (s : SlotState) → o ≡ Some s → s.epoch ≡ e) (λ e. None) 1 (Some (started 1 [] [] zeros))
-      (λ s fact. ap (λ (x : SlotState). x.epoch) (sym (some_is (started 1 [] [] zeros) s fact))) (λ e other s fact. absurd (some_none s (sym fact)));
+  epochs = put_each (λ e o. (s : SlotState) → o ≡ Some s → s.epoch ≡ e) (λ e. None) 1 (Some (slot_start 1 [] [] zeros))
+      (λ s fact. ap (λ (x : SlotState). x.epoch) (sym (some_is (slot_start 1 [] [] zeros) s fact))) (λ e other s fact. absurd (some_none s (sym fact)));
   begun = refl;
   views = λ b inside. begins any b part holds;
 }

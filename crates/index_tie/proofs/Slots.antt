@@ -11,11 +11,11 @@ use Rattle.delta_index.specs.Entries.{first_greatest}
 use Rattle.delta_index.specs.Index.{entry_of, merged_all}
 use Rattle.delta_index.specs.Join.{join}
 use Rattle.delta_index.proofs.IndexJoin.{entry_of-merged_all}
-use Rattle.slot_beliefs.specs.Index.{Indexed, indexed, indexed_all}
+use Rattle.slot_beliefs.specs.Index.{Indexed, block_index_merge, merge_all}
 use Rattle.slot_beliefs.specs.Recalls.{applied_of, ready_blocks, applied_upto}
 use Rattle.token_manager.specs.declared.input.In.TheVariants.{Want, Gave, Deltas, Check, Tick}
 use Rattle.token_manager.specs.SlotState.{SlotState}
-use Rattle.token_manager.specs.Transition.{entry_at, joins_on, with_deltas, finished_at}
+use Rattle.token_manager.specs.Transition.{entry_at, joins_on, with_deltas, finish_job}
 use Rattle.token_manager.proofs.Cases.{by_want, by_gave, by_deltas, by_finished_at}
 use Rattle.log_protocol.specs.Tables.{put}
 use Rattle.log_protocol.specs.IndexState.{IndexState, Joins}
@@ -60,14 +60,14 @@ stays b f w s m t same = record { state = w; steps = Ended; frame = itself s.epo
 
 -- ---- Deltas
 
-pub rows-indexed_all : (i : Indexed) (ms : List (BlockId × Entry)) → (indexed_all i ms).rows ≡ merged_all i.rows ms
-unfolding indexed
-rows-indexed_all i [] = refl
-rows-indexed_all i (m ∷ ms) = rows-indexed_all (indexed i m) ms
+pub rows-merge_all : (i : Indexed) (ms : List (BlockId × Entry)) → (merge_all i ms).rows ≡ merged_all i.rows ms
+unfolding block_index_merge
+rows-merge_all i [] = refl
+rows-merge_all i (m ∷ ms) = rows-merge_all (block_index_merge i m) ms
 
-pub answering : (s : SlotState) (blocks : List BlockId) → Same s (steps finished_at s blocks).state
+pub answering : (s : SlotState) (blocks : List BlockId) → Same s (steps finish_job s blocks).state
 answering s blocks =
-    steps_keep finished_at (Same s)
+    steps_keep finish_job (Same s)
     (λ t k same. by_finished_at (λ r. Same s r.state) t k same (λ job fact. record { epoch = same.epoch; applied = same.applied; index = same.index })) s blocks
     (same_itself s)
 
@@ -119,7 +119,7 @@ applies b f w s log first upto rows reached filed tells m known told joins =
     } in
     let t = with_deltas s log upto rows in
     let has : entry_at t b ≡ first_greatest (entry_at s b) (join rows b) =
-    ap (λ x. entry_of x b) (rows-indexed_all s.index rows) ∙ entry_of-merged_all s.index.rows rows b in
+    ap (λ x. entry_of x b) (rows-merge_all s.index rows) ∙ entry_of-merged_all s.index.rows rows b in
     record {
       state = indexes w e applied entry;
       steps = More Ended (Merges e applied entry can);
@@ -132,13 +132,13 @@ applies b f w s log first upto rows reached filed tells m known told joins =
     }
 
 after_answers : (b : BlockId) (f : Filed) (w : IndexState) (e : ℕ) (s : SlotState) (blocks : List BlockId) → Runs b f w e s
-    → Runs b f w e (steps finished_at s blocks).state
+    → Runs b f w e (steps finish_job s blocks).state
 after_answers b f w e s blocks r =
     record {
       state = r.state;
       steps = r.steps;
       frame = r.frame;
-      shows = manages_same b f r.state s (steps finished_at s blocks).state (answering s blocks) r.shows;
+      shows = manages_same b f r.state s (steps finish_job s blocks).state (answering s blocks) r.shows;
     }
 
 -- ---- every input

@@ -28,7 +28,7 @@ use Rattle.delta_index.specs.Join.{join}
 use Rattle.delta_index.proofs.EntryAlgebra.{first_greatest-none}
 use Rattle.delta_index.proofs.IndexJoin.{index_join}
 use Rattle.delta_index.proofs.JoinAlgebra.{join-append, join-cons, join-one, none-join, same_block-eq}
-use Rattle.slot_beliefs.specs.Index.{nothing_indexed, indexed_all}
+use Rattle.slot_beliefs.specs.Index.{block_index_new, merge_all}
 use Rattle.slot_beliefs.specs.Recalls as recalls
 use Rattle.slot_beliefs.proofs.Counting.{nothing_counted, keeps-counted-all}
 use Rattle.takeover.specs.declared.report.Report.{Report}
@@ -39,7 +39,7 @@ use Rattle.takeover.specs.Reports as reports
 use Rattle.takeover.specs.Reports.{end_of, horizon_at, applied_at}
 use Rattle.takeover.specs.Sources.{part_source, log_source, log_sources}
 use Rattle.takeover.proofs.Standing.{taken_over}
-use Rattle.token_manager.specs.Transition.{started, entry_at}
+use Rattle.token_manager.specs.Transition.{slot_start, entry_at}
 use Rattle.log_protocol.specs.Tables.{put}
 use Rattle.log_protocol.specs.IndexState.{IndexState, Joins}
 use Rattle.log_protocol.specs.IndexState as index
@@ -57,7 +57,7 @@ use Rattle.index_tie.specs.Takeovers.{below, Covers, IsEnd, Linked, IsItsText, T
 use Rattle.headline.specs.Indexes.{of_log}
 use Rattle.index_tie.proofs.Chains.{log_tells}
 use Rattle.index_tie.proofs.Rows.{names_merged, ranged_between}
-use Rattle.index_tie.proofs.Slots.{rows-indexed_all, framed, shown}
+use Rattle.index_tie.proofs.Slots.{rows-merge_all, framed, shown}
 use Rattle.index_tie.proofs.Tables.{put_each, first_of, second_of}
 
 -- ---- the rows of an index say of each block what it holds
@@ -87,12 +87,12 @@ join_of_rows (r ∷ rs) q sorted =
     ∙ sym (ap (λ t. first_greatest no_entry (unwrap_or (cond t (Some r.1) (lookup (is_at (block_cmp q)) rs)) no_entry)) (same_block-eq q r.0))
 
 -- an index that starts with the rows of an index has them
-pub starts_with : (rows : List (BlockId × Entry)) (q : BlockId) → entry_of (indexed_all nothing_indexed (merged_all [] rows)).rows q ≡ join rows q
+pub starts_with : (rows : List (BlockId × Entry)) (q : BlockId) → entry_of (merge_all block_index_new (merged_all [] rows)).rows q ≡ join rows q
 starts_with rows q =
     let sorted : IsStrictlySortedBy block_cmp (keys_of (merged_all [] rows)) =
-    subst (λ r. IsStrictlySortedBy block_cmp (keys_of r)) (rows-indexed_all nothing_indexed rows)
-    (keeps-counted-all nothing_indexed rows nothing_counted).sorted in
-    ap (λ r. entry_of r q) (rows-indexed_all nothing_indexed (merged_all [] rows)) ∙ index_join (merged_all [] rows) q
+    subst (λ r. IsStrictlySortedBy block_cmp (keys_of r)) (rows-merge_all block_index_new rows)
+    (keeps-counted-all block_index_new rows nothing_counted).sorted in
+    ap (λ r. entry_of r q) (rows-merge_all block_index_new (merged_all [] rows)) ∙ index_join (merged_all [] rows) q
     ∙ join_of_rows (merged_all [] rows) q sorted
     ∙ ap (first_greatest no_entry) (index_join rows q) ∙ none-join rows q
 
@@ -287,7 +287,7 @@ applied_most end low head floor filed = by (nat_le low end) refl
 activated : (b : BlockId) (f : Filed) (w : IndexState) (news : SlotNews) (c : Course) (epoch : ℕ) (rows : List (BlockId × Entry))
     (beliefs : List (BlockId × ℕ × Mode)) (numbers : List ℕ)
     → IndexReached w → IsFiled f → Tells b f w → slot_of b.ino.0 ≡ news.slot → IsTakenOver news c epoch rows beliefs numbers → TakeoverTold b f w news c
-    → MayBegin w news.epoch c.state.reports → Runs b f w news.epoch (started news.epoch rows beliefs numbers)
+    → MayBegin w news.epoch c.state.reports → Runs b f w news.epoch (slot_start news.epoch rows beliefs numbers)
 activated b f w news c epoch rows beliefs numbers reached filed tells its over told may =
     let rs = c.state.reports in
     let horizon = news.horizon in
@@ -300,9 +300,9 @@ activated b f w news c epoch rows beliefs numbers reached filed tells its over t
     let g = all_told b f w news.slot e horizon rs reached filed tells its told.horizon told.ends told.linked parts c.read.whole covers over.sources
     told.texts in
     let numbers_of = reports.applied_of horizon rs in
-    let names : Names b f (entry_at (started e rows beliefs numbers) b) g.named =
+    let names : Names b f (entry_at (slot_start e rows beliefs numbers) b) g.named =
     subst (λ x. Names b f x g.named)
-    (sym (ap (λ r. entry_of (indexed_all nothing_indexed r).rows b) over.rows ∙ starts_with (told_by_all news.slot c.read.whole) b)) g.names in
+    (sym (ap (λ r. entry_of (merge_all block_index_new r).rows b) over.rows ∙ starts_with (told_by_all news.slot c.read.whole) b)) g.names in
     let upto : ℕ → ℕ = of_log numbers_of in
     let covered : (l : ℕ) → w.floor e l ≤ suc (upto l) = by_log (λ l. w.floor e l ≤ suc (upto l))
     (λ l some limit. let a = applied_in horizon rs l some limit in let h = told.horizon l some limit in let i = of_log_in horizon l some limit in omega arith)
@@ -322,7 +322,7 @@ activated b f w news c epoch rows beliefs numbers reached filed tells its over t
     subst (λ l. w.polled e ≤ upto l) (sym tells.cleaner) (let a = applied_in horizon rs cleaners_number (omega arith) (omega arith) in let r = may.reported in omega arith) in
     let can : CanActivate w e upto g.named =
     record { begun = may.begun; fresh = may.fresh; heard = may.heard; reported = reported; covered = covered; filed = most_filed; joins = g.joins } in
-    let t = started e rows beliefs numbers in
+    let t = slot_start e rows beliefs numbers in
     let frame = framed w e upto g.named in
     let shows = shown b f w upto g.named t
     (λ l some. by_log (λ d. 0 < d → upto d ≡ recalls.applied_of numbers d)
@@ -345,5 +345,5 @@ pub takeovers_are_activations : TakeoversAreActivations
 takeovers_are_activations b f w news groups clients inputs input epoch rows beliefs numbers reached filed tells its hands told may =
     let c = after_input (course_of news groups clients inputs) input in
     let over = taken_over news groups clients inputs input epoch rows beliefs numbers hands in
-    subst (λ e. Runs b f w e (started e rows beliefs numbers)) (sym over.of_epoch)
+    subst (λ e. Runs b f w e (slot_start e rows beliefs numbers)) (sym over.of_epoch)
     (activated b f w news c epoch rows beliefs numbers reached filed tells its over told may)

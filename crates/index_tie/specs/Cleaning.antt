@@ -15,7 +15,7 @@ use Rattle.stripe_cleaner.specs.declared.output.Out as outputs
 use Rattle.stripe_cleaner.specs.declared.phase.Phase.{Phase}
 use Rattle.stripe_cleaner.specs.declared.phase.Phase.TheVariants.{Reading, Checking}
 use Rattle.stripe_cleaner.specs.Checks.{moved_once, is_dead}
-use Rattle.stripe_cleaner.specs.CleaningState.{CleaningState, started}
+use Rattle.stripe_cleaner.specs.CleaningState.{CleaningState, cleaning_start}
 use Rattle.stripe_cleaner.specs.Histories.{KnownOf, DeletesOf, blocks_of}
 use Rattle.stripe_cleaner.specs.Promises.{promised_at}
 use Rattle.stripe_cleaner.specs.Transition as job
@@ -110,7 +110,7 @@ abbrev pub Owes : BlockId → Filed → IndexState → CleaningState → inputs.
 Owes b f w s (input.Welcome slots groups) = NoLower b w s (job.transition s (input.Welcome slots groups)).state
 Owes b f w s (input.Promise slot epoch) = NoLower b w s (job.transition s (input.Promise slot epoch)).state
 Owes b f w s (input.Read read) = ReadFor f read s.phase
-Owes b f w s (input.Dead block epoch) = block ≡ b → job.is_heard s.promised block epoch ≡ true → ToldFor b f w epoch s.phase
+Owes b f w s (input.Dead block epoch) = block ≡ b → job.cleaning_hears s.promised block epoch ≡ true → ToldFor b f w epoch s.phase
 Owes b f w s input = Unit {0}
 
 -- what is deleted was dropped
@@ -144,4 +144,4 @@ JobsStay =
 
 -- A job that begins, before it is welcomed, is seen as the cleaner.
 abbrev pub JobsBegin : Type 0
-JobsBegin = (b : BlockId) (f : Filed) (w : IndexState) (count : ℕ) → Cleans b f w (started count)
+JobsBegin = (b : BlockId) (f : Filed) (w : IndexState) (count : ℕ) → Cleans b f w (cleaning_start count)

@@ -179,7 +179,7 @@ pub data Happens (part : ℕ) (holds : SegRef → Rows) : Net → Net → Type 0
       → AllMayCome holds nothing_checkpointed events → IsNext s horizon
       → Happens part holds n (with_packet n (CheckpointPlanned e events horizon))
   -- from here on no page of the slot's index has changed
-  Cleans : {n : Net} (e : ℕ) (s : SlotState) → n.slots e ≡ Some s → Happens part holds n (with_slot n e (slot.cleaned s))
+  Cleans : {n : Net} (e : ℕ) (s : SlotState) → n.slots e ≡ Some s → Happens part holds n (with_slot n e (slot.slot_clean s))
   -- a manager has written what it had planned, into these segments
   Checkpoints : {n : Net} (e : ℕ) (events : List Event) (horizon : List ℕ) (segments : List SegRef) → In (CheckpointPlanned e events horizon) n.sent
       → MayCome holds (slot_after events) (Written segments)
@@ -196,7 +196,7 @@ pub data Happens (part : ℕ) (holds : SegRef → Rows) : Net → Net → Type 0
       (index : List (BlockId × Entry)) (beliefs : List (BlockId × ℕ × Mode)) (applied : List ℕ) → n.slots e ≡ None
       → 0 < e → e ≤ n.epoch → Contains (takeover.transition (course_of news groups clients inputs).state input).outs (Active e index beliefs applied)
       → HasRead part holds n e news (after_input (course_of news groups clients inputs) input)
-      → Happens part holds n (with_slot n e (slot.started e index beliefs applied))
+      → Happens part holds n (with_slot n e (slot.slot_start e index beliefs applied))
   -- the cleaner promises an epoch while no job of it has promised one
   Promises : {n : Net} (e : ℕ) → n.promised ≤ e → promised_at n.job.promised part ≡ 0 → Happens part holds n (record n { promised = e })
   -- and by its job, from a Poll or news, or from the job's Welcome
@@ -212,7 +212,7 @@ pub data Happens (part : ℕ) (holds : SegRef → Rows) : Net → Net → Type 0
   -- the cleaner reports what it has promised, and the end of its log
   Reports : {n : Net} → Happens part holds n (with_packet n (CleanerReported n.promised (n.filed.head cleaners_number)))
   -- the cleaner begins a job
-  JobBegins : {n : Net} (count : ℕ) → Happens part holds n (record n { job = job_state.started count; number = suc n.number })
+  JobBegins : {n : Net} (count : ℕ) → Happens part holds n (record n { job = job_state.cleaning_start count; number = suc n.number })
   -- its job reads a segment
   JobReads : {n : Net} (read : Option Segment) → ReadFor n.filed read n.job.phase
       → Happens part holds n (with_job n (job.transition n.job (job_input.Read read)))
@@ -244,12 +244,12 @@ zeros = 0 ∷ 0 ∷ 0 ∷ 0 ∷ 0 ∷ 0 ∷ 0 ∷ 0 ∷ 0 ∷ []
 abbrev pub opening : (ℕ → ℕ → Segment) → Net
 opening any = record {
   filed = record { head = λ l. 0; segment = any };
-  slots = put (λ e. None) 1 (Some (slot.started 1 [] [] zeros));
+  slots = put (λ e. None) 1 (Some (slot.slot_start 1 [] [] zeros));
   epoch = 1;
   horizon = λ e. ones;
   parts = λ e. [];
   promised = 1;
-  job = job_state.started 0;
+  job = job_state.cleaning_start 0;
   number = 0;
   deleted = [];
   sent = [];

@@ -19,7 +19,7 @@ use Rattle.takeover.specs.Course.{Course, course_of, after_input}
 use Rattle.takeover.specs.ReadBack.{told_by_all}
 use Rattle.takeover.specs.Reports.{end_of}
 use Rattle.takeover.specs.Transition.{transition}
-use Rattle.token_manager.specs.Transition.{started}
+use Rattle.token_manager.specs.Transition.{slot_start}
 use Rattle.log_protocol.specs.IndexState.{IndexState, Joins}
 use Rattle.log_protocol.specs.IndexState as index
 use Rattle.log_protocol.specs.IndexLaws.{IndexReached}
@@ -78,4 +78,4 @@ TakeoversAreActivations =
     → Contains (transition (course_of news groups clients inputs).state input).outs (Active epoch index beliefs applied)
     → TakeoverTold b f w news (after_input (course_of news groups clients inputs) input)
     → MayBegin w news.epoch (after_input (course_of news groups clients inputs) input).state.reports
-    → Runs b f w epoch (started epoch index beliefs applied)
+    → Runs b f w epoch (slot_start epoch index beliefs applied)

@@ -18,7 +18,7 @@ use Rattle.world_base.specs.NextWorld.{first_nodes, sent_at, start_world}
 use Rattle.journals.specs.declared.merged.Merged.{Merged}
 use Rattle.journals.specs.declared.moment.Moment.{Moment}
 use Rattle.journals.specs.Journals.{IsTold, replayed, retold, told_by, whats}
-use Rattle.journals.specs.Merged.{more_merged, none_merged, world_with}
+use Rattle.journals.specs.Merged.{merged_add, none_merged, into_world}
 use Rattle.journals.specs.Merging.{AllEmpty, AreTold, IsNext, Standing}
 use Rattle.journals.proofs.Gets.{has, one_there, set_cases, set_length, set_other, set_same}
 use Rattle.journals.proofs.Rising.{IsMerged, merged_next, merged_none}
@@ -67,7 +67,7 @@ module _ {N : Type 0} (step : N → Do → NodeStep N) where
     pub world : World N
     pub run : IsMerged step start journals rests t.events world
     pub told : AreTold step world.nodes rests ends
-    pub same : world_with t world.nodes ≡ world
+    pub same : into_world t world.nodes ≡ world
 
   pub keeps_none : (first : NodeId → Setup → List Work → N) (script : Script) (journals : List (List Moment)) (ends : List N) → Standing step (start_world first script) journals
       → AreTold step (first_nodes first script (cluster_of script.setup)) journals ends
@@ -81,8 +81,8 @@ module _ {N : Type 0} (step : N → Do → NodeStep N) where
   }
 
   -- what a moment tells is what the world is after it
-  same_after : (w : World N) (t : Merged) (p : ℕ) (n : N) (m : Moment) → world_with t w.nodes ≡ w → m.packets ≡ map (sent_at m.clock) (step n m.what).packets
-      → m.acts ≡ (step n m.what).acts → world_with (more_merged t p m) (slice_set w.nodes p (step n m.what).node) ≡ after step w p m.clock n m.what
+  same_after : (w : World N) (t : Merged) (p : ℕ) (n : N) (m : Moment) → into_world t w.nodes ≡ w → m.packets ≡ map (sent_at m.clock) (step n m.what).packets
+      → m.acts ≡ (step n m.what).acts → into_world (merged_add t p m) (slice_set w.nodes p (step n m.what).node) ≡ after step w p m.clock n m.what
   same_after w t p n m same packets acts =
       let sent : t.sent ++ m.packets ≡ w.sent ++ map (sent_at m.clock) (step n m.what).packets =
       ap (λ (v : World N). v.sent ++ m.packets) same ∙ ap (λ xs. w.sent ++ xs) packets
@@ -91,7 +91,7 @@ module _ {N : Type 0} (step : N → Do → NodeStep N) where
       same_world t.cluster w.cluster (slice_set w.nodes p (step n m.what).node) (slice_set t.clocks p m.clock) (slice_set w.clocks p m.clock) (t.sent ++ m.packets)
       (w.sent ++ map (sent_at m.clock) (step n m.what).packets) (t.acts ++ m.acts) (w.acts ++ (step n m.what).acts) (ap (λ (v : World N). v.cluster) same)
       (ap (λ (v : World N). slice_set v.clocks p m.clock) same) sent done
-      (world_with (more_merged t p m) (slice_set w.nodes p (step n m.what).node)) (after step w p m.clock n m.what) refl refl
+      (into_world (merged_add t p m) (slice_set w.nodes p (step n m.what).node)) (after step w p m.clock n m.what) refl refl
 
   told_then : (nodes ends : List N) (rests : List (List Moment)) (p : ℕ) (n : N) (m : Moment) (tail : List Moment) → AreTold step nodes rests ends
       → slice_get nodes p ≡ Some n → slice_get rests p ≡ Some (m ∷ tail) → AreTold step (slice_set nodes p (step n m.what).node) (slice_set rests p tail) ends
@@ -113,7 +113,7 @@ module _ {N : Type 0} (step : N → Do → NodeStep N) where
 
   -- a step of the merge, as the code takes it
   pub keeps_next : (start : World N) (journals rests : List (List Moment)) (ends : List N) (t : Merged) (p : ℕ) (m : Moment) (new : List (List Moment)) (more : Merged)
-      → Keeps start journals rests ends t → IsNext rests new p m → more ≡ more_merged t p m → Keeps start journals new ends more
+      → Keeps start journals rests ends t → IsNext rests new p m → more ≡ merged_add t p m → Keeps start journals new ends more
   keeps_next start journals rests ends t p m new more k x is =
       let w = k.world in
       let found = next_of step w rests p m x.tail k.run.standing x.at x.least in
@@ -124,14 +124,14 @@ module _ {N : Type 0} (step : N → Do → NodeStep N) where
       (k.told.each p n (has ends p (omega (arith, k.told.count, slice_get_within rests p (m ∷ x.tail) x.at))).0 (m ∷ x.tail) found.2.node
       (has ends p (omega (arith, k.told.count, slice_get_within rests p (m ∷ x.tail) x.at))).1 x.at).0
       in
-      let same : world_with (more_merged t p m) w'.nodes ≡ w' = same_after w t p n m k.same told.0 told.1 in
+      let same : into_world (merged_add t p m) w'.nodes ≡ w' = same_after w t p n m k.same told.0 told.1 in
       let node = node_at t.cluster p in
       let name : node ≡ node_at w.cluster p = ap (λ (v : World N). node_at v.cluster p) k.same in
-      let run : IsMerged step start journals new (more_merged t p m).events w' =
-      merged_next step start journals rests t.events w p m new node (event_of node m.what) (more_merged t p m).events w' k.run x name refl refl
+      let run : IsMerged step start journals new (merged_add t p m).events w' =
+      merged_next step start journals rests t.events w p m new node (event_of node m.what) (merged_add t p m).events w' k.run x name refl refl
       (sym (next_is step w rests p c n m x.tail found.2))
       in
-      let next : Keeps start journals new ends (more_merged t p m) = record {
+      let next : Keeps start journals new ends (merged_add t p m) = record {
         world = w';
         run = run;
         told = subst (λ rs. AreTold step w'.nodes rs ends) (sym x.left) (told_then w.nodes ends rests p n m x.tail k.told found.2.node x.at);
@@ -162,11 +162,11 @@ module _ {N : Type 0} (step : N → Do → NodeStep N) where
 
   -- where nothing is left the nodes are those at the end
   pub ends_so : (start : World N) (journals rests : List (List Moment)) (ends : List N) (t : Merged) (k : Keeps start journals rests ends t) → AllEmpty rests
-      → k.world ≡ world_with t ends
+      → k.world ≡ into_world t ends
   ends_so start journals rests ends t k empty =
       let nodes : k.world.nodes ≡ ends =
       same_items k.world.nodes ends (omega (arith, k.told.count, k.run.standing.count, k.run.standing.nodes)) (λ p n end at_n at_end.
       let r = has rests p (omega (arith, k.told.count, slice_get_within ends p end at_end)) in
       ended n end r.0 (λ h tail e. empty p h tail (r.1 ∙ ap Some e)) (k.told.each p n end r.0 at_n at_end r.1).1)
       in
-      sym k.same ∙ ap (λ ns. world_with t ns) nodes
+      sym k.same ∙ ap (λ ns. into_world t ns) nodes

@@ -7,7 +7,7 @@ use Rattle.version_model.specs.declared.act.Act.{Act}
 use Rattle.xfs_base.specs.declared.node.NodeId.{NodeId}
 use Rattle.xfs_base.proofs.Booleans.{contrary, or_first, or_second}
 use Rattle.journals.specs.declared.answers.Answers.{Answers}
-use Rattle.journals.specs.Answers.{AreAnswered, AreKnown, IsSettled, has_answer, is_among, is_answer_to, knows}
+use Rattle.journals.specs.Answers.{AreAnswered, AreKnown, IsSettled, has_answer, is_among, is_answer_to, answers_advance}
 
 -- two tests that pass together are equal
 same_test : (a b : Bool) → (a ≡ true → b ≡ true) → (b ≡ true → a ≡ true) → a ≡ b
@@ -32,11 +32,11 @@ up_to_next all k next false is =
     ∙ same_test (nat_lt 0 k && nat_le k next) ((nat_lt 0 k && nat_le k all) || (next == k)) (λ e. grind (arith, nat_tests)) (λ e. grind (arith, nat_tests))
     ∙ sym (ap (λ b. b || (next == k)) (or_none (nat_lt 0 k && nat_le k all)))
 
-pub next_noted : (old new : Answers) (k : ℕ) → new.all ≡ old.all + 1 → new.more ≡ old.more → knows new k ≡ (knows old k || (new.all == k))
+pub next_noted : (old new : Answers) (k : ℕ) → new.all ≡ old.all + 1 → new.more ≡ old.more → answers_advance new k ≡ (answers_advance old k || (new.all == k))
 next_noted old new k next same = ap (λ ns. (nat_lt 0 k && nat_le k new.all) || is_among k ns) same ∙ up_to_next old.all k new.all (is_among k old.more) next
 
 -- and where one more has
-pub more_noted : (old new : Answers) (k number : ℕ) → new.all ≡ old.all → new.more ≡ old.more ++ number ∷ [] → knows new k ≡ (knows old k || (number == k))
+pub more_noted : (old new : Answers) (k number : ℕ) → new.all ≡ old.all → new.more ≡ old.more ++ number ∷ [] → answers_advance new k ≡ (answers_advance old k || (number == k))
 more_noted old new k number same more =
     let at : (nat_lt 0 k && nat_le k new.all) ≡ (nat_lt 0 k && nat_le k old.all) = ap (λ a. nat_lt 0 k && nat_le k a) same in
     let among : is_among k new.more ≡ (is_among k old.more || (number == k)) =
@@ -54,7 +54,7 @@ known_already m t true among = refl
 known_already m t false among = same_test (m || t) m (λ e. either_way m t among e) (λ e. or_first m t e)
 
 -- a number that is among the others is not known anew where it follows
-pub gone_on : (old new : Answers) (k : ℕ) → new.all ≡ old.all + 1 → new.more ≡ old.more → is_among new.all old.more ≡ true → knows new k ≡ knows old k
+pub gone_on : (old new : Answers) (k : ℕ) → new.all ≡ old.all + 1 → new.more ≡ old.more → is_among new.all old.more ≡ true → answers_advance new k ≡ answers_advance old k
 gone_on old new k next same among =
     next_noted old new k next same
     ∙ known_already (is_among k old.more) (new.all == k) (nat_lt 0 k && nat_le k old.all)
@@ -70,11 +70,11 @@ one_more node k i act all before now within at is =
 
 -- what is known where more is done
 pub known_more : (node : NodeId) (old new : Answers) (before now : List Act) → AreKnown node old before
-    → ((k : ℕ) → knows new k ≡ (knows old k || has_answer node k now)) → AreKnown node new (before ++ now)
+    → ((k : ℕ) → answers_advance new k ≡ (answers_advance old k || has_answer node k now)) → AreKnown node new (before ++ now)
 known_more node old new before now known is k =
     is k ∙ ap (λ b. b || has_answer node k now) (known k) ∙ sym (list_any-append (is_answer_to node k) before now)
 
-known_within : (a : Answers) (k : ℕ) → 1 ≤ k → k ≤ a.all → knows a k ≡ true
+known_within : (a : Answers) (k : ℕ) → 1 ≤ k → k ≤ a.all → answers_advance a k ≡ true
 known_within a k from upto =
     let within : (nat_lt 0 k && nat_le k a.all) ≡ true = grind (arith, nat_tests) in
     or_first (nat_lt 0 k && nat_le k a.all) (is_among k a.more) within

@@ -15,7 +15,7 @@ use Rattle.world_base.specs.declared.world.World.{World}
 use Rattle.world_base.specs.declared.event.Event.{Event}
 use Rattle.world_base.specs.Cluster.{node_at, node_count, place_of}
 use Rattle.world_base.specs.Events.{event_of, node_of, what_of}
-use Rattle.world_base.specs.NextWorld.{clock_at, happened_at, next_world}
+use Rattle.world_base.specs.NextWorld.{clock_at, happen_at, next_world}
 use Rattle.world_base.specs.Runs.{Leads, MayHappen}
 use Rattle.world_base.proofs.Places.{node_stands}
 use Rattle.journals.specs.declared.moment.Moment.{Moment}
@@ -105,7 +105,7 @@ module _ {N : Type 0} (step : N → Do → NodeStep N) where
 
   pub merged_more : (start : World N) (journals rests : List (List Moment)) (events : List Event) (w : World N) (p : ℕ) (m : Moment) (tail : List Moment)
       → IsMerged start journals rests events w → slice_get rests p ≡ Some (m ∷ tail) → IsLeast rests p m.clock
-      → IsMerged start journals (slice_set rests p tail) (events ++ event_of (node_at w.cluster p) m.what ∷ []) (happened_at step w p m.what)
+      → IsMerged start journals (slice_set rests p tail) (events ++ event_of (node_at w.cluster p) m.what ∷ []) (happen_at step w p m.what)
   merged_more start journals rests events w p m tail i rest least =
       let found = next_of step w rests p m tail i.standing rest least in
       let c = found.0 in
@@ -114,8 +114,8 @@ module _ {N : Type 0} (step : N → Do → NodeStep N) where
       let e = event_of (node_at w.cluster p) m.what in
       let node : node_of e ≡ node_at start.cluster p = node_is step w rests p c n m tail x ∙ ap (λ k. node_at k p) i.cluster in
       let what : what_of e ≡ m.what = what_is step w rests p c n m tail x in
-      let next : next_world step w e ≡ happened_at step w p m.what = happens step w rests p c n m tail x in
-      let done : happened_at step w p m.what ≡ after step w p m.clock n m.what = next_is step w rests p c n m tail x in
+      let next : next_world step w e ≡ happen_at step w p m.what = happens step w rests p c n m tail x in
+      let done : happen_at step w p m.what ≡ after step w p m.clock n m.what = next_is step w rests p c n m tail x in
       let clock : clock_at w p (what_of e) ≡ Some m.clock = ap (clock_at w p) what ∙ clock_is step w rests p c n m tail x in
       let in_p : p < node_count start.cluster = subst (λ k. p < node_count k) i.cluster (within step w rests p c n m tail x) in
       let merged : IsMerged start journals (slice_set rests p tail) (events ++ e ∷ []) (after step w p m.clock n m.what) = record {
@@ -162,7 +162,7 @@ module _ {N : Type 0} (step : N → Do → NodeStep N) where
   -- a step of the merge, as the code takes it
   pub merged_next : (start : World N) (journals rests : List (List Moment)) (events : List Event) (w : World N) (p : ℕ) (m : Moment) (new : List (List Moment)) (node : NodeId)
       (e : Event) (events' : List Event) (w' : World N) → IsMerged start journals rests events w → IsNext rests new p m → node ≡ node_at w.cluster p → e ≡ event_of node m.what
-      → events' ≡ events ++ e ∷ [] → w' ≡ happened_at step w p m.what → IsMerged start journals new events' w'
+      → events' ≡ events ++ e ∷ [] → w' ≡ happen_at step w p m.what → IsMerged start journals new events' w'
   merged_next start journals rests events w p m new node e events' w' i x name was more next =
       let event : events' ≡ events ++ event_of (node_at w.cluster p) m.what ∷ [] = more ∙ ap (λ f. events ++ f ∷ []) (was ∙ ap (λ k. event_of k m.what) name) in
       subst (λ r. IsMerged start journals r events' w') (sym x.left)

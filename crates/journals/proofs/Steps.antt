@@ -14,7 +14,7 @@ use Rattle.xfs_base.specs.declared.node.NodeId.{NodeId}
 use Rattle.world_base.specs.declared.world.World.{World}
 use Rattle.world_base.specs.Cluster.{node_at, node_count, place_of}
 use Rattle.world_base.specs.Events.{event_of, node_of, what_of}
-use Rattle.world_base.specs.NextWorld.{after_turn, at_place, clock_after, clock_at, happened, happened_at, next_world, sent_at, turn_by, turn_of, turned}
+use Rattle.world_base.specs.NextWorld.{after_turn, at_place, clock_after, clock_at, world_happen, happen_at, next_world, sent_at, turn_by, turn_of, turned}
 use Rattle.world_base.specs.Runs.{MayHappen, WasSent}
 use Rattle.world_base.proofs.Places.{node_stands}
 use Rattle.journals.specs.declared.moment.Moment.{Moment}
@@ -49,13 +49,13 @@ module _ {N : Type 0} (step : N → Do → NodeStep N) where
   turn_there w p n d node = ap (turn_by step w.nodes p d) node
 
   happened_there : (w : World N) (p c k : ℕ) (n : N) (d : Do) → slice_get w.nodes p ≡ Some n → slice_get w.clocks p ≡ Some c → clock_after c d ≡ Some k
-      → happened_at step w p d ≡ after w p k n d
-  unfolding happened_at
+      → happen_at step w p d ≡ after w p k n d
+  unfolding happen_at
   happened_there w p c k n d node clock next =
       ap (turned step w p d) (clock_there w p c k n d node clock next) ∙ ap (after_turn step w p k) (turn_there w p n d node)
 
-  happened_by : (w : World N) (node : NodeId) (d : Do) (p : ℕ) → place_of w.cluster node ≡ Some p → happened step w node d ≡ happened_at step w p d
-  unfolding happened
+  happened_by : (w : World N) (node : NodeId) (d : Do) (p : ℕ) → place_of w.cluster node ≡ Some p → world_happen step w node d ≡ happen_at step w p d
+  unfolding world_happen
   happened_by w node d p at = ap (at_place step w d) at
 
   -- what is known where a rest begins with this moment
@@ -125,10 +125,10 @@ module _ {N : Type 0} (step : N → Do → NodeStep N) where
     pub place_is : place_of w.cluster (node_of (event_of name m.what)) ≡ Some p
     place_is = ap (place_of w.cluster) node_is ∙ node_stands w.cluster p within
 
-    pub happens : next_world step w (event_of name m.what) ≡ happened_at step w p m.what
-    happens = happened_by w (node_of (event_of name m.what)) (what_of (event_of name m.what)) p place_is ∙ ap (happened_at step w p) what_is
+    pub happens : next_world step w (event_of name m.what) ≡ happen_at step w p m.what
+    happens = happened_by w (node_of (event_of name m.what)) (what_of (event_of name m.what)) p place_is ∙ ap (happen_at step w p) what_is
 
-    pub next_is : happened_at step w p m.what ≡ after w p m.clock n m.what
+    pub next_is : happen_at step w p m.what ≡ after w p m.clock n m.what
     next_is = happened_there w p c m.clock n m.what x.node x.clock stamps.0
 
     -- what the event sends was sent then, and all else is still to be sent

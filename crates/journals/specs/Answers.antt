@@ -25,13 +25,13 @@ abbrev pub is_among : ℕ → List ℕ → Bool
 is_among k numbers = list_any (λ n. n == k) numbers
 
 -- whether the item of this number is known to have an answer: all are up to a number, and some more
-abbrev pub knows : Answers → ℕ → Bool
-knows a k = (nat_lt 0 k && nat_le k a.all) || is_among k a.more
+abbrev pub answers_advance : Answers → ℕ → Bool
+answers_advance a k = (nat_lt 0 k && nat_le k a.all) || is_among k a.more
 
 -- those that are known to have an answer are just those that have one among these acts
 abbrev pub AreKnown : NodeId → Answers → List Act → Type 0
-AreKnown node a done = (k : ℕ) → knows a k ≡ has_answer node k done
+AreKnown node a done = (k : ℕ) → answers_advance a k ≡ has_answer node k done
 
 -- all are known up to the last number up to which all have an answer
 abbrev pub IsSettled : Answers → Type 0
-IsSettled a = knows a (a.all + 1) ≡ false
+IsSettled a = answers_advance a (a.all + 1) ≡ false

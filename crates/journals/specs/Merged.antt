@@ -12,8 +12,8 @@ abbrev pub none_merged : Cluster → Merged
 none_merged cluster = record { cluster = cluster; clocks = replicate (node_count cluster) 0; sent = []; acts = []; events = [] }
 
 -- with one moment more, of the node at a place
-abbrev pub more_merged : Merged → ℕ → Moment → Merged
-more_merged t place m = record {
+abbrev pub merged_add : Merged → ℕ → Moment → Merged
+merged_add t place m = record {
   cluster = t.cluster;
   clocks = slice_set t.clocks place m.clock;
   sent = t.sent ++ m.packets;
@@ -22,5 +22,5 @@ more_merged t place m = record {
 }
 
 -- the world in which all this happened, with these nodes
-abbrev pub world_with : {N : Type 0} → Merged → List N → World N
-world_with t nodes = record { cluster = t.cluster; nodes = nodes; clocks = t.clocks; sent = t.sent; acts = t.acts }
+abbrev pub into_world : {N : Type 0} → Merged → List N → World N
+into_world t nodes = record { cluster = t.cluster; nodes = nodes; clocks = t.clocks; sent = t.sent; acts = t.acts }

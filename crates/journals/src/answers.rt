@@ -1,6 +1,6 @@
 //! Which items of a node have an answer.
 ghost use Rattle.std.specs.Prelude.{◌≡◌, ◌+◌, ◌||◌, ◌==◌, ℕ, true, false, OnOk, MatchOption};
-ghost use Rattle.journals.specs.Answers.{IsSettled, has_answer, is_among, is_answer_to, knows};
+ghost use Rattle.journals.specs.Answers.{IsSettled, has_answer, is_among, is_answer_to, answers_advance};
 
 use std::alloc::Global;
 use version_model::Act;
@@ -50,7 +50,7 @@ fn find(numbers: &[u32], wanted: u64) -> Option<u32>
 impl Answers {
     /// No item has an answer. It takes no memory.
     pub fn none(alloc: Global) -> Answers
-        ensures { (k : ℕ) → knows result k ≡ false }
+        ensures { (k : ℕ) → answers_advance result k ≡ false }
     {
         Answers {
             all: 0,
@@ -61,7 +61,7 @@ impl Answers {
     /// The item of this number has an answer.
     #[tactic(auto, using(crate::proofs::Known::next_noted, crate::proofs::Known::more_noted))]
     fn note(&mut self, number: u32) -> Mem<()>
-        ensures { OnOk result ((k : ℕ) → knows self.new k ≡ (knows self.old k || (number == k))) }
+        ensures { OnOk result ((k : ℕ) → answers_advance self.new k ≡ (answers_advance self.old k || (number == k))) }
     {
         if number > 0 && number - 1 == self.all {
             self.all = number;
@@ -79,7 +79,7 @@ impl Answers {
 
     /// Goes on to the last item up to which all have an answer.
     fn advance(&mut self)
-        ensures same { (k : ℕ) → knows self.new k ≡ knows self.old k }
+        ensures same { (k : ℕ) → answers_advance self.new k ≡ answers_advance self.old k }
         ensures settled { IsSettled self.new }
     {
         loop {
@@ -92,7 +92,7 @@ impl Answers {
 
     /// What an act answers has an answer, if it is of this node.
     fn note_one(&mut self, node: NodeId, act: &Act) -> Mem<()>
-        ensures { OnOk result ((k : ℕ) → knows self.new k ≡ (knows self.old k || is_answer_to node k act.now)) }
+        ensures { OnOk result ((k : ℕ) → answers_advance self.new k ≡ (answers_advance self.old k || is_answer_to node k act.now)) }
     {
         match number_of(act, node) {
             None => Ok(()),
@@ -105,7 +105,7 @@ impl Answers {
 
     /// What these acts answer has an answer, as far as it is of this node.
     fn note_each(&mut self, node: NodeId, acts: &[Act]) -> Mem<()>
-        ensures { OnOk result ((k : ℕ) → knows self.new k ≡ (knows self.old k || has_answer node k acts.now)) }
+        ensures { OnOk result ((k : ℕ) → answers_advance self.new k ≡ (answers_advance self.old k || has_answer node k acts.now)) }
     {
         for act in acts {
             self.note_one(node, act)?;
@@ -116,7 +116,7 @@ impl Answers {
     /// What these acts answer has an answer, as far as it is of this node: known is then just what was known
     /// before or is answered by one of them.
     pub fn note_all(&mut self, node: NodeId, acts: &[Act]) -> Mem<()>
-        ensures noted { OnOk result ((k : ℕ) → knows self.new k ≡ (knows self.old k || has_answer node k acts.now)) }
+        ensures noted { OnOk result ((k : ℕ) → answers_advance self.new k ≡ (answers_advance self.old k || has_answer node k acts.now)) }
         ensures settled { OnOk result (IsSettled self.new) }
     {
         self.note_each(node, acts)?;

@@ -1,7 +1,7 @@
 //! What was merged so far.
 ghost use Rattle.std.specs.Prelude.{◌≡◌, ◌++◌, ◌<◌, length, IfOk, OnOk};
 ghost use Rattle.world_base.specs.Cluster.{node_count};
-ghost use Rattle.journals.specs.Merged.{more_merged, none_merged, world_with};
+ghost use Rattle.journals.specs.Merged.{merged_add, none_merged, into_world};
 
 use crate::Moment;
 use std::alloc::Global;
@@ -51,7 +51,7 @@ impl Merged {
     pub(crate) fn add(&mut self, alloc: Global, place: usize, moment: Moment) -> Mem<()>
         requires node { place < node_count self.old.cluster }
         requires clock { place < length self.old.clocks }
-        ensures { OnOk result (self.new ≡ more_merged self.old place moment) }
+        ensures { OnOk result (self.new ≡ merged_add self.old place moment) }
     {
         let node = self.cluster.node_at(place);
         set_clock(alloc, &mut self.clocks, place, moment.clock);
@@ -64,7 +64,7 @@ impl Merged {
     /// What happened, and the world with these nodes in it. It takes no memory.
     pub(crate) fn into_world<N>(self, nodes: List<N>) -> (List<Event>, World<N>)
         ensures events { result.0 ≡ self.events }
-        ensures world { result.1 ≡ world_with self nodes }
+        ensures world { result.1 ≡ into_world self nodes }
     {
         let Merged {
             cluster,

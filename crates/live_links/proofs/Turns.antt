@@ -16,7 +16,7 @@ use Rattle.world_base.specs.declared.due.Due.{Due}
 use Rattle.world_base.specs.NextWorld.{clock_after, sent_at}
 use Rattle.journals.specs.declared.answers.Answers.{Answers}
 use Rattle.journals.specs.declared.moment.Moment.{Moment}
-use Rattle.journals.specs.Answers.{AreKnown, IsSettled, has_answer, knows}
+use Rattle.journals.specs.Answers.{AreKnown, IsSettled, has_answer, answers_advance}
 use Rattle.journals.specs.Journals.{MayBegin, MeetsDues, acts_in, begins, is_some_of, is_stamped, last_clock, replayed, sent_in, told_by, what_at, whats}
 use Rattle.journals.proofs.Gets.{get_left, get_right, get_snoc, none_in, place_of}
 use Rattle.journals.proofs.Keeping.{told_more}
@@ -116,7 +116,7 @@ module _ {N : Type 0} (step : N → Do → NodeStep N) where
         ]
 
     -- a journal to which nothing happened yet
-    pub journal_none : (ms : List Moment) (n : N) (answers : Answers) → ms ≡ [] → n ≡ first → ((k : ℕ) → knows answers k ≡ false)
+    pub journal_none : (ms : List Moment) (n : N) (answers : Answers) → ms ≡ [] → n ≡ first → ((k : ℕ) → answers_advance answers k ≡ false)
         → IsJournal step node first dues ms n 0 0 answers 0
     journal_none ms n answers none is unknown =
         let j : IsJournal step node first dues [] n 0 0 answers 0 = record {
@@ -143,7 +143,7 @@ module _ {N : Type 0} (step : N → Do → NodeStep N) where
 
       -- and one to which one thing more happened
       journal_more : (m : Moment) (done : NodeStep N) (more : Answers) → clock_after clock m.what ≡ Some m.clock → (m.what ≡ Begin → MayBegin step node first dues (whats ms))
-          → done ≡ step n m.what → m.packets ≡ map (sent_at m.clock) done.packets → m.acts ≡ done.acts → ((k : ℕ) → knows more k ≡ (knows answers k || has_answer node k done.acts)) → IsSettled more
+          → done ≡ step n m.what → m.packets ≡ map (sent_at m.clock) done.packets → m.acts ≡ done.acts → ((k : ℕ) → answers_advance more k ≡ (answers_advance answers k || has_answer node k done.acts)) → IsSettled more
           → IsJournal step node first dues (ms ++ m ∷ []) done.node m.clock (begun + begins (m.what ∷ [])) more (count + length done.packets)
       journal_more m done more next due is sends does known settled =
           let stepped : done ≡ step (replayed step first (whats ms)) m.what = is ∙ ap (λ x. step x m.what) j.replay in
@@ -171,7 +171,7 @@ module _ {N : Type 0} (step : N → Do → NodeStep N) where
 
       pub journal_next : (m : Moment) (done : NodeStep N) (more : Answers) (new : List Moment) (begun' count' : ℕ) → clock_after clock m.what ≡ Some m.clock
           → (m.what ≡ Begin → MayBegin step node first dues (whats ms)) → done ≡ step n m.what → m.packets ≡ map (sent_at m.clock) done.packets → m.acts ≡ done.acts
-          → ((k : ℕ) → knows more k ≡ (knows answers k || has_answer node k done.acts)) → IsSettled more → new ≡ ms ++ m ∷ [] → begun' ≡ begun + begins (m.what ∷ []) → count' ≡ count + length done.packets
+          → ((k : ℕ) → answers_advance more k ≡ (answers_advance answers k || has_answer node k done.acts)) → IsSettled more → new ≡ ms ++ m ∷ [] → begun' ≡ begun + begins (m.what ∷ []) → count' ≡ count + length done.packets
           → IsJournal step node first dues new done.node m.clock begun' more count'
       journal_next m done more new begun' count' next due is sends does known settled e f g =
           let k = journal_more m done more next due is sends does known settled in

@@ -19,7 +19,7 @@ use Rattle.world_base.specs.declared.world.World.{World}
 use Rattle.world_base.specs.Cluster.{cluster_of, place_of}
 use Rattle.world_base.specs.Events.{node_of, what_of}
 use Rattle.world_base.specs.Items.{actor_of, is_for, is_for_actor, items_of}
-use Rattle.world_base.specs.NextWorld.{at_place, clock_at, happened, happened_at, next_world, turned}
+use Rattle.world_base.specs.NextWorld.{at_place, clock_at, world_happen, happen_at, next_world, turned}
 use Rattle.world_base.specs.Runs.{begins_of, begun_in}
 use Rattle.world_base.proofs.Places.{place_had}
 use Rattle.journals.specs.Journals.{begins}
@@ -59,8 +59,8 @@ module _ {N : Type 0} (step : N → Do → NodeStep N) where
   turned_stays w place d None = refl
   turned_stays w place d (Some clock) = refl
 
-  happened_stays : (w : World N) (place : ℕ) (d : Do) → (happened_at step w place d).cluster ≡ w.cluster
-  unfolding happened_at
+  happened_stays : (w : World N) (place : ℕ) (d : Do) → (happen_at step w place d).cluster ≡ w.cluster
+  unfolding happen_at
   happened_stays w place d = turned_stays w place d (clock_at w place d)
 
   at_stays : (w : World N) (d : Do) (o : Option ℕ) → (at_place step w d o).cluster ≡ w.cluster
@@ -68,7 +68,7 @@ module _ {N : Type 0} (step : N → Do → NodeStep N) where
   at_stays w d (Some place) = happened_stays w place d
 
   cluster_stays : (w : World N) (e : Event) → (next_world step w e).cluster ≡ w.cluster
-  unfolding happened
+  unfolding world_happen
   cluster_stays w e = at_stays w (what_of e) (place_of w.cluster (node_of e))
 
   not_that : (c : Cluster) (n node : NodeId) (q : ℕ) → place_of c n ≡ Some q → place_of c node ≡ None → (t : Bool) → same_node n node ≡ t → t ≡ false

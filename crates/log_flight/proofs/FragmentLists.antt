@@ -6,16 +6,16 @@ use Rattle.segment_format.specs.Text.{text_of}
 use Rattle.stripe_code.specs.Fragments.{meta_of, fragment_at}
 use Rattle.stripe_code.specs.Stripe.{IsCut, stripe_of}
 use Rattle.group_map.specs.declared.group.Group.{Group}
-use Rattle.log_flight.specs.Fragments.{piece, pieces_from, pieces_over}
+use Rattle.log_flight.specs.Fragments.{flight_fragment, pieces_from, fragments_over}
 use Rattle.log_flight.proofs.Lengths.{length-stripe_of}
 
 length-pieces_from : (s : Segment) (place : ℕ) (parts : List (List ℕ)) → length (pieces_from s place parts) ≡ length parts
 length-pieces_from s place [] = refl
 length-pieces_from s place (p ∷ ps) = ap suc (length-pieces_from s (place + 1) ps)
 
-pub length-pieces_over : (s : Segment) (g : Group) → IsCut (length g.members) g.parity → length (pieces_over s g) ≡ length g.members
-unfolding pieces_over
-length-pieces_over s g c =
+pub length-fragments_over : (s : Segment) (g : Group) → IsCut (length g.members) g.parity → length (fragments_over s g) ≡ length g.members
+unfolding fragments_over
+length-fragments_over s g c =
     length-pieces_from s 0 (stripe_of (text_of s) (length g.members) g.parity) ∙ length-stripe_of (text_of s) (length g.members) g.parity c
 
 at_place : (s : Segment) (from : ℕ) (parts : List (List ℕ)) (i : ℕ) (d : Fragment) → i < length parts
@@ -30,10 +30,10 @@ at_place s from (p ∷ ps) (suc i) d l =
     at_place s (from + 1) ps i d m ∙ ap (λ n. record { meta = meta_of s n; bytes = fragment_at ps i }) e
 
 -- the fragment at a place of the list is the segment's at that place
-pub get_or-pieces_over : (s : Segment) (g : Group) (i : ℕ) (d : Fragment) → IsCut (length g.members) g.parity → i < length g.members
-    → get_or (pieces_over s g) i d ≡ piece s g i
-unfolding pieces_over piece
-get_or-pieces_over s g i d c l =
+pub get_or-fragments_over : (s : Segment) (g : Group) (i : ℕ) (d : Fragment) → IsCut (length g.members) g.parity → i < length g.members
+    → get_or (fragments_over s g) i d ≡ flight_fragment s g i
+unfolding fragments_over flight_fragment
+get_or-fragments_over s g i d c l =
     let m : i < length (stripe_of (text_of s) (length g.members) g.parity) = omega (arith, length-stripe_of (text_of s) (length g.members) g.parity c) in
     let e : 0 + i ≡ i = omega arith in
     at_place s 0 (stripe_of (text_of s) (length g.members) g.parity) i d m

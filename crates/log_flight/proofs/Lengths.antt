@@ -13,7 +13,7 @@ use Rattle.segment_format.specs.declared.segment.Segment.{Segment}
 use Rattle.segment_format.specs.Format.{second_version}
 use Rattle.segment_format.specs.Rule.{deltas_in, others_in}
 use Rattle.segment_format.specs.Text.{row_text, place_text, item_text, text_of, IsItem, KeepsLimits}
-use Rattle.stripe_code.specs.Stripe.{IsCut, part_of, pieces, parities, stripe_of}
+use Rattle.stripe_code.specs.Stripe.{IsCut, part_len, cut_pieces, parities, stripe_of}
 
 -- ---- a table
 
@@ -41,9 +41,9 @@ length-insert_absent eq k v es h = length-insert_entry eq k v es ∙ ap (λ b. c
 
 -- ---- a stripe
 
-length-pieces : (count part : ℕ) (text : List ℕ) → length (pieces count part text) ≡ count
-length-pieces zero part text = refl
-length-pieces (suc count) part text = ap suc (length-pieces count part _)
+length-cut_pieces : (count part : ℕ) (text : List ℕ) → length (cut_pieces count part text) ≡ count
+length-cut_pieces zero part text = refl
+length-cut_pieces (suc count) part text = ap suc (length-cut_pieces count part _)
 
 length-parities : (n parity part : ℕ) (fs : List (List ℕ)) → IsCut n parity → length (parities parity part fs) ≡ parity
 length-parities n zero part fs c = absurd (omega (arith, c.some))
@@ -55,13 +55,13 @@ length-parities n (suc (suc (suc parity))) part fs c = absurd (omega (arith, c.f
 pub length-stripe_of : (text : List ℕ) (n parity : ℕ) → IsCut n parity → length (stripe_of text n parity) ≡ n
 unfolding stripe_of
 length-stripe_of text n parity c =
-    let part : ℕ = part_of (length text) (n - parity) in
+    let part : ℕ = part_len (length text) (n - parity) in
     omega (
       arith,
       c.least,
-      length-append (pieces (n - parity) part text) (parities parity part (pieces (n - parity) part text)),
-      length-pieces (n - parity) part text,
-      length-parities n parity part (pieces (n - parity) part text) c,
+      length-append (cut_pieces (n - parity) part text) (parities parity part (cut_pieces (n - parity) part text)),
+      length-cut_pieces (n - parity) part text,
+      length-parities n parity part (cut_pieces (n - parity) part text) c,
     )
 
 -- ---- a text

@@ -8,7 +8,7 @@ use Rattle.xfs_base.specs.Segments.{same_name}
 use Rattle.group_map.specs.declared.group.Group.{Group}
 use Rattle.group_map.specs.declared.group.Member.{Member}
 use Rattle.group_map.specs.GroupMapState.{GroupMapState}
-use Rattle.group_map.specs.Groups.{group_of, chosen}
+use Rattle.group_map.specs.Groups.{group_of, group_map_choose}
 
 -- a segment that isn't settled
 pub record FlightState : Type 0 where
@@ -37,7 +37,7 @@ no_group = record { id = 0; members = []; parity = 1; current = false }
 
 -- the group that the map chooses for a segment
 unfoldable pub group_for : GroupMapState → ℕ → ℕ → Group
-group_for groups log seq = unwrap_or (group_of groups (chosen groups.groups log seq)) no_group
+group_for groups log seq = unwrap_or (group_of groups (group_map_choose groups.groups log seq)) no_group
 
 -- a segment over the group, of which nothing is noted
 abbrev pub flown : SegName → Prior → List Item → Group → FlightState
@@ -56,8 +56,8 @@ is_member members index generation = nat_lt index (length members) && (generatio
 abbrev pub is_of : FlightState → SegName → ℕ → ℕ → Bool
 is_of f name index generation = same_name name f.segment.name && is_member f.group.members index generation
 
-abbrev pub noting : FlightState → ℕ → FlightState
-noting f index = record f { noted = slice_set f.noted index true }
+abbrev pub flight_note : FlightState → ℕ → FlightState
+flight_note f index = record f { noted = slice_set f.noted index true }
 
 -- the server and the generation of the member at a place
 abbrev pub server_of : List Member → ℕ → ℕ

@@ -4,8 +4,8 @@ ghost use Rattle.segment_format.specs.declared.segment.Segment.{Segment};
 ghost use Rattle.segment_format.specs.Text.{KeepsLimits};
 ghost use Rattle.stripe_code.specs.Stripe.{IsCut};
 ghost use Rattle.log_flight.specs.Fate.{is_lost, lost_count, is_done, all_done, fate_of};
-ghost use Rattle.log_flight.specs.Flights.{none_noted, is_noted, is_of, is_member, noting};
-ghost use Rattle.log_flight.specs.Fragments.{piece};
+ghost use Rattle.log_flight.specs.Flights.{none_noted, is_noted, is_of, is_member, flight_note};
+ghost use Rattle.log_flight.specs.Fragments.{flight_fragment};
 
 use crate::fragments::fragments_over;
 use group_map::{Group, GroupMap, Member};
@@ -116,7 +116,7 @@ impl Flight {
 
     /// The fragment at this place is noted.
     pub fn note(&mut self, index: u8)
-        ensures { self.new ≡ noting self.old index }
+        ensures { self.new ≡ flight_note self.old index }
     {
         self.noted = noted_with(&self.noted, index);
     }
@@ -160,7 +160,7 @@ impl Flight {
     /// The fragment at this place, which shares its bytes.
     pub fn fragment(&self, alloc: Global, place: usize) -> Mem<Fragment>
         requires { place < length self.now.group.members }
-        ensures { IfOk result (λ fragment. fragment ≡ piece self.now.segment self.now.group place) }
+        ensures { IfOk result (λ fragment. fragment ≡ flight_fragment self.now.segment self.now.group place) }
     {
         self.fragments.as_slice()[place].copy(alloc)
     }

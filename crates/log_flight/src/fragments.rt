@@ -3,7 +3,7 @@ ghost use Rattle.std.specs.Prelude.{◌≡◌, ◌+◌, ◌≤◌, ◌++◌, len
 ghost use Rattle.segment_format.specs.Text.{KeepsLimits, text_of};
 ghost use Rattle.stripe_code.specs.Fragments.{meta_of};
 ghost use Rattle.stripe_code.specs.Stripe.{IsCut};
-ghost use Rattle.log_flight.specs.Fragments.{pieces_from, pieces_over};
+ghost use Rattle.log_flight.specs.Fragments.{pieces_from, fragments_over};
 
 use group_map::Group;
 use segment_format::{Segment, encode};
@@ -16,7 +16,7 @@ use xfs_base::{Bytes, FragMeta, Fragment, List, Mem};
 pub(crate) fn fragments_over(alloc: Global, segment: &Segment, group: &Group) -> Mem<List<Fragment>>
     requires limits { KeepsLimits segment.now }
     requires cut { IsCut (length group.now.members) group.now.parity }
-    ensures { IfOk result (λ fragments. fragments ≡ pieces_over segment.now group.now) }
+    ensures { IfOk result (λ fragments. fragments ≡ fragments_over segment.now group.now) }
 {
     let text = encode(alloc, segment)?;
     let stripe = cut(alloc, text.as_slice(), group.members.len(), group.parity)?;

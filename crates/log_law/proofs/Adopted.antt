@@ -3,9 +3,9 @@ use Rattle.std.proofs.Common.{◌≡◌, ℕ, true, false, List, [], ◌∷◌, 
 use Rattle.fragment_store.specs.ShelfState.{ShelfState, new_shelf}
 use Rattle.stripe_code.specs.Fragments.{meta_of}
 use Rattle.log_flight.specs.Flights.{none_noted}
-use Rattle.log_flight.specs.Fragments.{piece}
+use Rattle.log_flight.specs.Fragments.{flight_fragment}
 use Rattle.client_log.specs.declared.input.In.TheVariants as log_in
-use Rattle.client_log.specs.LogState.{started as new_log}
+use Rattle.client_log.specs.LogState.{log_start as new_log}
 use Rattle.client_log.specs.Transition as log
 use Rattle.log_scan.specs.declared.input.In as scan_ins
 use Rattle.log_scan.specs.declared.input.In.TheVariants as scan_in
@@ -45,8 +45,8 @@ in_first (q ∷ ps) qs p (inr fact) = inr (in_first ps qs p fact)
 abbrev empty : ℕ → ShelfState
 empty v = new_shelf
 
-sends_none : log_filed setting.log (log.all_sends (flight none_noted)) ++ [] ≡ []
-unfolding log.all_sends
+sends_none : log_filed setting.log (log.sending_send (flight none_noted)) ++ [] ≡ []
+unfolding log.sending_send
 sends_none = refl
 
 flies : Stage 1 (Serving (writing none_noted)) stores empty
@@ -75,7 +75,7 @@ flies = record {
 -- ---- each member keeps its fragment
 
 abbrev stores_at : ℕ → Deed
-stores_at place = Stores (piece segment group place) 1
+stores_at place = Stores (flight_fragment segment group place) 1
 
 abbrev kept_one : ℕ → ShelfState
 kept_one = put empty 1 (shelf_after calm new_shelf (stores_at 0))
@@ -87,7 +87,7 @@ abbrev kept_all : ℕ → ShelfState
 kept_all = put kept_two 3 (shelf_after calm new_shelf (stores_at 2))
 
 answer : (v place : ℕ) → answers calm v new_shelf (stores_at place) ≡ StoredSent name place 1 ∷ []
-unfolding piece
+unfolding flight_fragment
 answer v place = refl
 
 fallen : Stage 2 (Opening hailing) [] kept_all
@@ -137,7 +137,7 @@ abbrev fenced : ℕ → ℕ → Packet
 fenced v place = FencedSent v 2 1 (meta_of segment place ∷ [])
 
 lists : (v place : ℕ) → answers calm v (shelf_after calm new_shelf (stores_at place)) (Fences 2) ≡ fenced v place ∷ []
-unfolding piece
+unfolding flight_fragment
 lists v place = refl
 
 abbrev all_fenced : List Packet
@@ -192,10 +192,10 @@ reads = scans asked (scan_in.Welcome 2 news the_map) asking _ refl picks_it refl
     asked = welcomes three 2 (inl refl)
 
 abbrev fetched : List Packet
-fetched = FragmentSent (piece segment group 1) ∷ FragmentSent (piece segment group 0) ∷ []
+fetched = FragmentSent (flight_fragment segment group 1) ∷ FragmentSent (flight_fragment segment group 0) ∷ []
 
-brings : (v place : ℕ) → answers calm v (fenced_shelf place) (Fetches name) ≡ FragmentSent (piece segment group place) ∷ []
-unfolding piece
+brings : (v place : ℕ) → answers calm v (fenced_shelf place) (Fetches name) ≡ FragmentSent (flight_fragment segment group place) ∷ []
+unfolding flight_fragment
 brings v place = refl
 
 -- a Fetch leaves the shelf
@@ -206,15 +206,15 @@ abbrev fetched_two : ℕ → ShelfState
 fetched_two = put fetched_one 2 (fenced_shelf 1)
 
 half_read : Stage 2 (Opening one_in) fetched fetched_two
-half_read = scans less (scan_in.Got 3 1 1 (piece segment group 0)) reading_back _ refl hears_one refl (λ own. less.sent _ (inr (inl refl)))
+half_read = scans less (scan_in.Got 3 1 1 (flight_fragment segment group 0)) reading_back _ refl hears_one refl (λ own. less.sent _ (inr (inl refl)))
   where
-    first : Stage 2 (Opening reading_back) (FragmentSent (piece segment group 0) ∷ asks_again) fetched_one
-    first = serves reads 1 (Fetches name) (FragmentSent (piece segment group 0) ∷ []) (omega arith) (λ sees. tt) (brings 1 0)
+    first : Stage 2 (Opening reading_back) (FragmentSent (flight_fragment segment group 0) ∷ asks_again) fetched_one
+    first = serves reads 1 (Fetches name) (FragmentSent (flight_fragment segment group 0) ∷ []) (omega arith) (λ sees. tt) (brings 1 0)
 
-    second : Stage 2 (Opening reading_back) (FragmentSent (piece segment group 1) ∷ FragmentSent (piece segment group 0) ∷ asks_again) fetched_two
-    second = serves first 2 (Fetches name) (FragmentSent (piece segment group 1) ∷ []) (omega arith) (λ sees. tt) (brings 2 1)
+    second : Stage 2 (Opening reading_back) (FragmentSent (flight_fragment segment group 1) ∷ FragmentSent (flight_fragment segment group 0) ∷ asks_again) fetched_two
+    second = serves first 2 (Fetches name) (FragmentSent (flight_fragment segment group 1) ∷ []) (omega arith) (λ sees. tt) (brings 2 1)
 
-    picked : (p : Packet) → In p fetched → In p (FragmentSent (piece segment group 1) ∷ FragmentSent (piece segment group 0) ∷ asks_again)
+    picked : (p : Packet) → In p fetched → In p (FragmentSent (flight_fragment segment group 1) ∷ FragmentSent (flight_fragment segment group 0) ∷ asks_again)
     picked p (inl e) = inl e
     picked p (inr (inl e)) = inr (inl e)
     picked p (inr (inr fact)) = absurd fact
@@ -226,20 +226,20 @@ half_read = scans less (scan_in.Got 3 1 1 (piece segment group 0)) reading_back 
 
 abbrev opening_stores : List Packet
 opening_stores =
-    StoreSent 1 (piece opening_segment group 0) 1 ∷ StoreSent 2 (piece opening_segment group 1) 1 ∷ StoreSent 3 (piece opening_segment group 2) 1 ∷ []
+    StoreSent 1 (flight_fragment opening_segment group 0) 1 ∷ StoreSent 2 (flight_fragment opening_segment group 1) 1 ∷ StoreSent 3 (flight_fragment opening_segment group 2) 1 ∷ []
 
-files_none : log_filed setting.log (log.all_sends (opening_flight none_noted)) ++ [] ≡ []
-unfolding log.all_sends
+files_none : log_filed setting.log (log.sending_send (opening_flight none_noted)) ++ [] ≡ []
+unfolding log.sending_send
 files_none = refl
 
 module _ {told : List Packet} {shelf : ℕ → ShelfState} (s : Stage 2 (Opening one_in) told shelf)
-    (came : In (FragmentSent (piece segment group 1)) s.net.sent) where
+    (came : In (FragmentSent (flight_fragment segment group 1)) s.net.sent) where
   abbrev got : scan_ins.In
-  got = scan_in.Got 3 2 1 (piece segment group 1)
+  got = scan_in.Got 3 2 1 (flight_fragment segment group 1)
 
   -- the log starts behind what was read back
   begun : {X : Type 0} (f : log.Done → X)
-      → f (first_write calm s.net.inc start the_map) ≡ f (record { state = opening_log none_noted; outs = log.all_sends (opening_flight none_noted) })
+      → f (first_write calm s.net.inc start the_map) ≡ f (record { state = opening_log none_noted; outs = log.sending_send (opening_flight none_noted) })
   begun f = ap (λ c. f (first_write calm c start the_map)) s.boot ∙ ap f opens_with
 
   can : CanStart calm s.net.inc (scan.transition one_in got)
@@ -265,11 +265,11 @@ module _ {told : List Packet} {shelf : ℕ → ShelfState} (s : Stage 2 (Opening
     registry = ap (λ (n : Net). n.registry) now ∙ s.registry;
     is_owner = ap (λ (n : Net). n.owner) now ∙ begun (λ d. Writing (segment ∷ []) d.state);
     sent = λ p fact. subst (In p) (sym (ap (λ (n : Net). n.sent) now ∙ begun (λ d. log_packets d.outs ++ s.net.sent)))
-        (in_first (log_packets (log.all_sends (opening_flight none_noted))) s.net.sent p (subst (In p) (sym opening_sends) fact));
+        (in_first (log_packets (log.sending_send (opening_flight none_noted))) s.net.sent p (subst (In p) (sym opening_sends) fact));
     shelves = λ v. ap (λ (n : Net). n.shelves v) now ∙ s.shelves v;
     filed = ap (λ (n : Net). n.filed) now
         ∙ (begun (λ d. log_filed setting.log d.outs ++ s.net.filed)
-        ∙ (ap (λ ns. log_filed setting.log (log.all_sends (opening_flight none_noted)) ++ ns) s.filed ∙ files_none));
+        ∙ (ap (λ ns. log_filed setting.log (log.sending_send (opening_flight none_noted)) ++ ns) s.filed ∙ files_none));
     last = ap (λ (n : Net). flight_in n.owner (last_flight s.run)) now ∙ s.last;
     stays = refl;
   }
@@ -277,7 +277,7 @@ module _ {told : List Packet} {shelf : ℕ → ShelfState} (s : Stage 2 (Opening
 -- ---- and kept by each member
 
 abbrev opening_at : ℕ → Deed
-opening_at place = Stores (piece opening_segment group place) 1
+opening_at place = Stores (flight_fragment opening_segment group place) 1
 
 abbrev last_one : ℕ → ShelfState
 last_one = put fetched_two 1 (shelf_after calm (fenced_shelf 0) (opening_at 0))
@@ -292,7 +292,7 @@ abbrev opening_stored : ℕ → Packet
 opening_stored place = StoredSent opening_name place 1
 
 answer_again : (v place : ℕ) → answers calm v (fenced_shelf place) (opening_at place) ≡ opening_stored place ∷ []
-unfolding piece
+unfolding flight_fragment
 answer_again v place = refl
 
 abbrev all_stored : List Packet

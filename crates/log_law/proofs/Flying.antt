@@ -7,7 +7,7 @@ use Rattle.log_flight.specs.Flights.{FlightState}
 use Rattle.client_log.specs.declared.input.In.{In as Input}
 use Rattle.client_log.specs.declared.input.In.TheVariants as log_in
 use Rattle.client_log.specs.History.{IsNext, IsInLine, EndRisesByOne}
-use Rattle.client_log.specs.LogState.{LogState, started}
+use Rattle.client_log.specs.LogState.{LogState, log_start}
 use Rattle.client_log.specs.Transition as log
 use Rattle.log_scan.specs.ScanState.{ScanState}
 use Rattle.log_scan.specs.Transition as scan
@@ -122,8 +122,8 @@ module _ (k : Below) (g : Setting) (m : Net) (h : View (doubtful g) m) where
     flown = λ x among. inl among;
   }
   opens_on s d fact (Some t) (Some map) =
-      let w : Writes_next (started g.log m.inc t.end map) (first_write g m.inc t.end map) =
-      writes_next k (started g.log m.inc t.end map) (log_in.Parts []) (ran_first g.log m.inc t.end map) in
+      let w : Writes_next (log_start g.log m.inc t.end map) (first_write g m.inc t.end map) =
+      writes_next k (log_start g.log m.inc t.end map) (log_in.Parts []) (ran_first g.log m.inc t.end map) in
       record {
         boot = sym (boot_up (Opening s) fact);
         rises = (let a = number_there (Opening s) fact in omega arith);

@@ -14,7 +14,7 @@ use Rattle.xfs_base.specs.declared.fragment.Fragment.{Fragment}
 use Rattle.xfs_base.specs.declared.segment.SegName.{SegName}
 use Rattle.xfs_base.proofs.Booleans.{contrary}
 use Rattle.segment_format.specs.declared.segment.Segment.{Segment}
-use Rattle.client_log.specs.LogState.{started}
+use Rattle.client_log.specs.LogState.{log_start}
 use Rattle.log_protocol.specs.LogLaws.{Reached}
 use Rattle.log_protocol.specs.State.{State}
 use Rattle.log_protocol.specs.Step.Steps.{Done}
@@ -369,4 +369,4 @@ along_moment k g none n m calm = along k g none (opening g m.map) refl first (λ
     first = begins_seen k g m.map m.whole
 
     gapless : Gapless (opening g m.map) first.w.head
-    gapless q some less = let e = served_head k g (opening g m.map) first (first.calm none) (started g.log 1 no_end m.map) refl in absurd (omega arith)
+    gapless q some less = let e = served_head k g (opening g m.map) first (first.calm none) (log_start g.log 1 no_end m.map) refl in absurd (omega arith)

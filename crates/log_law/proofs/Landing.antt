@@ -24,7 +24,7 @@ module _ (s : LogState) (f : FlightState) (flies : s.flight ≡ Some f) where
   stays v = let a = v.0 in cc
 
   follows : (t : LogState) (z : FlightState) (fate : Fate) → Vanishes (log.followed t z fate) → ⊥
-  unfolding log.restriped log.launched log.settled
+  unfolding log.restriped log.log_launch log.settled
   follows t z Restripe v = let a = v.0 in cc
   follows t z Settle v = let a = v.1 in cc
   follows t z Wait v = let a = v.0 in cc
@@ -42,12 +42,12 @@ module _ (s : LogState) (f : FlightState) (flies : s.flight ≡ Some f) where
   stays_or_settles n (log_in.Acked name index generation) came =
       elim s.flight as
       (λ o. s.flight ≡ o
-      → Vanishes (elim o [ None ↦ still s | Some z ↦ cond (flights.is_of z name index generation) (log.looked_at s s (flights.noting z index)) (still s) ])
+      → Vanishes (elim o [ None ↦ still s | Some z ↦ cond (flights.is_of z name index generation) (log.looked_at s s (flights.flight_note z index)) (still s) ])
       → ⊥) [
         | None ↦ λ e. absurd cc
-        | Some z ↦ λ e. by_test (λ (d : log.Done). Vanishes d → ⊥) (flights.is_of z name index generation) (log.looked_at s s (flights.noting z index))
+        | Some z ↦ λ e. by_test (λ (d : log.Done). Vanishes d → ⊥) (flights.is_of z name index generation) (log.looked_at s s (flights.flight_note z index))
             (still s)
-            (λ own. looks s (flights.noting z index)) (λ other. stays)
+            (λ own. looks s (flights.flight_note z index)) (λ other. stays)
       ] refl
   stays_or_settles n (log_in.Maps m) came =
       elim s.flight as
@@ -56,7 +56,7 @@ module _ (s : LogState) (f : FlightState) (flies : s.flight ≡ Some f) where
         | Some z ↦ λ e. looks (record s { groups = m }) z
       ] refl
   stays_or_settles n log_in.Tick came =
-      elim s.flight as (λ o. s.flight ≡ o → Vanishes (elim o [ None ↦ still s | Some z ↦ record { state = s; outs = log.all_sends z } ]) → ⊥) [
+      elim s.flight as (λ o. s.flight ≡ o → Vanishes (elim o [ None ↦ still s | Some z ↦ record { state = s; outs = log.sending_send z } ]) → ⊥) [
         | None ↦ λ e. absurd cc
         | Some z ↦ λ e v. let a = v.0 in cc
       ] refl

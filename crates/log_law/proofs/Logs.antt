@@ -17,8 +17,8 @@ use Rattle.client_log.specs.declared.input.In.{In as Input}
 use Rattle.client_log.specs.declared.output.Out.{Out}
 use Rattle.client_log.specs.declared.output.Out.TheVariants.{Send, Settled}
 use Rattle.client_log.specs.History.{IsNext, IsInLine, settled_ends, EndRisesByOne, TellsWhatIsDue}
-use Rattle.client_log.specs.LogState.{LogState, started}
-use Rattle.client_log.specs.Transition.{transition, end_from}
+use Rattle.client_log.specs.LogState.{LogState, log_start}
+use Rattle.client_log.specs.Transition.{transition, end_of}
 use Rattle.log_scan.specs.Transition.{name_at, end_below}
 use Rattle.log_protocol.specs.LogLaws.{Reached}
 use Rattle.log_protocol.specs.State.{State}
@@ -39,17 +39,17 @@ ran_on s i r = record {
   end = r.end;
   groups = r.groups;
   history = r.history ++ i ∷ [];
-  reaches = ap (λ (z : LogState). (transition z i).state) r.reaches ∙ sym (steps_both transition (started r.log r.inc r.end r.groups) r.history (i ∷ []));
+  reaches = ap (λ (z : LogState). (transition z i).state) r.reaches ∙ sym (steps_both transition (log_start r.log r.inc r.end r.groups) r.history (i ∷ []));
 }
 
-pub ran_first : (log : LogId) (inc : ℕ) (end : End) (groups : GroupMapState) → Ran (started log inc end groups)
+pub ran_first : (log : LogId) (inc : ℕ) (end : End) (groups : GroupMapState) → Ran (log_start log inc end groups)
 ran_first log inc end groups = record { log = log; inc = inc; end = end; groups = groups; history = []; reaches = refl }
 
 -- what is told settled is due
 pub record Landed (s : LogState) (i : Input) (end : End) : Type 0 where
   pub flight : FlightState
   pub was : s.flight ≡ Some flight
-  pub is_end : end ≡ end_from flight.segment
+  pub is_end : end ≡ end_of flight.segment
 
 landed_in : (s : LogState) (i : Input) (end : End) (outs : List Out) → AllByRecursion (TellsWhatIsDue s i) outs → settled_ends outs ≡ end ∷ [] → Landed s i end
 landed_in s i end [] all e = absurd cc

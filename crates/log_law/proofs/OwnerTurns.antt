@@ -10,7 +10,7 @@ use Rattle.client_log.specs.declared.input.In.{In as Input}
 use Rattle.client_log.specs.declared.input.In.TheVariants as log_in
 use Rattle.client_log.specs.LogState.{LogState}
 use Rattle.client_log.specs.Transition as log
-use Rattle.log_scan.specs.ScanState.{started}
+use Rattle.log_scan.specs.ScanState.{scan_start}
 use Rattle.log_protocol.specs.Phase
 use Rattle.log_protocol.specs.OpeningSteps.{Undoubted, begins}
 use Rattle.log_protocol.specs.OwnerSteps.{crashes}
@@ -204,7 +204,7 @@ module _ (k : Below) (g : Setting) (n : Net) (h : View g n) where
 
   -- ---- it restarts, and server 0, which is none, is asked at once
 
-  pub restart_view : n.owner ≡ Down → Next g n h (record n { inc = suc n.inc; owner = Opening (started g.log (suc n.inc)) })
+  pub restart_view : n.owner ≡ Down → Next g n h (record n { inc = suc n.inc; owner = Opening (scan_start g.log (suc n.inc)) })
   restart_view fact = record {
     view = record {
       w = v;
@@ -260,7 +260,7 @@ module _ (k : Below) (g : Setting) (n : Net) (h : View g n) where
       some : 1 ≤ h.w.low
       some = (k.protocol.horizons h.w h.reached).low_some
 
-      opens : ScanShown g v h.book h.hellos (started g.log (suc n.inc))
+      opens : ScanShown g v h.book h.hellos (scan_start g.log (suc n.inc))
       opens = record {
         log = refl;
         inc = ap suc (sym h.inc);

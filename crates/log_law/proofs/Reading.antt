@@ -14,7 +14,7 @@ use Rattle.stripe_code.specs.declared.round.RoundState.TheVariants.{Read, Short,
 use Rattle.stripe_code.specs.declared.round.Told.{Told}
 use Rattle.stripe_code.specs.declared.round.Told.TheVariants.{Held, Missing}
 use Rattle.stripe_code.specs.Joined.{joined}
-use Rattle.stripe_code.specs.Round.{RoundSoFar, IsRound, bytes_in, parts_in, len_in, is_enough, have_answered, missing_in, state_of}
+use Rattle.stripe_code.specs.Round.{RoundSoFar, IsRound, bytes_in, parts_in, len_in, is_enough, all_answered, missing_in, state_of}
 use Rattle.log_scan.specs.Transition.{name_at}
 use Rattle.log_protocol.specs.Tables.{In}
 use Rattle.log_tie.specs.Setting.{Setting}
@@ -40,9 +40,9 @@ pub gave : (r : RoundSoFar) (text : List ℕ) → state_of r ≡ Read text → G
 unfolding state_of text_in
 gave r text =
     by_test (λ (st : RoundState). st ≡ Read text → Gave r text) (is_enough r) (Read (joined (parts_in r.n r.answers) r.parity (unwrap_or (len_in r.answers) 0)))
-    (cond (have_answered r.answers r.servers) (Short (missing_in r.answers)) Waiting)
+    (cond (all_answered r.answers r.servers) (Short (missing_in r.answers)) Waiting)
     (λ t e. record { enough = t; text_is = ap text_in e })
-    (λ t. by_test (λ (st : RoundState). st ≡ Read text → Gave r text) (have_answered r.answers r.servers) (Short (missing_in r.answers)) Waiting
+    (λ t. by_test (λ (st : RoundState). st ≡ Read text → Gave r text) (all_answered r.answers r.servers) (Short (missing_in r.answers)) Waiting
     (λ k e. absurd cc) (λ k e. absurd cc))
 
 -- some fragment came, where a round has enough

@@ -3,7 +3,7 @@ use Rattle.xfs_base.proofs.Booleans.{contrary}
 use Rattle.std.proofs.Common.{◌≡◌, ℕ, suc, true, refl, sym, ap, subst, ◌∙◌, inl, inr, arith}
 use Rattle.xfs_base.specs.declared.segment.SegName.{SegName}
 use Rattle.group_map.specs.GroupMapState.{GroupMapState}
-use Rattle.client_log.specs.LogState.{started}
+use Rattle.client_log.specs.LogState.{log_start}
 use Rattle.log_protocol.specs.OwnerSteps.{restarts}
 use Rattle.log_protocol.specs.ServerSteps.{learns}
 use Rattle.log_protocol.specs.State.{State}
@@ -52,7 +52,7 @@ module _ (k : Below) (g : Setting) (n : Net) (h : View g n) (m : GroupMapState) 
   none_before : (y : ℕ) → h.w.booked y ≡ 1 → (h.book y).name.pass.inc ≡ 0 → ⊥
   none_before y booked e = let b = (h.paged y booked).boot in omega arith
 
-  pub renew_view : Next g n h (record n { inc = suc n.inc; owner = Serving (started g.log (suc n.inc) no_end m) })
+  pub renew_view : Next g n h (record n { inc = suc n.inc; owner = Serving (log_start g.log (suc n.inc) no_end m) })
   renew_view = record {
     view = record {
       w = w;

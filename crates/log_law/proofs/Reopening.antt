@@ -15,14 +15,14 @@ use Rattle.stripe_code.specs.Round as round
 use Rattle.stripe_code.specs.Stripe.{stripe_of}
 use Rattle.log_flight.specs.Flights as flights
 use Rattle.log_flight.specs.Flights.{FlightState, none_noted}
-use Rattle.log_flight.specs.Fragments.{piece}
+use Rattle.log_flight.specs.Fragments.{flight_fragment}
 use Rattle.log_scan.specs.declared.input.In.TheVariants as scan_in
 use Rattle.log_scan.specs.declared.listing.Listing.{Listing}
 use Rattle.log_scan.specs.declared.opening.Opening.{Opening}
 use Rattle.log_scan.specs.declared.output.Out.TheVariants as scan_out
 use Rattle.log_scan.specs.declared.stage.Backward.{Backward}
 use Rattle.log_scan.specs.declared.stage.Stage.TheVariants.{Gathers, Asks, Reads, Over}
-use Rattle.log_scan.specs.ScanState.{ScanState, begun, started}
+use Rattle.log_scan.specs.ScanState.{ScanState, opening_begin, scan_start}
 use Rattle.log_scan.specs.Transition as scan
 use Rattle.log_tie.proofs.Exist.{setting, the_map, group}
 use Rattle.client_log.specs.declared.output.Out.TheVariants.{Settled}
@@ -30,7 +30,7 @@ use Rattle.segment_format.specs.Rows.{rows_of}
 use Rattle.segment_format.specs.declared.segment.Segment.{Segment}
 use Rattle.xfs_base.specs.declared.segment.SegName.{SegName}
 use Rattle.client_log.specs.declared.input.In.TheVariants as log_in
-use Rattle.client_log.specs.LogState.{LogState, started as new_log}
+use Rattle.client_log.specs.LogState.{LogState, log_start as new_log}
 use Rattle.client_log.specs.Transition as log
 use Rattle.std.specs.Prelude.{Bool, slice_set, true, Ok, Result}
 use Rattle.std.proofs.Common.{arith}
@@ -52,10 +52,10 @@ list_of server place = record { server = server; generation = 1; held = meta_of 
 -- ---- where it stands
 
 abbrev pub hailing : ScanState
-hailing = started setting.log 2
+hailing = scan_start setting.log 2
 
 abbrev pub gathered : Opening
-gathered = record (begun setting.log 2) { groups = Some the_map }
+gathered = record (opening_begin setting.log 2) { groups = Some the_map }
 
 abbrev pub gathering : List Listing → ScanState
 gathering lists = record { opening = gathered; stage = Gathers lists }
@@ -73,7 +73,7 @@ abbrev backward : Backward
 backward = record { start = start; next = start; chain = [] }
 
 abbrev pub first_round : ReadingState
-first_round = reading.begun (scan.target_at setting.log start) group 3
+first_round = reading.reading_start (scan.target_at setting.log start) group 3
 
 abbrev now : Opening
 now = record gathered { ask = 3 }
@@ -85,7 +85,7 @@ abbrev pub one_in : ScanState
 one_in = record {
   opening = now;
   stage = Reads backward
-      (Some (record first_round { round = record first_round.round { answers = record { server = 1; told = told.Held (piece segment group 0) } ∷ [] } }));
+      (Some (record first_round { round = record first_round.round { answers = record { server = 1; told = told.Held (flight_fragment segment group 0) } ∷ [] } }));
 }
 
 abbrev pub over : ScanState
@@ -116,12 +116,12 @@ pub asks_second : scan.transition (gathering (list_of 1 0 ∷ list_of 2 1 ∷ []
 unfolding scan.on_fenced scan.with_list
 asks_second = refl
 
-pub picks_it : scan.transition asking (scan_in.Welcome 2 news the_map) ≡ record { state = reading_back; outs = scan.fetches first_round }
-unfolding scan.on_welcome scan.picks scan.follows scan.begins_round
+pub picks_it : scan.transition asking (scan_in.Welcome 2 news the_map) ≡ record { state = reading_back; outs = scan.backward_fetch first_round }
+unfolding scan.on_welcome scan.opening_pick scan.opening_follow scan.opening_begin_round
 picks_it = refl
 
-pub hears_one : scan.transition reading_back (scan_in.Got 3 1 1 (piece segment group 0)) ≡ record { state = one_in; outs = [] }
-unfolding scan.on_told scan.goes_on reading.on_answer round.taken round.state_of piece stripe_of
+pub hears_one : scan.transition reading_back (scan_in.Got 3 1 1 (flight_fragment segment group 0)) ≡ record { state = one_in; outs = [] }
+unfolding scan.on_told scan.opening_go_on reading.reading_take round.round_take round.state_of flight_fragment stripe_of
 hears_one = refl
 
 -- with the second fragment the text is whole
@@ -129,21 +129,21 @@ abbrev both_in : ReadingState
 both_in = record first_round {
   round =
       record first_round.round {
-        answers = record { server = 1; told = told.Held (piece segment group 0) }
-            ∷ record { server = 2; told = told.Held (piece segment group 1) } ∷ [];
+        answers = record { server = 1; told = told.Held (flight_fragment segment group 0) }
+            ∷ record { server = 2; told = told.Held (flight_fragment segment group 1) } ∷ [];
       };
 }
 
 abbrev heard : reading.Step → scan.Done
-heard step = scan.goes_on now backward step.state step.next
+heard step = scan.opening_go_on now backward step.state step.next
 
 found : answer_of (text_of segment) ≡ Ok segment
 found = answer_again (text_of segment) segment written.fits written.text
 
 pub hears_two : scan.transition one_in
-    (scan_in.Got 3 2 1 (piece segment group 1)) ≡ record { state = over; outs = scan_out.Chain (segment ∷ []) start (scan.prior_at start) ∷ [] }
-unfolding scan.on_told scan.goes_on scan.follows reading.on_answer round.taken round.state_of joined piece stripe_of
-hears_two = ap (λ (a : Result Segment SegError). heard (reading.read_as both_in (reading.segment_found both_in.target the_map a))) found
+    (scan_in.Got 3 2 1 (flight_fragment segment group 1)) ≡ record { state = over; outs = scan_out.Chain (segment ∷ []) start (scan.prior_at start) ∷ [] }
+unfolding scan.on_told scan.opening_go_on scan.opening_follow reading.reading_take round.round_take round.state_of joined flight_fragment stripe_of
+hears_two = ap (λ (a : Result Segment SegError). heard (reading.reading_reads both_in (reading.segment_found both_in.target the_map a))) found
 
 -- ---- the opening segment
 
@@ -166,13 +166,13 @@ opening_written = record {
   bytes = all_bytes (text_of opening_segment) refl;
 }
 
-pub opens_with : first_write setting 2 start the_map ≡ record { state = opening_log none_noted; outs = log.all_sends (opening_flight none_noted) }
-unfolding log.on_parts log.launched flights.group_for
+pub opens_with : first_write setting 2 start the_map ≡ record { state = opening_log none_noted; outs = log.sending_send (opening_flight none_noted) }
+unfolding log.on_parts log.log_launch flights.group_for
 opens_with = refl
 
-pub opening_sends : log_packets (log.all_sends (opening_flight none_noted)) ≡ StoreSent 1 (piece opening_segment group 0) 1 ∷ StoreSent 2
-    (piece opening_segment group 1) 1 ∷ StoreSent 3 (piece opening_segment group 2) 1 ∷ []
-unfolding log.all_sends
+pub opening_sends : log_packets (log.sending_send (opening_flight none_noted)) ≡ StoreSent 1 (flight_fragment opening_segment group 0) 1 ∷ StoreSent 2
+    (flight_fragment opening_segment group 1) 1 ∷ StoreSent 3 (flight_fragment opening_segment group 2) 1 ∷ []
+unfolding log.sending_send
 opening_sends = refl
 
 abbrev pub noted_one : List Bool
@@ -192,8 +192,8 @@ notes_second = refl
 pub settles : log.transition (opening_log noted_two)
     (log_in.Acked opening_name 2 1)
     ≡ record {
-      state = new_log setting.log 2 (log.end_from opening_segment) the_map;
-      outs = Settled (log.end_from opening_segment) (rows_of opening_segment) ∷ [];
+      state = new_log setting.log 2 (log.end_of opening_segment) the_map;
+      outs = Settled (log.end_of opening_segment) (rows_of opening_segment) ∷ [];
     }
-unfolding log.on_acked log.looked_at log.settled log.if_full
+unfolding log.on_acked log.looked_at log.settled log.log_go_on
 settles = refl

@@ -2,7 +2,7 @@
 use Rattle.log_tie.specs.Seen.{log_filed}
 use Rattle.log_flight.specs.Flights as flights
 use Rattle.log_flight.specs.Flights.{FlightState, none_noted}
-use Rattle.log_flight.specs.Fragments.{piece}
+use Rattle.log_flight.specs.Fragments.{flight_fragment}
 use Rattle.client_log.specs.declared.output.Out.TheVariants.{Settled}
 use Rattle.segment_format.specs.Rows.{rows_of}
 use Rattle.std.proofs.lemmas.Bool.Decides.{nat_tests}
@@ -17,7 +17,7 @@ use Rattle.segment_format.specs.Text.{text_of}
 use Rattle.stripe_code.specs.Stripe.{IsBytes}
 use Rattle.fragment_store.specs.ShelfState.{ShelfState, new_shelf}
 use Rattle.client_log.specs.declared.input.In.TheVariants as log_in
-use Rattle.client_log.specs.LogState.{LogState, started}
+use Rattle.client_log.specs.LogState.{LogState, log_start}
 use Rattle.client_log.specs.Transition as log
 use Rattle.log_protocol.specs.Tables.{put, In}
 use Rattle.log_tie.specs.Shelves.{shelf_after, Deed}
@@ -34,7 +34,7 @@ use Rattle.log_law.specs.Laws.{SomeSegmentFiled}
 -- ---- the segment
 
 abbrev pub first_log : LogState
-first_log = started setting.log 1 no_end the_map
+first_log = log_start setting.log 1 no_end the_map
 
 abbrev pub name : SegName
 name = record { log = setting.log; seq = 1; pass = record { inc = 1; att = 1 } }
@@ -67,8 +67,8 @@ written = record {
 -- ---- what the log does
 
 -- it writes the segment
-pub starts : log.transition first_log (log_in.Parts []) ≡ record { state = writing none_noted; outs = log.all_sends (flight none_noted) }
-unfolding log.on_parts log.launched flights.group_for
+pub starts : log.transition first_log (log_in.Parts []) ≡ record { state = writing none_noted; outs = log.sending_send (flight none_noted) }
+unfolding log.on_parts log.log_launch flights.group_for
 starts = refl
 
 abbrev noted_one : List Bool
@@ -87,14 +87,14 @@ unfolding log.on_acked log.looked_at
 notes_second = refl
 
 settles : log.transition (writing noted_two)
-    (log_in.Acked name 2 1) ≡ record { state = record first_log { end = log.end_from segment }; outs = Settled (log.end_from segment) (rows_of segment) ∷ [] }
-unfolding log.on_acked log.looked_at log.settled log.if_full
+    (log_in.Acked name 2 1) ≡ record { state = record first_log { end = log.end_of segment }; outs = Settled (log.end_of segment) (rows_of segment) ∷ [] }
+unfolding log.on_acked log.looked_at log.settled log.log_go_on
 settles = refl
 
 -- ---- the run, by stages
 
 abbrev pub store : ℕ → ℕ → Packet
-store v place = StoreSent v (piece segment group place) 1
+store v place = StoreSent v (flight_fragment segment group place) 1
 
 abbrev pub stored : ℕ → Packet
 stored place = StoredSent name place 1
@@ -110,8 +110,8 @@ pub record Stage (noted : List Bool) (told : List Packet) (fresh : List ℕ) : T
 abbrev pub stores : List Packet
 stores = store 1 0 ∷ store 2 1 ∷ store 3 2 ∷ []
 
-pub sends_all : log_packets (log.all_sends (flight none_noted)) ≡ stores
-unfolding log.all_sends
+pub sends_all : log_packets (log.sending_send (flight none_noted)) ≡ stores
+unfolding log.sending_send
 sends_all = refl
 
 first_stage : Stage none_noted stores (1 ∷ 2 ∷ 3 ∷ [])
@@ -134,9 +134,9 @@ in_after [] qs p fact = fact
 in_after (x ∷ ps) qs p fact = inr (in_after ps qs p fact)
 
 -- an empty shelf keeps the fragment
-answer : (v place : ℕ) (s : ShelfState) → s ≡ new_shelf → answers setting v s (Stores (piece segment group place) 1) ≡ stored place ∷ []
-unfolding piece
-answer v place s fact = subst (λ z. answers setting v z (Stores (piece segment group place) 1) ≡ stored place ∷ []) (sym fact) refl
+answer : (v place : ℕ) (s : ShelfState) → s ≡ new_shelf → answers setting v s (Stores (flight_fragment segment group place) 1) ≡ stored place ∷ []
+unfolding flight_fragment
+answer v place s fact = subst (λ z. answers setting v z (Stores (flight_fragment segment group place) 1) ≡ stored place ∷ []) (sym fact) refl
 
 -- a server keeps what a Store brings
 keeps : (noted : List Bool) (told : List Packet) (v place : ℕ) (fresh : List ℕ) → 0 < v → ((u : ℕ) → In u fresh → (u == v) ≡ false) → In (store v place) told
@@ -153,11 +153,11 @@ keeps noted told v place fresh some others fact s = record {
 }
   where
     deed : Deed
-    deed = Stores (piece segment group place) 1
+    deed = Stores (flight_fragment segment group place) 1
 
-    sent : (p : Packet) → In p (stored place ∷ told) → In p (answers setting v (s.net.shelves v) (Stores (piece segment group place) 1) ++ s.net.sent)
+    sent : (p : Packet) → In p (stored place ∷ told) → In p (answers setting v (s.net.shelves v) (Stores (flight_fragment segment group place) 1) ++ s.net.sent)
     sent p (inl e) = subst (λ ps. In p (ps ++ s.net.sent)) (sym (answer v place (s.net.shelves v) (s.shelves v (inl refl)))) (inl e)
-    sent p (inr among) = in_after (answers setting v (s.net.shelves v) (Stores (piece segment group place) 1)) s.net.sent p (s.sent p among)
+    sent p (inr among) = in_after (answers setting v (s.net.shelves v) (Stores (flight_fragment segment group place) 1)) s.net.sent p (s.sent p among)
 
 -- a Stored is noted
 notes : (noted more : List Bool) (told : List Packet) (place : ℕ) → In (stored place) told

@@ -8,7 +8,7 @@ use Rattle.group_map.specs.declared.group.Group.{Group}
 use Rattle.group_map.specs.GroupMapState.{GroupMapState}
 use Rattle.segment_reading.specs.declared.reading.Next.{Next}
 use Rattle.segment_reading.specs.declared.reading.Next.TheVariants as next
-use Rattle.segment_reading.specs.Reading.{ReadingState, begun, is_asking, to_ask, on_answer, on_confirmed}
+use Rattle.segment_reading.specs.Reading.{ReadingState, reading_start, is_asking, reading_unanswered, reading_take, on_confirmed}
 use Rattle.stripe_code.specs.declared.round.Told.{Told}
 use Rattle.stripe_code.specs.declared.round.Told.TheVariants as told
 use Rattle.log_scan.specs.declared.input.In.{In}
@@ -46,7 +46,7 @@ module _ (P : End → Type 0) where
   abbrev pub PickIs : Opening → Stage → ℕ → Type 0
   PickIs o Hails least = Unit {0}
   PickIs o (Gathers lists) least = Unit {0}
-  PickIs o (Asks lists) least = IfSome (start_of o.groups lists (scan.rises o least).low) P
+  PickIs o (Asks lists) least = IfSome (start_of o.groups lists (scan.opening_rise o least).low) P
   PickIs o (Reads b r) least = Unit {0}
   PickIs o Over least = Unit {0}
 
@@ -77,8 +77,8 @@ module _ (P : End → Type 0) where
   all_so f each [] = tt
   all_so f each (x ∷ xs) = (each x, all_so f each xs)
 
-  fetches_so : (r : ReadingState) → AllByRecursion TellsIs (scan.fetches r)
-  fetches_so r = all_so (λ server. Fetch server r.target.seg.name r.ask) (λ server. tt) (to_ask r)
+  backward_fetch_so : (r : ReadingState) → AllByRecursion TellsIs (scan.backward_fetch r)
+  backward_fetch_so r = all_so (λ server. Fetch server r.target.seg.name r.ask) (λ server. tt) (reading_unanswered r)
 
   fences_so : (servers : List ℕ) → AllByRecursion TellsIs (scan.fences servers)
   fences_so servers = all_so (λ server. Fence server) (λ server. tt) servers
@@ -93,37 +93,37 @@ module _ (P : End → Type 0) where
 
   begins_in_so : (o : Opening) (b : Backward) (group : Option Group) → P b.start → Keeps (scan.begins_in o b group)
   begins_in_so o b None h = anew o (Reads b None) h
-  begins_in_so o b (Some group) h = record { stage = h; tells = fetches_so (begun (scan.target_at o.log b.next) group (o.ask + 1)) }
+  begins_in_so o b (Some group) h = record { stage = h; tells = backward_fetch_so (reading_start (scan.target_at o.log b.next) group (o.ask + 1)) }
 
-  begins_so : (o : Opening) (b : Backward) → P b.start → Keeps (scan.begins_round o b)
-  unfolding scan.begins_round
+  begins_so : (o : Opening) (b : Backward) → P b.start → Keeps (scan.opening_begin_round o b)
+  unfolding scan.opening_begin_round
   begins_so o b h = begins_in_so o b (known_group o.groups b.next.group) h
 
-  follows_so : (o : Opening) (b : Backward) → P b.start → Keeps (scan.follows o b)
-  unfolding scan.follows
-  follows_so o b h =
-      by_test Keeps (scan.is_bottom o.low b.next) (goes o Over (scan.chain_of b ∷ [])) (scan.begins_round o b) (λ t. record { stage = tt; tells = (h, tt) })
+  opening_follow_so : (o : Opening) (b : Backward) → P b.start → Keeps (scan.opening_follow o b)
+  unfolding scan.opening_follow
+  opening_follow_so o b h =
+      by_test Keeps (scan.is_bottom o.low b.next) (goes o Over (scan.backward_told b ∷ [])) (scan.opening_begin_round o b) (λ t. record { stage = tt; tells = (h, tt) })
       (λ t. begins_so o b h)
 
-  next_so : (o : Opening) (b : Backward) (r : ReadingState) (n : Next) → P b.start → Keeps (scan.goes_on o b r n)
-  unfolding scan.goes_on
+  next_so : (o : Opening) (b : Backward) (r : ReadingState) (n : Next) → P b.start → Keeps (scan.opening_go_on o b r n)
+  unfolding scan.opening_go_on
   next_so o b r next.Wait h = rests o (Reads b (Some r)) h
-  next_so o b r next.Ask h = record { stage = h; tells = fetches_so r }
+  next_so o b r next.Ask h = record { stage = h; tells = backward_fetch_so r }
   next_so o b r next.Again h = anew o (Reads b (Some r)) h
-  next_so o b r (next.Read s) h = follows_so o (scan.with_segment b s) h
+  next_so o b r (next.Read s) h = opening_follow_so o (scan.backward_with b s) h
   next_so o b r next.Lost h = record { stage = tt; tells = (tt, tt) }
 
   -- ---- an answer, a list, time
 
-  heard_with_so : (o : Opening) (b : Backward) (r : ReadingState) (m : Option GroupMapState) (ask server : ℕ) (t : Told) → P b.start
-      → Keeps (scan.heard_with o b r m ask server t)
-  heard_with_so o b r None ask server t h = rests o (Reads b (Some r)) h
-  heard_with_so o b r (Some groups) ask server t h = next_so o b (on_answer r groups ask server t).state (on_answer r groups ask server t).next h
+  opening_read_so : (o : Opening) (b : Backward) (r : ReadingState) (m : Option GroupMapState) (ask server : ℕ) (t : Told) → P b.start
+      → Keeps (scan.opening_read o b r m ask server t)
+  opening_read_so o b r None ask server t h = rests o (Reads b (Some r)) h
+  opening_read_so o b r (Some groups) ask server t h = next_so o b (reading_take r groups ask server t).state (reading_take r groups ask server t).next h
 
-  heard_so : (o : Opening) (b : Backward) (r : Option ReadingState) (ask server : ℕ) (t : Told) → P b.start → Keeps (scan.heard o b r ask server t)
-  heard_so o b None ask server t h = rests o (Reads b None) h
-  heard_so o b (Some r) ask server t h =
-      by_test Keeps (can_ask o) (scan.heard_with o b r o.groups ask server t) (stays o (Reads b (Some r))) (λ e. heard_with_so o b r o.groups ask server t h)
+  opening_hear_so : (o : Opening) (b : Backward) (r : Option ReadingState) (ask server : ℕ) (t : Told) → P b.start → Keeps (scan.opening_hear o b r ask server t)
+  opening_hear_so o b None ask server t h = rests o (Reads b None) h
+  opening_hear_so o b (Some r) ask server t h =
+      by_test Keeps (can_ask o) (scan.opening_read o b r o.groups ask server t) (stays o (Reads b (Some r))) (λ e. opening_read_so o b r o.groups ask server t h)
       (λ e. rests o (Reads b (Some r)) h)
 
   told_so : (o : Opening) (st : Stage) (ask server : ℕ) (t : Told) → StartIs st → Keeps (scan.on_told o st ask server t)
@@ -131,7 +131,7 @@ module _ (P : End → Type 0) where
   told_so o Hails ask server t h = rests o Hails h
   told_so o (Gathers lists) ask server t h = rests o (Gathers lists) h
   told_so o (Asks lists) ask server t h = rests o (Asks lists) h
-  told_so o (Reads b r) ask server t h = heard_so o b r ask server t h
+  told_so o (Reads b r) ask server t h = opening_hear_so o b r ask server t h
   told_so o Over ask server t h = rests o Over h
 
   with_list_so : (o : Opening) (lists : List Listing) → Keeps (scan.with_list o lists)
@@ -156,44 +156,44 @@ module _ (P : End → Type 0) where
   ticks o (Gathers lists) = fences_so (scan.awaited o.groups lists)
   ticks o (Asks lists) = (tt, tt)
   ticks o (Reads b None) = (tt, tt)
-  ticks o (Reads b (Some r)) = by_test (AllByRecursion TellsIs) (is_asking r.stage) (scan.fetches r) (Hello o.ask ∷ []) (λ t. fetches_so r) (λ t. (tt, tt))
+  ticks o (Reads b (Some r)) = by_test (AllByRecursion TellsIs) (is_asking r.stage) (scan.backward_fetch r) (Hello o.ask ∷ []) (λ t. backward_fetch_so r) (λ t. (tt, tt))
   ticks o Over = tt
 
   -- ---- a Welcome
 
   picked_so : (o : Opening) (lists : List Listing) (start : Option End) → IfSome start P → Keeps (scan.picks_at o lists start)
   picked_so o lists None h = anew o (Asks lists) tt
-  picked_so o lists (Some start) h = follows_so o (scan.read_from start) h
+  picked_so o lists (Some start) h = opening_follow_so o (scan.backward_from start) h
 
-  picks_so : (o : Opening) (lists : List Listing) → IfSome (start_of o.groups lists o.low) P → Keeps (scan.picks o lists)
-  unfolding scan.picks
-  picks_so o lists h = picked_so o lists (start_of o.groups lists o.low) h
+  opening_pick_so : (o : Opening) (lists : List Listing) → IfSome (start_of o.groups lists o.low) P → Keeps (scan.opening_pick o lists)
+  unfolding scan.opening_pick
+  opening_pick_so o lists h = picked_so o lists (start_of o.groups lists o.low) h
 
   confirms_by_so : (o : Opening) (b : Backward) (r : Option ReadingState) → P b.start → Keeps (scan.confirms_by o b r)
   confirms_by_so o b None h = begins_so o b h
   confirms_by_so o b (Some r) h = next_so o b (on_confirmed r (o.ask + 1)).state (on_confirmed r (o.ask + 1)).next h
 
-  confirms_so : (o : Opening) (b : Backward) (r : Option ReadingState) → P b.start → Keeps (scan.confirms o b r)
-  unfolding scan.confirms
-  confirms_so o b r h =
-      by_test Keeps (scan.is_bottom o.low b.next) (goes o Over (scan.chain_of b ∷ [])) (scan.confirms_by o b r) (λ t. record { stage = tt; tells = (h, tt) })
+  opening_confirm_so : (o : Opening) (b : Backward) (r : Option ReadingState) → P b.start → Keeps (scan.opening_confirm o b r)
+  unfolding scan.opening_confirm
+  opening_confirm_so o b r h =
+      by_test Keeps (scan.is_bottom o.low b.next) (goes o Over (scan.backward_told b ∷ [])) (scan.confirms_by o b r) (λ t. record { stage = tt; tells = (h, tt) })
       (λ t. confirms_by_so o b r h)
 
-  welcomed_so : (o : Opening) (st : Stage) (least : ℕ) → StartIs st → PickIs o st least → Keeps (scan.welcomed o st least)
-  welcomed_so o Hails least h pick = record { stage = tt; tells = fences_so (scan.awaited o.groups []) }
-  welcomed_so o (Gathers lists) least h pick = rests o (Gathers lists) h
-  welcomed_so o (Asks lists) least h pick = picks_so (scan.rises o least) lists pick
-  welcomed_so o (Reads b r) least h pick = confirms_so (scan.rises o least) b r h
-  welcomed_so o Over least h pick = rests o Over h
+  opening_welcome_so : (o : Opening) (st : Stage) (least : ℕ) → StartIs st → PickIs o st least → Keeps (scan.opening_welcome o st least)
+  opening_welcome_so o Hails least h pick = record { stage = tt; tells = fences_so (scan.awaited o.groups []) }
+  opening_welcome_so o (Gathers lists) least h pick = rests o (Gathers lists) h
+  opening_welcome_so o (Asks lists) least h pick = opening_pick_so (scan.opening_rise o least) lists pick
+  opening_welcome_so o (Reads b r) least h pick = opening_confirm_so (scan.opening_rise o least) b r h
+  opening_welcome_so o Over least h pick = rests o Over h
 
   -- ---- all inputs
 
-  pub keeps_start : (o : Opening) (st : Stage) (i : In) → StartIs st → BringsPick o st i → Keeps (scan.takes o st i)
+  pub keeps_start : (o : Opening) (st : Stage) (i : In) → StartIs st → BringsPick o st i → Keeps (scan.opening_take o st i)
   unfolding scan.on_welcome
   keeps_start o st (input.Welcome ask news groups) h pick =
       by_test Keeps ((ask == o.ask) && (can_ask o && scan.awaits_welcome st))
-      (scan.welcomed (record o { groups = Some groups }) st (scan.least_horizon o.log.0 news))
-      (stays o st) (λ t. welcomed_so (record o { groups = Some groups }) st (scan.least_horizon o.log.0 news) h pick) (λ t. rests o st h)
+      (scan.opening_welcome (record o { groups = Some groups }) st (scan.least_horizon o.log.0 news))
+      (stays o st) (λ t. opening_welcome_so (record o { groups = Some groups }) st (scan.least_horizon o.log.0 news) h pick) (λ t. rests o st h)
   keeps_start o st (input.Fenced server generation held) h pick = fenced_so o st (record { server = server; generation = generation; held = held }) h
   keeps_start o st (input.Got ask server generation fragment) h pick = told_so o st ask server (told.Held fragment) h
   keeps_start o st (input.Missing ask server generation) h pick = told_so o st ask server (told.Missing generation) h

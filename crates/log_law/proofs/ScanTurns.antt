@@ -98,7 +98,7 @@ pub record Rests (d : scan.Done) : Type 0 where
   pub over : d.state.stage ≡ Over
   pub quiet : d.outs ≡ []
 
-over_rests : (o : OpeningState) (i : Input) → Rests (scan.takes o Over i)
+over_rests : (o : OpeningState) (i : Input) → Rests (scan.opening_take o Over i)
 unfolding scan.on_welcome scan.on_fenced scan.on_told scan.on_tick
 over_rests o (scan_in.Welcome ask news groups) =
     by_test Rests ((ask == o.ask) && (scan.can_ask o && scan.awaits_welcome Over)) (scan.stays (record o { groups = Some groups }) Over) (scan.stays o Over)
@@ -164,7 +164,7 @@ module _ (k : Below) (g : Setting) (n : Net) (h : View g n) (s : ScanState) (i :
       by Over e shown was = absurd (before_end e)
 
   rests : s.stage ≡ Over → Rests d
-  rests e = subst (λ st. Rests (scan.takes s.opening st i)) (sym e) (over_rests s.opening i)
+  rests e = subst (λ st. Rests (scan.opening_take s.opening st i)) (sym e) (over_rests s.opening i)
 
   stage_picked : StagePicked t.world.pick_low (picked_by n s d) d.state.stage
   stage_picked = by d.state.stage refl t.shows.0.shown.stage
@@ -235,7 +235,7 @@ module _ (k : Below) (g : Setting) (n : Net) (h : View g n) (s : ScanState) (i :
     first = first_write g n.inc told.end r.map
 
     abbrev started : LogState
-    started = logs.started g.log n.inc told.end r.map
+    started = logs.log_start g.log n.inc told.end r.map
 
     abbrev Q : State → (ℕ → Segment) → Type 0
     Q v later = WritingShown g v later told.segments first.state

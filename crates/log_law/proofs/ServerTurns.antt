@@ -11,7 +11,7 @@ use Rattle.xfs_base.specs.declared.segment.Pass.{Pass}
 use Rattle.xfs_base.specs.declared.segment.SegName.{SegName}
 use Rattle.xfs_base.proofs.Booleans.{contrary, by_test, and_first, and_second, equal_itself}
 use Rattle.fragment_store.specs.ShelfState.{ShelfState, held_at, fence_of, log_cmp, is_marked, is_held}
-use Rattle.fragment_store.specs.Calls.{on_fence, kept, with_fragment}
+use Rattle.fragment_store.specs.Calls.{on_fence, shelf_store, with_fragment}
 use Rattle.log_protocol.specs.Packets.{FencedPacket}
 use Rattle.log_protocol.specs.State.{State}
 use Rattle.log_protocol.specs.Step.Steps.{Done}
@@ -138,10 +138,10 @@ module _ (k : Below) (g : Setting) (n : Net) (h : View g n) where
   same_generation : (v : ℕ) (deed : Deed) (u : State) → ShelfShown g u h.book v (shelf_after g (n.shelves v) deed) → u.dropped ≡ h.w.dropped → Stays v v u
   same_generation v (Stores f generation) u shows same =
       inl (shows.of
-      ∙ (by_test (λ (s : ShelfState). s.generation ≡ (n.shelves v).generation) (is_stored (n.shelves v) f generation) (kept (n.shelves v) f) (n.shelves v)
+      ∙ (by_test (λ (s : ShelfState). s.generation ≡ (n.shelves v).generation) (is_stored (n.shelves v) f generation) (shelf_store (n.shelves v) f) (n.shelves v)
       (λ t. keeps_it f) (λ t. refl) ∙ sym (h.shelves v).of))
     where
-      keeps_it : (f : Fragment) → (kept (n.shelves v) f).generation ≡ (n.shelves v).generation
+      keeps_it : (f : Fragment) → (shelf_store (n.shelves v) f).generation ≡ (n.shelves v).generation
       keeps_it f = by_test (λ (s : ShelfState). s.generation ≡ (n.shelves v).generation) (is_held (n.shelves v) f.meta.name) (n.shelves v)
           (record (n.shelves v) { held = with_fragment f (n.shelves v).held }) (λ t. refl) (λ t. refl)
   same_generation v (Fetches name) u shows same = inl (shows.of ∙ sym (h.shelves v).of)
@@ -154,7 +154,7 @@ module _ (k : Below) (g : Setting) (n : Net) (h : View g n) where
   same_generation v (Deletes name) u shows same = inl (shows.of ∙ sym (h.shelves v).of)
   same_generation v (Fills f) u shows same =
       inl (shows.of
-      ∙ (by_test (λ (s : ShelfState). s.generation ≡ (n.shelves v).generation) (is_marked (n.shelves v).marks f.meta.name) (n.shelves v) (kept (n.shelves v) f)
+      ∙ (by_test (λ (s : ShelfState). s.generation ≡ (n.shelves v).generation) (is_marked (n.shelves v).marks f.meta.name) (n.shelves v) (shelf_store (n.shelves v) f)
       (λ t. refl)
       (λ t. by_test (λ (s : ShelfState). s.generation ≡ (n.shelves v).generation) (is_held (n.shelves v) f.meta.name) (n.shelves v)
       (record (n.shelves v) { held = with_fragment f (n.shelves v).held }) (λ t. refl) (λ t. refl))

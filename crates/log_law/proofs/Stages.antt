@@ -13,7 +13,7 @@ use Rattle.client_log.specs.declared.input.In.TheVariants as log_in
 use Rattle.client_log.specs.LogState.{LogState}
 use Rattle.client_log.specs.Transition as log
 use Rattle.log_scan.specs.declared.input.In as scan_ins
-use Rattle.log_scan.specs.ScanState.{ScanState, started}
+use Rattle.log_scan.specs.ScanState.{ScanState, scan_start}
 use Rattle.log_scan.specs.Transition as scan
 use Rattle.log_protocol.specs.Tables.{In, put}
 use Rattle.log_tie.specs.Setting.{Setting, IsStripe}
@@ -140,15 +140,15 @@ module _ {inc : ℕ} {owner : Owner} {told : List Packet} {shelf : ℕ → Shelf
   }
 
   -- and restarts
-  pub restarts : owner ≡ Down → Stage (suc inc) (Opening (started calm.log (suc inc))) told shelf
+  pub restarts : owner ≡ Down → Stage (suc inc) (Opening (scan_start calm.log (suc inc))) told shelf
   restarts down = record {
-    net = record s.net { inc = suc s.net.inc; owner = Opening (started calm.log (suc s.net.inc)) };
+    net = record s.net { inc = suc s.net.inc; owner = Opening (scan_start calm.log (suc s.net.inc)) };
     run = On s.run (Restarts (s.is_owner ∙ down));
     sure = calm_on _ (Restarts (s.is_owner ∙ down));
     boot = ap suc s.boot;
     low = s.low;
     registry = s.registry;
-    is_owner = ap (λ c. Opening (started calm.log (suc c))) s.boot;
+    is_owner = ap (λ c. Opening (scan_start calm.log (suc c))) s.boot;
     sent = s.sent;
     shelves = s.shelves;
     filed = s.filed;

@@ -1,8 +1,8 @@
 -- While a log is opened nothing is filed: a segment settles there as the last thing, and then its owner serves.
 use Rattle.std.proofs.Common.{◌≡◌, ◌⊎◌, ℕ, suc, ◌+◌, ◌++◌, true, false, cond, List, [], ◌∷◌, Option, Some, None, nat_le, refl, sym, ap, subst, ◌∙◌, inl, inr, arith}
 use Rattle.std.specs.Prelude.{◌&&◌, length}
-use Rattle.client_log.specs.LogState.{LogState, started}
-use Rattle.client_log.specs.Transition.{Done, all_sends, can_follow, end_from, followed, has_next, if_full, is_idle, landed, launched, looked_at, next_attempt, next_name, on_acked, on_maps, on_parts, on_tick, prior_from, restriped, sealed, sends, settled, transition, writes}
+use Rattle.client_log.specs.LogState.{LogState, log_start}
+use Rattle.client_log.specs.Transition.{Done, sending_send, can_follow, end_of, followed, has_next, log_go_on, is_idle, landed, log_launch, looked_at, next_attempt, next_name, on_acked, on_maps, on_parts, on_tick, prior_from, restriped, log_seal, sends, settled, transition, log_write}
 use Rattle.client_log.specs.declared.input.In as log_ins
 use Rattle.client_log.specs.declared.input.In.TheVariants as log_in
 use Rattle.client_log.specs.declared.output.Out.{Out}
@@ -12,8 +12,8 @@ use Rattle.group_map.specs.declared.group.Member.{Member}
 use Rattle.log_flight.specs.declared.flight.Fate.{Fate}
 use Rattle.log_flight.specs.declared.flight.Fate.TheVariants.{Restripe, Settle, Wait}
 use Rattle.log_flight.specs.Fate.{fate_of}
-use Rattle.log_flight.specs.Flights.{FlightState, flown, group_for, is_noted, is_of, noting}
-use Rattle.log_flight.specs.Fragments.{piece}
+use Rattle.log_flight.specs.Flights.{FlightState, flown, group_for, is_noted, is_of, flight_note}
+use Rattle.log_flight.specs.Fragments.{flight_fragment}
 use Rattle.log_scan.specs.ScanState.{ScanState}
 use Rattle.log_scan.specs.Transition as scan
 use Rattle.log_tie.specs.Seen.{log_filed}
@@ -52,27 +52,27 @@ module _ (l : LogId) where
   sends_none : (f : FlightState) (ms : List Member) (place : ℕ) → log_filed l (sends f ms place) ≡ []
   sends_none f [] place = refl
   sends_none f (m ∷ ms) place =
-      by_test (λ (outs : List Out). log_filed l (outs ++ sends f ms (place + 1)) ≡ []) (is_noted f.noted place) [] (Send (piece f.segment f.group place) m ∷ [])
+      by_test (λ (outs : List Out). log_filed l (outs ++ sends f ms (place + 1)) ≡ []) (is_noted f.noted place) [] (Send (flight_fragment f.segment f.group place) m ∷ [])
       (λ _. sends_none f ms (place + 1)) (λ _. sends_none f ms (place + 1))
 
-  all_none : (f : FlightState) → log_filed l (all_sends f) ≡ []
-  unfolding all_sends
+  all_none : (f : FlightState) → log_filed l (sending_send f) ≡ []
+  unfolding sending_send
   all_none f = sends_none f f.group.members 0
 
-  launched_none : (s : LogState) (name : SegName) (prior : Prior) (items : List Item) → log_filed l (launched s name prior items).outs ≡ []
-  unfolding launched
+  launched_none : (s : LogState) (name : SegName) (prior : Prior) (items : List Item) → log_filed l (log_launch s name prior items).outs ≡ []
+  unfolding log_launch
   launched_none s name prior items = all_none (flown name prior items (group_for s.groups s.log.0 name.seq))
 
   -- the segment without items begins
   parts_none : (s : LogState) → log_filed l (on_parts s []).outs ≡ []
   unfolding on_parts
-  parts_none s = by_test (λ (d : Done). log_filed l d.outs ≡ []) (is_idle s && has_next s.end.seq && true) (writes s []) (still s)
+  parts_none s = by_test (λ (d : Done). log_filed l d.outs ≡ []) (is_idle s && has_next s.end.seq && true) (log_write s []) (still s)
       (λ _. launched_none s (next_name s) (prior_from s.end) []) (λ _. refl)
 
   settled_turns : (s : LogState) (f : FlightState) → s.dirty ≡ [] → Turned (settled s f)
-  unfolding settled if_full
+  unfolding settled log_go_on
   settled_turns s f clear =
-      subst (λ b. Turned (saying (Settled (end_from f.segment) (rows_of f.segment) ∷ []) (cond b (sealed (landed s f)) (still (landed s f)))))
+      subst (λ b. Turned (saying (Settled (end_of f.segment) (rows_of f.segment) ∷ []) (cond b (log_seal (landed s f)) (still (landed s f)))))
       (sym (ap (λ xs. nat_le segment_blocks (length xs)) clear)) (inr refl)
 
   follows : (s : LogState) (f : FlightState) → s.dirty ≡ [] → (fate : Fate) → Turned (followed s f fate)
@@ -93,14 +93,14 @@ module _ (l : LogId) where
     acked_turns None fact name index generation =
         subst (λ (o : Option FlightState). Turned (elim o [
           | None ↦ still s
-          | Some f ↦ cond (is_of f name index generation) (looked_at s s (noting f index)) (still s)
+          | Some f ↦ cond (is_of f name index generation) (looked_at s s (flight_note f index)) (still s)
         ])) (sym fact) (inl refl)
     acked_turns (Some f) fact name index generation =
         subst (λ (o : Option FlightState). Turned (elim o [
           | None ↦ still s
-          | Some f ↦ cond (is_of f name index generation) (looked_at s s (noting f index)) (still s)
+          | Some f ↦ cond (is_of f name index generation) (looked_at s s (flight_note f index)) (still s)
         ])) (sym fact)
-        (by_test Turned (is_of f name index generation) (looked_at s s (noting f index)) (still s) (λ _. looks s s (noting f index) clear) (λ _. inl refl))
+        (by_test Turned (is_of f name index generation) (looked_at s s (flight_note f index)) (still s) (λ _. looks s s (flight_note f index) clear) (λ _. inl refl))
 
     maps_turn : (o : Option FlightState) → s.flight ≡ o → (m : GroupMapState) → Turned (on_maps s m)
     unfolding on_maps
@@ -113,10 +113,10 @@ module _ (l : LogId) where
 
     tick_turns : (o : Option FlightState) → s.flight ≡ o → Turned (on_tick s)
     unfolding on_tick
-    tick_turns None fact = subst (λ (o : Option FlightState). Turned (elim o [ None ↦ still s | Some f ↦ record { state = s; outs = all_sends f } ])) (sym fact)
+    tick_turns None fact = subst (λ (o : Option FlightState). Turned (elim o [ None ↦ still s | Some f ↦ record { state = s; outs = sending_send f } ])) (sym fact)
         (inl refl)
     tick_turns (Some f) fact =
-        subst (λ (o : Option FlightState). Turned (elim o [ None ↦ still s | Some f ↦ record { state = s; outs = all_sends f } ])) (sym fact)
+        subst (λ (o : Option FlightState). Turned (elim o [ None ↦ still s | Some f ↦ record { state = s; outs = sending_send f } ])) (sym fact)
         (inl (all_none f))
 
     writer_turns : (n : Net) (i : log_ins.In) → CameToWriter n i → Turned (transition s i)
@@ -149,7 +149,7 @@ module _ (g : Setting) (m : Net) (h : View (doubtful g) m) where
   told_none : (s : ScanState) (d : scan.Done) (t : Option Told) (groups : Option GroupMapState) → (after_told g m s d t groups).filed ≡ m.filed
   told_none s d None groups = refl
   told_none s d (Some t) None = refl
-  told_none s d (Some t) (Some map) = ap (λ xs. xs ++ m.filed) (parts_none g.log (started g.log m.inc t.end map))
+  told_none s d (Some t) (Some map) = ap (λ xs. xs ++ m.filed) (parts_none g.log (log_start g.log m.inc t.end map))
 
   happens_none : (o : Net) → is_serving m.owner ≡ false → is_serving o.owner ≡ false → Happens g m o → o.filed ≡ m.filed
   happens_none o before none (Acts s i fact came texts) = absurd (not_serving (Serving s) fact refl before)

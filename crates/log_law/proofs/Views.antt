@@ -12,7 +12,7 @@ use Rattle.segment_format.specs.Text.{text_of}
 use Rattle.group_map.specs.GroupMapState.{GroupMapState}
 use Rattle.client_log.specs.declared.input.In as log_ins
 use Rattle.client_log.specs.History.{state_after}
-use Rattle.client_log.specs.LogState.{LogState, started}
+use Rattle.client_log.specs.LogState.{LogState, log_start}
 use Rattle.log_scan.specs.Transition.{least_horizon}
 use Rattle.log_protocol.specs.Phase
 use Rattle.log_protocol.specs.LogLaws.{Reached}
@@ -71,7 +71,7 @@ pub record Ran (s : LogState) : Type 0 where
   pub end : End
   pub groups : GroupMapState
   pub history : List log_ins.In
-  pub reaches : s ≡ state_after (started log inc end groups) history
+  pub reaches : s ≡ state_after (log_start log inc end groups) history
 
 -- a log with its end: the booked segment that the end names is over the group that it names
 pub record Behind (g : Setting) (w : State) (book : ℕ → Segment) (s : LogState) : Type 0 where

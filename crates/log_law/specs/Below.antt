@@ -7,7 +7,7 @@ use Rattle.xfs_base.specs.declared.segment.LogId.{LogId}
 use Rattle.group_map.specs.GroupMapState.{GroupMapState}
 use Rattle.client_log.specs.declared.input.In.{In}
 use Rattle.client_log.specs.History.{state_after, IsInLine, EndRisesByOne, TellsWhatIsDue}
-use Rattle.client_log.specs.LogState.{LogState, started}
+use Rattle.client_log.specs.LogState.{LogState, log_start}
 use Rattle.client_log.specs.Transition.{transition}
 use Rattle.log_protocol.specs.GrowthLaws.{PastStays, LacksBetween}
 use Rattle.log_protocol.specs.LogLaws as laws
@@ -31,9 +31,9 @@ pub record Machines : Type 0 where
 
 -- of a log's own machine
 pub record Logs : Type 0 where
-  pub next : (log : LogId) (inc : ℕ) (end : End) (groups : GroupMapState) (history : List In) → IsInLine (state_after (started log inc end groups) history)
+  pub next : (log : LogId) (inc : ℕ) (end : End) (groups : GroupMapState) (history : List In) → IsInLine (state_after (log_start log inc end groups) history)
   pub rises : (log : LogId) (inc : ℕ) (end : End) (groups : GroupMapState) (history : List In) (input : In)
-      → EndRisesByOne (state_after (started log inc end groups) history) (transition (state_after (started log inc end groups) history) input)
+      → EndRisesByOne (state_after (log_start log inc end groups) history) (transition (state_after (log_start log inc end groups) history) input)
   pub due : (s : LogState) (input : In) → AllByRecursion (TellsWhatIsDue s input) (transition s input).outs
 
 -- of the log protocol

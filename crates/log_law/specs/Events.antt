@@ -21,12 +21,12 @@ use Rattle.stripe_code.specs.Round.{RoundSoFar, IsRound, state_of}
 use Rattle.stripe_code.specs.Stripe.{IsBytes, stripe_of}
 use Rattle.client_log.specs.declared.input.In as log_ins
 use Rattle.client_log.specs.declared.input.In.TheVariants as log_in
-use Rattle.client_log.specs.LogState.{LogState, started as new_log}
+use Rattle.client_log.specs.LogState.{LogState, log_start as new_log}
 use Rattle.client_log.specs.Transition as log
 use Rattle.client_log.specs.Transition.{has_next}
 use Rattle.log_scan.specs.declared.input.In as scan_ins
 use Rattle.log_scan.specs.declared.input.In.TheVariants as scan_in
-use Rattle.log_scan.specs.ScanState.{ScanState, started}
+use Rattle.log_scan.specs.ScanState.{ScanState, scan_start}
 use Rattle.log_scan.specs.Transition as scan
 use Rattle.log_scan.specs.Transition.{least_horizon}
 use Rattle.log_protocol.specs.Tables.{put, In}
@@ -136,7 +136,7 @@ pub data Happens (g : Setting) : Net → Net → Type 0 where
       → Happens g n (after_scan g n s (scan.transition s i))
   -- the owner falls, and restarts in its next boot
   Crashes : {n : Net} → Happens g n (record n { owner = Down; feed = [] })
-  Restarts : {n : Net} → n.owner ≡ Down → Happens g n (record n { inc = suc n.inc; owner = Opening (started g.log (suc n.inc)) })
+  Restarts : {n : Net} → n.owner ≡ Down → Happens g n (record n { inc = suc n.inc; owner = Opening (scan_start g.log (suc n.inc)) })
   -- The owner of a manager's log restarts in its next boot, with a map that came, and serves a log that begins anew: it opens none. Such a log is one whose
   -- restarts may be doubtful: of its line nothing is claimed.
   Renews : {n : Net} (m : GroupMapState) → block_logs < g.log.0 → g.doubts ≡ true → n.owner ≡ Down → In (MapSent m) n.sent

@@ -16,7 +16,7 @@ use Rattle.log_flight.specs.Flights.{FlightState}
 use Rattle.client_log.specs.declared.input.In.TheVariants as log_in
 use Rattle.client_log.specs.declared.output.Out as log_outs
 use Rattle.client_log.specs.declared.output.Out.TheVariants as log_out
-use Rattle.client_log.specs.LogState.{LogState, started}
+use Rattle.client_log.specs.LogState.{LogState, log_start}
 use Rattle.client_log.specs.Transition as log
 use Rattle.log_scan.specs.declared.output.Out as scan_outs
 use Rattle.log_scan.specs.declared.output.Out.TheVariants as scan_out
@@ -72,7 +72,7 @@ opening g m = record {
   registry = λ v. 1;
   low = 1;
   inc = 1;
-  owner = Owner.Serving (started g.log 1 no_end m);
+  owner = Owner.Serving (log_start g.log 1 no_end m);
   sent = [];
   filed = [];
   dropped = [];
@@ -156,7 +156,7 @@ chain_in (scan_out.Lost name ∷ os) = chain_in os
 
 -- the log that starts behind an end, and writes a segment without items
 abbrev pub first_write : Setting → ℕ → End → GroupMapState → log.Done
-first_write g inc end m = log.transition (started g.log inc end m) (log_in.Parts [])
+first_write g inc end m = log.transition (log_start g.log inc end m) (log_in.Parts [])
 
 -- it reads back, from where it picked
 abbrev pub is_reading : Stage → Bool

@@ -1,7 +1,7 @@
 -- Runs that exist: the laws on falls and restarts speak of something.
 use Rattle.std.specs.Prelude.{◌≡◌, ◌<◌, false, [], Some}
 use Rattle.xfs_base.specs.Limits.{block_logs}
-use Rattle.client_log.specs.LogState.{started}
+use Rattle.client_log.specs.LogState.{log_start}
 use Rattle.group_map.specs.GroupMapState.{GroupMapState}
 use Rattle.log_flight.specs.Flights.{FlightState}
 use Rattle.log_protocol.specs.Tables.{In}
@@ -33,7 +33,7 @@ pub record ALogRenewed (g : Setting) : Type 0 where
   pub net : Net
   pub moment : Moment g net
   pub groups : GroupMapState
-  pub serves : net.owner ≡ Serving (started g.log 2 no_end groups)
+  pub serves : net.owner ≡ Serving (log_start g.log 2 no_end groups)
 
 -- Some run has each.
 pub record SomeRestarts : Type 0 where

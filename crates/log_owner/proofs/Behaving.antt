@@ -21,7 +21,7 @@ use Rattle.log_owner.specs.declared.opening.Stage.{Stage}
 use Rattle.log_owner.specs.declared.opening.Stage.TheVariants as stage
 use Rattle.log_owner.specs.Behaves.{MayDo, IsOf, Behaves}
 use Rattle.log_owner.specs.Opened.{filed}
-use Rattle.log_owner.specs.Opening.{Moved, Went, asking, drops, said, scanned, wrote_one, written, opens, logged, writes, behind, starts_log, settles_over, follows, stepped, scans_on, scans, scans_at, at_scan, welcomed_with, welcomed, welcomed_as, is_meant, on_welcome, regrouped, on_news, is_fenced, fenced_by, by_server, on_fenced, own_in, answers, found_by, missing_by, on_found, on_missing, on_stored, on_tick, on_body, on_packet, on_start}
+use Rattle.log_owner.specs.Opening.{Moved, Went, asking, drops, sent_send, scanned, send_one, written, known_go_on, logged, known_write, behind, start_log, settles_over, known_follow, stepped, scans_on, scans, scans_at, known_scanning, welcomed_with, welcomed, welcomed_as, is_meant, on_welcome, regrouped, on_news, is_fenced, fenced_by, by_server, on_fenced, own_in, answers, found_by, missing_by, on_found, on_missing, on_stored, on_tick, on_body, opening_take, on_start}
 use Rattle.log_owner.specs.Sending.{server_in}
 use Rattle.log_scan.specs.declared.input.In.{In}
 use Rattle.log_scan.specs.declared.input.In.TheVariants as input
@@ -32,8 +32,8 @@ use Rattle.log_scan.specs.Transition as scan
 use Rattle.node_base.specs.Asking.{own_of}
 use Rattle.node_base.specs.declared.effects.Effect.{Effect}
 use Rattle.node_base.specs.declared.questions.Questions.{Questions}
-use Rattle.node_base.specs.Known.{names_known}
-use Rattle.node_base.specs.Maps.{fits, is_older, taken}
+use Rattle.node_base.specs.Known.{names_known_groups}
+use Rattle.node_base.specs.Maps.{fits, is_older, maps_take}
 use Rattle.node_base.specs.Shape.{is_log}
 use Rattle.segment_format.specs.declared.segment.Segment.{Segment}
 use Rattle.wire_msg.specs.declared.body.Body.{Body}
@@ -74,16 +74,16 @@ dropped o q = record { does = tt; stays_its = refl }
 
 -- ---- what the scan and the log say
 
-may_be_said : (owner : Owner) (low : ℕ) (s : Sent) (said_out : Out) → AllByRecursion (MayDo owner) (said owner low s said_out).outs
-unfolding said
+may_be_said : (owner : Owner) (low : ℕ) (s : Sent) (said_out : Out) → AllByRecursion (MayDo owner) (sent_send owner low s said_out).outs
+unfolding sent_send
 may_be_said owner low s (out.Hello own) = ((refl, refl), tt)
 may_be_said owner low s (out.Fence server) = ((tt, refl, refl), tt)
 may_be_said owner low s (out.Fetch server name own) = (tt, tt)
 may_be_said owner low s (out.Chain segments end prior) = tt
 may_be_said owner low s (out.Lost name) = tt
 
-may_be_written : (owner : Owner) (before : Option End) (written_out : LogOut) → AllByRecursion (MayDo owner) (wrote_one before written_out).outs
-unfolding wrote_one
+may_be_written : (owner : Owner) (before : Option End) (written_out : LogOut) → AllByRecursion (MayDo owner) (send_one before written_out).outs
+unfolding send_one
 may_be_written owner before (log_out.Send fragment member) = (tt, tt)
 may_be_written owner before (log_out.Settled end rows) = tt
 
@@ -93,23 +93,23 @@ all_filed owner (segment ∷ chain) = (tt, all_filed owner chain)
 
 -- ---- going on
 
-open_so : (k : Known) (s : Settling) (settled : Option End) → Moves k.owner (opens k s settled)
+open_so : (k : Known) (s : Settling) (settled : Option End) → Moves k.owner (known_go_on k s settled)
 open_so k s None = record { does = tt; stays_its = refl }
 open_so k s (Some end) = record { does = all_append (MayDo k.owner) (map filed s.chain) _ (all_filed k.owner s.chain) (tt, tt); stays_its = tt }
 
 log_so : (k : Known) (s : Settling) (r : Stepped LogState LogOut) → Moves k.owner (logged k s r)
 log_so k s r =
     let w : Stepped (Option End) Effect = written r.outs in
-    moves_after k.owner w.outs (opens k (record s { log = r.state }) w.state) (all_steps wrote_one (MayDo k.owner) (may_be_written k.owner) None r.outs)
+    moves_after k.owner w.outs (known_go_on k (record s { log = r.state }) w.state) (all_steps send_one (MayDo k.owner) (may_be_written k.owner) None r.outs)
     (open_so k (record s { log = r.state }) w.state)
 
-write_so : (k : Known) (s : Settling) (i : LogIn) → Moves k.owner (writes k s i)
-unfolding writes
+write_so : (k : Known) (s : Settling) (i : LogIn) → Moves k.owner (known_write k s i)
+unfolding known_write
 write_so k s i = log_so k s (log.transition s.log i)
 
-start_so : (k : Known) (s : Scanning) (chain : Chain) (groups : GroupMapState) → Moves k.owner (starts_log k s chain groups)
+start_so : (k : Known) (s : Scanning) (chain : Chain) (groups : GroupMapState) → Moves k.owner (start_log k s chain groups)
 start_so k s chain groups =
-    by_test (λ (m : Moved). Moves k.owner m) (is_log k.owner.log.0) (writes k (behind k chain groups) (log_in.Parts [])) (still (at_scan k s))
+    by_test (λ (m : Moved). Moves k.owner m) (is_log k.owner.log.0) (known_write k (behind k chain groups) (log_in.Parts [])) (still (known_scanning k s))
     (λ t. write_so k (behind k chain groups) (log_in.Parts []))
     (λ t. record { does = tt; stays_its = refl })
 
@@ -117,8 +117,8 @@ settle_so : (k : Known) (s : Scanning) (chain : Chain) (groups : Option GroupMap
 settle_so k s chain None = record { does = tt; stays_its = refl }
 settle_so k s chain (Some groups) = start_so k s chain groups
 
-follow_so : (k : Known) (s : Scanning) (ended : Option Ended) → Moves k.owner (follows k s ended)
-unfolding follows
+follow_so : (k : Known) (s : Scanning) (ended : Option Ended) → Moves k.owner (known_follow k s ended)
+unfolding known_follow
 follow_so k s None = record { does = tt; stays_its = refl }
 follow_so k s (Some (Found chain)) = settle_so k s chain k.maps.groups
 follow_so k s (Some (Lost seg)) = record { does = (tt, tt); stays_its = tt }
@@ -127,9 +127,9 @@ step_so : (k : Known) (q : Questions) (s : Scanning) (r : Stepped ScanState Out)
 step_so k q s r =
     let sent : Stepped Sent Effect = scanned k.owner r.state.opening.low s.asked q r.outs in
     let next : Scanning = record { scan = r.state; asked = sent.state.asked } in
-    asked_so k.owner sent.state.questions (saying sent.outs (follows k next sent.state.ended))
-    (moves_after k.owner sent.outs (follows k next sent.state.ended)
-    (all_steps (said k.owner r.state.opening.low) (MayDo k.owner) (may_be_said k.owner r.state.opening.low)
+    asked_so k.owner sent.state.questions (saying sent.outs (known_follow k next sent.state.ended))
+    (moves_after k.owner sent.outs (known_follow k next sent.state.ended)
+    (all_steps (sent_send k.owner r.state.opening.low) (MayDo k.owner) (may_be_said k.owner r.state.opening.low)
     (record { asked = s.asked; questions = q; ended = None }) r.outs)
     (follow_so k next sent.state.ended))
 
@@ -151,7 +151,7 @@ hear_so k q s news own (Some groups) = scan_so _ q _ (input.Welcome own news.slo
 welcomed_so : (k : Known) (q : Questions) (s : Scanning) (news : News) (own : Option ℕ) → Behaves k.owner (welcomed_as k q s news own)
 unfolding welcomed
 welcomed_so k q s news None = record { does = tt; stays_its = refl }
-welcomed_so k q s news (Some own) = hear_so (record k { maps = taken k.maps news }) q s news own (taken k.maps news).groups
+welcomed_so k q s news (Some own) = hear_so (record k { maps = maps_take k.maps news }) q s news own (maps_take k.maps news).groups
 
 welcome_so : (o : Opening) (q : Questions) (w : Welcome) → Behaves o.known.owner (on_welcome o q w)
 unfolding on_welcome
@@ -160,19 +160,19 @@ welcome_so o q w = by_stage o.stage
     by_stage : (at : Stage) → Behaves o.known.owner (on_welcome (record o { stage = at }) q w)
     by_stage (stage.Scanning s) =
         by_test (λ (x : Went). Behaves o.known.owner x) (is_meant o.known w) (welcomed_as o.known q s w.news (own_of s.asked w.ask))
-        (record { progress = at_scan o.known s; questions = q; effects = [] })
+        (record { progress = known_scanning o.known s; questions = q; effects = [] })
         (λ t. welcomed_so o.known q s w.news (own_of s.asked w.ask))
         (λ t. record { does = tt; stays_its = refl })
     by_stage (stage.Settling s) = record { does = tt; stays_its = refl }
 
 regroup_so : (k : Known) (q : Questions) (groups : GroupMapState) (at : Stage) → Behaves k.owner (regrouped k q groups at)
 regroup_so k q groups (stage.Scanning s) = scan_so k q s (input.Maps groups)
-regroup_so k q groups (stage.Settling s) = asked_so k.owner q (writes k s (log_in.Maps groups)) (write_so k s (log_in.Maps groups))
+regroup_so k q groups (stage.Settling s) = asked_so k.owner q (known_write k s (log_in.Maps groups)) (write_so k s (log_in.Maps groups))
 
 news_so : (o : Opening) (q : Questions) (news : News) → Behaves o.known.owner (on_news o q news)
 unfolding on_news
 news_so o q news =
-    let newer : Known = record o.known { maps = taken o.known.maps news } in
+    let newer : Known = record o.known { maps = maps_take o.known.maps news } in
     by_test (λ (x : Went). Behaves o.known.owner x) (fits o.known.maps news && is_older o.known.maps news) (regrouped newer q news.groups o.stage) (drops o q)
     (λ t. regroup_so newer q news.groups o.stage)
     (λ t. dropped o q)
@@ -200,7 +200,7 @@ stored_so o q s = by_stage o.stage
     by_stage (stage.Scanning scanning) = record { does = tt; stays_its = refl }
     by_stage (stage.Settling settling) =
         let i : LogIn = log_in.Acked s.name s.index s.generation in
-        asked_so o.known.owner q (writes o.known settling i) (write_so o.known settling i)
+        asked_so o.known.owner q (known_write o.known settling i) (write_so o.known settling i)
 
 pub tick_so : (o : Opening) (q : Questions) → Behaves o.known.owner (on_tick o q)
 unfolding on_tick
@@ -208,7 +208,7 @@ tick_so o q = by_stage o.stage
   where
     by_stage : (at : Stage) → Behaves o.known.owner (on_tick (record o { stage = at }) q)
     by_stage (stage.Scanning s) = scan_so o.known q s input.Tick
-    by_stage (stage.Settling s) = asked_so o.known.owner q (writes o.known s log_in.Tick) (write_so o.known s log_in.Tick)
+    by_stage (stage.Settling s) = asked_so o.known.owner q (known_write o.known s log_in.Tick) (write_so o.known s log_in.Tick)
 
 pub begin_so : (owner : Owner) (servers : ℕ) (q : Questions) → Behaves owner (on_start owner servers q)
 begin_so owner servers q = record { does = ((refl, refl), tt); stays_its = refl }
@@ -225,9 +225,9 @@ body_so o q from (body.Missing m) =
 body_so o q from (body.Stored s) = stored_so o q s
 body_so o q from _ = dropped o q
 
-pub packet_so : (o : Opening) (q : Questions) (p : Packet) → Behaves o.known.owner (on_packet o q p)
-unfolding on_packet
+pub packet_so : (o : Opening) (q : Questions) (p : Packet) → Behaves o.known.owner (opening_take o q p)
+unfolding opening_take
 packet_so o q p =
-    by_test (λ (x : Went). Behaves o.known.owner x) (names_known o.known.maps p.body) (on_body o q p.from p.body) _
+    by_test (λ (x : Went). Behaves o.known.owner x) (names_known_groups o.known.maps p.body) (on_body o q p.from p.body) _
     (λ t. body_so o q p.from p.body)
     (λ t. record { does = ((refl, refl), tt); stays_its = refl })

@@ -17,18 +17,18 @@ use Rattle.log_owner.specs.declared.opening.Settling.{Settling}
 use Rattle.log_owner.specs.declared.opening.Stage.{Stage}
 use Rattle.log_owner.specs.declared.opening.Stage.TheVariants as stage
 use Rattle.log_owner.specs.declared.promised.Promised.{Promised}
-use Rattle.log_owner.specs.Opening.{Moved, Went, went, drops, said, scanned, written, opens, writes, behind, starts_log, settles_over, follows, stepped, scans_on, scans, scans_at, at_scan, nothing_asked, welcomed_with, welcomed, welcomed_as, is_meant, on_welcome, regrouped, on_news, is_fenced, fenced_by, by_server, on_fenced, own_in, answers, found_by, missing_by, on_found, on_missing, on_stored, on_tick, on_body, on_packet, stays}
-use Rattle.log_owner.specs.Promised.{promised_in}
+use Rattle.log_owner.specs.Opening.{Moved, Went, went, drops, sent_send, scanned, written, known_go_on, known_write, behind, start_log, settles_over, known_follow, stepped, scans_on, scans, scans_at, known_scanning, nothing_asked, welcomed_with, welcomed, welcomed_as, is_meant, on_welcome, regrouped, on_news, is_fenced, fenced_by, by_server, on_fenced, own_in, answers, found_by, missing_by, on_found, on_missing, on_stored, on_tick, on_body, opening_take, stays}
+use Rattle.log_owner.specs.Promised.{promised_of}
 use Rattle.log_owner.specs.Sending.{hello, server_in}
 use Rattle.log_scan.specs.declared.input.In.{In}
 use Rattle.log_scan.specs.declared.input.In.TheVariants as input
 use Rattle.log_scan.specs.declared.stage.Stage.TheVariants as scan_stage
 use Rattle.log_scan.specs.Transition as scan
-use Rattle.node_base.specs.Asking.{drawn, next_ask, own_of}
+use Rattle.node_base.specs.Asking.{draw, next_ask, own_of}
 use Rattle.node_base.specs.declared.effects.Effect.{Effect}
 use Rattle.node_base.specs.declared.questions.Questions.{Questions}
-use Rattle.node_base.specs.Known.{names_known}
-use Rattle.node_base.specs.Maps.{fits, is_older, taken}
+use Rattle.node_base.specs.Known.{names_known_groups}
+use Rattle.node_base.specs.Maps.{fits, is_older, maps_take}
 use Rattle.node_base.specs.Shape.{is_log}
 use Rattle.wire_msg.specs.declared.body.Body.{Body}
 use Rattle.wire_msg.specs.declared.body.Body.TheVariants as body
@@ -59,37 +59,37 @@ module _ (K : Promised → Type 0) where
 
   -- ---- once a Welcome came
 
-  opens_so : (k : Known) (s : Settling) (settled : Option End) → K k.promised → Holds (opens k s settled).state
-  opens_so k s None h = inr h
-  opens_so k s (Some end) h = h
+  known_go_on_so : (k : Known) (s : Settling) (settled : Option End) → K k.promised → Holds (known_go_on k s settled).state
+  known_go_on_so k s None h = inr h
+  known_go_on_so k s (Some end) h = h
 
-  writes_so : (k : Known) (s : Settling) (i : LogIn) → K k.promised → Holds (writes k s i).state
-  unfolding writes
-  writes_so k s i h =
+  known_write_so : (k : Known) (s : Settling) (i : LogIn) → K k.promised → Holds (known_write k s i).state
+  unfolding known_write
+  known_write_so k s i h =
       let r : log.Done = log.transition s.log i in
-      opens_so k (record s { log = r.state }) (written r.outs).state h
+      known_go_on_so k (record s { log = r.state }) (written r.outs).state h
 
-  starts_so : (k : Known) (s : Scanning) (chain : Chain) (groups : GroupMapState) → K k.promised → Holds (starts_log k s chain groups).state
+  starts_so : (k : Known) (s : Scanning) (chain : Chain) (groups : GroupMapState) → K k.promised → Holds (start_log k s chain groups).state
   starts_so k s chain groups h =
-      by_test (λ (m : Moved). Holds m.state) (is_log k.owner.log.0) (writes k (behind k chain groups) (log_in.Parts [])) (still (at_scan k s))
-      (λ t. writes_so k (behind k chain groups) (log_in.Parts []) h) (λ t. inr h)
+      by_test (λ (m : Moved). Holds m.state) (is_log k.owner.log.0) (known_write k (behind k chain groups) (log_in.Parts [])) (still (known_scanning k s))
+      (λ t. known_write_so k (behind k chain groups) (log_in.Parts []) h) (λ t. inr h)
 
   settles_so : (k : Known) (s : Scanning) (chain : Chain) (groups : Option GroupMapState) → K k.promised → Holds (settles_over k s chain groups).state
   settles_so k s chain None h = inr h
   settles_so k s chain (Some groups) h = starts_so k s chain groups h
 
-  follows_so : (k : Known) (s : Scanning) (ended : Option Ended) → K k.promised → Holds (follows k s ended).state
-  unfolding follows
-  follows_so k s None h = inr h
-  follows_so k s (Some (Found chain)) h = settles_so k s chain k.maps.groups h
-  follows_so k s (Some (Lost seg)) h = tt
+  known_follow_so : (k : Known) (s : Scanning) (ended : Option Ended) → K k.promised → Holds (known_follow k s ended).state
+  unfolding known_follow
+  known_follow_so k s None h = inr h
+  known_follow_so k s (Some (Found chain)) h = settles_so k s chain k.maps.groups h
+  known_follow_so k s (Some (Lost seg)) h = tt
 
   scans_on_so : (k : Known) (q : Questions) (s : Scanning) (i : In) → K k.promised → Holds (scans_on k q s i).progress
   unfolding scans_on
   scans_on_so k q s i h =
       let r : scan.Done = scan.transition s.scan i in
       let sent : Stepped Sent Effect = scanned k.owner r.state.opening.low s.asked q r.outs in
-      follows_so k (record { scan = r.state; asked = sent.state.asked }) sent.state.ended h
+      known_follow_so k (record { scan = r.state; asked = sent.state.asked }) sent.state.ended h
 
   -- ---- before it
 
@@ -102,10 +102,10 @@ module _ (K : Promised → Type 0) where
   IsNoWelcome input.Tick = Unit {0}
 
   hails_so : (k : Known) (q : Questions) (s : Scanning) (i : In) → IsNoWelcome i → AwaitsFirst (stage.Scanning s) → Holds (scans_on k q s i).progress
-  unfolding scans_on said follows scan.on_fenced scan.on_told scan.on_tick
-  hails_so k q s i other fact = subst (λ st. Holds (stepped k q s (scan.takes s.scan.opening st i)).progress) (sym fact) (by_input i other)
+  unfolding scans_on sent_send known_follow scan.on_fenced scan.on_told scan.on_tick
+  hails_so k q s i other fact = subst (λ st. Holds (stepped k q s (scan.opening_take s.scan.opening st i)).progress) (sym fact) (by_input i other)
     where
-      by_input : (i : In) → IsNoWelcome i → Holds (stepped k q s (scan.takes s.scan.opening scan_stage.Hails i)).progress
+      by_input : (i : In) → IsNoWelcome i → Holds (stepped k q s (scan.opening_take s.scan.opening scan_stage.Hails i)).progress
       by_input (input.Welcome ask news groups) other = absurd other
       by_input (input.Fenced server generation held) other = inl refl
       by_input (input.Got ask server generation fragment) other = inl refl
@@ -120,9 +120,9 @@ module _ (K : Promised → Type 0) where
   scans_so k q s i other (inl fact) = hails_so k q s i other fact
   scans_so k q s i other (inr h) = scans_on_so k q s i h
 
-  writes_at : (k : Known) (s : Settling) (i : LogIn) → ⊥ ⊎ K k.promised → Holds (writes k s i).state
+  writes_at : (k : Known) (s : Settling) (i : LogIn) → ⊥ ⊎ K k.promised → Holds (known_write k s i).state
   writes_at k s i (inl none) = absurd none
-  writes_at k s i (inr h) = writes_so k s i h
+  writes_at k s i (inr h) = known_write_so k s i h
 
   scans_at_so : (k : Known) (q : Questions) (i : In) (at : Stage) → IsNoWelcome i → AwaitsFirst at ⊎ K k.promised → Holds (scans_at k q i at).progress
   scans_at_so k q i (stage.Scanning s) other h = scans_so k q s i other h
@@ -138,25 +138,25 @@ module _ (K : Promised → Type 0) where
 
   -- a Welcome
   welcomed_so : (k : Known) (q : Questions) (s : Scanning) (news : News) (own : ℕ) (groups : Option GroupMapState)
-      → AwaitsFirst (stage.Scanning s) ⊎ K k.promised → K (promised_in news.slots) → Holds (welcomed_with k q s news own groups).progress
+      → AwaitsFirst (stage.Scanning s) ⊎ K k.promised → K (promised_of news.slots) → Holds (welcomed_with k q s news own groups).progress
   welcomed_so k q s news own None h new = h
-  welcomed_so k q s news own (Some groups) h new = scans_on_so (record k { promised = promised_in news.slots }) q (record s { asked = nothing_asked })
+  welcomed_so k q s news own (Some groups) h new = scans_on_so (record k { promised = promised_of news.slots }) q (record s { asked = nothing_asked })
       (input.Welcome own news.slots groups) new
 
   welcomed_as_so : (k : Known) (q : Questions) (s : Scanning) (news : News) (own : Option ℕ) → AwaitsFirst (stage.Scanning s) ⊎ K k.promised
-      → K (promised_in news.slots) → Holds (welcomed_as k q s news own).progress
+      → K (promised_of news.slots) → Holds (welcomed_as k q s news own).progress
   unfolding welcomed
   welcomed_as_so k q s news None h new = h
-  welcomed_as_so k q s news (Some own) h new = welcomed_so (record k { maps = taken k.maps news }) q s news own (taken k.maps news).groups h new
+  welcomed_as_so k q s news (Some own) h new = welcomed_so (record k { maps = maps_take k.maps news }) q s news own (maps_take k.maps news).groups h new
 
-  welcome_so : (o : Opening) (q : Questions) (w : Welcome) → Opens o → (is_meant o.known w ≡ true → K (promised_in w.news.slots))
+  welcome_so : (o : Opening) (q : Questions) (w : Welcome) → Opens o → (is_meant o.known w ≡ true → K (promised_of w.news.slots))
       → Holds (on_welcome o q w).progress
   unfolding on_welcome
   welcome_so o q w h new = by_stage o.stage h
     where
       by_stage : (at : Stage) → AwaitsFirst at ⊎ K o.known.promised → Holds (on_welcome (record o { stage = at }) q w).progress
       by_stage (stage.Scanning s) h =
-          by_test (λ (x : Went). Holds x.progress) (is_meant o.known w) (welcomed_as o.known q s w.news (own_of s.asked w.ask)) (stays (at_scan o.known s) q)
+          by_test (λ (x : Went). Holds x.progress) (is_meant o.known w) (welcomed_as o.known q s w.news (own_of s.asked w.ask)) (stays (known_scanning o.known s) q)
           (λ t. welcomed_as_so o.known q s w.news (own_of s.asked w.ask) h (new t)) (λ t. h)
       by_stage (stage.Settling s) h = h
 
@@ -164,14 +164,14 @@ module _ (K : Promised → Type 0) where
   news_so : (o : Opening) (q : Questions) (news : News) → Opens o → Holds (on_news o q news).progress
   unfolding on_news
   news_so o q news h =
-      let newer : Known = record o.known { maps = taken o.known.maps news } in
+      let newer : Known = record o.known { maps = maps_take o.known.maps news } in
       by_test (λ (x : Went). Holds x.progress) (fits o.known.maps news && is_older o.known.maps news) (regrouped newer q news.groups o.stage) (drops o q)
       (λ t. by_stage o.stage h) (λ t. h)
     where
       by_stage : (at : Stage) → AwaitsFirst at ⊎ K o.known.promised
-          → Holds (regrouped (record o.known { maps = taken o.known.maps news }) q news.groups at).progress
-      by_stage (stage.Scanning s) h = scans_so (record o.known { maps = taken o.known.maps news }) q s (input.Maps news.groups) tt h
-      by_stage (stage.Settling s) h = writes_at (record o.known { maps = taken o.known.maps news }) s (log_in.Maps news.groups) h
+          → Holds (regrouped (record o.known { maps = maps_take o.known.maps news }) q news.groups at).progress
+      by_stage (stage.Scanning s) h = scans_so (record o.known { maps = maps_take o.known.maps news }) q s (input.Maps news.groups) tt h
+      by_stage (stage.Settling s) h = writes_at (record o.known { maps = maps_take o.known.maps news }) s (log_in.Maps news.groups) h
 
   by_server_so : (o : Opening) (q : Questions) (f : ℕ → Went) (server : Option ℕ) → Opens o → ((n : ℕ) → Holds (f n).progress)
       → Holds (by_server o q f server).progress
@@ -197,7 +197,7 @@ module _ (K : Promised → Type 0) where
 
   -- what a Welcome has to bring
   abbrev pub Brings : Opening → Body → Type 0
-  Brings o (body.Welcome w) = is_meant o.known w ≡ true → K (promised_in w.news.slots)
+  Brings o (body.Welcome w) = is_meant o.known w ≡ true → K (promised_of w.news.slots)
   Brings o _ = Unit {0}
 
   body_so : (o : Opening) (q : Questions) (from : NodeId) (b : Body) → Opens o → Brings o b → Holds (on_body o q from b).progress
@@ -212,9 +212,9 @@ module _ (K : Promised → Type 0) where
   body_so o q from (body.Stored s) h new = stored_so o q s h
   body_so o q from _ h new = h
 
-  pub packet_so : (o : Opening) (q : Questions) (p : Packet) → Opens o → Brings o p.body → Holds (on_packet o q p).progress
-  unfolding on_packet
+  pub packet_so : (o : Opening) (q : Questions) (p : Packet) → Opens o → Brings o p.body → Holds (opening_take o q p).progress
+  unfolding opening_take
   packet_so o q p h new =
-      by_test (λ (x : Went). Holds x.progress) (names_known o.known.maps p.body) (on_body o q p.from p.body)
-      (went (progress.Opening o) (drawn q) (hello o.known.owner.inc (next_ask q) ∷ []))
+      by_test (λ (x : Went). Holds x.progress) (names_known_groups o.known.maps p.body) (on_body o q p.from p.body)
+      (went (progress.Opening o) (draw q) (hello o.known.owner.inc (next_ask q) ∷ []))
       (λ t. body_so o q p.from p.body h new) (λ t. h)

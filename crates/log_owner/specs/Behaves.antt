@@ -5,7 +5,7 @@ use Rattle.log_owner.specs.declared.ended.Owner.{Owner}
 use Rattle.log_owner.specs.declared.opened.Progress.{Progress}
 use Rattle.log_owner.specs.declared.opened.Progress.TheVariants as progress
 use Rattle.log_owner.specs.Opening.{Went}
-use Rattle.log_owner.specs.Sending.{fence_pass}
+use Rattle.log_owner.specs.Sending.{owner_fence}
 use Rattle.node_base.specs.declared.effects.Effect.{Effect}
 use Rattle.node_base.specs.declared.effects.Effect.TheVariants as effect
 use Rattle.version_model.specs.declared.act.Act.{Act}
@@ -23,7 +23,7 @@ IsServer _ = ⊥
 -- its own log alone. To managers and clients it says nothing.
 abbrev pub MaySay : Owner → NodeId → Body → Type 0
 MaySay owner to (body.Hello hello) = (to ≡ Registry) × (hello.inc ≡ owner.inc)
-MaySay owner to (body.Fence fence) = IsServer to × (fence.log ≡ owner.log) × (fence.pass ≡ fence_pass owner.inc)
+MaySay owner to (body.Fence fence) = IsServer to × (fence.log ≡ owner.log) × (fence.pass ≡ owner_fence owner.inc)
 MaySay owner to (body.Fetch fetch) = IsServer to
 MaySay owner to (body.Store store) = IsServer to
 MaySay owner to _ = ⊥

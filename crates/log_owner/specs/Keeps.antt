@@ -5,7 +5,7 @@ use Rattle.log_owner.specs.declared.opened.Progress.TheVariants as progress
 use Rattle.log_owner.specs.declared.opening.Opening.{Opening}
 use Rattle.log_owner.specs.declared.promised.Promised.{Promised}
 use Rattle.log_owner.specs.Opening.{Went, is_meant, own_in}
-use Rattle.log_owner.specs.Promised.{promised_in}
+use Rattle.log_owner.specs.Promised.{promised_of}
 use Rattle.node_base.specs.declared.maps.Maps.{Maps}
 use Rattle.node_base.specs.declared.questions.Questions.{Questions}
 use Rattle.node_base.specs.Maps.{keeps}
@@ -29,7 +29,7 @@ IsAwaited o w = (is_meant o.known w ≡ true) × (is_some (own_in o.stage w.ask)
 
 -- what is promised stays, but for the Welcome that is awaited: from then on it is what that says of the slots
 abbrev pub PromisesBy : Opening → Body → Promised → Type 0
-PromisesBy o (body.Welcome w) now = (now ≡ o.known.promised) ⊎ (IsAwaited o w × (now ≡ promised_in w.news.slots))
+PromisesBy o (body.Welcome w) now = (now ≡ o.known.promised) ⊎ (IsAwaited o w × (now ≡ promised_of w.news.slots))
 PromisesBy o _ now = now ≡ o.known.promised
 
 abbrev pub PromisesAsBefore : Opening → Promised → Type 0

@@ -20,18 +20,18 @@ abbrev pub filed : Segment → Effect
 filed segment = Does (Filed segment.name)
 
 -- the chain and the first segment behind it are filed
-abbrev pub files : LogId → List Segment → End → List Effect
-files log chain end = map filed chain ++ Does (Filed (name_of log end)) ∷ []
+abbrev pub file_all : LogId → List Segment → End → List Effect
+file_all log chain end = map filed chain ++ Does (Filed (name_of log end)) ∷ []
 
 -- a feed with a further segment
-unfoldable pub with_segment : FeedState → Segment → FeedState
-with_segment f segment = settled f segment.name.seq (rows_of segment)
+unfoldable pub feed_one : FeedState → Segment → FeedState
+feed_one f segment = settled f segment.name.seq (rows_of segment)
 
 -- a feed with the segments of a chain
-abbrev pub fed : FeedState → List Segment → FeedState
-fed f chain = fold with_segment f chain
+abbrev pub feed_all : FeedState → List Segment → FeedState
+feed_all f chain = fold feed_one f chain
 
 -- the feed of a chain and of the first segment behind it, which has no item; what lies below the horizon the
 -- slots know from elsewhere
 abbrev pub feed_of : ℕ → List Segment → End → FeedState
-feed_of low chain end = settled (fed (feed.started (low - 1)) chain) end.seq []
+feed_of low chain end = settled (feed_all (feed.feed_start (low - 1)) chain) end.seq []

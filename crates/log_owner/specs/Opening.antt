@@ -24,8 +24,8 @@ use Rattle.log_owner.specs.declared.opening.Scanning.{Scanning}
 use Rattle.log_owner.specs.declared.opening.Settling.{Settling}
 use Rattle.log_owner.specs.declared.opening.Stage.{Stage}
 use Rattle.log_owner.specs.declared.opening.Stage.TheVariants as stage
-use Rattle.log_owner.specs.Promised.{at_start, promised_in}
-use Rattle.log_owner.specs.Opened.{names_in, files, feed_of}
+use Rattle.log_owner.specs.Promised.{promised_start, promised_of}
+use Rattle.log_owner.specs.Opened.{names_in, file_all, feed_of}
 use Rattle.log_owner.specs.Sending.{hello, store, fetch, fence, server_in}
 use Rattle.log_scan.specs.declared.input.In.{In}
 use Rattle.log_scan.specs.declared.input.In.TheVariants as input
@@ -34,13 +34,13 @@ use Rattle.log_scan.specs.declared.output.Out.TheVariants as out
 use Rattle.log_scan.specs.ScanState.{ScanState}
 use Rattle.log_scan.specs.ScanState as scan_state
 use Rattle.log_scan.specs.Transition as scan
-use Rattle.node_base.specs.Asking.{number_for, asked_as, drawn_for, drawn, next_ask, own_of}
+use Rattle.node_base.specs.Asking.{number_for, asked_as, drawn_for, draw, next_ask, own_of}
 use Rattle.node_base.specs.declared.effects.Effect.{Effect}
 use Rattle.node_base.specs.declared.effects.Effect.TheVariants.{Lose}
 use Rattle.node_base.specs.declared.questions.Asked.{Asked}
 use Rattle.node_base.specs.declared.questions.Questions.{Questions}
-use Rattle.node_base.specs.Known.{names_known}
-use Rattle.node_base.specs.Maps.{fits, is_older, taken, forgotten}
+use Rattle.node_base.specs.Known.{names_known_groups}
+use Rattle.node_base.specs.Maps.{fits, is_older, maps_take, forgotten}
 use Rattle.node_base.specs.Room.{has_room}
 use Rattle.node_base.specs.Shape.{is_log}
 use Rattle.wire_msg.specs.declared.body.Body.{Body}
@@ -84,12 +84,12 @@ asking q m = went m.state q m.outs
 -- ---- the stages
 
 -- the chain is read
-abbrev pub at_scan : Known → Scanning → Progress
-at_scan k s = progress.Opening (record { known = k; stage = stage.Scanning s })
+abbrev pub known_scanning : Known → Scanning → Progress
+known_scanning k s = progress.Opening (record { known = k; stage = stage.Scanning s })
 
 -- the first segment of this incarnation is in flight
-abbrev pub at_log : Known → Settling → Progress
-at_log k s = progress.Opening (record { known = k; stage = stage.Settling s })
+abbrev pub known_settling : Known → Settling → Progress
+known_settling k s = progress.Opening (record { known = k; stage = stage.Settling s })
 
 abbrev pub nothing_asked : Asked
 nothing_asked = record { own = 0; ask = 0 }
@@ -104,15 +104,15 @@ abbrev pub says : Sent → List Effect → Stepped Sent Effect
 says s effects = record { state = s; outs = effects }
 
 -- what the scan says is sent; the end of it is noted
-unfoldable pub said : Owner → ℕ → Sent → Out → Stepped Sent Effect
-said owner low s (out.Hello own) = says (numbered s own) (hello owner.inc (number_for s.asked s.questions own) ∷ [])
-said owner low s (out.Fence server) = says s (fence owner server ∷ [])
-said owner low s (out.Fetch server name own) = says (numbered s own) (fetch name (number_for s.asked s.questions own) server ∷ [])
-said owner low s (out.Chain segments end prior) = still (record s { ended = Some (Found (record { segments = segments; end = end; low = low })) })
-said owner low s (out.Lost name) = still (record s { ended = Some (Lost name) })
+unfoldable pub sent_send : Owner → ℕ → Sent → Out → Stepped Sent Effect
+sent_send owner low s (out.Hello own) = says (numbered s own) (hello owner.inc (number_for s.asked s.questions own) ∷ [])
+sent_send owner low s (out.Fence server) = says s (fence owner server ∷ [])
+sent_send owner low s (out.Fetch server name own) = says (numbered s own) (fetch name (number_for s.asked s.questions own) server ∷ [])
+sent_send owner low s (out.Chain segments end prior) = still (record s { ended = Some (Found (record { segments = segments; end = end; low = low })) })
+sent_send owner low s (out.Lost name) = still (record s { ended = Some (Lost name) })
 
 abbrev pub scanned : Owner → ℕ → Asked → Questions → List Out → Stepped Sent Effect
-scanned owner low asked q outs = steps (said owner low) (record { asked = asked; questions = q; ended = None }) outs
+scanned owner low asked q outs = steps (sent_send owner low) (record { asked = asked; questions = q; ended = None }) outs
 
 -- ---- what the log says
 
@@ -125,56 +125,56 @@ settled_in (log_out.Send fragment member) before = before
 settled_in (log_out.Settled end rows) before = Some end
 
 -- a fragment is sent; the end of the log is noted, where a segment is settled
-unfoldable pub wrote_one : Option End → LogOut → Stepped (Option End) Effect
-wrote_one before out = record { state = settled_in out before; outs = stored out }
+unfoldable pub send_one : Option End → LogOut → Stepped (Option End) Effect
+send_one before out = record { state = settled_in out before; outs = stored out }
 
 abbrev pub written : List LogOut → Stepped (Option End) Effect
-written outs = steps wrote_one None outs
+written outs = steps send_one None outs
 
-abbrev pub opened : Known → Settling → End → Opened
-opened k s end =
+abbrev pub known_open : Known → Settling → End → Opened
+known_open k s end =
     record { maps = k.maps; promised = k.promised; log = s.log; feed = feed_of s.low s.chain end; chain = names_in s.chain }
 
 -- once the first segment is settled the log is open: the chain and this segment are filed
-abbrev pub opens : Known → Settling → Option End → Moved
-opens k s None = still (at_log k s)
-opens k s (Some end) = record { state = progress.Opened (opened k s end); outs = files k.owner.log s.chain end }
+abbrev pub known_go_on : Known → Settling → Option End → Moved
+known_go_on k s None = still (known_settling k s)
+known_go_on k s (Some end) = record { state = progress.Opened (known_open k s end); outs = file_all k.owner.log s.chain end }
 
 abbrev pub logged : Known → Settling → Stepped LogState LogOut → Moved
-logged k s r = (let w = written r.outs in saying w.outs (opens k (record s { log = r.state }) w.state))
+logged k s r = (let w = written r.outs in saying w.outs (known_go_on k (record s { log = r.state }) w.state))
 
 -- the log takes an input
-unfoldable pub writes : Known → Settling → LogIn → Moved
-writes k s i = logged k s (log.transition s.log i)
+unfoldable pub known_write : Known → Settling → LogIn → Moved
+known_write k s i = logged k s (log.transition s.log i)
 
 -- ---- the end of the scan
 
 -- the log goes on behind the chain
 abbrev pub behind : Known → Chain → GroupMapState → Settling
 behind k chain groups =
-    record { log = log_state.started k.owner.log k.owner.inc chain.end groups; chain = chain.segments; low = chain.low }
+    record { log = log_state.log_start k.owner.log k.owner.inc chain.end groups; chain = chain.segments; low = chain.low }
 
 -- the first segment of this incarnation, with no item, is written behind the chain
-abbrev pub starts_log : Known → Scanning → Chain → GroupMapState → Moved
-starts_log k s chain groups =
-    if is_log k.owner.log.0 then writes k (behind k chain groups) (log_in.Parts []) else still (at_scan k s)
+abbrev pub start_log : Known → Scanning → Chain → GroupMapState → Moved
+start_log k s chain groups =
+    if is_log k.owner.log.0 then known_write k (behind k chain groups) (log_in.Parts []) else still (known_scanning k s)
 
 abbrev pub settles_over : Known → Scanning → Chain → Option GroupMapState → Moved
-settles_over k s chain None = still (at_scan k s)
-settles_over k s chain (Some groups) = starts_log k s chain groups
+settles_over k s chain None = still (known_scanning k s)
+settles_over k s chain (Some groups) = start_log k s chain groups
 
-abbrev pub settles : Known → Scanning → Chain → Moved
-settles k s chain = settles_over k s chain k.maps.groups
+abbrev pub known_settle : Known → Scanning → Chain → Moved
+known_settle k s chain = settles_over k s chain k.maps.groups
 
 -- what is next behind a scan that ended
-unfoldable pub follows : Known → Scanning → Option Ended → Moved
-follows k s None = still (at_scan k s)
-follows k s (Some (Found chain)) = settles k s chain
-follows k s (Some (Lost seg)) = record { state = progress.Lost seg; outs = Lose seg ∷ [] }
+unfoldable pub known_follow : Known → Scanning → Option Ended → Moved
+known_follow k s None = still (known_scanning k s)
+known_follow k s (Some (Found chain)) = known_settle k s chain
+known_follow k s (Some (Lost seg)) = record { state = progress.Lost seg; outs = Lose seg ∷ [] }
 
 -- what the scan says is sent, and then comes what is next
 abbrev pub told : Known → ScanState → Stepped Sent Effect → Went
-told k s r = asking r.state.questions (saying r.outs (follows k (record { scan = s; asked = r.state.asked }) r.state.ended))
+told k s r = asking r.state.questions (saying r.outs (known_follow k (record { scan = s; asked = r.state.asked }) r.state.ended))
 
 abbrev pub stepped : Known → Questions → Scanning → Stepped ScanState Out → Went
 stepped k q s r = told k r.state (scanned k.owner r.state.opening.low s.asked q r.outs)
@@ -186,7 +186,7 @@ scans_on k q s i = stepped k q s (scan.transition s.scan i)
 -- the same; once the first segment is in flight the scan is over
 abbrev pub scans_at : Known → Questions → In → Stage → Went
 scans_at k q i (stage.Scanning s) = scans_on k q s i
-scans_at k q i (stage.Settling s) = stays (at_log k s) q
+scans_at k q i (stage.Settling s) = stays (known_settling k s) q
 
 abbrev pub scans : Opening → Questions → In → Went
 scans o q i = scans_at o.known q i o.stage
@@ -197,26 +197,26 @@ scans o q i = scans_at o.known q i o.stage
 abbrev pub at_first : Owner → ℕ → Questions → Opening
 at_first owner servers q =
     record {
-      known = record { owner = owner; maps = forgotten servers; promised = at_start 1 };
-      stage = stage.Scanning (record { scan = scan_state.started owner.log owner.inc; asked = record { own = 1; ask = next_ask q } });
+      known = record { owner = owner; maps = forgotten servers; promised = promised_start 1 };
+      stage = stage.Scanning (record { scan = scan_state.scan_start owner.log owner.inc; asked = record { own = 1; ask = next_ask q } });
     }
 
 abbrev pub on_start : Owner → ℕ → Questions → Went
-on_start owner servers q = went (progress.Opening (at_first owner servers q)) (drawn q) (hello owner.inc (next_ask q) ∷ [])
+on_start owner servers q = went (progress.Opening (at_first owner servers q)) (draw q) (hello owner.inc (next_ask q) ∷ [])
 
 -- the groups of the maps that were asked for go to the scan, with what they say of slots. The question is
 -- answered
 abbrev pub welcomed_with : Known → Questions → Scanning → News → ℕ → Option GroupMapState → Went
-welcomed_with k q s news own None = stays (at_scan k s) q
+welcomed_with k q s news own None = stays (known_scanning k s) q
 welcomed_with k q s news own (Some groups) =
-    scans_on (record k { promised = promised_in news.slots }) q (record s { asked = nothing_asked }) (input.Welcome own news.slots groups)
+    scans_on (record k { promised = promised_of news.slots }) q (record s { asked = nothing_asked }) (input.Welcome own news.slots groups)
 
 -- the maps that were asked for are taken
 unfoldable pub welcomed : Known → Questions → Scanning → News → ℕ → Went
-welcomed k q s news own = (let maps = taken k.maps news in welcomed_with (record k { maps = maps }) q s news own maps.groups)
+welcomed k q s news own = (let maps = maps_take k.maps news in welcomed_with (record k { maps = maps }) q s news own maps.groups)
 
 abbrev pub welcomed_as : Known → Questions → Scanning → News → Option ℕ → Went
-welcomed_as k q s news None = stays (at_scan k s) q
+welcomed_as k q s news None = stays (known_scanning k s) q
 welcomed_as k q s news (Some own) = welcomed k q s news own
 
 -- a Welcome is of this incarnation, and its maps may be taken
@@ -225,24 +225,24 @@ is_meant k w = (w.inc == k.owner.inc) && fits k.maps w.news
 
 -- it is the answer to the question that is out
 abbrev pub welcomed_in : Known → Questions → Scanning → Welcome → Went
-welcomed_in k q s w = if is_meant k w then welcomed_as k q s w.news (own_of s.asked w.ask) else stays (at_scan k s) q
+welcomed_in k q s w = if is_meant k w then welcomed_as k q s w.news (own_of s.asked w.ask) else stays (known_scanning k s) q
 
 -- Welcome: the answer to the question that is out, in this incarnation.
 unfoldable pub on_welcome : Opening → Questions → Welcome → Went
 on_welcome o q w = elim o.stage [
   | stage.Scanning s ↦ welcomed_in o.known q s w
-  | stage.Settling s ↦ stays (at_log o.known s) q
+  | stage.Settling s ↦ stays (known_settling o.known s) q
 ]
 
 abbrev pub regrouped : Known → Questions → GroupMapState → Stage → Went
 regrouped k q groups (stage.Scanning s) = scans_on k q s (input.Maps groups)
-regrouped k q groups (stage.Settling s) = asking q (writes k s (log_in.Maps groups))
+regrouped k q groups (stage.Settling s) = asking q (known_write k s (log_in.Maps groups))
 
 -- Map news: the groups of newer maps are taken.
 unfoldable pub on_news : Opening → Questions → News → Went
 on_news o q news =
     if fits o.known.maps news && is_older o.known.maps news
-    then regrouped (record o.known { maps = taken o.known.maps news }) q news.groups o.stage
+    then regrouped (record o.known { maps = maps_take o.known.maps news }) q news.groups o.stage
     else drops o q
 
 -- it is the answer to the fence of this incarnation
@@ -287,15 +287,15 @@ on_missing o q from m = by_server o q (missing_by o q m) (server_in from)
 -- Stored: a server holds a fragment of the first segment.
 unfoldable pub on_stored : Opening → Questions → Stored → Went
 on_stored o q s = elim o.stage [
-  | stage.Scanning scanning ↦ stays (at_scan o.known scanning) q
-  | stage.Settling settling ↦ asking q (writes o.known settling (log_in.Acked s.name s.index s.generation))
+  | stage.Scanning scanning ↦ stays (known_scanning o.known scanning) q
+  | stage.Settling settling ↦ asking q (known_write o.known settling (log_in.Acked s.name s.index s.generation))
 ]
 
 -- Tick: what is awaited is asked for again.
 unfoldable pub on_tick : Opening → Questions → Went
 on_tick o q = elim o.stage [
   | stage.Scanning s ↦ scans_on o.known q s input.Tick
-  | stage.Settling s ↦ asking q (writes o.known s log_in.Tick)
+  | stage.Settling s ↦ asking q (known_write o.known s log_in.Tick)
 ]
 
 -- what each packet that names known groups alone makes of an opening: all others are dropped
@@ -309,11 +309,11 @@ on_body o q from (body.Stored s) = on_stored o q s
 on_body o q from _ = drops o q
 
 -- A packet: where it names a group that isn't known it is dropped, and the maps are asked for.
-unfoldable pub on_packet : Opening → Questions → Packet → Went
-on_packet o q packet =
-    if names_known o.known.maps packet.body
+unfoldable pub opening_take : Opening → Questions → Packet → Went
+opening_take o q packet =
+    if names_known_groups o.known.maps packet.body
     then on_body o q packet.from packet.body
-    else went (progress.Opening o) (drawn q) (hello o.known.owner.inc (next_ask q) ∷ [])
+    else went (progress.Opening o) (draw q) (hello o.known.owner.inc (next_ask q) ∷ [])
 
 -- ---- the ends of counters
 
@@ -322,16 +322,16 @@ attempt_of None = 0
 attempt_of (Some f) = f.segment.name.pass.att
 
 -- the number of the newest segment of a log, and the attempt of the one in flight, are each at least 65,536 below their end
-abbrev pub log_room : LogState → Bool
-log_room s = has_room s.end.seq && has_room (attempt_of s.flight)
+abbrev pub log_has_room : LogState → Bool
+log_has_room s = has_room s.end.seq && has_room (attempt_of s.flight)
 
-abbrev pub stage_room : Stage → Bool
-stage_room (stage.Scanning s) = true
-stage_room (stage.Settling s) = log_room s.log
+abbrev pub stage_has_room : Stage → Bool
+stage_has_room (stage.Scanning s) = true
+stage_has_room (stage.Settling s) = log_has_room s.log
 
 -- each counter is at least 65,536 below its end; the questions of the scan are fewer than those of the node
-abbrev pub opening_room : Opening → Bool
-opening_room o = has_room o.known.maps.version && (list_all has_room o.known.promised.epochs && stage_room o.stage)
+abbrev pub opening_has_room : Opening → Bool
+opening_has_room o = has_room o.known.maps.version && (list_all has_room o.known.promised.epochs && stage_has_room o.stage)
 
 -- ---- what a call of an event leaves
 

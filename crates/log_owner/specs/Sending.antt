@@ -3,7 +3,7 @@ use Rattle.std.specs.Prelude.{ℕ, List, map}
 use Rattle.delta_feed.specs.declared.output.Out.{Out}
 use Rattle.delta_feed.specs.declared.output.Out.TheVariants.{Range}
 use Rattle.delta_feed.specs.FeedState.{FeedState}
-use Rattle.delta_feed.specs.Transition.{pushed, ticked}
+use Rattle.delta_feed.specs.Transition.{feed_push, feed_tick}
 use Rattle.group_map.specs.declared.group.Member.{Member}
 use Rattle.node_base.specs.declared.effects.Effect.{Effect}
 use Rattle.node_base.specs.declared.effects.Effect.TheVariants.{Send}
@@ -32,12 +32,12 @@ abbrev pub fetch : SegName → ℕ → ℕ → Effect
 fetch name ask server = Send (Server server) (body.Fetch (record { name = name; ask = ask }))
 
 -- the pass below which a server takes nothing more of a log
-abbrev pub fence_pass : ℕ → Pass
-fence_pass inc = record { inc = inc; att = 0 }
+abbrev pub owner_fence : ℕ → Pass
+owner_fence inc = record { inc = inc; att = 0 }
 
 -- a server is to take nothing more of earlier incarnations of the owner
 abbrev pub fence : Owner → ℕ → Effect
-fence owner server = Send (Server server) (body.Fence (record { log = owner.log; pass = fence_pass owner.inc }))
+fence owner server = Send (Server server) (body.Fence (record { log = owner.log; pass = owner_fence owner.inc }))
 
 -- a range of the log's deltas goes to the manager of its slot
 abbrev pub range : Managers → Out → Effect
@@ -45,12 +45,12 @@ range managers (Range slot first upto rows) =
     Send (manager_of managers slot) (body.Deltas (record { slot = slot; first = first; upto = upto; rows = rows }))
 
 -- what a slot's manager has not acknowledged of the log
-abbrev pub pushes : Managers → FeedState → ℕ → List Effect
-pushes managers feed slot = map (range managers) (pushed feed slot)
+abbrev pub sending_push : Managers → FeedState → ℕ → List Effect
+sending_push managers feed slot = map (range managers) (feed_push feed slot)
 
 -- the same for each slot
-abbrev pub pushes_all : Managers → FeedState → List Effect
-pushes_all managers feed = map (range managers) (ticked feed)
+abbrev pub push_all : Managers → FeedState → List Effect
+push_all managers feed = map (range managers) (feed_tick feed)
 
 -- the name of the newest settled segment
 abbrev pub name_of : LogId → End → SegName

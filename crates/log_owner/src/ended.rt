@@ -1,7 +1,7 @@
 //! What a scan has its node send, and how it ends.
 ghost use Rattle.std.specs.Prelude.{◌≡◌, ◌++◌, ◌∷◌, [], IfOk, OnOk, Some};
-ghost use Rattle.log_owner.specs.Opening.{said, scanned};
-ghost use Rattle.log_owner.specs.Sending.{fetch, fence_pass, fence};
+ghost use Rattle.log_owner.specs.Opening.{sent_send, scanned};
+ghost use Rattle.log_owner.specs.Sending.{fetch, owner_fence, fence};
 ghost use Rattle.xfs_base.specs.Steps.{steps};
 
 use crate::sending::send_hello;
@@ -44,7 +44,7 @@ pub struct Owner {
 impl Owner {
     /// The pass below which a server takes nothing more of the log.
     pub fn fence(self) -> Pass
-        ensures { result ≡ fence_pass self.inc }
+        ensures { result ≡ owner_fence self.inc }
     {
         Pass {
             inc: self.inc,
@@ -65,10 +65,10 @@ pub(crate) struct Sent {
 }
 
 impl Sent {
-    #[tactic(auto, unfolding(crate::specs::Opening::said))]
+    #[tactic(auto, unfolding(crate::specs::Opening::sent_send))]
     fn send(&mut self, effects: &mut Effects, owner: Owner, low: u32, out: Out) -> Mem<()>
-        ensures state { OnOk result (self.new ≡ (said owner low self.old out).state) }
-        ensures effects { OnOk result (effects.new ≡ effects.old ++ (said owner low self.old out).outs) }
+        ensures state { OnOk result (self.new ≡ (sent_send owner low self.old out).state) }
+        ensures effects { OnOk result (effects.new ≡ effects.old ++ (sent_send owner low self.old out).outs) }
     {
         match out {
             Out::Hello { ask } => {
@@ -132,8 +132,8 @@ fn send_outs(
     sent: &mut Sent,
     outs: List<Out>,
 ) -> Mem<()>
-    ensures state { OnOk result (sent.new ≡ (steps (said owner low) sent.old outs).state) }
-    ensures effects { OnOk result (effects.new ≡ effects.old ++ (steps (said owner low) sent.old outs).outs) }
+    ensures state { OnOk result (sent.new ≡ (steps (sent_send owner low) sent.old outs).state) }
+    ensures effects { OnOk result (effects.new ≡ effects.old ++ (steps (sent_send owner low) sent.old outs).outs) }
 {
     for out in outs.into_vec() {
         sent.send(effects, owner, low, out)?;

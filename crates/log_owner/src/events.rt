@@ -2,7 +2,7 @@
 ghost use Rattle.std.specs.Prelude.{◌≡◌, IfOk, OnOk};
 ghost use Rattle.log_owner.specs.Opening.{Goes, scans, own_in, on_welcome, on_news, regrouped, on_fenced, is_fenced, on_found, on_missing, on_stored};
 ghost use Rattle.log_scan.specs.declared.input.In.TheVariants.{Fenced as Holds, Got};
-ghost use Rattle.node_base.specs.Maps.{taken};
+ghost use Rattle.node_base.specs.Maps.{maps_take};
 
 use crate::known::Known;
 use crate::opening::Stage;
@@ -253,7 +253,7 @@ impl Opening {
 impl Known {
     // The groups of newer maps are taken; a copy of them.
     fn regroup_maps(&mut self, alloc: Global, news: &News) -> Mem<GroupMap>
-        ensures known { OnOk result (self.new ≡ record self.old { maps = taken self.old.maps news.now }) }
+        ensures known { OnOk result (self.new ≡ record self.old { maps = maps_take self.old.maps news.now }) }
         ensures groups { IfOk result (λ groups. groups ≡ news.now.groups) }
     {
         let _newer = self.maps.take(alloc, news)?;

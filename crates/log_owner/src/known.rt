@@ -1,12 +1,12 @@
 //! What an opening knows, and how it goes on from stage to stage.
 ghost use Rattle.std.specs.Prelude.{◌≡◌, ◌++◌, [], IfOk, OnOk};
-ghost use Rattle.log_owner.specs.Opening.{Goes, at_scan, at_log, behind, nothing_asked, opens, opened, writes, wrote_one, written, scanned, starts_log, settles, follows, scans_on, welcomed, welcomed_in, is_meant};
-ghost use Rattle.log_owner.specs.Opened.{feed_of, files, names_in};
+ghost use Rattle.log_owner.specs.Opening.{Goes, known_scanning, known_settling, behind, nothing_asked, known_go_on, known_open, known_write, send_one, written, scanned, start_log, known_settle, known_follow, scans_on, welcomed, welcomed_in, is_meant};
+ghost use Rattle.log_owner.specs.Opened.{feed_of, file_all, names_in};
 ghost use Rattle.client_log.specs.declared.input.In.TheVariants.{Parts};
 ghost use Rattle.client_log.specs.Transition as log_steps;
 ghost use Rattle.log_scan.specs.declared.input.In.TheVariants.{Welcome as Hears};
 ghost use Rattle.log_scan.specs.Transition as scan_steps;
-ghost use Rattle.node_base.specs.Maps.{taken};
+ghost use Rattle.node_base.specs.Maps.{maps_take};
 ghost use Rattle.segment_format.specs.Format.{IsLog};
 
 use crate::ended::{Chain, Ended, Sent, send_scanned};
@@ -49,7 +49,7 @@ impl Drop for Known {
 impl Known {
     /// The chain is read.
     pub(crate) fn scanning(self, scanning: Scanning) -> Progress
-        ensures { result ≡ at_scan self scanning }
+        ensures { result ≡ known_scanning self scanning }
     {
         Progress::Opening(Opening {
             known: self,
@@ -59,7 +59,7 @@ impl Known {
 
     /// The first segment is in flight.
     pub(crate) fn settling(self, settling: Settling) -> Progress
-        ensures { result ≡ at_log self settling }
+        ensures { result ≡ known_settling self settling }
     {
         Progress::Opening(Opening {
             known: self,
@@ -124,8 +124,8 @@ impl Known {
 
     // Takes the maps of news; a copy of the groups that are known then.
     fn take_maps(&mut self, alloc: Global, news: &News) -> Mem<Option<GroupMap>>
-        ensures known { OnOk result (self.new ≡ record self.old { maps = taken self.old.maps news.now }) }
-        ensures groups { IfOk result (λ groups. groups ≡ (taken self.old.maps news.now).groups) }
+        ensures known { OnOk result (self.new ≡ record self.old { maps = maps_take self.old.maps news.now }) }
+        ensures groups { IfOk result (λ groups. groups ≡ (maps_take self.old.maps news.now).groups) }
     {
         let _newer = self.maps.take(alloc, news)?;
         self.maps.copy_groups(alloc)
@@ -198,7 +198,7 @@ impl Known {
     }
 
     // Goes on behind a scan that ended.
-    #[tactic(auto, unfolding(crate::specs::Opening::follows))]
+    #[tactic(auto, unfolding(crate::specs::Opening::known_follow))]
     fn follow(
         self,
         alloc: Global,
@@ -206,8 +206,8 @@ impl Known {
         scanning: Scanning,
         ended: Option<Ended>,
     ) -> Mem<Progress>
-        ensures progress { IfOk result (λ progress. progress ≡ (follows self scanning ended).state) }
-        ensures effects { OnOk result (effects.new ≡ effects.old ++ (follows self scanning ended).outs) }
+        ensures progress { IfOk result (λ progress. progress ≡ (known_follow self scanning ended).state) }
+        ensures effects { OnOk result (effects.new ≡ effects.old ++ (known_follow self scanning ended).outs) }
     {
         match ended {
             None => Ok(self.scanning(scanning)),
@@ -229,8 +229,8 @@ impl Known {
         scanning: Scanning,
         chain: Chain,
     ) -> Mem<Progress>
-        ensures progress { IfOk result (λ progress. progress ≡ (settles self scanning chain).state) }
-        ensures effects { OnOk result (effects.new ≡ effects.old ++ (settles self scanning chain).outs) }
+        ensures progress { IfOk result (λ progress. progress ≡ (known_settle self scanning chain).state) }
+        ensures effects { OnOk result (effects.new ≡ effects.old ++ (known_settle self scanning chain).outs) }
     {
         match self.maps.copy_groups(alloc) {
             Ok(Some(groups)) => self.start_log(alloc, effects, scanning, chain, groups),
@@ -255,8 +255,8 @@ impl Known {
         chain: Chain,
         groups: GroupMap,
     ) -> Mem<Progress>
-        ensures progress { IfOk result (λ progress. progress ≡ (starts_log self scanning chain groups).state) }
-        ensures effects { OnOk result (effects.new ≡ effects.old ++ (starts_log self scanning chain groups).outs) }
+        ensures progress { IfOk result (λ progress. progress ≡ (start_log self scanning chain groups).state) }
+        ensures effects { OnOk result (effects.new ≡ effects.old ++ (start_log self scanning chain groups).outs) }
     {
         let log = self.owner.log;
         if log.0 < 1 || LOG_COUNT < log.0 {
@@ -276,8 +276,8 @@ impl Known {
         groups: GroupMap,
     ) -> Mem<Progress>
         requires log { IsLog self.owner.log.0 }
-        ensures progress { IfOk result (λ progress. progress ≡ (writes self (behind self chain groups) (Parts [])).state) }
-        ensures effects { OnOk result (effects.new ≡ effects.old ++ (writes self (behind self chain groups) (Parts [])).outs) }
+        ensures progress { IfOk result (λ progress. progress ≡ (known_write self (behind self chain groups) (Parts [])).state) }
+        ensures effects { OnOk result (effects.new ≡ effects.old ++ (known_write self (behind self chain groups) (Parts [])).outs) }
     {
         let Chain { segments, end, low } = chain;
         match Log::start(alloc, self.owner.log, self.owner.inc, end, groups) {
@@ -298,7 +298,7 @@ impl Known {
     }
 
     /// Hands the log an input, and sends what it says. Once the first segment is settled the log is open.
-    #[tactic(auto, unfolding(crate::specs::Opening::writes))]
+    #[tactic(auto, unfolding(crate::specs::Opening::known_write))]
     pub(crate) fn write(
         self,
         alloc: Global,
@@ -306,8 +306,8 @@ impl Known {
         settling: Settling,
         input: LogIn,
     ) -> Mem<Progress>
-        ensures progress { IfOk result (λ progress. progress ≡ (writes self settling input).state) }
-        ensures effects { OnOk result (effects.new ≡ effects.old ++ (writes self settling input).outs) }
+        ensures progress { IfOk result (λ progress. progress ≡ (known_write self settling input).state) }
+        ensures effects { OnOk result (effects.new ≡ effects.old ++ (known_write self settling input).outs) }
     {
         let Settling {
             mut log,
@@ -332,8 +332,8 @@ impl Known {
         settling: Settling,
         settled: Option<End>,
     ) -> Mem<Progress>
-        ensures progress { IfOk result (λ progress. progress ≡ (opens self settling settled).state) }
-        ensures effects { OnOk result (effects.new ≡ effects.old ++ (opens self settling settled).outs) }
+        ensures progress { IfOk result (λ progress. progress ≡ (known_go_on self settling settled).state) }
+        ensures effects { OnOk result (effects.new ≡ effects.old ++ (known_go_on self settling settled).outs) }
     {
         match settled {
             None => Ok(self.settling(settling)),
@@ -346,8 +346,8 @@ impl Known {
 
     // The log is open: its segments are filed, and fed to the managers from the least horizon on.
     fn open(self, alloc: Global, effects: &mut Effects, settling: Settling, end: End) -> Mem<Opened>
-        ensures opened { IfOk result (λ whole. whole ≡ opened self settling end) }
-        ensures effects { OnOk result (effects.new ≡ effects.old ++ files self.owner.log settling.chain end) }
+        ensures opened { IfOk result (λ whole. whole ≡ known_open self settling end) }
+        ensures effects { OnOk result (effects.new ≡ effects.old ++ file_all self.owner.log settling.chain end) }
     {
         let Settling { log, chain, low } = settling;
         let told = tell_opened(alloc, effects, self.owner.log, low, chain.as_slice(), end);
@@ -387,7 +387,7 @@ fn tell_opened(
 ) -> Mem<(Feed, List<SegName>)>
     ensures feed { IfOk result (λ told. told.0 ≡ feed_of low segments.now end) }
     ensures names { IfOk result (λ told. told.1 ≡ names_in segments.now) }
-    ensures effects { OnOk result (effects.new ≡ effects.old ++ files log segments.now end) }
+    ensures effects { OnOk result (effects.new ≡ effects.old ++ file_all log segments.now end) }
 {
     file_all(effects, log, segments, end)?;
     let feed = feed_of(alloc, low, segments, end)?;
@@ -441,10 +441,10 @@ fn send_written(effects: &mut Effects, outs: List<Out>) -> Mem<Option<End>>
     Ok(settled)
 }
 
-#[tactic(auto, unfolding(crate::specs::Opening::wrote_one))]
+#[tactic(auto, unfolding(crate::specs::Opening::send_one))]
 fn send_one(effects: &mut Effects, before: Option<End>, out: Out) -> Mem<Option<End>>
-    ensures settled { IfOk result (λ settled. settled ≡ (wrote_one before out).state) }
-    ensures effects { OnOk result (effects.new ≡ effects.old ++ (wrote_one before out).outs) }
+    ensures settled { IfOk result (λ settled. settled ≡ (send_one before out).state) }
+    ensures effects { OnOk result (effects.new ≡ effects.old ++ (send_one before out).outs) }
 {
     match out {
         Out::Send { fragment, member } => {

@@ -5,7 +5,7 @@ ghost use Rattle.log_owner.specs.Behaves.{Behaves};
 ghost use Rattle.log_owner.specs.declared.ended.Owner.{Owner};
 ghost use Rattle.log_owner.specs.declared.opening.Opening.{Opening};
 ghost use Rattle.log_owner.specs.Keeps.{GoesOn, IsAwaited, PromisesAsBefore, PromisesBy};
-ghost use Rattle.log_owner.specs.Opening.{drops, on_start, on_packet, on_tick, on_welcome};
+ghost use Rattle.log_owner.specs.Opening.{drops, on_start, opening_take, on_tick, on_welcome};
 ghost use Rattle.node_base.specs.declared.questions.Questions.{Questions};
 ghost use Rattle.wire_msg.specs.declared.packet.Packet.{Packet};
 ghost use Rattle.wire_msg.specs.declared.registry.Welcome.{Welcome};
@@ -16,7 +16,7 @@ ghost use Rattle.wire_msg.specs.declared.registry.Welcome.{Welcome};
 /// long as it goes on it is the same owner's.
 pub fn opening_only_reads_and_stores()
     ensures start { (owner : Owner) (servers : ℕ) (q : Questions) → Behaves owner (on_start owner servers q) }
-    ensures packet { (o : Opening) (q : Questions) (p : Packet) → Behaves o.known.owner (on_packet o q p) }
+    ensures packet { (o : Opening) (q : Questions) (p : Packet) → Behaves o.known.owner (opening_take o q p) }
     ensures tick { (o : Opening) (q : Questions) → Behaves o.known.owner (on_tick o q) }
 {}
 
@@ -24,7 +24,7 @@ pub fn opening_only_reads_and_stores()
 /// was known has the same members; no number of a question comes back; and what is promised to managers stays,
 /// but for the Welcome that is awaited, and then it is what that says of the slots.
 pub fn opening_takes_nothing_back()
-    ensures packet { (o : Opening) (q : Questions) (p : Packet) → GoesOn o q (PromisesBy o p.body) (on_packet o q p) }
+    ensures packet { (o : Opening) (q : Questions) (p : Packet) → GoesOn o q (PromisesBy o p.body) (opening_take o q p) }
     ensures tick { (o : Opening) (q : Questions) → GoesOn o q (PromisesAsBefore o) (on_tick o q) }
 {}
 

@@ -1,7 +1,7 @@
 //! How an opening ends.
 ghost use Rattle.std.specs.Prelude.{◌≡◌, ◌++◌, [], IfOk, OnOk, map};
 ghost use Rattle.delta_feed.specs.Transition.{settled};
-ghost use Rattle.log_owner.specs.Opened.{with_segment, fed, feed_of, filed, files, names_in};
+ghost use Rattle.log_owner.specs.Opened.{feed_one, feed_all, feed_of, filed, file_all, names_in};
 ghost use Rattle.log_owner.specs.Sending.{name_of};
 
 use crate::{Opening, Promised};
@@ -87,7 +87,7 @@ pub(crate) fn feed_of(alloc: Global, low: u32, chain: &[Segment], end: End) -> M
 
 // The feed is fed a chain and the segment after it.
 fn feed_upto(alloc: Global, feed: &mut Feed, chain: &[Segment], end: End) -> Mem<()>
-    ensures { OnOk result (feed.new ≡ settled (fed feed.old chain.now) end.seq []) }
+    ensures { OnOk result (feed.new ≡ settled (feed_all feed.old chain.now) end.seq []) }
 {
     feed_all(alloc, feed, chain)?;
     let rows = List::new(alloc);
@@ -97,7 +97,7 @@ fn feed_upto(alloc: Global, feed: &mut Feed, chain: &[Segment], end: End) -> Mem
 }
 
 fn feed_all(alloc: Global, feed: &mut Feed, chain: &[Segment]) -> Mem<()>
-    ensures { OnOk result (feed.new ≡ fed feed.old chain.now) }
+    ensures { OnOk result (feed.new ≡ feed_all feed.old chain.now) }
 {
     for segment in chain {
         feed_one(alloc, feed, segment)?;
@@ -105,9 +105,9 @@ fn feed_all(alloc: Global, feed: &mut Feed, chain: &[Segment]) -> Mem<()>
     Ok(())
 }
 
-#[tactic(auto, unfolding(crate::specs::Opened::with_segment))]
+#[tactic(auto, unfolding(crate::specs::Opened::feed_one))]
 fn feed_one(alloc: Global, feed: &mut Feed, segment: &Segment) -> Mem<()>
-    ensures { OnOk result (feed.new ≡ with_segment feed.old segment.now) }
+    ensures { OnOk result (feed.new ≡ feed_one feed.old segment.now) }
 {
     let rows = rows_of(alloc, segment)?;
     let seq = segment.name.seq;
@@ -117,7 +117,7 @@ fn feed_one(alloc: Global, feed: &mut Feed, segment: &Segment) -> Mem<()>
 
 /// Acts that the segments of a chain are filed, and the one after them.
 pub(crate) fn file_all(effects: &mut Effects, log: LogId, chain: &[Segment], end: End) -> Mem<()>
-    ensures { OnOk result (effects.new ≡ effects.old ++ files log chain.now end) }
+    ensures { OnOk result (effects.new ≡ effects.old ++ file_all log chain.now end) }
 {
     file_each(effects, chain)?;
     let seg = name_of(log, end);

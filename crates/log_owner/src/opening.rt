@@ -1,7 +1,7 @@
 //! Opening a log again.
 ghost use Rattle.std.specs.Prelude.{◌≡◌, ◌++◌, IfOk, OnOk};
 ghost use Rattle.node_base.specs.Room.{has_room};
-ghost use Rattle.log_owner.specs.Opening.{Goes, at_first, on_start, on_packet, on_body, on_tick, opening_room, stage_room, log_room, attempt_of};
+ghost use Rattle.log_owner.specs.Opening.{Goes, at_first, on_start, opening_take, on_body, on_tick, opening_has_room, stage_has_room, log_has_room, attempt_of};
 
 use crate::ended::send_scanned;
 use crate::known::Known;
@@ -92,7 +92,7 @@ impl Opening {
 
     /// Whether each counter is at least 65,536 below its end. The questions of the scan are fewer than those of the node.
     pub fn has_room(&self) -> bool
-        ensures { result ≡ opening_room self.now }
+        ensures { result ≡ opening_has_room self.now }
     {
         has_room(self.known.maps.version)
             && self.known.promised.has_room()
@@ -108,7 +108,7 @@ impl Opening {
     }
 
     /// Takes a packet. One that names a group that isn't known is dropped, and the maps are asked for.
-    #[tactic(auto, unfolding(crate::specs::Opening::on_packet))]
+    #[tactic(auto, unfolding(crate::specs::Opening::opening_take))]
     pub fn take(
         self,
         alloc: Global,
@@ -116,9 +116,9 @@ impl Opening {
         questions: &mut Questions,
         packet: &Packet,
     ) -> Mem<Progress>
-        ensures progress { IfOk result (λ progress. progress ≡ (on_packet self questions.old packet.now).progress) }
-        ensures questions { OnOk result (questions.new ≡ (on_packet self questions.old packet.now).questions) }
-        ensures effects { OnOk result (effects.new ≡ effects.old ++ (on_packet self questions.old packet.now).effects) }
+        ensures progress { IfOk result (λ progress. progress ≡ (opening_take self questions.old packet.now).progress) }
+        ensures questions { OnOk result (questions.new ≡ (opening_take self questions.old packet.now).questions) }
+        ensures effects { OnOk result (effects.new ≡ effects.old ++ (opening_take self questions.old packet.now).effects) }
     {
         if names_known_groups(&self.known.maps, &packet.body) {
             return self.hears(alloc, effects, questions, packet.from, &packet.body);
@@ -177,7 +177,7 @@ impl Opening {
 }
 
 fn stage_has_room(stage: &Stage) -> bool
-    ensures { result ≡ stage_room stage.now }
+    ensures { result ≡ stage_has_room stage.now }
 {
     match stage {
         Stage::Scanning(_) => true,
@@ -188,7 +188,7 @@ fn stage_has_room(stage: &Stage) -> bool
 /// Whether each counter of a log is at least 65,536 below its end: the number of its newest segment, and the
 /// attempt of the one in flight.
 pub fn log_has_room(log: &Log) -> bool
-    ensures { result ≡ log_room log.now }
+    ensures { result ≡ log_has_room log.now }
 {
     has_room(log.end().seq) && attempt_has_room(log)
 }

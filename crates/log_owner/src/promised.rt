@@ -2,7 +2,7 @@
 ghost use Rattle.std.specs.Prelude.{◌≡◌, IfOk};
 ghost use Rattle.std.specs.List.{list_all};
 ghost use Rattle.node_base.specs.Room.{has_room};
-ghost use Rattle.log_owner.specs.Promised.{manager_of, manager_set, first_number, first_managers, at_start, epoch_of, promised_to, promised_in};
+ghost use Rattle.log_owner.specs.Promised.{manager_of, managers_set, first_number, managers_start, promised_start, epoch_of, promise_to, promised_of};
 
 use node_base::has_room;
 use std::alloc::Global;
@@ -19,7 +19,7 @@ pub struct Managers {
 impl Managers {
     /// Those of the start, where there are this many managers: they have the slots in turn.
     pub fn start(managers: u8) -> Managers
-        ensures { result ≡ first_managers managers }
+        ensures { result ≡ managers_start managers }
     {
         Managers {
             numbers: [
@@ -47,7 +47,7 @@ impl Managers {
 
     /// A slot has this manager from now on.
     pub fn set(&mut self, slot: u8, manager: u8)
-        ensures { self.new ≡ manager_set self.old slot manager }
+        ensures { self.new ≡ managers_set self.old slot manager }
     {
         if slot < SLOT_COUNT {
             self.numbers[usize::from(slot)] = manager;
@@ -78,7 +78,7 @@ pub struct Promised {
 impl Promised {
     /// Those of the start: each slot is at epoch 1.
     pub fn start(managers: u8) -> Promised
-        ensures { result ≡ at_start managers }
+        ensures { result ≡ promised_start managers }
     {
         Promised {
             epochs: [1; BY_SLOT],
@@ -88,7 +88,7 @@ impl Promised {
 
     /// Those of maps, whose slots are 0 to 7 in order.
     pub fn of(slots: &[SlotNews]) -> Promised
-        ensures { result ≡ promised_in slots.now }
+        ensures { result ≡ promised_of slots.now }
     {
         let mut promised = Promised::start(1);
         for news in slots {
@@ -109,7 +109,7 @@ impl Promised {
 
     /// A slot is promised to this epoch of this manager from now on.
     pub fn promise(&mut self, slot: u8, epoch: u32, manager: u8)
-        ensures { self.new ≡ promised_to self.old slot epoch manager }
+        ensures { self.new ≡ promise_to self.old slot epoch manager }
     {
         if slot < SLOT_COUNT {
             self.epochs[usize::from(slot)] = epoch;

@@ -1,6 +1,6 @@
 //! What the log of an owner and the feed of its deltas have it send.
 ghost use Rattle.std.specs.Prelude.{◌≡◌, ◌++◌, ◌∷◌, [], OnOk, map};
-ghost use Rattle.log_owner.specs.Sending.{hello, store, range, pushes, pushes_all};
+ghost use Rattle.log_owner.specs.Sending.{hello, store, range, sending_push, push_all};
 
 use crate::Managers;
 use delta_feed::{Feed, In, Out};
@@ -40,7 +40,7 @@ pub fn push(
     slot: u8,
 ) -> Mem<()>
     ensures feed { OnOk result (feed.new ≡ feed.old) }
-    ensures effects { OnOk result (effects.new ≡ effects.old ++ pushes managers feed.old slot) }
+    ensures effects { OnOk result (effects.new ≡ effects.old ++ sending_push managers feed.old slot) }
 {
     let outs = feed.take(alloc, In::Push { slot })?;
     send_ranges(effects, managers, outs)
@@ -55,7 +55,7 @@ pub fn push_all(
     managers: Managers,
 ) -> Mem<()>
     ensures feed { OnOk result (feed.new ≡ feed.old) }
-    ensures effects { OnOk result (effects.new ≡ effects.old ++ pushes_all managers feed.old) }
+    ensures effects { OnOk result (effects.new ≡ effects.old ++ push_all managers feed.old) }
 {
     let outs = feed.take(alloc, In::Tick)?;
     send_ranges(effects, managers, outs)

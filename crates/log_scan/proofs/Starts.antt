@@ -7,7 +7,7 @@ use Rattle.group_map.specs.declared.group.Group.{Group}
 use Rattle.group_map.specs.GroupMapState.{GroupMapState}
 use Rattle.segment_reading.specs.declared.reading.Next.{Next}
 use Rattle.segment_reading.specs.declared.reading.Next.TheVariants as next
-use Rattle.segment_reading.specs.Reading.{ReadingState, is_asking, to_ask, on_answer, on_confirmed}
+use Rattle.segment_reading.specs.Reading.{ReadingState, is_asking, reading_unanswered, reading_take, on_confirmed}
 use Rattle.segment_reading.specs.Reading as reading
 use Rattle.stripe_code.specs.declared.round.Told.{Told}
 use Rattle.xfs_base.specs.declared.news.SlotNews.{SlotNews}
@@ -26,7 +26,7 @@ use Rattle.log_scan.specs.declared.stage.Stage.TheVariants.{Hails, Gathers, Asks
 use Rattle.log_scan.specs.Linked.{IsStartFrom, KeepsStart, TellsStart}
 use Rattle.log_scan.specs.Pick.{known_group, start_of}
 use Rattle.log_scan.specs.ScanState.{ScanState}
-use Rattle.log_scan.specs.Transition.{Done, goes, stays, can_ask, asks_anew, least_horizon, rises, target_at, is_bottom, read_from, with_segment, chain_of, fetches, begins_in, begins_round, follows, goes_on, awaits_welcome, awaits, awaited, fences, picks_at, picks, confirms_by, confirms, welcomed, on_welcome, with_list, on_fenced, heard_with, heard, on_told, asked_again, on_tick, takes, transition}
+use Rattle.log_scan.specs.Transition.{Done, goes, stays, can_ask, asks_anew, least_horizon, opening_rise, target_at, is_bottom, backward_from, backward_with, backward_told, backward_fetch, begins_in, opening_begin_round, opening_follow, opening_go_on, awaits_welcome, awaits, awaited, fences, picks_at, opening_pick, confirms_by, opening_confirm, opening_welcome, on_welcome, with_list, on_fenced, opening_read, opening_hear, on_told, opening_read_again, on_tick, opening_take, transition}
 
 none_left : (xs : List ℕ) → (length xs == 0) ≡ true → xs ≡ []
 none_left [] h = refl
@@ -67,46 +67,46 @@ module _ (Q : End → Type 0) (A : List Listing → Type 0) where
   from_anew : (o : Opening) (stage : Stage) → Stands stage → From (asks_anew o stage)
   from_anew o stage q = record { stage = q; outs = (tt, tt) }
 
-  from_chain : (o : Opening) (b : Backward) → Q b.start → From (goes o Over (chain_of b ∷ []))
+  from_chain : (o : Opening) (b : Backward) → Q b.start → From (goes o Over (backward_told b ∷ []))
   from_chain o b q = record { stage = tt; outs = (q, tt) }
 
   from_begins_in : (o : Opening) (b : Backward) (g : Option Group) → Q b.start → From (begins_in o b g)
   from_begins_in o b None q = from_anew o (Reads b None) q
   from_begins_in o b (Some g) q =
-      let r = reading.begun (target_at o.log b.next) g (o.ask + 1) in
-      record { stage = q; outs = fetches_say r.target.seg.name r.ask (to_ask r) }
+      let r = reading.reading_start (target_at o.log b.next) g (o.ask + 1) in
+      record { stage = q; outs = fetches_say r.target.seg.name r.ask (reading_unanswered r) }
 
-  from_begins : (o : Opening) (b : Backward) → Q b.start → From (begins_round o b)
-  unfolding begins_round
+  from_begins : (o : Opening) (b : Backward) → Q b.start → From (opening_begin_round o b)
+  unfolding opening_begin_round
   from_begins o b q = from_begins_in o b (known_group o.groups b.next.group) q
 
-  from_follows : (o : Opening) (b : Backward) → Q b.start → From (follows o b)
-  unfolding follows
-  from_follows o b q = by_test From (is_bottom o.low b.next) (goes o Over (chain_of b ∷ [])) (begins_round o b) (λ t. from_chain o b q) (λ t. from_begins o b q)
+  from_follows : (o : Opening) (b : Backward) → Q b.start → From (opening_follow o b)
+  unfolding opening_follow
+  from_follows o b q = by_test From (is_bottom o.low b.next) (goes o Over (backward_told b ∷ [])) (opening_begin_round o b) (λ t. from_chain o b q) (λ t. from_begins o b q)
 
-  from_goes_on : (o : Opening) (b : Backward) (r : ReadingState) (n : Next) → Q b.start → From (goes_on o b r n)
-  unfolding goes_on
+  from_goes_on : (o : Opening) (b : Backward) (r : ReadingState) (n : Next) → Q b.start → From (opening_go_on o b r n)
+  unfolding opening_go_on
   from_goes_on o b r next.Wait q = from_stays o (Reads b (Some r)) q
-  from_goes_on o b r next.Ask q = record { stage = q; outs = fetches_say r.target.seg.name r.ask (to_ask r) }
+  from_goes_on o b r next.Ask q = record { stage = q; outs = fetches_say r.target.seg.name r.ask (reading_unanswered r) }
   from_goes_on o b r next.Again q = from_anew o (Reads b (Some r)) q
-  from_goes_on o b r (next.Read s) q = from_follows o (with_segment b s) q
+  from_goes_on o b r (next.Read s) q = from_follows o (backward_with b s) q
   from_goes_on o b r next.Lost q = record { stage = tt; outs = (tt, tt) }
 
   from_confirms_by : (o : Opening) (b : Backward) (r : Option ReadingState) → Q b.start → From (confirms_by o b r)
   from_confirms_by o b None q = from_begins o b q
   from_confirms_by o b (Some r) q = (let step = on_confirmed r (o.ask + 1) in from_goes_on o b step.state step.next q)
 
-  from_confirms : (o : Opening) (b : Backward) (r : Option ReadingState) → Q b.start → From (confirms o b r)
-  unfolding confirms
+  from_confirms : (o : Opening) (b : Backward) (r : Option ReadingState) → Q b.start → From (opening_confirm o b r)
+  unfolding opening_confirm
   from_confirms o b r q =
-      by_test From (is_bottom o.low b.next) (goes o Over (chain_of b ∷ [])) (confirms_by o b r) (λ t. from_chain o b q) (λ t. from_confirms_by o b r q)
+      by_test From (is_bottom o.low b.next) (goes o Over (backward_told b ∷ [])) (confirms_by o b r) (λ t. from_chain o b q) (λ t. from_confirms_by o b r q)
 
   from_picks_at : (o : Opening) (lists : List Listing) (start : Option End) → A lists → ((e : End) → start ≡ Some e → Q e) → From (picks_at o lists start)
   from_picks_at o lists None a q = from_anew o (Asks lists) a
-  from_picks_at o lists (Some e) a q = from_follows o (read_from e) (q e refl)
+  from_picks_at o lists (Some e) a q = from_follows o (backward_from e) (q e refl)
 
-  from_picks : (o : Opening) (lists : List Listing) → A lists → ((e : End) → start_of o.groups lists o.low ≡ Some e → Q e) → From (picks o lists)
-  unfolding picks
+  from_picks : (o : Opening) (lists : List Listing) → A lists → ((e : End) → start_of o.groups lists o.low ≡ Some e → Q e) → From (opening_pick o lists)
+  unfolding opening_pick
   from_picks o lists a q = from_picks_at o lists (start_of o.groups lists o.low) a q
 
   from_with_list : (o : Opening) (lists : List Listing) → (awaited o.groups lists ≡ [] → A lists) → From (with_list o lists)
@@ -129,14 +129,14 @@ module _ (Q : End → Type 0) (A : List Listing → Type 0) where
   from_fenced o Over l a q = from_stays o Over tt
 
   from_heard_with : (o : Opening) (b : Backward) (r : ReadingState) (groups : Option GroupMapState) (ask server : ℕ) (t : Told) → Q b.start
-      → From (heard_with o b r groups ask server t)
+      → From (opening_read o b r groups ask server t)
   from_heard_with o b r None ask server t q = from_stays o (Reads b (Some r)) q
-  from_heard_with o b r (Some groups) ask server t q = (let step = on_answer r groups ask server t in from_goes_on o b step.state step.next q)
+  from_heard_with o b r (Some groups) ask server t q = (let step = reading_take r groups ask server t in from_goes_on o b step.state step.next q)
 
-  from_heard : (o : Opening) (b : Backward) (r : Option ReadingState) (ask server : ℕ) (t : Told) → Q b.start → From (heard o b r ask server t)
+  from_heard : (o : Opening) (b : Backward) (r : Option ReadingState) (ask server : ℕ) (t : Told) → Q b.start → From (opening_hear o b r ask server t)
   from_heard o b None ask server t q = from_stays o (Reads b None) q
   from_heard o b (Some r) ask server t q =
-      by_test From (can_ask o) (heard_with o b r o.groups ask server t) (stays o (Reads b (Some r)))
+      by_test From (can_ask o) (opening_read o b r o.groups ask server t) (stays o (Reads b (Some r)))
       (λ e. from_heard_with o b r o.groups ask server t q)
       (λ e. from_stays o (Reads b (Some r)) q)
 
@@ -148,10 +148,10 @@ module _ (Q : End → Type 0) (A : List Listing → Type 0) where
   from_told o (Reads b r) ask server t q = from_heard o b r ask server t q
   from_told o Over ask server t q = from_stays o Over tt
 
-  again_says : (o : Opening) (r : Option ReadingState) → AllByRecursion Says (asked_again o r)
+  again_says : (o : Opening) (r : Option ReadingState) → AllByRecursion Says (opening_read_again o r)
   again_says o None = (tt, tt)
   again_says o (Some r) =
-      by_test (AllByRecursion Says) (is_asking r.stage) (fetches r) (Hello o.ask ∷ []) (λ t. fetches_say r.target.seg.name r.ask (to_ask r)) (λ t. (tt, tt))
+      by_test (AllByRecursion Says) (is_asking r.stage) (backward_fetch r) (Hello o.ask ∷ []) (λ t. fetches_say r.target.seg.name r.ask (reading_unanswered r)) (λ t. (tt, tt))
 
   tick_says : (o : Opening) (stage : Stage) → AllByRecursion Says (on_tick o stage)
   unfolding on_tick
@@ -175,26 +175,26 @@ stands o Over input = tt
 
 module _ (o : Opening) (ask : ℕ) (news : List SlotNews) (groups : GroupMapState) where
   from_welcomed : (stage : Stage)
-      → From (IsStartFrom o stage (Welcome ask news groups)) (AreIn o stage) (welcomed (record o { groups = Some groups }) stage (least_horizon o.log.0 news))
+      → From (IsStartFrom o stage (Welcome ask news groups)) (AreIn o stage) (opening_welcome (record o { groups = Some groups }) stage (least_horizon o.log.0 news))
   from_welcomed Hails = record { stage = tt; outs = fences_say (IsStartFrom o Hails (Welcome ask news groups)) (AreIn o Hails) (awaited (Some groups) []) }
   from_welcomed (Gathers lists) = record { stage = tt; outs = tt }
   from_welcomed (Asks lists) =
       from_picks (IsStartFrom o (Asks lists) (Welcome ask news groups)) (AreIn o (Asks lists))
-      (rises (record o { groups = Some groups }) (least_horizon o.log.0 news)) lists (inl refl) (λ e h. h)
+      (opening_rise (record o { groups = Some groups }) (least_horizon o.log.0 news)) lists (inl refl) (λ e h. h)
   from_welcomed (Reads b r) =
       from_confirms (IsStartFrom o (Reads b r) (Welcome ask news groups)) (AreIn o (Reads b r))
-      (rises (record o { groups = Some groups }) (least_horizon o.log.0 news)) b r refl
+      (opening_rise (record o { groups = Some groups }) (least_horizon o.log.0 news)) b r refl
   from_welcomed Over = record { stage = tt; outs = tt }
 
   from_welcome : (stage : Stage) → From (IsStartFrom o stage (Welcome ask news groups)) (AreIn o stage) (on_welcome o stage ask news groups)
   unfolding on_welcome
   from_welcome stage =
       by_test (From (IsStartFrom o stage (Welcome ask news groups)) (AreIn o stage)) ((ask == o.ask) && (can_ask o && awaits_welcome stage))
-      (welcomed (record o { groups = Some groups }) stage (least_horizon o.log.0 news)) (stays o stage)
+      (opening_welcome (record o { groups = Some groups }) stage (least_horizon o.log.0 news)) (stays o stage)
       (λ t. from_welcomed stage)
       (λ t. from_stays (IsStartFrom o stage (Welcome ask news groups)) (AreIn o stage) o stage (stands o stage (Welcome ask news groups)))
 
-from_takes : (o : Opening) (stage : Stage) (input : In) → From (IsStartFrom o stage input) (AreIn o stage) (takes o stage input)
+from_takes : (o : Opening) (stage : Stage) (input : In) → From (IsStartFrom o stage input) (AreIn o stage) (opening_take o stage input)
 from_takes o stage (Welcome ask news groups) = from_welcome o ask news groups stage
 from_takes o stage (Fenced server generation held) =
     from_fenced (IsStartFrom o stage (Fenced server generation held)) (AreIn o stage) o stage (record { server = server; generation = generation; held = held })

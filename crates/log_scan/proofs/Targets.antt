@@ -9,12 +9,12 @@ use Rattle.segment_reading.specs.declared.reading.Next.{Next}
 use Rattle.segment_reading.specs.declared.reading.Next.TheVariants.{Wait, Ask, Again, Read, Lost}
 use Rattle.segment_reading.specs.declared.reading.Stage.{Stage}
 use Rattle.segment_reading.specs.declared.reading.Stage.TheVariants.{Asking, Between, Doubted, Over}
-use Rattle.segment_reading.specs.Reading.{ReadingState, Step, is_target, is_known, has_block, segment_found, counts, read_as, judged, on_answer, goes_on, on_confirmed}
+use Rattle.segment_reading.specs.Reading.{ReadingState, Step, is_met_by, is_known, has_block, segment_found, counts, reading_reads, reading_judge, reading_take, goes_on, on_confirmed}
 use Rattle.stripe_code.specs.declared.round.RoundState.{RoundState}
 use Rattle.stripe_code.specs.declared.round.RoundState.TheVariants as round
 use Rattle.stripe_code.specs.declared.round.Told.{Told}
 use Rattle.xfs_base.specs.Segments.{same_name}
-use Rattle.stripe_code.specs.Round.{taken, state_of}
+use Rattle.stripe_code.specs.Round.{round_take, state_of}
 use Rattle.xfs_base.specs.declared.segment.SegName.{SegName}
 use Rattle.xfs_base.proofs.Booleans.{by_test, and_first}
 use Rattle.xfs_base.proofs.SegmentNames.{one_name}
@@ -31,30 +31,30 @@ pub record KeepsTarget (r : ReadingState) (step : Step) : Type 0 where
   pub same : step.state.target ≡ r.target
   pub name : ReadsName r.target.seg.name step.next
 
-as_found : (r : ReadingState) (groups : GroupMapState) (s : Segment) → KeepsTarget r (read_as r (cond (is_target r.target groups s) (Some s) None))
+as_found : (r : ReadingState) (groups : GroupMapState) (s : Segment) → KeepsTarget r (reading_reads r (cond (is_met_by r.target groups s) (Some s) None))
 as_found r groups s =
-    by_test (λ (o : Option Segment). KeepsTarget r (read_as r o)) (is_target r.target groups s) (Some s) None
+    by_test (λ (o : Option Segment). KeepsTarget r (reading_reads r o)) (is_met_by r.target groups s) (Some s) None
     (λ t. record {
       same = refl;
       name = sym (one_name r.target.seg.name s.name (and_first (same_name r.target.seg.name s.name) (is_known groups s.prior && has_block r.target.block s) t));
     })
     (λ t. record { same = refl; name = tt })
 
-as_answered : (r : ReadingState) (groups : GroupMapState) (a : Result Segment SegError) → KeepsTarget r (read_as r (segment_found r.target groups a))
+as_answered : (r : ReadingState) (groups : GroupMapState) (a : Result Segment SegError) → KeepsTarget r (reading_reads r (segment_found r.target groups a))
 as_answered r groups (Ok s) = as_found r groups s
 as_answered r groups (Err e) = record { same = refl; name = tt }
 
-as_judged : (r : ReadingState) (groups : GroupMapState) (st : RoundState) → KeepsTarget r (judged r groups st)
+as_judged : (r : ReadingState) (groups : GroupMapState) (st : RoundState) → KeepsTarget r (reading_judge r groups st)
 as_judged r groups (round.Read bytes) = as_answered r groups (answer_of bytes)
 as_judged r groups (round.Short pairs) = record { same = refl; name = tt }
 as_judged r groups round.Waiting = record { same = refl; name = tt }
 
-pub answered_keeps : (r : ReadingState) (groups : GroupMapState) (ask server : ℕ) (told : Told) → KeepsTarget r (on_answer r groups ask server told)
-unfolding on_answer
+pub answered_keeps : (r : ReadingState) (groups : GroupMapState) (ask server : ℕ) (told : Told) → KeepsTarget r (reading_take r groups ask server told)
+unfolding reading_take
 answered_keeps r groups ask server told =
     by_test (λ (step : Step). KeepsTarget r step) (counts r ask server told)
-    (judged (record r { round = taken r.round server told }) groups (state_of (taken r.round server told))) (record { state = r; next = Wait })
-    (λ t. (let k = as_judged (record r { round = taken r.round server told }) groups (state_of (taken r.round server told)) in
+    (reading_judge (record r { round = round_take r.round server told }) groups (state_of (round_take r.round server told))) (record { state = r; next = Wait })
+    (λ t. (let k = as_judged (record r { round = round_take r.round server told }) groups (state_of (round_take r.round server told)) in
     record { same = k.same; name = k.name }))
     (λ t. record { same = refl; name = tt })
 

@@ -14,11 +14,11 @@ pub record ScanState : Type 0 where
   pub stage : Stage
 
 -- the registry is to be asked, by the question of number 1; nothing is known of groups and horizons
-abbrev pub begun : LogId → ℕ → Opening
-begun log inc = record { log = log; inc = inc; ask = 1; low = 1; groups = None }
+abbrev pub opening_begin : LogId → ℕ → Opening
+opening_begin log inc = record { log = log; inc = inc; ask = 1; low = 1; groups = None }
 
-abbrev pub started : LogId → ℕ → ScanState
-started log inc = record { opening = begun log inc; stage = Hails }
+abbrev pub scan_start : LogId → ℕ → ScanState
+scan_start log inc = record { opening = opening_begin log inc; stage = Hails }
 
 -- this is the segment that an opening reads
 abbrev pub IsRead : Stage → SegRef → Type 0

@@ -7,7 +7,7 @@ use Rattle.segment_format.specs.declared.segment.Segment.{Segment}
 use Rattle.segment_reading.specs.declared.reading.Next.{Next}
 use Rattle.segment_reading.specs.declared.reading.Next.TheVariants as next
 use Rattle.segment_reading.specs.declared.target.Target.{Target}
-use Rattle.segment_reading.specs.Reading.{ReadingState, is_asking, to_ask, on_answer, on_confirmed}
+use Rattle.segment_reading.specs.Reading.{ReadingState, is_asking, reading_unanswered, reading_take, on_confirmed}
 use Rattle.segment_reading.specs.Reading as reading
 use Rattle.stripe_code.specs.declared.round.Told.{Told}
 use Rattle.stripe_code.specs.declared.round.Told.TheVariants as told
@@ -47,12 +47,12 @@ abbrev pub can_ask : Opening → Bool
 can_ask o = nat_lt o.ask u32_end
 
 -- a further question is drawn
-abbrev pub drawn : Opening → Opening
-drawn o = record o { ask = o.ask + 1 }
+abbrev pub opening_ask_anew : Opening → Opening
+opening_ask_anew o = record o { ask = o.ask + 1 }
 
 -- the registry is asked by a further question
 abbrev pub asks_anew : Opening → Stage → Done
-asks_anew o stage = goes (drawn o) stage (Hello (o.ask + 1) ∷ [])
+asks_anew o stage = goes (opening_ask_anew o) stage (Hello (o.ask + 1) ∷ [])
 
 -- ---- horizons
 
@@ -66,8 +66,8 @@ least_horizon log [] = u32_end
 least_horizon log (slot ∷ slots) = min (horizon_of log slot) (least_horizon log slots)
 
 -- the horizon below which nothing is read; it never falls
-abbrev pub rises : Opening → ℕ → Opening
-rises o least = record o { low = max o.low least }
+abbrev pub opening_rise : Opening → ℕ → Opening
+opening_rise o least = record o { low = max o.low least }
 
 -- ---- reading back
 
@@ -84,45 +84,45 @@ prior_at e = record { pass = e.pass; group = e.group }
 abbrev pub is_bottom : ℕ → End → Bool
 is_bottom low e = nat_lt e.seq low || names_none (prior_at e)
 
-abbrev pub read_from : End → Backward
-read_from start = record { start = start; next = start; chain = [] }
+abbrev pub backward_from : End → Backward
+backward_from start = record { start = start; next = start; chain = [] }
 
 -- the segment before this one
 abbrev pub end_below : Segment → End
 end_below s = record { seq = s.name.seq - 1; pass = s.prior.pass; group = s.prior.group }
 
-abbrev pub with_segment : Backward → Segment → Backward
-with_segment b s = record b { next = end_below s; chain = b.chain ++ s ∷ [] }
+abbrev pub backward_with : Backward → Segment → Backward
+backward_with b s = record b { next = end_below s; chain = b.chain ++ s ∷ [] }
 
-abbrev pub chain_of : Backward → Out
-chain_of b = Chain (reverse b.chain) b.start (prior_at b.start)
+abbrev pub backward_told : Backward → Out
+backward_told b = Chain (reverse b.chain) b.start (prior_at b.start)
 
 -- what the reading still asks
-abbrev pub fetches : ReadingState → List Out
-fetches r = map (λ server. Fetch server r.target.seg.name r.ask) (to_ask r)
+abbrev pub backward_fetch : ReadingState → List Out
+backward_fetch r = map (λ server. Fetch server r.target.seg.name r.ask) (reading_unanswered r)
 
 abbrev pub begins : Opening → Backward → ReadingState → Done
-begins o b r = goes (drawn o) (Reads b (Some r)) (fetches r)
+begins o b r = goes (opening_ask_anew o) (Reads b (Some r)) (backward_fetch r)
 
 -- the next segment is asked for, by a further question; where its group is not known the registry is
 abbrev pub begins_in : Opening → Backward → Option Group → Done
 begins_in o b None = asks_anew o (Reads b None)
-begins_in o b (Some g) = begins o b (reading.begun (target_at o.log b.next) g (o.ask + 1))
+begins_in o b (Some g) = begins o b (reading.reading_start (target_at o.log b.next) g (o.ask + 1))
 
-unfoldable pub begins_round : Opening → Backward → Done
-begins_round o b = begins_in o b (known_group o.groups b.next.group)
+unfoldable pub opening_begin_round : Opening → Backward → Done
+opening_begin_round o b = begins_in o b (known_group o.groups b.next.group)
 
 -- the next segment is read, or all are
-unfoldable pub follows : Opening → Backward → Done
-follows o b = if is_bottom o.low b.next then goes o Over (chain_of b ∷ []) else begins_round o b
+unfoldable pub opening_follow : Opening → Backward → Done
+opening_follow o b = if is_bottom o.low b.next then goes o Over (backward_told b ∷ []) else opening_begin_round o b
 
 -- what the reading of the next segment does next
-unfoldable pub goes_on : Opening → Backward → ReadingState → Next → Done
-goes_on o b r next.Wait = stays o (Reads b (Some r))
-goes_on o b r next.Ask = goes (record o { ask = r.ask }) (Reads b (Some r)) (fetches r)
-goes_on o b r next.Again = asks_anew o (Reads b (Some r))
-goes_on o b r (next.Read s) = follows o (with_segment b s)
-goes_on o b r next.Lost = goes o Over (Lost r.target.seg.name ∷ [])
+unfoldable pub opening_go_on : Opening → Backward → ReadingState → Next → Done
+opening_go_on o b r next.Wait = stays o (Reads b (Some r))
+opening_go_on o b r next.Ask = goes (record o { ask = r.ask }) (Reads b (Some r)) (backward_fetch r)
+opening_go_on o b r next.Again = asks_anew o (Reads b (Some r))
+opening_go_on o b r (next.Read s) = opening_follow o (backward_with b s)
+opening_go_on o b r next.Lost = goes o Over (Lost r.target.seg.name ∷ [])
 
 -- ---- a Welcome
 
@@ -156,36 +156,36 @@ abbrev pub fences : List ℕ → List Out
 fences servers = map (λ server. Fence server) servers
 
 -- the first one: each server is fenced
-abbrev pub gathers : Opening → Done
-gathers o = goes o (Gathers []) (fences (awaited o.groups []))
+abbrev pub opening_gather : Opening → Done
+opening_gather o = goes o (Gathers []) (fences (awaited o.groups []))
 
 abbrev pub picks_at : Opening → List Listing → Option End → Done
 picks_at o lists None = asks_anew o (Asks lists)
-picks_at o lists (Some start) = follows o (read_from start)
+picks_at o lists (Some start) = opening_follow o (backward_from start)
 
 -- the one that was asked for after the last list: it is picked where the log goes on, and the chain is read
-unfoldable pub picks : Opening → List Listing → Done
-picks o lists = picks_at o lists (start_of o.groups lists o.low)
+unfoldable pub opening_pick : Opening → List Listing → Done
+opening_pick o lists = picks_at o lists (start_of o.groups lists o.low)
 
 abbrev pub confirms_by : Opening → Backward → Option ReadingState → Done
-confirms_by o b None = begins_round o b
-confirms_by o b (Some r) = (let step = on_confirmed r (o.ask + 1) in goes_on o b step.state step.next)
+confirms_by o b None = opening_begin_round o b
+confirms_by o b (Some r) = (let step = on_confirmed r (o.ask + 1) in opening_go_on o b step.state step.next)
 
 -- one between two rounds: it may end the chain, and confirms the reader's question
-unfoldable pub confirms : Opening → Backward → Option ReadingState → Done
-confirms o b r = if is_bottom o.low b.next then goes o Over (chain_of b ∷ []) else confirms_by o b r
+unfoldable pub opening_confirm : Opening → Backward → Option ReadingState → Done
+opening_confirm o b r = if is_bottom o.low b.next then goes o Over (backward_told b ∷ []) else confirms_by o b r
 
-abbrev pub welcomed : Opening → Stage → ℕ → Done
-welcomed o Hails least = gathers o
-welcomed o (Gathers lists) least = stays o (Gathers lists)
-welcomed o (Asks lists) least = picks (rises o least) lists
-welcomed o (Reads b r) least = confirms (rises o least) b r
-welcomed o Over least = stays o Over
+abbrev pub opening_welcome : Opening → Stage → ℕ → Done
+opening_welcome o Hails least = opening_gather o
+opening_welcome o (Gathers lists) least = stays o (Gathers lists)
+opening_welcome o (Asks lists) least = opening_pick (opening_rise o least) lists
+opening_welcome o (Reads b r) least = opening_confirm (opening_rise o least) b r
+opening_welcome o Over least = stays o Over
 
 unfoldable pub on_welcome : Opening → Stage → ℕ → List SlotNews → GroupMapState → Done
 on_welcome o stage ask news groups =
     if (ask == o.ask) && (can_ask o && awaits_welcome stage)
-    then welcomed (record o { groups = Some groups }) stage (least_horizon o.log.0 news)
+    then opening_welcome (record o { groups = Some groups }) stage (least_horizon o.log.0 news)
     else stays o stage
 
 -- ---- a list
@@ -194,55 +194,55 @@ on_welcome o stage ask news groups =
 unfoldable pub with_list : Opening → List Listing → Done
 with_list o lists = if length (awaited o.groups lists) == 0 then asks_anew o (Asks lists) else stays o (Gathers lists)
 
-abbrev pub listed : Opening → List Listing → Listing → Done
-listed o lists l = if can_ask o && awaits o.groups lists l.server then with_list o (lists ++ l ∷ []) else stays o (Gathers lists)
+abbrev pub opening_list : Opening → List Listing → Listing → Done
+opening_list o lists l = if can_ask o && awaits o.groups lists l.server then with_list o (lists ++ l ∷ []) else stays o (Gathers lists)
 
 unfoldable pub on_fenced : Opening → Stage → Listing → Done
 on_fenced o Hails l = stays o Hails
-on_fenced o (Gathers lists) l = listed o lists l
+on_fenced o (Gathers lists) l = opening_list o lists l
 on_fenced o (Asks lists) l = stays o (Asks lists)
 on_fenced o (Reads b r) l = stays o (Reads b r)
 on_fenced o Over l = stays o Over
 
 -- ---- an answer of a server
 
-abbrev pub heard_with : Opening → Backward → ReadingState → Option GroupMapState → ℕ → ℕ → Told → Done
-heard_with o b r None ask server t = stays o (Reads b (Some r))
-heard_with o b r (Some groups) ask server t = (let step = on_answer r groups ask server t in goes_on o b step.state step.next)
+abbrev pub opening_read : Opening → Backward → ReadingState → Option GroupMapState → ℕ → ℕ → Told → Done
+opening_read o b r None ask server t = stays o (Reads b (Some r))
+opening_read o b r (Some groups) ask server t = (let step = reading_take r groups ask server t in opening_go_on o b step.state step.next)
 
-abbrev pub heard : Opening → Backward → Option ReadingState → ℕ → ℕ → Told → Done
-heard o b None ask server t = stays o (Reads b None)
-heard o b (Some r) ask server t = if can_ask o then heard_with o b r o.groups ask server t else stays o (Reads b (Some r))
+abbrev pub opening_hear : Opening → Backward → Option ReadingState → ℕ → ℕ → Told → Done
+opening_hear o b None ask server t = stays o (Reads b None)
+opening_hear o b (Some r) ask server t = if can_ask o then opening_read o b r o.groups ask server t else stays o (Reads b (Some r))
 
 unfoldable pub on_told : Opening → Stage → ℕ → ℕ → Told → Done
 on_told o Hails ask server t = stays o Hails
 on_told o (Gathers lists) ask server t = stays o (Gathers lists)
 on_told o (Asks lists) ask server t = stays o (Asks lists)
-on_told o (Reads b r) ask server t = heard o b r ask server t
+on_told o (Reads b r) ask server t = opening_hear o b r ask server t
 on_told o Over ask server t = stays o Over
 
 -- ---- time
 
-abbrev pub asked_again : Opening → Option ReadingState → List Out
-asked_again o None = Hello o.ask ∷ []
-asked_again o (Some r) = if is_asking r.stage then fetches r else Hello o.ask ∷ []
+abbrev pub opening_read_again : Opening → Option ReadingState → List Out
+opening_read_again o None = Hello o.ask ∷ []
+opening_read_again o (Some r) = if is_asking r.stage then backward_fetch r else Hello o.ask ∷ []
 
 -- what is unanswered is asked again
 unfoldable pub on_tick : Opening → Stage → List Out
 on_tick o Hails = Hello o.ask ∷ []
 on_tick o (Gathers lists) = fences (awaited o.groups lists)
 on_tick o (Asks lists) = Hello o.ask ∷ []
-on_tick o (Reads b r) = asked_again o r
+on_tick o (Reads b r) = opening_read_again o r
 on_tick o Over = []
 
 -- what each input makes of an opening
-abbrev pub takes : Opening → Stage → In → Done
-takes o stage (input.Welcome ask news groups) = on_welcome o stage ask news groups
-takes o stage (input.Fenced server generation held) = on_fenced o stage (record { server = server; generation = generation; held = held })
-takes o stage (input.Got ask server generation fragment) = on_told o stage ask server (told.Held fragment)
-takes o stage (input.Missing ask server generation) = on_told o stage ask server (told.Missing generation)
-takes o stage (input.Maps groups) = stays (record o { groups = Some groups }) stage
-takes o stage input.Tick = goes o stage (on_tick o stage)
+abbrev pub opening_take : Opening → Stage → In → Done
+opening_take o stage (input.Welcome ask news groups) = on_welcome o stage ask news groups
+opening_take o stage (input.Fenced server generation held) = on_fenced o stage (record { server = server; generation = generation; held = held })
+opening_take o stage (input.Got ask server generation fragment) = on_told o stage ask server (told.Held fragment)
+opening_take o stage (input.Missing ask server generation) = on_told o stage ask server (told.Missing generation)
+opening_take o stage (input.Maps groups) = stays (record o { groups = Some groups }) stage
+opening_take o stage input.Tick = goes o stage (on_tick o stage)
 
 abbrev pub transition : ScanState → In → Done
-transition s i = takes s.opening s.stage i
+transition s i = opening_take s.opening s.stage i

@@ -2,7 +2,7 @@
 ghost use Rattle.std.specs.Prelude.{◌≡◌, ◌++◌, ◌<◌, IfOk, OnOk, Some, map};
 ghost use Rattle.xfs_base.specs.Limits.{u32_end};
 ghost use Rattle.log_scan.specs.declared.output.Out.TheVariants.{Fetch};
-ghost use Rattle.log_scan.specs.Transition.{read_from, end_below, with_segment, chain_of, fetches, target_at, prior_at, is_bottom, begins_round, follows, goes_on, confirms, heard_with, heard};
+ghost use Rattle.log_scan.specs.Transition.{backward_from, end_below, backward_with, backward_told, backward_fetch, target_at, prior_at, is_bottom, opening_begin_round, opening_follow, opening_go_on, opening_confirm, opening_read, opening_hear};
 
 use crate::Out;
 use crate::opening::Opening;
@@ -16,7 +16,7 @@ use xfs_base::{End, List, LogId, Mem, Prior, SegName, SegRef};
 impl Backward {
     /// Before the segment at which the chain starts.
     pub(crate) fn from(alloc: Global, start: End) -> Backward
-        ensures { result ≡ read_from start }
+        ensures { result ≡ backward_from start }
     {
         Backward {
             start,
@@ -27,7 +27,7 @@ impl Backward {
 
     /// With the next segment, which was read.
     pub(crate) fn with(self, segment: Segment) -> Mem<Backward>
-        ensures { IfOk result (λ backward. backward ≡ with_segment self segment) }
+        ensures { IfOk result (λ backward. backward ≡ backward_with self segment) }
     {
         let Backward {
             start,
@@ -41,7 +41,7 @@ impl Backward {
 
     /// The whole chain, to be told.
     pub(crate) fn told(self) -> Out
-        ensures { result ≡ chain_of self }
+        ensures { result ≡ backward_told self }
     {
         let mut segments = self.chain.into_vec();
         segments.reverse();
@@ -55,7 +55,7 @@ impl Backward {
 
 impl Opening {
     /// The next segment is read, or all are.
-    #[tactic(auto, unfolding(crate::specs::Transition::follows))]
+    #[tactic(auto, unfolding(crate::specs::Transition::opening_follow))]
     pub(crate) fn follow(
         &mut self,
         alloc: Global,
@@ -63,9 +63,9 @@ impl Opening {
         backward: Backward,
     ) -> Mem<Stage>
         requires { self.old.ask < u32_end }
-        ensures opening { OnOk result (self.new ≡ (follows self.old backward).state.opening) }
-        ensures stage { IfOk result (λ stage. stage ≡ (follows self.old backward).state.stage) }
-        ensures outs { OnOk result (outs.new ≡ outs.old ++ (follows self.old backward).outs) }
+        ensures opening { OnOk result (self.new ≡ (opening_follow self.old backward).state.opening) }
+        ensures stage { IfOk result (λ stage. stage ≡ (opening_follow self.old backward).state.stage) }
+        ensures outs { OnOk result (outs.new ≡ outs.old ++ (opening_follow self.old backward).outs) }
     {
         if is_bottom(self.low, backward.next) {
             outs.push(backward.told())?;
@@ -75,7 +75,7 @@ impl Opening {
     }
 
     /// The registry confirms what the reader asked between two rounds, or ends the chain by its horizon.
-    #[tactic(auto, unfolding(crate::specs::Transition::confirms))]
+    #[tactic(auto, unfolding(crate::specs::Transition::opening_confirm))]
     pub(crate) fn confirm(
         &mut self,
         alloc: Global,
@@ -84,9 +84,9 @@ impl Opening {
         reading: Option<Reading>,
     ) -> Mem<Stage>
         requires { self.old.ask < u32_end }
-        ensures opening { OnOk result (self.new ≡ (confirms self.old backward reading).state.opening) }
-        ensures stage { IfOk result (λ stage. stage ≡ (confirms self.old backward reading).state.stage) }
-        ensures outs { OnOk result (outs.new ≡ outs.old ++ (confirms self.old backward reading).outs) }
+        ensures opening { OnOk result (self.new ≡ (opening_confirm self.old backward reading).state.opening) }
+        ensures stage { IfOk result (λ stage. stage ≡ (opening_confirm self.old backward reading).state.stage) }
+        ensures outs { OnOk result (outs.new ≡ outs.old ++ (opening_confirm self.old backward reading).outs) }
     {
         if is_bottom(self.low, backward.next) {
             outs.push(backward.told())?;
@@ -112,9 +112,9 @@ impl Opening {
         server: u8,
         told: Told,
     ) -> Mem<Stage>
-        ensures opening { OnOk result (self.new ≡ (heard self.old backward reading ask server told).state.opening) }
-        ensures stage { IfOk result (λ stage. stage ≡ (heard self.old backward reading ask server told).state.stage) }
-        ensures outs { OnOk result (outs.new ≡ outs.old ++ (heard self.old backward reading ask server told).outs) }
+        ensures opening { OnOk result (self.new ≡ (opening_hear self.old backward reading ask server told).state.opening) }
+        ensures stage { IfOk result (λ stage. stage ≡ (opening_hear self.old backward reading ask server told).state.stage) }
+        ensures outs { OnOk result (outs.new ≡ outs.old ++ (opening_hear self.old backward reading ask server told).outs) }
     {
         match reading {
             None => Ok(Stage::Reads {
@@ -144,9 +144,9 @@ impl Opening {
         told: Told,
     ) -> Mem<Stage>
         requires { self.old.ask < u32_end }
-        ensures opening { OnOk result (self.new ≡ (heard_with self.old backward reading self.old.groups ask server told).state.opening) }
-        ensures stage { IfOk result (λ stage. stage ≡ (heard_with self.old backward reading self.old.groups ask server told).state.stage) }
-        ensures outs { OnOk result (outs.new ≡ outs.old ++ (heard_with self.old backward reading self.old.groups ask server told).outs) }
+        ensures opening { OnOk result (self.new ≡ (opening_read self.old backward reading self.old.groups ask server told).state.opening) }
+        ensures stage { IfOk result (λ stage. stage ≡ (opening_read self.old backward reading self.old.groups ask server told).state.stage) }
+        ensures outs { OnOk result (outs.new ≡ outs.old ++ (opening_read self.old backward reading self.old.groups ask server told).outs) }
     {
         match &self.groups {
             None => Ok(reads(backward, reading)),
@@ -158,7 +158,7 @@ impl Opening {
     }
 
     // What the reading of the next segment does next.
-    #[tactic(auto, unfolding(crate::specs::Transition::goes_on))]
+    #[tactic(auto, unfolding(crate::specs::Transition::opening_go_on))]
     fn go_on(
         &mut self,
         alloc: Global,
@@ -168,9 +168,9 @@ impl Opening {
         next: Next,
     ) -> Mem<Stage>
         requires { self.old.ask < u32_end }
-        ensures opening { OnOk result (self.new ≡ (goes_on self.old backward reading next).state.opening) }
-        ensures stage { IfOk result (λ stage. stage ≡ (goes_on self.old backward reading next).state.stage) }
-        ensures outs { OnOk result (outs.new ≡ outs.old ++ (goes_on self.old backward reading next).outs) }
+        ensures opening { OnOk result (self.new ≡ (opening_go_on self.old backward reading next).state.opening) }
+        ensures stage { IfOk result (λ stage. stage ≡ (opening_go_on self.old backward reading next).state.stage) }
+        ensures outs { OnOk result (outs.new ≡ outs.old ++ (opening_go_on self.old backward reading next).outs) }
     {
         match next {
             Next::Wait => Ok(reads(backward, reading)),
@@ -193,12 +193,12 @@ impl Opening {
     }
 
     // The next segment is asked for, or where its group is not known the registry is.
-    #[tactic(auto, unfolding(crate::specs::Transition::begins_round))]
+    #[tactic(auto, unfolding(crate::specs::Transition::opening_begin_round))]
     fn begin_round(&mut self, alloc: Global, outs: &mut List<Out>, backward: Backward) -> Mem<Stage>
         requires { self.old.ask < u32_end }
-        ensures opening { OnOk result (self.new ≡ (begins_round self.old backward).state.opening) }
-        ensures stage { IfOk result (λ stage. stage ≡ (begins_round self.old backward).state.stage) }
-        ensures outs { OnOk result (outs.new ≡ outs.old ++ (begins_round self.old backward).outs) }
+        ensures opening { OnOk result (self.new ≡ (opening_begin_round self.old backward).state.opening) }
+        ensures stage { IfOk result (λ stage. stage ≡ (opening_begin_round self.old backward).state.stage) }
+        ensures outs { OnOk result (outs.new ≡ outs.old ++ (opening_begin_round self.old backward).outs) }
     {
         match known_group(&self.groups, backward.next.group) {
             None => {
@@ -230,7 +230,7 @@ fn reads(backward: Backward, reading: Reading) -> Stage
 
 /// Asks the servers that the reading still asks.
 pub(crate) fn fetch(alloc: Global, outs: &mut List<Out>, reading: &Reading) -> Mem<()>
-    ensures { OnOk result (outs.new ≡ outs.old ++ fetches reading.now) }
+    ensures { OnOk result (outs.new ≡ outs.old ++ backward_fetch reading.now) }
 {
     let servers = reading.unanswered(alloc)?;
     add_fetches(

@@ -8,7 +8,7 @@ ghost use Rattle.log_scan.specs.declared.input.In.{In};
 ghost use Rattle.log_scan.specs.declared.listing.Listing.{Listing};
 ghost use Rattle.log_scan.specs.Linked.{IsPicked, TellsLinked, state_after, KeepsStart, TellsStart};
 ghost use Rattle.log_scan.specs.Pick.{counting, newest};
-ghost use Rattle.log_scan.specs.ScanState.{ScanState, started};
+ghost use Rattle.log_scan.specs.ScanState.{ScanState, scan_start};
 ghost use Rattle.log_scan.specs.Transition.{transition};
 
 /// What is picked is listed and not below the horizon, and of all that is none is of a newer incarnation,
@@ -22,7 +22,7 @@ pub fn none_is_newer()
 /// the one after the end's, is above each of them.
 pub fn chain_is_linked()
     ensures { (log : LogId) (inc : ℕ) (history : List In) (input : In)
-        → AllByRecursion (TellsLinked log) (transition (state_after (started log inc) history) input).outs }
+        → AllByRecursion (TellsLinked log) (transition (state_after (scan_start log inc) history) input).outs }
 {}
 
 /// The registry is asked for the Welcome by which it is picked when the lists of all servers are in, and it

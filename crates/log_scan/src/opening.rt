@@ -2,8 +2,8 @@
 ghost use Rattle.std.specs.Prelude.{◌≡◌, ◌++◌, ◌∷◌, [], ◌<◌, IfOk, OnOk, Some, None, max};
 ghost use Rattle.xfs_base.specs.Limits.{u32_end};
 ghost use Rattle.log_scan.specs.declared.output.Out.TheVariants.{Hello};
-ghost use Rattle.log_scan.specs.ScanState.{begun};
-ghost use Rattle.log_scan.specs.Transition.{can_ask, drawn, rises, server_count, awaits, awaited};
+ghost use Rattle.log_scan.specs.ScanState.{opening_begin};
+ghost use Rattle.log_scan.specs.Transition.{can_ask, opening_ask_anew, opening_rise, server_count, awaits, awaited};
 
 use crate::Out;
 use crate::listing::{Listing, has_list};
@@ -41,7 +41,7 @@ impl Drop for Opening {
 impl Opening {
     /// Before anything is known, with a question of number 1 to be asked.
     pub(crate) fn begin(log: LogId, inc: u32) -> Opening
-        ensures { result ≡ begun log inc }
+        ensures { result ≡ opening_begin log inc }
     {
         Opening {
             log,
@@ -62,7 +62,7 @@ impl Opening {
     /// Asks the registry by a further question.
     pub(crate) fn ask_anew(&mut self, outs: &mut List<Out>) -> Mem<()>
         requires { self.old.ask < u32_end }
-        ensures opening { OnOk result (self.new ≡ drawn self.old) }
+        ensures opening { OnOk result (self.new ≡ opening_ask_anew self.old) }
         ensures outs { OnOk result (outs.new ≡ outs.old ++ Hello self.new.ask ∷ []) }
     {
         self.ask += 1;
@@ -72,7 +72,7 @@ impl Opening {
 
     /// Takes a horizon, where it is greater.
     pub(crate) fn rise(&mut self, least: u32)
-        ensures { self.new ≡ rises self.old least }
+        ensures { self.new ≡ opening_rise self.old least }
     {
         self.low = self.low.max(least);
     }

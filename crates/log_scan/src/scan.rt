@@ -1,6 +1,6 @@
 //! The opening of a log.
 ghost use Rattle.std.specs.Prelude.{◌≡◌, IfOk, OnOk};
-ghost use Rattle.log_scan.specs.ScanState.{started};
+ghost use Rattle.log_scan.specs.ScanState.{scan_start};
 ghost use Rattle.log_scan.specs.Transition.{transition};
 
 use crate::opening::Opening;
@@ -44,7 +44,7 @@ impl Crosses for Scan {}
 impl Scan {
     /// The opening of a log, 1 to 9, in this incarnation of its owner. Its first Tick asks the registry.
     pub fn start(_alloc: Global, log: LogId, inc: u32) -> Mem<Scan>
-        ensures { IfOk result (λ scan. scan ≡ started log inc) }
+        ensures { IfOk result (λ scan. scan ≡ scan_start log inc) }
     {
         Ok(Scan {
             opening: Opening::begin(log, inc),

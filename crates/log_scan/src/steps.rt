@@ -2,7 +2,7 @@
 ghost use Rattle.std.specs.Prelude.{◌≡◌, ◌++◌, ◌∷◌, [], ◌<◌, IfOk, OnOk, Some};
 ghost use Rattle.xfs_base.specs.Limits.{u32_end};
 ghost use Rattle.log_scan.specs.declared.output.Out.TheVariants.{Hello};
-ghost use Rattle.log_scan.specs.Transition.{fences, gathers, picks, welcomed, on_welcome, with_list, listed, on_fenced, on_told, asked_again, on_tick, takes};
+ghost use Rattle.log_scan.specs.Transition.{fences, opening_gather, opening_pick, opening_welcome, on_welcome, with_list, opening_list, on_fenced, on_told, opening_read_again, on_tick, opening_take};
 
 use crate::backward::fetch;
 use crate::horizon::least_horizon;
@@ -26,9 +26,9 @@ impl Opening {
         stage: Stage,
         input: In,
     ) -> Mem<Stage>
-        ensures opening { OnOk result (self.new ≡ (takes self.old stage input).state.opening) }
-        ensures stage { IfOk result (λ new. new ≡ (takes self.old stage input).state.stage) }
-        ensures outs { OnOk result (outs.new ≡ outs.old ++ (takes self.old stage input).outs) }
+        ensures opening { OnOk result (self.new ≡ (opening_take self.old stage input).state.opening) }
+        ensures stage { IfOk result (λ new. new ≡ (opening_take self.old stage input).state.stage) }
+        ensures outs { OnOk result (outs.new ≡ outs.old ++ (opening_take self.old stage input).outs) }
     {
         match input {
             In::Welcome { ask, news, groups } => {
@@ -102,9 +102,9 @@ impl Opening {
         least: u32,
     ) -> Mem<Stage>
         requires { self.old.ask < u32_end }
-        ensures opening { OnOk result (self.new ≡ (welcomed self.old stage least).state.opening) }
-        ensures stage { IfOk result (λ new. new ≡ (welcomed self.old stage least).state.stage) }
-        ensures outs { OnOk result (outs.new ≡ outs.old ++ (welcomed self.old stage least).outs) }
+        ensures opening { OnOk result (self.new ≡ (opening_welcome self.old stage least).state.opening) }
+        ensures stage { IfOk result (λ new. new ≡ (opening_welcome self.old stage least).state.stage) }
+        ensures outs { OnOk result (outs.new ≡ outs.old ++ (opening_welcome self.old stage least).outs) }
     {
         match stage {
             Stage::Hails => self.gather(alloc, outs),
@@ -123,9 +123,9 @@ impl Opening {
 
     // Each server is fenced.
     fn gather(&self, alloc: Global, outs: &mut List<Out>) -> Mem<Stage>
-        ensures opening { OnOk result (self.now ≡ (gathers self.now).state.opening) }
-        ensures stage { IfOk result (λ stage. stage ≡ (gathers self.now).state.stage) }
-        ensures outs { OnOk result (outs.new ≡ outs.old ++ (gathers self.now).outs) }
+        ensures opening { OnOk result (self.now ≡ (opening_gather self.now).state.opening) }
+        ensures stage { IfOk result (λ stage. stage ≡ (opening_gather self.now).state.stage) }
+        ensures outs { OnOk result (outs.new ≡ outs.old ++ (opening_gather self.now).outs) }
     {
         let lists = List::new(alloc);
         let servers = self.awaited(alloc, lists.as_slice())?;
@@ -134,12 +134,12 @@ impl Opening {
     }
 
     // It is picked where the log goes on, and the chain is read back from there.
-    #[tactic(auto, unfolding(crate::specs::Transition::picks))]
+    #[tactic(auto, unfolding(crate::specs::Transition::opening_pick))]
     fn pick(&mut self, alloc: Global, outs: &mut List<Out>, lists: List<Listing>) -> Mem<Stage>
         requires { self.old.ask < u32_end }
-        ensures opening { OnOk result (self.new ≡ (picks self.old lists).state.opening) }
-        ensures stage { IfOk result (λ stage. stage ≡ (picks self.old lists).state.stage) }
-        ensures outs { OnOk result (outs.new ≡ outs.old ++ (picks self.old lists).outs) }
+        ensures opening { OnOk result (self.new ≡ (opening_pick self.old lists).state.opening) }
+        ensures stage { IfOk result (λ stage. stage ≡ (opening_pick self.old lists).state.stage) }
+        ensures outs { OnOk result (outs.new ≡ outs.old ++ (opening_pick self.old lists).outs) }
     {
         match start_of(&self.groups, lists.as_slice(), self.low) {
             None => {
@@ -179,9 +179,9 @@ impl Opening {
         mut lists: List<Listing>,
         listing: Listing,
     ) -> Mem<Stage>
-        ensures opening { OnOk result (self.new ≡ (listed self.old lists listing).state.opening) }
-        ensures stage { IfOk result (λ stage. stage ≡ (listed self.old lists listing).state.stage) }
-        ensures outs { OnOk result (outs.new ≡ outs.old ++ (listed self.old lists listing).outs) }
+        ensures opening { OnOk result (self.new ≡ (opening_list self.old lists listing).state.opening) }
+        ensures stage { IfOk result (λ stage. stage ≡ (opening_list self.old lists listing).state.stage) }
+        ensures outs { OnOk result (outs.new ≡ outs.old ++ (opening_list self.old lists listing).outs) }
     {
         if !self.can_ask() || !self.awaits(lists.as_slice(), listing.server) {
             return Ok(Stage::Gathers(lists));
@@ -253,7 +253,7 @@ impl Opening {
 
     // What the reading of the next segment waits for is asked again.
     fn read_again(&self, alloc: Global, outs: &mut List<Out>, reading: &Option<Reading>) -> Mem<()>
-        ensures { OnOk result (outs.new ≡ outs.old ++ asked_again self.now reading.now) }
+        ensures { OnOk result (outs.new ≡ outs.old ++ opening_read_again self.now reading.now) }
     {
         match reading {
             None => self.hail(outs),

@@ -20,9 +20,9 @@ use Rattle.log_flight.specs.Flights.{FlightState, server_of}
 use Rattle.client_log.specs.declared.input.In.TheVariants.{Put, Parts, Seal, Acked, Maps, Tick}
 use Rattle.client_log.specs.declared.output.Out.{Out}
 use Rattle.client_log.specs.declared.output.Out.TheVariants.{Settled}
-use Rattle.client_log.specs.LogState.{LogState, started}
+use Rattle.client_log.specs.LogState.{LogState, log_start}
 use Rattle.client_log.specs.Transition as log
-use Rattle.client_log.specs.Transition.{end_from}
+use Rattle.client_log.specs.Transition.{end_of}
 use Rattle.log_protocol.specs.Phase
 use Rattle.log_protocol.specs.LogLaws.{Reached}
 use Rattle.log_protocol.specs.OpeningSteps.{CanOpen, ReadBack, Undoubted, serves}
@@ -151,9 +151,9 @@ module _ (g : Setting) where
 module _ (g : Setting) (w : State) (book : ℕ → Segment) (fixed : Fixed g w) (paged : Book g w book) (reached : Reached w) where
   -- the opening segment is written
   opens_goes : (start : End) (chain : List Segment) (m : GroupMapState) → ReadShown g w book start chain m
-      → Goes g w book (λ v later. WritingShown g v later chain (log.writes (started g.log w.incarnation start m) []).state)
-      (log.writes (started g.log w.incarnation start m) []).outs
-  unfolding log.launched
+      → Goes g w book (λ v later. WritingShown g v later chain (log.log_write (log_start g.log w.incarnation start m) []).state)
+      (log.log_write (log_start g.log w.incarnation start m) []).outs
+  unfolding log.log_launch
   opens_goes start chain m shown =
       launch g w book fixed paged _ v later f x (More Done (Opens x _ _ _ can)) by (books_one w x) refl pages booked (sym here) stripe (λ stores. record {
         writes = record { log = refl; inc = refl; some = some; map = shown.map; known = shown.known };
@@ -175,7 +175,7 @@ module _ (g : Setting) (w : State) (book : ℕ → Segment) (fixed : Fixed g w) 
       })
     where
       s : LogState
-      s = started g.log w.incarnation start m
+      s = log_start g.log w.incarnation start m
 
       x : ℕ
       x = g.code (start.seq + 1) w.incarnation 1
@@ -230,7 +230,7 @@ module _ (g : Setting) (w : State) (book : ℕ → Segment) (fixed : Fixed g w) 
   serves_goes : (chain : List Segment) (s : LogState) (f : FlightState) (sure : ℕ) → WritingShown g w book chain s
       → Flying g book f s.inc s.end.seq (w.booked w.flight) w.flight w.noted → all_done s.groups f.noted f.group.members 0 ≡ true
       → (sure ≡ 1 → w.pick_low ≤ w.head → Undoubted w) → (g.doubts ≡ false → sure ≡ 1)
-      → Goes g w book (λ v later. Serves g v later (log.landed s f) × AllFiled g v chain) (Settled (end_from f.segment) (rows_of f.segment) ∷ [])
+      → Goes g w book (λ v later. Serves g v later (log.landed s f) × AllFiled g v chain) (Settled (end_of f.segment) (rows_of f.segment) ∷ [])
   serves_goes chain s f sure shown h all premise is_sure = let end = flight_end g w book fixed paged reached s f shown.writes.some h in record {
     world = serves w (path w) lowest sure;
     later = book;
@@ -353,7 +353,7 @@ module _ (g : Setting) (chain : List Segment) where
 
     follows_goes : (s : LogState) (f : FlightState) → WritingShown g w book chain s → Flying g book f s.inc s.end.seq (w.booked w.flight) w.flight w.noted
         → Owed w book (log.followed s f (fate_of s.groups f))
-    unfolding log.restriped log.settled log.launched log.if_full
+    unfolding log.restriped log.settled log.log_launch log.log_go_on
     follows_goes s f h flying = pick Follows (nat_lt f.group.parity (lost_count s.groups f.group.members)) Restripe _
         (λ t premise. aloft_goes s _ _ h (restriped_goes g w book fixed paged reached s f h.writes flying))
         (λ t. pick Follows (all_done s.groups f.noted f.group.members 0) Settle Wait
@@ -373,12 +373,12 @@ module _ (g : Setting) (chain : List Segment) where
         sure_premise false e premise one = premise e
 
         -- nothing waits, so nothing is sealed behind it
-        lands : log.if_full (log.landed s f) ≡ still (log.landed s f)
-        lands = ap (λ ds. cond (nat_le segment_blocks (length ds)) (log.sealed (log.landed s f)) (still (log.landed s f))) h.clear
+        lands : log.log_go_on (log.landed s f) ≡ still (log.landed s f)
+        lands = ap (λ ds. cond (nat_le segment_blocks (length ds)) (log.log_seal (log.landed s f)) (still (log.landed s f))) h.clear
 
-        settling : Goes g w book (λ v later. Serves g v later (log.landed s f) × AllFiled g v chain) (Settled (end_from f.segment) (rows_of f.segment) ∷ [])
-            → To w book (saying (Settled (end_from f.segment) (rows_of f.segment) ∷ []) (log.if_full (log.landed s f)))
-        settling t = subst (λ (d : log.Done). To w book (saying (Settled (end_from f.segment) (rows_of f.segment) ∷ []) d)) (sym lands)
+        settling : Goes g w book (λ v later. Serves g v later (log.landed s f) × AllFiled g v chain) (Settled (end_of f.segment) (rows_of f.segment) ∷ [])
+            → To w book (saying (Settled (end_of f.segment) (rows_of f.segment) ∷ []) (log.log_go_on (log.landed s f)))
+        settling t = subst (λ (d : log.Done). To w book (saying (Settled (end_of f.segment) (rows_of f.segment) ∷ []) d)) (sym lands)
             (record {
               world = t.world;
               later = t.later;
@@ -404,9 +404,9 @@ module _ (g : Setting) (chain : List Segment) where
 
     tick_goes : (s : LogState) → WritingShown g w book chain s → To w book (log.on_tick s)
     unfolding log.on_tick
-    tick_goes s h = subst (λ o. To w book (elim o [ None ↦ still s | Some f ↦ record { state = s; outs = log.all_sends f } ])) (sym h.is_flight) sent
+    tick_goes s h = subst (λ o. To w book (elim o [ None ↦ still s | Some f ↦ record { state = s; outs = log.sending_send f } ])) (sym h.is_flight) sent
       where
-        sent : Goes g w book (OpeningShown g chain s) (log.all_sends h.flight)
+        sent : Goes g w book (OpeningShown g chain s) (log.sending_send h.flight)
         sent = let t = sent_all g w book h.flight w.flight h.flying.is_booked h.flying.segment h.flying.stripe paged in record {
           world = record w { stores = t.all };
           later = book;
@@ -443,7 +443,7 @@ module _ (g : Setting) (chain : List Segment) where
     unfolding log.on_acked
     acked_goes s name index generation h seen =
         subst (λ o. Owed w book
-        (elim o [ None ↦ still s | Some f ↦ if flights.is_of f name index generation then log.looked_at s s (flights.noting f index) else still s ]))
+        (elim o [ None ↦ still s | Some f ↦ if flights.is_of f name index generation then log.looked_at s s (flights.flight_note f index) else still s ]))
         (sym h.is_flight)
         (by_test w book fixed paged reached (flights.is_of h.flight name index generation) _ _ (λ t. noting t)
         (λ t premise. nothing w book fixed paged reached s h))
@@ -451,7 +451,7 @@ module _ (g : Setting) (chain : List Segment) where
         v : State
         v = notes w (record { name = seen.number; index = index; generation = generation })
 
-        noting : flights.is_of h.flight name index generation ≡ true → Owed w book (log.looked_at s s (flights.noting h.flight index))
+        noting : flights.is_of h.flight name index generation ≡ true → Owed w book (log.looked_at s s (flights.flight_note h.flight index))
         noting t premise =
             let same : seen.number ≡ w.flight =
             one_number g seen.number w.flight (sym seen.named ∙ (one_name name h.flight.segment.name (and_first (same_name name h.flight.segment.name) _ t)
@@ -482,7 +482,7 @@ module _ (g : Setting) (chain : List Segment) where
             (λ x fact. fact) refl
             (looks_goes v book
             (record { servers = fixed.servers; seq_of = fixed.seq_of; incarnation_of = fixed.incarnation_of; attempt_of = fixed.attempt_of }) paged
-            (reached_by w v reached step refl) s s (flights.noting h.flight index) there there
+            (reached_by w v reached step refl) s s (flights.flight_note h.flight index) there there
             (record {
               some = h.flying.some;
               is_booked = h.flying.is_booked;
@@ -527,12 +527,12 @@ module _ (g : Setting) (chain : List Segment) where
 pub opens_by_step : OpensByStep
 unfolding log.on_parts
 opens_by_step g w book start chain m fixed reached paged shown room =
-    subst (λ (t : Bool). Goes g w book (λ v later. WritingShown g v later chain (cond (t && true) (log.writes s []) (still s)).state)
-    (cond (t && true) (log.writes s []) (still s)).outs) (sym room)
+    subst (λ (t : Bool). Goes g w book (λ v later. WritingShown g v later chain (cond (t && true) (log.log_write s []) (still s)).state)
+    (cond (t && true) (log.log_write s []) (still s)).outs) (sym room)
     (opens_goes g w book fixed paged reached start chain m shown)
   where
     s : LogState
-    s = started g.log w.incarnation start m
+    s = log_start g.log w.incarnation start m
 
 pub opening_takes : OpeningTakes
 opening_takes g w book chain s (Put block entry value) fixed reached paged h premise brings = absurd brings

@@ -20,12 +20,12 @@ use Rattle.segment_reading.specs.declared.reading.Stage as rounds
 use Rattle.segment_reading.specs.declared.reading.Stage.TheVariants.{Asking, Between, Doubted}
 use Rattle.segment_reading.specs.declared.reading.Stage.TheVariants as done
 use Rattle.segment_reading.specs.declared.target.Target.{Target}
-use Rattle.segment_reading.specs.Reading.{ReadingState, Step, to_ask}
+use Rattle.segment_reading.specs.Reading.{ReadingState, Step, reading_unanswered}
 use Rattle.segment_reading.specs.Reading as reading
 use Rattle.stripe_code.specs.declared.round.RoundState.{RoundState}
 use Rattle.stripe_code.specs.declared.round.RoundState.TheVariants as round
 use Rattle.stripe_code.specs.declared.round.Told.{Told}
-use Rattle.stripe_code.specs.Round.{taken, state_of}
+use Rattle.stripe_code.specs.Round.{round_take, state_of}
 use Rattle.log_scan.specs.declared.opening.Opening.{Opening}
 use Rattle.log_scan.specs.declared.listing.Listing.{Listing}
 use Rattle.log_scan.specs.declared.output.Out.{Out}
@@ -34,7 +34,7 @@ use Rattle.log_scan.specs.declared.stage.Backward.{Backward}
 use Rattle.log_scan.specs.declared.stage.Stage.{Stage}
 use Rattle.log_scan.specs.declared.stage.Stage.TheVariants.{Asks, Reads, Over}
 use Rattle.log_scan.specs.Pick.{has_list, known_group}
-use Rattle.log_scan.specs.Transition.{Done, goes, stays, drawn, asks_anew, name_at, target_at, is_bottom, end_below, with_segment, chain_of, fetches, begins_in, begins_round, follows, goes_on, fences, prior_at}
+use Rattle.log_scan.specs.Transition.{Done, goes, stays, opening_ask_anew, asks_anew, name_at, target_at, is_bottom, end_below, backward_with, backward_told, backward_fetch, begins_in, opening_begin_round, opening_follow, opening_go_on, fences, prior_at}
 use Rattle.log_scan.proofs.Targets.{ReadsName, answered_keeps, confirmed_keeps}
 use Rattle.log_protocol.specs.LogLaws.{Reached}
 use Rattle.log_protocol.specs.State.{State}
@@ -64,25 +64,25 @@ record StepFits (r : ReadingState) (ask : ℕ) (step : Step) : Type 0 where
   pub name : ReadsName r.target.seg.name step.next
   pub later : AsksLater ask step.state.ask step.next
 
-read_later : (r : ReadingState) (ask : ℕ) (found : Option Segment) → AsksLater ask (reading.read_as r found).state.ask (reading.read_as r found).next
+read_later : (r : ReadingState) (ask : ℕ) (found : Option Segment) → AsksLater ask (reading.reading_reads r found).state.ask (reading.reading_reads r found).next
 read_later r ask None = tt
 read_later r ask (Some s) = tt
 
 judged_later : (r : ReadingState) (groups : GroupMapState) (ask : ℕ) (st : RoundState)
-    → AsksLater ask (reading.judged r groups st).state.ask (reading.judged r groups st).next
+    → AsksLater ask (reading.reading_judge r groups st).state.ask (reading.reading_judge r groups st).next
 judged_later r groups ask (round.Read bytes) = read_later r ask (reading.segment_found r.target groups (answer_of bytes))
 judged_later r groups ask (round.Short pairs) = tt
 judged_later r groups ask round.Waiting = tt
 
 answered_later : (r : ReadingState) (groups : GroupMapState) (mine ask server : ℕ) (t : Told)
-    → AsksLater mine (reading.on_answer r groups ask server t).state.ask (reading.on_answer r groups ask server t).next
-unfolding reading.on_answer
+    → AsksLater mine (reading.reading_take r groups ask server t).state.ask (reading.reading_take r groups ask server t).next
+unfolding reading.reading_take
 answered_later r groups mine ask server t =
     by_test (λ (step : Step). AsksLater mine step.state.ask step.next) (reading.counts r ask server t)
-    (reading.judged (record r { round = taken r.round server t }) groups (state_of (taken r.round server t))) (record { state = r; next = next.Wait })
-    (λ e. judged_later (record r { round = taken r.round server t }) groups mine (state_of (taken r.round server t))) (λ e. tt)
+    (reading.reading_judge (record r { round = round_take r.round server t }) groups (state_of (round_take r.round server t))) (record { state = r; next = next.Wait })
+    (λ e. judged_later (record r { round = round_take r.round server t }) groups mine (state_of (round_take r.round server t))) (λ e. tt)
 
-answered_fits : (r : ReadingState) (groups : GroupMapState) (mine ask server : ℕ) (t : Told) → StepFits r mine (reading.on_answer r groups ask server t)
+answered_fits : (r : ReadingState) (groups : GroupMapState) (mine ask server : ℕ) (t : Told) → StepFits r mine (reading.reading_take r groups ask server t)
 answered_fits r groups mine ask server t = let k =
     answered_keeps r groups ask server t in record { same = k.same; name = k.name; later = answered_later r groups mine ask server t }
 
@@ -154,15 +154,15 @@ module _ (g : Setting) (v : State) (book : ℕ → Segment) (hellos : List Asked
   sees_fences o stage servers f h = sees_quiet o stage (fences servers) f (asked_fences servers) (gives_fences o servers) h
 
   pub sees_fetches : (o : Opening) (b : Backward) (r : ReadingState) → Framed o → StageShown g v book hellos o (Reads b (Some r))
-      → Sees (goes o (Reads b (Some r)) (fetches r))
+      → Sees (goes o (Reads b (Some r)) (backward_fetch r))
   sees_fetches o b r f h =
-      sees_quiet o (Reads b (Some r)) (fetches r) f (asked_fetches r.target.seg.name r.ask (to_ask r)) (gives_fetches o r.target.seg.name r.ask (to_ask r)) h
+      sees_quiet o (Reads b (Some r)) (backward_fetch r) f (asked_fetches r.target.seg.name r.ask (reading_unanswered r)) (gives_fetches o r.target.seg.name r.ask (reading_unanswered r)) h
 
   -- a question to the registry, of this number
   abbrev pub question : ℕ → Asked
   question ask = record { inc = v.incarnation; ask = ask; low = v.low }
 
-  pub sees_anew : (o : Opening) (stage : Stage) → Framed o → StageShown g v book (question (o.ask + 1) ∷ hellos) (drawn o) stage → Sees (asks_anew o stage)
+  pub sees_anew : (o : Opening) (stage : Stage) → Framed o → StageShown g v book (question (o.ask + 1) ∷ hellos) (opening_ask_anew o) stage → Sees (asks_anew o stage)
   sees_anew o stage f h = record { shown = record { log = f.log; inc = f.inc; horizon = f.horizon; asked = asked; stage = h }; gives = (tt, tt) }
     where
       asked : (a : Asked) → In a (question (o.ask + 1) ∷ hellos) → a.inc ≡ v.incarnation → a.ask ≤ o.ask + 1
@@ -231,7 +231,7 @@ module _ (g : Setting) (v : State) (book : ℕ → Segment) (hellos : List Asked
           inl (ap (λ z. cond z 0 (g.code b.next.seq b.next.pass.inc b.next.pass.att))
           (and_first (b.next.pass.inc == 0) ((b.next.pass.att == 0) && (b.next.group == 0)) k))
 
-  pub chain_told : (o : Opening) (b : Backward) → Framed o → ReadingShown g v book o b → is_bottom o.low b.next ≡ true → Sees (goes o Over (chain_of b ∷ []))
+  pub chain_told : (o : Opening) (b : Backward) → Framed o → ReadingShown g v book o b → is_bottom o.low b.next ≡ true → Sees (goes o Over (backward_told b ∷ []))
   chain_told o b f h t = record {
     shown = record { log = f.log; inc = f.inc; horizon = f.horizon; asked = f.asked; stage = h.phase };
     gives = (
@@ -267,7 +267,7 @@ module _ (g : Setting) (v : State) (book : ℕ → Segment) (hellos : List Asked
   begins_shown o b (Some group) of f h more =
       let known : group_of h.mapped.map b.next.group ≡ Some group = ap (λ (gs : Option GroupMapState). known_group gs b.next.group) (sym h.mapped.taken) ∙ of in
       let named = h.mapped.whole.named b.next.group group known in
-      sees_fetches (drawn o) b (reading.begun (target_at o.log b.next) group (o.ask + 1)) (framed_drawn o (o.ask + 1) (omega arith) f) (
+      sees_fetches (opening_ask_anew o) b (reading.reading_start (target_at o.log b.next) group (o.ask + 1)) (framed_drawn o (o.ask + 1) (omega arith) f) (
         asked_reading o (o.ask + 1) b h,
         more,
         (
@@ -277,19 +277,19 @@ module _ (g : Setting) (v : State) (book : ℕ → Segment) (hellos : List Asked
         ),
       )
 
-  pub round_shown : (o : Opening) (b : Backward) → Framed o → ReadingShown g v book o b → is_bottom o.low b.next ≡ false → Sees (begins_round o b)
-  unfolding begins_round
+  pub round_shown : (o : Opening) (b : Backward) → Framed o → ReadingShown g v book o b → is_bottom o.low b.next ≡ false → Sees (opening_begin_round o b)
+  unfolding opening_begin_round
   round_shown o b f h more = begins_shown o b (known_group o.groups b.next.group) refl f h more
 
-  pub follows_shown : (o : Opening) (b : Backward) → Framed o → ReadingShown g v book o b → Sees (follows o b)
-  unfolding follows
+  pub follows_shown : (o : Opening) (b : Backward) → Framed o → ReadingShown g v book o b → Sees (opening_follow o b)
+  unfolding opening_follow
   follows_shown o b f h =
-      by_test Sees (is_bottom o.low b.next) (goes o Over (chain_of b ∷ [])) (begins_round o b) (λ t. chain_told o b f h t) (λ t. round_shown o b f h t)
+      by_test Sees (is_bottom o.low b.next) (goes o Over (backward_told b ∷ [])) (opening_begin_round o b) (λ t. chain_told o b f h t) (λ t. round_shown o b f h t)
 
   module _ (fixed : Fixed g v) (paged : Book g v book) (reached : Reached v) (spelled : IsSpelled g book v.booked) where
     -- one more segment is read: it is the booked one that the end names
     segment_read : (o : Opening) (b : Backward) (s : Segment) (y : ℕ) → ReadingShown g v book o b → is_bottom o.low b.next ≡ false
-        → s.name ≡ name_at g.log b.next → v.booked y ≡ 1 → s ≡ book y → ReadingShown g v book o (with_segment b s)
+        → s.name ≡ name_at g.log b.next → v.booked y ≡ 1 → s ≡ book y → ReadingShown g v book o (backward_with b s)
     segment_read o b s y h more named booked fact = record {
       phase = h.phase;
       mapped = h.mapped;
@@ -344,20 +344,20 @@ module _ (g : Setting) (v : State) (book : ℕ → Segment) (hellos : List Asked
 
     goes_shown : (o : Opening) (b : Backward) (r : ReadingState) (n : Next) → Framed o → ReadingShown g v book o b → is_bottom o.low b.next ≡ false
         → r.target ≡ target_at g.log b.next → RoundShown g book v.booked b.next r.round → ReadsName r.target.seg.name n → AsksLater o.ask r.ask n
-        → ((t : Segment) → n ≡ next.Read t → (y : ℕ) × (v.booked y ≡ 1) × (t ≡ book y)) → Sees (goes_on o b r n)
-    unfolding goes_on
+        → ((t : Segment) → n ≡ next.Read t → (y : ℕ) × (v.booked y ≡ 1) × (t ≡ book y)) → Sees (opening_go_on o b r n)
+    unfolding opening_go_on
     goes_shown o b r next.Wait f h more looks shown name later owed = sees_still o (Reads b (Some r)) f (h, more, (looks, shown))
     goes_shown o b r next.Ask f h more looks shown name later owed =
         sees_fetches (record o { ask = r.ask }) b r (framed_drawn o r.ask later f) (asked_reading o r.ask b h, more, (looks, shown))
     goes_shown o b r next.Again f h more looks shown name later owed = sees_anew o (Reads b (Some r)) f (asked_reading o (o.ask + 1) b h, more, (looks, shown))
     goes_shown o b r (next.Read s) f h more looks shown name later owed = let y =
-        owed s refl in follows_shown o (with_segment b s) f (segment_read o b s y.0 h more (name ∙ ap (λ (t : Target). t.seg.name) looks) y.1 y.2)
+        owed s refl in follows_shown o (backward_with b s) f (segment_read o b s y.0 h more (name ∙ ap (λ (t : Target). t.seg.name) looks) y.1 y.2)
     goes_shown o b r next.Lost f h more looks shown name later owed = sees_quiet o Over (Lost r.target.seg.name ∷ []) f refl (tt, tt) h.phase
 
     -- a step of the reading, of which what is read is booked
     step_shown : (o : Opening) (b : Backward) (r : ReadingState) (step : Step) → StepFits r o.ask step → Framed o → ReadingShown g v book o b
         → is_bottom o.low b.next ≡ false → r.target ≡ target_at g.log b.next → RoundShown g book v.booked b.next step.state.round
-        → ((t : Segment) → step.next ≡ next.Read t → (y : ℕ) × (v.booked y ≡ 1) × (t ≡ book y)) → Sees (goes_on o b step.state step.next)
+        → ((t : Segment) → step.next ≡ next.Read t → (y : ℕ) × (v.booked y ≡ 1) × (t ≡ book y)) → Sees (opening_go_on o b step.state step.next)
     step_shown o b r step fits f h more looks shown owed =
         goes_shown o b step.state step.next f h more (fits.same ∙ looks) shown
         (subst (λ (t : Target). ReadsName t.seg.name step.next) (sym fits.same) fits.name) fits.later owed
@@ -365,10 +365,10 @@ module _ (g : Setting) (v : State) (book : ℕ → Segment) (hellos : List Asked
     -- a server answers
     pub answer_seen : (o : Opening) (b : Backward) (r : ReadingState) (groups : GroupMapState) (ask server : ℕ) (t : Told) → Framed o
         → ReadingShown g v book o b → is_bottom o.low b.next ≡ false → LooksFor g book v.booked b.next (Some r) → ToldSeen g v book paged spelled b.next t
-        → Sees (goes_on o b (reading.on_answer r groups ask server t).state (reading.on_answer r groups ask server t).next)
+        → Sees (opening_go_on o b (reading.reading_take r groups ask server t).state (reading.reading_take r groups ask server t).next)
     answer_seen o b r groups ask server t f h more looks seen =
         let a = answered_shown g v book paged spelled b.next r groups ask server t looks.1 h.grouped (ap (λ (t : Target). t.seg.name) looks.0) seen in
-        step_shown o b r (reading.on_answer r groups ask server t) (answered_fits r groups o.ask ask server t) f h more looks.0 a.shown a.reads
+        step_shown o b r (reading.reading_take r groups ask server t) (answered_fits r groups o.ask ask server t) f h more looks.0 a.shown a.reads
 
     confirmed_round : (e : End) (r : ReadingState) (ask : ℕ) (stage : rounds.Stage) → RoundShown g book v.booked e r.round
         → RoundShown g book v.booked e (reading.goes_on r ask stage).state.round
@@ -385,7 +385,7 @@ module _ (g : Setting) (v : State) (book : ℕ → Segment) (hellos : List Asked
     -- the reader's own question is answered
     pub confirm_seen : (o : Opening) (b : Backward) (r : ReadingState) → Framed o → ReadingShown g v book o b → is_bottom o.low b.next ≡ false
         → LooksFor g book v.booked b.next (Some r)
-        → Sees (goes_on o b (reading.on_confirmed r (o.ask + 1)).state (reading.on_confirmed r (o.ask + 1)).next)
+        → Sees (opening_go_on o b (reading.on_confirmed r (o.ask + 1)).state (reading.on_confirmed r (o.ask + 1)).next)
     confirm_seen o b r f h more looks =
         step_shown o b r (reading.on_confirmed r (o.ask + 1)) (confirmed_fits r o.ask) f h more looks.0 (confirmed_shown b.next r (o.ask + 1) looks.1)
         (λ t e. absurd (confirmed_reads_none r (o.ask + 1) t e))

@@ -15,7 +15,7 @@ use Rattle.segment_format.specs.Text.{text_of}
 use Rattle.segment_format.proofs.SegmentLaws.{answer_again}
 use Rattle.group_map.specs.GroupMapState.{GroupMapState}
 use Rattle.segment_reading.specs.declared.reading.Next.TheVariants as next
-use Rattle.segment_reading.specs.Reading.{ReadingState, Step, is_target, segment_found, name_fits, counts, read_as, judged, on_answer}
+use Rattle.segment_reading.specs.Reading.{ReadingState, Step, is_met_by, segment_found, name_fits, counts, reading_reads, reading_judge, reading_take}
 use Rattle.segment_reading.specs.Reading as reading
 use Rattle.stripe_code.specs.declared.round.Answer.{Answer}
 use Rattle.stripe_code.specs.declared.round.RoundState.{RoundState}
@@ -24,7 +24,7 @@ use Rattle.stripe_code.specs.declared.round.Told.{Told}
 use Rattle.stripe_code.specs.declared.round.Told.TheVariants.{Held, Missing}
 use Rattle.stripe_code.specs.Fragments.{fragment_at}
 use Rattle.stripe_code.specs.Joined.{AreOf, missing_from, joined}
-use Rattle.stripe_code.specs.Round.{RoundSoFar, count_of, asks, has_answered, len_in, bytes_in, parts_in, is_enough, have_answered, missing_in, taken, state_of, told_fits, new_round, TellsPart}
+use Rattle.stripe_code.specs.Round.{RoundSoFar, count_of, asks, has_answered, len_in, bytes_in, parts_in, is_enough, all_answered, missing_in, round_take, state_of, told_fits, round_start, TellsPart}
 use Rattle.stripe_code.specs.Stripe.{IsCut, stripe_of}
 use Rattle.stripe_code.proofs.Given.{gives_back}
 use Rattle.stripe_code.proofs.Places.{length_stripe, are_of, none_counted}
@@ -160,22 +160,22 @@ module _ (g : Setting) (w : State) (book : ℕ → Segment) (paged : Book g w bo
   IsBooked t = (y : ℕ) × (w.booked y ≡ 1) × (t ≡ book y)
 
   text_read : (r : ReadingState) (groups : GroupMapState) (bytes : List ℕ) (y : ℕ) → w.booked y ≡ 1 → bytes ≡ text_of (book y) → (t : Segment)
-      → (judged r groups (round.Read bytes)).next ≡ next.Read t → t ≡ book y
+      → (reading_judge r groups (round.Read bytes)).next ≡ next.Read t → t ≡ book y
   text_read r groups bytes y fact text t reads =
       let answer : answer_of bytes ≡ Ok (book y) = ap answer_of text ∙ answer_again (text_of (book y)) (book y) (spelled.fits y fact) (spelled.text y fact) in
-      by_test (λ (o : Option Segment). (read_as r o).next ≡ next.Read t → t ≡ book y) (is_target r.target groups (book y)) (Some (book y)) None (λ k same. cc)
+      by_test (λ (o : Option Segment). (reading_reads r o).next ≡ next.Read t → t ≡ book y) (is_met_by r.target groups (book y)) (Some (book y)) None (λ k same. cc)
       (λ k same. absurd cc)
-      (subst (λ (a : Result Segment SegError). (read_as r (segment_found r.target groups a)).next ≡ next.Read t) answer reads)
+      (subst (λ (a : Result Segment SegError). (reading_reads r (segment_found r.target groups a)).next ≡ next.Read t) answer reads)
 
   judged_reads : (r : ReadingState) (groups : GroupMapState) → Shown r.round → IsGrouped g book w.booked e → (t : Segment)
-      → (judged r groups (state_of r.round)).next ≡ next.Read t → IsBooked t
+      → (reading_judge r groups (state_of r.round)).next ≡ next.Read t → IsBooked t
   unfolding state_of
   judged_reads r groups shown grouped t =
-      by_test (λ (st : RoundState). (judged r groups st).next ≡ next.Read t → IsBooked t) (is_enough r.round)
+      by_test (λ (st : RoundState). (reading_judge r groups st).next ≡ next.Read t → IsBooked t) (is_enough r.round)
       (round.Read (joined (parts_in r.round.n r.round.answers) r.round.parity (unwrap_or (len_in r.round.answers) 0)))
-      (cond (have_answered r.round.answers r.round.servers) (round.Short (missing_in r.round.answers)) round.Waiting)
+      (cond (all_answered r.round.answers r.round.servers) (round.Short (missing_in r.round.answers)) round.Waiting)
       (λ enough reads. (let y = enough_reads r.round shown grouped enough in (y.number, y.booked, text_read r groups _ y.number y.booked y.text t reads)))
-      (λ no. by_test (λ (st : RoundState). (judged r groups st).next ≡ next.Read t → IsBooked t) (have_answered r.round.answers r.round.servers)
+      (λ no. by_test (λ (st : RoundState). (reading_judge r groups st).next ≡ next.Read t → IsBooked t) (all_answered r.round.answers r.round.servers)
       (round.Short (missing_in r.round.answers)) round.Waiting (λ k reads. absurd cc) (λ k reads. absurd cc))
 
   -- ---- an answer
@@ -185,8 +185,8 @@ module _ (g : Setting) (w : State) (book : ℕ → Segment) (paged : Book g w bo
   told_more [] a all told = (told, tt)
   told_more (b ∷ rest) a all told = (all.0, told_more rest a all.1 told)
 
-  taken_shown : (r : RoundSoFar) (server : ℕ) (t : Told) → Shown r → told_fits r t ≡ true → ToldPiece g book w.booked e t → Shown (taken r server t)
-  unfolding taken
+  taken_shown : (r : RoundSoFar) (server : ℕ) (t : Told) → Shown r → told_fits r t ≡ true → ToldPiece g book w.booked e t → Shown (round_take r server t)
+  unfolding round_take
   taken_shown r server t shown fits told =
       by_test Shown (has_answered r.answers server) r (record r { answers = r.answers ++ record { server = server; told = t } ∷ [] }) (λ k. shown)
       (λ k. record {
@@ -196,10 +196,10 @@ module _ (g : Setting) (w : State) (book : ℕ → Segment) (paged : Book g w bo
         told = told_more r.answers (record { server = server; told = t }) shown.told told;
       })
 
-  judged_round : (r : ReadingState) (groups : GroupMapState) (st : RoundState) → (judged r groups st).state.round ≡ r.round
+  judged_round : (r : ReadingState) (groups : GroupMapState) (st : RoundState) → (reading_judge r groups st).state.round ≡ r.round
   judged_round r groups (round.Read bytes) = by (segment_found r.target groups (answer_of bytes))
     where
-      by : (o : Option Segment) → (read_as r o).state.round ≡ r.round
+      by : (o : Option Segment) → (reading_reads r o).state.round ≡ r.round
       by None = refl
       by (Some s) = refl
   judged_round r groups (round.Short pairs) = refl
@@ -228,20 +228,20 @@ module _ (g : Setting) (w : State) (book : ℕ → Segment) (paged : Book g w bo
     pub reads : (t : Segment) → step.next ≡ next.Read t → IsBooked t
 
   pub answered_shown : (r : ReadingState) (groups : GroupMapState) (ask server : ℕ) (t : Told) → Shown r.round → IsGrouped g book w.booked e
-      → r.target.seg.name ≡ name_at g.log e → ToldSeen t → AnswerShown (on_answer r groups ask server t)
-  unfolding on_answer
+      → r.target.seg.name ≡ name_at g.log e → ToldSeen t → AnswerShown (reading_take r groups ask server t)
+  unfolding reading_take
   answered_shown r groups ask server t shown grouped looks seen =
-      by_test AnswerShown (counts r ask server t) (judged now groups (state_of (taken r.round server t))) (record { state = r; next = next.Wait })
+      by_test AnswerShown (counts r ask server t) (reading_judge now groups (state_of (round_take r.round server t))) (record { state = r; next = next.Wait })
       (λ k. record {
-        shown = subst Shown (sym (judged_round now groups (state_of (taken r.round server t)))) (now_shown k);
+        shown = subst Shown (sym (judged_round now groups (state_of (round_take r.round server t)))) (now_shown k);
         reads = judged_reads now groups (now_shown k) grouped;
       })
       (λ k. record { shown = shown; reads = λ t same. absurd cc })
     where
       now : ReadingState
-      now = record r { round = taken r.round server t }
+      now = record r { round = round_take r.round server t }
 
-      now_shown : counts r ask server t ≡ true → Shown (taken r.round server t)
+      now_shown : counts r ask server t ≡ true → Shown (round_take r.round server t)
       now_shown k =
           let both = last_two (reading.is_asking r.stage) (ask == r.ask) (asks r.round server) (name_fits r.target t) (told_fits r.round t) k in
           taken_shown r.round server t shown (and_second (name_fits r.target t) (told_fits r.round t) both)
@@ -249,6 +249,6 @@ module _ (g : Setting) (w : State) (book : ℕ → Segment) (paged : Book g w bo
 
 -- a round that begins, and one that begins anew
 pub new_shown : (g : Setting) (book : ℕ → Segment) (booked : ℕ → ℕ) (e : End) (n parity : ℕ) (servers : List ℕ) → IsCut n parity
-    → n ≡ length (g.stripe e.group).members → parity ≡ (g.stripe e.group).parity → RoundShown g book booked e (new_round n parity servers)
+    → n ≡ length (g.stripe e.group).members → parity ≡ (g.stripe e.group).parity → RoundShown g book booked e (round_start n parity servers)
 new_shown g book booked e n parity servers cut count same =
     record { is_round = record { cut = cut; parts = All-nil (λ (a : Answer). TellsPart n (n - parity) 0 a.told) }; count = count; parity = same; told = tt }

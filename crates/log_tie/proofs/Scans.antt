@@ -24,7 +24,7 @@ use Rattle.log_scan.specs.declared.stage.Backward.{Backward}
 use Rattle.log_scan.specs.declared.stage.Stage.{Stage}
 use Rattle.log_scan.specs.declared.stage.Stage.TheVariants.{Hails, Gathers, Asks, Reads, Over}
 use Rattle.log_scan.specs.Pick.{counting, newest, is_torn, has_list, start_in, start_from, end_at, end_before, end_of_none}
-use Rattle.log_scan.specs.Transition.{Done, goes, stays, can_ask, asks_anew, least_horizon, rises, name_at, is_bottom, read_from, chain_of, fetches, follows, awaits_welcome, server_count, awaits, awaited, gathers, picks_at, picks, confirms_by, confirms, welcomed, on_welcome, with_list, listed, on_fenced, heard_with, heard, on_told, on_tick}
+use Rattle.log_scan.specs.Transition.{Done, goes, stays, can_ask, asks_anew, least_horizon, opening_rise, name_at, is_bottom, backward_from, backward_told, backward_fetch, opening_follow, awaits_welcome, server_count, awaits, awaited, opening_gather, picks_at, opening_pick, confirms_by, opening_confirm, opening_welcome, on_welcome, with_list, opening_list, on_fenced, opening_read, opening_hear, on_told, on_tick}
 use Rattle.log_protocol.specs.Phase
 use Rattle.log_protocol.specs.LogLaws.{Reached}
 use Rattle.log_protocol.specs.OpeningSteps.{begins, picks_none, picks_kept, picks_prior, cuts}
@@ -197,15 +197,15 @@ module _ (g : Setting) (w : State) (book : ℕ → Segment) (hellos : List Asked
     module _ (o : Opening) (least : ℕ) (f : Framed g w book hellos o) (known : least ≤ w.low) where
       -- the horizon rises
       abbrev risen : Opening
-      risen = rises (record o { groups = Some m }) least
+      risen = opening_rise (record o { groups = Some m }) least
 
       risen_known : max o.low least ≤ w.low
       risen_known = let a = f.horizon in omega arith
 
       -- the first one
-      gathers_goes : StageShown g w book hellos o Hails → To (gathers (record o { groups = Some m }))
+      gathers_goes : StageShown g w book hellos o Hails → To (opening_gather (record o { groups = Some m }))
       gathers_goes h =
-          goes_learned (gathers (record o { groups = Some m }))
+          goes_learned (opening_gather (record o { groups = Some m }))
           (sees_fences g learned book hellos (record o { groups = Some m }) (Gathers []) (awaited (Some m) []) (framed_there o f)
           (record { phase = h.0; phantom = phantom_there h.1; mapped = mapped_there; kept = tt }))
 
@@ -264,10 +264,10 @@ module _ (g : Setting) (w : State) (book : ℕ → Segment) (hellos : List Asked
         confirms_shown None more looks = round_shown g cut book hellos risen b cut_framed cut_reading more
         confirms_shown (Some r) more looks = confirm_seen g cut book hellos cut_fixed paged cut_reached spelled risen b r cut_framed cut_reading more looks
 
-        confirms_goes : (r : Option ReadingState) → LooksFor g book w.booked b.next r → To (confirms risen b r)
-        unfolding confirms
-        confirms_goes r looks = by_test To (is_bottom risen.low b.next) (goes risen Over (chain_of b ∷ [])) (confirms_by risen b r)
-            (λ t. goes_cut (goes risen Over (chain_of b ∷ [])) (chain_told g cut book hellos risen b cut_framed cut_reading t))
+        confirms_goes : (r : Option ReadingState) → LooksFor g book w.booked b.next r → To (opening_confirm risen b r)
+        unfolding opening_confirm
+        confirms_goes r looks = by_test To (is_bottom risen.low b.next) (goes risen Over (backward_told b ∷ [])) (confirms_by risen b r)
+            (λ t. goes_cut (goes risen Over (backward_told b ∷ [])) (chain_told g cut book hellos risen b cut_framed cut_reading t))
             (λ t. goes_cut (confirms_by risen b r) (confirms_shown r t looks))
 
       -- the one that counts: it is picked where the log goes on
@@ -304,11 +304,11 @@ module _ (g : Setting) (w : State) (book : ℕ → Segment) (hellos : List Asked
         from_start : (v : State) (start : End) → Steps w v → ByOwner g w v book book → BooksNothing w v → Book g v book → v.end ≡ w.end → v.phase ≡ Phase.reading
             → Mapped g v (Some m) → v.base ≡ point g start.seq start.pass → v.opening_seq ≡ start.seq + 1 → v.read_low ≡ max o.low least
             → v.pick_low ≡ v.read_low
-            → v.incarnation ≡ w.incarnation → v.low ≡ w.low → IsGrouped g book v.booked start → To (follows risen (read_from start))
+            → v.incarnation ≡ w.incarnation → v.low ≡ w.low → IsGrouped g book v.booked start → To (opening_follow risen (backward_from start))
         from_start v start steps by back pages end phase mapped base opening low picked inc horizon grouped =
-            goes_by v (follows risen (read_from start)) steps by back
+            goes_by v (opening_follow risen (backward_from start)) steps by back
             (record { begins = λ a b. picked; stays = λ a. absurd (let p = k.gathering.phase in omega arith) }) pages end
-            (follows_shown g v book hellos risen (read_from start)
+            (follows_shown g v book hellos risen (backward_from start)
             (record { log = f.log; inc = f.inc ∙ sym inc; horizon = (let a = risen_known in omega arith); asked = λ a fact boot. f.asked a fact (boot ∙ inc) })
             (record {
               phase = phase;
@@ -324,7 +324,7 @@ module _ (g : Setting) (w : State) (book : ℕ → Segment) (hellos : List Asked
               begun = grouped;
             }))
 
-        none_goes : counting (max o.low least) lists ≡ [] → To (follows risen (read_from (end_of_none (max o.low least - 1))))
+        none_goes : counting (max o.low least) lists ≡ [] → To (opening_follow risen (backward_from (end_of_none (max o.low least - 1))))
         none_goes none = from_start (picks_none learned (max o.low least)) (end_of_none (max o.low least - 1))
             (More learning
             (Picks_none lists_of (max o.low least)
@@ -360,7 +360,7 @@ module _ (g : Setting) (w : State) (book : ℕ → Segment) (hellos : List Asked
               spelled.grouped one.number y one.booked fact (named ∙ ap (λ (z : FragMeta). name_at g.log (end_before z)) one.describes)
               ∙ ap (λ (z : FragMeta). z.prior.group) (sym one.describes)
 
-          kept_goes : is_torn lists b.name group.members ≡ false → To (follows risen (read_from (end_at b)))
+          kept_goes : is_torn lists b.name group.members ≡ false → To (opening_follow risen (backward_from (end_at b)))
           kept_goes none = from_start (picks_kept learned (max o.low least) one.number) (end_at b)
               (More learning
               (Picks_kept lists_of (max o.low least) one.number
@@ -371,7 +371,7 @@ module _ (g : Setting) (w : State) (book : ℕ → Segment) (hellos : List Asked
               (sym (point_some g b.name.seq b.name.pass some_inc ∙ (ap (λ (z : SegName). g.code z.seq z.pass.inc z.pass.att) one.named ∙ coded g one.number)))
               (let a = seq in omega arith) refl refl refl refl kept_grouped
 
-          prior_goes : is_torn lists b.name group.members ≡ true → To (follows risen (read_from (end_before b)))
+          prior_goes : is_torn lists b.name group.members ≡ true → To (opening_follow risen (backward_from (end_before b)))
           prior_goes torn = let l = torn_lacks lists b.name group.members torn in
               from_start (picks_prior learned (max o.low least) one.number) (end_before b)
               (More learning
@@ -383,8 +383,8 @@ module _ (g : Setting) (w : State) (book : ℕ → Segment) (hellos : List Asked
               (page.follows ∙ ap (λ (z : FragMeta). point g (z.name.seq - 1) z.prior.pass) (sym one.describes))
               (let a = (always w reached).shelf.priors.seq_some one.number one.booked in let q = seq in omega arith) refl refl refl refl prior_grouped
 
-          start_goes : To (follows risen (read_from (start_in lists b group)))
-          start_goes = by_test (λ (e : End). To (follows risen (read_from e))) (is_torn lists b.name group.members) (end_before b)
+          start_goes : To (opening_follow risen (backward_from (start_in lists b group)))
+          start_goes = by_test (λ (e : End). To (opening_follow risen (backward_from e))) (is_torn lists b.name group.members) (end_before b)
               (end_at b) prior_goes kept_goes
 
         best_goes : (b : FragMeta) → BestOne b → (found : Option Group) → group_of m b.group ≡ found
@@ -395,8 +395,8 @@ module _ (g : Setting) (w : State) (book : ℕ → Segment) (hellos : List Asked
             (record { log = f.log; inc = f.inc; horizon = risen_known; asked = f.asked }) gathering k.every k.past k.begun)
         best_goes b one (Some group) of = start_goes b one group of
 
-        picks_goes : To (picks risen lists)
-        unfolding picks
+        picks_goes : To (opening_pick risen lists)
+        unfolding opening_pick
         picks_goes = by (newest (counting (max o.low least) lists)) refl
           where
             by : (n : Option FragMeta) → newest (counting (max o.low least) lists) ≡ n
@@ -408,7 +408,7 @@ module _ (g : Setting) (w : State) (book : ℕ → Segment) (hellos : List Asked
 
     -- one that is awaited
     welcomed_goes : (o : Opening) (stage : Stage) (ask : ℕ) (news : List SlotNews) → ScanShown g w book hellos (record { opening = o; stage = stage })
-        → Answered g w hellos ask news → ask ≡ o.ask → To (welcomed (record o { groups = Some m }) stage (least_horizon o.log.0 news))
+        → Answered g w hellos ask news → ask ≡ o.ask → To (opening_welcome (record o { groups = Some m }) stage (least_horizon o.log.0 news))
     welcomed_goes o Hails ask news h a same = gathers_goes o 0 (framed_of o Hails h) (omega arith) h.stage
     welcomed_goes o (Gathers lists) ask news h a same = maps_goes o (Gathers lists) h
     welcomed_goes o (Asks lists) ask news h a same =
@@ -424,7 +424,7 @@ module _ (g : Setting) (w : State) (book : ℕ → Segment) (hellos : List Asked
         → Answered g w hellos ask news → To (on_welcome o stage ask news m)
     unfolding on_welcome
     welcome_goes o stage ask news h a =
-        by_test To ((ask == o.ask) && (can_ask o && awaits_welcome stage)) (welcomed (record o { groups = Some m }) stage (least_horizon o.log.0 news))
+        by_test To ((ask == o.ask) && (can_ask o && awaits_welcome stage)) (opening_welcome (record o { groups = Some m }) stage (least_horizon o.log.0 news))
         (stays o stage)
         (λ t. welcomed_goes o stage ask news h a (eqb-true ask o.ask (and_first (ask == o.ask) (can_ask o && awaits_welcome stage) t)))
         (λ t. goes_still (stays o stage) (sees_still g w book hellos o stage (framed_of o stage h) h.stage))
@@ -487,7 +487,7 @@ module _ (g : Setting) (w : State) (book : ℕ → Segment) (hellos : List Asked
           (omega arith) (always w reached).shelf.horizons.begin_past))
           (λ t. goes_still (stays o (Gathers longer)) (sees_still g w book hellos o (Gathers longer) (framed_of o (Gathers lists) h) gathering_more))
 
-    listed_goes : To (listed o lists l)
+    listed_goes : To (opening_list o lists l)
     listed_goes =
         by_test To (can_ask o && awaits o.groups lists l.server) (with_list o (lists ++ l ∷ [])) (stays o (Gathers lists))
         (λ t. with_list_goes (and_second (can_ask o) (awaits o.groups lists l.server) t)) (λ t. rests_goes o (Gathers lists) h)
@@ -505,14 +505,14 @@ module _ (g : Setting) (w : State) (book : ℕ → Segment) (hellos : List Asked
 
   module _ (o : Opening) (b : Backward) (r : ReadingState) (ask server : ℕ) (t : Told)
       (h : ScanShown g w book hellos (record { opening = o; stage = Reads b (Some r) })) (seen : ToldSeen g w book paged spelled b.next t) where
-    answered_goes : (groups : Option GroupMapState) → To (heard_with o b r groups ask server t)
+    answered_goes : (groups : Option GroupMapState) → To (opening_read o b r groups ask server t)
     answered_goes None = rests_goes o (Reads b (Some r)) h
     answered_goes (Some m) =
-        goes_still (heard_with o b r (Some m) ask server t)
+        goes_still (opening_read o b r (Some m) ask server t)
         (answer_seen g w book hellos fixed paged reached spelled o b r m ask server t (framed_of o (Reads b (Some r)) h) h.stage.0 h.stage.1 h.stage.2 seen)
 
-    heard_goes : To (heard o b (Some r) ask server t)
-    heard_goes = by_test To (can_ask o) (heard_with o b r o.groups ask server t) (stays o (Reads b (Some r))) (λ e. answered_goes o.groups)
+    heard_goes : To (opening_hear o b (Some r) ask server t)
+    heard_goes = by_test To (can_ask o) (opening_read o b r o.groups ask server t) (stays o (Reads b (Some r))) (λ e. answered_goes o.groups)
         (λ e. rests_goes o (Reads b (Some r)) h)
 
   told_goes : (o : Opening) (stage : Stage) (ask server : ℕ) (t : Told) → ScanShown g w book hellos (record { opening = o; stage = stage })
@@ -549,8 +549,8 @@ module _ (g : Setting) (w : State) (book : ℕ → Segment) (hellos : List Asked
       after a (inr fact) boot same = h.stage.no_older a fact boot same
   tick_goes o (Reads b None) h =
       goes_still (goes o (Reads b None) (Hello o.ask ∷ [])) (sees_again g w book hellos o (Reads b None) (framed_of o (Reads b None) h) h.stage)
-  tick_goes o (Reads b (Some r)) h = by_test (λ outs. To (goes o (Reads b (Some r)) outs)) (is_asking r.stage) (fetches r) (Hello o.ask ∷ [])
-      (λ t. goes_still (goes o (Reads b (Some r)) (fetches r)) (sees_fetches g w book hellos o b r (framed_of o (Reads b (Some r)) h) h.stage))
+  tick_goes o (Reads b (Some r)) h = by_test (λ outs. To (goes o (Reads b (Some r)) outs)) (is_asking r.stage) (backward_fetch r) (Hello o.ask ∷ [])
+      (λ t. goes_still (goes o (Reads b (Some r)) (backward_fetch r)) (sees_fetches g w book hellos o b r (framed_of o (Reads b (Some r)) h) h.stage))
       (λ t. goes_still (goes o (Reads b (Some r)) (Hello o.ask ∷ []))
       (sees_again g w book hellos o (Reads b (Some r)) (framed_of o (Reads b (Some r)) h) h.stage))
   tick_goes o Over h = rests_goes o Over h

@@ -41,7 +41,7 @@ module _ (g : Setting) (w : State) (book : ℕ → Segment) (fixed : Fixed g w) 
   -- (v is the state after the step that booked, u the same with the Stores)
   pub launch : (P : State → (ℕ → Segment) → Type 0) (v : State) (later : ℕ → Segment) (f : FlightState) (x : ℕ) → Steps w v → ByOwner g w v book later
       → BooksItsFlight w v → v.end ≡ w.end → Book g v later → v.booked x ≡ 1 → f.segment ≡ later x → stripe_of_group f.group ≡ g.stripe (later x).group
-      → ((stores : List StorePacket) → P (record v { stores = stores }) later) → Goes g w book P (log.all_sends f)
+      → ((stores : List StorePacket) → P (record v { stores = stores }) later) → Goes g w book P (log.sending_send f)
   launch P v later f x steps by fresh same_end pages booked segment stripe shows =
       let t = sent_all g v later f x booked segment stripe pages in record {
         world = record v { stores = t.all };
@@ -71,8 +71,8 @@ module _ (g : Setting) (w : State) (book : ℕ → Segment) (fixed : Fixed g w) 
 
     -- the log writes its next segment
     pub writes_goes : (items : List Item) → Serves g w book s → w.flight ≡ 0 → (dirty : List _)
-        → Goes g w book (λ v later. Serves g v later (log.writes (record s { dirty = dirty }) items).state) (log.writes (record s { dirty = dirty }) items).outs
-    unfolding log.launched
+        → Goes g w book (λ v later. Serves g v later (log.log_write (record s { dirty = dirty }) items).state) (log.log_write (record s { dirty = dirty }) items).outs
+    unfolding log.log_launch
     writes_goes items shown idle dirty =
         launch _ v later f x (More Done (Seals x _ _ _ _ can)) by (books_one w x) refl pages booked (sym here)
         (sym (fact.named) ∙ ap (λ (z : Segment). g.stripe z.group) (sym here)) (λ stores. record {

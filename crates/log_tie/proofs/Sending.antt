@@ -9,10 +9,10 @@ use Rattle.log_protocol.specs.Step.Steps.{Done, More}
 use Rattle.segment_format.specs.declared.segment.Segment.{Segment}
 use Rattle.group_map.specs.declared.group.Member.{Member}
 use Rattle.log_flight.specs.Flights.{FlightState, generation_of, is_noted, server_of}
-use Rattle.log_flight.specs.Fragments.{piece}
+use Rattle.log_flight.specs.Fragments.{flight_fragment}
 use Rattle.client_log.specs.declared.output.Out.{Out}
 use Rattle.client_log.specs.declared.output.Out.TheVariants.{Send}
-use Rattle.client_log.specs.Transition.{sends, all_sends}
+use Rattle.client_log.specs.Transition.{sends, sending_send}
 use Rattle.log_tie.specs.Setting.{Setting, Stripe, stripe_of_group, fragment_over}
 use Rattle.log_tie.specs.Seen.{Page, Book, members_of, AllSaid}
 
@@ -32,7 +32,7 @@ module _ (g : Setting) (w : State) (book : ℕ → Segment) where
       → stripe_of_group f.group ≡ g.stripe (book x).group → Book g w book
       → ((j k : ℕ) → j ≡ k + i → k < length ms
       → (j < w.member_count x) × (w.member_server x j ≡ server_of ms k) × (w.member_generation x j ≡ generation_of ms k)) → Sent stores (sends f ms i)
-  unfolding piece
+  unfolding flight_fragment
   sent_from f x [] i stores booked segment stripe paged at = record { all = stores; steps = Done; grown = λ p fact. fact; said = tt }
   sent_from f x (m ∷ ms) i stores booked segment stripe paged at =
       by (is_noted f.noted i) (λ stores. sent_from f x ms (i + 1) stores booked segment stripe paged (λ j k e below. at j (suc k) (omega arith) (omega arith)))
@@ -55,7 +55,7 @@ module _ (g : Setting) (w : State) (book : ℕ → Segment) where
           (More Done (Sends x i (record { booked = booked; member = here.0 }))) t.steps
 
       by : (t : Bool) → ((stores : List StorePacket) → Sent stores (sends f ms (i + 1)))
-          → Sent stores (cond t [] (Send (piece f.segment f.group i) m ∷ []) ++ sends f ms (i + 1))
+          → Sent stores (cond t [] (Send (flight_fragment f.segment f.group i) m ∷ []) ++ sends f ms (i + 1))
       by true more = more stores
       by false more = let t = more (packet ∷ stores) in record {
         all = t.all;
@@ -76,8 +76,8 @@ module _ (g : Setting) (w : State) (book : ℕ → Segment) where
 
   -- all of a flight's
   pub sent_all : (f : FlightState) (x : ℕ) → w.booked x ≡ 1 → f.segment ≡ book x → stripe_of_group f.group ≡ g.stripe (book x).group → Book g w book
-      → Sent w.stores (all_sends f)
-  unfolding all_sends
+      → Sent w.stores (sending_send f)
+  unfolding sending_send
   sent_all f x booked segment stripe paged = sent_from f x f.group.members 0 w.stores booked segment stripe paged at
     where
       page : Page g x (book x) (w.text_of x) (w.member_count x) (w.member_server x) (w.member_generation x) (w.prior_of x) (w.content_of x)

@@ -29,7 +29,7 @@ use Rattle.client_log.specs.declared.output.Out.{Out}
 use Rattle.client_log.specs.declared.output.Out.TheVariants.{Settled}
 use Rattle.client_log.specs.LogState.{LogState}
 use Rattle.client_log.specs.Transition as log
-use Rattle.client_log.specs.Transition.{end_from}
+use Rattle.client_log.specs.Transition.{end_of}
 use Rattle.segment_format.specs.Rows.{rows_of}
 use Rattle.xfs_base.specs.declared.block.BlockId.{BlockId}
 use Rattle.xfs_base.specs.Blocks.{same_block}
@@ -118,14 +118,14 @@ module _ (g : Setting) where
     by_test s true d e h k = h refl
     by_test s false d e h k = k refl
 
-    sealed_goes : (s : LogState) → Serves g w book s → log.is_idle s ≡ true → To w book (log.sealed s)
-    unfolding log.sealed
+    sealed_goes : (s : LogState) → Serves g w book s → log.is_idle s ≡ true → To w book (log.log_seal s)
+    unfolding log.log_seal
     sealed_goes s h none =
         writes_goes g w book fixed paged reached s (items_of 0 (take segment_blocks s.dirty)) h (idle g book s.flight _ _ _ _ _ none h.flight)
         (drop segment_blocks s.dirty)
 
-    pub full_goes : (s : LogState) → Serves g w book s → To w book (log.if_full s)
-    unfolding log.if_full
+    pub full_goes : (s : LogState) → Serves g w book s → To w book (log.log_go_on s)
+    unfolding log.log_go_on
     full_goes s h = by_test s (log.is_full s) _ _ (λ t. sealed_goes s h (and_first (log.is_idle s) _ t)) (λ t. nothing s h)
 
     seal_goes : (s : LogState) → Serves g w book s → To w book (log.on_seal s)
@@ -152,7 +152,7 @@ module _ (g : Setting) where
     tick_goes s h = by s.flight refl h.flight
       where
         by : (o : Option FlightState) → s.flight ≡ o → FlightShown g book o s.inc s.end.seq (w.booked w.flight) w.flight w.noted
-            → To w book (elim o [ None ↦ still s | Some f ↦ record { state = s; outs = log.all_sends f } ])
+            → To w book (elim o [ None ↦ still s | Some f ↦ record { state = s; outs = log.sending_send f } ])
         by None e shown = nothing s h
         by (Some f) e shown = let t = sent_all g w book f w.flight shown.is_booked shown.segment (shown.stripe) paged in record {
           world = record w { stores = t.all };
@@ -176,7 +176,7 @@ module _ (g : Setting) where
     -- what becomes of the flight
     pub follows_goes : (s : LogState) (f : FlightState) → Serves g w book s → Flying g book f s.inc s.end.seq (w.booked w.flight) w.flight w.noted
         → To w book (log.followed s f (fate_of s.groups f))
-    unfolding log.restriped log.settled log.launched
+    unfolding log.restriped log.settled log.log_launch
     follows_goes s f h flying = pick Follows (nat_lt f.group.parity (lost_count s.groups f.group.members)) Restripe _
         (λ t. goes_map g w book _ _ _ (λ v later a. aloft_serves w v book later s _ fixed paged reached h a)
         (restriped_goes g w book fixed paged reached s f h.writes flying))
@@ -192,14 +192,14 @@ module _ (g : Setting) where
         after_it = log.landed s f
 
         -- nothing is in flight behind a settled segment, so nothing was booked
-        nothing_flies : (t : Goes g w book (ServesAs after_it) (Settled (end_from f.segment) (rows_of f.segment) ∷ [])) (x : ℕ) → t.world.booked x ≡ 1
+        nothing_flies : (t : Goes g w book (ServesAs after_it) (Settled (end_of f.segment) (rows_of f.segment) ∷ [])) (x : ℕ) → t.world.booked x ≡ 1
             → x ≡ t.world.flight → w.booked x ≡ 1
         nothing_flies t x fact e = let a = (always t.world (reached_by w t.world reached t.steps t.frame.others)).shelf.texts.booked_name x fact in let b =
             t.shows.flight in absurd (omega arith)
 
-        settling : Goes g w book (ServesAs after_it) (Settled (end_from f.segment) (rows_of f.segment) ∷ [])
-            → To w book (saying (Settled (end_from f.segment) (rows_of f.segment) ∷ []) (log.if_full after_it))
-        settling t = goes_through g (ServesAs (log.if_full after_it).state) (ServesAs after_it) w book _ _ t
+        settling : Goes g w book (ServesAs after_it) (Settled (end_of f.segment) (rows_of f.segment) ∷ [])
+            → To w book (saying (Settled (end_of f.segment) (rows_of f.segment) ∷ []) (log.log_go_on after_it))
+        settling t = goes_through g (ServesAs (log.log_go_on after_it).state) (ServesAs after_it) w book _ _ t
             (λ x fact. ⊎_elim (λ old. old) (λ e. nothing_flies t x fact e) (t.fresh x fact))
             (full_goes t.world t.later (fixed_by g w t.world fixed t.frame.others) t.paged
             (reached_by w t.world reached t.steps t.frame.others) after_it t.shows)
@@ -261,14 +261,14 @@ module _ (g : Setting) where
         by : (o : Option FlightState) → s.flight ≡ o → FlightShown g book o s.inc s.end.seq (w.booked w.flight) w.flight w.noted
             → To w book (elim o [
               | None ↦ still s
-              | Some f ↦ if flights.is_of f name index generation then log.looked_at s s (flights.noting f index)
+              | Some f ↦ if flights.is_of f name index generation then log.looked_at s s (flights.flight_note f index)
                   else still s
             ])
         by None e shown = nothing w book fixed paged reached s h
         by (Some f) e shown =
             by_test w book fixed paged reached s (flights.is_of f name index generation) _ _ (λ t. noting t) (λ t. nothing w book fixed paged reached s h)
           where
-            noting : flights.is_of f name index generation ≡ true → To w book (log.looked_at s s (flights.noting f index))
+            noting : flights.is_of f name index generation ≡ true → To w book (log.looked_at s s (flights.flight_note f index))
             noting t =
                 let same : seen.number ≡ w.flight =
                 one_number g seen.number w.flight (sym seen.named ∙ (one_name name f.segment.name (and_first (same_name name f.segment.name) _ t)
@@ -289,7 +289,7 @@ module _ (g : Setting) where
                 (λ x fact. fact) refl
                 (looks_goes v book
                 (record { servers = fixed.servers; seq_of = fixed.seq_of; incarnation_of = fixed.incarnation_of; attempt_of = fixed.attempt_of }) paged
-                (reached_by w v reached step refl) s (flights.noting f index)
+                (reached_by w v reached step refl) s (flights.flight_note f index)
                 (record {
                   writes = record { log = h.writes.log; inc = h.writes.inc; some = h.writes.some; map = h.writes.map; known = h.writes.known };
                   phase = h.phase;

@@ -22,7 +22,7 @@ use Rattle.client_log.specs.declared.output.Out.{Out}
 use Rattle.client_log.specs.declared.output.Out.TheVariants.{Settled as Out_Settled}
 use Rattle.client_log.specs.LogState.{LogState}
 use Rattle.client_log.specs.Transition as log
-use Rattle.client_log.specs.Transition.{end_from}
+use Rattle.client_log.specs.Transition.{end_of}
 use Rattle.xfs_base.specs.declared.block.BlockId.{BlockId}
 use Rattle.xfs_base.specs.declared.entry.Entry.{Entry}
 use Rattle.xfs_base.proofs.Booleans.{contrary, and_first, and_second}
@@ -92,7 +92,7 @@ module _ (g : Setting) (w : State) (book : ℕ → Segment) (fixed : Fixed g w) 
       → Goes g w book
       (Aloft s (flights.flown (log.next_attempt f.segment.name) f.segment.prior f.segment.items (flights.group_for s.groups s.log.0 f.segment.name.seq)))
       (log.restriped s f).outs
-  unfolding log.restriped log.launched
+  unfolding log.restriped log.log_launch
   restriped_goes f writes h =
       launch g w book fixed paged _ v later f' x (More Done (Restripes x _ _ _ can)) by (books_one w x) refl pages booked (sym here)
       (sym fact.named ∙ ap (λ (z : Segment). g.stripe z.group) (sym here)) (λ stores. record {
@@ -216,8 +216,8 @@ module _ (g : Setting) (w : State) (book : ℕ → Segment) (fixed : Fixed g w) 
 
   -- the end that the flight is
   pub flight_end : (f : FlightState) → 0 < s.inc → FlyingHere f
-      → (w.flight ≡ point g (end_from f.segment).seq (end_from f.segment).pass) × (g.seq_of w.flight ≡ (end_from f.segment).seq)
-      × ((end_from f.segment).pass ≡ (name_of g w.flight).pass)
+      → (w.flight ≡ point g (end_of f.segment).seq (end_of f.segment).pass) × (g.seq_of w.flight ≡ (end_of f.segment).seq)
+      × ((end_of f.segment).pass ≡ (name_of g w.flight).pass)
   flight_end f some h =
       let name = flight_name f h in
       let inc : 0 < f.segment.name.pass.inc = let e = ap (λ (z : Segment). z.name.pass.inc) h.segment ∙ h.own in omega arith in (
@@ -228,7 +228,7 @@ module _ (g : Setting) (w : State) (book : ℕ → Segment) (fixed : Fixed g w) 
 
   -- it is settled, while the owner serves
   pub settles_goes : (f : FlightState) → Serves g w book s → FlyingHere f → all_done s.groups f.noted f.group.members 0 ≡ true → (rows : List (BlockId × Entry))
-      → Goes g w book (λ v later. Serves g v later (record s { end = end_from f.segment; flight = None })) (Out_Settled (end_from f.segment) rows ∷ [])
+      → Goes g w book (λ v later. Serves g v later (record s { end = end_of f.segment; flight = None })) (Out_Settled (end_of f.segment) rows ∷ [])
   settles_goes f shown h all rows = let end = flight_end f shown.writes.some h in record {
     world = settles w;
     later = book;

@@ -14,7 +14,7 @@ use Rattle.segment_format.specs.Text.{text_of}
 use Rattle.fragment_store.specs.declared.store_error.StoreError.TheVariants.{WrongGeneration, Marked, Fenced}
 use Rattle.xfs_base.proofs.SegmentNames.{one_name}
 use Rattle.fragment_store.specs.ShelfState.{ShelfState, same_name, log_cmp, held_at, is_held, is_marked, fence_of}
-use Rattle.fragment_store.specs.Calls.{with_fragment, kept, on_delete, on_lose}
+use Rattle.fragment_store.specs.Calls.{with_fragment, shelf_store, on_delete, on_lose}
 use Rattle.log_protocol.specs.LogLaws.{Reached}
 use Rattle.log_protocol.specs.Packets.{StorePacket}
 use Rattle.log_protocol.specs.ServerSteps.{loses, accepts, accepts_again, tells, fills, deletes, fences}
@@ -118,7 +118,7 @@ module _ (g : Setting) (w : State) (book : ℕ → Segment) (v : ℕ) (s : Shelf
     }
       where
         taken : is_held s f.meta.name ≡ false → shelf_after g s (Stores f generation) ≡ record s { held = with_fragment f s.held }
-        taken absent = ap (λ b. cond b (kept s f) s) t ∙ ap (λ b. cond b s (record s { held = with_fragment f s.held })) absent
+        taken absent = ap (λ b. cond b (shelf_store s f) s) t ∙ ap (λ b. cond b s (record s { held = with_fragment f s.held })) absent
 
     -- it is held already
     has_it : is_held s f.meta.name ≡ true → Did g w book v s (Stores f generation)
@@ -138,17 +138,17 @@ module _ (g : Setting) (w : State) (book : ℕ → Segment) (v : ℕ) (s : Shelf
         fenceds = λ p fact. fact;
       };
       shows = subst (λ (z : ShelfState). ShelfShown g w book v z)
-          (sym (ap (λ b. cond b (kept s f) s) t ∙ ap (λ b. cond b s (record s { held = with_fragment f s.held })) present)) h;
+          (sym (ap (λ b. cond b (shelf_store s f) s) t ∙ ap (λ b. cond b s (record s { held = with_fragment f s.held })) present)) h;
       tells = λ _ _. (seen.name, seen.named, inl (λ i. record { name = seen.name; index = place i; generation = generation }));
     }
 
   store_foreign : (f : Fragment) (generation : ℕ) → is_of_log g f.meta.name ≡ false → Did g w book v s (Stores f generation)
   store_foreign f generation other = rests (Stores f generation)
-      (by_test (λ z. ShelfShown g w book v z) (is_stored s f generation) (kept s f) s (λ _. kept_foreign g w book v s h f other) (λ _. h))
+      (by_test (λ z. ShelfShown g w book v z) (is_stored s f generation) (shelf_store s f) s (λ _. kept_foreign g w book v s h f other) (λ _. h))
       (λ own. contrary (sym other ∙ own))
     where
       kept_foreign : (g : Setting) (w : State) (book : ℕ → Segment) (v : ℕ) (s : ShelfState) → ShelfShown g w book v s → (f : Fragment)
-          → is_of_log g f.meta.name ≡ false → ShelfShown g w book v (kept s f)
+          → is_of_log g f.meta.name ≡ false → ShelfShown g w book v (shelf_store s f)
       kept_foreign g w book v s h f other =
           by_test (λ z. ShelfShown g w book v z) (is_held s f.meta.name) s (record s { held = with_fragment f s.held }) (λ _. h)
           (λ absent. shelf_foreign g book w.booked _ _ _ _ s h f absent other)
@@ -160,7 +160,7 @@ module _ (g : Setting) (w : State) (book : ℕ → Segment) (v : ℕ) (s : Shelf
           → Did g w book v s (Stores f generation)
       by false other b e c k = store_foreign f generation other
       by true own false e c k =
-          rests (Stores f generation) (subst (λ (z : ShelfState). ShelfShown g w book v z) (sym (ap (λ b. cond b (kept s f) s) e)) h)
+          rests (Stores f generation) (subst (λ (z : ShelfState). ShelfShown g w book v z) (sym (ap (λ b. cond b (shelf_store s f) s) e)) h)
           (λ _ yes. contrary (sym e ∙ yes))
       by true own true e false k = keeps_it f generation (owed own) e k
       by true own true e true k = has_it f generation (owed own) e k
@@ -281,7 +281,7 @@ module _ (g : Setting) (w : State) (book : ℕ → Segment) (v : ℕ) (s : Shelf
     where
       after_it : (b c : Bool) → is_marked s.marks f.meta.name ≡ b → is_held s f.meta.name ≡ c
           → shelf_after g s (Fills f) ≡ cond b s (cond c s (record s { held = with_fragment f s.held }))
-      after_it b c e k = ap (λ t. cond t s (kept s f)) e ∙ ap (λ t. cond b s (cond t s (record s { held = with_fragment f s.held }))) k
+      after_it b c e k = ap (λ t. cond t s (shelf_store s f)) e ∙ ap (λ t. cond b s (cond t s (record s { held = with_fragment f s.held }))) k
 
       by : (a : Bool) → is_of_log g f.meta.name ≡ a → (b : Bool) → is_marked s.marks f.meta.name ≡ b → (c : Bool) → is_held s f.meta.name ≡ c
           → Did g w book v s (Fills f)

@@ -6,7 +6,7 @@ use Rattle.group_map.specs.GroupMapState.{GroupMapState}
 use Rattle.log_flight.specs.Flights.{FlightState}
 use Rattle.client_log.specs.declared.input.In as inputs
 use Rattle.client_log.specs.declared.input.In.TheVariants.{Put, Parts, Seal, Acked, Maps, Tick}
-use Rattle.client_log.specs.LogState.{LogState, started}
+use Rattle.client_log.specs.LogState.{LogState, log_start}
 use Rattle.client_log.specs.Transition.{has_next, transition}
 use Rattle.log_protocol.specs.Phase
 use Rattle.log_protocol.specs.LogLaws.{Reached}
@@ -74,8 +74,8 @@ abbrev pub OpensByStep : Type 0
 OpensByStep =
     (g : Setting) (w : State) (book : ℕ → Segment) (start : End) (chain : List Segment) (groups : GroupMapState) → Fixed g w → Reached w → Book g w book
     → ReadShown g w book start chain groups → has_next start.seq ≡ true
-    → Goes g w book (λ v later. WritingShown g v later chain (transition (started g.log w.incarnation start groups) (Parts [])).state)
-    (transition (started g.log w.incarnation start groups) (Parts [])).outs
+    → Goes g w book (λ v later. WritingShown g v later chain (transition (log_start g.log w.incarnation start groups) (Parts [])).state)
+    (transition (log_start g.log w.incarnation start groups) (Parts [])).outs
 
 -- what the world owes each input of an opening's log; it takes no others
 abbrev pub BringsOpening : Setting → State → inputs.In → Type 0

@@ -21,7 +21,7 @@ use Rattle.log_scan.specs.declared.stage.Backward.{Backward}
 use Rattle.log_scan.specs.declared.stage.Stage.{Stage}
 use Rattle.log_scan.specs.declared.stage.Stage.TheVariants.{Hails, Gathers, Asks, Reads, Over}
 use Rattle.log_scan.specs.Pick.{has_name, has_list}
-use Rattle.log_scan.specs.ScanState.{ScanState, started}
+use Rattle.log_scan.specs.ScanState.{ScanState, scan_start}
 use Rattle.log_scan.specs.Transition.{target_at, is_bottom, least_horizon, transition}
 use Rattle.log_protocol.specs.Phase
 use Rattle.log_protocol.specs.LogLaws.{Reached}
@@ -207,7 +207,7 @@ pub record Restarted (g : Setting) (w : State) (book : ℕ → Segment) (hellos 
   pub incarnation : world.incarnation ≡ suc w.incarnation
   pub fixed : Fixed g world
   pub paged : Book g world book
-  pub shown : ScanShown g world book hellos (started g.log world.incarnation)
+  pub shown : ScanShown g world book hellos (scan_start g.log world.incarnation)
 
 -- An owner that is down begins to open its log by steps; no question of its next boot was asked, and server 0 holds nothing.
 abbrev pub ScanStarts : Type 0

@@ -5,7 +5,7 @@ use Rattle.xfs_base.specs.declared.segment.SegName.{SegName}
 use Rattle.xfs_base.specs.Limits.{u32_end}
 use Rattle.segment_format.specs.declared.segment.Segment.{Segment}
 use Rattle.fragment_store.specs.ShelfState.{ShelfState, held_at, is_held, is_marked}
-use Rattle.fragment_store.specs.Calls.{store_refused, kept, on_fence, on_delete, on_fill, on_lose}
+use Rattle.fragment_store.specs.Calls.{refusal, shelf_store, on_fence, on_delete, on_fill, on_lose}
 use Rattle.log_protocol.specs.Packets.{StoredPacket, FragmentPacket, FencedPacket}
 use Rattle.log_protocol.specs.LogLaws.{Reached}
 use Rattle.log_protocol.specs.State.{State}
@@ -55,11 +55,11 @@ pub data Deed : Type 0 where
   Loses : Deed
 
 abbrev pub is_stored : ShelfState → Fragment → ℕ → Bool
-is_stored s f generation = is_none (store_refused s f.meta.name generation)
+is_stored s f generation = is_none (refusal s f.meta.name generation)
 
 -- the shelf after it
 abbrev pub shelf_after : Setting → ShelfState → Deed → ShelfState
-shelf_after g s (Stores f generation) = if is_stored s f generation then kept s f else s
+shelf_after g s (Stores f generation) = if is_stored s f generation then shelf_store s f else s
 shelf_after g s (Fetches name) = s
 shelf_after g s (Fences inc) = on_fence s g.log (record { inc = inc; att = 0 })
 shelf_after g s (Deletes name) = on_delete s name

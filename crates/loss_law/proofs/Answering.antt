@@ -9,7 +9,7 @@ use Rattle.stripe_code.specs.declared.round.RoundState.{RoundState}
 use Rattle.stripe_code.specs.declared.round.RoundState.TheVariants.{Read, Short, Waiting}
 use Rattle.stripe_code.specs.declared.round.Told.{Told}
 use Rattle.stripe_code.specs.Joined.{joined}
-use Rattle.stripe_code.specs.Round.{RoundSoFar, has_answered, asks, taken, is_enough, have_answered, parts_in, len_in, missing_in, state_of}
+use Rattle.stripe_code.specs.Round.{RoundSoFar, has_answered, asks, round_take, is_enough, all_answered, parts_in, len_in, missing_in, state_of}
 use Rattle.loss_law.proofs.Pairs.{Single, AllAsked, ToldSo, AllSo, single_more, asked_more, so_more}
 
 -- the parts of a test that an answer counts
@@ -38,10 +38,10 @@ pub record RoundSo (P : ℕ → ℕ → Type 0) (servers : List ℕ) (parity : �
   pub asked : AllAsked r.servers r.answers
   pub told : AllSo P r.answers
 
-pub taken_so : (P : ℕ → ℕ → Type 0) (servers : List ℕ) (parity : ℕ) (r : RoundSoFar) (server : ℕ) (t : Told) → RoundSo P servers parity r → asks r server ≡ true
-    → ToldSo P server t → RoundSo P servers parity (taken r server t)
-unfolding taken
-taken_so P servers parity r server t so asked fact =
+pub round_take_so : (P : ℕ → ℕ → Type 0) (servers : List ℕ) (parity : ℕ) (r : RoundSoFar) (server : ℕ) (t : Told) → RoundSo P servers parity r → asks r server ≡ true
+    → ToldSo P server t → RoundSo P servers parity (round_take r server t)
+unfolding round_take
+round_take_so P servers parity r server t so asked fact =
     by_test (RoundSo P servers parity) (has_answered r.answers server) r (record r { answers = r.answers ++ record { server = server; told = t } ∷ [] })
     (λ e. so) (λ e. record {
       its_servers = so.its_servers;
@@ -62,7 +62,7 @@ unfolding state_of pairs_in
 short_pairs r pairs =
     by_test (λ (st : RoundState). st ≡ Short pairs → pairs ≡ missing_in r.answers) (is_enough r)
     (Read (joined (parts_in r.n r.answers) r.parity (unwrap_or (len_in r.answers) 0)))
-    (cond (have_answered r.answers r.servers) (Short (missing_in r.answers)) Waiting)
+    (cond (all_answered r.answers r.servers) (Short (missing_in r.answers)) Waiting)
     (λ t e. absurd cc)
-    (λ t. by_test (λ (st : RoundState). st ≡ Short pairs → pairs ≡ missing_in r.answers) (have_answered r.answers r.servers)
+    (λ t. by_test (λ (st : RoundState). st ≡ Short pairs → pairs ≡ missing_in r.answers) (all_answered r.answers r.servers)
     (Short (missing_in r.answers)) Waiting (λ k e. sym (ap pairs_in e)) (λ k e. absurd cc))

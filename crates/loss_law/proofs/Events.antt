@@ -16,7 +16,7 @@ use Rattle.log_scan.specs.declared.input.In.{In as Input}
 use Rattle.log_scan.specs.declared.input.In.TheVariants as scan_in
 use Rattle.log_scan.specs.declared.output.Out as scan_outs
 use Rattle.log_scan.specs.declared.output.Out.TheVariants as scan_out
-use Rattle.log_scan.specs.ScanState.{ScanState, started}
+use Rattle.log_scan.specs.ScanState.{ScanState, scan_start}
 use Rattle.log_scan.specs.Transition as scan
 use Rattle.log_protocol.specs.Tables.{In}
 use Rattle.log_tie.specs.Setting.{Setting}
@@ -29,7 +29,7 @@ use Rattle.log_law.specs.Events.{CameToScan, Happens}
 use Rattle.log_law.specs.Events.Happens.{Acts, Writes, Opens, Crashes, Restarts, Renews, Serves, Bars, Lists, Hears, Raises, Publishes, Welcomes, Drops}
 use Rattle.loss_law.proofs.Shelves.{ShelfOn, shelf_same, fence_on, deed_on}
 use Rattle.loss_law.proofs.Growing.{AskedBy, AreNamed, AllSayNew, Fits, Base, BootOn, Grows, base_on}
-use Rattle.loss_law.proofs.Asking.{AllAskedBy, With, FollowsWith, takes_so}
+use Rattle.loss_law.proofs.Asking.{AllAskedBy, With, FollowsWith, opening_take_so}
 
 -- ---- what is sent
 
@@ -145,7 +145,7 @@ taken_with g s d groups w fits named =
     record { up = w.ask; asked = w.asked; fits = record { log = w.log ∙ fits.log; groups = subst (AreNamed g) (sym w.groups_are) named } }
 
 taken : (g : Setting) (n : Net) (s : ScanState) (i : Input) → Base g n → Fits g s.opening → CameToScan g n i → Taken g s (scan.transition s i)
-taken g n s i base fits came = by i came (takes_so s.opening s.stage i)
+taken g n s i base fits came = by i came (opening_take_so s.opening s.stage i)
   where
     by : (j : Input) → CameToScan g n j → FollowsWith s.opening j (scan.transition s j) → Taken g s (scan.transition s j)
     by (scan_in.Welcome ask news m) c f = taken_with g s (scan.transition s (scan_in.Welcome ask news m)) f.0 f.2 fits (groups f.1)
@@ -244,7 +244,7 @@ fits_then g n o base (Opens s i fact came can) t e =
 fits_then g n o base Crashes t e = absurd cc
 fits_then g n o base (Restarts fact) t e = subst (λ (z : ScanState). Fits g z.opening) (same e) (record { log = refl; groups = λ id group none. absurd cc })
   where
-    same : Opening (started g.log (suc n.inc)) ≡ Opening t → started g.log (suc n.inc) ≡ t
+    same : Opening (scan_start g.log (suc n.inc)) ≡ Opening t → scan_start g.log (suc n.inc) ≡ t
     same e = cc
 fits_then g n o base (Renews m high doubts fact came) t e = absurd cc
 fits_then g n o base (Serves v deed some came) t e = base.opening t e

@@ -6,7 +6,7 @@ use Rattle.xfs_base.specs.declared.news.SlotNews.{SlotNews}
 use Rattle.xfs_base.specs.declared.segment.SegRef.{SegRef}
 use Rattle.xfs_base.proofs.Booleans.{by_test, and_first}
 use Rattle.group_map.specs.GroupMapState.{GroupMapState}
-use Rattle.segment_reading.specs.Reading.{ReadingState, is_asking, to_ask}
+use Rattle.segment_reading.specs.Reading.{ReadingState, is_asking, reading_unanswered}
 use Rattle.stripe_code.specs.declared.round.Told.{Told}
 use Rattle.stripe_code.specs.declared.round.Told.TheVariants as told
 use Rattle.log_scan.specs.declared.input.In.{In as Input}
@@ -68,15 +68,15 @@ module _ (g : Setting) (Was Now : SegRef → Type 0) (start n o : Net) (run : Ru
     least = least_horizon s.opening.log.0 news
 
     abbrev risen : OpeningState
-    risen = scan.rises (record s.opening { groups = Some m }) least
+    risen = scan.opening_rise (record s.opening { groups = Some m }) least
 
     risen_alike : Alike risen
     risen_alike = record { ask = refl; log = own.log; groups = named }
 
-    confirms_goes : (b : Backward) (r : Option ReadingState) → s.stage ≡ Reads b r → ReadKept g Was run s.opening.ask b r → To (scan.confirms risen b r)
-    unfolding scan.confirms
+    confirms_goes : (b : Backward) (r : Option ReadingState) → s.stage ≡ Reads b r → ReadKept g Was run s.opening.ask b r → To (scan.opening_confirm risen b r)
+    unfolding scan.opening_confirm
     confirms_goes b None at k =
-        by_test To (scan.is_bottom risen.low b.next) (goes risen Over (scan.chain_of b ∷ [])) (scan.begins_round risen b)
+        by_test To (scan.is_bottom risen.low b.next) (goes risen Over (scan.backward_told b ∷ [])) (scan.opening_begin_round risen b)
         (λ t. over_goes g Was Now start n o run e grows boot base s fact up torn_now risen b)
         (λ t. round_goes g Was Now start n o run e grows boot base s fact up torn_now risen b risen_alike)
     confirms_goes b (Some r) at k = confirmed g Was Now start n o run e grows boot base s fact up torn_now b r at k risen risen_alike reached
@@ -89,7 +89,7 @@ module _ (g : Setting) (Was Now : SegRef → Type 0) (start n o : Net) (run : Ru
             omega arith
 
     welcomed_goes : (stage : Stage) → s.stage ≡ stage → StageKept g Was run s.opening.ask stage
-        → To (scan.welcomed (record s.opening { groups = Some m }) stage least)
+        → To (scan.opening_welcome (record s.opening { groups = Some m }) stage least)
     welcomed_goes Hails at k = record { kept = λ opens. tt; lost = fences_lose (WasTorn Was s) (scan.awaited (Some m) []) }
     welcomed_goes (Gathers lists) at k = record { kept = λ opens. tt; lost = tt }
     welcomed_goes (Asks lists) at k = picks_goes g Was Now start n o run e grows boot base s fact up torn_now risen lists risen_alike
@@ -101,7 +101,7 @@ module _ (g : Setting) (Was Now : SegRef → Type 0) (start n o : Net) (run : Ru
   unfolding scan.on_welcome
   welcome_goes ask news m came k =
       by_test To ((ask == s.opening.ask) && (scan.can_ask s.opening && scan.awaits_welcome s.stage))
-      (scan.welcomed (record s.opening { groups = Some m }) s.stage (least_horizon s.opening.log.0 news)) (stays s.opening s.stage)
+      (scan.opening_welcome (record s.opening { groups = Some m }) s.stage (least_horizon s.opening.log.0 news)) (stays s.opening s.stage)
       (λ t. welcomed_goes news m (base.packets (MapSent m) came.1) (
         came.0.0,
         subst (λ z. In (WelcomeSent n.inc z news came.0.0) n.sent)
@@ -136,18 +136,18 @@ module _ (g : Setting) (Was Now : SegRef → Type 0) (start n o : Net) (run : Ru
       → ToldSo (Between g r.target.seg.name a.middle.net n) server t
 
   module _ (ask server : ℕ) (t : Told) (true_then : TellsTrue ask server t) where
-    heard_with_goes : (b : Backward) (r : ReadingState) (groups : Option GroupMapState) → s.stage ≡ Reads b (Some r) → ReadingKept g Was run s.opening.ask b r
-        → To (scan.heard_with s.opening b r groups ask server t)
-    heard_with_goes b r None at k = still s.opening (Reads b (Some r)) [] refl k tt
-    heard_with_goes b r (Some groups) at k =
+    opening_read_goes : (b : Backward) (r : ReadingState) (groups : Option GroupMapState) → s.stage ≡ Reads b (Some r) → ReadingKept g Was run s.opening.ask b r
+        → To (scan.opening_read s.opening b r groups ask server t)
+    opening_read_goes b r None at k = still s.opening (Reads b (Some r)) [] refl k tt
+    opening_read_goes b r (Some groups) at k =
         answered g Was Now start n o run e grows boot base s fact up torn_now b r at k groups ask server t own (true_then b r at)
 
     heard_goes : (b : Backward) (r : Option ReadingState) → s.stage ≡ Reads b r → ReadKept g Was run s.opening.ask b r
-        → To (scan.heard s.opening b r ask server t)
+        → To (scan.opening_hear s.opening b r ask server t)
     heard_goes b None at k = still s.opening (Reads b None) [] refl k tt
     heard_goes b (Some r) at k =
-        by_test To (scan.can_ask s.opening) (scan.heard_with s.opening b r s.opening.groups ask server t) (stays s.opening (Reads b (Some r)))
-        (λ can. heard_with_goes b r s.opening.groups at k) (λ can. still s.opening (Reads b (Some r)) [] refl k tt)
+        by_test To (scan.can_ask s.opening) (scan.opening_read s.opening b r s.opening.groups ask server t) (stays s.opening (Reads b (Some r)))
+        (λ can. opening_read_goes b r s.opening.groups at k) (λ can. still s.opening (Reads b (Some r)) [] refl k tt)
 
     told_goes : (stage : Stage) → s.stage ≡ stage → StageKept g Was run s.opening.ask stage → To (scan.on_told s.opening stage ask server t)
     unfolding scan.on_told
@@ -159,11 +159,11 @@ module _ (g : Setting) (Was Now : SegRef → Type 0) (start n o : Net) (run : Ru
 
   -- ---- time
 
-  asked_quiet : (r : Option ReadingState) → Loses (WasTorn Was s) (scan.asked_again s.opening r)
+  asked_quiet : (r : Option ReadingState) → Loses (WasTorn Was s) (scan.opening_read_again s.opening r)
   asked_quiet None = tt
   asked_quiet (Some r) =
-      by_test (Loses (WasTorn Was s)) (is_asking r.stage) (scan.fetches r) (Hello s.opening.ask ∷ [])
-      (λ t. fetches_lose (WasTorn Was s) r.target.seg.name r.ask (to_ask r)) (λ t. tt)
+      by_test (Loses (WasTorn Was s)) (is_asking r.stage) (scan.backward_fetch r) (Hello s.opening.ask ∷ [])
+      (λ t. fetches_lose (WasTorn Was s) r.target.seg.name r.ask (reading_unanswered r)) (λ t. tt)
 
   tick_quiet : (stage : Stage) → Loses (WasTorn Was s) (scan.on_tick s.opening stage)
   unfolding scan.on_tick

@@ -5,7 +5,7 @@ use Rattle.xfs_base.specs.declared.segment.SegRef.{SegRef}
 use Rattle.log_scan.specs.declared.input.In.{In as Input}
 use Rattle.log_scan.specs.declared.output.Out.{Out}
 use Rattle.log_scan.specs.declared.output.Out.TheVariants.{Hello, Fence, Fetch, Chain, Lost}
-use Rattle.log_scan.specs.ScanState.{IsRead, ScanState, started}
+use Rattle.log_scan.specs.ScanState.{IsRead, ScanState, scan_start}
 use Rattle.log_scan.specs.Transition as scan
 use Rattle.client_log.specs.Transition as log
 use Rattle.log_protocol.specs.Tables.{In}
@@ -64,7 +64,7 @@ kept_then g start n o run base Crashes truth kept t at = absurd cc
 kept_then g start n o run base (Restarts fact) truth kept t at =
     subst (λ (z : ScanState). StageKept g (TornIn g (On run (Restarts fact))) (On run (Restarts fact)) z.opening.ask z.stage) (same at) tt
   where
-    same : Opening (started g.log (suc n.inc)) ≡ Opening t → started g.log (suc n.inc) ≡ t
+    same : Opening (scan_start g.log (suc n.inc)) ≡ Opening t → scan_start g.log (suc n.inc) ≡ t
     same e = cc
 kept_then g start n o run base (Renews m high doubts fact came) truth kept t at = absurd cc
 kept_then g start n o run base (Serves v deed some came) truth kept t at = aside g start n o run base (Serves v deed some came) kept refl refl t at

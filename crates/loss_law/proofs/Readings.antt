@@ -17,12 +17,12 @@ use Rattle.segment_reading.specs.declared.reading.Stage as rounds
 use Rattle.segment_reading.specs.declared.reading.Stage.TheVariants as stand
 use Rattle.segment_reading.specs.declared.target.Target.{Target}
 use Rattle.segment_reading.specs.Lost.{missing_twice, are_gone}
-use Rattle.segment_reading.specs.Reading.{ReadingState, Step, counts, name_fits, is_asking, to_ask}
+use Rattle.segment_reading.specs.Reading.{ReadingState, Step, counts, name_fits, is_asking, reading_unanswered}
 use Rattle.segment_reading.specs.Reading as reading
 use Rattle.stripe_code.specs.declared.round.RoundState.{RoundState}
 use Rattle.stripe_code.specs.declared.round.RoundState.TheVariants as round
 use Rattle.stripe_code.specs.declared.round.Told.{Told}
-use Rattle.stripe_code.specs.Round.{RoundSoFar, asks, taken, state_of, told_fits}
+use Rattle.stripe_code.specs.Round.{RoundSoFar, asks, round_take, state_of, told_fits}
 use Rattle.log_scan.specs.declared.listing.Listing.{Listing}
 use Rattle.log_scan.specs.declared.opening.Opening.{Opening as OpeningState}
 use Rattle.log_scan.specs.declared.output.Out.{Out}
@@ -47,7 +47,7 @@ use Rattle.loss_law.proofs.Growing.{AskedBy, AreNamed, Base, Grows, sent_then}
 use Rattle.loss_law.proofs.Interval.{Before, Between, passed}
 use Rattle.loss_law.proofs.Torn.{is_torn}
 use Rattle.loss_law.proofs.Kept.{WasTorn, Middle, Asks_on, Doubts, RoundKept, ReadingKept, StageKept, once_keeps, middle_on, reading_on}
-use Rattle.loss_law.proofs.Answering.{counted_parts, asks_still, RoundSo, taken_so, short_pairs}
+use Rattle.loss_law.proofs.Answering.{counted_parts, asks_still, RoundSo, round_take_so, short_pairs}
 
 -- where a segment is said to be lost, this holds of its name
 abbrev pub Loses : (SegName → Type 0) → List Out → Type 0
@@ -122,7 +122,7 @@ module _ (g : Setting) (Was Now : SegRef → Type 0) (start n o : Net) (run : Ru
 
   module _ (p : OpeningState) (b : Backward) (group : Group) (of : known_group p.groups b.next.group ≡ Some group) (like : Like p) where
     abbrev begun : ReadingState
-    begun = reading.begun (scan.target_at p.log b.next) group (p.ask + 1)
+    begun = reading.reading_start (scan.target_at p.log b.next) group (p.ask + 1)
 
     begun_kept : is_opening o.owner ≡ true → ReadingKept g Now (On run e) (p.ask + 1) b begun
     begun_kept opens = let named = like.groups b.next.group group of in record {
@@ -140,35 +140,35 @@ module _ (g : Setting) (Was Now : SegRef → Type 0) (start n o : Net) (run : Ru
   begins_goes p b (Some group) of like =
       record {
         kept = begun_kept p b group of like;
-        lost = fetches_lose (WasTorn Was s) (scan.name_at p.log b.next) (p.ask + 1) (to_ask (begun p b group of like));
+        lost = fetches_lose (WasTorn Was s) (scan.name_at p.log b.next) (p.ask + 1) (reading_unanswered (begun p b group of like));
       }
 
-  pub round_goes : (p : OpeningState) (b : Backward) → Like p → Goes (scan.begins_round p b)
-  unfolding scan.begins_round
+  pub round_goes : (p : OpeningState) (b : Backward) → Like p → Goes (scan.opening_begin_round p b)
+  unfolding scan.opening_begin_round
   round_goes p b like = begins_goes p b (known_group p.groups b.next.group) refl like
 
-  pub over_goes : (p : OpeningState) (b : Backward) → Goes (goes p Over (scan.chain_of b ∷ []))
+  pub over_goes : (p : OpeningState) (b : Backward) → Goes (goes p Over (scan.backward_told b ∷ []))
   over_goes p b = record { kept = λ opens. tt; lost = tt }
 
-  follows_goes : (p : OpeningState) (b : Backward) → Like p → Goes (scan.follows p b)
-  unfolding scan.follows
+  follows_goes : (p : OpeningState) (b : Backward) → Like p → Goes (scan.opening_follow p b)
+  unfolding scan.opening_follow
   follows_goes p b like =
-      by_test Goes (scan.is_bottom p.low b.next) (goes p Over (scan.chain_of b ∷ [])) (scan.begins_round p b) (λ t. over_goes p b) (λ t. round_goes p b like)
+      by_test Goes (scan.is_bottom p.low b.next) (goes p Over (scan.backward_told b ∷ [])) (scan.opening_begin_round p b) (λ t. over_goes p b) (λ t. round_goes p b like)
 
   picks_at_goes : (p : OpeningState) (lists : List Listing) (at : Option End) → Like p → Goes (scan.picks_at p lists at)
   picks_at_goes p lists None like = record { kept = λ opens. tt; lost = tt }
-  picks_at_goes p lists (Some at) like = follows_goes p (scan.read_from at) like
+  picks_at_goes p lists (Some at) like = follows_goes p (scan.backward_from at) like
 
-  pub picks_goes : (p : OpeningState) (lists : List Listing) → Like p → Goes (scan.picks p lists)
-  unfolding scan.picks
+  pub picks_goes : (p : OpeningState) (lists : List Listing) → Like p → Goes (scan.opening_pick p lists)
+  unfolding scan.opening_pick
   picks_goes p lists like = picks_at_goes p lists (start_of p.groups lists p.low) like
 
   -- ---- the segment that is read
 
   module _ (b : Backward) (r : ReadingState) (at : s.stage ≡ Reads b (Some r)) (k : ReadingKept g Was run s.opening.ask b r) where
     -- the same reading, with what else is known of it, waits
-    waits : (p : OpeningState) (q : ReadingState) → p.ask ≡ s.opening.ask → ReadingKept g Was run s.opening.ask b q → Goes (scan.goes_on p b q next.Wait)
-    unfolding scan.goes_on
+    waits : (p : OpeningState) (q : ReadingState) → p.ask ≡ s.opening.ask → ReadingKept g Was run s.opening.ask b q → Goes (scan.opening_go_on p b q next.Wait)
+    unfolding scan.opening_go_on
     waits p q same known =
         record {
           kept = λ opens. subst (λ ask. ReadingKept g Now (On run e) ask b q) (sym same)
@@ -192,18 +192,18 @@ module _ (g : Setting) (Was Now : SegRef → Type 0) (start n o : Net) (run : Ru
         stage = first_asked anew (middle_on g Was Now start n o run e grows boot (up opens) r.target.seg r.kept m) (let a = like.ask in omega arith) refl;
       }
 
-      again : Goes (scan.goes_on p b anew next.Ask)
-      unfolding scan.goes_on
-      again = record { kept = anew_kept; lost = fetches_lose (WasTorn Was s) r.target.seg.name (p.ask + 1) (to_ask anew) }
+      again : Goes (scan.opening_go_on p b anew next.Ask)
+      unfolding scan.opening_go_on
+      again = record { kept = anew_kept; lost = fetches_lose (WasTorn Was s) r.target.seg.name (p.ask + 1) (reading_unanswered anew) }
 
-    loses : (p : OpeningState) (q : ReadingState) → q.target ≡ r.target → WasTorn Was s r.target.seg.name → Goes (scan.goes_on p b q next.Lost)
-    unfolding scan.goes_on
+    loses : (p : OpeningState) (q : ReadingState) → q.target ≡ r.target → WasTorn Was s r.target.seg.name → Goes (scan.opening_go_on p b q next.Lost)
+    unfolding scan.opening_go_on
     loses p q same earned = record { kept = λ opens. tt; lost = (subst (λ (t : Target). WasTorn Was s t.seg.name) (sym same) earned, tt) }
 
     -- the question of the reader is answered, by a horizon that doesn't pass the segment
     decided : (p : OpeningState) (stage : rounds.Stage) → Like p → ((d : Doubts g Was run s.opening.ask r.target.seg) → d.bound ≤ p.low) → p.low ≤ b.next.seq
         → RoundKept g Was run s.opening.ask r stage
-        → Goes (scan.goes_on p b (reading.goes_on r (p.ask + 1) stage).state (reading.goes_on r (p.ask + 1) stage).next)
+        → Goes (scan.opening_go_on p b (reading.goes_on r (p.ask + 1) stage).state (reading.goes_on r (p.ask + 1) stage).next)
     decided p stand.Asking like reached above known = waits p r like.ask k
     decided p stand.Between like reached above known = again p like known
     decided p stand.Doubted like reached above known = loses p (record r { stage = stand.Over }) refl (record {
@@ -214,10 +214,10 @@ module _ (g : Setting) (Was Now : SegRef → Type 0) (start n o : Net) (run : Ru
     })
     decided p stand.Over like reached above known = waits p r like.ask k
 
-    pub confirmed : (p : OpeningState) → Like p → ((d : Doubts g Was run s.opening.ask r.target.seg) → d.bound ≤ p.low) → Goes (scan.confirms p b (Some r))
-    unfolding scan.confirms reading.on_confirmed
+    pub confirmed : (p : OpeningState) → Like p → ((d : Doubts g Was run s.opening.ask r.target.seg) → d.bound ≤ p.low) → Goes (scan.opening_confirm p b (Some r))
+    unfolding scan.opening_confirm reading.on_confirmed
     confirmed p like reached =
-        by_test Goes (scan.is_bottom p.low b.next) (goes p Over (scan.chain_of b ∷ [])) (scan.confirms_by p b (Some r)) (λ t. over_goes p b)
+        by_test Goes (scan.is_bottom p.low b.next) (goes p Over (scan.backward_told b ∷ [])) (scan.confirms_by p b (Some r)) (λ t. over_goes p b)
         (λ t. decided p r.stage like reached (no_lower p.low b.next.seq (or_parts (nat_lt b.next.seq p.low) (names_none (scan.prior_at b.next)) t).0) k.stage)
 
     -- ---- an answer
@@ -282,8 +282,8 @@ module _ (g : Setting) (Was Now : SegRef → Type 0) (start n o : Net) (run : Ru
         reads : IsRead s.stage seg
         reads = (b, r, at, refl)
 
-        round_ends : Goes (scan.goes_on s.opening b ended next.Again)
-        unfolding scan.goes_on
+        round_ends : Goes (scan.opening_go_on s.opening b ended next.Again)
+        unfolding scan.opening_go_on
         round_ends = record { kept = kept; lost = tt }
           where
             kept : is_opening o.owner ≡ true → ReadingKept g Now (On run e) (s.opening.ask + 1) b ended
@@ -298,13 +298,13 @@ module _ (g : Setting) (Was Now : SegRef → Type 0) (start n o : Net) (run : Ru
                   (λ t. doubted t opens) (λ t. now_middle seg pairs (each_on _ _ before_now pairs each) (λ some. reads) opens);
             }
 
-      found : (found_segment : Option Segment) → Goes (scan.goes_on s.opening b (reading.read_as q found_segment).state (reading.read_as q found_segment).next)
-      unfolding scan.goes_on
-      found (Some t) = follows_goes s.opening (scan.with_segment b t) like
+      found : (found_segment : Option Segment) → Goes (scan.opening_go_on s.opening b (reading.reading_reads q found_segment).state (reading.reading_reads q found_segment).next)
+      unfolding scan.opening_go_on
+      found (Some t) = follows_goes s.opening (scan.backward_with b t) like
       found None = round_ends [] tt tt tt
 
       judged : (groups : GroupMapState) (st : RoundState) → state_of now ≡ st
-          → Goes (scan.goes_on s.opening b (reading.judged q groups st).state (reading.judged q groups st).next)
+          → Goes (scan.opening_go_on s.opening b (reading.reading_judge q groups st).state (reading.reading_judge q groups st).next)
       judged groups (round.Read bytes) of = found (reading.segment_found q.target groups (answer_of bytes))
       judged groups (round.Short pairs) of = let same = short_pairs now pairs of in round_ends pairs
           (subst (Each (λ p. Between g seg.name a.middle.net n p.0 p.1)) (sym same) (each_missing (Between g seg.name a.middle.net n) now.answers so.told))
@@ -315,21 +315,21 @@ module _ (g : Setting) (Was Now : SegRef → Type 0) (start n o : Net) (run : Ru
     -- what is told, where it counts, was so
     pub answered : (groups : GroupMapState) (ask server : ℕ) (t : Told) → Like s.opening
         → ((a : Asks_on g Was run r) → ask ≡ r.ask → ToldSo (Between g r.target.seg.name a.middle.net n) server t)
-        → Goes (scan.goes_on s.opening b (reading.on_answer r groups ask server t).state (reading.on_answer r groups ask server t).next)
-    unfolding reading.on_answer
-    answered groups ask server t like true_then = by_test (λ (step : Step). Goes (scan.goes_on s.opening b step.state step.next)) (counts r ask server t)
-        (reading.judged (record r { round = taken r.round server t }) groups (state_of (taken r.round server t))) (record { state = r; next = next.Wait }) takes
+        → Goes (scan.opening_go_on s.opening b (reading.reading_take r groups ask server t).state (reading.reading_take r groups ask server t).next)
+    unfolding reading.reading_take
+    answered groups ask server t like true_then = by_test (λ (step : Step). Goes (scan.opening_go_on s.opening b step.state step.next)) (counts r ask server t)
+        (reading.reading_judge (record r { round = round_take r.round server t }) groups (state_of (round_take r.round server t))) (record { state = r; next = next.Wait }) takes
         (λ other. waits s.opening r refl k)
       where
         takes : counts r ask server t ≡ true
-            → Goes (scan.goes_on s.opening b (reading.judged (record r { round = taken r.round server t }) groups (state_of (taken r.round server t))).state
-            (reading.judged (record r { round = taken r.round server t }) groups (state_of (taken r.round server t))).next)
+            → Goes (scan.opening_go_on s.opening b (reading.reading_judge (record r { round = round_take r.round server t }) groups (state_of (round_take r.round server t))).state
+            (reading.reading_judge (record r { round = round_take r.round server t }) groups (state_of (round_take r.round server t))).next)
         takes test =
             let c = counted_parts (is_asking r.stage) (ask == r.ask) (asks r.round server) (name_fits r.target t && told_fits r.round t) test in
             let asking : r.stage ≡ stand.Asking = asks_still r.stage c.first in
             let a : Asks_on g Was run r = subst (RoundKept g Was run s.opening.ask r) asking k.stage in
-            judged like a asking (taken r.round server t)
-            (taken_so (Between g r.target.seg.name a.middle.net n) r.round.servers r.round.parity r.round server t
+            judged like a asking (round_take r.round server t)
+            (round_take_so (Between g r.target.seg.name a.middle.net n) r.round.servers r.round.parity r.round server t
             (record { its_servers = refl; its_parity = refl; single = k.single; asked = k.asked; told = a.told }) c.third
             (true_then a (eqb-true ask r.ask c.second)))
-            groups (state_of (taken r.round server t)) refl
+            groups (state_of (round_take r.round server t)) refl

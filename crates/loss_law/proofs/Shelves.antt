@@ -10,7 +10,7 @@ use Rattle.xfs_base.specs.Stamps.{is_greater}
 use Rattle.xfs_base.proofs.Booleans.{contrary, by_test, equal_itself}
 use Rattle.std.specs.BTreeMap.{insert_entry}
 use Rattle.fragment_store.specs.ShelfState.{ShelfState, same_name, log_cmp, held_at, is_held, is_marked, fence_of}
-use Rattle.fragment_store.specs.Calls.{with_fragment, kept, on_fence, on_delete}
+use Rattle.fragment_store.specs.Calls.{with_fragment, shelf_store, on_fence, on_delete}
 use Rattle.xfs_base.proofs.SegmentNames.{one_name}
 use Rattle.fragment_store.proofs.Tables.{held-with, held-without}
 use Rattle.log_protocol.specs.Tables.{In}
@@ -44,7 +44,7 @@ less_min a b less = omega arith
 pub at_most : (a b : ℕ) → a < b → a ≤ b
 at_most a b less = omega arith
 
-kept_on : (g : Setting) (n : Net) (s : ShelfState) (f : Fragment) → ShelfOn g n s (kept s f)
+kept_on : (g : Setting) (n : Net) (s : ShelfState) (f : Fragment) → ShelfOn g n s (shelf_store s f)
 kept_on g n s f = by_test (ShelfOn g n s) (is_held s f.meta.name) s (record s { held = with_fragment f s.held }) (λ e. shelf_same g n s) (λ e. record {
   up = omega arith;
   holds = λ name own fact. inl
@@ -73,13 +73,13 @@ delete_on g n s name came = record { up = omega arith; holds = holds }
 
 pub deed_on : (g : Setting) (n : Net) (v : ℕ) (deed : Deed) → CameToServer g n v deed → ShelfOn g n (n.shelves v) (shelf_after g (n.shelves v) deed)
 deed_on g n v (Stores f generation) came =
-    by_test (ShelfOn g n (n.shelves v)) (is_stored (n.shelves v) f generation) (kept (n.shelves v) f) (n.shelves v) (λ e. kept_on g n (n.shelves v) f)
+    by_test (ShelfOn g n (n.shelves v)) (is_stored (n.shelves v) f generation) (shelf_store (n.shelves v) f) (n.shelves v) (λ e. kept_on g n (n.shelves v) f)
     (λ e. shelf_same g n (n.shelves v))
 deed_on g n v (Fetches name) came = shelf_same g n (n.shelves v)
 deed_on g n v (Fences inc) came = fence_on g n (n.shelves v) g.log (record { inc = inc; att = 0 })
 deed_on g n v (Deletes name) came = delete_on g n (n.shelves v) name came
 deed_on g n v (Fills f) came =
-    by_test (ShelfOn g n (n.shelves v)) (is_marked (n.shelves v).marks f.meta.name) (n.shelves v) (kept (n.shelves v) f) (λ e. shelf_same g n (n.shelves v))
+    by_test (ShelfOn g n (n.shelves v)) (is_marked (n.shelves v).marks f.meta.name) (n.shelves v) (shelf_store (n.shelves v) f) (λ e. shelf_same g n (n.shelves v))
     (λ e. kept_on g n (n.shelves v) f)
 deed_on g n v Loses came =
     let less : (n.shelves v).generation < min ((n.shelves v).generation + 1) u32_end = less_min (n.shelves v).generation u32_end came in

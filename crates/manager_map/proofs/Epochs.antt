@@ -7,7 +7,7 @@ use Rattle.std.proofs.lemmas.Bool.Decides.{nat_tests}
 use Rattle.std.proofs.lemmas.List.Sums.{sum_by-cons}
 use Rattle.std.proofs.Math.ListN.{length-set}
 use Rattle.manager_map.specs.declared.entry.SlotEntry.{SlotEntry}
-use Rattle.manager_map.specs.Slots.{first_entry, start_entries, entry_at, next_entry, after_move}
+use Rattle.manager_map.specs.Slots.{first_entry, manager_map_start, entry_at, next_entry, manager_map_advance}
 use Rattle.manager_map.specs.Moves.{Move, after_moves, moves_of}
 use Rattle.xfs_base.specs.Limits.{u32_end, slot_count}
 
@@ -44,7 +44,7 @@ set_follows (x ∷ xs) (suc at) (suc slot) entry follows = set_follows xs at slo
 pub moves_follow : (slots : List SlotEntry) (moves : List Move) (slot : ℕ) → Follows (entry_at slots slot) (entry_at (after_moves slots moves) slot)
 moves_follow slots [] slot = follows_itself _
 moves_follow slots (move ∷ moves) slot =
-    let next = after_move slots move.slot move.manager in
+    let next = manager_map_advance slots move.slot move.manager in
     let one : Follows (entry_at slots slot) (entry_at next slot) =
     set_follows slots move.slot slot _ (next_entry_follows (entry_at slots move.slot) move.manager) in
     follows_both (entry_at slots slot) (entry_at next slot) _ one (moves_follow next moves slot)
@@ -66,7 +66,7 @@ set_epoch (x ∷ xs) (suc at) (suc slot) entry within =
 
 -- what one move makes of the epoch of any slot
 move_epoch : (slots : List SlotEntry) (move : Move) (slot : ℕ) → slot < length slots → (entry_at slots slot).epoch ≤ u32_end
-    → (entry_at (after_move slots move.slot move.manager) slot).epoch ≡ min ((entry_at slots slot).epoch + cond (move.slot == slot) 1 0) u32_end
+    → (entry_at (manager_map_advance slots move.slot move.manager) slot).epoch ≡ min ((entry_at slots slot).epoch + cond (move.slot == slot) 1 0) u32_end
 move_epoch slots move slot within small =
     set_epoch slots move.slot slot (next_entry (entry_at slots move.slot) move.manager) within
     ∙ at_slot (move.slot == slot) refl
@@ -87,7 +87,7 @@ pub moves_epoch : (slots : List SlotEntry) (moves : List Move) (slot : ℕ) → 
     → (entry_at (after_moves slots moves) slot).epoch ≡ min ((entry_at slots slot).epoch + moves_of slot moves) u32_end
 moves_epoch slots [] slot within small = omega arith
 moves_epoch slots (move ∷ moves) slot within small =
-    let next = after_move slots move.slot move.manager in
+    let next = manager_map_advance slots move.slot move.manager in
     let one = move_epoch slots move slot within small in
     let long : length next ≡ length slots = length-set slots move.slot _ in
     let more = moves_epoch next moves slot (omega arith) (omega arith) in
@@ -97,7 +97,7 @@ moves_epoch slots (move ∷ moves) slot within small =
     u32_end one count
 
 -- every slot starts under epoch 1
-pub start_epoch : (managers : ℕ) (slot : ℕ) → slot < slot_count → (entry_at (start_entries managers) slot).epoch ≡ 1
+pub start_epoch : (managers : ℕ) (slot : ℕ) → slot < slot_count → (entry_at (manager_map_start managers) slot).epoch ≡ 1
 start_epoch managers slot within = first_epoch 0 8 slot within
   where
     first_epoch : (from n at : ℕ) → at < n → (entry_at (map (first_entry managers) (range_with_len from n)) at).epoch ≡ 1

@@ -9,8 +9,8 @@ abbrev pub first_entry : ℕ → ℕ → SlotEntry
 first_entry managers slot = record { epoch = 1; manager = slot % managers + 1 }
 
 -- the entries of slots 0 to 7 as they start
-abbrev pub start_entries : ℕ → List SlotEntry
-start_entries managers = map (first_entry managers) (range_with_len 0 slot_count)
+abbrev pub manager_map_start : ℕ → List SlotEntry
+manager_map_start managers = map (first_entry managers) (range_with_len 0 slot_count)
 
 -- what a slot has; a slot that there isn't has epoch 0 and manager 0
 abbrev pub entry_at : List SlotEntry → ℕ → SlotEntry
@@ -22,5 +22,5 @@ next_entry entry manager =
     if nat_lt entry.epoch u32_end then record { epoch = entry.epoch + 1; manager = manager } else entry
 
 -- the map once this slot is given to this manager
-abbrev pub after_move : List SlotEntry → ℕ → ℕ → List SlotEntry
-after_move slots slot manager = slice_set slots slot (next_entry (entry_at slots slot) manager)
+abbrev pub manager_map_advance : List SlotEntry → ℕ → ℕ → List SlotEntry
+manager_map_advance slots slot manager = slice_set slots slot (next_entry (entry_at slots slot) manager)

@@ -2,7 +2,7 @@
 ghost use Rattle.std.specs.Prelude.{◌≡◌, ◌<◌, ◌≤◌, ◌+◌, ℕ, List, min};
 ghost use Rattle.xfs_base.specs.Limits.{u32_end, slot_count};
 ghost use Rattle.manager_map.specs.declared.entry.SlotEntry.{SlotEntry};
-ghost use Rattle.manager_map.specs.Slots.{start_entries, entry_at};
+ghost use Rattle.manager_map.specs.Slots.{manager_map_start, entry_at};
 ghost use Rattle.manager_map.specs.Moves.{Move, after_moves, moves_of};
 
 /// Over any list of calls of `advance`, refused ones among them, no epoch falls; while a slot's epoch
@@ -15,5 +15,5 @@ pub fn epochs_never_fall()
         → (entry_at (after_moves slots moves) slot).epoch ≡ (entry_at slots slot).epoch
         → entry_at (after_moves slots moves) slot ≡ entry_at slots slot }
     ensures counted { (managers : ℕ) (moves : List Move) (slot : ℕ) → slot < slot_count
-        → (entry_at (after_moves (start_entries managers) moves) slot).epoch ≡ min (1 + moves_of slot moves) u32_end }
+        → (entry_at (after_moves (manager_map_start managers) moves) slot).epoch ≡ min (1 + moves_of slot moves) u32_end }
 {}

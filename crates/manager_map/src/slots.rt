@@ -2,7 +2,7 @@
 ghost use Rattle.std.specs.Prelude.{◌≡◌, ◌<◌, ◌≤◌, ◌+◌, ◌↔◌, IsErr, OnOk, OnErr, IfOk};
 ghost use Rattle.xfs_base.specs.Blocks.{slot_of};
 ghost use Rattle.xfs_base.specs.Limits.{u32_end};
-ghost use Rattle.manager_map.specs.Slots.{start_entries, entry_at, after_move};
+ghost use Rattle.manager_map.specs.Slots.{manager_map_start, entry_at, manager_map_advance};
 
 use crate::SlotEntry;
 use std::marker::Model;
@@ -43,7 +43,7 @@ impl ManagerMap {
     /// and epoch 1. Takes no memory.
     pub fn start(managers: u8) -> ManagerMap
         requires { 1 ≤ managers }
-        ensures { result ≡ start_entries managers }
+        ensures { result ≡ manager_map_start managers }
     {
         let first = |slot|
             requires { 1 ≤ managers }
@@ -67,7 +67,7 @@ impl ManagerMap {
     pub fn advance(&mut self, slot: u8, manager: u8) -> Result<u32, BadSlot>
         ensures bad { IsErr result ↔ (7 < slot) }
         ensures unchanged { OnErr result (self.new ≡ self.old) }
-        ensures moved { OnOk result (self.new ≡ after_move self.old slot manager) }
+        ensures moved { OnOk result (self.new ≡ manager_map_advance self.old slot manager) }
         ensures answer { IfOk result (λ epoch. epoch ≡ (entry_at self.new slot).epoch) }
         ensures raised { (entry_at self.old slot).epoch < u32_end
             → IfOk result (λ epoch. epoch ≡ (entry_at self.old slot).epoch + 1) }

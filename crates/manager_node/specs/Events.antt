@@ -1,10 +1,10 @@
 -- What each event makes of a manager.
 use Rattle.std.specs.Prelude.{ℕ, Bool, ◌==◌, ◌&&◌, if◌then◌else◌, List, [], ◌∷◌}
-use Rattle.group_map.specs.Groups.{started as groups_started}
+use Rattle.group_map.specs.Groups.{group_map_start as groups_started}
 use Rattle.log_owner.specs.Sending.{hello}
 use Rattle.manager_slots.specs.declared.lasting.Lasting.{Lasting as Kept}
-use Rattle.manager_serving.specs.Serving.{first, again, on_news, hears, on_tick}
-use Rattle.node_base.specs.Beginning.{started as items_started}
+use Rattle.manager_serving.specs.Serving.{serving_start, again, on_news, serving_hear, on_tick}
+use Rattle.node_base.specs.Beginning.{items_start as items_started}
 use Rattle.node_base.specs.declared.peers.Peers.{Peers}
 use Rattle.node_base.specs.Effects.{packets_of, acts_of}
 use Rattle.node_base.specs.Maps.{fits, forgotten}
@@ -33,10 +33,10 @@ abbrev pub first_life : ℕ → List Work → Kept
 first_life number works = record { number = number; inc = 1; questions = record { last = 0 }; items = items_started works }
 
 -- the manager of this number before the first event
-abbrev pub first_manager : ℕ → Setup → List Work → Manager
-first_manager number setup works = record {
+abbrev pub manager_start : ℕ → Setup → List Work → Manager
+manager_start number setup works = record {
   peers = peers_of setup;
-  phase = Serves (first (first_life number works) setup.managers (groups_started setup.servers setup.groups));
+  phase = Serves (serving_start (first_life number works) setup.managers (groups_started setup.servers setup.groups));
 }
 
 -- ---- packets
@@ -64,10 +64,10 @@ on_waiting peers kept hello _ = still (Waiting kept hello)
 abbrev pub on_packet : Peers → Phase → Packet → Went_to
 on_packet peers (Down kept) packet = still (Down kept)
 on_packet peers (Waiting kept hello) packet = on_waiting peers kept hello packet.body
-on_packet peers (Serves s) packet = serves (hears s peers.clients packet)
+on_packet peers (Serves s) packet = serves (serving_hear s peers.clients packet)
 
-unfoldable pub on_deliver : Peers → Phase → Packet → Went_to
-on_deliver peers p packet = if is_well_formed peers packet then on_packet peers p packet else still p
+unfoldable pub manager_deliver : Peers → Phase → Packet → Went_to
+manager_deliver peers p packet = if is_well_formed peers packet then on_packet peers p packet else still p
 
 -- ---- time
 
@@ -80,7 +80,7 @@ on_time (Serves s) = serves (on_tick s)
 
 abbrev pub on_event : Peers → Phase → Do → Went_to
 on_event peers p Begin = on_begin p
-on_event peers p (Deliver packet) = on_deliver peers p packet
+on_event peers p (Deliver packet) = manager_deliver peers p packet
 on_event peers p Tick = on_time p
 
 -- where a counter isn't at least 65,536 below its end, the event changes nothing

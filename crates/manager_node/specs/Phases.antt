@@ -2,13 +2,13 @@
 use Rattle.std.specs.Prelude.{ℕ, Bool, true, false, [], ◌∷◌, ◌++◌, Option, Some, None}
 use Rattle.log_owner.specs.Sending.{hello}
 use Rattle.manager_slots.specs.declared.lasting.Lasting.{Lasting as Kept}
-use Rattle.manager_slots.specs.Lasting.{kept_has_room, with_answer}
+use Rattle.manager_slots.specs.Lasting.{lasting_has_room, lasting_answer}
 use Rattle.manager_slots.specs.Numbers.{risen}
 use Rattle.manager_serving.specs.Checkpoints.{Done, on_checkpoint}
 use Rattle.manager_serving.specs.declared.serving.Serving.{Serving}
-use Rattle.manager_serving.specs.Serving.{serving_room}
-use Rattle.node_base.specs.Asking.{next_ask, drawn}
-use Rattle.node_base.specs.Beginning.{next_item, begun, started, work_at, answers_unanswered}
+use Rattle.manager_serving.specs.Serving.{serving_has_room}
+use Rattle.node_base.specs.Asking.{next_ask, draw}
+use Rattle.node_base.specs.Beginning.{next_item, items_begin, items_start, work_at, answers_unanswered}
 use Rattle.node_base.specs.declared.effects.Effect.{Effect}
 use Rattle.node_base.specs.declared.effects.Effect.TheVariants.{Answer as Answers}
 use Rattle.version_model.specs.declared.answer.Answer.{Answer}
@@ -33,7 +33,7 @@ is_serving (Serves s) = true
 
 -- a manager that is down and has nothing to do
 abbrev pub idle : Phase
-idle = Down (record { number = 1; inc = 1; questions = record { last = 0 }; items = started [] })
+idle = Down (record { number = 1; inc = 1; questions = record { last = 0 }; items = items_start [] })
 
 -- what outlives a crash
 abbrev pub lasting_of : Phase → Kept
@@ -49,9 +49,9 @@ waiting_of (Serves s) = None
 
 -- each counter is at least 65,536 below its end
 abbrev pub phase_has_room : Phase → Bool
-phase_has_room (Down kept) = kept_has_room kept
-phase_has_room (Waiting kept hello) = kept_has_room kept
-phase_has_room (Serves s) = serving_room s
+phase_has_room (Down kept) = lasting_has_room kept
+phase_has_room (Waiting kept hello) = lasting_has_room kept
+phase_has_room (Serves s) = serving_has_room s
 
 -- it serves, and this is what was done
 abbrev pub serves : Done → Went_to
@@ -60,18 +60,18 @@ serves d = record { state = Serves d.state; outs = d.outs }
 -- ---- crash and restart
 
 -- all is lost but what outlives a crash; the item that is open is cut
-unfoldable pub crashes : Kept → ℕ → Went_to
-crashes kept number = record {
-  state = Down (with_answer kept);
+unfoldable pub crash : Kept → ℕ → Went_to
+crash kept number = record {
+  state = Down (lasting_answer kept);
   outs = answers_unanswered kept.items.unanswered answer.Cut ++ Answers number answer.Done ∷ [];
 }
 
 abbrev pub next_life : Kept → Kept
-next_life kept = record kept { inc = risen kept.inc; questions = drawn kept.questions }
+next_life kept = record kept { inc = risen kept.inc; questions = draw kept.questions }
 
 -- the next incarnation begins: it asks for the maps
-unfoldable pub restarts : Kept → ℕ → Went_to
-restarts kept number = record {
+unfoldable pub restart : Kept → ℕ → Went_to
+restart kept number = record {
   state = Waiting (next_life kept) (next_ask kept.questions);
   outs = Answers number answer.Done ∷ hello (risen kept.inc) (next_ask kept.questions) ∷ [];
 }
@@ -91,28 +91,28 @@ wish_at (Some asked) = wish_in asked
 abbrev pub wish_of : Kept → ℕ → Wish
 wish_of kept number = wish_at (work_at kept.items number)
 
-abbrev pub answers : Phase → ℕ → Answer → Went_to
-answers p number a = record { state = p; outs = Answers number a ∷ [] }
+abbrev pub manager_answer : Phase → ℕ → Answer → Went_to
+manager_answer p number a = record { state = p; outs = Answers number a ∷ [] }
 
 -- while it is down, all but a restart is refused
 abbrev pub down_wish : Kept → ℕ → Wish → Went_to
-down_wish kept number Restart = restarts kept number
-down_wish kept number Crash = answers (Down kept) number answer.Down
-down_wish kept number Checkpoint = answers (Down kept) number answer.Down
+down_wish kept number Restart = restart kept number
+down_wish kept number Crash = manager_answer (Down kept) number answer.Down
+down_wish kept number Checkpoint = manager_answer (Down kept) number answer.Down
 
 -- while it awaits its Welcome it manages no slot
 abbrev pub waiting_wish : Kept → ℕ → ℕ → Wish → Went_to
-waiting_wish kept hello number Crash = crashes kept number
-waiting_wish kept hello number Restart = answers (Waiting kept hello) number answer.Up
-waiting_wish kept hello number Checkpoint = answers (Waiting kept hello) number (answer.Count 0)
+waiting_wish kept hello number Crash = crash kept number
+waiting_wish kept hello number Restart = manager_answer (Waiting kept hello) number answer.Up
+waiting_wish kept hello number Checkpoint = manager_answer (Waiting kept hello) number (answer.Count 0)
 
 abbrev pub serving_wish : Serving → ℕ → Wish → Went_to
-serving_wish s number Crash = crashes s.lasting number
-serving_wish s number Restart = answers (Serves s) number answer.Up
+serving_wish s number Crash = crash s.lasting number
+serving_wish s number Restart = manager_answer (Serves s) number answer.Up
 serving_wish s number Checkpoint = serves (on_checkpoint s number)
 
 abbrev pub with_begun : Kept → Kept
-with_begun kept = record kept { items = begun kept.items }
+with_begun kept = record kept { items = items_begin kept.items }
 
 abbrev pub down_item : Kept → Option ℕ → Went_to
 down_item kept None = still (Down kept)

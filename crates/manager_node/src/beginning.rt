@@ -3,8 +3,8 @@ ghost use Rattle.std.specs.Prelude.{◌≡◌, ◌++◌, ◌∷◌, [], IfOk, On
 ghost use Rattle.log_owner.specs.Sending as sending;
 ghost use Rattle.node_base.specs.declared.effects.Effect.TheVariants.{Answer as Answers};
 ghost use Rattle.version_model.specs.declared.answer.Answer.TheVariants.{Done};
-ghost use Rattle.manager_node.specs.Phases.{answers, serves, wish_of, crashes, restarts, serving_wish, begin_down, begin_waiting, begin_serving};
-ghost use Rattle.manager_slots.specs.Lasting.{with_answer};
+ghost use Rattle.manager_node.specs.Phases.{manager_answer, serves, wish_of, crash, restart, serving_wish, begin_down, begin_waiting, begin_serving};
+ghost use Rattle.manager_slots.specs.Lasting.{lasting_answer};
 ghost use Rattle.manager_serving.specs.Checkpoints as checkpoints;
 
 use crate::phase::Phase;
@@ -113,8 +113,8 @@ fn serving_wish(
 // The item is answered at its begin, and nothing changes. What isn't held on is dropped by a call, here and
 // below, so that each part of it is dropped in one proof.
 fn answer(effects: &mut Effects, phase: Phase, number: u32, answer: Answer) -> Mem<Phase>
-    ensures state { IfOk result (λ after. after ≡ (answers phase number answer).state) }
-    ensures effects { OnOk result (effects.new ≡ effects.old ++ (answers phase number answer).outs) }
+    ensures state { IfOk result (λ after. after ≡ (manager_answer phase number answer).state) }
+    ensures effects { OnOk result (effects.new ≡ effects.old ++ (manager_answer phase number answer).outs) }
 {
     match effects.answer(number, answer) {
         Ok(()) => Ok(phase),
@@ -126,8 +126,8 @@ fn answer(effects: &mut Effects, phase: Phase, number: u32, answer: Answer) -> M
 }
 
 fn crash_serving(effects: &mut Effects, serving: Serving, number: u32) -> Mem<Phase>
-    ensures state { IfOk result (λ phase. phase ≡ (crashes serving.lasting number).state) }
-    ensures effects { OnOk result (effects.new ≡ effects.old ++ (crashes serving.lasting number).outs) }
+    ensures state { IfOk result (λ phase. phase ≡ (crash serving.lasting number).state) }
+    ensures effects { OnOk result (effects.new ≡ effects.old ++ (crash serving.lasting number).outs) }
 {
     crash(effects, serving.into_lasting(), number)
 }
@@ -152,10 +152,10 @@ fn begin_checkpoint(
 }
 
 // All is lost but what outlives a crash: the item that is open is cut.
-#[tactic(auto, unfolding(crate::specs::Phases::crashes))]
+#[tactic(auto, unfolding(crate::specs::Phases::crash))]
 fn crash(effects: &mut Effects, lasting: Lasting, number: u32) -> Mem<Phase>
-    ensures state { IfOk result (λ phase. phase ≡ (crashes lasting number).state) }
-    ensures effects { OnOk result (effects.new ≡ effects.old ++ (crashes lasting number).outs) }
+    ensures state { IfOk result (λ phase. phase ≡ (crash lasting number).state) }
+    ensures effects { OnOk result (effects.new ≡ effects.old ++ (crash lasting number).outs) }
 {
     let mut lasting = lasting;
     match cut(effects, &mut lasting, number) {
@@ -168,20 +168,20 @@ fn crash(effects: &mut Effects, lasting: Lasting, number: u32) -> Mem<Phase>
 }
 
 // The item that is open is cut, and that of the crash is answered.
-#[tactic(auto, unfolding(crate::specs::Phases::crashes))]
+#[tactic(auto, unfolding(crate::specs::Phases::crash))]
 fn cut(effects: &mut Effects, lasting: &mut Lasting, number: u32) -> Mem<()>
-    ensures lasting { OnOk result (lasting.new ≡ with_answer lasting.old) }
-    ensures effects { OnOk result (effects.new ≡ effects.old ++ (crashes lasting.old number).outs) }
+    ensures lasting { OnOk result (lasting.new ≡ lasting_answer lasting.old) }
+    ensures effects { OnOk result (effects.new ≡ effects.old ++ (crash lasting.old number).outs) }
 {
     lasting.answer(effects, Answer::Cut)?;
     effects.answer(number, Answer::Done)
 }
 
 // The next incarnation begins: it asks for the maps.
-#[tactic(auto, unfolding(crate::specs::Phases::restarts))]
+#[tactic(auto, unfolding(crate::specs::Phases::restart))]
 fn restart(effects: &mut Effects, lasting: Lasting, number: u32) -> Mem<Phase>
-    ensures state { IfOk result (λ phase. phase ≡ (restarts lasting number).state) }
-    ensures effects { OnOk result (effects.new ≡ effects.old ++ (restarts lasting number).outs) }
+    ensures state { IfOk result (λ phase. phase ≡ (restart lasting number).state) }
+    ensures effects { OnOk result (effects.new ≡ effects.old ++ (restart lasting number).outs) }
 {
     let mut lasting = lasting;
     lasting.inc = lasting.inc.saturating_add(1);

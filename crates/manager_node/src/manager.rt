@@ -3,7 +3,7 @@ ghost use Rattle.std.specs.Prelude.{◌≡◌, ◌++◌, IfOk, IfSome, OnOk};
 ghost use Rattle.node_base.specs.Setups.{IsSetup};
 ghost use Rattle.manager_node.specs.Phases.{is_serving, on_begin, waiting_of};
 ghost use Rattle.node_base.specs.Maps.{forgotten};
-ghost use Rattle.manager_node.specs.Events.{first_manager, takes_welcome, on_waiting, on_deliver, on_time, happens, manager_step};
+ghost use Rattle.manager_node.specs.Events.{manager_start, takes_welcome, on_waiting, manager_deliver, on_time, happens, manager_step};
 ghost use Rattle.manager_serving.specs.Serving as servings;
 
 use crate::beginning::{begin_down, begin_serving, begin_waiting};
@@ -44,7 +44,7 @@ impl Manager {
     /// A manager at the start of a run: it manages its slots, in which nothing has happened.
     pub fn start(alloc: Global, number: u8, setup: &Setup, items: List<Work>) -> Mem<Manager>
         requires { IsSetup setup.now }
-        ensures { IfOk result (λ manager. manager ≡ first_manager number setup.now items) }
+        ensures { IfOk result (λ manager. manager ≡ manager_start number setup.now items) }
     {
         let groups = groups_of(alloc, setup)?;
         let lasting = Lasting {
@@ -88,10 +88,10 @@ impl Manager {
     }
 
     // A packet comes. A manager that is down takes none, and one that awaits its Welcome takes that alone.
-    #[tactic(auto, unfolding(crate::specs::Events::on_deliver))]
+    #[tactic(auto, unfolding(crate::specs::Events::manager_deliver))]
     fn deliver(&mut self, alloc: Global, effects: &mut Effects, packet: &Packet) -> Mem<()>
-        ensures state { OnOk result (self.new ≡ record self.old { phase = (on_deliver self.old.peers self.old.phase packet.now).state }) }
-        ensures effects { OnOk result (effects.new ≡ effects.old ++ (on_deliver self.old.peers self.old.phase packet.now).outs) }
+        ensures state { OnOk result (self.new ≡ record self.old { phase = (manager_deliver self.old.peers self.old.phase packet.now).state }) }
+        ensures effects { OnOk result (effects.new ≡ effects.old ++ (manager_deliver self.old.peers self.old.phase packet.now).outs) }
     {
         if !is_well_formed(self.peers, packet) {
             return Ok(());

@@ -14,11 +14,11 @@ use Rattle.client_log.specs.declared.output.Out.TheVariants as log_out
 use Rattle.client_log.specs.LogState.{LogState}
 use Rattle.client_log.specs.Transition as log
 use Rattle.log_owner.specs.Sending.{store, name_of}
-use Rattle.manager_slots.specs.Lasting.{log_of, with_answer}
+use Rattle.manager_slots.specs.Lasting.{log_of, lasting_answer}
 use Rattle.manager_slots.specs.Numbers.{risen, slot_after}
-use Rattle.manager_slots.specs.SlotTable.{next_active, begin_at, cleaned_at, named_at}
-use Rattle.node_base.specs.Asking.{next_ask, drawn}
-use Rattle.node_base.specs.Beginning.{waiting, answers_unanswered}
+use Rattle.manager_slots.specs.SlotTable.{next_active, begin_at, slot_table_clean, slot_table_name}
+use Rattle.node_base.specs.Asking.{next_ask, draw}
+use Rattle.node_base.specs.Beginning.{items_wait, answers_unanswered}
 use Rattle.node_base.specs.declared.effects.Effect.{Effect}
 use Rattle.node_base.specs.declared.effects.Effect.TheVariants.{Send, Answer as Answers, Does}
 use Rattle.segment_format.specs.declared.segment.Item.{Item}
@@ -44,43 +44,43 @@ gives s effects = record { state = s; outs = effects }
 -- ---- what the writer says
 
 -- a fragment of the segment in flight is sent
-unfoldable pub stored : LogOut → List Effect
-stored (log_out.Send fragment member) = store fragment member ∷ []
-stored (log_out.Settled end rows) = []
+unfoldable pub checkpointing_store : LogOut → List Effect
+checkpointing_store (log_out.Send fragment member) = store fragment member ∷ []
+checkpointing_store (log_out.Settled end rows) = []
 
 abbrev pub sends_parts : Serving → Stepped LogState LogOut → Done
-sends_parts s r = record { state = record s { log = r.state }; outs = flat_map stored r.outs }
+sends_parts s r = record { state = record s { log = r.state }; outs = flat_map checkpointing_store r.outs }
 
 -- Parts go to the log as its next segment. Nothing is in flight, so that nothing is settled by it.
-unfoldable pub gives_parts : Serving → List Item → Done
-gives_parts s items = sends_parts s (log.transition s.log (log_input.Parts items))
+unfoldable pub give_parts : Serving → List Item → Done
+give_parts s items = sends_parts s (log.transition s.log (log_input.Parts items))
 
-abbrev pub awaiting : CkptDone → Option Checkpointing → Option Checkpointing
-awaiting done None = None
-awaiting done (Some job) = Some (record job { done = Some done })
+abbrev pub await_answer : CkptDone → Option Checkpointing → Option Checkpointing
+await_answer done None = None
+await_answer done (Some job) = Some (record job { done = Some done })
 
 -- the registry is told of a slot's checkpoint, and its answer is awaited
-unfoldable pub registers : Serving → CkptDone → Done
-registers s done = record {
-  state = record s { slots = named_at s.slots done.slot done.epoch done.parts; dones = risen s.dones; checkpoint = awaiting done s.checkpoint };
+unfoldable pub register : Serving → CkptDone → Done
+register s done = record {
+  state = record s { slots = slot_table_name s.slots done.slot done.epoch done.parts; dones = risen s.dones; checkpoint = await_answer done s.checkpoint };
   outs = Send Registry (body.CkptDone done) ∷ [];
 }
 
 abbrev pub asked : Serving → Serving
-asked s = record s { lasting = record s.lasting { questions = drawn s.lasting.questions } }
+asked s = record s { lasting = record s.lasting { questions = draw s.lasting.questions } }
 
-unfoldable pub says : Serving → Out → Done
-says s (out.Parts items) = gives_parts s items
-says s (out.Done slot epoch parts horizon) =
-    registers (asked s) (record { slot = slot; epoch = epoch; ask = next_ask s.lasting.questions; parts = parts; horizon = horizon })
-says s out.Kept = still s
-says s (out.Stale epoch) = still s
+unfoldable pub writer_says : Serving → Out → Done
+writer_says s (out.Parts items) = give_parts s items
+writer_says s (out.Done slot epoch parts horizon) =
+    register (asked s) (record { slot = slot; epoch = epoch; ask = next_ask s.lasting.questions; parts = parts; horizon = horizon })
+writer_says s out.Kept = still s
+writer_says s (out.Stale epoch) = still s
 
-unfoldable pub says_each : Serving → List Out → Done
-says_each s outs = steps says s outs
+unfoldable pub writer_says_each : Serving → List Out → Done
+writer_says_each s outs = steps writer_says s outs
 
 abbrev pub said_by : Serving → Stepped WriterState Out → Done
-said_by s r = says_each (record s { writer = r.state }) r.outs
+said_by s r = writer_says_each (record s { writer = r.state }) r.outs
 
 -- the writer takes an input, and what it says is done
 unfoldable pub writer_takes : Serving → In → Done
@@ -106,18 +106,18 @@ abbrev pub wrote : Serving → Stepped LogState LogOut → Done
 wrote s r = log_says_each (record s { log = r.state }) r.outs
 
 -- the log takes an input, and what it says is done
-unfoldable pub writes : Serving → LogIn → Done
-writes s given = wrote s (log.transition s.log given)
+unfoldable pub serving_write : Serving → LogIn → Done
+serving_write s given = wrote s (log.transition s.log given)
 
 -- a server holds a fragment of the segment in flight
 abbrev pub on_stored : Serving → Stored → Done
-on_stored s stored = writes s (log_input.Acked stored.name stored.index stored.generation)
+on_stored s stored = serving_write s (log_input.Acked stored.name stored.index stored.generation)
 
 -- ---- one slot after the other
 
 abbrev pub no_more : Serving → Checkpointing → Done
 no_more s job = record {
-  state = record s { checkpoint = None; lasting = with_answer s.lasting };
+  state = record s { checkpoint = None; lasting = lasting_answer s.lasting };
   outs = answers_unanswered s.lasting.items.unanswered (answer.Count job.count);
 }
 
@@ -126,12 +126,12 @@ writes_slot s None = still s
 writes_slot s (Some given) = writer_takes s given
 
 -- the checkpoint of a slot is begun, by its rows and its horizon of this moment
-unfoldable pub begins_slot : Serving → ℕ → Done
-begins_slot s slot = writes_slot (record s { slots = cleaned_at s.slots slot }) (begin_at s.slots slot)
+unfoldable pub begin_slot : Serving → ℕ → Done
+begin_slot s slot = writes_slot (record s { slots = slot_table_clean s.slots slot }) (begin_at s.slots slot)
 
 abbrev pub next_from : Serving → Checkpointing → Option ℕ → Done
 next_from s job None = no_more s job
-next_from s job (Some slot) = begins_slot (record s { checkpoint = Some (record job { next = slot_after slot }) }) slot
+next_from s job (Some slot) = begin_slot (record s { checkpoint = Some (record job { next = slot_after slot }) }) slot
 
 abbrev pub next_for : Serving → Option Checkpointing → Done
 next_for s None = still s
@@ -145,7 +145,7 @@ next_slot s = next_for s s.checkpoint
 
 abbrev pub waits : Serving → ℕ → Serving
 waits s number = record s {
-  lasting = record s.lasting { items = waiting s.lasting.items number };
+  lasting = record s.lasting { items = items_wait s.lasting.items number };
   checkpoint = Some (record { next = 0; count = 0; done = None });
 }
 
@@ -163,41 +163,41 @@ awaits None ask = false
 awaits (Some job) ask = awaits_done job.done ask
 
 -- one more slot is kept, and no answer is awaited
-abbrev pub kept_in : Option Checkpointing → Option Checkpointing
-kept_in None = None
-kept_in (Some job) = Some (record job { count = risen job.count; done = None })
+abbrev pub count_kept : Option Checkpointing → Option Checkpointing
+count_kept None = None
+count_kept (Some job) = Some (record job { count = risen job.count; done = None })
 
 -- the slot has a later epoch: it is not counted
-abbrev pub stale_in : Option Checkpointing → Option Checkpointing
-stale_in None = None
-stale_in (Some job) = Some (record job { done = None })
+abbrev pub end_waiting : Option Checkpointing → Option Checkpointing
+end_waiting None = None
+end_waiting (Some job) = Some (record job { done = None })
 
 -- what the registry's answer says of a slot
-unfoldable pub counted : Option Checkpointing → Out → Option Checkpointing
-counted checkpoint out.Kept = kept_in checkpoint
-counted checkpoint (out.Stale epoch) = stale_in checkpoint
-counted checkpoint (out.Parts items) = checkpoint
-counted checkpoint (out.Done slot epoch parts horizon) = checkpoint
+unfoldable pub checkpointing_count : Option Checkpointing → Out → Option Checkpointing
+checkpointing_count checkpoint out.Kept = count_kept checkpoint
+checkpointing_count checkpoint (out.Stale epoch) = end_waiting checkpoint
+checkpointing_count checkpoint (out.Parts items) = checkpoint
+checkpointing_count checkpoint (out.Done slot epoch parts horizon) = checkpoint
 
 -- where the answer is taken, the next slot is looked for
 abbrev pub answered_by : Serving → Stepped WriterState Out → Done
 answered_by s r =
     if length r.outs == 0 then still (record s { writer = r.state })
-    else next_slot (record s { writer = r.state; checkpoint = fold counted s.checkpoint r.outs })
+    else next_slot (record s { writer = r.state; checkpoint = fold checkpointing_count s.checkpoint r.outs })
 
 -- the registry answers a checkpoint of a slot
 unfoldable pub on_ckpt_ack : Serving → CkptAck → Done
 on_ckpt_ack s ack =
     if awaits s.checkpoint ack.ask then answered_by s (writer.transition s.writer (input.Ack ack.epoch s.dones)) else still s
 
-abbrev pub done_again : Option CkptDone → List Effect
-done_again None = []
-done_again (Some done) = Send Registry (body.CkptDone done) ∷ []
+abbrev pub send_done : Option CkptDone → List Effect
+send_done None = []
+send_done (Some done) = Send Registry (body.CkptDone done) ∷ []
 
-abbrev pub told_again : Option Checkpointing → List Effect
-told_again None = []
-told_again (Some job) = done_again job.done
+abbrev pub checkpointing_tell_again : Option Checkpointing → List Effect
+checkpointing_tell_again None = []
+checkpointing_tell_again (Some job) = send_done job.done
 
 -- time passes: what awaits the registry's answer is said again
-unfoldable pub tells_again : Serving → Done
-tells_again s = gives s (told_again s.checkpoint)
+unfoldable pub serving_tell_again : Serving → Done
+serving_tell_again s = gives s (checkpointing_tell_again s.checkpoint)

@@ -1,19 +1,19 @@
 -- What each packet, and the time, make of a manager that serves.
 use Rattle.std.specs.Prelude.{ℕ, Bool, true, false, ◌==◌, ◌&&◌, if◌then◌else◌, List, [], ◌∷◌, Option, Some, None}
-use Rattle.checkpoint.specs.Transition.{started as writer_started}
+use Rattle.checkpoint.specs.Transition.{writer_start as writer_started}
 use Rattle.client_log.specs.declared.input.In.TheVariants as log_input
-use Rattle.client_log.specs.LogState.{started as log_started}
+use Rattle.client_log.specs.LogState.{log_start as log_started}
 use Rattle.group_map.specs.GroupMapState.{GroupMapState}
-use Rattle.log_owner.specs.Opening.{log_room}
+use Rattle.log_owner.specs.Opening.{log_has_room}
 use Rattle.log_owner.specs.Sending.{hello, server_in}
 use Rattle.manager_slots.specs.declared.lasting.Lasting.{Lasting as Kept}
-use Rattle.manager_slots.specs.Lasting.{log_of, kept_has_room}
+use Rattle.manager_slots.specs.Lasting.{log_of, lasting_has_room}
 use Rattle.manager_slots.specs.SlotTable as table
 use Rattle.manager_slots.specs.SlotTable.{Table, TableAsker, Asks, Hearer}
-use Rattle.node_base.specs.Asking.{next_ask, drawn}
+use Rattle.node_base.specs.Asking.{next_ask, draw}
 use Rattle.node_base.specs.declared.maps.Maps.{Maps}
-use Rattle.node_base.specs.Known.{names_known}
-use Rattle.node_base.specs.Maps.{at_start, fits, is_older, taken}
+use Rattle.node_base.specs.Known.{names_known_groups}
+use Rattle.node_base.specs.Maps.{maps_start, fits, is_older, maps_take}
 use Rattle.node_base.specs.Room.{has_room}
 use Rattle.takeover.specs.declared.input.In.{In}
 use Rattle.takeover.specs.declared.input.In.TheVariants as input
@@ -36,15 +36,15 @@ use Rattle.xfs_base.specs.declared.node.NodeId.TheVariants.{Client, Manager, Ser
 use Rattle.xfs_base.specs.declared.segment.LogId.{LogId}
 use Rattle.xfs_base.specs.Logs as logs
 use Rattle.xfs_base.specs.Steps.{still, saying}
-use Rattle.manager_serving.specs.Checkpoints.{Done, gives, writes, on_stored, on_ckpt_ack, tells_again}
+use Rattle.manager_serving.specs.Checkpoints.{Done, gives, serving_write, on_stored, on_ckpt_ack, serving_tell_again}
 use Rattle.manager_serving.specs.declared.serving.Serving.{Serving}
 pub use Rattle.xfs_base.specs.Segments.{no_end}
 
 -- ---- the beginning
 
 -- a manager that has these maps and slots, and whose log and checkpoints begin
-abbrev pub begun : Kept → Maps → Table → GroupMapState → Serving
-begun kept maps slots groups = record {
+abbrev pub serving_begin : Kept → Maps → Table → GroupMapState → Serving
+serving_begin kept maps slots groups = record {
   lasting = kept;
   maps = maps;
   slots = slots;
@@ -55,17 +55,17 @@ begun kept maps slots groups = record {
 }
 
 -- at the start of a run it manages its slots
-abbrev pub first : Kept → ℕ → GroupMapState → Serving
-first kept managers groups = begun kept (at_start groups) (table.first_table kept.number managers) groups
+abbrev pub serving_start : Kept → ℕ → GroupMapState → Serving
+serving_start kept managers groups = serving_begin kept (maps_start groups) (table.slot_table_first kept.number managers) groups
 
 -- after a restart it knows of no slot
 abbrev pub again : Kept → Maps → GroupMapState → Serving
-again kept maps groups = begun kept maps table.unknown_table groups
+again kept maps groups = serving_begin kept maps table.slot_table_unknown groups
 
 -- each counter is at least 65,536 below its end
-abbrev pub serving_room : Serving → Bool
-serving_room s =
-    kept_has_room s.lasting && (has_room s.maps.version && (has_room s.dones && (log_room s.log && table.table_has_room s.slots)))
+abbrev pub serving_has_room : Serving → Bool
+serving_has_room s =
+    lasting_has_room s.lasting && (has_room s.maps.version && (has_room s.dones && (log_has_room s.log && table.slot_table_has_room s.slots)))
 
 -- ---- one event after another
 
@@ -120,15 +120,15 @@ on_usage_ask s asked = gives s (table.on_usage_ask s.slots asked)
 -- ---- takeovers
 
 -- the takeover of a slot takes an input
-unfoldable pub takes : Serving → ℕ → In → Done
-takes s slot given = with_asker s (table.takes (asker_of s) slot given)
+unfoldable pub serving_take : Serving → ℕ → In → Done
+serving_take s slot given = with_asker s (table.slot_table_take (asker_of s) slot given)
 
 unfoldable pub on_report : Serving → NodeId → Report → Done
 on_report s from report = with_asker s (table.on_report (asker_of s) from report)
 
 abbrev pub answered_by : Serving → Option (ℕ × ℕ) → (ℕ → In) → Done
 answered_by s None given = still s
-answered_by s (Some which) given = takes s which.0 (given which.1)
+answered_by s (Some which) given = serving_take s which.0 (given which.1)
 
 -- the takeover that asked this
 abbrev pub fetch_of : Serving → ℕ → Option (ℕ × ℕ)
@@ -146,28 +146,28 @@ on_missing s (Some server) missing = answered_by s (fetch_of s missing.ask) (λ 
 
 -- newer groups are told to each takeover
 unfoldable pub regroups : Serving → GroupMapState → Done
-regroups s groups = with_asker s (table.regroups_all groups (asker_of s))
+regroups s groups = with_asker s (table.slot_table_regroup groups (asker_of s))
 
 abbrev pub hearer_of : Serving → ℕ → GroupMapState → Hearer
 hearer_of s clients groups = table.hearer (record { number = s.lasting.number; clients = clients }) groups
 
 abbrev pub hears_with : Serving → ℕ → List SlotNews → Option GroupMapState → Done
 hears_with s clients slots None = still s
-hears_with s clients slots (Some groups) = with_asker s (table.hears_all (hearer_of s clients groups) (asker_of s) slots)
+hears_with s clients slots (Some groups) = with_asker s (table.hear_each (hearer_of s clients groups) (asker_of s) slots)
 
 -- slots with a greater epoch, in order
-unfoldable pub hears_slots : Serving → ℕ → List SlotNews → Done
-hears_slots s clients slots = hears_with s clients slots s.maps.groups
+unfoldable pub hear_slots : Serving → ℕ → List SlotNews → Done
+hear_slots s clients slots = hears_with s clients slots s.maps.groups
 
 -- newer maps: the groups first, then the slots, and then settling is looked at
 unfoldable pub on_newer : Serving → ℕ → News → Done
 on_newer s clients news =
-    and_then (and_then (regroups s news.groups) (λ t. hears_slots t clients news.slots)) (λ t. writes t (log_input.Maps news.groups))
+    and_then (and_then (regroups s news.groups) (λ t. hear_slots t clients news.slots)) (λ t. serving_write t (log_input.Maps news.groups))
 
 -- the maps come, and fit
 unfoldable pub on_news : Serving → ℕ → News → Done
 on_news s clients news =
-    if is_older s.maps news then on_newer (record s { maps = taken s.maps news }) clients news else hears_slots s clients news.slots
+    if is_older s.maps news then on_newer (record s { maps = maps_take s.maps news }) clients news else hear_slots s clients news.slots
 
 abbrev pub on_fitting_news : Serving → ℕ → News → Done
 on_fitting_news s clients news = if fits s.maps news then on_news s clients news else still s
@@ -179,9 +179,9 @@ on_welcome s clients welcome = if welcome.inc == s.lasting.inc then on_fitting_n
 -- ---- all packets
 
 -- a packet names a group that isn't known: it is dropped, and the maps are asked for
-unfoldable pub asks_for_maps : Serving → Done
-asks_for_maps s = record {
-  state = record s { lasting = record s.lasting { questions = drawn s.lasting.questions } };
+unfoldable pub ask_for_maps : Serving → Done
+ask_for_maps s = record {
+  state = record s { lasting = record s.lasting { questions = draw s.lasting.questions } };
   outs = hello s.lasting.inc (next_ask s.lasting.questions) ∷ [];
 }
 
@@ -200,18 +200,18 @@ on_body s clients from (body.Stored stored) = on_stored s stored
 on_body s clients from (body.CkptAck ack) = on_ckpt_ack s ack
 on_body s clients from _ = still s
 
-unfoldable pub hears : Serving → ℕ → Packet → Done
-hears s clients packet = if names_known s.maps packet.body then on_body s clients packet.from packet.body else asks_for_maps s
+unfoldable pub serving_hear : Serving → ℕ → Packet → Done
+serving_hear s clients packet = if names_known_groups s.maps packet.body then on_body s clients packet.from packet.body else ask_for_maps s
 
 -- ---- time
 
 unfoldable pub recalls_again : Serving → Done
-recalls_again s = with_slots s (table.recalls_all s.slots)
+recalls_again s = with_slots s (table.recall_again s.slots)
 
-unfoldable pub asks_again : Serving → Bool → Done
-asks_again s polls = with_asker s (table.asks_all polls (asker_of s))
+unfoldable pub serving_ask_again : Serving → Bool → Done
+serving_ask_again s polls = with_asker s (table.slot_table_ask_again polls (asker_of s))
 
 -- what is unanswered is said again: recalls, polls, what else takeovers ask, fragments, and a checkpoint
 unfoldable pub on_tick : Serving → Done
 on_tick s =
-    and_then (and_then (and_then (and_then (recalls_again s) (λ t. asks_again t true)) (λ t. asks_again t false)) (λ t. writes t log_input.Tick)) tells_again
+    and_then (and_then (and_then (and_then (recalls_again s) (λ t. serving_ask_again t true)) (λ t. serving_ask_again t false)) (λ t. serving_write t log_input.Tick)) serving_tell_again

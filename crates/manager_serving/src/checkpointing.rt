@@ -3,8 +3,8 @@ ghost use Rattle.std.specs.Prelude.{◌≡◌, ◌++◌, OnOk, Some, fold};
 ghost use Rattle.std.specs.List.{flat_map};
 ghost use Rattle.node_base.specs.declared.effects.Effect.TheVariants.{Send};
 ghost use Rattle.manager_slots.specs.Numbers.{risen};
-ghost use Rattle.manager_slots.specs.SlotTable.{named_at};
-ghost use Rattle.manager_serving.specs.Checkpoints.{stored, gives_parts, awaiting, registers, says, says_each, writer_takes, on_settled, log_says, log_says_each, writes, on_stored, begins_slot, next_slot, on_checkpoint, awaits, kept_in, stale_in, counted, on_ckpt_ack, done_again, told_again, tells_again};
+ghost use Rattle.manager_slots.specs.SlotTable.{slot_table_name};
+ghost use Rattle.manager_serving.specs.Checkpoints.{checkpointing_store, give_parts, await_answer, register, writer_says, writer_says_each, writer_takes, on_settled, log_says, log_says_each, serving_write, on_stored, begin_slot, next_slot, on_checkpoint, awaits, count_kept, end_waiting, checkpointing_count, on_ckpt_ack, send_done, checkpointing_tell_again, serving_tell_again};
 
 use crate::serving::Serving;
 use checkpoint::{In, Out};
@@ -91,10 +91,10 @@ impl Serving {
     }
 
     /// The log of checkpoints takes an input, and what it says is done.
-    #[tactic(auto, unfolding(crate::specs::Checkpoints::writes))]
+    #[tactic(auto, unfolding(crate::specs::Checkpoints::serving_write))]
     pub fn write(&mut self, alloc: Global, effects: &mut Effects, input: client_log::In) -> Mem<()>
-        ensures state { OnOk result (self.new ≡ (writes self.old input).state) }
-        ensures effects { OnOk result (effects.new ≡ effects.old ++ (writes self.old input).outs) }
+        ensures state { OnOk result (self.new ≡ (serving_write self.old input).state) }
+        ensures effects { OnOk result (effects.new ≡ effects.old ++ (serving_write self.old input).outs) }
     {
         let outs = self.log.take(alloc, input)?;
         self.log_says_each(alloc, effects, outs)
@@ -163,10 +163,10 @@ impl Serving {
     }
 
     // The checkpoint of a slot is begun, by its rows and its horizon of this moment.
-    #[tactic(auto, unfolding(crate::specs::Checkpoints::begins_slot))]
+    #[tactic(auto, unfolding(crate::specs::Checkpoints::begin_slot))]
     fn begin_slot(&mut self, alloc: Global, effects: &mut Effects, slot: u8) -> Mem<()>
-        ensures state { OnOk result (self.new ≡ (begins_slot self.old slot).state) }
-        ensures effects { OnOk result (effects.new ≡ effects.old ++ (begins_slot self.old slot).outs) }
+        ensures state { OnOk result (self.new ≡ (begin_slot self.old slot).state) }
+        ensures effects { OnOk result (effects.new ≡ effects.old ++ (begin_slot self.old slot).outs) }
     {
         match self.slots.begin(alloc, slot)? {
             Some(input) => self.writer_takes(alloc, effects, input),
@@ -184,10 +184,10 @@ impl Serving {
         self.writer_says_each(alloc, effects, outs)
     }
 
-    #[tactic(auto, unfolding(crate::specs::Checkpoints::says_each))]
+    #[tactic(auto, unfolding(crate::specs::Checkpoints::writer_says_each))]
     fn writer_says_each(&mut self, alloc: Global, effects: &mut Effects, outs: List<Out>) -> Mem<()>
-        ensures state { OnOk result (self.new ≡ (says_each self.old outs).state) }
-        ensures effects { OnOk result (effects.new ≡ effects.old ++ (says_each self.old outs).outs) }
+        ensures state { OnOk result (self.new ≡ (writer_says_each self.old outs).state) }
+        ensures effects { OnOk result (effects.new ≡ effects.old ++ (writer_says_each self.old outs).outs) }
     {
         for out in outs.into_vec() {
             self.writer_says(alloc, effects, out)?;
@@ -195,10 +195,10 @@ impl Serving {
         Ok(())
     }
 
-    #[tactic(auto, unfolding(crate::specs::Checkpoints::says))]
+    #[tactic(auto, unfolding(crate::specs::Checkpoints::writer_says))]
     fn writer_says(&mut self, alloc: Global, effects: &mut Effects, out: Out) -> Mem<()>
-        ensures state { OnOk result (self.new ≡ (says self.old out).state) }
-        ensures effects { OnOk result (effects.new ≡ effects.old ++ (says self.old out).outs) }
+        ensures state { OnOk result (self.new ≡ (writer_says self.old out).state) }
+        ensures effects { OnOk result (effects.new ≡ effects.old ++ (writer_says self.old out).outs) }
     {
         match out {
             Out::Parts { items } => self.give_parts(alloc, effects, items),
@@ -223,20 +223,20 @@ impl Serving {
     }
 
     // The items go to the log. Nothing is in flight, so that nothing is settled by it.
-    #[tactic(auto, unfolding(crate::specs::Checkpoints::gives_parts))]
+    #[tactic(auto, unfolding(crate::specs::Checkpoints::give_parts))]
     fn give_parts(&mut self, alloc: Global, effects: &mut Effects, items: List<Item>) -> Mem<()>
-        ensures state { OnOk result (self.new ≡ (gives_parts self.old items).state) }
-        ensures effects { OnOk result (effects.new ≡ effects.old ++ (gives_parts self.old items).outs) }
+        ensures state { OnOk result (self.new ≡ (give_parts self.old items).state) }
+        ensures effects { OnOk result (effects.new ≡ effects.old ++ (give_parts self.old items).outs) }
     {
         let outs = self.log.take(alloc, client_log::In::Parts(items))?;
         store_each(effects, outs)
     }
 
     // The registry is told of a slot's checkpoint.
-    #[tactic(auto, unfolding(crate::specs::Checkpoints::registers))]
+    #[tactic(auto, unfolding(crate::specs::Checkpoints::register))]
     fn register(&mut self, alloc: Global, effects: &mut Effects, done: CkptDone) -> Mem<()>
-        ensures state { OnOk result (self.new ≡ (registers self.old done).state) }
-        ensures effects { OnOk result (effects.new ≡ effects.old ++ (registers self.old done).outs) }
+        ensures state { OnOk result (self.new ≡ (register self.old done).state) }
+        ensures effects { OnOk result (effects.new ≡ effects.old ++ (register self.old done).outs) }
     {
         match self.tell_done(alloc, effects, &done) {
             Ok(()) => {
@@ -250,11 +250,11 @@ impl Serving {
         }
     }
 
-    #[tactic(auto, unfolding(crate::specs::Checkpoints::registers))]
+    #[tactic(auto, unfolding(crate::specs::Checkpoints::register))]
     fn tell_done(&mut self, alloc: Global, effects: &mut Effects, done: &CkptDone) -> Mem<()>
         ensures state { OnOk result
-            (self.new ≡ record self.old { slots = named_at self.old.slots done.now.slot done.now.epoch done.now.parts; dones = risen self.old.dones }) }
-        ensures effects { OnOk result (effects.new ≡ effects.old ++ (registers self.old done.now).outs) }
+            (self.new ≡ record self.old { slots = slot_table_name self.old.slots done.now.slot done.now.epoch done.now.parts; dones = risen self.old.dones }) }
+        ensures effects { OnOk result (effects.new ≡ effects.old ++ (register self.old done.now).outs) }
     {
         self.slots
             .name(done.slot, done.epoch, done.parts.copy(alloc)?);
@@ -264,10 +264,10 @@ impl Serving {
     }
 
     /// Time passes: what awaits the registry's answer is said again.
-    #[tactic(auto, unfolding(crate::specs::Checkpoints::tells_again))]
+    #[tactic(auto, unfolding(crate::specs::Checkpoints::serving_tell_again))]
     pub fn tell_again(&mut self, alloc: Global, effects: &mut Effects) -> Mem<()>
-        ensures state { OnOk result (self.new ≡ (tells_again self.old).state) }
-        ensures effects { OnOk result (effects.new ≡ effects.old ++ (tells_again self.old).outs) }
+        ensures state { OnOk result (self.new ≡ (serving_tell_again self.old).state) }
+        ensures effects { OnOk result (effects.new ≡ effects.old ++ (serving_tell_again self.old).outs) }
     {
         tell_again(alloc, effects, &self.checkpoint)
     }
@@ -275,14 +275,14 @@ impl Serving {
 
 // The registry is told of a checkpoint.
 fn send_done(alloc: Global, effects: &mut Effects, done: &CkptDone) -> Mem<()>
-    ensures { OnOk result (effects.new ≡ effects.old ++ done_again (Some done.now)) }
+    ensures { OnOk result (effects.new ≡ effects.old ++ send_done (Some done.now)) }
 {
     let done = Shared::of(alloc, done.copy(alloc)?)?;
     effects.send(NodeId::Registry, Body::CkptDone(done))
 }
 
 fn tell_again(alloc: Global, effects: &mut Effects, checkpoint: &Option<Checkpointing>) -> Mem<()>
-    ensures { OnOk result (effects.new ≡ effects.old ++ told_again checkpoint.now) }
+    ensures { OnOk result (effects.new ≡ effects.old ++ checkpointing_tell_again checkpoint.now) }
 {
     match checkpoint {
         Some(
@@ -312,7 +312,7 @@ fn awaits(checkpoint: &Option<Checkpointing>, ask: u32) -> bool
 
 // The registry's answer to a slot's checkpoint is awaited.
 fn await_answer(checkpoint: &mut Option<Checkpointing>, done: CkptDone)
-    ensures { checkpoint.new ≡ awaiting done checkpoint.old }
+    ensures { checkpoint.new ≡ await_answer done checkpoint.old }
 {
     match checkpoint {
         Some(job) => drop(mem::replace(&mut job.done, Some(done))),
@@ -321,7 +321,7 @@ fn await_answer(checkpoint: &mut Option<Checkpointing>, done: CkptDone)
 }
 
 fn count_all(checkpoint: &mut Option<Checkpointing>, outs: &[Out])
-    ensures { checkpoint.new ≡ fold counted checkpoint.old outs.now }
+    ensures { checkpoint.new ≡ fold checkpointing_count checkpoint.old outs.now }
 {
     for out in outs {
         count(checkpoint, out);
@@ -329,9 +329,9 @@ fn count_all(checkpoint: &mut Option<Checkpointing>, outs: &[Out])
 }
 
 // What the registry's answer says of a slot.
-#[tactic(auto, unfolding(crate::specs::Checkpoints::counted))]
+#[tactic(auto, unfolding(crate::specs::Checkpoints::checkpointing_count))]
 fn count(checkpoint: &mut Option<Checkpointing>, out: &Out)
-    ensures { checkpoint.new ≡ counted checkpoint.old out.now }
+    ensures { checkpoint.new ≡ checkpointing_count checkpoint.old out.now }
 {
     match out {
         Out::Kept => count_kept(checkpoint),
@@ -341,7 +341,7 @@ fn count(checkpoint: &mut Option<Checkpointing>, out: &Out)
 }
 
 fn count_kept(checkpoint: &mut Option<Checkpointing>)
-    ensures { checkpoint.new ≡ kept_in checkpoint.old }
+    ensures { checkpoint.new ≡ count_kept checkpoint.old }
 {
     if let Some(job) = checkpoint {
         job.count = job.count.saturating_add(1);
@@ -350,7 +350,7 @@ fn count_kept(checkpoint: &mut Option<Checkpointing>)
 }
 
 fn end_waiting(checkpoint: &mut Option<Checkpointing>)
-    ensures { checkpoint.new ≡ stale_in checkpoint.old }
+    ensures { checkpoint.new ≡ end_waiting checkpoint.old }
 {
     if let Some(job) = checkpoint {
         drop(job.done.take());
@@ -359,7 +359,7 @@ fn end_waiting(checkpoint: &mut Option<Checkpointing>)
 
 // The fragments of a segment are sent.
 fn store_each(effects: &mut Effects, outs: List<client_log::Out>) -> Mem<()>
-    ensures { OnOk result (effects.new ≡ effects.old ++ flat_map stored outs) }
+    ensures { OnOk result (effects.new ≡ effects.old ++ flat_map checkpointing_store outs) }
 {
     for out in outs.into_vec() {
         store(effects, out)?;
@@ -367,9 +367,9 @@ fn store_each(effects: &mut Effects, outs: List<client_log::Out>) -> Mem<()>
     Ok(())
 }
 
-#[tactic(auto, unfolding(crate::specs::Checkpoints::stored))]
+#[tactic(auto, unfolding(crate::specs::Checkpoints::checkpointing_store))]
 fn store(effects: &mut Effects, out: client_log::Out) -> Mem<()>
-    ensures { OnOk result (effects.new ≡ effects.old ++ stored out) }
+    ensures { OnOk result (effects.new ≡ effects.old ++ checkpointing_store out) }
 {
     match out {
         client_log::Out::Send { fragment, member } => send_store(effects, fragment, member),

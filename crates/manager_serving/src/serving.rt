@@ -4,7 +4,7 @@ ghost use Rattle.segment_format.specs.Format.{IsLog};
 ghost use Rattle.checkpoint.specs.Transition as writers;
 ghost use Rattle.client_log.specs.LogState as logs;
 ghost use Rattle.manager_slots.specs.SlotTable as tables;
-ghost use Rattle.manager_serving.specs.Serving.{no_end, begun, first, again, serving_room, on_want, on_gave, on_deltas, on_check, on_usage_ask, takes, on_report, fetch_of, on_found, on_missing, regroups, hears_slots, on_newer, on_news, on_fitting_news, on_welcome, asks_for_maps, on_body, hears, recalls_again, asks_again, on_tick};
+ghost use Rattle.manager_serving.specs.Serving.{no_end, serving_begin, serving_start, again, serving_has_room, on_want, on_gave, on_deltas, on_check, on_usage_ask, serving_take, on_report, fetch_of, on_found, on_missing, regroups, hear_slots, on_newer, on_news, on_fitting_news, on_welcome, ask_for_maps, on_body, serving_hear, recalls_again, serving_ask_again, on_tick};
 
 use crate::checkpointing::Checkpointing;
 use crate::senders::{client_in, fed_log};
@@ -70,7 +70,7 @@ impl Serving {
     /// A manager at the start of a run: it manages its slots, in which nothing has happened.
     pub fn start(alloc: Global, lasting: Lasting, managers: u8, groups: GroupMap) -> Mem<Serving>
         requires { 1 ≤ managers }
-        ensures { IfOk result (λ serving. serving ≡ first lasting managers groups) }
+        ensures { IfOk result (λ serving. serving ≡ serving_start lasting managers groups) }
     {
         match first_slots(alloc, lasting.number, managers, &groups) {
             Ok((slots, copy)) => {
@@ -107,7 +107,7 @@ impl Serving {
         slots: SlotTable,
         groups: GroupMap,
     ) -> Mem<Serving>
-        ensures { IfOk result (λ serving. serving ≡ begun lasting maps slots groups) }
+        ensures { IfOk result (λ serving. serving ≡ serving_begin lasting maps slots groups) }
     {
         match first_log(alloc, lasting.log(), lasting.inc, groups) {
             Ok((log, writer)) => Ok(Serving {
@@ -130,7 +130,7 @@ impl Serving {
 
     /// Whether each counter is at least 65,536 below its end.
     pub fn has_room(&self) -> bool
-        ensures { result ≡ serving_room self.now }
+        ensures { result ≡ serving_has_room self.now }
     {
         self.lasting.has_room()
             && has_room(self.maps.version)
@@ -140,7 +140,7 @@ impl Serving {
     }
 
     /// A packet comes. One that names a group that isn't known is dropped, and the maps are asked for.
-    #[tactic(auto, unfolding(crate::specs::Serving::hears))]
+    #[tactic(auto, unfolding(crate::specs::Serving::serving_hear))]
     pub fn hear(
         &mut self,
         alloc: Global,
@@ -148,8 +148,8 @@ impl Serving {
         clients: u8,
         packet: &Packet,
     ) -> Mem<()>
-        ensures state { OnOk result (self.new ≡ (hears self.old clients packet.now).state) }
-        ensures effects { OnOk result (effects.new ≡ effects.old ++ (hears self.old clients packet.now).outs) }
+        ensures state { OnOk result (self.new ≡ (serving_hear self.old clients packet.now).state) }
+        ensures effects { OnOk result (effects.new ≡ effects.old ++ (serving_hear self.old clients packet.now).outs) }
     {
         if names_known_groups(&self.maps, &packet.body) {
             self.on_body(alloc, effects, clients, packet.from, &packet.body)
@@ -158,10 +158,10 @@ impl Serving {
         }
     }
 
-    #[tactic(auto, unfolding(crate::specs::Serving::asks_for_maps))]
+    #[tactic(auto, unfolding(crate::specs::Serving::ask_for_maps))]
     fn ask_for_maps(&mut self, effects: &mut Effects) -> Mem<()>
-        ensures state { OnOk result (self.new ≡ (asks_for_maps self.old).state) }
-        ensures effects { OnOk result (effects.new ≡ effects.old ++ (asks_for_maps self.old).outs) }
+        ensures state { OnOk result (self.new ≡ (ask_for_maps self.old).state) }
+        ensures effects { OnOk result (effects.new ≡ effects.old ++ (ask_for_maps self.old).outs) }
     {
         let ask = self.lasting.questions.draw();
         send_hello(effects, self.lasting.inc, ask)
@@ -307,10 +307,10 @@ impl Serving {
         self.take(alloc, effects, slot, input)
     }
 
-    #[tactic(auto, unfolding(crate::specs::Serving::takes))]
+    #[tactic(auto, unfolding(crate::specs::Serving::serving_take))]
     fn take(&mut self, alloc: Global, effects: &mut Effects, slot: u8, input: In) -> Mem<()>
-        ensures state { OnOk result (self.new ≡ (takes self.old slot input).state) }
-        ensures effects { OnOk result (effects.new ≡ effects.old ++ (takes self.old slot input).outs) }
+        ensures state { OnOk result (self.new ≡ (serving_take self.old slot input).state) }
+        ensures effects { OnOk result (effects.new ≡ effects.old ++ (serving_take self.old slot input).outs) }
     {
         let questions = &mut self.lasting.questions;
         self.slots.take(alloc, effects, questions, slot, input)
@@ -342,7 +342,7 @@ impl Serving {
 
     // Slots whose epoch is greater: where the maps give one to this manager it takes it over, and else it
     // leaves it.
-    #[tactic(auto, unfolding(crate::specs::Serving::hears_slots))]
+    #[tactic(auto, unfolding(crate::specs::Serving::hear_slots))]
     fn hear_slots(
         &mut self,
         alloc: Global,
@@ -350,8 +350,8 @@ impl Serving {
         clients: u8,
         slots: &[SlotNews],
     ) -> Mem<()>
-        ensures state { OnOk result (self.new ≡ (hears_slots self.old clients slots.now).state) }
-        ensures effects { OnOk result (effects.new ≡ effects.old ++ (hears_slots self.old clients slots.now).outs) }
+        ensures state { OnOk result (self.new ≡ (hear_slots self.old clients slots.now).state) }
+        ensures effects { OnOk result (effects.new ≡ effects.old ++ (hear_slots self.old clients slots.now).outs) }
     {
         let Some(groups) = &self.maps.groups else {
             return Ok(());
@@ -379,10 +379,10 @@ impl Serving {
     }
 
     // The takeovers' polls are sent again, or what else they ask.
-    #[tactic(auto, unfolding(crate::specs::Serving::asks_again))]
+    #[tactic(auto, unfolding(crate::specs::Serving::serving_ask_again))]
     fn ask_again(&mut self, alloc: Global, effects: &mut Effects, polls: bool) -> Mem<()>
-        ensures state { OnOk result (self.new ≡ (asks_again self.old polls).state) }
-        ensures effects { OnOk result (effects.new ≡ effects.old ++ (asks_again self.old polls).outs) }
+        ensures state { OnOk result (self.new ≡ (serving_ask_again self.old polls).state) }
+        ensures effects { OnOk result (effects.new ≡ effects.old ++ (serving_ask_again self.old polls).outs) }
     {
         let questions = &mut self.lasting.questions;
         self.slots.ask_again(alloc, effects, questions, polls)
@@ -397,7 +397,7 @@ fn first_slots(
     groups: &GroupMap,
 ) -> Mem<(SlotTable, GroupMap)>
     requires { 1 ≤ managers }
-    ensures slots { IfOk result (λ made. made.0 ≡ tables.first_table number managers) }
+    ensures slots { IfOk result (λ made. made.0 ≡ tables.slot_table_first number managers) }
     ensures groups { IfOk result (λ made. made.1 ≡ groups.now) }
 {
     let slots = SlotTable::first(alloc, number, managers)?;
@@ -413,8 +413,8 @@ fn first_slots(
 // The empty log of an incarnation, and what writes checkpoints to it.
 fn first_log(alloc: Global, name: LogId, inc: u32, groups: GroupMap) -> Mem<(Log, Writer)>
     requires { IsLog name.0 }
-    ensures log { IfOk result (λ made. made.0 ≡ logs.started name inc no_end groups) }
-    ensures writer { IfOk result (λ made. made.1 ≡ writers.started name) }
+    ensures log { IfOk result (λ made. made.0 ≡ logs.log_start name inc no_end groups) }
+    ensures writer { IfOk result (λ made. made.1 ≡ writers.writer_start name) }
 {
     let log = Log::start(alloc, name, inc, End::none(), groups)?;
     match Writer::start(alloc, name) {

@@ -6,7 +6,7 @@ use Rattle.checkpoint.specs.declared.input.In.TheVariants.{Begin}
 use Rattle.checkpoint.specs.Plan.{plan_of}
 use Rattle.group_map.specs.GroupMapState.{GroupMapState}
 use Rattle.manager_map.specs.declared.entry.SlotEntry.{SlotEntry}
-use Rattle.manager_map.specs.Slots.{start_entries, entry_at}
+use Rattle.manager_map.specs.Slots.{manager_map_start, entry_at}
 use Rattle.node_base.specs.declared.effects.Effect.{Effect}
 use Rattle.node_base.specs.declared.questions.Questions.{Questions}
 use Rattle.slot_beliefs.specs.Index.{pages_of}
@@ -14,7 +14,7 @@ use Rattle.slot_beliefs.specs.Recalls.{applied_of}
 use Rattle.takeover.specs.declared.input.In.{In}
 use Rattle.takeover.specs.declared.input.In.TheVariants as input
 use Rattle.token_manager.specs.SlotState.{SlotState}
-use Rattle.token_manager.specs.Transition.{cleaned}
+use Rattle.token_manager.specs.Transition.{slot_clean}
 use Rattle.wire_msg.specs.declared.cleaning.Check.{Check}
 use Rattle.wire_msg.specs.declared.cleaning.UsageAsk.{UsageAsk}
 use Rattle.wire_msg.specs.declared.deltas.Deltas.{Deltas}
@@ -32,7 +32,7 @@ use Rattle.manager_slots.specs.declared.slot_phase.SlotPhase.{SlotPhase}
 use Rattle.manager_slots.specs.declared.slot_takeovers.Ears.{Ears}
 use Rattle.manager_slots.specs.declared.slot_phase.SlotPhase.TheVariants as phase
 use Rattle.manager_slots.specs.Numbers.{risen}
-use Rattle.manager_slots.specs.Slots.{epoch_of, is_active, slot_has_room, fetch_of, first_active}
+use Rattle.manager_slots.specs.Slots.{epoch_of, is_active, slot_phase_has_room, fetch_of, first_active}
 use Rattle.manager_slots.specs.Takeovers as takeovers
 use Rattle.manager_slots.specs.Takeovers.{Asker, asker}
 use Rattle.manager_slots.specs.Tokens as tokens
@@ -63,19 +63,19 @@ Asks = Stepped TableAsker Effect
 abbrev pub first_phase : ℕ → List SlotEntry → ℕ → SlotPhase
 first_phase number entries slot = if (entry_at entries (slot_of slot)).manager == number then first_active else phase.Away 1
 
-abbrev pub first_table : ℕ → ℕ → Table
-first_table number managers = map (first_phase number (start_entries managers)) all_slots
+abbrev pub slot_table_first : ℕ → ℕ → Table
+slot_table_first number managers = map (first_phase number (manager_map_start managers)) all_slots
 
 -- nothing is known of any slot
 abbrev pub unknown_phase : ℕ → SlotPhase
 unknown_phase slot = phase.Away 0
 
-abbrev pub unknown_table : Table
-unknown_table = map unknown_phase all_slots
+abbrev pub slot_table_unknown : Table
+slot_table_unknown = map unknown_phase all_slots
 
 -- each counter is at least 65,536 below its end
-abbrev pub table_has_room : Table → Bool
-table_has_room table = list_all slot_has_room table
+abbrev pub slot_table_has_room : Table → Bool
+slot_table_has_room table = list_all slot_phase_has_room table
 
 abbrev pub is_active_one : Option SlotPhase → Bool
 is_active_one None = false
@@ -125,12 +125,12 @@ unfoldable pub on_usage_ask : Table → UsageAsk → List Effect
 on_usage_ask table asked = usage_in asked (slice_get table asked.slot)
 
 -- the recalls of a slot that aren't answered are sent again
-unfoldable pub recalls : Table → ℕ → Done
-recalls table slot = at_slot table slot (λ p. tokens.on_tick p slot)
+unfoldable pub slot_table_recall : Table → ℕ → Done
+slot_table_recall table slot = at_slot table slot (λ p. tokens.on_tick p slot)
 
 -- those of all slots
-abbrev pub recalls_all : Table → Done
-recalls_all table = steps recalls table all_slots
+abbrev pub recall_again : Table → Done
+recall_again table = steps slot_table_recall table all_slots
 
 -- ---- the takeover of one slot, which may ask
 
@@ -145,25 +145,25 @@ abbrev pub at_taken : TableAsker → ℕ → (Asker → Stepped Asker Effect) �
 at_taken a slot event = in_taken a slot event (slice_get a.table slot)
 
 -- a takeover takes an input
-unfoldable pub takes : TableAsker → ℕ → In → Asks
-takes a slot given = at_taken a slot (λ one. takeovers.takes one slot given)
+unfoldable pub slot_table_take : TableAsker → ℕ → In → Asks
+slot_table_take a slot given = at_taken a slot (λ one. takeovers.takeovers_take one slot given)
 
 unfoldable pub on_report : TableAsker → NodeId → Report → Asks
 on_report a from report = at_taken a report.slot (λ one. takeovers.on_report one from report)
 
 -- what the takeover of a slot asks is asked again: its polls, or all else
-unfoldable pub asks : Bool → TableAsker → ℕ → Asks
-asks polls a slot = at_taken a slot (λ one. takeovers.asks_again one slot polls)
+unfoldable pub slot_table_ask : Bool → TableAsker → ℕ → Asks
+slot_table_ask polls a slot = at_taken a slot (λ one. takeovers.takeovers_ask_again one slot polls)
 
-abbrev pub asks_all : Bool → TableAsker → Asks
-asks_all polls a = steps (asks polls) a all_slots
+abbrev pub slot_table_ask_again : Bool → TableAsker → Asks
+slot_table_ask_again polls a = steps (slot_table_ask polls) a all_slots
 
 -- newer groups
-abbrev pub regroups : GroupMapState → TableAsker → ℕ → Asks
-regroups groups a slot = takes a slot (input.Maps groups)
+abbrev pub regroup_one : GroupMapState → TableAsker → ℕ → Asks
+regroup_one groups a slot = slot_table_take a slot (input.Maps groups)
 
-abbrev pub regroups_all : GroupMapState → TableAsker → Asks
-regroups_all groups a = steps (regroups groups) a all_slots
+abbrev pub slot_table_regroup : GroupMapState → TableAsker → Asks
+slot_table_regroup groups a = steps (regroup_one groups) a all_slots
 
 -- who hears of slots, and the groups that it knows
 pub record Hearer : Type 0 where
@@ -174,17 +174,17 @@ abbrev pub hearer : Ears → GroupMapState → Hearer
 hearer ears groups = record { ears = ears; groups = groups }
 
 -- a slot has another manager, or has its manager anew: where the epoch is greater, the manager takes it over or leaves it
-unfoldable pub hears_of : Hearer → SlotNews → Asker → Stepped Asker Effect
-hears_of h news one =
+unfoldable pub hear_of : Hearer → SlotNews → Asker → Stepped Asker Effect
+hear_of h news one =
     if nat_lt (epoch_of one.phase) news.epoch
-    then takeovers.takes (record one { phase = takeovers.phase_of h.ears.number news h.groups h.ears.clients }) news.slot input.Tick
+    then takeovers.takeovers_take (record one { phase = takeovers.phase_of h.ears.number news h.groups h.ears.clients }) news.slot input.Tick
     else still one
 
-unfoldable pub hears : Hearer → TableAsker → SlotNews → Asks
-hears h a news = at_taken a news.slot (hears_of h news)
+unfoldable pub slot_table_hear : Hearer → TableAsker → SlotNews → Asks
+slot_table_hear h a news = at_taken a news.slot (hear_of h news)
 
-abbrev pub hears_all : Hearer → TableAsker → List SlotNews → Asks
-hears_all h a slots = steps (hears h) a slots
+abbrev pub hear_each : Hearer → TableAsker → List SlotNews → Asks
+hear_each h a slots = steps (slot_table_hear h) a slots
 
 -- ---- the takeover that is answered
 
@@ -236,25 +236,25 @@ abbrev pub begin_at : Table → ℕ → Option WriterIn
 begin_at table slot = begin_one slot (slice_get table slot)
 
 -- from there on no page of it has changed
-unfoldable pub cleaned_phase : SlotPhase → SlotPhase
-cleaned_phase (phase.Active a) = phase.Active (record a { slot = cleaned a.slot })
-cleaned_phase (phase.Away epoch) = phase.Away epoch
-cleaned_phase (phase.Taking taking) = phase.Taking taking
-cleaned_phase (phase.Broken epoch seg) = phase.Broken epoch seg
+unfoldable pub phase_clean : SlotPhase → SlotPhase
+phase_clean (phase.Active a) = phase.Active (record a { slot = slot_clean a.slot })
+phase_clean (phase.Away epoch) = phase.Away epoch
+phase_clean (phase.Taking taking) = phase.Taking taking
+phase_clean (phase.Broken epoch seg) = phase.Broken epoch seg
 
 -- the segments of the checkpoint that was sent last, where it was sent in the epoch of the slot
-unfoldable pub named_phase : ℕ → List SegRef → SlotPhase → SlotPhase
-named_phase epoch parts (phase.Active a) = if a.slot.epoch == epoch then phase.Active (record a { parts = parts }) else phase.Active a
-named_phase epoch parts (phase.Away e) = phase.Away e
-named_phase epoch parts (phase.Taking taking) = phase.Taking taking
-named_phase epoch parts (phase.Broken e seg) = phase.Broken e seg
+unfoldable pub phase_name : ℕ → List SegRef → SlotPhase → SlotPhase
+phase_name epoch parts (phase.Active a) = if a.slot.epoch == epoch then phase.Active (record a { parts = parts }) else phase.Active a
+phase_name epoch parts (phase.Away e) = phase.Away e
+phase_name epoch parts (phase.Taking taking) = phase.Taking taking
+phase_name epoch parts (phase.Broken e seg) = phase.Broken e seg
 
 abbrev pub changed_in : Table → ℕ → (SlotPhase → SlotPhase) → Option SlotPhase → Table
 changed_in table slot change None = table
 changed_in table slot change (Some p) = slice_set table slot (change p)
 
-unfoldable pub cleaned_at : Table → ℕ → Table
-cleaned_at table slot = changed_in table slot cleaned_phase (slice_get table slot)
+unfoldable pub slot_table_clean : Table → ℕ → Table
+slot_table_clean table slot = changed_in table slot phase_clean (slice_get table slot)
 
-unfoldable pub named_at : Table → ℕ → ℕ → List SegRef → Table
-named_at table slot epoch parts = changed_in table slot (named_phase epoch parts) (slice_get table slot)
+unfoldable pub slot_table_name : Table → ℕ → ℕ → List SegRef → Table
+slot_table_name table slot epoch parts = changed_in table slot (phase_name epoch parts) (slice_get table slot)

@@ -4,7 +4,7 @@ use Rattle.xfs_base.specs.Limits.{block_logs}
 use Rattle.node_base.specs.Asking.{own_of}
 use Rattle.node_base.specs.Room.{has_room, has_long_room}
 use Rattle.token_manager.specs.SlotState.{SlotState}
-use Rattle.token_manager.specs.Transition.{started}
+use Rattle.token_manager.specs.Transition.{slot_start}
 use Rattle.manager_slots.specs.declared.slot_phase.Active.{Active}
 use Rattle.manager_slots.specs.declared.slot_phase.SlotPhase.{SlotPhase}
 use Rattle.manager_slots.specs.declared.slot_phase.SlotPhase.TheVariants as phase
@@ -37,8 +37,8 @@ has_turns (phase.Taking taking) = true
 has_turns (phase.Broken epoch seg) = true
 
 -- each counter is at least 65,536 below its end
-abbrev pub slot_has_room : SlotPhase → Bool
-slot_has_room p = has_room (epoch_of p) && has_turns p
+abbrev pub slot_phase_has_room : SlotPhase → Bool
+slot_phase_has_room p = has_room (epoch_of p) && has_turns p
 
 -- the number that the takeover gave the question that is answered
 abbrev pub fetch_of : SlotPhase → ℕ → Option ℕ
@@ -53,7 +53,7 @@ managed s = phase.Active (record { slot = s; parts = [] })
 
 -- a slot that is managed from the start of a run: nothing has happened in it
 abbrev pub first_active : SlotPhase
-first_active = managed (started 1 [] [] (replicate block_logs 0))
+first_active = managed (slot_start 1 [] [] (replicate block_logs 0))
 
 -- a slot of which the tokens and the index have changed
 abbrev pub with_slot : Active → SlotState → SlotPhase

@@ -12,13 +12,13 @@ use Rattle.node_base.specs.declared.effects.Effect.{Effect}
 use Rattle.node_base.specs.declared.effects.Effect.TheVariants.{Send, Lose}
 use Rattle.node_base.specs.declared.questions.Questions.{Questions}
 use Rattle.node_base.specs.Asking.{number_for, asked_as, drawn_for}
-use Rattle.takeover.specs.TakeState.{started}
+use Rattle.takeover.specs.TakeState.{take_start}
 use Rattle.takeover.specs.Transition.{transition}
 use Rattle.takeover.specs.declared.input.In.{In}
 use Rattle.takeover.specs.declared.input.In.TheVariants as input
 use Rattle.takeover.specs.declared.output.Out.{Out}
 use Rattle.takeover.specs.declared.output.Out.TheVariants as out
-use Rattle.token_manager.specs.Transition.{started as slot_started}
+use Rattle.token_manager.specs.Transition.{slot_start as slot_started}
 use Rattle.manager_slots.specs.declared.slot_phase.SlotPhase.{SlotPhase}
 use Rattle.manager_slots.specs.declared.slot_phase.SlotPhase.TheVariants as phase
 use Rattle.manager_slots.specs.Slots.{epoch_of, managed}
@@ -37,38 +37,38 @@ Done = Stepped Asker Effect
 -- ---- what a takeover says
 
 -- a round of a takeover asks under one question of the manager's
-abbrev pub fetches : SlotPhase → Questions → ℕ → SegName → ℕ → Done
-fetches (phase.Taking taking) q server name own = record {
+abbrev pub takeovers_fetch : SlotPhase → Questions → ℕ → SegName → ℕ → Done
+takeovers_fetch (phase.Taking taking) q server name own = record {
   state = asker (phase.Taking (record taking { fetches = asked_as taking.fetches q own })) (drawn_for taking.fetches q own);
   outs = Send (Server server) (body.Fetch (record { name = name; ask = number_for taking.fetches q own })) ∷ [];
 }
-fetches (phase.Away epoch) q server name own = still (asker (phase.Away epoch) q)
-fetches (phase.Active active) q server name own = still (asker (phase.Active active) q)
-fetches (phase.Broken epoch seg) q server name own = still (asker (phase.Broken epoch seg) q)
+takeovers_fetch (phase.Away epoch) q server name own = still (asker (phase.Away epoch) q)
+takeovers_fetch (phase.Active active) q server name own = still (asker (phase.Active active) q)
+takeovers_fetch (phase.Broken epoch seg) q server name own = still (asker (phase.Broken epoch seg) q)
 
 -- what a takeover says is done: a poll, a question, the slot is managed, or it is broken
-unfoldable pub says : ℕ → Asker → Out → Done
-says slot a (out.Poll to) = record { state = a; outs = Send to (body.Poll (record { slot = slot; epoch = epoch_of a.phase })) ∷ [] }
-says slot a (out.Fetch server name own) = fetches a.phase a.questions server name own
-says slot a (out.Active epoch index beliefs applied) = still (record a { phase = managed (slot_started epoch index beliefs applied) })
-says slot a (out.Lost seg) = record { state = record a { phase = phase.Broken (epoch_of a.phase) seg }; outs = Lose seg ∷ [] }
+unfoldable pub takeovers_say : ℕ → Asker → Out → Done
+takeovers_say slot a (out.Poll to) = record { state = a; outs = Send to (body.Poll (record { slot = slot; epoch = epoch_of a.phase })) ∷ [] }
+takeovers_say slot a (out.Fetch server name own) = takeovers_fetch a.phase a.questions server name own
+takeovers_say slot a (out.Active epoch index beliefs applied) = still (record a { phase = managed (slot_started epoch index beliefs applied) })
+takeovers_say slot a (out.Lost seg) = record { state = record a { phase = phase.Broken (epoch_of a.phase) seg }; outs = Lose seg ∷ [] }
 
-unfoldable pub says_each : ℕ → Asker → List Out → Done
-says_each slot a outs = steps (says slot) a outs
+unfoldable pub say_each : ℕ → Asker → List Out → Done
+say_each slot a outs = steps (takeovers_say slot) a outs
 
 -- ---- its inputs
 
 -- a takeover that is under way takes an input; a slot that is not being taken over takes none
-unfoldable pub heard : SlotPhase → In → Stepped SlotPhase Out
-heard (phase.Taking taking) given =
+unfoldable pub outs_of : SlotPhase → In → Stepped SlotPhase Out
+outs_of (phase.Taking taking) given =
     record { state = phase.Taking (record taking { take = (transition taking.take given).state }); outs = (transition taking.take given).outs }
-heard (phase.Away epoch) given = still (phase.Away epoch)
-heard (phase.Active active) given = still (phase.Active active)
-heard (phase.Broken epoch seg) given = still (phase.Broken epoch seg)
+outs_of (phase.Away epoch) given = still (phase.Away epoch)
+outs_of (phase.Active active) given = still (phase.Active active)
+outs_of (phase.Broken epoch seg) given = still (phase.Broken epoch seg)
 
 -- it takes an input, and what it says is done
-unfoldable pub takes : Asker → ℕ → In → Done
-takes a slot given = says_each slot (record a { phase = (heard a.phase given).state }) (heard a.phase given).outs
+unfoldable pub takeovers_take : Asker → ℕ → In → Done
+takeovers_take a slot given = say_each slot (record a { phase = (outs_of a.phase given).state }) (outs_of a.phase given).outs
 
 -- newer groups
 abbrev pub told_groups : GroupMapState → In
@@ -85,19 +85,19 @@ abbrev pub is_wanted : Bool → Out → Bool
 is_wanted true said = is_poll said
 is_wanted false said = not (is_poll said)
 
-abbrev pub kept_of : Bool → Out → List Out
-kept_of polls said = if is_wanted polls said then said ∷ [] else []
+abbrev pub takeovers_keep : Bool → Out → List Out
+takeovers_keep polls said = if is_wanted polls said then said ∷ [] else []
 
 -- time passes: its polls are sent again, or what else it asks
-unfoldable pub asks_again : Asker → ℕ → Bool → Done
-asks_again a slot polls = says_each slot (record a { phase = (heard a.phase input.Tick).state }) (filter (is_wanted polls) (heard a.phase input.Tick).outs)
+unfoldable pub takeovers_ask_again : Asker → ℕ → Bool → Done
+takeovers_ask_again a slot polls = say_each slot (record a { phase = (outs_of a.phase input.Tick).state }) (filter (is_wanted polls) (outs_of a.phase input.Tick).outs)
 
 abbrev pub report_input : NodeId → Report → In
 report_input from report = input.Report from report.held report.end
 
 -- a client or the cleaner says what it holds, in the epoch of the slot
 abbrev pub on_report : Asker → NodeId → Report → Done
-on_report a from report = if report.epoch == epoch_of a.phase then takes a report.slot (report_input from report) else still a
+on_report a from report = if report.epoch == epoch_of a.phase then takeovers_take a report.slot (report_input from report) else still a
 
 -- ---- a new epoch
 
@@ -105,5 +105,5 @@ on_report a from report = if report.epoch == epoch_of a.phase then takes a repor
 abbrev pub phase_of : ℕ → SlotNews → GroupMapState → ℕ → SlotPhase
 phase_of number news groups clients =
     if news.manager == number
-    then phase.Taking (record { epoch = news.epoch; take = started news groups clients; fetches = record { own = 0; ask = 0 } })
+    then phase.Taking (record { epoch = news.epoch; take = take_start news groups clients; fetches = record { own = 0; ask = 0 } })
     else phase.Away news.epoch

@@ -32,34 +32,34 @@ Done = Stepped SlotPhase Effect
 
 -- ---- what a slot says
 
-abbrev pub grants : Out → List Effect
-grants (out.Grant client block stamp inc req mode entry) =
+abbrev pub say_grant : Out → List Effect
+say_grant (out.Grant client block stamp inc req mode entry) =
     Send (Client client) (body.Grant (record { block = block; stamp = stamp; inc = inc; req = req; mode = mode; entry = entry })) ∷ []
-grants _ = []
+say_grant _ = []
 
-abbrev pub forwards : Out → List Effect
-forwards (out.Forward client block stamp to inc req ver) =
+abbrev pub say_forward : Out → List Effect
+say_forward (out.Forward client block stamp to inc req ver) =
     Send (Client client) (body.Forward (record { block = block; stamp = stamp; to = to; inc = inc; req = req; ver = ver })) ∷ []
-forwards _ = []
+say_forward _ = []
 
 -- a grant, a word to pass a block on, a recall and an acknowledgement are sent; a check is answered where it is asked
-unfoldable pub said : ℕ → ℕ → Out → List Effect
-said slot epoch (out.Grant client block stamp inc req mode entry) = grants (out.Grant client block stamp inc req mode entry)
-said slot epoch (out.Forward client block stamp to inc req ver) = forwards (out.Forward client block stamp to inc req ver)
-said slot epoch (out.Recall client block stamp keep) = Send (Client client) (body.Recall (record { block = block; stamp = stamp; keep = keep })) ∷ []
-said slot epoch (out.Applied log applied) = Send (block_writer log.0) (body.DeltaAck (record { slot = slot; epoch = epoch; applied = applied })) ∷ []
-said slot epoch (out.Live entry) = []
-said slot epoch out.Dead = []
+unfoldable pub tokens_say : ℕ → ℕ → Out → List Effect
+tokens_say slot epoch (out.Grant client block stamp inc req mode entry) = say_grant (out.Grant client block stamp inc req mode entry)
+tokens_say slot epoch (out.Forward client block stamp to inc req ver) = say_forward (out.Forward client block stamp to inc req ver)
+tokens_say slot epoch (out.Recall client block stamp keep) = Send (Client client) (body.Recall (record { block = block; stamp = stamp; keep = keep })) ∷ []
+tokens_say slot epoch (out.Applied log applied) = Send (block_writer log.0) (body.DeltaAck (record { slot = slot; epoch = epoch; applied = applied })) ∷ []
+tokens_say slot epoch (out.Live entry) = []
+tokens_say slot epoch out.Dead = []
 
 -- a slot that is managed takes an input, and what it says is sent; another takes none
-unfoldable pub takes : SlotPhase → ℕ → In → Done
-takes (phase.Active active) slot given = record {
+unfoldable pub tokens_take : SlotPhase → ℕ → In → Done
+tokens_take (phase.Active active) slot given = record {
   state = with_slot active (transition active.slot given).state;
-  outs = flat_map (said slot active.slot.epoch) (transition active.slot given).outs;
+  outs = flat_map (tokens_say slot active.slot.epoch) (transition active.slot given).outs;
 }
-takes (phase.Away epoch) slot given = still (phase.Away epoch)
-takes (phase.Taking taking) slot given = still (phase.Taking taking)
-takes (phase.Broken epoch seg) slot given = still (phase.Broken epoch seg)
+tokens_take (phase.Away epoch) slot given = still (phase.Away epoch)
+tokens_take (phase.Taking taking) slot given = still (phase.Taking taking)
+tokens_take (phase.Broken epoch seg) slot given = still (phase.Broken epoch seg)
 
 -- ---- the clients
 
@@ -73,21 +73,21 @@ gone epoch seg client want = Send (Client client) (body.Gone (record { block = w
 -- a client wants a block: the slot takes the want, and one that is broken refuses it
 unfoldable pub on_want : SlotPhase → ℕ → Want → Done
 on_want (phase.Broken epoch seg) client want = record { state = phase.Broken epoch seg; outs = gone epoch seg client want }
-on_want other client want = takes other (slot_of want.block.ino.0) (want_input client want)
+on_want other client want = tokens_take other (slot_of want.block.ino.0) (want_input client want)
 
 abbrev pub gave_input : ℕ → Gave → In
 gave_input client gave = input.Gave client gave.block gave.stamp gave.end
 
 -- a client has given a block up
 abbrev pub on_gave : SlotPhase → ℕ → Gave → Done
-on_gave p client gave = takes p (slot_of gave.block.ino.0) (gave_input client gave)
+on_gave p client gave = tokens_take p (slot_of gave.block.ino.0) (gave_input client gave)
 
 abbrev pub deltas_input : LogId → Deltas → In
 deltas_input log deltas = input.Deltas log deltas.first deltas.upto deltas.rows
 
 -- a log tells what its segments say of the slot's blocks
 abbrev pub on_deltas : SlotPhase → LogId → Deltas → Done
-on_deltas p log deltas = takes p deltas.slot (deltas_input log deltas)
+on_deltas p log deltas = tokens_take p deltas.slot (deltas_input log deltas)
 
 -- ---- the cleaner
 
@@ -103,14 +103,14 @@ checked check epoch (out.Recall client block stamp keep) = body.Dead (record { b
 checked check epoch (out.Applied log applied) = body.Dead (record { block = check.block; ask = check.ask; epoch = epoch })
 checked check epoch out.Dead = body.Dead (record { block = check.block; ask = check.ask; epoch = epoch })
 
-unfoldable pub check_said : Check → ℕ → Out → List Effect
-check_said check epoch answer = Send Cleaner (checked check epoch answer) ∷ []
+unfoldable pub tokens_answer : Check → ℕ → Out → List Effect
+tokens_answer check epoch answer = Send Cleaner (checked check epoch answer) ∷ []
 
 -- the cleaner asks whether a block's newest version lies at a place
 unfoldable pub on_check : SlotPhase → Check → Done
 on_check (phase.Active active) check = record {
   state = with_slot active (transition active.slot (check_input check)).state;
-  outs = flat_map (check_said check active.slot.epoch) (transition active.slot (check_input check)).outs;
+  outs = flat_map (tokens_answer check active.slot.epoch) (transition active.slot (check_input check)).outs;
 }
 on_check (phase.Away epoch) check = still (phase.Away epoch)
 on_check (phase.Taking taking) check = still (phase.Taking taking)
@@ -128,4 +128,4 @@ on_usage_ask (phase.Broken epoch seg) asked = []
 
 -- recalls that aren't answered are sent again
 abbrev pub on_tick : SlotPhase → ℕ → Done
-on_tick p slot = takes p slot input.Tick
+on_tick p slot = tokens_take p slot input.Tick

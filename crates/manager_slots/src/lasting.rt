@@ -2,7 +2,7 @@
 ghost use Rattle.std.specs.Prelude.{◌≡◌, ◌++◌, OnOk};
 ghost use Rattle.segment_format.specs.Format.{IsLog};
 ghost use Rattle.node_base.specs.Beginning.{answers_unanswered};
-ghost use Rattle.manager_slots.specs.Lasting.{log_of, kept_has_room, with_answer};
+ghost use Rattle.manager_slots.specs.Lasting.{log_of, lasting_has_room, lasting_answer};
 
 use node_base::{Effects, Items, Questions, has_room};
 use version_model::Answer;
@@ -43,14 +43,14 @@ impl Lasting {
 
     /// Whether each counter is at least 65,536 below its end.
     pub fn has_room(&self) -> bool
-        ensures { result ≡ kept_has_room self.now }
+        ensures { result ≡ lasting_has_room self.now }
     {
         has_room(self.inc) && has_room(self.questions.last)
     }
 
     /// Answers the item that is open.
     pub fn answer(&mut self, effects: &mut Effects, answer: Answer) -> Mem<()>
-        ensures state { self.new ≡ with_answer self.old }
+        ensures state { self.new ≡ lasting_answer self.old }
         ensures effects { OnOk result (effects.new ≡ effects.old ++ answers_unanswered self.old.items.unanswered answer) }
     {
         self.items.answer(effects, answer)

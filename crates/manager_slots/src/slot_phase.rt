@@ -1,6 +1,6 @@
 //! What a manager has of a slot.
 ghost use Rattle.std.specs.Prelude.{◌≡◌, IfOk};
-ghost use Rattle.manager_slots.specs.Slots.{epoch_of, is_active, is_taking, slot_has_room, fetch_of, first_active};
+ghost use Rattle.manager_slots.specs.Slots.{epoch_of, is_active, is_taking, slot_phase_has_room, fetch_of, first_active};
 
 use node_base::{Asked, has_long_room, has_room};
 use std::alloc::Global;
@@ -96,7 +96,7 @@ impl SlotPhase {
 
     /// Whether each counter is at least 65,536 below its end.
     pub fn has_room(&self) -> bool
-        ensures { result ≡ slot_has_room self.now }
+        ensures { result ≡ slot_phase_has_room self.now }
     {
         has_room(self.epoch())
             && match self {

@@ -3,7 +3,7 @@ ghost use Rattle.std.specs.Prelude.{◌≡◌, ◌++◌, ◌≤◌, IfOk, OnOk, 
 ghost use Rattle.xfs_base.specs.Steps.{steps};
 ghost use Rattle.checkpoint.specs.Plan.{plan_of};
 ghost use Rattle.slot_beliefs.specs.Index.{pages_of};
-ghost use Rattle.manager_slots.specs.SlotTable.{first_phase, first_table, unknown_phase, unknown_table, table_has_room, is_active_at, is_next, next_active, on_want, on_gave, on_deltas, on_check, on_usage_ask, usage_in, recalls, recalls_all, next_of, begin_with, begin_in, begin_at, cleaned_phase, named_phase, cleaned_at, named_at};
+ghost use Rattle.manager_slots.specs.SlotTable.{first_phase, slot_table_first, unknown_phase, slot_table_unknown, slot_table_has_room, is_active_at, is_next, next_active, on_want, on_gave, on_deltas, on_check, on_usage_ask, usage_in, slot_table_recall, recall_again, next_of, begin_with, begin_in, begin_at, phase_clean, phase_name, slot_table_clean, slot_table_name};
 
 use crate::slot_phase::{Active, SlotPhase, first_active};
 use crate::tokens;
@@ -49,7 +49,7 @@ impl SlotTable {
     /// The slots at the start of a run, in which each manager manages its own.
     pub fn first(alloc: Global, number: u8, managers: u8) -> Mem<SlotTable>
         requires { 1 ≤ managers }
-        ensures { IfOk result (λ table. table ≡ first_table number managers) }
+        ensures { IfOk result (λ table. table ≡ slot_table_first number managers) }
     {
         let entries = ManagerMap::start(managers);
         let phases = first_phases(alloc, number, &entries, &SLOTS)?;
@@ -58,7 +58,7 @@ impl SlotTable {
 
     /// The slots of which nothing is known.
     pub fn unknown(alloc: Global) -> Mem<SlotTable>
-        ensures { IfOk result (λ table. table ≡ unknown_table) }
+        ensures { IfOk result (λ table. table ≡ slot_table_unknown) }
     {
         let phases = unknown_phases(alloc, &SLOTS)?;
         Ok(SlotTable { phases })
@@ -66,7 +66,7 @@ impl SlotTable {
 
     /// Whether each counter is at least 65,536 below its end.
     pub fn has_room(&self) -> bool
-        ensures { result ≡ table_has_room self.now }
+        ensures { result ≡ slot_table_has_room self.now }
     {
         self.phases.iter().all(|phase| phase.has_room())
     }
@@ -157,15 +157,15 @@ impl SlotTable {
 
     /// Recalls that aren't answered are sent again.
     pub fn recall_again(&mut self, alloc: Global, effects: &mut Effects) -> Mem<()>
-        ensures state { OnOk result (self.new ≡ (recalls_all self.old).state) }
-        ensures effects { OnOk result (effects.new ≡ effects.old ++ (recalls_all self.old).outs) }
+        ensures state { OnOk result (self.new ≡ (recall_again self.old).state) }
+        ensures effects { OnOk result (effects.new ≡ effects.old ++ (recall_again self.old).outs) }
     {
         self.recall_each(alloc, effects, &SLOTS)
     }
 
     fn recall_each(&mut self, alloc: Global, effects: &mut Effects, slots: &[u8]) -> Mem<()>
-        ensures state { OnOk result (self.new ≡ (steps recalls self.old slots.now).state) }
-        ensures effects { OnOk result (effects.new ≡ effects.old ++ (steps recalls self.old slots.now).outs) }
+        ensures state { OnOk result (self.new ≡ (steps slot_table_recall self.old slots.now).state) }
+        ensures effects { OnOk result (effects.new ≡ effects.old ++ (steps slot_table_recall self.old slots.now).outs) }
     {
         for slot in slots {
             self.recall(alloc, effects, *slot)?;
@@ -173,10 +173,10 @@ impl SlotTable {
         Ok(())
     }
 
-    #[tactic(auto, unfolding(crate::specs::SlotTable::recalls))]
+    #[tactic(auto, unfolding(crate::specs::SlotTable::slot_table_recall))]
     fn recall(&mut self, alloc: Global, effects: &mut Effects, slot: u8) -> Mem<()>
-        ensures state { OnOk result (self.new ≡ (recalls self.old slot).state) }
-        ensures effects { OnOk result (effects.new ≡ effects.old ++ (recalls self.old slot).outs) }
+        ensures state { OnOk result (self.new ≡ (slot_table_recall self.old slot).state) }
+        ensures effects { OnOk result (effects.new ≡ effects.old ++ (slot_table_recall self.old slot).outs) }
     {
         match self.phases.get_mut(usize::from(slot)) {
             Some(phase) => tokens::on_tick(alloc, effects, phase, slot),
@@ -188,16 +188,16 @@ impl SlotTable {
     /// page of it has changed. None where the slot isn't managed.
     pub fn begin(&mut self, alloc: Global, slot: u8) -> Mem<Option<In>>
         ensures input { IfOk result (λ input. input ≡ begin_at self.old slot) }
-        ensures state { OnOk result (self.new ≡ cleaned_at self.old slot) }
+        ensures state { OnOk result (self.new ≡ slot_table_clean self.old slot) }
     {
         let input = begin_at(alloc, &self.phases, slot)?;
         self.clean(slot);
         Ok(input)
     }
 
-    #[tactic(auto, unfolding(crate::specs::SlotTable::cleaned_at))]
+    #[tactic(auto, unfolding(crate::specs::SlotTable::slot_table_clean))]
     fn clean(&mut self, slot: u8)
-        ensures { self.new ≡ cleaned_at self.old slot }
+        ensures { self.new ≡ slot_table_clean self.old slot }
     {
         if let Some(phase) = self.phases.get_mut(usize::from(slot)) {
             clean(phase);
@@ -205,9 +205,9 @@ impl SlotTable {
     }
 
     /// The segments of the checkpoint of a slot that is sent, in the epoch in which it was begun.
-    #[tactic(auto, unfolding(crate::specs::SlotTable::named_at))]
+    #[tactic(auto, unfolding(crate::specs::SlotTable::slot_table_name))]
     pub fn name(&mut self, slot: u8, epoch: u32, parts: List<SegRef>)
-        ensures { self.new ≡ named_at self.old slot epoch parts }
+        ensures { self.new ≡ slot_table_name self.old slot epoch parts }
     {
         match self.phases.get_mut(usize::from(slot)) {
             Some(phase) => name(phase, epoch, parts),
@@ -330,9 +330,9 @@ fn planned(alloc: Global, active: &Active) -> Mem<Plan>
     plan_of(alloc, active.slot.pages(), parts)
 }
 
-#[tactic(auto, unfolding(crate::specs::SlotTable::cleaned_phase))]
+#[tactic(auto, unfolding(crate::specs::SlotTable::phase_clean))]
 fn clean(phase: &mut SlotPhase)
-    ensures { phase.new ≡ cleaned_phase phase.old }
+    ensures { phase.new ≡ phase_clean phase.old }
 {
     match phase {
         SlotPhase::Active(active) => active.slot.clean(),
@@ -340,9 +340,9 @@ fn clean(phase: &mut SlotPhase)
     }
 }
 
-#[tactic(auto, unfolding(crate::specs::SlotTable::named_phase))]
+#[tactic(auto, unfolding(crate::specs::SlotTable::phase_name))]
 fn name(phase: &mut SlotPhase, epoch: u32, parts: List<SegRef>)
-    ensures { phase.new ≡ named_phase epoch parts phase.old }
+    ensures { phase.new ≡ phase_name epoch parts phase.old }
 {
     match phase {
         SlotPhase::Active(active) => {

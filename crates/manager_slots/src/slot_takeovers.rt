@@ -2,7 +2,7 @@
 ghost use Rattle.std.specs.Prelude.{◌≡◌, ◌++◌, OnOk};
 ghost use Rattle.xfs_base.specs.Steps.{steps};
 ghost use Rattle.manager_slots.specs.Takeovers.{asker};
-ghost use Rattle.manager_slots.specs.SlotTable.{table_asker, hearer, all_slots, takes, on_report, asks, asks_all, regroups, regroups_all, hears_of, hears, hears_all, fetch_at, fetch_among};
+ghost use Rattle.manager_slots.specs.SlotTable.{table_asker, hearer, all_slots, slot_table_take, on_report, slot_table_ask, slot_table_ask_again, regroup_one, slot_table_regroup, hear_of, slot_table_hear, hear_each, fetch_at, fetch_among};
 
 use crate::slot_phase::SlotPhase;
 use crate::slot_table::{SLOTS, SlotTable};
@@ -25,7 +25,7 @@ pub struct Ears {
 
 impl SlotTable {
     /// The takeover of a slot takes an input.
-    #[tactic(auto, unfolding(crate::specs::SlotTable::takes))]
+    #[tactic(auto, unfolding(crate::specs::SlotTable::slot_table_take))]
     pub fn take(
         &mut self,
         alloc: Global,
@@ -34,9 +34,9 @@ impl SlotTable {
         slot: u8,
         input: takeover::In,
     ) -> Mem<()>
-        ensures state { OnOk result (self.new ≡ (takes (table_asker self.old questions.old) slot input).state.table) }
-        ensures questions { OnOk result (questions.new ≡ (takes (table_asker self.old questions.old) slot input).state.questions) }
-        ensures effects { OnOk result (effects.new ≡ effects.old ++ (takes (table_asker self.old questions.old) slot input).outs) }
+        ensures state { OnOk result (self.new ≡ (slot_table_take (table_asker self.old questions.old) slot input).state.table) }
+        ensures questions { OnOk result (questions.new ≡ (slot_table_take (table_asker self.old questions.old) slot input).state.questions) }
+        ensures effects { OnOk result (effects.new ≡ effects.old ++ (slot_table_take (table_asker self.old questions.old) slot input).outs) }
     {
         match self.phases.get_mut(usize::from(slot)) {
             Some(phase) => takeovers::take(alloc, effects, questions, phase, slot, input),
@@ -72,9 +72,9 @@ impl SlotTable {
         questions: &mut Questions,
         polls: bool,
     ) -> Mem<()>
-        ensures state { OnOk result (self.new ≡ (asks_all polls (table_asker self.old questions.old)).state.table) }
-        ensures questions { OnOk result (questions.new ≡ (asks_all polls (table_asker self.old questions.old)).state.questions) }
-        ensures effects { OnOk result (effects.new ≡ effects.old ++ (asks_all polls (table_asker self.old questions.old)).outs) }
+        ensures state { OnOk result (self.new ≡ (slot_table_ask_again polls (table_asker self.old questions.old)).state.table) }
+        ensures questions { OnOk result (questions.new ≡ (slot_table_ask_again polls (table_asker self.old questions.old)).state.questions) }
+        ensures effects { OnOk result (effects.new ≡ effects.old ++ (slot_table_ask_again polls (table_asker self.old questions.old)).outs) }
     {
         self.ask_each(alloc, effects, questions, polls, &SLOTS)
     }
@@ -87,9 +87,9 @@ impl SlotTable {
         polls: bool,
         slots: &[u8],
     ) -> Mem<()>
-        ensures state { OnOk result (self.new ≡ (steps (asks polls) (table_asker self.old questions.old) slots.now).state.table) }
-        ensures questions { OnOk result (questions.new ≡ (steps (asks polls) (table_asker self.old questions.old) slots.now).state.questions) }
-        ensures effects { OnOk result (effects.new ≡ effects.old ++ (steps (asks polls) (table_asker self.old questions.old) slots.now).outs) }
+        ensures state { OnOk result (self.new ≡ (steps (slot_table_ask polls) (table_asker self.old questions.old) slots.now).state.table) }
+        ensures questions { OnOk result (questions.new ≡ (steps (slot_table_ask polls) (table_asker self.old questions.old) slots.now).state.questions) }
+        ensures effects { OnOk result (effects.new ≡ effects.old ++ (steps (slot_table_ask polls) (table_asker self.old questions.old) slots.now).outs) }
     {
         for slot in slots {
             self.ask(alloc, effects, questions, polls, *slot)?;
@@ -97,7 +97,7 @@ impl SlotTable {
         Ok(())
     }
 
-    #[tactic(auto, unfolding(crate::specs::SlotTable::asks))]
+    #[tactic(auto, unfolding(crate::specs::SlotTable::slot_table_ask))]
     fn ask(
         &mut self,
         alloc: Global,
@@ -106,9 +106,9 @@ impl SlotTable {
         polls: bool,
         slot: u8,
     ) -> Mem<()>
-        ensures state { OnOk result (self.new ≡ (asks polls (table_asker self.old questions.old) slot).state.table) }
-        ensures questions { OnOk result (questions.new ≡ (asks polls (table_asker self.old questions.old) slot).state.questions) }
-        ensures effects { OnOk result (effects.new ≡ effects.old ++ (asks polls (table_asker self.old questions.old) slot).outs) }
+        ensures state { OnOk result (self.new ≡ (slot_table_ask polls (table_asker self.old questions.old) slot).state.table) }
+        ensures questions { OnOk result (questions.new ≡ (slot_table_ask polls (table_asker self.old questions.old) slot).state.questions) }
+        ensures effects { OnOk result (effects.new ≡ effects.old ++ (slot_table_ask polls (table_asker self.old questions.old) slot).outs) }
     {
         match self.phases.get_mut(usize::from(slot)) {
             Some(phase) => takeovers::ask_again(alloc, effects, questions, phase, slot, polls),
@@ -124,9 +124,9 @@ impl SlotTable {
         questions: &mut Questions,
         groups: &GroupMap,
     ) -> Mem<()>
-        ensures state { OnOk result (self.new ≡ (regroups_all groups.now (table_asker self.old questions.old)).state.table) }
-        ensures questions { OnOk result (questions.new ≡ (regroups_all groups.now (table_asker self.old questions.old)).state.questions) }
-        ensures effects { OnOk result (effects.new ≡ effects.old ++ (regroups_all groups.now (table_asker self.old questions.old)).outs) }
+        ensures state { OnOk result (self.new ≡ (slot_table_regroup groups.now (table_asker self.old questions.old)).state.table) }
+        ensures questions { OnOk result (questions.new ≡ (slot_table_regroup groups.now (table_asker self.old questions.old)).state.questions) }
+        ensures effects { OnOk result (effects.new ≡ effects.old ++ (slot_table_regroup groups.now (table_asker self.old questions.old)).outs) }
     {
         self.regroup_each(alloc, effects, questions, groups, &SLOTS)
     }
@@ -139,9 +139,9 @@ impl SlotTable {
         groups: &GroupMap,
         slots: &[u8],
     ) -> Mem<()>
-        ensures state { OnOk result (self.new ≡ (steps (regroups groups.now) (table_asker self.old questions.old) slots.now).state.table) }
-        ensures questions { OnOk result (questions.new ≡ (steps (regroups groups.now) (table_asker self.old questions.old) slots.now).state.questions) }
-        ensures effects { OnOk result (effects.new ≡ effects.old ++ (steps (regroups groups.now) (table_asker self.old questions.old) slots.now).outs) }
+        ensures state { OnOk result (self.new ≡ (steps (regroup_one groups.now) (table_asker self.old questions.old) slots.now).state.table) }
+        ensures questions { OnOk result (questions.new ≡ (steps (regroup_one groups.now) (table_asker self.old questions.old) slots.now).state.questions) }
+        ensures effects { OnOk result (effects.new ≡ effects.old ++ (steps (regroup_one groups.now) (table_asker self.old questions.old) slots.now).outs) }
     {
         for slot in slots {
             self.regroup_one(alloc, effects, questions, groups, *slot)?;
@@ -149,7 +149,7 @@ impl SlotTable {
         Ok(())
     }
 
-    #[tactic(auto, unfolding(crate::specs::SlotTable::takes))]
+    #[tactic(auto, unfolding(crate::specs::SlotTable::slot_table_take))]
     fn regroup_one(
         &mut self,
         alloc: Global,
@@ -158,9 +158,9 @@ impl SlotTable {
         groups: &GroupMap,
         slot: u8,
     ) -> Mem<()>
-        ensures state { OnOk result (self.new ≡ (regroups groups.now (table_asker self.old questions.old) slot).state.table) }
-        ensures questions { OnOk result (questions.new ≡ (regroups groups.now (table_asker self.old questions.old) slot).state.questions) }
-        ensures effects { OnOk result (effects.new ≡ effects.old ++ (regroups groups.now (table_asker self.old questions.old) slot).outs) }
+        ensures state { OnOk result (self.new ≡ (regroup_one groups.now (table_asker self.old questions.old) slot).state.table) }
+        ensures questions { OnOk result (questions.new ≡ (regroup_one groups.now (table_asker self.old questions.old) slot).state.questions) }
+        ensures effects { OnOk result (effects.new ≡ effects.old ++ (regroup_one groups.now (table_asker self.old questions.old) slot).outs) }
     {
         match self.phases.get_mut(usize::from(slot)) {
             Some(phase) => takeovers::regroup(alloc, effects, questions, phase, slot, groups),
@@ -178,9 +178,9 @@ impl SlotTable {
         groups: &GroupMap,
         slots: &[SlotNews],
     ) -> Mem<()>
-        ensures state { OnOk result (self.new ≡ (hears_all (hearer ears groups.now) (table_asker self.old questions.old) slots.now).state.table) }
-        ensures questions { OnOk result (questions.new ≡ (hears_all (hearer ears groups.now) (table_asker self.old questions.old) slots.now).state.questions) }
-        ensures effects { OnOk result (effects.new ≡ effects.old ++ (hears_all (hearer ears groups.now) (table_asker self.old questions.old) slots.now).outs) }
+        ensures state { OnOk result (self.new ≡ (hear_each (hearer ears groups.now) (table_asker self.old questions.old) slots.now).state.table) }
+        ensures questions { OnOk result (questions.new ≡ (hear_each (hearer ears groups.now) (table_asker self.old questions.old) slots.now).state.questions) }
+        ensures effects { OnOk result (effects.new ≡ effects.old ++ (hear_each (hearer ears groups.now) (table_asker self.old questions.old) slots.now).outs) }
     {
         for news in slots {
             self.hear(alloc, effects, questions, ears, groups, news)?;
@@ -188,7 +188,7 @@ impl SlotTable {
         Ok(())
     }
 
-    #[tactic(auto, unfolding(crate::specs::SlotTable::hears))]
+    #[tactic(auto, unfolding(crate::specs::SlotTable::slot_table_hear))]
     fn hear(
         &mut self,
         alloc: Global,
@@ -198,9 +198,9 @@ impl SlotTable {
         groups: &GroupMap,
         news: &SlotNews,
     ) -> Mem<()>
-        ensures state { OnOk result (self.new ≡ (hears (hearer ears groups.now) (table_asker self.old questions.old) news.now).state.table) }
-        ensures questions { OnOk result (questions.new ≡ (hears (hearer ears groups.now) (table_asker self.old questions.old) news.now).state.questions) }
-        ensures effects { OnOk result (effects.new ≡ effects.old ++ (hears (hearer ears groups.now) (table_asker self.old questions.old) news.now).outs) }
+        ensures state { OnOk result (self.new ≡ (slot_table_hear (hearer ears groups.now) (table_asker self.old questions.old) news.now).state.table) }
+        ensures questions { OnOk result (questions.new ≡ (slot_table_hear (hearer ears groups.now) (table_asker self.old questions.old) news.now).state.questions) }
+        ensures effects { OnOk result (effects.new ≡ effects.old ++ (slot_table_hear (hearer ears groups.now) (table_asker self.old questions.old) news.now).outs) }
     {
         match self.phases.get_mut(usize::from(news.slot)) {
             Some(phase) => hear_of(alloc, effects, questions, ears, groups, phase, news),
@@ -238,7 +238,7 @@ fn fetch_at(phases: &[SlotPhase], slot: u8, ask: u32) -> Option<u32>
 
 // The maps name a slot: where its epoch is greater, and they give it to this manager, it takes the slot over,
 // and else it leaves it.
-#[tactic(auto, unfolding(crate::specs::SlotTable::hears_of))]
+#[tactic(auto, unfolding(crate::specs::SlotTable::hear_of))]
 fn hear_of(
     alloc: Global,
     effects: &mut Effects,
@@ -248,9 +248,9 @@ fn hear_of(
     phase: &mut SlotPhase,
     news: &SlotNews,
 ) -> Mem<()>
-    ensures state { OnOk result (phase.new ≡ (hears_of (hearer ears groups.now) news.now (asker phase.old questions.old)).state.phase) }
-    ensures questions { OnOk result (questions.new ≡ (hears_of (hearer ears groups.now) news.now (asker phase.old questions.old)).state.questions) }
-    ensures effects { OnOk result (effects.new ≡ effects.old ++ (hears_of (hearer ears groups.now) news.now (asker phase.old questions.old)).outs) }
+    ensures state { OnOk result (phase.new ≡ (hear_of (hearer ears groups.now) news.now (asker phase.old questions.old)).state.phase) }
+    ensures questions { OnOk result (questions.new ≡ (hear_of (hearer ears groups.now) news.now (asker phase.old questions.old)).state.questions) }
+    ensures effects { OnOk result (effects.new ≡ effects.old ++ (hear_of (hearer ears groups.now) news.now (asker phase.old questions.old)).outs) }
 {
     if news.epoch <= phase.epoch() {
         return Ok(());

@@ -1,10 +1,10 @@
 //! How a manager takes slots over.
 ghost use Rattle.std.specs.Prelude.{◌≡◌, ◌++◌, ◌∷◌, [], IfOk, OnOk, All, filter};
 ghost use Rattle.takeover.specs.Course.{StartsSlot};
-ghost use Rattle.takeover.specs.TakeState.{started};
+ghost use Rattle.takeover.specs.TakeState.{take_start};
 ghost use Rattle.node_base.specs.Asking.{number_for, asked_as, drawn_for};
 ghost use Rattle.log_owner.specs.Sending.{fetch};
-ghost use Rattle.manager_slots.specs.Takeovers.{asker, fetches, says, says_each, heard, takes, is_poll, is_wanted, kept_of, asks_again, on_report, phase_of, told_groups};
+ghost use Rattle.manager_slots.specs.Takeovers.{asker, takeovers_fetch, takeovers_say, say_each, outs_of, takeovers_take, is_poll, is_wanted, takeovers_keep, takeovers_ask_again, on_report, phase_of, told_groups};
 
 use crate::slot_phase::{Active, SlotPhase, Taking};
 use group_map::GroupMap;
@@ -40,7 +40,7 @@ pub(crate) fn phase_of(
 }
 
 fn first_take(alloc: Global, news: &SlotNews, groups: &GroupMap, clients: u8) -> Mem<Take>
-    ensures { IfOk result (λ take. take ≡ started news.now groups.now clients) }
+    ensures { IfOk result (λ take. take ≡ take_start news.now groups.now clients) }
 {
     let news = news.copy(alloc)?;
     match groups.copy(alloc) {
@@ -77,7 +77,7 @@ pub(crate) fn on_report(
 }
 
 /// A takeover that is under way takes an input, and what it says is done.
-#[tactic(auto, unfolding(crate::specs::Takeovers::takes))]
+#[tactic(auto, unfolding(crate::specs::Takeovers::takeovers_take))]
 pub(crate) fn take(
     alloc: Global,
     effects: &mut Effects,
@@ -86,16 +86,16 @@ pub(crate) fn take(
     slot: u8,
     input: In,
 ) -> Mem<()>
-    ensures state { OnOk result (phase.new ≡ (takes (asker phase.old questions.old) slot input).state.phase) }
-    ensures questions { OnOk result (questions.new ≡ (takes (asker phase.old questions.old) slot input).state.questions) }
-    ensures effects { OnOk result (effects.new ≡ effects.old ++ (takes (asker phase.old questions.old) slot input).outs) }
+    ensures state { OnOk result (phase.new ≡ (takeovers_take (asker phase.old questions.old) slot input).state.phase) }
+    ensures questions { OnOk result (questions.new ≡ (takeovers_take (asker phase.old questions.old) slot input).state.questions) }
+    ensures effects { OnOk result (effects.new ≡ effects.old ++ (takeovers_take (asker phase.old questions.old) slot input).outs) }
 {
     let outs = outs_of(alloc, phase, input)?;
     say_each(alloc, effects, questions, phase, slot, outs)
 }
 
 /// A takeover that is under way hears of newer groups, which are copied for it alone.
-#[tactic(auto, unfolding(crate::specs::Takeovers::takes, crate::specs::Takeovers::heard, crate::specs::Takeovers::says_each))]
+#[tactic(auto, unfolding(crate::specs::Takeovers::takeovers_take, crate::specs::Takeovers::outs_of, crate::specs::Takeovers::say_each))]
 pub(crate) fn regroup(
     alloc: Global,
     effects: &mut Effects,
@@ -104,9 +104,9 @@ pub(crate) fn regroup(
     slot: u8,
     groups: &GroupMap,
 ) -> Mem<()>
-    ensures state { OnOk result (phase.new ≡ (takes (asker phase.old questions.old) slot (told_groups groups.now)).state.phase) }
-    ensures questions { OnOk result (questions.new ≡ (takes (asker phase.old questions.old) slot (told_groups groups.now)).state.questions) }
-    ensures effects { OnOk result (effects.new ≡ effects.old ++ (takes (asker phase.old questions.old) slot (told_groups groups.now)).outs) }
+    ensures state { OnOk result (phase.new ≡ (takeovers_take (asker phase.old questions.old) slot (told_groups groups.now)).state.phase) }
+    ensures questions { OnOk result (questions.new ≡ (takeovers_take (asker phase.old questions.old) slot (told_groups groups.now)).state.questions) }
+    ensures effects { OnOk result (effects.new ≡ effects.old ++ (takeovers_take (asker phase.old questions.old) slot (told_groups groups.now)).outs) }
 {
     if !phase.is_taking() {
         return Ok(());
@@ -122,7 +122,7 @@ pub(crate) fn regroup(
 }
 
 /// Time passes: a takeover's polls are sent again, or what else it asks.
-#[tactic(auto, unfolding(crate::specs::Takeovers::asks_again))]
+#[tactic(auto, unfolding(crate::specs::Takeovers::takeovers_ask_again))]
 pub(crate) fn ask_again(
     alloc: Global,
     effects: &mut Effects,
@@ -131,9 +131,9 @@ pub(crate) fn ask_again(
     slot: u8,
     polls: bool,
 ) -> Mem<()>
-    ensures state { OnOk result (phase.new ≡ (asks_again (asker phase.old questions.old) slot polls).state.phase) }
-    ensures questions { OnOk result (questions.new ≡ (asks_again (asker phase.old questions.old) slot polls).state.questions) }
-    ensures effects { OnOk result (effects.new ≡ effects.old ++ (asks_again (asker phase.old questions.old) slot polls).outs) }
+    ensures state { OnOk result (phase.new ≡ (takeovers_ask_again (asker phase.old questions.old) slot polls).state.phase) }
+    ensures questions { OnOk result (questions.new ≡ (takeovers_ask_again (asker phase.old questions.old) slot polls).state.questions) }
+    ensures effects { OnOk result (effects.new ≡ effects.old ++ (takeovers_ask_again (asker phase.old questions.old) slot polls).outs) }
 {
     let outs = outs_of(alloc, phase, In::Tick)?;
     let outs = wanted(alloc, outs, polls)?;
@@ -152,7 +152,7 @@ fn wanted(alloc: Global, outs: List<Out>, polls: bool) -> Mem<List<Out>>
 }
 
 fn keep(kept: &mut List<Out>, polls: bool, out: Out) -> Mem<()>
-    ensures { OnOk result (kept.new ≡ kept.old ++ kept_of polls out) }
+    ensures { OnOk result (kept.new ≡ kept.old ++ takeovers_keep polls out) }
 {
     if is_wanted(polls, &out) {
         kept.push(out)?;
@@ -173,10 +173,10 @@ fn is_poll(out: &Out) -> bool
 }
 
 // What a takeover that is under way says to an input.
-#[tactic(auto, unfolding(crate::specs::Takeovers::heard))]
+#[tactic(auto, unfolding(crate::specs::Takeovers::outs_of))]
 fn outs_of(alloc: Global, phase: &mut SlotPhase, input: In) -> Mem<List<Out>>
-    ensures state { OnOk result (phase.new ≡ (heard phase.old input).state) }
-    ensures outs { IfOk result (λ outs. outs ≡ (heard phase.old input).outs) }
+    ensures state { OnOk result (phase.new ≡ (outs_of phase.old input).state) }
+    ensures outs { IfOk result (λ outs. outs ≡ (outs_of phase.old input).outs) }
     ensures starts { IfOk result (λ outs. All StartsSlot outs) }
 {
     match phase {
@@ -188,7 +188,7 @@ fn outs_of(alloc: Global, phase: &mut SlotPhase, input: In) -> Mem<List<Out>>
     }
 }
 
-#[tactic(auto, unfolding(crate::specs::Takeovers::says_each))]
+#[tactic(auto, unfolding(crate::specs::Takeovers::say_each))]
 fn say_each(
     alloc: Global,
     effects: &mut Effects,
@@ -198,9 +198,9 @@ fn say_each(
     outs: List<Out>,
 ) -> Mem<()>
     requires { All StartsSlot outs }
-    ensures state { OnOk result (phase.new ≡ (says_each slot (asker phase.old questions.old) outs).state.phase) }
-    ensures questions { OnOk result (questions.new ≡ (says_each slot (asker phase.old questions.old) outs).state.questions) }
-    ensures effects { OnOk result (effects.new ≡ effects.old ++ (says_each slot (asker phase.old questions.old) outs).outs) }
+    ensures state { OnOk result (phase.new ≡ (say_each slot (asker phase.old questions.old) outs).state.phase) }
+    ensures questions { OnOk result (questions.new ≡ (say_each slot (asker phase.old questions.old) outs).state.questions) }
+    ensures effects { OnOk result (effects.new ≡ effects.old ++ (say_each slot (asker phase.old questions.old) outs).outs) }
 {
     for out in outs.into_vec() {
         say(alloc, effects, questions, phase, slot, out)?;
@@ -209,7 +209,7 @@ fn say_each(
 }
 
 // What a takeover says is done.
-#[tactic(auto, unfolding(crate::specs::Takeovers::says))]
+#[tactic(auto, unfolding(crate::specs::Takeovers::takeovers_say))]
 fn say(
     alloc: Global,
     effects: &mut Effects,
@@ -219,9 +219,9 @@ fn say(
     out: Out,
 ) -> Mem<()>
     requires { StartsSlot out }
-    ensures state { OnOk result (phase.new ≡ (says slot (asker phase.old questions.old) out).state.phase) }
-    ensures questions { OnOk result (questions.new ≡ (says slot (asker phase.old questions.old) out).state.questions) }
-    ensures effects { OnOk result (effects.new ≡ effects.old ++ (says slot (asker phase.old questions.old) out).outs) }
+    ensures state { OnOk result (phase.new ≡ (takeovers_say slot (asker phase.old questions.old) out).state.phase) }
+    ensures questions { OnOk result (questions.new ≡ (takeovers_say slot (asker phase.old questions.old) out).state.questions) }
+    ensures effects { OnOk result (effects.new ≡ effects.old ++ (takeovers_say slot (asker phase.old questions.old) out).outs) }
 {
     let epoch = phase.epoch();
     match out {
@@ -260,9 +260,9 @@ fn fetch(
     name: SegName,
     own: u32,
 ) -> Mem<()>
-    ensures state { OnOk result (phase.new ≡ (fetches phase.old questions.old server name own).state.phase) }
-    ensures questions { OnOk result (questions.new ≡ (fetches phase.old questions.old server name own).state.questions) }
-    ensures effects { OnOk result (effects.new ≡ effects.old ++ (fetches phase.old questions.old server name own).outs) }
+    ensures state { OnOk result (phase.new ≡ (takeovers_fetch phase.old questions.old server name own).state.phase) }
+    ensures questions { OnOk result (questions.new ≡ (takeovers_fetch phase.old questions.old server name own).state.questions) }
+    ensures effects { OnOk result (effects.new ≡ effects.old ++ (takeovers_fetch phase.old questions.old server name own).outs) }
 {
     match phase {
         SlotPhase::Taking(taking) => {

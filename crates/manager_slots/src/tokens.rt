@@ -1,7 +1,7 @@
 //! What a manager does for the clients and the cleaner in a slot.
 ghost use Rattle.std.specs.Prelude.{◌≡◌, ◌++◌, OnOk};
 ghost use Rattle.std.specs.List.{flat_map};
-ghost use Rattle.manager_slots.specs.Tokens.{grants, forwards, said, takes, want_input, on_want, on_gave, on_deltas, check_said, on_check, on_usage_ask, on_tick};
+ghost use Rattle.manager_slots.specs.Tokens.{say_grant, say_forward, tokens_say, tokens_take, want_input, on_want, on_gave, on_deltas, tokens_answer, on_check, on_usage_ask, on_tick};
 
 use crate::slot_phase::SlotPhase;
 use node_base::Effects;
@@ -124,7 +124,7 @@ pub(crate) fn on_check(
 }
 
 fn answer_each(effects: &mut Effects, check: Check, epoch: u32, outs: &[Out]) -> Mem<()>
-    ensures { OnOk result (effects.new ≡ effects.old ++ flat_map (check_said check epoch) outs.now) }
+    ensures { OnOk result (effects.new ≡ effects.old ++ flat_map (tokens_answer check epoch) outs.now) }
 {
     for out in outs {
         answer(effects, check, epoch, *out)?;
@@ -133,9 +133,9 @@ fn answer_each(effects: &mut Effects, check: Check, epoch: u32, outs: &[Out]) ->
 }
 
 // Whether the block's newest version lies at the place.
-#[tactic(auto, unfolding(crate::specs::Tokens::check_said))]
+#[tactic(auto, unfolding(crate::specs::Tokens::tokens_answer))]
 fn answer(effects: &mut Effects, check: Check, epoch: u32, out: Out) -> Mem<()>
-    ensures { OnOk result (effects.new ≡ effects.old ++ check_said check epoch out) }
+    ensures { OnOk result (effects.new ≡ effects.old ++ tokens_answer check epoch out) }
 {
     let Check { block, ask, .. } = check;
     let body = match out {
@@ -186,7 +186,7 @@ pub(crate) fn on_tick(
 }
 
 // A slot that is managed takes an input, and what it says is sent.
-#[tactic(auto, unfolding(crate::specs::Tokens::takes))]
+#[tactic(auto, unfolding(crate::specs::Tokens::tokens_take))]
 fn take(
     alloc: Global,
     effects: &mut Effects,
@@ -194,8 +194,8 @@ fn take(
     number: u8,
     input: In,
 ) -> Mem<()>
-    ensures state { OnOk result (phase.new ≡ (takes phase.old number input).state) }
-    ensures effects { OnOk result (effects.new ≡ effects.old ++ (takes phase.old number input).outs) }
+    ensures state { OnOk result (phase.new ≡ (tokens_take phase.old number input).state) }
+    ensures effects { OnOk result (effects.new ≡ effects.old ++ (tokens_take phase.old number input).outs) }
 {
     let SlotPhase::Active(active) = phase else {
         drop(input);
@@ -207,7 +207,7 @@ fn take(
 }
 
 fn say_each(alloc: Global, effects: &mut Effects, slot: u8, epoch: u32, outs: &[Out]) -> Mem<()>
-    ensures { OnOk result (effects.new ≡ effects.old ++ flat_map (said slot epoch) outs.now) }
+    ensures { OnOk result (effects.new ≡ effects.old ++ flat_map (tokens_say slot epoch) outs.now) }
 {
     for out in outs {
         say(alloc, effects, slot, epoch, *out)?;
@@ -216,9 +216,9 @@ fn say_each(alloc: Global, effects: &mut Effects, slot: u8, epoch: u32, outs: &[
 }
 
 // What a slot says is sent. A check is answered where it is asked.
-#[tactic(auto, unfolding(crate::specs::Tokens::said))]
+#[tactic(auto, unfolding(crate::specs::Tokens::tokens_say))]
 fn say(alloc: Global, effects: &mut Effects, slot: u8, epoch: u32, out: Out) -> Mem<()>
-    ensures { OnOk result (effects.new ≡ effects.old ++ said slot epoch out) }
+    ensures { OnOk result (effects.new ≡ effects.old ++ tokens_say slot epoch out) }
 {
     match out {
         Out::Grant { .. } => say_grant(alloc, effects, out),
@@ -245,7 +245,7 @@ fn say(alloc: Global, effects: &mut Effects, slot: u8, epoch: u32, out: Out) -> 
 }
 
 fn say_grant(alloc: Global, effects: &mut Effects, out: Out) -> Mem<()>
-    ensures { OnOk result (effects.new ≡ effects.old ++ grants out) }
+    ensures { OnOk result (effects.new ≡ effects.old ++ say_grant out) }
 {
     let Out::Grant {
         client,
@@ -274,7 +274,7 @@ fn say_grant(alloc: Global, effects: &mut Effects, out: Out) -> Mem<()>
 }
 
 fn say_forward(effects: &mut Effects, out: Out) -> Mem<()>
-    ensures { OnOk result (effects.new ≡ effects.old ++ forwards out) }
+    ensures { OnOk result (effects.new ≡ effects.old ++ say_forward out) }
 {
     let Out::Forward {
         client,

@@ -16,7 +16,7 @@ use Rattle.world_base.specs.declared.event.Event.{Event}
 use Rattle.world_base.specs.declared.world.World.{World}
 use Rattle.world_base.specs.Cluster.{node_at, place_of}
 use Rattle.world_base.specs.Events.{node_of, what_of}
-use Rattle.world_base.specs.NextWorld.{after_turn, at_place, clock_at, happened, happened_at, next_world, turn_by, turn_of, turned}
+use Rattle.world_base.specs.NextWorld.{after_turn, at_place, clock_at, world_happen, happen_at, next_world, turn_by, turn_of, turned}
 use Rattle.world_base.specs.Runs.{Leads}
 use Rattle.world_base.proofs.Places.{node_there}
 use Rattle.journals.specs.Journals.{acts_in}
@@ -50,7 +50,7 @@ module _ {N : Type 0} (step : N → Do → NodeStep N) where
 
   next_there : (w : World N) (e : Event) (r k : ℕ) (m : N) → place_of w.cluster (node_of e) ≡ Some r → clock_at w r (what_of e) ≡ Some k → slice_get w.nodes r ≡ Some m
       → next_world step w e ≡ after step w r k m (what_of e)
-  unfolding happened happened_at turn_of
+  unfolding world_happen happen_at turn_of
   next_there w e r k m place clock node =
       ap (at_place step w (what_of e)) place ∙ ap (turned step w r (what_of e)) clock ∙ ap (λ o. after_turn step w r k (turn_by step w.nodes r (what_of e) o)) node
 

@@ -4,7 +4,7 @@ use Rattle.std.specs.Prelude.{slice_get}
 use Rattle.std.proofs.lemmas.Option.{slice_get_within}
 use Rattle.world_base.specs.declared.due.Due.{Due}
 use Rattle.mounts.specs.declared.reply.Reply.{Reply}
-use Rattle.mounts.specs.Turns.{GoesOn, Takes, called_on, may_call, may_call_it}
+use Rattle.mounts.specs.Turns.{GoesOn, Takes, application_call, may_call, may_call_it}
 
 -- where an application may call there is an item that it hasn't called
 more_to_call : (dues : List Due) (calls replies : ℕ) → may_call dues calls replies ≡ true → calls < length dues
@@ -35,18 +35,18 @@ module _ (dues held : List Due) (are : held ≡ dues) (took : Bool) (calls mid :
       record {
         took = took;
         taken = taken;
-        called = same ∙ sym (ap (λ t. called_on t calls) may);
+        called = same ∙ sym (ap (λ t. application_call t calls) may);
         either = or_itself took ∙ sym (ap (λ t. took || t) may);
       }
 
   -- it may, and it does
-  pub took_and_called : (new : List ℕ) → may_call held (length mid) (length new_replies) ≡ true → (length mid < length held → new ≡ called_on true mid)
+  pub took_and_called : (new : List ℕ) → may_call held (length mid) (length new_replies) ≡ true → (length mid < length held → new ≡ application_call true mid)
       → GoesOn dues true calls new replies new_replies
   took_and_called new is calls_on =
       let may = may_is true is in
       record {
         took = took;
         taken = taken;
-        called = calls_on (more_to_call held (length mid) (length new_replies) is) ∙ ap (called_on true) same ∙ sym (ap (λ t. called_on t calls) may);
+        called = calls_on (more_to_call held (length mid) (length new_replies) is) ∙ ap (application_call true) same ∙ sym (ap (λ t. application_call t calls) may);
         either = or_called took ∙ sym (ap (λ t. took || t) may);
       }

@@ -19,15 +19,15 @@ Takes false old new = new ≡ old
 Takes true old new = (reply : Reply) × (new ≡ old ++ reply ∷ [])
 
 -- the next item was called, or none
-abbrev pub called_on : Bool → List ℕ → List ℕ
-called_on false calls = calls
-called_on true calls = calls ++ (length calls + 1) ∷ []
+abbrev pub application_call : Bool → List ℕ → List ℕ
+application_call false calls = calls
+application_call true calls = calls ++ (length calls + 1) ∷ []
 
 -- An application goes on: it takes a reply, or none, and calls its next item just where it may then. It says whether it did either.
 pub record GoesOn (dues : List Due) (moved : Bool) (calls new_calls : List ℕ) (replies new_replies : List Reply) : Type 0 where
   pub took : Bool
   pub taken : Takes took replies new_replies
-  pub called : new_calls ≡ called_on (may_call dues (length calls) (length new_replies)) calls
+  pub called : new_calls ≡ application_call (may_call dues (length calls) (length new_replies)) calls
   pub either : moved ≡ (took || may_call dues (length calls) (length new_replies))
 
 -- a client that has begun so many items hears no call, or one where it has begun all that were called

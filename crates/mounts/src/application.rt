@@ -3,7 +3,7 @@ ghost use Rattle.std.specs.Prelude.{◌≡◌, ◌==◌, ◌&&◌, ◌+◌, ◌<
 ghost use Rattle.rtrb.specs.Ring.{SameConsumer, producer_capacity, received, sent};
 ghost use Rattle.live_links.specs.Facts.{dues_at};
 ghost use Rattle.mounts.specs.Ports.{IsFreshMount, IsMountAt, items_to};
-ghost use Rattle.mounts.specs.Turns.{GoesOn, Takes, called_on, may_call};
+ghost use Rattle.mounts.specs.Turns.{GoesOn, Takes, application_call, may_call};
 
 use crate::{Mount, MountName, Reply};
 use std::alloc::{AllocError, Global};
@@ -134,7 +134,7 @@ impl<R: MountName> Application<R> {
     fn call(self) -> Mem<Application<R>>
         ensures place { IfOk result (λ a. a.place ≡ self.place) }
         ensures replies { IfOk result (λ a. a.replies ≡ self.replies) }
-        ensures called { IfOk result (λ a. length self.calls < length self.dues → a.calls ≡ called_on true self.calls) }
+        ensures called { IfOk result (λ a. length self.calls < length self.dues → a.calls ≡ application_call true self.calls) }
     {
         if !self.has_more() {
             return Ok(self);

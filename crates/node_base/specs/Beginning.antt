@@ -7,8 +7,8 @@ use Rattle.node_base.specs.declared.effects.Effect.{Effect}
 use Rattle.node_base.specs.declared.effects.Effect.TheVariants as effect
 use Rattle.node_base.specs.declared.items.Items.{Items}
 
-abbrev pub started : List Work → Items
-started works = record { works = works; begun = 0; unanswered = None }
+abbrev pub items_start : List Work → Items
+items_start works = record { works = works; begun = 0; unanswered = None }
 
 abbrev pub is_left : Items → Bool
 is_left items = nat_lt items.begun (length items.works) && nat_lt items.begun u32_end
@@ -17,19 +17,19 @@ is_left items = nat_lt items.begun (length items.works) && nat_lt items.begun u3
 abbrev pub next_item : Items → Option ℕ
 next_item items = if is_left items then Some (items.begun + 1) else None
 
-abbrev pub begun : Items → Items
-begun items = if is_left items then record items { begun = items.begun + 1 } else items
+abbrev pub items_begin : Items → Items
+items_begin items = if is_left items then record items { begun = items.begun + 1 } else items
 
 -- what the item of this number asks for
 abbrev pub work_at : Items → ℕ → Option Work
 work_at items number = if nat_lt 0 number then slice_get items.works (number - 1) else None
 
 -- the item of this number is not answered at its begin
-abbrev pub waiting : Items → ℕ → Items
-waiting items number = record items { unanswered = Some number }
+abbrev pub items_wait : Items → ℕ → Items
+items_wait items number = record items { unanswered = Some number }
 
-abbrev pub answered : Items → Items
-answered items = record items { unanswered = None }
+abbrev pub items_answer : Items → Items
+items_answer items = record items { unanswered = None }
 
 -- the open item is answered, where there is one
 abbrev pub answers_unanswered : Option ℕ → Answer → List Effect

@@ -30,5 +30,5 @@ abbrev pub acts_of : NodeId → List Effect → List Act
 acts_of node effects = flat_map (act_of node) effects
 
 -- the same to each of these nodes
-abbrev pub sends_to : List NodeId → Body → List Effect
-sends_to nodes body = map (λ to. Send to body) nodes
+abbrev pub send_each : List NodeId → Body → List Effect
+send_each nodes body = map (λ to. Send to body) nodes

@@ -9,9 +9,9 @@ use Rattle.xfs_base.specs.declared.segment.End.{End}
 use Rattle.node_base.specs.declared.maps.Maps.{Maps}
 use Rattle.node_base.specs.Maps.{knows, knows_prior}
 
-abbrev pub knows_place : Maps → Option Place → Bool
-knows_place maps None = true
-knows_place maps (Some place) = knows maps place.seg.group
+abbrev pub knows_entry : Maps → Option Place → Bool
+knows_entry maps None = true
+knows_entry maps (Some place) = knows maps place.seg.group
 
 abbrev pub knows_meta : Maps → FragMeta → Bool
 knows_meta maps meta = knows maps meta.group && knows_prior maps meta.prior
@@ -20,15 +20,15 @@ abbrev pub knows_end : Maps → End → Bool
 knows_end maps end = (end.seq == 0) || knows maps end.group
 
 -- each group that a packet names is known; maps are looked at by themselves
-abbrev pub names_known : Maps → Body → Bool
-names_known maps (body.Grant grant) = knows_place maps grant.entry.place
-names_known maps (body.Live live) = knows_place maps live.entry.place
-names_known maps (body.Check check) = knows maps check.place.seg.group
-names_known maps (body.Deltas deltas) = list_all (λ row. knows_place maps row.1.place) deltas.rows
-names_known maps (body.Report report) = knows_end maps report.end
-names_known maps (body.Store store) = knows_meta maps store.fragment.meta
-names_known maps (body.Fragment found) = knows_meta maps found.fragment.meta
-names_known maps (body.Fenced fenced) = list_all (knows_meta maps) fenced.held
-names_known maps (body.Listed listed) = list_all (knows_meta maps) listed.held
-names_known maps (body.CkptDone done) = list_all (λ part. knows maps part.group) done.parts
-names_known maps _ = true
+abbrev pub names_known_groups : Maps → Body → Bool
+names_known_groups maps (body.Grant grant) = knows_entry maps grant.entry.place
+names_known_groups maps (body.Live live) = knows_entry maps live.entry.place
+names_known_groups maps (body.Check check) = knows maps check.place.seg.group
+names_known_groups maps (body.Deltas deltas) = list_all (λ row. knows_entry maps row.1.place) deltas.rows
+names_known_groups maps (body.Report report) = knows_end maps report.end
+names_known_groups maps (body.Store store) = knows_meta maps store.fragment.meta
+names_known_groups maps (body.Fragment found) = knows_meta maps found.fragment.meta
+names_known_groups maps (body.Fenced fenced) = list_all (knows_meta maps) fenced.held
+names_known_groups maps (body.Listed listed) = list_all (knows_meta maps) listed.held
+names_known_groups maps (body.CkptDone done) = list_all (λ part. knows maps part.group) done.parts
+names_known_groups maps _ = true

@@ -72,12 +72,12 @@ abbrev pub fits : Maps → News → Bool
 fits maps news = if is_older maps news then extends maps news.groups && has_parts (Some news.groups) news.slots else has_parts maps.groups news.slots
 
 -- newer maps are taken
-abbrev pub taken : Maps → News → Maps
-taken maps news = if is_older maps news then record maps { version = news.version; groups = Some news.groups } else maps
+abbrev pub maps_take : Maps → News → Maps
+maps_take maps news = if is_older maps news then record maps { version = news.version; groups = Some news.groups } else maps
 
 -- those of the setup
-abbrev pub at_start : GroupMapState → Maps
-at_start groups = record { version = 1; servers = groups.servers; groups = Some groups }
+abbrev pub maps_start : GroupMapState → Maps
+maps_start groups = record { version = 1; servers = groups.servers; groups = Some groups }
 
 -- those of a node that starts again
 abbrev pub forgotten : ℕ → Maps

@@ -52,12 +52,12 @@ abbrev pub servers : ℕ → List NodeId
 servers count = map nth_server (range_with_len 0 count)
 
 -- all nodes, in order
-abbrev pub all_nodes : Peers → List NodeId
-all_nodes peers = clients peers.clients ++ (managers peers.managers ++ (servers peers.servers ++ Cleaner ∷ Registry ∷ []))
+abbrev pub peers_all : Peers → List NodeId
+peers_all peers = clients peers.clients ++ (managers peers.managers ++ (servers peers.servers ++ Cleaner ∷ Registry ∷ []))
 
 abbrev pub is_other : NodeId → NodeId → Bool
 is_other node other = not (same_node other node)
 
 -- all nodes but this one, in order
 abbrev pub others : Peers → NodeId → List NodeId
-others peers node = filter (is_other node) (all_nodes peers)
+others peers node = filter (is_other node) (peers_all peers)

@@ -24,9 +24,9 @@ is_slot slot = nat_lt slot slot_count
 abbrev pub is_name : SegName → Bool
 is_name name = is_log name.log.0
 
-abbrev pub is_place : Option Place → Bool
-is_place None = true
-is_place (Some place) = is_name place.seg.name
+abbrev pub is_entry : Option Place → Bool
+is_entry None = true
+is_entry (Some place) = is_name place.seg.name
 
 abbrev pub is_meta : FragMeta → Bool
 is_meta meta = is_name meta.name
@@ -45,19 +45,19 @@ abbrev pub is_slot_news : SlotNews → Bool
 is_slot_news news = list_all is_part news.parts && is_horizon news.horizon
 
 -- these slots are numbered from a number on
-abbrev pub are_from : ℕ → List SlotNews → Bool
-are_from number [] = true
-are_from number (slot ∷ slots) = (slot.slot == number) && are_from (number + 1) slots
+abbrev pub are_in_order : ℕ → List SlotNews → Bool
+are_in_order number [] = true
+are_in_order number (slot ∷ slots) = (slot.slot == number) && are_in_order (number + 1) slots
 
 -- the slots are 0 to 7, in order
 abbrev pub is_news : News → Bool
-is_news news = (length news.slots == slot_count) && (are_from 0 news.slots && list_all is_slot_news news.slots)
+is_news news = (length news.slots == slot_count) && (are_in_order 0 news.slots && list_all is_slot_news news.slots)
 
 -- the logs that a body names are 1 to 13, and its horizons have nine numbers from 1 on
 abbrev pub has_logs : Body → Bool
-has_logs (body.Grant grant) = is_place grant.entry.place
+has_logs (body.Grant grant) = is_entry grant.entry.place
 has_logs (body.Gone gone) = is_name gone.seg
-has_logs (body.Deltas deltas) = list_all (λ row. is_place row.1.place) deltas.rows
+has_logs (body.Deltas deltas) = list_all (λ row. is_entry row.1.place) deltas.rows
 has_logs (body.Store store) = is_meta store.fragment.meta
 has_logs (body.Stored stored) = is_name stored.name
 has_logs (body.Fetch fetch) = is_name fetch.name
@@ -69,7 +69,7 @@ has_logs (body.Listed listed) = list_all is_meta listed.held
 has_logs (body.Delete delete) = is_name delete.name
 has_logs (body.Deleted deleted) = is_name deleted.name
 has_logs (body.Check check) = is_name check.place.seg.name
-has_logs (body.Live live) = is_place live.entry.place
+has_logs (body.Live live) = is_entry live.entry.place
 has_logs (body.Usage usage) = list_all (λ count. is_name count.0) usage.counts
 has_logs (body.Welcome welcome) = is_news welcome.news
 has_logs (body.MapNews news) = is_news news

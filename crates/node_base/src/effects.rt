@@ -1,7 +1,7 @@
 //! What an event has a node do.
 ghost use Rattle.std.specs.Prelude.{◌≡◌, ◌++◌, ◌∷◌, [], IfOk, OnOk};
 ghost use Rattle.node_base.specs.declared.effects.Effect.TheVariants.{Send, Answer as Answers, Lose, Does};
-ghost use Rattle.node_base.specs.Effects.{packets_of, acts_of, sends_to, packet_of, act_of};
+ghost use Rattle.node_base.specs.Effects.{packets_of, acts_of, send_each, packet_of, act_of};
 ghost use Rattle.node_base.specs.Nodes.{others};
 
 use crate::Peers;
@@ -102,7 +102,7 @@ impl Effects {
 
     /// Sends the same to each of these nodes, in order.
     pub fn send_each(&mut self, alloc: Global, nodes: &[NodeId], body: &Body) -> Mem<()>
-        ensures { OnOk result (self.new ≡ self.old ++ sends_to nodes.now body.now) }
+        ensures { OnOk result (self.new ≡ self.old ++ send_each nodes.now body.now) }
     {
         for node in nodes {
             self.send(*node, body.copy(alloc)?)?;
@@ -112,7 +112,7 @@ impl Effects {
 
     /// Sends the same to all nodes but this one, in order of nodes.
     pub fn send_others(&mut self, alloc: Global, node: NodeId, peers: Peers, body: &Body) -> Mem<()>
-        ensures { OnOk result (self.new ≡ self.old ++ sends_to (others peers node) body.now) }
+        ensures { OnOk result (self.new ≡ self.old ++ send_each (others peers node) body.now) }
     {
         let nodes = peers.others(alloc, node)?;
         self.send_each(alloc, nodes.as_slice(), body)

@@ -1,6 +1,6 @@
 //! The items of a node.
 ghost use Rattle.std.specs.Prelude.{◌≡◌, ◌++◌, OnOk, MatchOption, None, Some};
-ghost use Rattle.node_base.specs.Beginning.{started, next_item, begun, work_at, waiting, answered, answers_unanswered};
+ghost use Rattle.node_base.specs.Beginning.{items_start, next_item, items_begin, work_at, items_wait, items_answer, answers_unanswered};
 
 use crate::Effects;
 use version_model::{Answer, Work};
@@ -27,7 +27,7 @@ impl Drop for Items {
 impl Items {
     /// Nothing is begun.
     pub fn start(works: List<Work>) -> Items
-        ensures { result ≡ started works }
+        ensures { result ≡ items_start works }
     {
         Items {
             works,
@@ -39,7 +39,7 @@ impl Items {
     /// Begins the next item: its number. None where none is left.
     pub fn begin(&mut self) -> Option<u32>
         ensures number { result ≡ next_item self.old }
-        ensures items { self.new ≡ begun self.old }
+        ensures items { self.new ≡ items_begin self.old }
     {
         if (self.begun as usize) < self.works.len() && self.begun < u32::MAX {
             self.begun += 1;
@@ -68,14 +68,14 @@ impl Items {
 
     /// The item of this number is not answered at its begin.
     pub fn wait(&mut self, number: u32)
-        ensures { self.new ≡ waiting self.old number }
+        ensures { self.new ≡ items_wait self.old number }
     {
         self.unanswered = Some(number);
     }
 
     /// Answers the open item.
     pub fn answer(&mut self, effects: &mut Effects, answer: Answer) -> Mem<()>
-        ensures items { self.new ≡ answered self.old }
+        ensures items { self.new ≡ items_answer self.old }
         ensures effects { OnOk result (effects.new ≡ effects.old ++ answers_unanswered self.old.unanswered answer) }
     {
         match self.unanswered.take() {

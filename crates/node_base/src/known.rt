@@ -2,7 +2,7 @@
 ghost use Rattle.std.specs.Prelude.{◌≡◌};
 ghost use Rattle.std.specs.List.{list_all};
 ghost use Rattle.node_base.specs.Maps.{knows};
-ghost use Rattle.node_base.specs.Known.{names_known, knows_place, knows_end, knows_meta};
+ghost use Rattle.node_base.specs.Known.{names_known_groups, knows_entry, knows_end, knows_meta};
 
 use crate::Maps;
 use wire_msg::{Body, Deltas, Report};
@@ -12,7 +12,7 @@ use xfs_base::{BlockId, End, Entry, FragMeta, Place, SegRef};
 /// asks the registry for the maps. Maps themselves are looked at by `Maps`, and the rows of Part items within the
 /// bytes of a fragment don't count.
 pub fn names_known_groups(maps: &Maps, body: &Body) -> bool
-    ensures { result ≡ names_known maps.now body.now }
+    ensures { result ≡ names_known_groups maps.now body.now }
 {
     match body {
         Body::Grant(grant) => knows_entry(maps, grant.entry),
@@ -36,7 +36,7 @@ fn knows_place(maps: &Maps, place: Place) -> bool
 }
 
 fn knows_entry(maps: &Maps, entry: Entry) -> bool
-    ensures { result ≡ knows_place maps.now entry.place }
+    ensures { result ≡ knows_entry maps.now entry.place }
 {
     match entry.place {
         Some(place) => knows_place(maps, place),
@@ -45,13 +45,13 @@ fn knows_entry(maps: &Maps, entry: Entry) -> bool
 }
 
 fn knows_row(maps: &Maps, row: (BlockId, Entry)) -> bool
-    ensures { result ≡ knows_place maps.now row.1.place }
+    ensures { result ≡ knows_entry maps.now row.1.place }
 {
     knows_entry(maps, row.1)
 }
 
 fn knows_rows(maps: &Maps, deltas: &Deltas) -> bool
-    ensures { result ≡ list_all (λ row. knows_place maps.now row.1.place) deltas.now.rows }
+    ensures { result ≡ list_all (λ row. knows_entry maps.now row.1.place) deltas.now.rows }
 {
     deltas
         .rows

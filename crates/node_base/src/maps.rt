@@ -2,7 +2,7 @@
 ghost use Rattle.std.specs.Prelude.{◌≡◌, IfOk, OnOk, Some, None};
 ghost use Rattle.std.specs.List.{list_all};
 ghost use Rattle.group_map.specs.Groups.{group_of};
-ghost use Rattle.node_base.specs.Maps.{at_start, forgotten, knows, knows_prior, is_older, fits, extends, taken, has_all, has_below, has_it, same_group, has_parts, is_in};
+ghost use Rattle.node_base.specs.Maps.{maps_start, forgotten, knows, knows_prior, is_older, fits, extends, maps_take, has_all, has_below, has_it, same_group, has_parts, is_in};
 
 use group_map::{Group, GroupMap};
 use std::alloc::Global;
@@ -34,7 +34,7 @@ impl Drop for Maps {
 impl Maps {
     /// The maps of the setup, of version 1.
     pub fn start(groups: GroupMap) -> Maps
-        ensures { result ≡ at_start groups }
+        ensures { result ≡ maps_start groups }
     {
         Maps {
             version: 1,
@@ -128,7 +128,7 @@ impl Maps {
 
     /// Takes the groups of news that fit, where the news are newer; says whether they were.
     pub fn take(&mut self, alloc: Global, news: &News) -> Mem<bool>
-        ensures maps { OnOk result (self.new ≡ taken self.old news.now) }
+        ensures maps { OnOk result (self.new ≡ maps_take self.old news.now) }
         ensures newer { IfOk result (λ newer. newer ≡ is_older self.old news.now) }
     {
         if !self.is_older(news) {

@@ -1,6 +1,6 @@
 //! The nodes of a run.
 ghost use Rattle.std.specs.Prelude.{◌≡◌, ◌++◌, IfOk, OnOk, filter};
-ghost use Rattle.node_base.specs.Nodes.{peers_of, server_in, has_node, is_other, all_nodes, others, clients, managers, servers};
+ghost use Rattle.node_base.specs.Nodes.{peers_of, server_in, has_node, is_other, peers_all, others, clients, managers, servers};
 
 use std::alloc::Global;
 use xfs_base::{List, Mem, NodeId, Setup};
@@ -53,7 +53,7 @@ impl Peers {
 
     /// All nodes, in order.
     pub fn all(self, alloc: Global) -> Mem<List<NodeId>>
-        ensures { IfOk result (λ nodes. nodes ≡ all_nodes self) }
+        ensures { IfOk result (λ nodes. nodes ≡ peers_all self) }
     {
         let mut nodes = List::new(alloc);
         add_clients(&mut nodes, self.clients)?;

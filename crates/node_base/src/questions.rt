@@ -1,6 +1,6 @@
 //! The numbers of questions.
 ghost use Rattle.std.specs.Prelude.{◌≡◌};
-ghost use Rattle.node_base.specs.Asking.{next_ask, drawn, number_for, asked_as, drawn_for, own_of};
+ghost use Rattle.node_base.specs.Asking.{next_ask, draw, number_for, asked_as, drawn_for, own_of};
 
 /// The number of the last question of a node. It is kept over crashes, so that no number is drawn twice.
 #[derive(Clone, Copy, PartialEq, Eq)]
@@ -20,7 +20,7 @@ impl Questions {
     /// The number of a new question.
     pub fn draw(&mut self) -> u32
         ensures number { result ≡ next_ask self.old }
-        ensures questions { self.new ≡ drawn self.old }
+        ensures questions { self.new ≡ draw self.old }
     {
         if self.last < u32::MAX {
             self.last += 1;

@@ -1,7 +1,7 @@
 //! The groups of a setup.
 ghost use Rattle.std.specs.Prelude.{◌≡◌, ◌&&◌, IfOk, IsTrue, nat_eq};
 ghost use Rattle.std.specs.List.{list_all, list_any};
-ghost use Rattle.group_map.specs.Groups.{started};
+ghost use Rattle.group_map.specs.Groups.{group_map_start};
 ghost use Rattle.group_map.specs.Sizes.{is_group_size};
 ghost use Rattle.node_base.specs.Setups.{IsSetup, is_setup, has_nodes, has_groups, is_group, is_within, are_distinct};
 
@@ -13,7 +13,7 @@ use xfs_base::{GroupSetup, Mem, Setup};
 /// The groups of a setup, as each node has them when a run starts.
 pub fn groups_of(alloc: Global, setup: &Setup) -> Mem<GroupMap>
     requires { IsSetup setup.now }
-    ensures { IfOk result (λ groups. groups ≡ started setup.now.servers setup.now.groups) }
+    ensures { IfOk result (λ groups. groups ≡ group_map_start setup.now.servers setup.now.groups) }
 {
     match GroupMap::start(alloc, setup.servers, setup.groups.as_slice()) {
         Ok(groups) => Ok(groups),

@@ -2,7 +2,7 @@
 ghost use Rattle.std.specs.Prelude.{◌≡◌, ◌&&◌};
 ghost use Rattle.std.specs.List.{list_all};
 ghost use Rattle.node_base.specs.Room.{has_long_room};
-ghost use Rattle.node_base.specs.Shape.{is_well_formed, has_logs, has_slot, has_versions, is_log, is_slot, is_name, is_meta, is_place, is_part, is_horizon, is_from_one, is_news, are_from, is_slot_news};
+ghost use Rattle.node_base.specs.Shape.{is_well_formed, has_logs, has_slot, has_versions, is_log, is_slot, is_name, is_meta, is_entry, is_part, is_horizon, is_from_one, is_news, are_in_order, is_slot_news};
 
 use crate::{Peers, has_long_room};
 use wire_msg::{Body, CkptDone, Deltas, News, Packet, Usage};
@@ -102,7 +102,7 @@ fn is_place(place: Place) -> bool
 }
 
 fn is_entry(entry: Entry) -> bool
-    ensures { result ≡ is_place entry.place }
+    ensures { result ≡ is_entry entry.place }
 {
     match entry.place {
         Some(place) => is_place(place),
@@ -111,13 +111,13 @@ fn is_entry(entry: Entry) -> bool
 }
 
 fn is_row(row: (BlockId, Entry)) -> bool
-    ensures { result ≡ is_place row.1.place }
+    ensures { result ≡ is_entry row.1.place }
 {
     is_entry(row.1)
 }
 
 fn has_rows(deltas: &Deltas) -> bool
-    ensures { result ≡ list_all (λ row. is_place row.1.place) deltas.now.rows }
+    ensures { result ≡ list_all (λ row. is_entry row.1.place) deltas.now.rows }
 {
     deltas.rows.as_slice().iter().all(|row| is_row(*row))
 }
@@ -185,7 +185,7 @@ fn are_slot_news(slots: &[SlotNews]) -> bool
 }
 
 fn are_in_order(slots: &[SlotNews]) -> bool
-    ensures { result ≡ are_from 0 slots.now }
+    ensures { result ≡ are_in_order 0 slots.now }
 {
     for (place, news) in slots.iter().enumerate() {
         if usize::from(news.slot) != place {

@@ -8,7 +8,7 @@ use Rattle.client_log.specs.declared.input.In.TheVariants.{Put, Parts, Seal, Ack
 use Rattle.client_log.specs.declared.output.Out.{Out}
 use Rattle.client_log.specs.declared.output.Out.TheVariants.{Send, Settled}
 use Rattle.client_log.specs.LogState.{LogState}
-use Rattle.client_log.specs.Transition.{Done, send_at, sends, all_sends, launched, next_name, prior_from, writes, has_next, is_idle, is_full, can_go_on, sealed, if_full, waits, on_put, on_seal, on_parts, next_attempt, restriped, end_from, landed, settled, can_follow, followed, looked_at, on_acked, on_maps, on_tick, transition}
+use Rattle.client_log.specs.Transition.{Done, send_at, sends, sending_send, log_launch, next_name, prior_from, log_write, has_next, is_idle, is_full, can_go_on, log_seal, log_go_on, waits, on_put, on_seal, on_parts, next_attempt, restriped, end_of, landed, settled, can_follow, followed, looked_at, on_acked, on_maps, on_tick, transition}
 use Rattle.group_map.specs.declared.group.Member.{Member}
 use Rattle.group_map.specs.GroupMapState.{GroupMapState}
 use Rattle.indexmap.specs.IndexMap.{insert_entry}
@@ -16,8 +16,8 @@ use Rattle.log_flight.specs.declared.dirty.Change.{Change}
 use Rattle.log_flight.specs.declared.flight.Fate.{Fate}
 use Rattle.log_flight.specs.declared.flight.Fate.TheVariants.{Restripe, Settle, Wait}
 use Rattle.log_flight.specs.Fate.{fate_of}
-use Rattle.log_flight.specs.Flights.{FlightState, flown, group_for, is_noted, is_of, noting}
-use Rattle.log_flight.specs.Fragments.{piece}
+use Rattle.log_flight.specs.Flights.{FlightState, flown, group_for, is_noted, is_of, flight_note}
+use Rattle.log_flight.specs.Fragments.{flight_fragment}
 use Rattle.log_flight.specs.Items.{items_of}
 use Rattle.log_flight.specs.Texts.{has_text}
 use Rattle.segment_format.specs.declared.segment.Item.{Item}
@@ -53,8 +53,8 @@ pub record Walk : Type 1 where
   pub seals : (s : LogState) → Waits s.log s.dirty → Flies (next_name s) (items_of 0 (take segment_blocks s.dirty))
   pub writes : (s : LogState) (items : List Item) → Writes items → Waits s.log s.dirty → Flies (next_name s) items
   pub again : (name : SegName) (items : List Item) → Flies name items → Flies (next_attempt name) items
-  pub sends : (f : FlightState) (place : ℕ) (member : Member) → Flies f.segment.name f.segment.items → Says (Send (piece f.segment f.group place) member)
-  pub settles : (f : FlightState) → Flies f.segment.name f.segment.items → Says (Settled (end_from f.segment) (rows_of f.segment))
+  pub sends : (f : FlightState) (place : ℕ) (member : Member) → Flies f.segment.name f.segment.items → Says (Send (flight_fragment f.segment f.group place) member)
+  pub settles : (f : FlightState) → Flies f.segment.name f.segment.items → Says (Settled (end_of f.segment) (rows_of f.segment))
 
 module _ (w : Walk) where
   abbrev pub Flown : FlightState → Type 0
@@ -93,46 +93,46 @@ module _ (w : Walk) where
   each_sent f fact [] place = tt
   each_sent f fact (m ∷ members) place =
       all_append w.Says (send_at f m place) (sends f members (place + 1))
-      (by_test (AllByRecursion w.Says) (is_noted f.noted place) [] (Send (piece f.segment f.group place) m ∷ []) (λ _. tt) (λ _. (w.sends f place m fact, tt)))
+      (by_test (AllByRecursion w.Says) (is_noted f.noted place) [] (Send (flight_fragment f.segment f.group place) m ∷ []) (λ _. tt) (λ _. (w.sends f place m fact, tt)))
       (each_sent f fact members (place + 1))
 
-  all_sent : (f : FlightState) → Flown f → AllByRecursion w.Says (all_sends f)
-  unfolding all_sends
+  all_sent : (f : FlightState) → Flown f → AllByRecursion w.Says (sending_send f)
+  unfolding sending_send
   all_sent f fact = each_sent f fact f.group.members 0
 
   launched_goes : (s : LogState) (name : SegName) (prior : Prior) (items : List Item) → w.Waits s.log s.dirty → w.Flies name items
-      → Goes (launched s name prior items)
-  unfolding launched
+      → Goes (log_launch s name prior items)
+  unfolding log_launch
   launched_goes s name prior items waits fact = record {
     holds = record { waits = waits; flies = fact };
     says = all_sent (flown name prior items (group_for s.groups s.log.0 name.seq)) fact;
   }
 
-  sealed_goes : (s : LogState) → w.Waits s.log s.dirty → Goes (sealed s)
-  unfolding sealed
+  sealed_goes : (s : LogState) → w.Waits s.log s.dirty → Goes (log_seal s)
+  unfolding log_seal
   sealed_goes s waits =
       let t : LogState = record s { dirty = drop segment_blocks s.dirty } in
       launched_goes t (next_name t) (prior_from s.end) (items_of 0 (take segment_blocks s.dirty)) (w.leaves s waits) (w.seals s waits)
 
-  full_goes : (s : LogState) → Holds s → Goes (if_full s)
-  unfolding if_full
-  full_goes s h = by_test Goes (is_full s) (sealed s) (still s) (λ _. sealed_goes s h.waits) (λ _. rests s h)
+  full_goes : (s : LogState) → Holds s → Goes (log_go_on s)
+  unfolding log_go_on
+  full_goes s h = by_test Goes (is_full s) (log_seal s) (still s) (λ _. sealed_goes s h.waits) (λ _. rests s h)
 
   put_goes : (s : LogState) (block : BlockId) (change : Change) → w.Puts block change → Holds s → Goes (on_put s block change)
   unfolding on_put
   put_goes s block change new h =
-      by_test Goes (can_go_on (waits s block change)) (if_full (waits s block change)) (still s)
+      by_test Goes (can_go_on (waits s block change)) (log_go_on (waits s block change)) (still s)
       (λ _. full_goes (waits s block change) (record { waits = w.puts s block change new h.waits; flies = h.flies })) (λ _. rests s h)
 
   seal_goes : (s : LogState) → Holds s → Goes (on_seal s)
   unfolding on_seal
   seal_goes s h =
-      by_test Goes (is_idle s && nat_lt 0 (length s.dirty) && has_next s.end.seq) (sealed s) (still s) (λ _. sealed_goes s h.waits) (λ _. rests s h)
+      by_test Goes (is_idle s && nat_lt 0 (length s.dirty) && has_next s.end.seq) (log_seal s) (still s) (λ _. sealed_goes s h.waits) (λ _. rests s h)
 
   parts_goes : (s : LogState) (items : List Item) → w.Writes items → Holds s → Goes (on_parts s items)
   unfolding on_parts
   parts_goes s items fact h =
-      by_test Goes (is_idle s && has_next s.end.seq && has_text items) (writes s items) (still s)
+      by_test Goes (is_idle s && has_next s.end.seq && has_text items) (log_write s items) (still s)
       (λ _. launched_goes s (next_name s) (prior_from s.end) items h.waits (w.writes s items fact h.waits)) (λ _. rests s h)
 
   -- ---- a segment is settled
@@ -156,10 +156,10 @@ module _ (w : Walk) where
   acked_goes s name index generation h = by s.flight h.flies
     where
       by : (o : Option FlightState) → IfSome o Flown
-          → Goes (elim o [ None ↦ still s | Some f ↦ cond (is_of f name index generation) (looked_at s s (noting f index)) (still s) ])
+          → Goes (elim o [ None ↦ still s | Some f ↦ cond (is_of f name index generation) (looked_at s s (flight_note f index)) (still s) ])
       by None fact = rests s h
       by (Some f) fact =
-          by_test Goes (is_of f name index generation) (looked_at s s (noting f index)) (still s) (λ _. looks_on s s (noting f index) h h.waits fact)
+          by_test Goes (is_of f name index generation) (looked_at s s (flight_note f index)) (still s) (λ _. looks_on s s (flight_note f index) h h.waits fact)
           (λ _. rests s h)
 
   maps_go : (s : LogState) (groups : GroupMapState) → Holds s → Goes (on_maps s groups)
@@ -175,7 +175,7 @@ module _ (w : Walk) where
   unfolding on_tick
   tick_goes s h = by s.flight h.flies
     where
-      by : (o : Option FlightState) → IfSome o Flown → Goes (elim o [ None ↦ still s | Some f ↦ record { state = s; outs = all_sends f } ])
+      by : (o : Option FlightState) → IfSome o Flown → Goes (elim o [ None ↦ still s | Some f ↦ record { state = s; outs = sending_send f } ])
       by None fact = rests s h
       by (Some f) fact = record { holds = h; says = all_sent f fact }
 

@@ -11,14 +11,14 @@ use Rattle.log_owner.specs.declared.opening.Scanning.{Scanning}
 use Rattle.log_owner.specs.declared.opening.Settling.{Settling}
 use Rattle.log_owner.specs.declared.opening.Stage.{Stage}
 use Rattle.log_owner.specs.declared.opening.Stage.TheVariants as stage
-use Rattle.log_owner.specs.Opening.{Went, answers, asking, at_scan, by_server, drops, fenced_by, found_by, is_fenced, is_meant, missing_by, on_body, on_fenced, on_found, on_missing, on_news, on_packet, on_stored, on_tick, on_welcome, own_in, regrouped, scans, scans_at, scans_on, stays, welcomed, welcomed_as, went, writes}
+use Rattle.log_owner.specs.Opening.{Went, answers, asking, known_scanning, by_server, drops, fenced_by, found_by, is_fenced, is_meant, missing_by, on_body, on_fenced, on_found, on_missing, on_news, opening_take, on_stored, on_tick, on_welcome, own_in, regrouped, scans, scans_at, scans_on, stays, welcomed, welcomed_as, went, known_write}
 use Rattle.log_owner.specs.Sending.{hello, server_in}
 use Rattle.log_scan.specs.declared.input.In.{In as ScanIn}
 use Rattle.log_scan.specs.declared.input.In.TheVariants as input
-use Rattle.node_base.specs.Asking.{drawn, next_ask, own_of}
+use Rattle.node_base.specs.Asking.{draw, next_ask, own_of}
 use Rattle.node_base.specs.declared.questions.Questions.{Questions}
-use Rattle.node_base.specs.Known.{names_known}
-use Rattle.node_base.specs.Maps.{fits, is_older, taken}
+use Rattle.node_base.specs.Known.{names_known_groups}
+use Rattle.node_base.specs.Maps.{fits, is_older, maps_take}
 use Rattle.wire_msg.specs.declared.body.Body.{Body}
 use Rattle.wire_msg.specs.declared.body.Body.TheVariants as body
 use Rattle.wire_msg.specs.declared.packet.Packet.{Packet}
@@ -58,13 +58,13 @@ heard_opens _ heard = tt
 pub record Walk (Said : NodeId → Body → Type 0) (Holds : Known → Questions → Stage → Went → Type 0) : Type 0 where
   pub rests : (o : Opening) (q : Questions) → Holds o.known q o.stage (drops o q)
   pub asks : (o : Opening) (q : Questions)
-      → Holds o.known q o.stage (went (progress.Opening o) (drawn q) (hello o.known.owner.inc (next_ask q) ∷ []))
+      → Holds o.known q o.stage (went (progress.Opening o) (draw q) (hello o.known.owner.inc (next_ask q) ∷ []))
   pub scan : (k : Known) (q : Questions) (s : Scanning) (i : ScanIn) → Comes i → Holds k q (stage.Scanning s) (scans_on k q s i)
-  pub log : (k : Known) (q : Questions) (s : Settling) (i : LogIn) → IsHeard i → Holds k q (stage.Settling s) (asking q (writes k s i))
+  pub log : (k : Known) (q : Questions) (s : Settling) (i : LogIn) → IsHeard i → Holds k q (stage.Settling s) (asking q (known_write k s i))
   pub welcome : (from : NodeId) (k : Known) (q : Questions) (s : Scanning) (m : Welcome) (own : ℕ) → Said from (body.Welcome m)
       → Holds k q (stage.Scanning s) (welcomed k q s m.news own)
   pub newer : (from : NodeId) (k : Known) (news : News) (q : Questions) (at : Stage) (w : Went) → Said from (body.MapNews news)
-      → Holds (record k { maps = taken k.maps news }) q at w → Holds k q at w
+      → Holds (record k { maps = maps_take k.maps news }) q at w → Holds k q at w
 
 module _ (Said : NodeId → Body → Type 0) (Holds : Known → Questions → Stage → Went → Type 0) (walk : Walk Said Holds) where
   at_so : (k : Known) (q : Questions) (i : ScanIn) (at : Stage) → Comes i → Holds k q at (scans_at k q i at)
@@ -82,7 +82,7 @@ module _ (Said : NodeId → Body → Type 0) (Holds : Known → Questions → St
     where
       by_stage : (at : Stage) → Holds o.known q at (on_welcome (record o { stage = at }) q w)
       by_stage (stage.Scanning s) =
-          by_test (Holds o.known q (stage.Scanning s)) (is_meant o.known w) (welcomed_as o.known q s w.news (own_of s.asked w.ask)) (stays (at_scan o.known s) q)
+          by_test (Holds o.known q (stage.Scanning s)) (is_meant o.known w) (welcomed_as o.known q s w.news (own_of s.asked w.ask)) (stays (known_scanning o.known s) q)
           (λ _. as_so from o.known q s w (own_of s.asked w.ask) said) (λ _. walk.rests (record o { stage = stage.Scanning s }) q)
       by_stage (stage.Settling s) = walk.rests (record o { stage = stage.Settling s }) q
 
@@ -93,7 +93,7 @@ module _ (Said : NodeId → Body → Type 0) (Holds : Known → Questions → St
   news_so : (o : Opening) (q : Questions) (from : NodeId) (news : News) → Said from (body.MapNews news) → Holds o.known q o.stage (on_news o q news)
   unfolding on_news
   news_so o q from news said =
-      let newer : Known = record o.known { maps = taken o.known.maps news } in
+      let newer : Known = record o.known { maps = maps_take o.known.maps news } in
       by_test (Holds o.known q o.stage) (fits o.known.maps news && is_older o.known.maps news) (regrouped newer q news.groups o.stage) (drops o q)
       (λ _. walk.newer from o.known news q o.stage (regrouped newer q news.groups o.stage) said (regrouped_so newer q news.groups o.stage)) (λ _. walk.rests o q)
 
@@ -140,8 +140,8 @@ module _ (Said : NodeId → Body → Type 0) (Holds : Known → Questions → St
   body_so o q from (body.Stored s) said = stored_so o q s
   body_so o q from _ said = walk.rests o q
 
-  pub packet_so : (o : Opening) (q : Questions) (p : Packet) → Said p.from p.body → Holds o.known q o.stage (on_packet o q p)
-  unfolding on_packet
+  pub packet_so : (o : Opening) (q : Questions) (p : Packet) → Said p.from p.body → Holds o.known q o.stage (opening_take o q p)
+  unfolding opening_take
   packet_so o q p said =
-      by_test (Holds o.known q o.stage) (names_known o.known.maps p.body) (on_body o q p.from p.body) _ (λ _. body_so o q p.from p.body said)
+      by_test (Holds o.known q o.stage) (names_known_groups o.known.maps p.body) (on_body o q p.from p.body) _ (λ _. body_so o q p.from p.body said)
       (λ _. walk.asks o q)

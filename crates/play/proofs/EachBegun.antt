@@ -15,7 +15,7 @@ use Rattle.world_base.specs.declared.event.Event.TheVariants as events
 use Rattle.world_base.specs.Items.{actor_of, is_for, is_for_actor, items_of, works_of}
 use Rattle.world_base.specs.Runs.{BeginsAll, begun_in}
 use Rattle.play.specs.declared.player.Player.{Player}
-use Rattle.play.specs.Plays.{actors_of, begins, delivered, happens, manner_of, opens, opens_for, played, plays_line, starts, ticks, with_one_more}
+use Rattle.play.specs.Plays.{actors_of, player_begin, delivered, player_happen, manner_of, opens, opens_for, player_play, plays_line, player_start, ticks, with_one_more}
 use Rattle.play.specs.Plays as plays
 use Rattle.play.proofs.Manners.{line_good}
 
@@ -29,8 +29,8 @@ module _ {N : Type 0} (step : N → Do → NodeStep N) where
   abbrev pub begun_by : Player N → List NodeId
   begun_by p = begun_in p.events
 
-  happens_begins : (p : Player N) (event : Event) → begun_by (happens step p event) ≡ begun_by p ++ begun_in (event ∷ [])
-  unfolding happens
+  happens_begins : (p : Player N) (event : Event) → begun_by (player_happen step p event) ≡ begun_by p ++ begun_in (event ∷ [])
+  unfolding player_happen
   happens_begins p event = more_begun p.events (event ∷ [])
 
   -- what is no Begin begins nothing
@@ -49,7 +49,7 @@ module _ {N : Type 0} (step : N → Do → NodeStep N) where
   -- a line begins the item that it is
   opens_begins : (p : Player N) (work : Work) (actor : Option NodeId) (rest : List NodeId)
       → begun_by (opens_for step p work actor) ++ rest ≡ begun_by p ++ cons_option actor rest
-  unfolding begins
+  unfolding player_begin
   opens_begins p work None rest = refl
   opens_begins p work (Some node) rest =
       ap (λ nodes. nodes ++ rest) (happens_begins (with_one_more p) (events.Begin node)) ∙ append_assoc (begun_by p) (node ∷ []) rest
@@ -93,11 +93,11 @@ for_each node (l ∷ lines) =
 
 -- the items are begun in the order of their lines
 pub play_begins : {N : Type 0} (step : N → Do → NodeStep N) (first : NodeId → Setup → List Work → N) (script : Script)
-    → begun_in (played step first script).events ≡ actors_of script.lines
-unfolding played
-play_begins step first script = lines_begin step (starts first script) script.lines
+    → begun_in (player_play step first script).events ≡ actors_of script.lines
+unfolding player_play
+play_begins step first script = lines_begin step (player_start first script) script.lines
 
 pub play_begins_all : {N : Type 0} (step : N → Do → NodeStep N) (first : NodeId → Setup → List Work → N) (script : Script)
-    → BeginsAll script.lines (played step first script).events
+    → BeginsAll script.lines (player_play step first script).events
 play_begins_all step first script node =
     ap (λ begun. length (filter (λ one. same_node one node) begun)) (play_begins step first script) ∙ for_each node script.lines

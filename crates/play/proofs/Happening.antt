@@ -10,7 +10,7 @@ use Rattle.world_base.specs.Events.{event_of, node_of, what_of}
 use Rattle.world_base.specs.NextWorld.{next_world}
 use Rattle.world_base.specs.Schedule.{ScheduleState}
 use Rattle.play.specs.declared.player.Player.{Player}
-use Rattle.play.specs.Plays.{answers, happens, sent_since}
+use Rattle.play.specs.Plays.{answers, player_happen, send_since}
 
 pub same_event : (event : Event) → event_of (node_of event) (what_of event) ≡ event
 same_event (Begin node) = refl
@@ -21,8 +21,8 @@ module _ {N : Type 0} (step : N → Do → NodeStep N) where
   pub happens_is : (p : Player N) (event : Event) (world : World N) (events : List Event) (schedule : ScheduleState) (unanswered : ℕ)
       → world ≡ next_world step p.world event
       → events ≡ p.events ++ event ∷ []
-      → schedule ≡ sent_since p.schedule (length p.world.sent) (length world.sent)
+      → schedule ≡ send_since p.schedule (length p.world.sent) (length world.sent)
       → unanswered ≡ p.unanswered - answers (drop (length p.world.acts) world.acts)
-      → ◌≡◌ {A = Player N} (record { world = world; events = events; schedule = schedule; unanswered = unanswered }) (happens step p event)
-  unfolding happens
+      → ◌≡◌ {A = Player N} (record { world = world; events = events; schedule = schedule; unanswered = unanswered }) (player_happen step p event)
+  unfolding player_happen
   happens_is p event world events schedule unanswered w e s u = rw (e, s, u, w) refl

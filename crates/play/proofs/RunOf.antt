@@ -15,7 +15,7 @@ use Rattle.world_base.specs.Items.{actor_of}
 use Rattle.world_base.specs.NextWorld.{next_world, start_world}
 use Rattle.world_base.specs.Runs.{IsRun, Leads, MayHappen}
 use Rattle.play.specs.declared.player.Player.{Player}
-use Rattle.play.specs.Plays.{begins, delivered, happens, manner_of, opens, opens_for, played, plays_line, starts, ticks, with_one_more}
+use Rattle.play.specs.Plays.{player_begin, delivered, player_happen, manner_of, opens, opens_for, player_play, plays_line, player_start, ticks, with_one_more}
 use Rattle.play.specs.Plays as plays
 use Rattle.play.proofs.Manners.{all_keep, line_good}
 
@@ -29,12 +29,12 @@ module _ {N : Type 0} (step : N → Do → NodeStep N) (first : World N) where
   one_more w [] end event led may = (subst (λ v. MayHappen v event) (sym led) may, ap (λ v. next_world step v event) led)
   one_more w (e ∷ es) end event led may = (led.0, one_more (next_world step w e) es end event led.1 may)
 
-  happens_runs : (p : Player N) (event : Event) → MayHappen p.world event → HasRun p → HasRun (happens step p event)
-  unfolding happens
+  happens_runs : (p : Player N) (event : Event) → MayHappen p.world event → HasRun p → HasRun (player_happen step p event)
+  unfolding player_happen
   happens_runs p event may run = one_more first p.events p.world event run may
 
-  begins_runs : (p : Player N) (node : NodeId) → HasRun p → HasRun (begins step p node)
-  unfolding begins
+  begins_runs : (p : Player N) (node : NodeId) → HasRun p → HasRun (player_begin step p node)
+  unfolding player_begin
   begins_runs p node run = happens_runs (with_one_more p) (events.Begin node) tt run
 
   tick_runs : (p : Player N) (node : NodeId) → HasRun p → HasRun (ticks step p node)
@@ -62,8 +62,8 @@ module _ {N : Type 0} (step : N → Do → NodeStep N) (first : World N) where
   line_runs p line run = line_good (manner_of step) HasRun (λ q s led. led) delivery_runs tick_runs p line (opens_runs p line.work run)
 
 pub play_runs : {N : Type 0} (step : N → Do → NodeStep N) (first : NodeId → Setup → List Work → N) (script : Script)
-    → IsRun step first script (played step first script).events (played step first script).world
-unfolding played
+    → IsRun step first script (player_play step first script).events (player_play step first script).world
+unfolding player_play
 play_runs step first script =
     let start = start_world first script in
-    all_keep (plays_line step) (HasRun step start) (line_runs step start) (starts first script) script.lines refl
+    all_keep (plays_line step) (HasRun step start) (line_runs step start) (player_start first script) script.lines refl

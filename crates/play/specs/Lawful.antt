@@ -8,25 +8,25 @@ use Rattle.xfs_base.specs.declared.node.NodeId.{NodeId}
 use Rattle.world_base.specs.declared.event.Event.{Event}
 use Rattle.world_base.specs.declared.event.Event.TheVariants as events
 use Rattle.world_base.specs.NextWorld.{next_world}
-use Rattle.world_base.specs.Schedule.{ScheduleState, left, repeated, sent}
+use Rattle.world_base.specs.Schedule.{ScheduleState, left, repeated, schedule_send}
 use Rattle.play.specs.declared.player.Player.{Player}
 use Rattle.play.specs.Manner.{IsLawful}
-use Rattle.play.specs.Plays.{delivered, delivers, happens, manner_of, sent_since, ticks}
+use Rattle.play.specs.Plays.{delivered, delivers, player_happen, manner_of, send_since, ticks}
 
-sent_keeps : (s : ScheduleState) (number : ℕ) → left (sent s number) ≡ left s
-unfolding sent
+sent_keeps : (s : ScheduleState) (number : ℕ) → left (schedule_send s number) ≡ left s
+unfolding schedule_send
 sent_keeps s number = elim (nat_lt 0 s.lose) as (λ t. left (cond t (record s { lose = s.lose - 1 }) (record s { queue = s.queue ++ number ∷ [] })) ≡ left s) [
   | true ↦ refl
   | false ↦ refl
 ]
 
-all_sent_keep : (s : ScheduleState) (numbers : List ℕ) → left (fold sent s numbers) ≡ left s
+all_sent_keep : (s : ScheduleState) (numbers : List ℕ) → left (fold schedule_send s numbers) ≡ left s
 all_sent_keep s [] = refl
-all_sent_keep s (n ∷ numbers) = all_sent_keep (sent s n) numbers ∙ sent_keeps s n
+all_sent_keep s (n ∷ numbers) = all_sent_keep (schedule_send s n) numbers ∙ sent_keeps s n
 
 -- what was sent since there was so much changes nothing of it
-pub sent_since_keeps : (s : ScheduleState) (before now : ℕ) → left (sent_since s before now) ≡ left s
-unfolding sent_since
+pub sent_since_keeps : (s : ScheduleState) (before now : ℕ) → left (send_since s before now) ≡ left s
+unfolding send_since
 sent_since_keeps s before now = all_sent_keep s (range_with_len before (now - before))
 
 pub repeated_keeps : (s : ScheduleState) (number : ℕ) → left (repeated s number) ≡ left s
@@ -37,13 +37,13 @@ repeated_keeps s number = elim (nat_lt 0 s.again) as (λ t. left (cond t (record
 ]
 
 module _ {N : Type 0} (step : N → Do → NodeStep N) where
-  happens_keeps : (p : Player N) (event : Event) → left (happens step p event).schedule ≡ left p.schedule
-  unfolding happens
+  happens_keeps : (p : Player N) (event : Event) → left (player_happen step p event).schedule ≡ left p.schedule
+  unfolding player_happen
   happens_keeps p event = sent_since_keeps p.schedule (length p.world.sent) (length (next_world step p.world event).sent)
 
   delivers_keeps : (p : Player N) (number : ℕ) (packet : Option Packet) → left (delivers step p number packet).schedule ≡ left p.schedule
   delivers_keeps p number None = refl
-  delivers_keeps p number (Some packet) = repeated_keeps (happens step p (events.Deliver packet)).schedule number ∙ happens_keeps p (events.Deliver packet)
+  delivers_keeps p number (Some packet) = repeated_keeps (player_happen step p (events.Deliver packet)).schedule number ∙ happens_keeps p (events.Deliver packet)
 
   delivery_keeps : (p : Player N) (number : ℕ) → left (delivered step p number).schedule ≡ left p.schedule
   unfolding delivered

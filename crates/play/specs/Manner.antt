@@ -8,7 +8,7 @@ use Rattle.world_base.specs.declared.cluster.Cluster.{Cluster}
 use Rattle.world_base.specs.declared.schedule.Next.{Next}
 use Rattle.world_base.specs.declared.schedule.Next.TheVariants as next
 use Rattle.world_base.specs.Cluster.{nodes_of}
-use Rattle.world_base.specs.Schedule.{Going, ScheduleState, goes, left}
+use Rattle.world_base.specs.Schedule.{Going, ScheduleState, schedule_next, left}
 use Rattle.xfs_base.specs.declared.node.NodeId.{NodeId}
 
 -- what such a play is to the schedule
@@ -30,33 +30,33 @@ module _ {P : Type 0} (m : Manner P) where
   unanswered_in p = m.unanswered p
 
   -- what the schedule says comes next, and the schedule then
-  abbrev pub going_of : P → Going
-  going_of p = goes (m.unanswered p) (m.schedule p)
+  abbrev pub what_next : P → Going
+  what_next p = schedule_next (m.unanswered p) (m.schedule p)
 
   -- time passes at every node, in their order
-  unfoldable pub rounded : P → P
-  rounded p = fold m.ticks p (nodes_of (m.cluster p))
+  unfoldable pub playing_round : P → P
+  playing_round p = fold m.ticks p (nodes_of (m.cluster p))
 
   -- what comes next happens
-  abbrev pub comes : P → Next → P
-  comes p (next.Deliver number) = m.delivered p number
-  comes p next.Round = rounded p
-  comes p next.Done = p
+  abbrev pub playing_come : P → Next → P
+  playing_come p (next.Deliver number) = m.delivered p number
+  playing_come p next.Round = playing_round p
+  playing_come p next.Done = p
 
   abbrev pub goes_by : P → Going → P
-  goes_by p going = comes (m.with_schedule p going.state) going.next
+  goes_by p going = playing_come (m.with_schedule p going.state) going.next
 
   -- what the schedule says comes next happens, so many times; once the line is done nothing more does
   unfoldable pub goes_on : ℕ → P → P
   goes_on zero p = p
-  goes_on (suc count) p = goes_on count (goes_by p (going_of p))
+  goes_on (suc count) p = goes_on count (goes_by p (what_next p))
 
   -- all that the schedule says happens for the line in hand
-  unfoldable pub goes_out : P → P
-  goes_out p = goes_on (left (m.schedule p)) p
+  unfoldable pub playing_go : P → P
+  playing_go p = goes_on (left (m.schedule p)) p
 
-  unfoldable pub plays_line : P → Line → P
-  plays_line p line = goes_out (m.opens p line.work)
+  unfoldable pub play_line : P → Line → P
+  play_line p line = playing_go (m.opens p line.work)
 
 -- What each such play keeps to: its schedule and all else are apart, and what is delivered and time that passes leave as much to happen for the line as there
 -- was.

@@ -18,7 +18,7 @@ use Rattle.world_base.specs.declared.event.Event.TheVariants.{Begin, Deliver, Ti
 use Rattle.world_base.specs.declared.world.World.{World}
 use Rattle.world_base.specs.Items.{actor_of}
 use Rattle.world_base.specs.NextWorld.{next_world, start_world}
-use Rattle.world_base.specs.Schedule.{Going, ScheduleState, item_begun, repeated, sent, started, told}
+use Rattle.world_base.specs.Schedule.{Going, ScheduleState, item_begun, repeated, schedule_send, schedule_start, schedule_take}
 use Rattle.play.specs.declared.player.Player.{Player}
 use Rattle.play.specs.Manner.{Manner}
 use Rattle.play.specs.Manner as manners
@@ -32,15 +32,15 @@ abbrev pub answers : List Act → ℕ
 answers acts = count_by is_answer acts
 
 -- the packets that were sent since there were so many are handed to the schedule, by their numbers
-unfoldable pub sent_since : ScheduleState → ℕ → ℕ → ScheduleState
-sent_since schedule before now = fold sent schedule (range_with_len before (now - before))
+unfoldable pub send_since : ScheduleState → ℕ → ℕ → ScheduleState
+send_since schedule before now = fold schedule_send schedule (range_with_len before (now - before))
 
 -- the play after an event that made this world: the schedule has what was sent, and what was answered is no longer unanswered
 abbrev pub with_event : {N : Type 0} → Player N → Event → World N → Player N
 with_event p event world = record {
   world = world;
   events = p.events ++ event ∷ [];
-  schedule = sent_since p.schedule (length p.world.sent) (length world.sent);
+  schedule = send_since p.schedule (length p.world.sent) (length world.sent);
   unanswered = p.unanswered - answers (drop (length p.world.acts) world.acts);
 }
 
@@ -52,7 +52,7 @@ with_one_more p = record { world = p.world; events = p.events; schedule = p.sche
 
 -- a line that is no item is told to the schedule
 abbrev pub told_of : {N : Type 0} → Player N → Work → Player N
-told_of p work = with_schedule p (told work p.unanswered p.schedule)
+told_of p work = with_schedule p (schedule_take work p.unanswered p.schedule)
 
 -- the schedule knows that an item was begun
 abbrev pub item_told : {N : Type 0} → Player N → Player N
@@ -64,28 +64,28 @@ delivery_told number p = with_schedule p (repeated p.schedule number)
 
 module _ {N : Type 0} (step : N → Do → NodeStep N) where
   -- an event happens: it makes the next world
-  unfoldable pub happens : Player N → Event → Player N
-  happens p event = with_event p event (next_world step p.world event)
+  unfoldable pub player_happen : Player N → Event → Player N
+  player_happen p event = with_event p event (next_world step p.world event)
 
   -- a node begins its next item
-  unfoldable pub begins : Player N → NodeId → Player N
-  begins p node = item_told (happens (with_one_more p) (Begin node))
+  unfoldable pub player_begin : Player N → NodeId → Player N
+  player_begin p node = item_told (player_happen (with_one_more p) (Begin node))
 
   -- a packet that was sent is delivered
   abbrev pub delivers : Player N → ℕ → Option Packet → Player N
   delivers p number None = p
-  delivers p number (Some packet) = delivery_told number (happens p (Deliver packet))
+  delivers p number (Some packet) = delivery_told number (player_happen p (Deliver packet))
 
   unfoldable pub delivered : Player N → ℕ → Player N
   delivered p number = delivers p number (slice_get p.world.sent number)
 
   -- time passes at a node
   unfoldable pub ticks : Player N → NodeId → Player N
-  ticks p node = happens p (Tick node)
+  ticks p node = player_happen p (Tick node)
 
   abbrev pub opens_for : Player N → Work → Option NodeId → Player N
   opens_for p work None = told_of p work
-  opens_for p work (Some node) = begins p node
+  opens_for p work (Some node) = player_begin p node
 
   -- an item is begun at its line; any other line is told to the schedule
   unfoldable pub opens : Player N → Work → Player N
@@ -104,7 +104,7 @@ module _ {N : Type 0} (step : N → Do → NodeStep N) where
   }
 
   abbrev pub rounded : Player N → Player N
-  rounded p = manners.rounded manner_of p
+  rounded p = manners.playing_round manner_of p
 
   abbrev pub goes_by : Player N → Going → Player N
   goes_by p going = manners.goes_by manner_of p going
@@ -113,18 +113,18 @@ module _ {N : Type 0} (step : N → Do → NodeStep N) where
   goes_on count p = manners.goes_on manner_of count p
 
   abbrev pub goes_out : Player N → Player N
-  goes_out p = manners.goes_out manner_of p
+  goes_out p = manners.playing_go manner_of p
 
   abbrev pub plays_line : Player N → Line → Player N
-  plays_line p line = manners.plays_line manner_of p line
+  plays_line p line = manners.play_line manner_of p line
 
 -- the play before the first line
-abbrev pub starts : {N : Type 0} → (NodeId → Setup → List Work → N) → Script → Player N
-starts first script = record { world = start_world first script; events = []; schedule = started; unanswered = 0 }
+abbrev pub player_start : {N : Type 0} → (NodeId → Setup → List Work → N) → Script → Player N
+player_start first script = record { world = start_world first script; events = []; schedule = schedule_start; unanswered = 0 }
 
 -- the play of a script, line by line
-unfoldable pub played : {N : Type 0} → (N → Do → NodeStep N) → (NodeId → Setup → List Work → N) → Script → Player N
-played step first script = fold (plays_line step) (starts first script) script.lines
+unfoldable pub player_play : {N : Type 0} → (N → Do → NodeStep N) → (NodeId → Setup → List Work → N) → Script → Player N
+player_play step first script = fold (plays_line step) (player_start first script) script.lines
 
 -- the nodes whose items the lines of a script are, in order
 abbrev pub actors_of : List Line → List NodeId
@@ -136,4 +136,4 @@ left_by script p = record { script = script; events = p.events; world = p.world 
 
 -- the run that a script determines, and the world in which it ends
 abbrev pub estate_of : {N : Type 0} → (N → Do → NodeStep N) → (NodeId → Setup → List Work → N) → Script → Estate N
-estate_of step first script = left_by script (played step first script)
+estate_of step first script = left_by script (player_play step first script)

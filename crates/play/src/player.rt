@@ -2,7 +2,7 @@
 ghost use Rattle.std.specs.Prelude.{◌≡◌, ◌+◌, ◌<◌, ◌≤◌, ◌^◌, drop, IfOk, OnOk};
 ghost use Rattle.world_base.specs.Runs.{BeginsAll, IsRun, begun_in};
 ghost use Rattle.node_base.specs.Setups.{IsSetup};
-ghost use Rattle.play.specs.Plays.{actors_of, answers, is_answer, sent_since, happens, begins, starts, played};
+ghost use Rattle.play.specs.Plays.{actors_of, answers, is_answer, send_since, player_happen, player_begin, player_start, player_play};
 
 use crate::playing::{Playing, play_lines};
 use script_text::Script;
@@ -73,9 +73,9 @@ pub fn answers_since(acts: &[Act], place: usize) -> u64
 }
 
 /// Hands the schedule the packets that were sent since there were so many.
-#[tactic(auto, unfolding(crate::specs::Plays::sent_since))]
+#[tactic(auto, unfolding(crate::specs::Plays::send_since))]
 pub fn send_since(schedule: &mut Schedule, before: usize, now: usize) -> Mem<()>
-    ensures { OnOk result (schedule.new ≡ sent_since schedule.old before now) }
+    ensures { OnOk result (schedule.new ≡ send_since schedule.old before now) }
 {
     for number in before..now {
         schedule.send(number)?;
@@ -101,7 +101,7 @@ impl<N: Member> Player<N> {
     /// The play before the first line.
     pub fn start(alloc: Global, script: &Script) -> Mem<Player<N>>
         requires { IsSetup script.now.setup }
-        ensures { IfOk result (λ player. player ≡ starts N.first script.now) }
+        ensures { IfOk result (λ player. player ≡ player_start N.first script.now) }
     {
         Ok(Player {
             world: World::start(alloc, script)?,
@@ -112,9 +112,9 @@ impl<N: Member> Player<N> {
     }
 
     /// An event happens.
-    #[tactic(auto, unfolding(crate::specs::Plays::happens))]
+    #[tactic(auto, unfolding(crate::specs::Plays::player_happen))]
     pub fn happen(&mut self, alloc: Global, event: Event) -> Mem<()>
-        ensures exact { OnOk result (self.new ≡ happens N.transition self.old event) }
+        ensures exact { OnOk result (self.new ≡ player_happen N.transition self.old event) }
         ensures no_more { OnOk result (self.new.unanswered ≤ self.old.unanswered) }
     {
         let sent = self.world.sent.len();
@@ -129,10 +129,10 @@ impl<N: Member> Player<N> {
     }
 
     /// A node begins its next item.
-    #[tactic(auto, unfolding(crate::specs::Plays::begins))]
+    #[tactic(auto, unfolding(crate::specs::Plays::player_begin))]
     fn begin(&mut self, alloc: Global, node: NodeId) -> Mem<()>
         requires { self.old.unanswered + 1 < 2 ^ 64 }
-        ensures exact { OnOk result (self.new ≡ begins N.transition self.old node) }
+        ensures exact { OnOk result (self.new ≡ player_begin N.transition self.old node) }
         ensures one_more { OnOk result (self.new.unanswered ≤ self.old.unanswered + 1) }
     {
         self.unanswered += 1;
@@ -142,10 +142,10 @@ impl<N: Member> Player<N> {
     }
 
     /// Plays all lines of a script.
-    #[tactic(auto, unfolding(crate::specs::Plays::played))]
+    #[tactic(auto, unfolding(crate::specs::Plays::player_play))]
     fn lines(alloc: Global, script: &Script) -> Mem<Player<N>>
         requires { IsSetup script.now.setup }
-        ensures { IfOk result (λ player. player ≡ played N.transition N.first script.now) }
+        ensures { IfOk result (λ player. player ≡ player_play N.transition N.first script.now) }
     {
         let mut player = Player::start(alloc, script)?;
         play_lines(alloc, &mut player, script)?;
@@ -155,7 +155,7 @@ impl<N: Member> Player<N> {
     /// The play of a script. Its events are a run of the script, and each item is begun once, at its line.
     pub fn play(alloc: Global, script: &Script) -> Mem<Player<N>>
         requires { IsSetup script.now.setup }
-        ensures exact { IfOk result (λ player. player ≡ played N.transition N.first script.now) }
+        ensures exact { IfOk result (λ player. player ≡ player_play N.transition N.first script.now) }
         ensures one_run { IfOk result (λ player. IsRun N.transition N.first script.now player.events player.world) }
         ensures in_order { IfOk result (λ player. begun_in player.events ≡ actors_of script.now.lines) }
         ensures complete { IfOk result (λ player. BeginsAll script.now.lines player.events) }

@@ -1,6 +1,6 @@
 //! How the lines of a script are played by the schedule, in a play of any kind.
 ghost use Rattle.std.specs.Prelude.{◌≡◌, ◌+◌, ◌<◌, ◌≤◌, ◌^◌, fold, OnOk};
-ghost use Rattle.play.specs.Manner.{comes, goes_out, going_of, plays_line, rounded, unanswered_in};
+ghost use Rattle.play.specs.Manner.{playing_come, playing_go, what_next, play_line, playing_round, unanswered_in};
 
 use script_text::{Line, Script};
 use std::alloc::Global;
@@ -21,8 +21,8 @@ pub trait Playing {
 
     /// What the schedule says comes next.
     fn what_next(&mut self) -> Next
-        ensures next { result ≡ (going_of manner self.old).next }
-        ensures state { self.new ≡ manner.with_schedule self.old (going_of manner self.old).state };
+        ensures next { result ≡ (what_next manner self.old).next }
+        ensures state { self.new ≡ manner.with_schedule self.old (what_next manner self.old).state };
 
     /// What was sent as this number is delivered.
     fn deliver(&mut self, alloc: Global, number: usize) -> Mem<()>
@@ -45,9 +45,9 @@ pub trait Playing {
 }
 
 /// Time passes at every node, in their order.
-#[tactic(auto, unfolding(crate::specs::Manner::rounded))]
+#[tactic(auto, unfolding(crate::specs::Manner::playing_round))]
 fn round<P: Playing>(alloc: Global, play: &mut P) -> Mem<()>
-    ensures exact { OnOk result (play.new ≡ rounded P.manner play.old) }
+    ensures exact { OnOk result (play.new ≡ playing_round P.manner play.old) }
     ensures no_more { OnOk result (unanswered_in P.manner play.new ≤ unanswered_in P.manner play.old) }
 {
     let cluster = play.cluster();
@@ -59,7 +59,7 @@ fn round<P: Playing>(alloc: Global, play: &mut P) -> Mem<()>
 
 /// What comes next happens.
 fn come<P: Playing>(alloc: Global, play: &mut P, next: Next) -> Mem<()>
-    ensures exact { OnOk result (play.new ≡ comes P.manner play.old next) }
+    ensures exact { OnOk result (play.new ≡ playing_come P.manner play.old next) }
     ensures no_more { OnOk result (unanswered_in P.manner play.new ≤ unanswered_in P.manner play.old) }
 {
     match next {
@@ -70,9 +70,9 @@ fn come<P: Playing>(alloc: Global, play: &mut P, next: Next) -> Mem<()>
 }
 
 /// All that the schedule says happens for the line in hand.
-#[tactic(auto, unfolding(crate::specs::Manner::goes_out))]
+#[tactic(auto, unfolding(crate::specs::Manner::playing_go))]
 fn go<P: Playing>(alloc: Global, play: &mut P) -> Mem<()>
-    ensures exact { OnOk result (play.new ≡ goes_out P.manner play.old) }
+    ensures exact { OnOk result (play.new ≡ playing_go P.manner play.old) }
     ensures no_more { OnOk result (unanswered_in P.manner play.new ≤ unanswered_in P.manner play.old) }
 {
     loop {
@@ -85,10 +85,10 @@ fn go<P: Playing>(alloc: Global, play: &mut P) -> Mem<()>
 }
 
 /// Plays a line.
-#[tactic(auto, unfolding(crate::specs::Manner::plays_line))]
+#[tactic(auto, unfolding(crate::specs::Manner::play_line))]
 fn play_line<P: Playing>(alloc: Global, play: &mut P, line: &Line) -> Mem<()>
     requires { unanswered_in P.manner play.old + 1 < 2 ^ 64 }
-    ensures exact { OnOk result (play.new ≡ plays_line P.manner play.old line.now) }
+    ensures exact { OnOk result (play.new ≡ play_line P.manner play.old line.now) }
     ensures one_more { OnOk result (unanswered_in P.manner play.new ≤ unanswered_in P.manner play.old + 1) }
 {
     play.open(alloc, &line.work)?;
@@ -98,7 +98,7 @@ fn play_line<P: Playing>(alloc: Global, play: &mut P, line: &Line) -> Mem<()>
 /// Plays all lines of a script, in a play of which no item was begun.
 pub fn play_lines<P: Playing>(alloc: Global, play: &mut P, script: &Script) -> Mem<()>
     requires { unanswered_in P.manner play.old ≡ 0 }
-    ensures { OnOk result (play.new ≡ fold (plays_line P.manner) play.old script.now.lines) }
+    ensures { OnOk result (play.new ≡ fold (play_line P.manner) play.old script.now.lines) }
 {
     for line in script.lines.as_slice() {
         play_line(alloc, play, line)?;

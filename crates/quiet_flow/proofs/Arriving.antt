@@ -8,7 +8,7 @@ use Rattle.std.proofs.Math.Seq.{drop-append_seam}
 use Rattle.node_base.specs.Nodes.{has_node, peers_of}
 use Rattle.play.specs.declared.player.Player.{Player}
 use Rattle.play.specs.Manner as manner
-use Rattle.play.specs.Plays.{answers, delivered, goes_by, goes_on, sent_since, with_event, with_schedule}
+use Rattle.play.specs.Plays.{answers, delivered, goes_by, goes_on, send_since, with_event, with_schedule}
 use Rattle.play.specs.Plays as plays
 use Rattle.version_model.specs.declared.act.Act.{Act}
 use Rattle.wire_msg.specs.declared.packet.Do.{Do}
@@ -18,8 +18,8 @@ use Rattle.wire_msg.specs.NodeStep.{NodeStep}
 use Rattle.world_base.specs.Cluster.{HasNode, cluster_of, place_of}
 use Rattle.world_base.specs.declared.event.Event.TheVariants as events
 use Rattle.world_base.specs.declared.schedule.Next.TheVariants as next
-use Rattle.world_base.specs.NextWorld.{happened, next_world}
-use Rattle.world_base.specs.Schedule.{ScheduleState, goes, repeated, sent}
+use Rattle.world_base.specs.NextWorld.{world_happen, next_world}
+use Rattle.world_base.specs.Schedule.{ScheduleState, schedule_next, repeated, schedule_send}
 use Rattle.xfs_base.specs.declared.setup.Setup.{Setup}
 use Rattle.xfs_base.specs.Steps.{still}
 use Rattle.quiet_flow.specs.Flow.{Done, Stage, delivers, happens, unclocked}
@@ -50,20 +50,20 @@ module _ {N : Type 0} (step : N → Do → NodeStep N) (is_blind : IsBlind step)
     not_none : (p.schedule.deliveries == 0) ≡ false
     not_none = grind (arith, nat_tests)
 
-    pub next_goes : goes p.unanswered p.schedule ≡ record { next = next.Deliver n; state = popped.schedule }
-    unfolding goes
+    pub next_goes : schedule_next p.unanswered p.schedule ≡ record { next = next.Deliver n; state = popped.schedule }
+    unfolding schedule_next
     next_goes =
         let some_wait : (length (n ∷ numbers) == 0) ≡ false = grind (arith, nat_tests) in
         simp (queue, some_wait, not_none, shows.plain.mixer)
 
     abbrev arrived : Player N
-    arrived = plays.happens step popped (events.Deliver the_packet)
+    arrived = plays.player_happen step popped (events.Deliver the_packet)
 
     not_repeated : arrived.schedule.again ≡ 0 → repeated arrived.schedule n ≡ arrived.schedule
     unfolding repeated
     not_repeated none = rw none refl
 
-    pub delivered_is : arrived.schedule.again ≡ 0 → goes_by step p (goes p.unanswered p.schedule) ≡ arrived
+    pub delivered_is : arrived.schedule.again ≡ 0 → goes_by step p (schedule_next p.unanswered p.schedule) ≡ arrived
     unfolding delivered
     delivered_is none =
         ap (goes_by step p) next_goes
@@ -74,19 +74,19 @@ module _ {N : Type 0} (step : N → Do → NodeStep N) (is_blind : IsBlind step)
   module _ (setup : Setup) (p : Player N) (t : Stage N) (waiting : List Packet) (shows : Shows setup p t waiting) (packet : Packet)
       (nowhere : place_of (cluster_of setup) packet.to ≡ None) where
     abbrev passed : Player N
-    passed = plays.happens step p (events.Deliver packet)
+    passed = plays.player_happen step p (events.Deliver packet)
 
     world_same : next_world step p.world (events.Deliver packet) ≡ p.world
-    unfolding happened
+    unfolding world_happen
     world_same = rw (shows.cluster, nowhere) refl
 
     nothing_new : (a : ℕ) → a - a ≡ 0
     nothing_new a = omega arith
 
-    schedule_same : sent_since p.schedule (length p.world.sent) (length p.world.sent) ≡ p.schedule
-    unfolding sent_since
+    schedule_same : send_since p.schedule (length p.world.sent) (length p.world.sent) ≡ p.schedule
+    unfolding send_since
     schedule_same =
-        ap (λ n. fold sent p.schedule (range_with_len (length p.world.sent) n)) (nothing_new (length p.world.sent))
+        ap (λ n. fold schedule_send p.schedule (range_with_len (length p.world.sent) n)) (nothing_new (length p.world.sent))
 
     none_done : drop (length p.world.acts) p.world.acts ≡ []
     none_done = ap (λ acts. drop (length p.world.acts) acts) (sym (append-nil p.world.acts)) ∙ drop-append_seam p.world.acts []
@@ -98,7 +98,7 @@ module _ {N : Type 0} (step : N → Do → NodeStep N) (is_blind : IsBlind step)
     no_less a = omega arith
 
     passed_is : passed ≡ record p { events = p.events ++ events.Deliver packet ∷ [] }
-    unfolding plays.happens
+    unfolding plays.player_happen
     passed_is =
         ap (λ w. with_event p (events.Deliver packet) w) world_same
         ∙ ap (λ schedule. kept schedule (drop (length p.world.acts) p.world.acts)) schedule_same
@@ -150,7 +150,7 @@ module _ {N : Type 0} (step : N → Do → NodeStep N) (is_blind : IsBlind step)
     pub rounds : after.schedule.rounds ≡ p.schedule.rounds
     pub sends : length after.world.sent ≡ length p.world.sent + length (delivers step setup t packet).outs
 
-  next_on : (p q : Player N) → goes_by step p (goes p.unanswered p.schedule) ≡ q → (more : ℕ) → goes_on step (suc more) p ≡ goes_on step more q
+  next_on : (p q : Player N) → goes_by step p (schedule_next p.unanswered p.schedule) ≡ q → (more : ℕ) → goes_on step (suc more) p ≡ goes_on step more q
   unfolding manner.goes_on
   next_on p q is more = ap (goes_on step more) is
 
@@ -182,7 +182,7 @@ module _ {N : Type 0} (step : N → Do → NodeStep N) (is_blind : IsBlind step)
         before_shows = popped_shows setup p t n numbers packet waiting shows queue some
 
         after : Player N
-        after = plays.happens step before (events.Deliver at.clocked)
+        after = plays.player_happen step before (events.Deliver at.clocked)
 
         its_low : at.clocked.clock ≤ length p.events
         its_low =

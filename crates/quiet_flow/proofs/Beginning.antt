@@ -2,7 +2,7 @@
 use Rattle.std.proofs.Common.{◌≡◌, ℕ, ◌+◌, ◌*◌, ◌^◌, ◌<◌, ◌≤◌, [], ◌∷◌, ◌++◌, length, Some, refl, ap, ◌∙◌, arith}
 use Rattle.play.specs.declared.player.Player.{Player}
 use Rattle.play.specs.Manner as manner
-use Rattle.play.specs.Plays.{begins, goes_out, item_told, opens, plays_line, with_one_more, with_schedule}
+use Rattle.play.specs.Plays.{player_begin, goes_out, item_told, opens, plays_line, with_one_more, with_schedule}
 use Rattle.play.specs.Plays as plays
 use Rattle.script_text.specs.declared.script.Line.{Line}
 use Rattle.wire_msg.specs.declared.packet.Do.{Do}
@@ -10,7 +10,7 @@ use Rattle.wire_msg.specs.NodeStep.{NodeStep}
 use Rattle.world_base.specs.Cluster.{HasNode}
 use Rattle.world_base.specs.declared.event.Event.TheVariants.{Begin}
 use Rattle.world_base.specs.Items.{actor_of}
-use Rattle.world_base.specs.Schedule.{drained, item_begun}
+use Rattle.world_base.specs.Schedule.{schedule_drain, item_begun}
 use Rattle.xfs_base.specs.declared.node.NodeId.{NodeId}
 use Rattle.xfs_base.specs.declared.setup.Setup.{Setup}
 use Rattle.xfs_base.specs.Limits.{max_deliveries}
@@ -49,18 +49,18 @@ module _ {N : Type 0} (step : N → Do → NodeStep N) (setup : Setup) (p : Play
     }
 
     abbrev begun : Player N
-    begun = plays.happens step counted (Begin node)
+    begun = plays.player_happen step counted (Begin node)
 
     abbrev now : Done N
     now = flow.begins step t node
 
     abbrev first : Player N
-    first = with_schedule begun (drained begun.unanswered begun.schedule)
+    first = with_schedule begun (schedule_drain begun.unanswered begun.schedule)
 
     begun_shows : Shows setup begun now.state now.outs
     begun_shows = (event_follows step is_blind setup counted (one_more t) [] counted_shows (Begin node) has (omega arith) room).after_shows
 
-    schedule_is : item_begun begun.unanswered begun.schedule ≡ drained begun.unanswered begun.schedule
+    schedule_is : item_begun begun.unanswered begun.schedule ≡ schedule_drain begun.unanswered begun.schedule
     unfolding item_begun
     schedule_is = rw begun_shows.plain.holding refl
 
@@ -68,7 +68,7 @@ module _ {N : Type 0} (step : N → Do → NodeStep N) (setup : Setup) (p : Play
     told_is = ap (with_schedule begun) schedule_is
 
     starts_so : plays_line step p line ≡ goes_out step first
-    unfolding manner.plays_line opens begins
+    unfolding manner.play_line opens player_begin
     starts_so = ap (λ o. goes_out step (plays.opens_for step p line.work o)) actor ∙ ap (goes_out step) told_is
 
     pub starts_line : Started

@@ -9,7 +9,7 @@ use Rattle.std.proofs.lemmas.Option.{slice_get_within}
 use Rattle.std.proofs.Math.ListN.{length-set}
 use Rattle.std.proofs.Math.Seq.{drop-append_seam}
 use Rattle.play.specs.declared.player.Player.{Player}
-use Rattle.play.specs.Plays.{answers, sent_since, with_event}
+use Rattle.play.specs.Plays.{answers, send_since, with_event}
 use Rattle.play.specs.Plays as plays
 use Rattle.version_model.specs.declared.act.Act.{Act}
 use Rattle.wire_msg.specs.declared.packet.Do.{Do}
@@ -21,8 +21,8 @@ use Rattle.world_base.specs.Cluster.{HasNode, cluster_of, place_of}
 use Rattle.world_base.specs.declared.event.Event.{Event}
 use Rattle.world_base.specs.declared.world.World.{World}
 use Rattle.world_base.specs.Events.{node_of, what_of}
-use Rattle.world_base.specs.NextWorld.{clock_at, happened, happened_at, next_world, sent_at, turn_of}
-use Rattle.world_base.specs.Schedule.{ScheduleState, sent}
+use Rattle.world_base.specs.NextWorld.{clock_at, world_happen, happen_at, next_world, sent_at, turn_of}
+use Rattle.world_base.specs.Schedule.{ScheduleState, schedule_send}
 use Rattle.xfs_base.proofs.NodeOrder.{same_node_is}
 use Rattle.xfs_base.specs.declared.node.NodeId.{NodeId}
 use Rattle.xfs_base.specs.declared.setup.Setup.{Setup}
@@ -62,8 +62,8 @@ module _ {N : Type 0} (step : N → Do → NodeStep N) (is_blind : IsBlind step)
 
   world_is : (w : World N) (name : NodeId) (what : Do) (place clock : ℕ) (node : N) → place_of w.cluster name ≡ Some place
       → slice_get w.nodes place ≡ Some node → clock_at w place what ≡ Some clock
-      → happened step w name what ≡ after_step w place clock (step node what)
-  unfolding happened happened_at turn_of
+      → world_happen step w name what ≡ after_step w place clock (step node what)
+  unfolding world_happen happen_at turn_of
   world_is w name what place clock node at there clocked = rw (at, clocked, there) refl
 
   -- the clock of an event, where none is beyond a bound
@@ -185,14 +185,14 @@ module _ {N : Type 0} (step : N → Do → NodeStep N) (is_blind : IsBlind step)
       abbrev played : World N → ScheduleState → List Act → Player N
       played w schedule acts = record { world = w; events = p.events ++ event ∷ []; schedule = schedule; unanswered = p.unanswered - answers acts }
 
-      schedule_is : sent_since p.schedule (length p.world.sent) (length world.sent) ≡ after.schedule
-      unfolding sent_since
+      schedule_is : send_since p.schedule (length p.world.sent) (length world.sent) ≡ after.schedule
+      unfolding send_since
       schedule_is =
-          ap (λ n. fold sent p.schedule (range_with_len (length p.world.sent) n)) count_is
+          ap (λ n. fold schedule_send p.schedule (range_with_len (length p.world.sent) n)) count_is
           ∙ all_sent p.schedule shows.plain.lose (range_with_len (length p.world.sent) (length r.packets))
 
-      pub after_is : plays.happens step p event ≡ after
-      unfolding plays.happens
+      pub after_is : plays.player_happen step p event ≡ after
+      unfolding plays.player_happen
       after_is =
           ap (λ w. with_event p event w) next_is
           ∙ ap (λ schedule. played world schedule (drop (length p.world.acts) world.acts)) schedule_is
@@ -241,19 +241,19 @@ module _ {N : Type 0} (step : N → Do → NodeStep N) (is_blind : IsBlind step)
 
     -- what the event makes of the play
     pub record Happened : Type 0 where
-      pub after_shows : Shows setup (plays.happens step p event) now.state (waiting ++ now.outs)
-      pub events_are : (plays.happens step p event).events ≡ p.events ++ event ∷ []
-      pub deliveries : (plays.happens step p event).schedule.deliveries ≡ p.schedule.deliveries
-      pub rounds : (plays.happens step p event).schedule.rounds ≡ p.schedule.rounds
+      pub after_shows : Shows setup (plays.player_happen step p event) now.state (waiting ++ now.outs)
+      pub events_are : (plays.player_happen step p event).events ≡ p.events ++ event ∷ []
+      pub deliveries : (plays.player_happen step p event).schedule.deliveries ≡ p.schedule.deliveries
+      pub rounds : (plays.player_happen step p event).schedule.rounds ≡ p.schedule.rounds
       -- as many packets are sent as the stage has new ones on their way
-      pub sends : length (plays.happens step p event).world.sent ≡ length p.world.sent + length now.outs
+      pub sends : length (plays.player_happen step p event).world.sent ≡ length p.world.sent + length now.outs
 
     pub event_follows : Happened
     event_follows =
         let (place, at) = place_had setup name has in
         let is = after_is place at in
         record {
-          after_shows = subst (λ (d : Done N). Shows setup (plays.happens step p event) d.state (waiting ++ d.outs)) (sym now_is)
+          after_shows = subst (λ (d : Done N). Shows setup (plays.player_happen step p event) d.state (waiting ++ d.outs)) (sym now_is)
               (subst (λ q. Shows setup q (turned t name r) (waiting ++ map unclocked r.packets)) (sym is) (turned_shows place at));
           events_are = ap (λ (q : Player N). q.events) is;
           deliveries = ap (λ (q : Player N). q.schedule.deliveries) is;

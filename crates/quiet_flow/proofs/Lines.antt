@@ -18,7 +18,7 @@ use Rattle.world_base.specs.declared.event.Event.{Event}
 use Rattle.world_base.specs.declared.event.Event.TheVariants.{Begin, Deliver, Tick}
 use Rattle.world_base.specs.Items.{actor_of}
 use Rattle.world_base.specs.Runs.{begin_of, begun_in}
-use Rattle.world_base.specs.Schedule.{goes, is_done}
+use Rattle.world_base.specs.Schedule.{schedule_next, is_done}
 use Rattle.xfs_base.specs.declared.node.NodeId.{NodeId}
 use Rattle.xfs_base.specs.declared.setup.Setup.{Setup}
 use Rattle.xfs_base.specs.Limits.{max_deliveries}
@@ -86,14 +86,14 @@ module _ (setup : Setup) (first second : List Packet) where
 
 module _ {N : Type 0} (step : N → Do → NodeStep N) (is_blind : IsBlind step) (setup : Setup) where
   -- nothing waits and all is answered: the line is done
-  over : (q : Player N) (end : Stage N) → Shows setup q end [] → end.unanswered ≡ 0 → is_done (goes q.unanswered q.schedule).next ≡ true
-  unfolding goes
+  over : (q : Player N) (end : Stage N) → Shows setup q end [] → end.unanswered ≡ 0 → is_done (schedule_next q.unanswered q.schedule).next ≡ true
+  unfolding schedule_next
   over q end h none = by_queue q.schedule.queue refl
     where
       zero_left : q.unanswered ≡ 0
       zero_left = h.unanswered ∙ none
 
-      by_queue : (queue : List ℕ) → q.schedule.queue ≡ queue → is_done (goes q.unanswered q.schedule).next ≡ true
+      by_queue : (queue : List ℕ) → q.schedule.queue ≡ queue → is_done (schedule_next q.unanswered q.schedule).next ≡ true
       by_queue [] is = rw (is, zero_left) refl
       by_queue (n ∷ queue) is = absurd (subst (λ numbers. AreAt q.world.sent numbers []) is h.waits)
 
@@ -119,7 +119,7 @@ module _ {N : Type 0} (step : N → Do → NodeStep N) (is_blind : IsBlind step)
       fuel a b c m h = omega arith
 
       goes_is : goes_out step start.first ≡ rest.after
-      unfolding manner.goes_out
+      unfolding manner.playing_go
       goes_is =
           let first = start.first in
           let over_left = rest.after.schedule.deliveries + first.schedule.rounds in
@@ -200,7 +200,7 @@ module _ {N : Type 0} (step : N → Do → NodeStep N) (is_blind : IsBlind step)
           follows step is_blind setup n ticked.after (rounds step setup mid).state (rounds step setup mid).outs end ticked.shows_round again (omega arith) (omega arith)
 
       all_is : goes_out step opening.first ≡ behind.after
-      unfolding manner.goes_out
+      unfolding manner.playing_go
       all_is =
           let first = opening.first in
           let over_left = behind.after.schedule.deliveries + behind.after.schedule.rounds in

@@ -13,7 +13,7 @@ use Rattle.world_base.proofs.Standing.{stands}
 use Rattle.world_base.specs.Cluster.{HasNode, cluster_of, node_at, node_count, nodes_of}
 use Rattle.world_base.specs.declared.event.Event.TheVariants.{Tick}
 use Rattle.world_base.specs.declared.schedule.Next.TheVariants as next
-use Rattle.world_base.specs.Schedule.{goes}
+use Rattle.world_base.specs.Schedule.{schedule_next}
 use Rattle.xfs_base.specs.declared.node.NodeId.{NodeId}
 use Rattle.xfs_base.specs.declared.setup.Setup.{Setup}
 use Rattle.xfs_base.specs.Steps.{steps}
@@ -46,7 +46,7 @@ module _ {N : Type 0} (step : N → Do → NodeStep N) (is_blind : IsBlind step)
       no_more n = omega arith
   ticks_follow p t waiting (name ∷ names) shows have room =
       let did = event_follows step is_blind setup p t waiting shows (Tick name) have.0 (omega arith) (omega arith) in
-      let after = plays.happens step p (Tick name) in
+      let after = plays.player_happen step p (Tick name) in
       let now : Done N = ticks step setup t name in
       let longer : length after.events ≡ length p.events + 1 = ap length did.events_are ∙ length-append p.events (Tick name ∷ []) in
       let rest = ticks_follow after now.state (waiting ++ now.outs) names did.after_shows have.1 (omega arith) in
@@ -90,15 +90,15 @@ module _ {N : Type 0} (step : N → Do → NodeStep N) (is_blind : IsBlind step)
         by_queue [] is = refl
         by_queue (n ∷ queue) is = absurd (subst (λ numbers. AreAt p.world.sent numbers []) is shows.waits)
 
-    round_is_next : goes p.unanswered p.schedule ≡ record { next = next.Round; state = before.schedule }
-    unfolding goes
+    round_is_next : schedule_next p.unanswered p.schedule ≡ record { next = next.Round; state = before.schedule }
+    unfolding schedule_next
     round_is_next =
         let one : 1 ≤ p.unanswered = subst (λ n. 1 ≤ n) (sym shows.unanswered) some_open in
         let waits : ((p.unanswered == 0) || (p.schedule.rounds == 0)) ≡ false = grind (arith, nat_tests) in
         rw (nothing_waits, waits) refl
 
-    rounded_is : goes_by step p (goes p.unanswered p.schedule) ≡ fold (plays.ticks step) before everyone
-    unfolding manner.rounded
+    rounded_is : goes_by step p (schedule_next p.unanswered p.schedule) ≡ fold (plays.ticks step) before everyone
+    unfolding manner.playing_round
     rounded_is = ap (goes_by step p) round_is_next ∙ ap (λ c. fold (plays.ticks step) before (nodes_of c)) shows.cluster
 
     before_shows : Shows setup before t []
@@ -116,7 +116,7 @@ module _ {N : Type 0} (step : N → Do → NodeStep N) (is_blind : IsBlind step)
       pub rounds_left : after.schedule.rounds ≡ p.schedule.rounds - 1
       pub sends : length after.world.sent ≡ length p.world.sent + length (rounds step setup t).outs
 
-    next_on : (q : Player N) → goes_by step p (goes p.unanswered p.schedule) ≡ q → (more : ℕ) → goes_on step (suc more) p ≡ goes_on step more q
+    next_on : (q : Player N) → goes_by step p (schedule_next p.unanswered p.schedule) ≡ q → (more : ℕ) → goes_on step (suc more) p ≡ goes_on step more q
     unfolding manner.goes_on
     next_on q is more = ap (goes_on step more) is
 

@@ -11,7 +11,7 @@ use Rattle.quiet_gets.proofs.GetAsking as on
 use Rattle.quiet_gets.proofs.PassedOn as was
 use Rattle.quiet_flow.specs.Flow.{Done, Drains, Stage, begins, one_more, stepped}
 use Rattle.quiet_law.specs.Drained.{Drained, IsCalm, IsIdle, most_steps}
-use Rattle.token_client.specs.Held.{asked as asked_for, asked_again}
+use Rattle.token_client.specs.Held.{held_ask as asked_for, asked_again}
 use Rattle.token_client.specs.Transition.{accepts}
 use Rattle.token_manager.specs.declared.input.In.TheVariants as input
 use Rattle.token_manager.specs.declared.output.Out.TheVariants as out
@@ -23,10 +23,10 @@ use Rattle.quiet_law.proofs.Keeping.{idle_room, put_each, room_of}
 use Rattle.world_base.specs.Cluster.{cluster_of, nodes_of}
 use Rattle.quiet_gets.specs.Passing.{AreInOrder, AsksAlone, IsAsking, IsSilent, Passed, all_news, asked_more, first_want, news_to, want_again}
 use Rattle.std.proofs.Common.{List, None, [], ap, append-nil, arith, cond, length, nat_lt, refl, subst, sym, true, ℕ, ◌++◌, ◌+◌, ◌-◌, ◌<◌, ◌^◌, ◌∙◌, ◌∷◌, ◌≡◌, ◌≤◌}
-use Rattle.client_running.specs.Running.{runs}
+use Rattle.client_running.specs.Running.{run}
 use Rattle.core_world.specs.AnyNode.{any_step}
 use Rattle.core_world.specs.declared.any_node.AnyNode.{AnyNode}
-use Rattle.manager_slots.specs.Tokens.{said}
+use Rattle.manager_slots.specs.Tokens.{tokens_say}
 use Rattle.node_base.specs.Room.{has_room}
 use Rattle.node_base.specs.Setups.{IsSetup}
 use Rattle.quiet_gets.proofs.ClientTicks.{waits_on}
@@ -51,7 +51,7 @@ use Rattle.quiet_nodes.proofs.Turns.{slot_takes}
 use Rattle.quiet_nodes.specs.Moves.{Empties, IsPlaced, Moves}
 use Rattle.quiet_nodes.specs.Scene.{ClientPart, Scene, manager_of_slot, serving_at, tokens_at, with_client, with_slot}
 use Rattle.quiet_reads.proofs.Evicting.{OrGone}
-use Rattle.slot_beliefs.specs.Beliefs.{held_by, holder, others}
+use Rattle.slot_beliefs.specs.Beliefs.{beliefs_hold, holder, others}
 use Rattle.slot_beliefs.specs.Recalls.{stamp}
 use Rattle.std.proofs.lemmas.List.{length-map}
 use Rattle.token_client.proofs.Tables.{held_of-put_itself}
@@ -225,7 +225,7 @@ module _ (setup : Setup) (works : NodeId → List Work) (k : ℕ) (s : Scene) (t
   second_turn = z.turn + 1 + 1
 
   abbrev z_second : SlotState
-  z_second = record z_first { beliefs = held_by z_first.beliefs (holder b c); turn = second_turn }
+  z_second = record z_first { beliefs = beliefs_hold z_first.beliefs (holder b c); turn = second_turn }
 
   abbrev u2 : Scene
   u2 = with_slot u1 i z_second
@@ -256,7 +256,7 @@ module _ (setup : Setup) (works : NodeId → List Work) (k : ℕ) (s : Scene) (t
       (ap (λ test. cond test asked_twice (s2.client c)) (same_test c))
 
   abbrev Waits : ℕ → ClientPart → Type 0
-  Waits x part = runs (serving_at setup works x part) ≡ record { state = serving_at setup works x part; outs = [] }
+  Waits x part = run (serving_at setup works x part) ≡ record { state = serving_at setup works x part; outs = [] }
 
   news_come_to_all : Moves setup works u2 (all_news setup works) [] [] u2
   news_come_to_all =
@@ -280,7 +280,7 @@ module _ (setup : Setup) (works : NodeId → List Work) (k : ℕ) (s : Scene) (t
       ∙ want_again_grants z_first c 1 req p.end.seq b (on.taken_again setup works k s c d few b next asks) still_unowned turns_left
 
   grants_again : Moves setup works u1 (again_packet ∷ all_news setup works) (grant_packet ∷ []) [] u2
-  unfolding said
+  unfolding tokens_say
   grants_again =
       subst (λ epoch. Moves setup works u1 (again_packet ∷ all_news setup works) (granting epoch ∷ []) [] u2) calm.epoch
       (slot_takes setup works u1 i z_second u2 (Client c) (body.Want (record { block = b; inc = 1; req = req; again = 1; mode = Copy; end = p.end.seq }))
@@ -339,7 +339,7 @@ module _ (setup : Setup) (works : NodeId → List Work) (k : ℕ) (s : Scene) (t
   slots_now : (m : ℕ) → (m ≡ i → ⊥) → u.slot m ≡ s.slot m
   slots_now m differs = ap (λ test. cond test z_second (s2.slot m)) (other_test m i differs) ∙ slots_as m differs
 
-  slot_now : u.slot i ≡ record z { beliefs = held_by z.beliefs (holder b c); turn = second_turn }
+  slot_now : u.slot i ≡ record z { beliefs = beliefs_hold z.beliefs (holder b c); turn = second_turn }
   slot_now =
       ap (λ test. cond test z_second (s2.slot i)) (same_test i)
       ∙ ap (λ bs. record z { beliefs = bs; turn = second_turn }) (held_again z.beliefs (holder b c))

@@ -18,7 +18,7 @@ use Rattle.quiet_nodes.proofs.Rooms.{slot_within}
 use Rattle.quiet_nodes.proofs.Tests.{not_lt_test, same_test}
 use Rattle.quiet_nodes.specs.Scene.{ClientPart, Scene}
 use Rattle.quiet_reads.proofs.Evicting.{OrGone}
-use Rattle.slot_beliefs.specs.Beliefs.{held_by, holder, others, share_of}
+use Rattle.slot_beliefs.specs.Beliefs.{beliefs_hold, holder, others, share_of}
 use Rattle.slot_beliefs.specs.Recalls.{stamp}
 use Rattle.slot_beliefs.specs.declared.job.Holder.{Holder}
 use Rattle.std.proofs.lemmas.Bool.Decides.{nat_tests}
@@ -95,7 +95,7 @@ module _ (setup : Setup) (works : NodeId → List Work) (k : ℕ) (s : Scene) (c
     q = record p { asked = asked; begun = p.begun + 1; item = None; req = p.req + 1; blocks = blocks; cached = cached; call = None }
 
     abbrev z_then : SlotState
-    z_then = record z { beliefs = held_by z.beliefs (holder b c); turn = turn }
+    z_then = record z { beliefs = beliefs_hold z.beliefs (holder b c); turn = turn }
 
     each_held : (P : BlockId → Held → Type 0) → P b copy → ((x : BlockId) (g : Held) → (x ≡ b → ⊥) → OrGone (held_of p.blocks x) g → P x g) → (x : BlockId)
         → P x (held_of blocks x)

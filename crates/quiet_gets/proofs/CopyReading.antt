@@ -8,7 +8,7 @@ use Rattle.quiet_reads.proofs.CopyReads as reading
 use Rattle.quiet_reads.proofs.CopyGranted as granted
 use Rattle.std.proofs.Common.{Option, List, None, Some, [], arith, refl, subst, true, ℕ, ◌++◌, ◌+◌, ◌∷◌, ◌≡◌, ◌≤◌}
 use Rattle.client_call.specs.Blocks.{value_of}
-use Rattle.client_call.specs.Calls.{call_for}
+use Rattle.client_call.specs.Calls.{call_new}
 use Rattle.client_call.specs.declared.call.Plan.TheVariants.{One}
 use Rattle.node_base.specs.Nodes.{has_node, peers_of}
 use Rattle.quiet_gets.proofs.Supplying.{supplied_copy, supply_acts, supply_moves, supply_read}
@@ -54,7 +54,7 @@ module _ (setup : Setup) (works : NodeId → List Work) (base : Scene) (c : ℕ)
     pub others_as : (x : BlockId) → (x ≡ b → ⊥) → OrGone (held_of p.blocks x) (held_of blocks x)
     pub is_copy : IsCopy copy ver stamp
 
-  module _ (its_call : p.call ≡ Some (call_for One (Get b))) (its_item : p.item ≡ Some item) (ungiven : (held_of p.blocks b).giving ≡ None) (req : ℕ)
+  module _ (its_call : p.call ≡ Some (call_new One (Get b))) (its_item : p.item ≡ Some item) (ungiven : (held_of p.blocks b).giving ≡ None) (req : ℕ)
       (accepted : accepts (tokens_at setup works p) b stamp 1 req Copy ≡ true) (h : HasRoom setup works c p) (its : has_node (peers_of setup) (Client c) ≡ true) where
     -- what has changed once it has the copy
     module _ (copy : Held) where

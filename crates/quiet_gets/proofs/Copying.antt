@@ -5,7 +5,7 @@ use Rattle.std.specs.BTreeMap.{insert_entry}
 use Rattle.std.proofs.lemmas.Bool.Decides.{nat_tests}
 use Rattle.std.proofs.lemmas.Map.Views.{tells_apart}
 use Rattle.slot_beliefs.proofs.Shares.{belief, found_by, holder_cmp_exact, holder_cmp_total, holder_laws}
-use Rattle.slot_beliefs.specs.Beliefs.{held_by, holder, holder_cmp, others, share, share_of}
+use Rattle.slot_beliefs.specs.Beliefs.{beliefs_hold, holder, holder_cmp, others, share, share_of}
 use Rattle.slot_beliefs.specs.declared.job.Holder.{Holder}
 use Rattle.slot_beliefs.specs.declared.job.Wanted.{Wanted}
 use Rattle.token_manager.specs.Laws.{OwnsAlone}
@@ -19,7 +19,7 @@ use Rattle.quiet_law.proofs.Waiting.{not_the_block}
 
 module _ (bs : List (Holder × Bool)) (b : BlockId) (c : ℕ) where
   abbrev then_ : List (Holder × Bool)
-  then_ = held_by bs (holder b c)
+  then_ = beliefs_hold bs (holder b c)
 
   abbrev inserted : List (Holder × Bool)
   inserted = insert_entry holder_cmp bs (holder b c) false

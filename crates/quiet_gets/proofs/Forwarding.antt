@@ -1,12 +1,12 @@
 -- A client is told to pass its copy of a block on to another: where it has a value of the version it supplies it, and else it sends nothing.
 use Rattle.token_client.specs.Transition.{on_forwarded, supplies as says_supply}
-use Rattle.client_serving.specs.Grants.{supplies}
+use Rattle.client_serving.specs.Grants.{send_supply}
 use Rattle.client_node.specs.Phases.{client_step, on_deliver}
 use Rattle.wire_msg.specs.declared.tokens.Forward.{Forward}
 use Rattle.xfs_base.specs.declared.token.Mode.TheVariants.{Copy}
 use Rattle.token_client.specs.declared.output.Out.{Out}
 use Rattle.client_node.specs.declared.client.Client.{Client as ClientNode}
-use Rattle.client_serving.specs.Packets.{on_forward, on_packet, supplied_by}
+use Rattle.client_serving.specs.Packets.{on_forward, serving_take, supplied_by}
 use Rattle.core_world.specs.AnyNode.{as_any}
 use Rattle.core_world.specs.declared.any_node.AnyNode.TheVariants as any
 use Rattle.node_base.specs.Effects.{acts_of, packets_of}
@@ -62,16 +62,16 @@ module _ (setup : Setup) (works : NodeId → List Work) (d : ℕ) (p : ClientPar
   abbrev forward : Forward
   forward = record { block = b; stamp = its_stamp; to = c; inc = 1; req = req; ver = ver }
 
-  packet_is : on_packet (serving_at setup works d p) (forward_to setup works d b its_stamp c req ver)
-      ≡ record { state = serving_at setup works d p; outs = flat_map (supplies forward) (says_supply b ver (passed_on its_held ver)) }
-  unfolding on_packet on_forward
+  packet_is : serving_take (serving_at setup works d p) (forward_to setup works d b its_stamp c req ver)
+      ≡ record { state = serving_at setup works d p; outs = flat_map (send_supply forward) (says_supply b ver (passed_on its_held ver)) }
+  unfolding serving_take on_forward
   packet_is = ap (supplied_by (serving_at setup works d p) forward) taken_is
 
   by_value : (o : Option (Option (List ℕ)))
       → ◌≡◌ {A = NodeStep ClientNode} (record {
         node = client_at setup works d p;
-        packets = packets_of (Client d) (flat_map (supplies forward) (says_supply b ver o) ++ []);
-        acts = acts_of (Client d) (flat_map (supplies forward) (says_supply b ver o) ++ []);
+        packets = packets_of (Client d) (flat_map (send_supply forward) (says_supply b ver o) ++ []);
+        acts = acts_of (Client d) (flat_map (send_supply forward) (says_supply b ver o) ++ []);
       }) (record { node = client_at setup works d p; packets = supplied_from setup works d b its_stamp c req ver o; acts = [] })
   by_value None = refl
   by_value (Some value) = refl

@@ -8,18 +8,18 @@ use Rattle.client_node.specs.Room as client_rooms
 use Rattle.core_world.specs.AnyNode.{any_step, as_any}
 use Rattle.core_world.specs.declared.any_node.AnyNode.{AnyNode}
 use Rattle.core_world.specs.declared.any_node.AnyNode.TheVariants as any
-use Rattle.delta_feed.specs.Transition.{pushed}
+use Rattle.delta_feed.specs.Transition.{feed_push}
 use Rattle.log_owner.specs.Opening.{attempt_of}
 use Rattle.node_base.specs.Nodes.{has_node, peers_of}
 use Rattle.node_base.specs.Room.{has_room}
 use Rattle.node_base.specs.Setups.{IsSetup}
 use Rattle.quiet_flow.specs.Flow.{Stage, begins, one_more, stepped, turned}
-use Rattle.slot_beliefs.specs.Beliefs.{held_by, holder}
+use Rattle.slot_beliefs.specs.Beliefs.{beliefs_hold, holder}
 use Rattle.slot_beliefs.specs.Recalls.{applied_of, stamp}
 use Rattle.token_client.proofs.Tables.{held_of-put_itself}
 use Rattle.token_client.specs.declared.held.Held.{Held}
 use Rattle.token_client.specs.declared.held.Wanted.{Wanted}
-use Rattle.token_client.specs.Held.{asked as asked_for, is_answer, must_ask}
+use Rattle.token_client.specs.Held.{held_ask as asked_for, is_answer, must_ask}
 use Rattle.token_client.specs.Repetitions.{repetition}
 use Rattle.token_client.specs.State.{held_of, put_held}
 use Rattle.token_client.specs.Transition.{accepts}
@@ -119,8 +119,8 @@ module _ (setup : Setup) (works : NodeId → List Work) (k : ℕ) (s : Scene) (c
   nothing_new : nat_lt (slice_index p.acked i) p.fed ≡ false
   nothing_new = (let acked = acked_is in let fed = d.fed c next.client.0 next.client.1 in not_lt_test (slice_index p.acked i) p.fed (omega arith))
 
-  pub told : pushed (feed_at p) i ≡ []
-  unfolding pushed
+  pub told : feed_push (feed_at p) i ≡ []
+  unfolding feed_push
   told = rw (lt_test i 8 within, nothing_new) refl
 
   pub must : must_ask h Copy ≡ true
@@ -169,7 +169,7 @@ module _ (setup : Setup) (works : NodeId → List Work) (k : ℕ) (s : Scene) (c
   entry = entry_at z b
 
   abbrev pub z_first : SlotState
-  z_first = record z { beliefs = held_by z.beliefs (holder b c); turn = z.turn + 1 }
+  z_first = record z { beliefs = beliefs_hold z.beliefs (holder b c); turn = z.turn + 1 }
 
   abbrev pub s2 : Scene
   s2 = with_slot s1 i z_first

@@ -1,7 +1,7 @@
 -- A get of a block that isn't held, and that nobody else is believed to hold, wherever the block lies: the manager grants a copy, and the client reads it.
 use Rattle.std.proofs.Common.{◌≡◌, ℕ, ◌+◌, ◌<◌, true, List, [], ◌∷◌, refl, ap, subst, ◌∙◌, arith}
 use Rattle.core_world.specs.declared.any_node.AnyNode.{AnyNode}
-use Rattle.manager_slots.specs.Tokens.{said}
+use Rattle.manager_slots.specs.Tokens.{tokens_say}
 use Rattle.node_base.specs.Nodes.{has_node, peers_of}
 use Rattle.node_base.specs.Setups.{IsSetup}
 use Rattle.quiet_flow.specs.Flow.{Stage}
@@ -89,7 +89,7 @@ module _ (setup : Setup) (works : NodeId → List Work) (ok : IsSetup setup) (k 
   there_test = asking.there_test setup works k s c d few b next asks ok
 
   grants : Moves setup works s1 (want_packet ∷ []) (grant_packet ∷ []) [] s2
-  unfolding said
+  unfolding tokens_say
   grants =
       subst (λ epoch. Moves setup works s1 (want_packet ∷ []) (grant_of setup works c b (stamp epoch (z.turn + 1)) (p.req + 1) j entry ∷ []) [] s2) calm.epoch
       (slot_takes setup works s1 i z_first s2 (Client c) (want_body setup works c p b Copy) (grant_of setup works c b (stamp z.epoch (z.turn + 1)) (p.req + 1) j entry ∷ []) [] [] [] []

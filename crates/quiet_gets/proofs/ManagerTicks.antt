@@ -9,7 +9,7 @@ use Rattle.manager_slots.specs.Takeovers.{asker}
 use Rattle.manager_slots.specs.Tokens as tokens
 use Rattle.manager_serving.specs.Serving as serving
 use Rattle.manager_serving.specs.Checkpoints as checkpoints
-use Rattle.manager_node.specs.Events.{happens, manager_step, on_deliver, on_time}
+use Rattle.manager_node.specs.Events.{happens, manager_step, manager_deliver, on_time}
 use Rattle.wire_msg.specs.declared.packet.Do.TheVariants.{Deliver, Tick}
 use Rattle.manager_slots.specs.declared.slot_phase.SlotPhase.TheVariants as phase
 use Rattle.manager_slots.specs.declared.slot_phase.SlotPhase.{SlotPhase}
@@ -19,7 +19,7 @@ use Rattle.manager_slots.specs.Slots.{managed, epoch_of}
 use Rattle.xfs_base.specs.Steps.{Stepped, saying, steps, still}
 use Rattle.xfs_base.specs.Limits.{all_slots}
 use Rattle.quiet_nodes.proofs.Slots.{get_phase}
-use Rattle.registry.specs.Board.{all_news, slot_news, started as first_board}
+use Rattle.registry.specs.Board.{board_slots, slot_news, board_start as first_board}
 use Rattle.quiet_gets.specs.Passing.{news_to}
 use Rattle.quiet_nodes.proofs.Rooms.{HaveTurns, manager_room}
 use Rattle.quiet_nodes.specs.Scene.{its_groups, manager_at, manager_of_slot, managing_at, phase_at}
@@ -81,7 +81,7 @@ module _ (setup : Setup) (works : NodeId → List Work) (j : ℕ) (slots : ℕ �
 
   module _ (jobs : (i : ℕ) → i < 8 → (slots i).jobs ≡ []) where
     no_recalls : (i : ℕ) → i < 8 → tokens.on_tick (its_phase i) i ≡ still (its_phase i)
-    unfolding tokens.takes
+    unfolding tokens.tokens_take
     no_recalls i within =
         elim (manager_of_slot setup works i == j) as
         (λ t. tokens.on_tick (cond t (managed (slots i)) (phase.Away 1)) i ≡ still (cond t (managed (slots i)) (phase.Away 1))) [
@@ -89,40 +89,40 @@ module _ (setup : Setup) (works : NodeId → List Work) (j : ℕ) (slots : ℕ �
           | false ↦ refl
         ]
 
-    recall_one : (i : ℕ) → i < 8 → table.recalls its_table i ≡ still its_table
-    unfolding table.recalls
+    recall_one : (i : ℕ) → i < 8 → table.slot_table_recall its_table i ≡ still its_table
+    unfolding table.slot_table_recall
     recall_one i within = slot_still (λ p. tokens.on_tick p i) i within (no_recalls i within)
 
     recalls_none : serving.recalls_again (managing_at setup works j slots) ≡ still (managing_at setup works j slots)
     unfolding serving.recalls_again
     recalls_none =
         ap (serving.with_slots (managing_at setup works j slots))
-        (steps_still table.recalls its_table all_slots (eight_all (λ i. table.recalls its_table i ≡ still its_table) recall_one))
+        (steps_still table.slot_table_recall its_table all_slots (eight_all (λ i. table.slot_table_recall its_table i ≡ still its_table) recall_one))
 
-    asks_nothing : (q : Questions) (polls : Bool) (i : ℕ) → takeovers.asks_again (asker (its_phase i) q) i polls ≡ still (asker (its_phase i) q)
-    unfolding takeovers.asks_again takeovers.heard takeovers.says_each
+    asks_nothing : (q : Questions) (polls : Bool) (i : ℕ) → takeovers.takeovers_ask_again (asker (its_phase i) q) i polls ≡ still (asker (its_phase i) q)
+    unfolding takeovers.takeovers_ask_again takeovers.outs_of takeovers.say_each
     asks_nothing q polls i =
         elim (manager_of_slot setup works i == j) as
-        (λ t. takeovers.asks_again (asker (cond t (managed (slots i)) (phase.Away 1)) q) i polls ≡ still (asker (cond t (managed (slots i)) (phase.Away 1)) q))
+        (λ t. takeovers.takeovers_ask_again (asker (cond t (managed (slots i)) (phase.Away 1)) q) i polls ≡ still (asker (cond t (managed (slots i)) (phase.Away 1)) q))
         [ true ↦ refl | false ↦ refl ]
 
-    ask_one : (q : Questions) (polls : Bool) (i : ℕ) → i < 8 → table.asks polls (with_questions q) i ≡ still (with_questions q)
-    unfolding table.asks
-    ask_one q polls i within = taken_still q (λ one. takeovers.asks_again one i polls) i within (asks_nothing q polls i)
+    ask_one : (q : Questions) (polls : Bool) (i : ℕ) → i < 8 → table.slot_table_ask polls (with_questions q) i ≡ still (with_questions q)
+    unfolding table.slot_table_ask
+    ask_one q polls i within = taken_still q (λ one. takeovers.takeovers_ask_again one i polls) i within (asks_nothing q polls i)
 
-    asks_none : (polls : Bool) → serving.asks_again (managing_at setup works j slots) polls ≡ still (managing_at setup works j slots)
-    unfolding serving.asks_again
+    asks_none : (polls : Bool) → serving.serving_ask_again (managing_at setup works j slots) polls ≡ still (managing_at setup works j slots)
+    unfolding serving.serving_ask_again
     asks_none polls =
         ap (serving.with_asker (managing_at setup works j slots))
-        (steps_still (table.asks polls) (with_questions its_questions) all_slots
-        (eight_all (λ i. table.asks polls (with_questions its_questions) i ≡ still (with_questions its_questions)) (ask_one its_questions polls)))
+        (steps_still (table.slot_table_ask polls) (with_questions its_questions) all_slots
+        (eight_all (λ i. table.slot_table_ask polls (with_questions its_questions) i ≡ still (with_questions its_questions)) (ask_one its_questions polls)))
 
-    writes_none : checkpoints.writes (managing_at setup works j slots) log_input.Tick ≡ still (managing_at setup works j slots)
-    unfolding checkpoints.writes checkpoints.log_says_each log.on_tick
+    writes_none : checkpoints.serving_write (managing_at setup works j slots) log_input.Tick ≡ still (managing_at setup works j slots)
+    unfolding checkpoints.serving_write checkpoints.log_says_each log.on_tick
     writes_none = refl
 
-    tells_none : checkpoints.tells_again (managing_at setup works j slots) ≡ still (managing_at setup works j slots)
-    unfolding checkpoints.tells_again
+    tells_none : checkpoints.serving_tell_again (managing_at setup works j slots) ≡ still (managing_at setup works j slots)
+    unfolding checkpoints.serving_tell_again
     tells_none = refl
 
     on_tick_still : serving.on_tick (managing_at setup works j slots) ≡ still (managing_at setup works j slots)
@@ -143,24 +143,24 @@ module _ (setup : Setup) (works : NodeId → List Work) (j : ℕ) (slots : ℕ �
       elim (manager_of_slot setup works i == j) as (λ t. epoch_of (cond t (managed (slots i)) (phase.Away 1)) ≡ 1) [ true ↦ (turns i within).epoch | false ↦ refl ]
 
   hears_nothing : (q : Questions) (i : ℕ) → i < 8 → (slot_news (first_board setup) i).epoch ≡ 1
-      → table.hears_of its_hearer (slot_news (first_board setup) i) (asker (its_phase i) q) ≡ still (asker (its_phase i) q)
-  unfolding table.hears_of
+      → table.hear_of its_hearer (slot_news (first_board setup) i) (asker (its_phase i) q) ≡ still (asker (its_phase i) q)
+  unfolding table.hear_of
   hears_nothing q i within one =
       let not_later : nat_lt (epoch_of (its_phase i)) (slot_news (first_board setup) i).epoch ≡ false
       = ap (λ n. nat_lt n (slot_news (first_board setup) i).epoch) (first_epoch i within) ∙ ap (nat_lt 1) one in
       rw not_later refl
 
   hear_one : (i : ℕ) → i < 8 → (slot_news (first_board setup) i).epoch ≡ 1
-      → table.hears its_hearer (with_questions its_questions) (slot_news (first_board setup) i) ≡ still (with_questions its_questions)
-  unfolding table.hears
+      → table.slot_table_hear its_hearer (with_questions its_questions) (slot_news (first_board setup) i) ≡ still (with_questions its_questions)
+  unfolding table.slot_table_hear
   hear_one i within first =
-      taken_still its_questions (table.hears_of its_hearer (slot_news (first_board setup) i)) i within (hears_nothing its_questions i within first)
+      taken_still its_questions (table.hear_of its_hearer (slot_news (first_board setup) i)) i within (hears_nothing its_questions i within first)
 
-  hears_still : serving.hears (managing_at setup works j slots) setup.clients (news_to setup works (Manager j)) ≡ still (managing_at setup works j slots)
-  unfolding serving.hears serving.on_news serving.hears_slots
+  hears_still : serving.serving_hear (managing_at setup works j slots) setup.clients (news_to setup works (Manager j)) ≡ still (managing_at setup works j slots)
+  unfolding serving.serving_hear serving.on_news serving.hear_slots
   hears_still =
       ap (serving.with_asker (managing_at setup works j slots))
-      (steps_still (table.hears its_hearer) (with_questions its_questions) (all_news (first_board setup)) (
+      (steps_still (table.slot_table_hear its_hearer) (with_questions its_questions) (board_slots (first_board setup)) (
         hear_one 0 (omega arith) refl,
         (
           hear_one 1 (omega arith) refl,
@@ -179,5 +179,5 @@ module _ (setup : Setup) (works : NodeId → List Work) (j : ℕ) (slots : ℕ �
 
   pub manager_news : manager_step (manager_at setup works j slots) (Deliver (news_to setup works (Manager j)))
       ≡ record { node = manager_at setup works j slots; packets = []; acts = [] }
-  unfolding happens on_deliver
+  unfolding happens manager_deliver
   manager_news = rw (manager_room setup works j slots turns, hears_still) refl

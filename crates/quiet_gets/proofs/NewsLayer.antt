@@ -7,7 +7,7 @@ use Rattle.std.specs.List.{AllByRecursion, range_with_len}
 use Rattle.std.specs.Prelude.{filter}
 use Rattle.std.proofs.lemmas.List.FromFn.{length-map-range_with_len}
 use Rattle.quiet_nodes.specs.Scene.{node_at, Scene, serving_at}
-use Rattle.client_running.specs.Running.{runs}
+use Rattle.client_running.specs.Running.{run}
 use Rattle.core_world.specs.AnyNode.{any_step, as_any}
 use Rattle.quiet_flow.proofs.Places.{has_fact}
 use Rattle.quiet_gets.proofs.ClientNews.{news_come}
@@ -29,7 +29,7 @@ use Rattle.xfs_base.specs.declared.setup.Setup.{Setup}
 
 module _ (setup : Setup) (works : NodeId → List Work) (u : Scene) (turns : HaveTurns u.slot)
     (rooms : (e : ℕ) → 1 ≤ e → e ≤ setup.clients → HasRoom setup works e (u.client e))
-    (waits : (e : ℕ) → 1 ≤ e → e ≤ setup.clients → runs (serving_at setup works e (u.client e)) ≡ record { state = serving_at setup works e (u.client e); outs = [] }) where
+    (waits : (e : ℕ) → 1 ≤ e → e ≤ setup.clients → run (serving_at setup works e (u.client e)) ≡ record { state = serving_at setup works e (u.client e); outs = [] }) where
   comes : (name : NodeId) → HasNode setup name
       → any_step (node_at setup works u name) (Deliver (news_to setup works name)) ≡ record { node = node_at setup works u name; packets = []; acts = [] }
   comes (Client e) has = ap (as_any any.Client) (news_come setup works e (u.client e) (rooms e has.0 has.1) (waits e has.0 has.1))
@@ -73,7 +73,7 @@ module _ (setup : Setup) where
 
   pub others_there : AllByRecursion is_there (others (peers_of setup) Registry)
   others_there =
-      some_there (is_other Registry) (nodes.all_nodes (peers_of setup))
+      some_there (is_other Registry) (nodes.peers_all (peers_of setup))
       (both_there (nodes.clients setup.clients) (nodes.managers setup.managers ++ (nodes.servers setup.servers ++ Cleaner ∷ Registry ∷ []))
       (numbered nodes.nth_client setup.clients (in_range setup.clients) 0 setup.clients (omega arith))
       (both_there (nodes.managers setup.managers) (nodes.servers setup.servers ++ Cleaner ∷ Registry ∷ [])

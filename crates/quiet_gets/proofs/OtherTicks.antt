@@ -12,9 +12,9 @@ use Rattle.store_nodes.specs.ServerEvents.{server_step}
 use Rattle.wire_msg.specs.declared.packet.Do.TheVariants.{Deliver, Tick}
 use Rattle.node_base.specs.Nodes.{others, peers_of}
 use Rattle.client_log.specs.Transition as log
-use Rattle.delta_feed.specs.Transition.{pushed}
+use Rattle.delta_feed.specs.Transition.{feed_push}
 use Rattle.wire_msg.specs.declared.body.Body.TheVariants as body
-use Rattle.node_base.specs.Effects.{acts_of, packets_of, sends_to}
+use Rattle.node_base.specs.Effects.{acts_of, packets_of, send_each}
 use Rattle.node_base.specs.declared.effects.Effect.{Effect}
 use Rattle.quiet_gets.specs.Passing.{all_news, first_news, news_to}
 use Rattle.quiet_nodes.specs.Scene.{server_at}
@@ -41,21 +41,21 @@ module _ (setup : Setup) (works : NodeId → List Work) where
   -- ---- the cleaner
 
   pub cleaner_ticks : cleaner_step (cleaner_start setup (works Cleaner)) Tick ≡ record { node = cleaner_start setup (works Cleaner); packets = []; acts = [] }
-  unfolding cleaner.on_time emptying.on_tick jobs.cleans jobs.job_takes emptying.writes log.on_tick pushed
+  unfolding cleaner.on_time emptying.on_tick jobs.emptying_clean jobs.emptying_take emptying.emptying_write log.on_tick feed_push
   cleaner_ticks = refl
 
   pub cleaner_news : cleaner_step (cleaner_start setup (works Cleaner)) (Deliver (news_to setup works Cleaner))
       ≡ record { node = cleaner_start setup (works Cleaner); packets = []; acts = [] }
-  unfolding cleaner.on_deliver cleaner.hears emptying.on_packet emptying.takes_news emptying.hears_slots emptying.hears_slot
+  unfolding cleaner.on_deliver cleaner.cleaner_hear emptying.on_packet emptying.take_news emptying.hear_slots emptying.hear_slot
   cleaner_news = refl
 
   -- ---- the registry
 
-  sent_to : (names : List NodeId) → packets_of Registry (sends_to names (body.MapNews (first_news setup works))) ≡ map (news_to setup works) names
+  sent_to : (names : List NodeId) → packets_of Registry (send_each names (body.MapNews (first_news setup works))) ≡ map (news_to setup works) names
   sent_to [] = refl
   sent_to (name ∷ names) = ap (λ ps. news_to setup works name ∷ ps) (sent_to names)
 
-  none_acted : (names : List NodeId) → acts_of Registry (sends_to names (body.MapNews (first_news setup works))) ≡ []
+  none_acted : (names : List NodeId) → acts_of Registry (send_each names (body.MapNews (first_news setup works))) ≡ []
   none_acted [] = refl
   none_acted (name ∷ names) = none_acted names
 
@@ -66,7 +66,7 @@ module _ (setup : Setup) (works : NodeId → List Work) where
       ∙ ap (λ as_. record { node = registry_start setup (works Registry); packets = all_news setup works; acts = as_ }) (none_acted (others (peers_of setup) Registry))
     where
       said : List Effect
-      said = sends_to (others (peers_of setup) Registry) (body.MapNews (first_news setup works))
+      said = send_each (others (peers_of setup) Registry) (body.MapNews (first_news setup works))
 
   pub registry_news : registry_step (registry_start setup (works Registry)) (Deliver (news_to setup works Registry))
       ≡ record { node = registry_start setup (works Registry); packets = []; acts = [] }

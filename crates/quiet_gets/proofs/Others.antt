@@ -5,7 +5,7 @@ use Rattle.std.specs.BTreeMap.{insert_entry}
 use Rattle.std.specs.List.{AllByRecursion}
 use Rattle.quiet_nodes.proofs.Tests.{same_test}
 use Rattle.slot_beliefs.proofs.Shares.{belief, holder_cmp_exact}
-use Rattle.slot_beliefs.specs.Beliefs.{held_by, holder, holder_cmp, others}
+use Rattle.slot_beliefs.specs.Beliefs.{beliefs_hold, holder, holder_cmp, others}
 use Rattle.slot_beliefs.specs.declared.job.Holder.{Holder}
 use Rattle.std.proofs.Common.{All, Bool, List, [], ap, arith, cond, false, is_some, not, refl, subst, sym, true, ℕ, ◌&&◌, ◌==◌, ◌||◌, ◌∙◌, ◌∷◌, ◌≡◌, ◌≤◌}
 use Rattle.std.proofs.lemmas.Bool.Decides.{nat_tests}
@@ -57,7 +57,7 @@ module _ (bs : List (Holder × Bool)) (b : BlockId) (c : ℕ) where
           ∙ ap (λ t. cond (t && not (c == c) && (owns || not owners)) (c ∷ others rest b c owners) (others rest b c owners)) (same_block_itself b)
           ∙ ap (λ t. cond (not t && (owns || not owners)) (c ∷ others rest b c owners) (others rest b c owners)) (same_test c)
 
-  pub others_held : (owners : Bool) → others (held_by bs (holder b c)) b c owners ≡ others bs b c owners
+  pub others_held : (owners : Bool) → others (beliefs_hold bs (holder b c)) b c owners ≡ others bs b c owners
   others_held owners =
       elim (is_some (belief bs (holder b c))) as (λ t. others (cond t bs (insert_entry holder_cmp bs (holder b c) false)) b c owners ≡ others bs b c owners)
       [ true ↦ refl | false ↦ others_inserted owners bs ]

@@ -2,7 +2,7 @@
 -- still the state is drained again.
 use Rattle.std.proofs.Common.{◌≡◌, ℕ, ◌+◌, ◌<◌, ◌≤◌, ◌&&◌, true, false, cond, nat_le, List, [], ◌∷◌, Option, Some, None, refl, sym, ap, subst, ◌∙◌, arith}
 use Rattle.core_world.specs.declared.any_node.AnyNode.{AnyNode}
-use Rattle.manager_slots.specs.Tokens.{said}
+use Rattle.manager_slots.specs.Tokens.{tokens_say}
 use Rattle.node_base.specs.Nodes.{has_node, peers_of}
 use Rattle.node_base.specs.Setups.{IsSetup}
 use Rattle.quiet_flow.specs.Flow.{Stage}
@@ -97,7 +97,7 @@ module _ (setup : Setup) (works : NodeId → List Work) (k : ℕ) (s : Scene) (c
   there_test = asking.there_test setup works k s c d few b next asks ok
 
   pub forwards : Moves setup works s1 (want_packet ∷ []) (forward_packet ∷ []) [] s2
-  unfolding said
+  unfolding tokens_say
   forwards =
       subst (λ epoch. Moves setup works s1 (want_packet ∷ []) (forward_to setup works e b (stamp epoch first_turn) c req entry.ver ∷ []) [] s2) calm.epoch
       (slot_takes setup works s1 i z_first s2 (Client c) (want_body setup works c p b Copy) (forward_to setup works e b (stamp z.epoch first_turn) c req entry.ver ∷ []) [] [] [] []

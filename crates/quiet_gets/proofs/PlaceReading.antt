@@ -9,7 +9,7 @@ use Rattle.quiet_reads.proofs.FragmentLayer as fragments
 use Rattle.log_owner.specs.Sending.{fetch as send_fetch}
 use Rattle.quiet_law.specs.Drained.{IsPlaceReadable, IsReadable}
 use Rattle.client_call.specs.Blocks.{value_of}
-use Rattle.client_call.specs.Calls.{call_for}
+use Rattle.client_call.specs.Calls.{call_new}
 use Rattle.client_call.specs.Reads.{target_of}
 use Rattle.client_call.specs.declared.call.Plan.TheVariants.{One}
 use Rattle.client_node.specs.Room.{asked_again, open_block}
@@ -18,11 +18,11 @@ use Rattle.group_map.specs.Groups.{group_of}
 use Rattle.group_map.specs.declared.group.Group.{Group}
 use Rattle.group_map.specs.declared.group.Member.{Member}
 use Rattle.log_flight.specs.Flights.{no_member}
-use Rattle.log_flight.specs.Fragments.{piece}
+use Rattle.log_flight.specs.Fragments.{flight_fragment}
 use Rattle.log_owner.specs.Opening.{attempt_of}
 use Rattle.node_base.specs.Effects.{acts_of, packets_of}
-use Rattle.node_base.specs.Known.{knows_meta, knows_place}
-use Rattle.node_base.specs.Maps.{at_start, knows_prior}
+use Rattle.node_base.specs.Known.{knows_meta, knows_entry}
+use Rattle.node_base.specs.Maps.{maps_start, knows_prior}
 use Rattle.node_base.specs.Nodes.{has_node, peers_of}
 use Rattle.node_base.specs.Room.{has_room}
 use Rattle.node_base.specs.Setups.{IsSetup}
@@ -53,7 +53,7 @@ use Rattle.std.proofs.Common.{List, None, Option, Some, [], ap, append-nil, appe
 use Rattle.std.specs.List.{AllByRecursion}
 use Rattle.stripe_code.specs.Stripe.{IsCut}
 use Rattle.token_client.proofs.Tables.{held_of-put_itself}
-use Rattle.token_client.specs.Held.{fetched_from, must_ask}
+use Rattle.token_client.specs.Held.{fetch_from, must_ask}
 use Rattle.token_client.specs.Repetitions.{repetition}
 use Rattle.token_client.specs.State.{held_of, put_held}
 use Rattle.token_client.specs.declared.held.Fetch.{Fetch}
@@ -75,7 +75,7 @@ use Rattle.xfs_base.specs.declared.setup.Setup.{Setup}
 use Rattle.xfs_base.specs.declared.token.Stamp.{Stamp}
 
 module _ (setup : Setup) (works : NodeId → List Work) (ok : IsSetup setup) (s base : Scene) (same_held : (v : ℕ) → base.held v ≡ s.held v) (c : ℕ) (p : ClientPart) (b : BlockId)
-    (item ver : ℕ) (stamp : Stamp) (its_call : p.call ≡ Some (call_for One (Get b))) (its_item : p.item ≡ Some item) (flight : p.flight ≡ None)
+    (item ver : ℕ) (stamp : Stamp) (its_call : p.call ≡ Some (call_new One (Get b))) (its_item : p.item ≡ Some item) (flight : p.flight ≡ None)
     (ungiven : (held_of p.blocks b).giving ≡ None) (req : ℕ) (accepted : accepts (tokens_at setup works p) b stamp 1 req Copy ≡ true)
     (h : HasRoom setup works c p) (more : nat_lt p.asked u32_end ≡ true) (more_room : has_room (p.asked + 1) ≡ true)
     (its : has_node (peers_of setup) (Client c) ≡ true) (j hop : ℕ) (there : has_node (peers_of setup) (Manager j) ≡ true) (place : Place)
@@ -107,7 +107,7 @@ module _ (setup : Setup) (works : NodeId → List Work) (ok : IsSetup setup) (s 
   -- ---- each member is asked for its fragment
 
   abbrev fetching : Held
-  fetching = fetched_from (held_of p.blocks b) stamp ver place
+  fetching = fetch_from (held_of p.blocks b) stamp ver place
 
   -- the client but for its call
   abbrev waiting : ClientPart
@@ -149,7 +149,7 @@ module _ (setup : Setup) (works : NodeId → List Work) (ok : IsSetup setup) (s 
   acts_none [] = refl
   acts_none (m ∷ ms) = acts_none ms
 
-  place_known : knows_place (at_start (its_groups setup works)) (Some place) ≡ true
+  place_known : knows_entry (maps_start (its_groups setup works)) (Some place) ≡ true
   place_known = ap is_some known
 
   asks_all : Moves setup works s1 (full_packet ∷ []) fetches [] s2
@@ -176,7 +176,7 @@ module _ (setup : Setup) (works : NodeId → List Work) (ok : IsSetup setup) (s 
   hold_from before (m ∷ ms) is there_ms at at_is = (
     record {
       there = there_ms.0;
-      held = subst (λ n. held_at (s2.held m.server) place.seg.name ≡ Some (piece segment group n)) (sym at_is)
+      held = subst (λ n. held_at (s2.held m.server) place.seg.name ≡ Some (flight_fragment segment group n)) (sym at_is)
           (ap (λ fs. held_at fs place.seg.name) (same_held m.server)
           ∙ ap (λ (x : Member). held_at (s.held x.server) place.seg.name) (sym (member_at before ms m is)) ∙ readable.held (length before) (within_members before ms m is));
     },
@@ -211,8 +211,8 @@ module _ (setup : Setup) (works : NodeId → List Work) (ok : IsSetup setup) (s 
     apart = all_apart setup works ok place.seg.group group known;
     cut = cut;
     of_log = λ at. ap is_meta (meta_is segment group at) ∙ ap is_name named ∙ readable.of_log;
-    known = λ at. ap (knows_meta (at_start (its_groups setup works))) (meta_is segment group at)
-        ∙ ap (λ o. is_some o && knows_prior (at_start (its_groups setup works)) segment.prior) readable.known
+    known = λ at. ap (knows_meta (maps_start (its_groups setup works))) (meta_is segment group at)
+        ∙ ap (λ o. is_some o && knows_prior (maps_start (its_groups setup works)) segment.prior) readable.known
         ∙ readable.prior;
   }
 
@@ -272,7 +272,7 @@ module _ (setup : Setup) (works : NodeId → List Work) (ok : IsSetup setup) (s 
       founds_are : (ms : List Member) (at : ℕ) → founds_from setup works c ask segment group ms at ≡ founds_by setup works c ask place.seg.name segment group ms at
       founds_are [] at = refl
       founds_are (m ∷ ms) at =
-          ap (λ packets. record { from = Server m.server; to = Client c; clock = 0; body = found_body ask (piece segment group at) } ∷ packets) (founds_are ms (at + 1))
+          ap (λ packets. record { from = Server m.server; to = Client c; clock = 0; body = found_body ask (flight_fragment segment group at) } ∷ packets) (founds_are ms (at + 1))
 
   fetches_long : (ms : List Member) → length (fetches_to setup works c ask place.seg.name segment group ms) ≡ length ms
   fetches_long [] = refl
@@ -341,7 +341,7 @@ module _ (setup : Setup) (works : NodeId → List Work) where
   }
 
   module _ (ok : IsSetup setup) (s base : Scene) (same_held : (v : ℕ) → base.held v ≡ s.held v) (c : ℕ) (p : ClientPart) (b : BlockId) (item ver : ℕ) (stamp : Stamp)
-      (its_call : p.call ≡ Some (call_for One (Get b))) (its_item : p.item ≡ Some item) (flight : p.flight ≡ None) (ungiven : (held_of p.blocks b).giving ≡ None) (req : ℕ)
+      (its_call : p.call ≡ Some (call_new One (Get b))) (its_item : p.item ≡ Some item) (flight : p.flight ≡ None) (ungiven : (held_of p.blocks b).giving ≡ None) (req : ℕ)
       (accepted : accepts (tokens_at setup works p) b stamp 1 req Copy ≡ true) (h : HasRoom setup works c p) (more : nat_lt p.asked u32_end ≡ true)
       (more_room : has_room (p.asked + 1) ≡ true) (its : has_node (peers_of setup) (Client c) ≡ true) (j hop : ℕ) (there : has_node (peers_of setup) (Manager j) ≡ true) where
     pub granted_reads : (o : Option Place) → IsPlaceReadable setup works s b o

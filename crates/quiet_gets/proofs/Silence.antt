@@ -1,6 +1,6 @@
 -- A client that is idle in a drained state has nothing to say again.
 use Rattle.delta_feed.specs.FeedState.{acked_of}
-use Rattle.delta_feed.specs.Transition.{pushed}
+use Rattle.delta_feed.specs.Transition.{feed_push}
 use Rattle.quiet_gets.proofs.Wants.{NoWants, no_wants}
 use Rattle.quiet_gets.specs.Passing.{AreInOrder, IsSilent}
 use Rattle.quiet_law.proofs.Keeping.{idle_room}
@@ -14,8 +14,8 @@ use Rattle.xfs_base.specs.declared.node.NodeId.{NodeId}
 use Rattle.xfs_base.specs.declared.setup.Setup.{Setup}
 
 -- nothing new is told to a slot
-pub nothing_told : (p : ClientPart) (m : ℕ) → m < 8 → acked_of (feed_at p) m ≡ p.end.seq → p.fed ≡ p.end.seq → pushed (feed_at p) m ≡ []
-unfolding pushed
+pub nothing_told : (p : ClientPart) (m : ℕ) → m < 8 → acked_of (feed_at p) m ≡ p.end.seq → p.fed ≡ p.end.seq → feed_push (feed_at p) m ≡ []
+unfolding feed_push
 nothing_told p m inside acked fed = rw (inside_test, nothing_new) refl
   where
     inside_test : nat_lt m 8 ≡ true
@@ -29,7 +29,7 @@ nothing_told p m inside acked fed = rw (inside_test, nothing_new) refl
 
 module _ (setup : Setup) (works : NodeId → List Work) (k : ℕ) (s : Scene) (few : k < most_steps) (d : Drained setup works k s) (order : AreInOrder setup works s) (e : ℕ) (least : 1 ≤ e)
     (most : e ≤ setup.clients) where
-  pub no_new_deltas : (m : ℕ) → m < 8 → pushed (feed_at (s.client e)) m ≡ []
+  pub no_new_deltas : (m : ℕ) → m < 8 → feed_push (feed_at (s.client e)) m ≡ []
   no_new_deltas m inside = nothing_told (s.client e) m inside (d.square e m least most inside).acked (d.fed e least most)
 
   pub no_want_there : NoWants (s.client e).blocks

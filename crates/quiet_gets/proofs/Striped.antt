@@ -4,7 +4,7 @@ use Rattle.std.specs.Prelude.{find, nat_eq}
 use Rattle.std.specs.List.{AllByRecursion, IsDistinct}
 use Rattle.std.proofs.lemmas.Bool.Decides.{nat_tests}
 use Rattle.std.proofs.lemmas.List.Elements.{All-head, All-tail}
-use Rattle.group_map.proofs.WellFormedMaps.{IsGroupMap-started}
+use Rattle.group_map.proofs.WellFormedMaps.{IsGroupMap-group_map_start}
 use Rattle.group_map.specs.declared.group.Group.{Group}
 use Rattle.group_map.specs.declared.group.Member.{Member}
 use Rattle.group_map.specs.GroupMapState.{GroupMapState}
@@ -34,7 +34,7 @@ module _ (setup : Setup) (works : NodeId → List Work) (ok : IsSetup setup) (id
   groups = its_groups setup works
 
   well_formed : IsGroupMap groups
-  well_formed = IsGroupMap-started setup.servers setup.groups ok.count.0 (let few = ok.count.1 in omega arith) ok.sizes ok.exist ok.differ ok.parity
+  well_formed = IsGroupMap-group_map_start setup.servers setup.groups ok.count.0 (let few = ok.count.1 in omega arith) ok.sizes ok.exist ok.differ ok.parity
 
   stripe : IsStripe setup.servers group.parity group.members
   stripe = found_is (λ (g : Group). IsStripe setup.servers g.parity g.members) (λ (g : Group). g.id == id) groups.groups group well_formed.stripes is

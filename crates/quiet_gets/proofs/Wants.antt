@@ -1,5 +1,5 @@
 -- Which blocks a client wants: none where none of its entries has a want, and the one that is asked for then.
-use Rattle.token_client.specs.Transition.{is_spent, wanted_in}
+use Rattle.token_client.specs.Transition.{is_spent, wanted_blocks}
 use Rattle.std.specs.declared.cmp.Ordering.TheVariants.{Less, Equal, Greater}
 use Rattle.std.specs.Map.{keys_of, remove_entry, values_of}
 use Rattle.std.specs.BTreeMap.{insert_entry, is_at}
@@ -19,7 +19,7 @@ use Rattle.xfs_base.specs.declared.block.BlockId.{BlockId}
 abbrev pub NoWants : List (BlockId × Held) → Type 0
 NoWants es = AllByRecursion (λ (x : BlockId × Held). x.1.want ≡ None) es
 
-pub none_wanted : (es : List (BlockId × Held)) → NoWants es → wanted_in es ≡ []
+pub none_wanted : (es : List (BlockId × Held)) → NoWants es → wanted_blocks es ≡ []
 none_wanted [] none = refl
 none_wanted (e ∷ es) none = ap (λ o. keys_of (cond (is_some o) (e ∷ filter (λ (x : BlockId × Held). is_some x.1.want) es) (filter (λ (x : BlockId × Held). is_some x.1.want) es))) none.0 ∙ none_wanted es none.1
 
@@ -82,7 +82,7 @@ module _ (b : BlockId) (h : Held) (w : Wanted) (wanted : h.want ≡ Some w) wher
   removed_none test (e ∷ es) none =
       elim (test e.0) as (λ t. NoWants (cond t es (e ∷ remove_entry test es))) [ true ↦ none.1 | false ↦ (none.0, removed_none test es none.1) ]
 
-  pub one_wanted : (es : List (BlockId × Held)) → NoWants es → wanted_in (put_held es b h) ≡ b ∷ []
+  pub one_wanted : (es : List (BlockId × Held)) → NoWants es → wanted_blocks (put_held es b h) ≡ b ∷ []
   one_wanted es none = one_inserted (remove_entry (is_at (block_cmp b)) es) (removed_none (is_at (block_cmp b)) es none)
 
   pub one_unspent : (es : List (BlockId × Held)) → NoWants es → is_spent (Some w) ≡ false → list_any spent_one (values_of (put_held es b h)) ≡ false

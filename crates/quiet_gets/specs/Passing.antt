@@ -2,22 +2,22 @@
 use Rattle.std.specs.Prelude.{◌≡◌, ◌<◌, ◌≤◌, ℕ, true, false, List, [], ◌∷◌, map, Some, None}
 use Rattle.std.specs.List.{AllByRecursion, list_any}
 use Rattle.std.specs.Map.{values_of}
-use Rattle.client_call.specs.Calls.{call_for}
+use Rattle.client_call.specs.Calls.{call_new}
 use Rattle.client_call.specs.declared.call.Plan.TheVariants.{One}
 use Rattle.core_world.specs.AnyNode.{any_step}
 use Rattle.core_world.specs.declared.any_node.AnyNode.{AnyNode}
-use Rattle.delta_feed.specs.Transition.{pushed}
+use Rattle.delta_feed.specs.Transition.{feed_push}
 use Rattle.file_plan.specs.declared.block_call.BlockCall.TheVariants.{Get}
 use Rattle.node_base.specs.Nodes.{others, peers_of}
 use Rattle.quiet_flow.specs.Flow.{Stage, ticks}
-use Rattle.registry.specs.Board.{started as first_board}
+use Rattle.registry.specs.Board.{board_start as first_board}
 use Rattle.registry_node.specs.Events.{news_of}
 use Rattle.token_client.proofs.Tables.{InOrder}
 use Rattle.token_client.specs.declared.held.Held.{Held}
 use Rattle.token_client.specs.declared.held.Wanted.{Wanted}
 use Rattle.token_client.specs.Held.{asked_again}
 use Rattle.token_client.specs.State.{held_of, put_held}
-use Rattle.token_client.specs.Transition.{is_spent, wanted_in}
+use Rattle.token_client.specs.Transition.{is_spent, wanted_blocks}
 use Rattle.version_model.specs.declared.work.Work.{Work}
 use Rattle.wire_msg.specs.declared.body.Body.TheVariants as body
 use Rattle.wire_msg.specs.declared.packet.Packet.{Packet}
@@ -59,7 +59,7 @@ module _ (setup : Setup) (works : NodeId → List Work) where
     pub call : p.call ≡ None
     pub flight : p.flight ≡ None
     pub wants : AllByRecursion (λ (x : BlockId × Held). x.1.want ≡ None) p.blocks
-    pub told : (i : ℕ) → i < 8 → pushed (feed_at p) i ≡ []
+    pub told : (i : ℕ) → i < 8 → feed_push (feed_at p) i ≡ []
     pub room : HasRoom setup works e p
 
   -- a want of a copy that was sent once
@@ -68,13 +68,13 @@ module _ (setup : Setup) (works : NodeId → List Work) where
 
   -- a client whose get of a block waits for an answer to its want, which it has sent once
   pub record IsAsking (c : ℕ) (p : ClientPart) (b : BlockId) (req : ℕ) : Type 0 where
-    pub call : p.call ≡ Some (call_for One (Get b))
+    pub call : p.call ≡ Some (call_new One (Get b))
     pub flight : p.flight ≡ None
     pub nothing : is_nothing (held_of p.blocks b).mode ≡ true
     pub want : (held_of p.blocks b).want ≡ Some (first_want req)
-    pub alone : wanted_in p.blocks ≡ b ∷ []
+    pub alone : wanted_blocks p.blocks ≡ b ∷ []
     pub unspent : list_any (λ (h : Held). is_spent h.want) (values_of p.blocks) ≡ false
-    pub told : (i : ℕ) → i < 8 → pushed (feed_at p) i ≡ []
+    pub told : (i : ℕ) → i < 8 → feed_push (feed_at p) i ≡ []
     pub room : HasRoom setup works c p
 
   -- it has sent the want once more

@@ -7,7 +7,7 @@ use Rattle.std.specs.BTreeMap.{is_at}
 use Rattle.std.specs.Map.{remove_entry, set_value}
 use Rattle.std.specs.Ordering.{eq_by_cmp}
 use Rattle.slot_beliefs.proofs.Shares.{belief, disowned, forgotten, holder_cmp_exact, holder_laws, less}
-use Rattle.slot_beliefs.specs.Beliefs.{given_up, holder, holder_cmp, others, share, share_of}
+use Rattle.slot_beliefs.specs.Beliefs.{give_way, holder, holder_cmp, others, share, share_of}
 use Rattle.slot_beliefs.specs.declared.job.Holder.{Holder}
 use Rattle.token_manager.specs.Laws.{OwnsAlone}
 use Rattle.xfs_base.proofs.BlockOrder.{same_block_exact, same_block_itself}
@@ -111,7 +111,7 @@ module _ (b : BlockId) (c o : ℕ) (differ : o ≡ c → ⊥) where
           ] refl is
 
   abbrev given : List (Holder × Bool) → Bool → List (Holder × Bool)
-  given bs keep = given_up bs its keep
+  given bs keep = give_way bs its keep
 
   -- nobody has to give way then
   pub none_left : (bs : List (Holder × Bool)) (own : Bool) → belief bs its ≡ Some true → others bs b c (not own) ≡ o ∷ [] → others (given bs (not own)) b c (not own) ≡ []
@@ -127,9 +127,9 @@ owner_is (Some true) h = refl
 owner_is (Some false) h = absurd (omega (arith, h))
 
 module _ (bs : List (Holder × Bool)) (h : Holder) (ordered : IsInOrder bs) where
-  pub given_alone : (keep : Bool) → OwnsAlone bs → OwnsAlone (given_up bs h keep)
+  pub given_alone : (keep : Bool) → OwnsAlone bs → OwnsAlone (give_way bs h keep)
   given_alone keep alone x d e differs =
-      both (share_of (given_up bs h keep) x d) (share_of (given_up bs h keep) x e) (share_of bs x d) (share_of bs x e) (less bs h (holder x d) keep ordered)
+      both (share_of (give_way bs h keep) x d) (share_of (give_way bs h keep) x e) (share_of bs x d) (share_of bs x e) (less bs h (holder x d) keep ordered)
       (less bs h (holder x e) keep ordered) (alone x d e differs)
     where
       both : (m n m' n' : ℕ) → m ≤ m' → n ≤ n' → m' + n' ≤ 2 → m + n ≤ 2
@@ -143,7 +143,7 @@ module _ (bs : List (Holder × Bool)) (h : Holder) (ordered : IsInOrder bs) wher
       ] refl
 
   -- of any other block and client all is as it was
-  pub given_else : (keep : Bool) (x : Holder) → (x ≡ h → ⊥) → share (belief (given_up bs h keep) x) ≡ share (belief bs x)
+  pub given_else : (keep : Bool) (x : Holder) → (x ≡ h → ⊥) → share (belief (give_way bs h keep) x) ≡ share (belief bs x)
   given_else true x differs =
       elim (is_some (belief bs h)) as (λ t. is_some (belief bs h) ≡ t → share (belief (cond t (set_value (is_at (holder_cmp h)) bs false) bs) x) ≡ share (belief bs x)) [
         | true ↦ λ some. ap share (disowned bs h x some ∙ ap (λ t. cond t (Some false) (belief bs x)) (apart_test x differs))
@@ -152,7 +152,7 @@ module _ (bs : List (Holder × Bool)) (h : Holder) (ordered : IsInOrder bs) wher
   given_else false x differs = ap share (forgotten bs h x ordered ∙ ap (λ t. cond t None (belief bs x)) (apart_test x differs))
 
   -- an owner that may keep a copy is believed to have one
-  pub given_copy : belief bs h ≡ Some true → share (belief (given_up bs h true) h) ≡ 1
+  pub given_copy : belief bs h ≡ Some true → share (belief (give_way bs h true) h) ≡ 1
   given_copy owns =
       ap (λ (x : Option Bool). share (belief (cond (is_some x) (set_value (is_at (holder_cmp h)) bs false) bs) h)) owns
       ∙ ap share (disowned bs h h (ap is_some owns) ∙ ap (λ t. cond t (Some false) (belief bs h)) (holder_laws.refl h))
@@ -178,7 +178,7 @@ module _ (P : Holder → Type 0) (h : Holder) where
         | false ↦ All-cons Of e (set_value (is_at (holder_cmp h)) es false) (All-head Of e es all) (all_lowered es (All-tail Of e es all))
       ]
 
-  pub all_given : (bs : List (Holder × Bool)) (keep : Bool) → All Of bs → All Of (given_up bs h keep)
+  pub all_given : (bs : List (Holder × Bool)) (keep : Bool) → All Of bs → All Of (give_way bs h keep)
   all_given bs true all =
       elim (is_some (belief bs h)) as (λ t. All Of (cond t (set_value (is_at (holder_cmp h)) bs false) bs)) [ true ↦ all_lowered bs all | false ↦ all ]
   all_given bs false all = all_removed bs all

@@ -7,20 +7,20 @@ use Rattle.std.specs.BTreeMap.{insert_entry}
 use Rattle.std.specs.Ordering.{is_eq, match_ordering}
 use Rattle.std.proofs.lemmas.Cmp.{tied_itself}
 use Rattle.manager_node.specs.declared.phase.Phase.TheVariants as managing
-use Rattle.manager_node.specs.Events.{manager_step, on_deliver}
+use Rattle.manager_node.specs.Events.{manager_step, manager_deliver}
 use Rattle.manager_node.specs.Phases.{phase_has_room, serves}
 use Rattle.manager_slots.specs.Slots.{managed}
 use Rattle.manager_slots.specs.SlotTable as table
 use Rattle.manager_slots.specs.SlotTable.{at_slot}
 use Rattle.manager_slots.specs.Tokens as tokens
-use Rattle.manager_slots.specs.Tokens.{said}
+use Rattle.manager_slots.specs.Tokens.{tokens_say}
 use Rattle.manager_serving.specs.declared.serving.Serving.{Serving}
 use Rattle.manager_serving.specs.Serving as serving
 use Rattle.manager_serving.specs.Serving.{with_slots}
 use Rattle.node_base.specs.Effects.{acts_of, packets_of}
 use Rattle.node_base.specs.Nodes.{has_node, peers_of}
 use Rattle.node_base.specs.Shape.{is_well_formed}
-use Rattle.slot_beliefs.specs.Beliefs.{given_up, holder}
+use Rattle.slot_beliefs.specs.Beliefs.{give_way, holder}
 use Rattle.slot_beliefs.specs.declared.job.Awaited.{Awaited}
 use Rattle.slot_beliefs.specs.declared.job.Holder.{Holder}
 use Rattle.slot_beliefs.specs.declared.job.Wanted.{Wanted}
@@ -29,7 +29,7 @@ use Rattle.slot_beliefs.specs.Recalls.{answers, is_ready, job_at, noted, without
 use Rattle.token_manager.specs.declared.input.In.TheVariants as input
 use Rattle.token_manager.specs.declared.output.Out.{Out}
 use Rattle.token_manager.specs.SlotState.{SlotState}
-use Rattle.token_manager.specs.Transition.{finished, gave_job, gave_last, gave_noted, gave_one, given, has_turns, transition}
+use Rattle.token_manager.specs.Transition.{slot_finish, gave_job, gave_last, gave_noted, gave_one, given, has_turns, transition}
 use Rattle.version_model.specs.declared.work.Work.{Work}
 use Rattle.wire_msg.specs.declared.body.Body.TheVariants as body
 use Rattle.wire_msg.specs.declared.packet.Do.TheVariants.{Deliver}
@@ -62,7 +62,7 @@ module _ (z : SlotState) (want : Wanted) (awaited : List Awaited) (beliefs : Lis
 
   -- what is believed then
   abbrev pub given_then : List (Holder × Bool)
-  given_then = given_up beliefs (holder want.block d) (not (is_own want.mode))
+  given_then = give_way beliefs (holder want.block d) (not (is_own want.mode))
 
   abbrev waits : List Awaited → Job
   waits xs = record { want = want; awaited = xs }
@@ -92,13 +92,13 @@ module _ (z : SlotState) (want : Wanted) (awaited : List Awaited) (beliefs : Lis
   abbrev pub answering : SlotState
   answering = record z { beliefs = given_then; jobs = [] }
 
-  pub last_gave : is_ready z.applied after ≡ true → has_turns z.turn 1 ≡ true → transition now (input.Gave d want.block st end) ≡ finished answering want
+  pub last_gave : is_ready z.applied after ≡ true → has_turns z.turn 1 ≡ true → transition now (input.Gave d want.block st end) ≡ slot_finish answering want
   unfolding gave_noted
   last_gave all room =
       its_job
       ∙ ap (λ t. cond t (gave_last now d want.block want) (still (gave_one now d want.block want after))) all
-      ∙ ap (λ t. cond t (finished (record (given now want d want.block) { jobs = without_job now.jobs want.block }) want) (still now)) room
-      ∙ ap (λ js. finished (record (given now want d want.block) { jobs = js }) want) gone
+      ∙ ap (λ t. cond t (slot_finish (record (given now want d want.block) { jobs = without_job now.jobs want.block }) want) (still now)) room
+      ∙ ap (λ js. slot_finish (record (given now want d want.block) { jobs = js }) want) gone
 
 -- ---- its manager
 
@@ -117,20 +117,20 @@ module _ (setup : Setup) (works : NodeId → List Work) (j c clock : ℕ) (slots
   well_formed : is_well_formed (peers_of setup) packet ≡ true
   well_formed = ap (λ t. t && true) there
 
-  deliver_is : on_deliver (peers_of setup) (managing.Serving serves_now) packet
+  deliver_is : manager_deliver (peers_of setup) (managing.Serving serves_now) packet
       ≡ serves (with_slots serves_now (at_slot serves_now.slots i (λ p. tokens.on_gave p c m)))
-  unfolding on_deliver serving.hears serving.on_gave table.on_gave
-  deliver_is = ap (λ t. cond t (serves (serving.hears serves_now setup.clients packet)) (still (managing.Serving serves_now))) well_formed
+  unfolding manager_deliver serving.serving_hear serving.on_gave table.on_gave
+  deliver_is = ap (λ t. cond t (serves (serving.serving_hear serves_now setup.clients packet)) (still (managing.Serving serves_now))) well_formed
 
   module _ (z : SlotState) (outs : List Out) (is : transition (slots i) (input.Gave c m.block m.stamp m.end) ≡ record { state = z; outs = outs }) where
-    slot_is : tokens.on_gave (managed (slots i)) c m ≡ record { state = managed z; outs = flat_map (said i (slots i).epoch) outs }
-    unfolding tokens.takes
-    slot_is = ap (λ (d : Stepped SlotState Out). record { state = managed d.state; outs = flat_map (said i (slots i).epoch) d.outs }) is
+    slot_is : tokens.on_gave (managed (slots i)) c m ≡ record { state = managed z; outs = flat_map (tokens_say i (slots i).epoch) outs }
+    unfolding tokens.tokens_take
+    slot_is = ap (λ (d : Stepped SlotState Out). record { state = managed d.state; outs = flat_map (tokens_say i (slots i).epoch) d.outs }) is
 
     pub gave_comes : manager_step (manager_at setup works j slots) (Deliver packet) ≡ record {
       node = manager_at setup works j (put_number slots i z);
-      packets = packets_of (Manager j) (flat_map (said i (slots i).epoch) outs);
-      acts = acts_of (Manager j) (flat_map (said i (slots i).epoch) outs);
+      packets = packets_of (Manager j) (flat_map (tokens_say i (slots i).epoch) outs);
+      acts = acts_of (Manager j) (flat_map (tokens_say i (slots i).epoch) outs);
     }
     gave_comes =
-        slot_comes setup works j i slots within own packet (λ p. tokens.on_gave p c m) z (flat_map (said i (slots i).epoch) outs) has_room deliver_is slot_is
+        slot_comes setup works j i slots within own packet (λ p. tokens.on_gave p c m) z (flat_map (tokens_say i (slots i).epoch) outs) has_room deliver_is slot_is

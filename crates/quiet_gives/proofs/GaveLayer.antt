@@ -4,11 +4,11 @@ use Rattle.std.specs.Prelude.{flat_map}
 use Rattle.std.specs.List.{AllByRecursion}
 use Rattle.manager_node.specs.declared.manager.Manager.{Manager as ManagerNode}
 use Rattle.manager_node.specs.Events.{manager_step}
-use Rattle.manager_slots.specs.Tokens.{said}
+use Rattle.manager_slots.specs.Tokens.{tokens_say}
 use Rattle.node_base.specs.Effects.{acts_of, packets_of}
 use Rattle.node_base.specs.Nodes.{has_node, peers_of}
 use Rattle.quiet_flow.specs.Flow.{unclocked}
-use Rattle.slot_beliefs.specs.Beliefs.{given_up, holder}
+use Rattle.slot_beliefs.specs.Beliefs.{give_way, holder}
 use Rattle.slot_beliefs.specs.declared.job.Awaited.{Awaited}
 use Rattle.slot_beliefs.specs.declared.job.Holder.{Holder}
 use Rattle.slot_beliefs.specs.declared.job.Wanted.{Wanted}
@@ -16,7 +16,7 @@ use Rattle.slot_beliefs.specs.Recalls.{applied_of, is_ready, noted, recalls, sta
 use Rattle.token_manager.specs.declared.input.In.TheVariants as input
 use Rattle.token_manager.specs.declared.output.Out.{Out}
 use Rattle.token_manager.specs.SlotState.{SlotState}
-use Rattle.token_manager.specs.Transition.{Done, answer, finished, has_turns, passers, transition}
+use Rattle.token_manager.specs.Transition.{Done, answer, slot_finish, has_turns, passers, transition}
 use Rattle.version_model.specs.declared.work.Work.{Work}
 use Rattle.wire_msg.specs.declared.body.Body.TheVariants as body
 use Rattle.wire_msg.specs.declared.packet.Do.TheVariants.{Deliver}
@@ -72,14 +72,14 @@ module _ (setup : Setup) (works : NodeId → List Work) (s : Scene) (z : SlotSta
   answering beliefs ds = record z { beliefs = all_given_up b keep beliefs ds; jobs = [] }
 
   abbrev pub answered : List (Holder × Bool) → List ℕ → SlotState
-  answered beliefs ds = (finished (answering beliefs ds) want).state
+  answered beliefs ds = (slot_finish (answering beliefs ds) want).state
 
   -- what is sent then
   abbrev pub answers_sent : List (Holder × Bool) → List ℕ → List Packet
-  answers_sent beliefs ds = map unclocked (packets_of (Manager j) (flat_map (said i z.epoch) (finished (answering beliefs ds) want).outs))
+  answers_sent beliefs ds = map unclocked (packets_of (Manager j) (flat_map (tokens_say i z.epoch) (slot_finish (answering beliefs ds) want).outs))
 
-  no_acts : (e : ℕ) (y : SlotState) (cs : List ℕ) → acts_of (Manager j) (flat_map (said i e) (answer y want cs ∷ [])) ≡ []
-  unfolding said
+  no_acts : (e : ℕ) (y : SlotState) (cs : List ℕ) → acts_of (Manager j) (flat_map (tokens_say i e) (answer y want cs ∷ [])) ≡ []
+  unfolding tokens_say
   no_acts e y [] = refl
   no_acts e y (c ∷ cs) = refl
 
@@ -91,8 +91,8 @@ module _ (setup : Setup) (works : NodeId → List Work) (s : Scene) (z : SlotSta
   abbrev as_step : (ℕ → SlotState) → List Out → ℕ → NodeStep ManagerNode
   as_step slots outs epoch = record {
     node = manager_at setup works j slots;
-    packets = packets_of (Manager j) (flat_map (said i epoch) outs);
-    acts = acts_of (Manager j) (flat_map (said i epoch) outs);
+    packets = packets_of (Manager j) (flat_map (tokens_say i epoch) outs);
+    acts = acts_of (Manager j) (flat_map (tokens_say i epoch) outs);
   }
 
   one_comes : (x y : SlotState) (outs : List Out) (turn d : ℕ) → HasTurns x → has_node (peers_of setup) (Client d) ≡ true
@@ -120,7 +120,7 @@ module _ (setup : Setup) (works : NodeId → List Work) (s : Scene) (z : SlotSta
       (with_slot s i then_))
       (append-nil _ ∙ no_acts z.epoch (answering beliefs (d ∷ [])) (passers (answering beliefs (d ∷ [])) want))
       (slot_takes_again setup works s i now then_ (with_slot s i then_) (Client d) (body.Gave (its_gave turn d)) _ [] [] _ [] managed
-      (one_comes now then_ (finished (answering beliefs (d ∷ [])) want).outs turn d (record { epoch = its_turns.epoch; turn = its_turns.turn }) each.0.there last) (moves_none setup works (with_slot s i then_))))
+      (one_comes now then_ (slot_finish (answering beliefs (d ∷ [])) want).outs turn d (record { epoch = its_turns.epoch; turn = its_turns.turn }) each.0.there last) (moves_none setup works (with_slot s i then_))))
     where
       now : SlotState
       now = awaiting done turn (d ∷ []) beliefs
@@ -133,14 +133,14 @@ module _ (setup : Setup) (works : NodeId → List Work) (s : Scene) (z : SlotSta
           ap (is_ready z.applied) (noted_next z.applied keep turn d (ends d) done [] ready ∙ append-nil (done ++ named z.applied keep turn d (ends d) ∷ []))
           ∙ ready_next z.applied keep turn d (ends d) done ready each.0.upto
 
-      last : transition now (input.Gave d b (stamp 1 (turn + 1)) (ends d)) ≡ finished (answering beliefs (d ∷ [])) want
+      last : transition now (input.Gave d b (stamp 1 (turn + 1)) (ends d)) ≡ slot_finish (answering beliefs (d ∷ [])) want
       last =
           last_gave z want (done ++ recalls 1 turn keep (d ∷ [])) beliefs d (stamp 1 (turn + 1)) (ends d) (answers_one z.applied keep turn d (ends d) done []) all_ready room
   gaves_move (e ∷ es) d turn done beliefs ready each =
       slot_takes_again setup works s i now then_ (with_slot s i (answered beliefs (d ∷ e ∷ es))) (Client d) (body.Gave (its_gave turn d)) []
       (gaves_by setup works b keep ends (turn + 1) (e ∷ es)) (answers_sent beliefs (d ∷ e ∷ es)) [] [] managed
       (one_comes now then_ [] turn d (record { epoch = its_turns.epoch; turn = its_turns.turn }) each.0.there one)
-      (gaves_move es e (turn + 1) (done ++ its_named ∷ []) (given_up beliefs (holder b d) keep) (ready_next z.applied keep turn d (ends d) done ready each.0.upto) each.1)
+      (gaves_move es e (turn + 1) (done ++ its_named ∷ []) (give_way beliefs (holder b d) keep) (ready_next z.applied keep turn d (ends d) done ready each.0.upto) each.1)
     where
       its_named : Awaited
       its_named = named z.applied keep turn d (ends d)
@@ -149,10 +149,10 @@ module _ (setup : Setup) (works : NodeId → List Work) (s : Scene) (z : SlotSta
       now = awaiting done turn (d ∷ e ∷ es) beliefs
 
       then_ : SlotState
-      then_ = awaiting (done ++ its_named ∷ []) (turn + 1) (e ∷ es) (given_up beliefs (holder b d) keep)
+      then_ = awaiting (done ++ its_named ∷ []) (turn + 1) (e ∷ es) (give_way beliefs (holder b d) keep)
 
       still_as : List Awaited → Done
-      still_as awaited = still (waiting_slot z want awaited (given_up beliefs (holder b d) keep))
+      still_as awaited = still (waiting_slot z want awaited (give_way beliefs (holder b d) keep))
 
       noted_is : noted (done ++ recalls 1 turn keep (d ∷ e ∷ es)) d (stamp 1 (turn + 1)) (ends d) ≡ (done ++ its_named ∷ []) ++ recalls 1 (turn + 1) keep (e ∷ es)
       noted_is = noted_next z.applied keep turn d (ends d) done (e ∷ es) ready

@@ -12,9 +12,9 @@ use Rattle.std.proofs.lemmas.Map.Keys.{IsDistinct-from_sorted}
 use Rattle.std.proofs.lemmas.Map.Steps.{length-le_from_distinct_below}
 use Rattle.std.proofs.lemmas.Map.Views.{tells_apart}
 use Rattle.slot_beliefs.proofs.Shares.{belief, disowned, forgotten, holder_cmp_exact, holder_laws, less}
-use Rattle.slot_beliefs.specs.Beliefs.{given_up, holder, holder_cmp, others, share, share_of}
+use Rattle.slot_beliefs.specs.Beliefs.{give_way, holder, holder_cmp, others, share, share_of}
 use Rattle.slot_beliefs.specs.declared.job.Holder.{Holder}
-use Rattle.token_manager.proofs.Guarded.{sorted-given_up}
+use Rattle.token_manager.proofs.Guarded.{sorted-give_way}
 use Rattle.token_manager.specs.Laws.{OwnsAlone}
 use Rattle.xfs_base.proofs.BlockOrder.{same_block_exact, same_block_itself}
 use Rattle.xfs_base.specs.Blocks.{same_block}
@@ -223,7 +223,7 @@ module _ (b : BlockId) (c : ℕ) where
       ] refl
 
   first_gone : (keep : Bool) (bs : List (Holder × Bool)) (d : ℕ) (ds : List ℕ) → IsInOrder bs → others bs b c keep ≡ d ∷ ds
-      → others (given_up bs (holder b d) keep) b c keep ≡ ds
+      → others (give_way bs (holder b d) keep) b c keep ≡ ds
   first_gone true bs d ds sorted is =
       ap (λ t. others (cond t (set_value (is_at (holder_cmp (holder b d))) bs false) bs) b c true) (owner_known bs d ds is)
       ∙ kept_first bs d ds (IsDistinct-from_sorted holder_cmp (keys_of bs) sorted) is
@@ -234,7 +234,7 @@ module _ (b : BlockId) (c : ℕ) where
   pub none_left : (keep : Bool) (bs : List (Holder × Bool)) (ds : List ℕ) → IsInOrder bs → others bs b c keep ≡ ds → others (all_given_up b keep bs ds) b c keep ≡ []
   none_left keep bs [] sorted is = is
   none_left keep bs (d ∷ ds) sorted is =
-      none_left keep (given_up bs (holder b d) keep) ds (sorted-given_up bs (holder b d) keep sorted) (first_gone keep bs d ds sorted is)
+      none_left keep (give_way bs (holder b d) keep) ds (sorted-give_way bs (holder b d) keep sorted) (first_gone keep bs d ds sorted is)
 
   -- with leave to keep copies, they are believed to hold the block still
   set_others : (h : Holder) (bs : List (Holder × Bool)) → others (set_value (is_at (holder_cmp h)) bs false) b c false ≡ others bs b c false
@@ -252,9 +252,9 @@ module _ (b : BlockId) (c : ℕ) where
 
   pub same_holders : (bs : List (Holder × Bool)) (ds : List ℕ) → others (all_given_up b true bs ds) b c false ≡ others bs b c false
   same_holders bs [] = refl
-  same_holders bs (d ∷ ds) = same_holders (given_up bs (holder b d) true) ds ∙ one (holder b d)
+  same_holders bs (d ∷ ds) = same_holders (give_way bs (holder b d) true) ds ∙ one (holder b d)
     where
-      one : (h : Holder) → others (given_up bs h true) b c false ≡ others bs b c false
+      one : (h : Holder) → others (give_way bs h true) b c false ≡ others bs b c false
       one h = elim (is_some (belief bs h)) as (λ t. others (cond t (set_value (is_at (holder_cmp h)) bs false) bs) b c false ≡ others bs b c false) [
         | true ↦ set_others h bs
         | false ↦ refl
@@ -263,13 +263,13 @@ module _ (b : BlockId) (c : ℕ) where
 module _ (b : BlockId) (keep : Bool) where
   pub ordered_given : (bs : List (Holder × Bool)) (ds : List ℕ) → IsInOrder bs → IsInOrder (all_given_up b keep bs ds)
   ordered_given bs [] sorted = sorted
-  ordered_given bs (d ∷ ds) sorted = ordered_given (given_up bs (holder b d) keep) ds (sorted-given_up bs (holder b d) keep sorted)
+  ordered_given bs (d ∷ ds) sorted = ordered_given (give_way bs (holder b d) keep) ds (sorted-give_way bs (holder b d) keep sorted)
 
   -- nobody is believed to have more than before
   pub fewer_given : (bs : List (Holder × Bool)) (ds : List ℕ) → IsInOrder bs → (x : BlockId) (e : ℕ) → share_of (all_given_up b keep bs ds) x e ≤ share_of bs x e
   fewer_given bs [] sorted x e = omega arith
   fewer_given bs (d ∷ ds) sorted x e =
-      (let rest = fewer_given (given_up bs (holder b d) keep) ds (sorted-given_up bs (holder b d) keep sorted) x e in
+      (let rest = fewer_given (give_way bs (holder b d) keep) ds (sorted-give_way bs (holder b d) keep sorted) x e in
       let one = less bs (holder b d) (holder x e) keep sorted in omega arith)
 
   pub alone_given : (bs : List (Holder × Bool)) (ds : List ℕ) → IsInOrder bs → OwnsAlone bs → OwnsAlone (all_given_up b keep bs ds)
@@ -297,19 +297,19 @@ module _ (P : Holder → Type 0) where
           All-cons (λ (x : Holder × Bool). P x.0) (e.0, false) es (All-head (λ (x : Holder × Bool). P x.0) e es all) (All-tail (λ (x : Holder × Bool). P x.0) e es all)
       by_test false rest = All-cons (λ (x : Holder × Bool). P x.0) e (set_value test es false) (All-head (λ (x : Holder × Bool). P x.0) e es all) rest
 
-  one_given : (keep : Bool) (bs : List (Holder × Bool)) (h : Holder) → EachIs bs → EachIs (given_up bs h keep)
+  one_given : (keep : Bool) (bs : List (Holder × Bool)) (h : Holder) → EachIs bs → EachIs (give_way bs h keep)
   one_given true bs h all =
       elim (is_some (belief bs h)) as (λ t. EachIs (cond t (set_value (is_at (holder_cmp h)) bs false) bs)) [ true ↦ all_set (is_at (holder_cmp h)) bs all | false ↦ all ]
   one_given false bs h all = all_removed (is_at (holder_cmp h)) bs all
 
   pub believed_given : (b : BlockId) (keep : Bool) (bs : List (Holder × Bool)) (ds : List ℕ) → EachIs bs → EachIs (all_given_up b keep bs ds)
   believed_given b keep bs [] all = all
-  believed_given b keep bs (d ∷ ds) all = believed_given b keep (given_up bs (holder b d) keep) ds (one_given keep bs (holder b d) all)
+  believed_given b keep bs (d ∷ ds) all = believed_given b keep (give_way bs (holder b d) keep) ds (one_given keep bs (holder b d) all)
 
 -- ---- one belief
 
 -- what is no belief of a giver is as it was
-other_belief : (keep : Bool) (bs : List (Holder × Bool)) (h q : Holder) → IsInOrder bs → (q ≡ h → ⊥) → share (belief (given_up bs h keep) q) ≡ share (belief bs q)
+other_belief : (keep : Bool) (bs : List (Holder × Bool)) (h q : Holder) → IsInOrder bs → (q ≡ h → ⊥) → share (belief (give_way bs h keep) q) ≡ share (belief bs q)
 other_belief true bs h q sorted apart =
     elim (is_some (belief bs h)) as
     (λ t. is_some (belief bs h) ≡ t → share (belief (cond t (set_value (is_at (holder_cmp h)) bs false) bs) q) ≡ share (belief bs q)) [
@@ -322,11 +322,11 @@ pub share_stays : (b : BlockId) (keep : Bool) (bs : List (Holder × Bool)) (ds :
     → AllByRecursion (λ d. holder x e ≡ holder b d → ⊥) ds → share_of (all_given_up b keep bs ds) x e ≡ share_of bs x e
 share_stays b keep bs [] x e sorted apart = refl
 share_stays b keep bs (d ∷ ds) x e sorted apart =
-    share_stays b keep (given_up bs (holder b d) keep) ds x e (sorted-given_up bs (holder b d) keep sorted) apart.1
+    share_stays b keep (give_way bs (holder b d) keep) ds x e (sorted-give_way bs (holder b d) keep sorted) apart.1
     ∙ other_belief keep bs (holder b d) (holder x e) sorted apart.0
 
 -- with leave to keep a copy, who is believed to have something is believed to have that
-still_some : (bs : List (Holder × Bool)) (h q : Holder) → 1 ≤ share (belief bs q) → 1 ≤ share (belief (given_up bs h true) q)
+still_some : (bs : List (Holder × Bool)) (h q : Holder) → 1 ≤ share (belief bs q) → 1 ≤ share (belief (give_way bs h true) q)
 still_some bs h q has =
     elim (is_some (belief bs h)) as (λ t. is_some (belief bs h) ≡ t → 1 ≤ share (belief (cond t (set_value (is_at (holder_cmp h)) bs false) bs) q)) [
       | true ↦ λ some. subst (λ o. 1 ≤ share o) (sym (disowned bs h q some)) (by_test (is_at (holder_cmp h) q))
@@ -339,4 +339,4 @@ still_some bs h q has =
 
 pub keeps_some : (b : BlockId) (bs : List (Holder × Bool)) (ds : List ℕ) (x : BlockId) (e : ℕ) → 1 ≤ share_of bs x e → 1 ≤ share_of (all_given_up b true bs ds) x e
 keeps_some b bs [] x e has = has
-keeps_some b bs (d ∷ ds) x e has = keeps_some b (given_up bs (holder b d) true) ds x e (still_some bs (holder b d) (holder x e) has)
+keeps_some b bs (d ∷ ds) x e has = keeps_some b (give_way bs (holder b d) true) ds x e (still_some bs (holder b d) (holder x e) has)

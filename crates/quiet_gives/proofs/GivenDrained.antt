@@ -11,7 +11,7 @@ use Rattle.segment_reading.specs.Reading.{is_known}
 use Rattle.slot_beliefs.specs.Beliefs.{holder, others, share_of}
 use Rattle.slot_beliefs.specs.declared.job.Holder.{Holder}
 use Rattle.token_client.specs.declared.held.Held.{Held}
-use Rattle.token_client.specs.Held.{given_up as given_held, is_dirty}
+use Rattle.token_client.specs.Held.{give_up as given_held, is_dirty}
 use Rattle.token_client.specs.State.{held_of}
 use Rattle.token_manager.specs.SlotState.{SlotState}
 use Rattle.version_model.specs.declared.work.Work.{Work}

@@ -5,7 +5,7 @@ use Rattle.std.proofs.lemmas.Bool.{false≢true}
 use Rattle.std.proofs.lemmas.Bool.Decides.{nat_tests}
 use Rattle.token_client.proofs.Tables.{InOrder, held_of-put_itself, in_order-put}
 use Rattle.token_client.specs.declared.held.Held.{Held}
-use Rattle.token_client.specs.Held.{given_up as given_held}
+use Rattle.token_client.specs.Held.{give_up as given_held}
 use Rattle.xfs_base.specs.declared.token.Mode.TheVariants.{Copy, Nothing}
 use Rattle.xfs_base.specs.Modes.{is_held}
 use Rattle.token_client.specs.State.{held_of}

@@ -2,17 +2,17 @@
 use Rattle.std.proofs.Common.{◌≡◌, ℕ, ◌+◌, ◌<◌, ◌&&◌, Bool, true, false, cond, nat_lt, List, [], ◌∷◌, slice_index, None, refl, ap, ◌∙◌}
 use Rattle.client_node.specs.Serving.{cached_upto}
 use Rattle.client_serving.specs.declared.serving.Serving.{Serving}
-use Rattle.client_serving.specs.Follow.{follows, follows_one, hands, notes_gone, takes_back}
+use Rattle.client_serving.specs.Follow.{serving_follow, follow_one, hand, note_gone, take_back}
 use Rattle.client_serving.specs.Sends.{Done}
-use Rattle.coop_cache.specs.Transition.{left}
-use Rattle.delta_feed.specs.Transition.{pushed, rows_after}
+use Rattle.coop_cache.specs.Transition.{cache_leave}
+use Rattle.delta_feed.specs.Transition.{feed_push, rows_after}
 use Rattle.node_base.specs.declared.effects.Effect.{Effect}
 use Rattle.node_base.specs.declared.effects.Effect.TheVariants.{Send}
 use Rattle.token_client.proofs.Tables.{held_of-put_itself}
 use Rattle.token_client.specs.declared.held.Held.{Held}
 use Rattle.token_client.specs.declared.input.In.TheVariants.{Recalled}
 use Rattle.token_client.specs.declared.output.Out.TheVariants.{Gave}
-use Rattle.token_client.specs.Held.{given_up, is_dirty}
+use Rattle.token_client.specs.Held.{give_up, is_dirty}
 use Rattle.token_client.specs.State.{held_of, put_held}
 use Rattle.token_client.specs.Transition.{give, is_promised, on_recalled, recalled}
 use Rattle.version_model.specs.declared.work.Work.{Work}
@@ -40,7 +40,7 @@ module _ (setup : Setup) (works : NodeId → List Work) (o : ℕ) (q : ClientPar
 
   -- what is known of it then
   abbrev pub gone : Held
-  gone = given_up its_held st keep
+  gone = give_up its_held st keep
 
   abbrev stays : Held
   stays = record its_held { mode = Copy; stamp = st; giving = None }
@@ -58,7 +58,7 @@ module _ (setup : Setup) (works : NodeId → List Work) (o : ℕ) (q : ClientPar
   -- where nothing of it is held, it isn't in the cache
   abbrev pub gone_part : ClientPart
   gone_part = record gave_part {
-    cached = cond (is_nothing gone.mode) (left (record { blocks = q.cached; capacity = cached_upto setup.cache }) b).blocks q.cached;
+    cached = cond (is_nothing gone.mode) (cache_leave (record { blocks = q.cached; capacity = cached_upto setup.cache }) b).blocks q.cached;
   }
 
   -- what the slot is told
@@ -88,31 +88,31 @@ module _ (setup : Setup) (works : NodeId → List Work) (o : ℕ) (q : ClientPar
     unfolding on_recalled recalled
     gives_it = rw (can.promised, can.later) (none_fetched setup works q b st keep can.no_fetch ∙ given_is)
 
-    told_is : follows_one (serving_at setup works o gave_part) (Gave b st) ≡ record { state = serving_at setup works o gave_part; outs = gave_told }
-    unfolding follows_one pushed
+    told_is : follow_one (serving_at setup works o gave_part) (Gave b st) ≡ record { state = serving_at setup works o gave_part; outs = gave_told }
+    unfolding follow_one feed_push
     told_is = rw (lt_test i 8 can.within, can.news, asked_is setup works i can.within) refl
 
-    hands_gives : hands (serving_at setup works o q) (Recalled b st keep) ≡ record { state = serving_at setup works o gave_part; outs = gave_told }
-    unfolding hands follows
+    hands_gives : hand (serving_at setup works o q) (Recalled b st keep) ≡ record { state = serving_at setup works o gave_part; outs = gave_told }
+    unfolding hand serving_follow
     hands_gives = rw (can.idle, gives_it, told_is) refl
 
     itself : held_of gave_part.blocks b ≡ gone
     itself = held_of-put_itself b gone q.blocks
 
     abbrev cache_leaves : Serving
-    cache_leaves = (let s = serving_at setup works o gave_part in record s { cache = left s.cache b })
+    cache_leaves = (let s = serving_at setup works o gave_part in record s { cache = cache_leave s.cache b })
 
     abbrev by_mode : Bool → Done
     by_mode t = record { state = cond t cache_leaves (serving_at setup works o gave_part); outs = gave_told }
 
     either : (t : Bool) → by_mode t ≡ record {
-      state = serving_at setup works o (record gave_part { cached = cond t (left (record { blocks = q.cached; capacity = cached_upto setup.cache }) b).blocks q.cached });
+      state = serving_at setup works o (record gave_part { cached = cond t (cache_leave (record { blocks = q.cached; capacity = cached_upto setup.cache }) b).blocks q.cached });
       outs = gave_told;
     }
     either true = refl
     either false = refl
 
-    pub takes_so : takes_back (serving_at setup works o q) b st keep ≡ record { state = serving_at setup works o gone_part; outs = gave_told }
-    unfolding takes_back notes_gone
+    pub takes_so : take_back (serving_at setup works o q) b st keep ≡ record { state = serving_at setup works o gone_part; outs = gave_told }
+    unfolding take_back note_gone
     takes_so =
         rw hands_gives (ap (λ (x : Held). by_mode (is_nothing x.mode)) itself ∙ either (is_nothing gone.mode))

@@ -10,7 +10,7 @@ use Rattle.slot_beliefs.specs.Recalls.{applied_of}
 use Rattle.token_manager.specs.declared.input.In.TheVariants as input
 use Rattle.token_manager.specs.declared.output.Out.{Out}
 use Rattle.token_manager.specs.SlotState.{SlotState}
-use Rattle.token_manager.specs.Transition.{finished, transition, with_deltas, is_dropped, passers, want_of}
+use Rattle.token_manager.specs.Transition.{slot_finish, transition, with_deltas, is_dropped, passers, want_of}
 use Rattle.version_model.specs.declared.work.Work.{Work}
 use Rattle.wire_msg.specs.declared.body.Body.{Body}
 use Rattle.wire_msg.specs.declared.packet.Do.TheVariants.{Deliver}
@@ -139,7 +139,7 @@ module _ (setup : Setup) (works : NodeId → List Work) (k : ℕ) (s : Scene) (c
   m_turns = turns_put slot_then i zg (λ x less. record { epoch = (way.turns setup works k s c o b mode g asked x less).epoch; turn = (way.turns setup works k s c o b mode g asked x less).turn }) (record { epoch = (way.its_turns setup works k s c o b mode g asked).epoch; turn = (way.its_turns setup works k s c o b mode g asked).turn })
 
   module _ (none : others zg.beliefs b c keep ≡ []) where
-    finishes_so : transition (m.slot i) (input.Want (want_of c b 1 req 0 mode) end) ≡ finished zg w
+    finishes_so : transition (m.slot i) (input.Want (want_of c b 1 req 0 mode) end) ≡ slot_finish zg w
     finishes_so =
         ap (λ y. transition y (input.Want (want_of c b 1 req 0 mode) end)) m_at ∙ want_finishes c 1 req end b mode zg dropped_not none (own.more_turns setup works k s c o b mode g)
 

@@ -11,15 +11,15 @@ use Rattle.delta_feed.specs.Transition.{slot_rows}
 use Rattle.log_flight.specs.declared.dirty.Change.{Change}
 use Rattle.xfs_base.specs.declared.token.Mode.TheVariants.{Copy, Nothing, Own}
 use Rattle.xfs_base.specs.declared.token.Stamp.{Stamp}
-use Rattle.slot_beliefs.specs.Beliefs.{given_up, holder, share, share_of}
+use Rattle.slot_beliefs.specs.Beliefs.{give_way, holder, share, share_of}
 use Rattle.slot_beliefs.specs.declared.job.Holder.{Holder}
-use Rattle.slot_beliefs.specs.Index.{indexed_all}
+use Rattle.slot_beliefs.specs.Index.{merge_all}
 use Rattle.slot_beliefs.proofs.Shares.{belief}
 use Rattle.token_client.proofs.Tables.{held_of-put_itself, put_each}
 use Rattle.token_client.specs.declared.held.Held.{Held}
 use Rattle.token_client.specs.Held.{is_dirty, let_go}
 use Rattle.token_client.specs.State.{held_of}
-use Rattle.token_manager.proofs.Guarded.{sorted-given_up}
+use Rattle.token_manager.proofs.Guarded.{sorted-give_way}
 use Rattle.token_manager.specs.SlotState.{SlotState}
 use Rattle.version_model.specs.declared.work.Work.{Work}
 use Rattle.xfs_base.proofs.Alls.{all_append, all_filter, all_weaker}
@@ -218,7 +218,7 @@ module _ (setup : Setup) (works : NodeId → List Work) (k : ℕ) (s : Scene) (c
     jobs = refl;
     alone = given_alone z.beliefs (holder b o) calm.ordered keep calm.alone;
     believed = all_given (λ (h : Holder). (1 ≤ h.client) × (h.client ≤ setup.clients)) (holder b o) z.beliefs keep calm.believed;
-    ordered = sorted-given_up z.beliefs (holder b o) keep calm.ordered;
+    ordered = sorted-give_way z.beliefs (holder b o) keep calm.ordered;
     applied = length-set z.applied (o - 1) seq ∙ calm.applied;
     counted = now.counted;
     rows_low = now.rows_low;
@@ -242,7 +242,7 @@ module _ (setup : Setup) (works : NodeId → List Work) (k : ℕ) (s : Scene) (c
   gone_covered : mode_number its_gone.mode ≤ share_of zg.beliefs b o
   gone_covered = by keep
     where
-      by : (may : Bool) → mode_number (gone setup works o (way.fed_part setup works k s c o b mode g asked) b (own.st setup works k s c o b mode) may).mode ≤ share (belief (given_up z.beliefs (holder b o) may) (holder b o))
+      by : (may : Bool) → mode_number (gone setup works o (way.fed_part setup works k s c o b mode g asked) b (own.st setup works k s c o b mode) may).mode ≤ share (belief (give_way z.beliefs (holder b o) may) (holder b o))
       by true =
           subst (λ n. mode_number (gone setup works o (way.fed_part setup works k s c o b mode g asked) b (own.st setup works k s c o b mode) true).mode ≤ n) (sym (given_copy z.beliefs (holder b o) calm.ordered owns))
           (gone_is setup works o (way.fed_part setup works k s c o b mode g asked) b (own.st setup works k s c o b mode) true (λ y. mode_number y.mode ≤ 1) (omega arith) (omega arith))
@@ -344,7 +344,7 @@ module _ (setup : Setup) (works : NodeId → List Work) (k : ℕ) (s : Scene) (c
         client = ap (λ t. cond t q p) (same_test o);
         slots = λ x less. refl;
         held = λ v. refl;
-        entries = each_slot (λ x y. x < 8 → y.index.rows ≡ (indexed_all (s.slot x).index (slot_rows x its_rows)).rows) (λ less. refl) (λ x differs less. refl);
+        entries = each_slot (λ x y. x < 8 → y.index.rows ≡ (merge_all (s.slot x).index (slot_rows x its_rows)).rows) (λ less. refl) (λ x differs less. refl);
       })
       (record {
         idle = idle_then;

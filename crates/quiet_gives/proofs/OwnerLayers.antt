@@ -2,11 +2,11 @@
 use Rattle.std.proofs.Common.{◌≡◌, ℕ, ◌+◌, ◌<◌, ◌==◌, true, false, nat_lt, List, [], ◌∷◌, ◌++◌, map, slice_index, None, refl, sym, ap, ◌∙◌, length, suc}
 use Rattle.std.specs.Prelude.{flat_map}
 use Rattle.client_node.specs.Phases.{client_step, on_deliver}
-use Rattle.client_serving.specs.Packets.{on_ack, on_packet}
+use Rattle.client_serving.specs.Packets.{on_ack, serving_take}
 use Rattle.core_world.specs.AnyNode.{any_step, as_any}
 use Rattle.core_world.specs.declared.any_node.AnyNode.{AnyNode}
 use Rattle.core_world.specs.declared.any_node.AnyNode.TheVariants as any
-use Rattle.manager_slots.specs.Tokens.{said}
+use Rattle.manager_slots.specs.Tokens.{tokens_say}
 use Rattle.node_base.specs.Effects.{acts_of}
 use Rattle.node_base.specs.Nodes.{has_node, peers_of}
 use Rattle.quiet_flow.proofs.Flowing.{delivers_then}
@@ -78,8 +78,8 @@ module _ (setup : Setup) (works : NodeId → List Work) (c j i applied : ℕ) (p
     of_epoch : (epoch_of (1 ∷ 1 ∷ 1 ∷ 1 ∷ 1 ∷ 1 ∷ 1 ∷ 1 ∷ []) i == 1) ≡ true
     of_epoch = ap (λ n. n == 1) (promised i within)
 
-    ack_is : on_packet (serving_at setup works c p) ack_packet ≡ record { state = serving_at setup works c p; outs = [] }
-    unfolding on_packet on_ack
+    ack_is : serving_take (serving_at setup works c p) ack_packet ≡ record { state = serving_at setup works c p; outs = [] }
+    unfolding serving_take on_ack
     ack_is = rw (lt_test i 8 within, of_epoch, known) refl
 
     pub ack_again : client_step (client_at setup works c p) (Deliver ack_packet) ≡ record { node = client_at setup works c p; packets = []; acts = [] }
@@ -87,8 +87,8 @@ module _ (setup : Setup) (works : NodeId → List Work) (c j i applied : ℕ) (p
     ack_again = rw (room setup works c p h, there, lt_test i 8 within, ack_is, runs_none (serving_at setup works c p) idle) refl
 
 -- a slot that answers a want has no act done
-pub answers_quietly : (m slot epoch : ℕ) (z : SlotState) (w : Wanted) (cs : List ℕ) → acts_of (Manager m) (flat_map (said slot epoch) (answer z w cs ∷ [])) ≡ []
-unfolding said
+pub answers_quietly : (m slot epoch : ℕ) (z : SlotState) (w : Wanted) (cs : List ℕ) → acts_of (Manager m) (flat_map (tokens_say slot epoch) (answer z w cs ∷ [])) ≡ []
+unfolding tokens_say
 answers_quietly m slot epoch z w [] = refl
 answers_quietly m slot epoch z w (c ∷ cs) = refl
 

@@ -5,13 +5,13 @@ use Rattle.std.proofs.lemmas.List.{get_or-replicate, get_or-set_same}
 use Rattle.std.specs.Prelude.{flat_map}
 use Rattle.std.specs.List.{AllByRecursion}
 use Rattle.client_log.specs.Transition as log
-use Rattle.client_log.specs.Transition.{end_from}
+use Rattle.client_log.specs.Transition.{end_of}
 use Rattle.delta_feed.specs.Transition.{rows_after, slot_rows}
 use Rattle.group_map.specs.declared.group.Member.{Member}
 use Rattle.log_flight.specs.Flights.{none_noted, FlightState}
 use Rattle.log_owner.specs.Sending.{name_of}
 use Rattle.manager_node.specs.Events.{manager_step}
-use Rattle.manager_slots.specs.Tokens.{said}
+use Rattle.manager_slots.specs.Tokens.{tokens_say}
 use Rattle.node_base.specs.declared.effects.Effect.{Effect}
 use Rattle.node_base.specs.Effects.{acts_of, packets_of}
 use Rattle.node_base.specs.Nodes.{has_node, peers_of}
@@ -24,7 +24,7 @@ use Rattle.token_client.specs.Held.{is_dirty}
 use Rattle.token_manager.specs.declared.input.In.TheVariants as input
 use Rattle.token_manager.specs.declared.output.Out.{Out}
 use Rattle.token_manager.specs.SlotState.{SlotState}
-use Rattle.token_manager.specs.Transition.{finished, transition, with_deltas, passers}
+use Rattle.token_manager.specs.Transition.{slot_finish, transition, with_deltas, passers}
 use Rattle.version_model.specs.declared.act.Act.{Act}
 use Rattle.version_model.specs.declared.act.Act.TheVariants as acts
 use Rattle.version_model.specs.declared.work.Work.{Work}
@@ -208,7 +208,7 @@ module _ (setup : Setup) (works : NodeId → List Work) (k : ℕ) (s : Scene) (c
 
   recalls_so : manager_step (manager_at setup works j s.slot) (Deliver want_packet)
       ≡ record { node = manager_at setup works j s2.slot; packets = recall_packet ∷ []; acts = [] }
-  unfolding said
+  unfolding tokens_say
   recalls_so =
       want_comes setup works j c 0 s.slot (record { block = b; inc = 1; req = req; again = 0; mode = mode; end = end }) within
       (same_test j) (manager_room setup works j s.slot turns) (own.has_asker setup works k s c o b mode g) zj _
@@ -227,14 +227,14 @@ module _ (setup : Setup) (works : NodeId → List Work) (k : ℕ) (s : Scene) (c
   stores_are = stores_to o f ms 0
 
   packets_so : map unclocked (packets_of (Client o) (flush ++ [])) ≡ stores_are
-  unfolding log.all_sends
+  unfolding log.sending_send
   packets_so =
       ap (λ outs. map unclocked (packets_of (Client o) outs)) (append-nil flush)
       ∙ ap (map unclocked) (packets_are f refl o ms 0)
       ∙ unclocked_are f refl o ms 0
 
   acts_so : acts_of (Client o) (flush ++ []) ≡ []
-  unfolding log.all_sends
+  unfolding log.sending_send
   acts_so = ap (acts_of (Client o)) (append-nil flush) ∙ acts_none f refl o ms 0
 
   recall_moves : Moves setup works s2 (recall_packet ∷ []) stores_are [] s3
@@ -277,7 +277,7 @@ module _ (setup : Setup) (works : NodeId → List Work) (k : ℕ) (s : Scene) (c
   again = deltas_to setup works o seq i (rows i)
 
   abbrev pub filed : Act
-  filed = acts.Filed (name_of (record { 0 = o }) (end_from f.segment))
+  filed = acts.Filed (name_of (record { 0 = o }) (end_of f.segment))
 
   abbrev push : ℕ → List (BlockId × Entry) → Packet
   push first rs = record { from = Client o; to = Manager j; clock = 0; body = body.Deltas (record { slot = i; first = first; upto = seq; rows = rs }) }
@@ -361,19 +361,19 @@ module _ (setup : Setup) (works : NodeId → List Work) (k : ℕ) (s : Scene) (c
   zg = given_slot z1 w o seq b st keep
 
   abbrev pub zf : SlotState
-  zf = (finished zg w).state
+  zf = (slot_finish zg w).state
 
   abbrev pub says : List Out
-  says = (finished zg w).outs
+  says = (slot_finish zg w).outs
 
   abbrev pub sent : List Packet
-  sent = packets_of (Manager j) (flat_map (said i z.epoch) says)
+  sent = packets_of (Manager j) (flat_map (tokens_say i z.epoch) says)
 
   -- what the want is answered with
   abbrev pub rest : List Packet
   rest = map unclocked sent ++ []
 
-  ends_so : transition (s7.slot i) (input.Gave o b st seq) ≡ finished zg w
+  ends_so : transition (s7.slot i) (input.Gave o b st seq) ≡ slot_finish zg w
   ends_so =
       ap (λ y. transition y (input.Gave o b st seq)) s7_at
       ∙ gave_ends z1 w o seq b st keep refl (le_test seq (applied_of z1.applied o) (let is = applied_1 in omega arith)) (own.more_turns setup works k s c o b mode g)
@@ -381,8 +381,8 @@ module _ (setup : Setup) (works : NodeId → List Work) (k : ℕ) (s : Scene) (c
   abbrev pub as_gave : (ℕ → SlotState) → ℕ → NodeStep ManagerNode
   as_gave now epoch = record {
     node = manager_at setup works j now;
-    packets = packets_of (Manager j) (flat_map (said i epoch) says);
-    acts = acts_of (Manager j) (flat_map (said i epoch) says);
+    packets = packets_of (Manager j) (flat_map (tokens_say i epoch) says);
+    acts = acts_of (Manager j) (flat_map (tokens_say i epoch) says);
   }
 
   abbrev pub with_acts : (ℕ → SlotState) → List Act → NodeStep ManagerNode

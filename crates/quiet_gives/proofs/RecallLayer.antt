@@ -5,7 +5,7 @@ use Rattle.std.proofs.lemmas.Bool.Decides.{nat_tests}
 use Rattle.core_world.specs.AnyNode.{any_step, as_any}
 use Rattle.core_world.specs.declared.any_node.AnyNode.{AnyNode}
 use Rattle.core_world.specs.declared.any_node.AnyNode.TheVariants as any
-use Rattle.delta_feed.specs.Transition.{pushed}
+use Rattle.delta_feed.specs.Transition.{feed_push}
 use Rattle.node_base.specs.Nodes.{has_node, peers_of}
 use Rattle.slot_beliefs.specs.Recalls.{stamp}
 use Rattle.token_client.proofs.Tables.{held_of-put_itself}
@@ -36,7 +36,7 @@ module _ (setup : Setup) (works : NodeId → List Work) (b : BlockId) (keep : Bo
     pub there : has_node (peers_of setup) (Client d) ≡ true
     pub room : HasRoom setup works d p
     pub idle : p.call ≡ None
-    pub told : pushed (feed_at p) (slot_of b.ino.0) ≡ []
+    pub told : feed_push (feed_at p) (slot_of b.ino.0) ≡ []
     pub givable : IsGivable turn (held_of p.blocks b)
 
   -- each of these does

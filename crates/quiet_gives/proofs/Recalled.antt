@@ -3,11 +3,11 @@ use Rattle.std.proofs.Common.{◌≡◌, ℕ, ◌+◌, ◌<◌, ◌≤◌, ◌==
 use Rattle.client_call.specs.declared.call.Call.{Call}
 use Rattle.client_node.specs.Phases.{client_step, on_deliver}
 use Rattle.client_serving.specs.declared.serving.Serving.{Serving}
-use Rattle.client_serving.specs.Follow.{follows, follows_one, hands, notes_gone, takes_back}
+use Rattle.client_serving.specs.Follow.{serving_follow, follow_one, hand, note_gone, take_back}
 use Rattle.client_serving.specs.Grants.{is_stamp}
-use Rattle.client_serving.specs.Packets.{on_packet, on_recall}
-use Rattle.coop_cache.specs.Transition.{left}
-use Rattle.delta_feed.specs.Transition.{pushed}
+use Rattle.client_serving.specs.Packets.{serving_take, on_recall}
+use Rattle.coop_cache.specs.Transition.{cache_leave}
+use Rattle.delta_feed.specs.Transition.{feed_push}
 use Rattle.node_base.specs.declared.effects.Effect.TheVariants.{Send}
 use Rattle.node_base.specs.Nodes.{has_node, peers_of}
 use Rattle.slot_beliefs.specs.Recalls.{stamp}
@@ -15,9 +15,9 @@ use Rattle.token_client.proofs.Tables.{held_of-put_itself}
 use Rattle.token_client.specs.declared.held.Held.{Held}
 use Rattle.token_client.specs.declared.input.In.TheVariants.{Recalled}
 use Rattle.token_client.specs.declared.output.Out.TheVariants.{Flush, Gave}
-use Rattle.token_client.specs.Held.{given_up, is_dirty, put_off, unfetched}
+use Rattle.token_client.specs.Held.{give_up, is_dirty, put_off, unfetched}
 use Rattle.token_client.specs.State.{TokensState, epoch_of, held_of, put_held, with_held}
-use Rattle.token_client.specs.Transition.{Done, can_refetch, give, new_want, on_recalled, recalled, recalled_above, recalled_again, refetch}
+use Rattle.token_client.specs.Transition.{Done, can_refetch, give, tokens_ask, on_recalled, recalled, recalled_above, recalled_again, refetch}
 use Rattle.version_model.specs.declared.work.Work.{Work}
 use Rattle.wire_msg.specs.declared.body.Body.{Body}
 use Rattle.wire_msg.specs.declared.body.Body.TheVariants as body
@@ -74,7 +74,7 @@ module _ (setup : Setup) (works : NodeId → List Work) (b : BlockId) (keep : Bo
     abbrev gives_it : ClientPart
     gives_it = record p { blocks = put_held first.blocks b (gives_held setup works b keep (turn + 1) its_held) }
 
-    module _ (g : IsGivable turn its_held) (told : pushed (feed_at first) (slot_of b.ino.0) ≡ []) where
+    module _ (g : IsGivable turn its_held) (told : feed_push (feed_at first) (slot_of b.ino.0) ≡ []) where
       is_promised_so : (epoch_of (replicate 8 1) (slot_of b.ino.0) == 1) ≡ true
       is_promised_so = ap (λ n. n == 1) (promised (slot_of b.ino.0) within)
 
@@ -86,13 +86,13 @@ module _ (setup : Setup) (works : NodeId → List Work) (b : BlockId) (keep : Bo
 
       none_refetched : refetch tokens b ≡ still tokens
       unfolding refetch
-      none_refetched = ap (λ o. cond (is_some o) (new_want (with_held tokens b (unfetched its_held)) b Copy) (still tokens)) g.fetch
+      none_refetched = ap (λ o. cond (is_some o) (tokens_ask (with_held tokens b (unfetched its_held)) b Copy) (still tokens)) g.fetch
 
       gives_now : give tokens b its_stamp keep ≡ record { state = tokens_at setup works gives_it; outs = Gave b its_stamp ∷ [] }
       unfolding give
       gives_now =
           ap (λ t. cond t (record { state = with_held tokens b (put_off its_held its_stamp keep); outs = Flush b ∷ [] })
-          (record { state = with_held tokens b (given_up its_held its_stamp keep); outs = Gave b its_stamp ∷ [] })) g.clean
+          (record { state = with_held tokens b (give_up its_held its_stamp keep); outs = Gave b its_stamp ∷ [] })) g.clean
 
       recalled_is : recalled_above tokens b its_stamp keep ≡ record { state = tokens_at setup works gives_it; outs = Gave b its_stamp ∷ [] }
       unfolding recalled_above
@@ -108,31 +108,31 @@ module _ (setup : Setup) (works : NodeId → List Work) (b : BlockId) (keep : Bo
           ∙ ap (λ t. cond t (recalled_above tokens b its_stamp keep) (recalled_again tokens b its_stamp)) later_so
           ∙ recalled_is
 
-      gave_is : follows_one (serving_at setup works c gives_it) (Gave b its_stamp) ≡ record {
+      gave_is : follow_one (serving_at setup works c gives_it) (Gave b its_stamp) ≡ record {
         state = serving_at setup works c gives_it;
         outs = Send (Manager j) (gave_body p) ∷ [];
       }
-      unfolding follows_one
+      unfolding follow_one
       gave_is = rw (told, asked_is setup works (slot_of b.ino.0) within) refl
 
-      hands_is : hands (serving_at setup works c p) (Recalled b its_stamp keep) ≡ record {
+      hands_is : hand (serving_at setup works c p) (Recalled b its_stamp keep) ≡ record {
         state = serving_at setup works c gives_it;
         outs = Send (Manager j) (gave_body p) ∷ [];
       }
-      unfolding hands follows
+      unfolding hand serving_follow
       hands_is = rw (tokens_is, gave_is) refl
 
       -- where it isn't held any more, it isn't cached
       abbrev gone_by : Bool → Serving
-      gone_by t = cond t (record (serving_at setup works c gives_it) { cache = left (serving_at setup works c gives_it).cache b }) (serving_at setup works c gives_it)
+      gone_by t = cond t (record (serving_at setup works c gives_it) { cache = cache_leave (serving_at setup works c gives_it).cache b }) (serving_at setup works c gives_it)
 
-      gone_is : notes_gone (serving_at setup works c gives_it) b ≡ serving_at setup works c (gives_part setup works b keep (turn + 1) p)
-      unfolding notes_gone
+      gone_is : note_gone (serving_at setup works c gives_it) b ≡ serving_at setup works c (gives_part setup works b keep (turn + 1) p)
+      unfolding note_gone
       gone_is =
           ap (λ (h : Held). gone_by (is_nothing h.mode)) (held_of-put_itself b (gives_held setup works b keep (turn + 1) its_held) first.blocks)
           ∙ by_mode (is_nothing (gives_held setup works b keep (turn + 1) its_held).mode)
         where
-          by_mode : (t : Bool) → gone_by t ≡ serving_at setup works c (record gives_it { cached = cond t (left (serving_at setup works c gives_it).cache b).blocks first.cached })
+          by_mode : (t : Bool) → gone_by t ≡ serving_at setup works c (record gives_it { cached = cond t (cache_leave (serving_at setup works c gives_it).cache b).blocks first.cached })
           by_mode true = refl
           by_mode false = refl
 
@@ -146,11 +146,11 @@ module _ (setup : Setup) (works : NodeId → List Work) (b : BlockId) (keep : Bo
           and_false true = refl
           and_false false = refl
 
-      packet_is : on_packet (serving_at setup works c p) (recall_to setup works b keep (turn + 1) c) ≡ record {
+      packet_is : serving_take (serving_at setup works c p) (recall_to setup works b keep (turn + 1) c) ≡ record {
         state = serving_at setup works c (gives_part setup works b keep (turn + 1) p);
         outs = Send (Manager j) (gave_body p) ∷ [];
       }
-      unfolding on_packet on_recall takes_back
+      unfolding serving_take on_recall take_back
       packet_is = rw (is_new, hands_is, gone_is) refl
 
       gives_up : HasRoom setup works c p → has_node (peers_of setup) (Manager j) ≡ true
@@ -165,7 +165,7 @@ module _ (setup : Setup) (works : NodeId → List Work) (b : BlockId) (keep : Bo
 
   -- ---- any client that is idle
 
-  module _ (p : ClientPart) (idle : p.call ≡ None) (g : IsGivable turn (held_of p.blocks b)) (told : pushed (feed_at p) (slot_of b.ino.0) ≡ [])
+  module _ (p : ClientPart) (idle : p.call ≡ None) (g : IsGivable turn (held_of p.blocks b)) (told : feed_push (feed_at p) (slot_of b.ino.0) ≡ [])
       (there : has_node (peers_of setup) (Manager j) ≡ true) where
     abbrev Gives : Option Call → Type 0
     Gives call =

@@ -3,9 +3,9 @@ use Rattle.std.proofs.Common.{◌≡◌, ℕ, ◌||◌, Bool, true, false, cond,
 use Rattle.client_log.specs.Transition as log
 use Rattle.client_node.specs.declared.client.Client.{Client as ClientNode}
 use Rattle.client_node.specs.Phases.{client_step, on_deliver}
-use Rattle.client_serving.specs.Follow.{follows, follows_one, hands, notes_gone, takes_back}
+use Rattle.client_serving.specs.Follow.{serving_follow, follow_one, hand, note_gone, take_back}
 use Rattle.client_serving.specs.Grants.{is_stamp}
-use Rattle.client_serving.specs.Packets.{on_packet, on_recall}
+use Rattle.client_serving.specs.Packets.{serving_take, on_recall}
 use Rattle.node_base.specs.declared.effects.Effect.{Effect}
 use Rattle.node_base.specs.Effects.{acts_of, packets_of}
 use Rattle.node_base.specs.Nodes.{has_node, peers_of}
@@ -17,7 +17,7 @@ use Rattle.token_client.specs.declared.output.Out.{Out}
 use Rattle.token_client.specs.declared.output.Out.TheVariants.{Flush}
 use Rattle.token_client.specs.Held.{is_dirty, unfetched}
 use Rattle.token_client.specs.State.{TokensState, held_of, put_held, with_held}
-use Rattle.token_client.specs.Transition.{can_refetch, give, is_promised, new_want, on_recalled, recalled, recalled_above, refetch}
+use Rattle.token_client.specs.Transition.{can_refetch, give, is_promised, tokens_ask, on_recalled, recalled, recalled_above, refetch}
 use Rattle.version_model.specs.declared.work.Work.{Work}
 use Rattle.wire_msg.specs.declared.body.Body.TheVariants as body
 use Rattle.wire_msg.specs.declared.packet.Do.TheVariants.{Deliver}
@@ -36,7 +36,7 @@ use Rattle.xfs_base.specs.Steps.{Stepped, saying, still}
 use Rattle.quiet_nodes.specs.Scene.{ClientPart, client_at, serving_at, tokens_at}
 use Rattle.quiet_nodes.proofs.Begins.{HasRoom, room}
 use Rattle.quiet_nodes.proofs.Running.{runs_none}
-use Rattle.quiet_nodes.proofs.Sealing.{sealed_part, seals_so, stores}
+use Rattle.quiet_nodes.proofs.Sealing.{sealed_part, serving_seal_so, stores}
 
 -- where no fetch is open a later recall has the block given, and nothing else
 module _ (setup : Setup) (works : NodeId → List Work) (p : ClientPart) (b : BlockId) (st : Stamp) (keep : Bool) (none : (held_of p.blocks b).fetch ≡ None) where
@@ -45,7 +45,7 @@ module _ (setup : Setup) (works : NodeId → List Work) (p : ClientPart) (b : Bl
 
   refetch_is : refetch tokens b ≡ still {O = Out} tokens
   unfolding refetch
-  refetch_is = ap (λ (f : Option Fetch). cond (is_some f) (new_want (with_held tokens b (unfetched (held_of tokens.blocks b))) b Copy) (still {O = Out} tokens)) none
+  refetch_is = ap (λ (f : Option Fetch). cond (is_some f) (tokens_ask (with_held tokens b (unfetched (held_of tokens.blocks b))) b Copy) (still {O = Out} tokens)) none
 
   can_is : can_refetch tokens b ≡ true
   can_is = ap (λ (f : Option Fetch). is_none f || nat_lt tokens.req u32_end) none
@@ -98,27 +98,27 @@ module _ (setup : Setup) (works : NodeId → List Work) (o : ℕ) (p : ClientPar
     unfolding on_recalled recalled
     recall_taken = rw (r.promised, r.later) (none_fetched setup works p b st keep r.no_fetch ∙ put_off_is)
 
-    flush_is : follows_one (serving_at setup works o giving_part) (Flush b) ≡ record { state = serving_at setup works o flushed_part; outs = flushes }
-    unfolding follows_one
-    flush_is = seals_so setup works o giving_part r.lands r.some r.next
+    flush_is : follow_one (serving_at setup works o giving_part) (Flush b) ≡ record { state = serving_at setup works o flushed_part; outs = flushes }
+    unfolding follow_one
+    flush_is = serving_seal_so setup works o giving_part r.lands r.some r.next
 
-    hands_so : hands (serving_at setup works o p) (Recalled b st keep) ≡ record { state = serving_at setup works o flushed_part; outs = flushes ++ [] }
-    unfolding hands follows
-    hands_so = rw (r.idle, recall_taken, flush_is) refl
+    hand_so : hand (serving_at setup works o p) (Recalled b st keep) ≡ record { state = serving_at setup works o flushed_part; outs = flushes ++ [] }
+    unfolding hand serving_follow
+    hand_so = rw (r.idle, recall_taken, flush_is) refl
 
     itself : held_of flushed_part.blocks b ≡ giving_held
     itself = held_of-put_itself b giving_held p.blocks
 
-    takes_so : takes_back (serving_at setup works o p) b st keep ≡ record { state = serving_at setup works o flushed_part; outs = flushes ++ [] }
-    unfolding takes_back notes_gone
-    takes_so = rw (hands_so, itself, r.holds) refl
+    takes_so : take_back (serving_at setup works o p) b st keep ≡ record { state = serving_at setup works o flushed_part; outs = flushes ++ [] }
+    unfolding take_back note_gone
+    takes_so = rw (hand_so, itself, r.holds) refl
 
     module _ (j : ℕ) (h : HasRoom setup works o p) (there : has_node (peers_of setup) (Manager j) ≡ true) where
       abbrev pub recall_packet : Packet
       recall_packet = record { from = Manager j; to = Client o; clock = 0; body = body.Recall (record { block = b; stamp = st; keep = keep }) }
 
-      packet_is : on_packet (serving_at setup works o p) recall_packet ≡ record { state = serving_at setup works o flushed_part; outs = flushes ++ [] }
-      unfolding on_packet on_recall
+      packet_is : serving_take (serving_at setup works o p) recall_packet ≡ record { state = serving_at setup works o flushed_part; outs = flushes ++ [] }
+      unfolding serving_take on_recall
       packet_is = rw (r.another, takes_so) refl
 
       abbrev with_outs : List Effect → NodeStep ClientNode

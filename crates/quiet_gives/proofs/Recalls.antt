@@ -3,13 +3,13 @@ use Rattle.std.proofs.Common.{◌≡◌, ℕ, ◌+◌, not, Bool, true, false, c
 use Rattle.std.proofs.lemmas.Cmp.{tied_itself}
 use Rattle.std.specs.BTreeMap.{is_at}
 use Rattle.std.specs.Ordering.{is_eq}
-use Rattle.slot_beliefs.specs.Beliefs.{given_up, holder, others}
+use Rattle.slot_beliefs.specs.Beliefs.{give_way, holder, others}
 use Rattle.slot_beliefs.specs.declared.job.Wanted.{Wanted}
 use Rattle.slot_beliefs.specs.Recalls.{applied_of, stamp, without_job}
 use Rattle.token_manager.specs.declared.input.In.TheVariants as input
 use Rattle.token_manager.specs.declared.output.Out.TheVariants as out
 use Rattle.token_manager.specs.SlotState.{SlotState}
-use Rattle.token_manager.specs.Transition.{finished, gave_noted, has_turns, is_dropped, transition, want_of}
+use Rattle.token_manager.specs.Transition.{slot_finish, gave_noted, has_turns, is_dropped, transition, want_of}
 use Rattle.wire_msg.specs.declared.tokens.Gave.{Gave}
 use Rattle.xfs_base.proofs.BlockOrder.{block_cmp_total}
 use Rattle.xfs_base.specs.Blocks.{block_cmp}
@@ -34,7 +34,7 @@ module _ (c inc req end : ℕ) (b : BlockId) (mode : Mode) where
   module _ (z : SlotState) where
     -- nobody has to give way
     pub want_finishes : is_dropped z its_want end ≡ false → others z.beliefs b c keeps ≡ [] → has_turns z.turn 1 ≡ true
-        → transition z (input.Want (want_of c b inc req 0 mode) end) ≡ finished z its_want
+        → transition z (input.Want (want_of c b inc req 0 mode) end) ≡ slot_finish z its_want
     want_finishes taken alone room = rw (taken, alone, room) refl
 
     module _ (o : ℕ) where
@@ -60,13 +60,13 @@ module _ (c inc req end : ℕ) (b : BlockId) (mode : Mode) where
 module _ (z : SlotState) (w : Wanted) (o end : ℕ) (b : BlockId) (st : Stamp) (keep : Bool) where
   -- the slot without the want, once the block is given up
   abbrev pub given_slot : SlotState
-  given_slot = record z { beliefs = given_up z.beliefs (holder b o) (not (is_own w.mode)); jobs = [] }
+  given_slot = record z { beliefs = give_way z.beliefs (holder b o) (not (is_own w.mode)); jobs = [] }
 
   none_wait : without_job ((b, record { want = w; awaited = record { client = o; stamp = st; keep = keep; end = None } ∷ [] }) ∷ []) b ≡ []
   none_wait = ap (λ t. cond t [] ((b, record { want = w; awaited = record { client = o; stamp = st; keep = keep; end = None } ∷ [] }) ∷ [])) (at_itself b)
 
   pub gave_ends : z.jobs ≡ (b, record { want = w; awaited = record { client = o; stamp = st; keep = keep; end = None } ∷ [] }) ∷ []
-      → nat_le end (applied_of z.applied o) ≡ true → has_turns z.turn 1 ≡ true → transition z (input.Gave o b st end) ≡ finished given_slot w
+      → nat_le end (applied_of z.applied o) ≡ true → has_turns z.turn 1 ≡ true → transition z (input.Gave o b st end) ≡ slot_finish given_slot w
   unfolding gave_noted
   gave_ends jobs done room =
-      rw (jobs, at_itself b, same_test o, same_test st.epoch, same_test st.turn, done, room) (ap (λ js. finished (record given_slot { jobs = js }) w) none_wait)
+      rw (jobs, at_itself b, same_test o, same_test st.epoch, same_test st.turn, done, room) (ap (λ js. slot_finish (record given_slot { jobs = js }) w) none_wait)

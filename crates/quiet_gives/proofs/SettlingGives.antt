@@ -12,14 +12,14 @@ use Rattle.client_node.specs.declared.client.Client.{Client as ClientNode}
 use Rattle.client_node.specs.Phases.{client_step, on_deliver}
 use Rattle.client_node.specs.Serving.{cached_upto}
 use Rattle.client_serving.specs.declared.serving.Serving.{Serving}
-use Rattle.client_serving.specs.Flights.{feeds, gives_if_clean, gives_up, settles}
-use Rattle.client_serving.specs.Packets.{on_packet}
+use Rattle.client_serving.specs.Flights.{feeds, give_if_clean, gives_up, serving_settle}
+use Rattle.client_serving.specs.Packets.{serving_take}
 use Rattle.client_serving.specs.Sends.{Done}
 use Rattle.log_flight.specs.Fate.{fate_of}
 use Rattle.log_flight.specs.declared.flight.Fate.TheVariants.{Settle}
-use Rattle.log_flight.specs.Flights.{FlightState, is_of, noting}
-use Rattle.log_owner.specs.Promised.{first_managers}
-use Rattle.log_owner.specs.Sending.{name_of, pushes_all}
+use Rattle.log_flight.specs.Flights.{FlightState, is_of, flight_note}
+use Rattle.log_owner.specs.Promised.{managers_start}
+use Rattle.log_owner.specs.Sending.{name_of, push_all}
 use Rattle.node_base.specs.declared.effects.Effect.{Effect}
 use Rattle.node_base.specs.declared.effects.Effect.TheVariants.{Does}
 use Rattle.node_base.specs.Effects.{acts_of, packets_of}
@@ -28,7 +28,7 @@ use Rattle.node_base.specs.Shape.{is_name}
 use Rattle.segment_format.specs.Rows.{rows_of}
 use Rattle.token_client.proofs.Tables.{held_of-put_itself}
 use Rattle.token_client.specs.declared.held.Held.{Held}
-use Rattle.token_client.specs.Held.{is_dirty, unknown}
+use Rattle.token_client.specs.Held.{is_dirty, held_new}
 use Rattle.token_client.specs.State.{dirty_in, held_of}
 use Rattle.version_model.specs.declared.act.Act.TheVariants as acts
 use Rattle.version_model.specs.declared.work.Work.{Work}
@@ -61,7 +61,7 @@ dirty_named : (b : BlockId) (blocks : List (BlockId × Held)) → is_dirty (held
 dirty_named b [] dirty = absurd (false≢true dirty)
 dirty_named b (e ∷ es) dirty =
     elim (eq_by_cmp block_cmp b e.0) as (λ t. eq_by_cmp block_cmp b e.0 ≡ t
-    → is_dirty (unwrap_or (cond t (Some e.1) (lookup (is_at (block_cmp b)) es)) unknown) ≡ true → list_any (same_block b) (dirty_in (e ∷ es)) ≡ true) [
+    → is_dirty (unwrap_or (cond t (Some e.1) (lookup (is_at (block_cmp b)) es)) held_new) ≡ true → list_any (same_block b) (dirty_in (e ∷ es)) ≡ true) [
       | true ↦ λ at now. here (ap (same_block b) (sym (tells_apart block_cmp_exact b e.0 at)) ∙ same_block_itself b) now
       | false ↦ λ _ now. more (is_dirty e.1) (dirty_named b es now)
     ] refl dirty
@@ -110,31 +110,31 @@ module _ (setup : Setup) (works : NodeId → List Work) (o : ℕ) (q : ClientPar
             ap (λ (h : Held). h.giving) (other_held b its_gone q.blocks x (not_the_block x b other)) ∙ only x (not_the_block x b other)
       ] refl
 
-  gives_b : gives_if_clean here b ≡ record { state = there; outs = outs }
-  unfolding gives_if_clean
+  gives_b : give_if_clean here b ≡ record { state = there; outs = outs }
+  unfolding give_if_clean
   gives_b =
       ap (λ t. cond t (still here) (gives_up here b (held_of q.blocks b).giving)) can.clean
       ∙ ap (gives_up here b) its
       ∙ takes_so setup works o q b st keep can
 
-  gives_not : (x : BlockId) → (x ≡ b → ⊥) → gives_if_clean here x ≡ still here
-  unfolding gives_if_clean
+  gives_not : (x : BlockId) → (x ≡ b → ⊥) → give_if_clean here x ≡ still here
+  unfolding give_if_clean
   gives_not x differs =
       elim (is_dirty (held_of q.blocks x)) as (λ t. cond t (still here) (gives_up here x (held_of q.blocks x).giving) ≡ still here) [
         | true ↦ refl
         | false ↦ ap (gives_up here x) (only x differs)
       ]
 
-  pub one_given : (bs : List BlockId) → list_any (same_block b) bs ≡ true → steps gives_if_clean here bs ≡ record { state = there; outs = outs }
+  pub one_given : (bs : List BlockId) → list_any (same_block b) bs ≡ true → steps give_if_clean here bs ≡ record { state = there; outs = outs }
   one_given [] has = absurd (false≢true has)
   one_given (x ∷ bs) has =
-      elim (same_block b x) as (λ t. same_block b x ≡ t → (t || list_any (same_block b) bs) ≡ true → steps gives_if_clean here (x ∷ bs) ≡ record { state = there; outs = outs }) [
+      elim (same_block b x) as (λ t. same_block b x ≡ t → (t || list_any (same_block b) bs) ≡ true → steps give_if_clean here (x ∷ bs) ≡ record { state = there; outs = outs }) [
         | true ↦ λ same _.
-            ap (λ y. saying (gives_if_clean here y).outs (steps gives_if_clean (gives_if_clean here y).state bs)) (same_block_exact b x same)
-            ∙ ap (λ (d : Done). saying d.outs (steps gives_if_clean d.state bs)) gives_b
+            ap (λ y. saying (give_if_clean here y).outs (steps give_if_clean (give_if_clean here y).state bs)) (same_block_exact b x same)
+            ∙ ap (λ (d : Done). saying d.outs (steps give_if_clean d.state bs)) gives_b
             ∙ ap (saying outs) (none_given setup works o after none_then bs)
         | false ↦ λ other rest.
-            ap (λ (d : Done). saying d.outs (steps gives_if_clean d.state bs)) (gives_not x (not_the_block x b other)) ∙ one_given bs rest
+            ap (λ (d : Done). saying d.outs (steps give_if_clean d.state bs)) (gives_not x (not_the_block x b other)) ∙ one_given bs rest
       ] refl has
 
 -- ---- the segment settles
@@ -157,7 +157,7 @@ module _ (setup : Setup) (works : NodeId → List Work) (o : ℕ) (p : ClientPar
   settled_part = gone_part setup works o fed_part b st keep
 
   abbrev told : List Effect
-  told = Does (acts.Filed (name_of (record { 0 = o }) end)) ∷ pushes_all (first_managers setup.managers) (feed_at fed_part)
+  told = Does (acts.Filed (name_of (record { 0 = o }) end)) ∷ push_all (managers_start setup.managers) (feed_at fed_part)
 
   -- what is done
   abbrev pub all_told : List Effect
@@ -182,11 +182,11 @@ module _ (setup : Setup) (works : NodeId → List Work) (o : ℕ) (p : ClientPar
 
     abbrev finish : Serving → Done
     finish fed =
-        saying (Does (acts.Filed (name_of (record { 0 = o }) end)) ∷ pushes_all fed.managers fed.feed) (steps gives_if_clean fed (dirty_in p.blocks))
+        saying (Does (acts.Filed (name_of (record { 0 = o }) end)) ∷ push_all fed.managers fed.feed) (steps give_if_clean fed (dirty_in p.blocks))
 
-    pub settles_so : settles (serving_at setup works o p) end rows ≡ record { state = serving_at setup works o settled_part; outs = all_told }
-    unfolding settles
-    settles_so =
+    pub serving_settle_so : serving_settle (serving_at setup works o p) end rows ≡ record { state = serving_at setup works o settled_part; outs = all_told }
+    unfolding serving_settle
+    serving_settle_so =
         ap (λ s. finish (feeds s end rows)) (rows_settle setup works o p rows (record { blocks = p.blocks; cached = p.cached }))
         ∙ ap finish feeds_so
         ∙ ap (saying told) (one_given setup works o fed_part b st keep can its_then only_then (dirty_in p.blocks) (dirty_named b p.blocks dirty))
@@ -196,7 +196,7 @@ module _ (setup : Setup) (works : NodeId → List Work) (o : ℕ) (p : ClientPar
 module _ (setup : Setup) (works : NodeId → List Work) (o v index generation : ℕ) (name : SegName) (p : ClientPart) (f : FlightState) (b : BlockId) (st : Stamp)
     (keep : Bool) where
   abbrev its_end : End
-  its_end = log.end_from f.segment
+  its_end = log.end_of f.segment
 
   abbrev landed_part : ClientPart
   landed_part = record p { end = its_end; flight = None }
@@ -210,17 +210,17 @@ module _ (setup : Setup) (works : NodeId → List Work) (o v index generation : 
   abbrev pub its_told : List Effect
   its_told = all_told setup works o landed_part its_end (rows_of f.segment) b st keep
 
-  module _ (flies : p.flight ≡ Some f) (its : is_of f name index generation ≡ true) (lands : fate_of (its_groups setup works) (noting f index) ≡ Settle)
+  module _ (flies : p.flight ≡ Some f) (its : is_of f name index generation ≡ true) (lands : fate_of (its_groups setup works) (flight_note f index) ≡ Settle)
       (empty : p.dirty ≡ []) (newer : nat_lt p.fed f.segment.name.seq ≡ true) (can : CanGive setup works o fed_then b st keep)
       (dirty : is_dirty (held_of p.blocks b) ≡ true) (giving : (held_of p.blocks b).giving ≡ Some (record { stamp = st; keep = keep }))
       (only : (x : BlockId) → (x ≡ b → ⊥) → (held_of p.blocks x).giving ≡ None) where
     abbrev packet : Packet
     packet = record { from = Server v; to = Client o; clock = 0; body = body.Stored (record { name = name; index = index; generation = generation }) }
 
-    packet_settles : on_packet (serving_at setup works o p) packet ≡ record { state = serving_at setup works o then_part; outs = its_told }
+    packet_settles : serving_take (serving_at setup works o p) packet ≡ record { state = serving_at setup works o then_part; outs = its_told }
     packet_settles =
         stored_settles setup works o v index generation name p f flies its lands empty then_part its_told
-        (settles_so setup works o landed_part its_end (rows_of f.segment) b st keep newer can dirty giving only)
+        (serving_settle_so setup works o landed_part its_end (rows_of f.segment) b st keep newer can dirty giving only)
         (none_giving setup works o landed_part its_end (rows_of f.segment) b st keep newer can dirty giving only)
 
     abbrev with_outs : List Effect → NodeStep ClientNode

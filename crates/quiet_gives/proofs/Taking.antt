@@ -6,8 +6,8 @@ use Rattle.std.specs.List.{AllByRecursion}
 use Rattle.std.proofs.lemmas.Bool.Decides.{nat_tests}
 use Rattle.core_world.specs.declared.any_node.AnyNode.{AnyNode}
 use Rattle.core_world.specs.declared.any_node.AnyNode.TheVariants as any
-use Rattle.delta_feed.specs.Transition.{pushed}
-use Rattle.manager_slots.specs.Tokens.{said}
+use Rattle.delta_feed.specs.Transition.{feed_push}
+use Rattle.manager_slots.specs.Tokens.{tokens_say}
 use Rattle.node_base.specs.Effects.{acts_of, packets_of}
 use Rattle.node_base.specs.Nodes.{has_node, peers_of}
 use Rattle.node_base.specs.Setups.{IsSetup}
@@ -19,7 +19,7 @@ use Rattle.token_client.specs.Held.{is_dirty}
 use Rattle.token_client.specs.State.{held_of}
 use Rattle.token_manager.specs.declared.input.In.TheVariants as input
 use Rattle.token_manager.specs.SlotState.{SlotState}
-use Rattle.token_manager.specs.Transition.{Done, answer, finished, has_turns, is_dropped, passers, recall_or_finish, transition, want_of}
+use Rattle.token_manager.specs.Transition.{Done, answer, slot_finish, has_turns, is_dropped, passers, recall_or_finish, transition, want_of}
 use Rattle.version_model.specs.declared.work.Work.{Work}
 use Rattle.wire_msg.specs.declared.body.Body.TheVariants as body
 use Rattle.wire_msg.specs.declared.packet.Packet.{Packet}
@@ -189,8 +189,8 @@ module _ (setup : Setup) (works : NodeId → List Work) (ok : IsSetup setup) (k 
     nothing_new : nat_lt (slice_index pe.acked i) pe.fed ≡ false
     nothing_new = (let acked = acked_is in let fed = d.fed e l u in not_lt_test (slice_index pe.acked i) pe.fed (omega arith))
 
-    pub told_e : pushed (feed_at pe) i ≡ []
-    unfolding pushed
+    pub told_e : feed_push (feed_at pe) i ≡ []
+    unfolding feed_push
     told_e = rw (lt_test i 8 within, nothing_new) refl
 
     there_e : has_node (peers_of setup) (Client e) ≡ true
@@ -235,10 +235,10 @@ module _ (setup : Setup) (works : NodeId → List Work) (ok : IsSetup setup) (k 
 
     -- the slot then, and what it says
     abbrev pub answered_slot : List ℕ → Done
-    answered_slot xs = finished (record z { beliefs = all_given_up b keep z.beliefs xs; jobs = []; turn = z.turn + length xs }) ask
+    answered_slot xs = slot_finish (record z { beliefs = all_given_up b keep z.beliefs xs; jobs = []; turn = z.turn + length xs }) ask
 
     abbrev pub said_then : List ℕ → List Packet
-    said_then xs = map unclocked (packets_of (Manager j) (flat_map (said i z.epoch) (answered_slot xs).outs))
+    said_then xs = map unclocked (packets_of (Manager j) (flat_map (tokens_say i z.epoch) (answered_slot xs).outs))
 
     abbrev z_answered : SlotState
     z_answered = (answered_slot hs).state
@@ -260,7 +260,7 @@ module _ (setup : Setup) (works : NodeId → List Work) (ok : IsSetup setup) (k 
         ap (λ y. transition y (input.Want (want_of c b 1 req 0 mode) end)) slot_is
         ∙ ap (λ t. cond t (still z_then) (recall_or_finish z_then ask (others z_then.beliefs b c keep))) taken_then
         ∙ ap (recall_or_finish z_then ask) none_m
-        ∙ ap (λ t. cond t (finished z_then ask) (still z_then)) left_one
+        ∙ ap (λ t. cond t (slot_finish z_then ask) (still z_then)) left_one
 
     turns_m : HaveTurns m.slot
     turns_m = calm_turns setup (suc k) m.slot few drained_m.slots
@@ -268,17 +268,17 @@ module _ (setup : Setup) (works : NodeId → List Work) (ok : IsSetup setup) (k 
     epoch_m : (m.slot i).epoch ≡ z.epoch
     epoch_m = ap (λ (y : SlotState). y.epoch) slot_is
 
-    no_acts : (epoch : ℕ) (y : SlotState) (cs : List ℕ) → acts_of (Manager j) (flat_map (said i epoch) (answer y ask cs ∷ [])) ≡ []
-    unfolding said
+    no_acts : (epoch : ℕ) (y : SlotState) (cs : List ℕ) → acts_of (Manager j) (flat_map (tokens_say i epoch) (answer y ask cs ∷ [])) ≡ []
+    unfolding tokens_say
     no_acts epoch y [] = refl
     no_acts epoch y (e ∷ cs) = refl
 
     pub as_if : Moves setup works (with_client m c asked) (want_packet ∷ []) (said_then hs) [] h
     as_if =
         subst (λ ps. Moves setup works (with_client m c asked) (want_packet ∷ []) ps [] h)
-        (append-nil _ ∙ ap (λ e. map unclocked (packets_of (Manager j) (flat_map (said i e) (answered_slot hs).outs))) epoch_m)
+        (append-nil _ ∙ ap (λ e. map unclocked (packets_of (Manager j) (flat_map (tokens_say i e) (answered_slot hs).outs))) epoch_m)
         (subst (λ acts. Moves setup works (with_client m c asked) (want_packet ∷ [])
-        (map unclocked (packets_of (Manager j) (flat_map (said i (m.slot i).epoch) (answered_slot hs).outs)) ++ []) acts h)
+        (map unclocked (packets_of (Manager j) (flat_map (tokens_say i (m.slot i).epoch) (answered_slot hs).outs)) ++ []) acts h)
         (append-nil _ ∙ no_acts (m.slot i).epoch z_then (passers z_then ask))
         (slot_takes setup works (with_client m c asked) i z_answered h (Client c) (body.Want its_want) _ [] [] _ [] there_j
         (want_comes setup works j c 0 m.slot its_want within (same_test j) (manager_room setup works j m.slot turns_m) there_c z_answered (answered_slot hs).outs answers_so)

@@ -2,7 +2,7 @@
 use Rattle.std.proofs.Common.{◌≡◌, ℕ, ◌+◌, ◌<◌, ◌==◌, Bool, true, false, not, List, [], ◌∷◌, ◌++◌, length, map, refl, ap, subst, ◌∙◌, append-nil, arith}
 use Rattle.std.specs.Prelude.{flat_map}
 use Rattle.manager_node.specs.Events.{manager_step}
-use Rattle.manager_slots.specs.Tokens.{said}
+use Rattle.manager_slots.specs.Tokens.{tokens_say}
 use Rattle.node_base.specs.Effects.{acts_of, packets_of}
 use Rattle.node_base.specs.Nodes.{has_node, peers_of}
 use Rattle.quiet_flow.specs.Flow.{unclocked}
@@ -10,7 +10,7 @@ use Rattle.slot_beliefs.specs.Beliefs.{others}
 use Rattle.slot_beliefs.specs.declared.job.Wanted.{Wanted}
 use Rattle.slot_beliefs.specs.Recalls.{recalls}
 use Rattle.token_manager.specs.declared.input.In.TheVariants as input
-use Rattle.token_manager.specs.Recalls.{sent}
+use Rattle.token_manager.specs.Recalls.{send_recalls}
 use Rattle.token_manager.specs.SlotState.{SlotState}
 use Rattle.token_manager.specs.declared.output.Out.{Out}
 use Rattle.token_manager.specs.Transition.{Done, has_turns, is_dropped, transition, want_of}
@@ -45,7 +45,7 @@ pub want_recalls : (z : SlotState) (c inc req end : ℕ) (b : BlockId) (mode : M
     → has_turns z.turn (length (d ∷ ds)) ≡ true
     → transition z (input.Want (want_of c b inc req 0 mode) end) ≡ record {
       state = recalling_slot z.epoch z (want_of c b inc req 0 mode) (d ∷ ds);
-      outs = sent b (recalls z.epoch z.turn (not (is_own mode)) (d ∷ ds));
+      outs = send_recalls b (recalls z.epoch z.turn (not (is_own mode)) (d ∷ ds));
     }
 want_recalls z c inc req end b mode d ds none taken theirs room = rw (taken, theirs, some, room, none) refl
   where
@@ -59,13 +59,13 @@ module _ (setup : Setup) (works : NodeId → List Work) (b : BlockId) (keep : Bo
   -- ---- what is sent
 
   pub packets_are : (i epoch turn : ℕ) (ds : List ℕ)
-      → packets_of (Manager j) (flat_map (said i epoch) (sent b (recalls 1 turn keep ds))) ≡ recalls_to setup works b keep turn ds
-  unfolding said
+      → packets_of (Manager j) (flat_map (tokens_say i epoch) (send_recalls b (recalls 1 turn keep ds))) ≡ recalls_to setup works b keep turn ds
+  unfolding tokens_say
   packets_are i epoch turn [] = refl
   packets_are i epoch turn (d ∷ ds) = ap (λ ps. recall_to setup works b keep (turn + 1) d ∷ ps) (packets_are i epoch (turn + 1) ds)
 
-  pub acts_none : (i epoch turn : ℕ) (ds : List ℕ) → acts_of (Manager j) (flat_map (said i epoch) (sent b (recalls 1 turn keep ds))) ≡ []
-  unfolding said
+  pub acts_none : (i epoch turn : ℕ) (ds : List ℕ) → acts_of (Manager j) (flat_map (tokens_say i epoch) (send_recalls b (recalls 1 turn keep ds))) ≡ []
+  unfolding tokens_say
   acts_none i epoch turn [] = refl
   acts_none i epoch turn (d ∷ ds) = acts_none i epoch (turn + 1) ds
 
@@ -105,22 +105,22 @@ module _ (setup : Setup) (works : NodeId → List Work) (b : BlockId) (mode : Mo
     epoch_is = (turns i within).epoch
 
     abbrev outs : List Out
-    outs = sent b (recalls 1 z.turn keeps (d ∷ ds))
+    outs = send_recalls b (recalls 1 z.turn keeps (d ∷ ds))
 
     -- the slot then
     abbrev pub then_ : SlotState
     then_ = recalling_slot 1 z its_want (d ∷ ds)
 
     abbrev as_of : ℕ → Done
-    as_of epoch = record { state = recalling_slot epoch z its_want (d ∷ ds); outs = sent b (recalls epoch z.turn keeps (d ∷ ds)) }
+    as_of epoch = record { state = recalling_slot epoch z its_want (d ∷ ds); outs = send_recalls b (recalls epoch z.turn keeps (d ∷ ds)) }
 
     turns_so : transition z (input.Want (want_of c b 1 req 0 mode) end) ≡ record { state = then_; outs = outs }
     turns_so = want_recalls z c 1 req end b mode d ds none taken theirs room ∙ ap as_of epoch_is
 
     comes : manager_step (manager_at setup works manager s.slot) (Deliver want_packet) ≡ record {
       node = manager_at setup works manager (put_number s.slot i then_);
-      packets = packets_of (Manager manager) (flat_map (said i z.epoch) outs);
-      acts = acts_of (Manager manager) (flat_map (said i z.epoch) outs);
+      packets = packets_of (Manager manager) (flat_map (tokens_say i z.epoch) outs);
+      acts = acts_of (Manager manager) (flat_map (tokens_say i z.epoch) outs);
     }
     comes =
         want_comes setup works manager c 0 s.slot want within (same_test manager) (manager_room setup works manager s.slot turns) there then_ outs turns_so
@@ -129,6 +129,6 @@ module _ (setup : Setup) (works : NodeId → List Work) (b : BlockId) (mode : Mo
     want_moves =
         subst (λ ps. Moves setup works s (want_packet ∷ []) ps [] (with_slot s i then_))
         (append-nil _ ∙ ap (map unclocked) (packets_are setup works b keeps i z.epoch z.turn (d ∷ ds)) ∙ unclocked_are setup works b keeps z.turn (d ∷ ds))
-        (subst (λ acts. Moves setup works s (want_packet ∷ []) (map unclocked (packets_of (Manager manager) (flat_map (said i z.epoch) outs)) ++ []) acts (with_slot s i then_))
+        (subst (λ acts. Moves setup works s (want_packet ∷ []) (map unclocked (packets_of (Manager manager) (flat_map (tokens_say i z.epoch) outs)) ++ []) acts (with_slot s i then_))
         (append-nil _ ∙ acts_none setup works b keeps i z.epoch z.turn (d ∷ ds))
         (slot_takes setup works s i then_ (with_slot s i then_) (Client c) (body.Want want) _ [] [] _ [] managed comes (moves_none setup works (with_slot s i then_))))

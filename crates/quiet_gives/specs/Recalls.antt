@@ -2,12 +2,12 @@
 -- block's slot they change, where the holders are clean.
 use Rattle.std.specs.Prelude.{◌+◌, ℕ, Bool, List, [], ◌∷◌, if◌then◌else◌}
 use Rattle.coop_cache.specs.Transition.{without}
-use Rattle.slot_beliefs.specs.Beliefs.{given_up, holder}
+use Rattle.slot_beliefs.specs.Beliefs.{give_way, holder}
 use Rattle.slot_beliefs.specs.declared.job.Awaited.{Awaited}
 use Rattle.slot_beliefs.specs.declared.job.Holder.{Holder}
 use Rattle.slot_beliefs.specs.declared.job.Wanted.{Wanted}
 use Rattle.slot_beliefs.specs.Recalls.{stamp}
-use Rattle.token_client.specs.Held.{given_up as given_held}
+use Rattle.token_client.specs.Held.{give_up as given_held}
 use Rattle.token_client.specs.declared.held.Held.{Held}
 use Rattle.token_client.specs.State.{held_of, put_held}
 use Rattle.token_manager.specs.SlotState.{SlotState}
@@ -83,7 +83,7 @@ module _ (setup : Setup) (works : NodeId → List Work) (b : BlockId) (keep : Bo
 -- who is believed to hold blocks once each of these gave this one up
 abbrev pub all_given_up : BlockId → Bool → List (Holder × Bool) → List ℕ → List (Holder × Bool)
 all_given_up b keep beliefs [] = beliefs
-all_given_up b keep beliefs (d ∷ ds) = all_given_up b keep (given_up beliefs (holder b d) keep) ds
+all_given_up b keep beliefs (d ∷ ds) = all_given_up b keep (give_way beliefs (holder b d) keep) ds
 
 -- a want waits alone for its block, with these recalls; this is believed meanwhile
 abbrev pub waiting_slot : SlotState → Wanted → List Awaited → List (Holder × Bool) → SlotState

@@ -6,7 +6,7 @@ use Rattle.client_log.specs.Transition.{prior_from}
 use Rattle.core_world.specs.declared.any_node.AnyNode.{AnyNode}
 use Rattle.log_flight.specs.Flights.{none_noted}
 use Rattle.manager_node.specs.Events.{manager_step}
-use Rattle.manager_slots.specs.Tokens.{said}
+use Rattle.manager_slots.specs.Tokens.{tokens_say}
 use Rattle.node_base.specs.Effects.{acts_of, packets_of}
 use Rattle.node_base.specs.Room.{has_long_room}
 use Rattle.node_base.specs.Setups.{IsSetup}
@@ -188,7 +188,7 @@ module _ (setup : Setup) (works : NodeId → List Work) (k : ℕ) (s : Scene) (t
     packets = grant_packet ∷ [];
     acts = [];
   }
-  unfolding said
+  unfolding tokens_say
   grants_so =
       want_comes setup works j c 0 s.slot (record { block = b; inc = 1; req = p.req + 1; again = 0; mode = Own; end = p.end.seq }) (own.within setup works k s c d managers b value few next range asks nobody)
       (same_itself setup works j) (manager_room setup works j s.slot (calm_turns setup k s.slot few d.slots)) (own.has_test setup works k s c d managers b value few next range asks nobody) z _ (want_owns (s.slot i) c 1 (p.req + 1) p.end.seq b

@@ -8,8 +8,8 @@ use Rattle.std.proofs.lemmas.Bool.{false≢true}
 use Rattle.std.proofs.lemmas.Bool.Decides.{nat_tests}
 use Rattle.std.proofs.lemmas.List.Elements.{All-nil, All-cons, All-head, All-tail, All-filter}
 use Rattle.std.proofs.lemmas.Map.Views.{tells_apart}
-use Rattle.slot_beliefs.proofs.Shares.{belief, belief-without_block, found_by, holder_cmp_exact, holder_cmp_total, holder_laws, least, share_at_most}
-use Rattle.slot_beliefs.specs.Beliefs.{holder, holder_cmp, others, owned_by, share, share_of, without_block}
+use Rattle.slot_beliefs.proofs.Shares.{belief, belief-forget_block, found_by, holder_cmp_exact, holder_cmp_total, holder_laws, least, share_at_most}
+use Rattle.slot_beliefs.specs.Beliefs.{holder, holder_cmp, others, beliefs_own, share, share_of, forget_block}
 use Rattle.slot_beliefs.specs.declared.job.Holder.{Holder}
 use Rattle.slot_beliefs.specs.declared.job.Wanted.{Wanted}
 use Rattle.token_manager.specs.Laws.{OwnsAlone}
@@ -45,16 +45,16 @@ module _ (P : Holder → Type 0) (h : Holder) (owns : Bool) where
 
 module _ (bs : List (Holder × Bool)) (b : BlockId) (c : ℕ) where
   abbrev then_ : List (Holder × Bool)
-  then_ = owned_by bs (holder b c)
+  then_ = beliefs_own bs (holder b c)
 
   pub owned_believed : (P : Holder → Type 0) → All (λ (e : Holder × Bool). P e.0) bs → P (holder b c) → All (λ (e : Holder × Bool). P e.0) then_
   owned_believed P all here =
-      all_inserted P (holder b c) true (without_block bs b) (All-filter (λ (e : Holder × Bool). not (same_block e.0.block b)) (λ (e : Holder × Bool). P e.0) bs all) here
+      all_inserted P (holder b c) true (forget_block bs b) (All-filter (λ (e : Holder × Bool). not (same_block e.0.block b)) (λ (e : Holder × Bool). P e.0) bs all) here
 
   belief_is : (q : Holder) → belief then_ q ≡ cond (eq_by_cmp holder_cmp q (holder b c)) (Some true) (cond (same_block q.block b) None (belief bs q))
   belief_is q =
-      lookup-insert_entry holder_cmp_total q (holder b c) true (without_block bs b)
-      ∙ ap (cond (eq_by_cmp holder_cmp q (holder b c)) (Some true)) (belief-without_block q b bs)
+      lookup-insert_entry holder_cmp_total q (holder b c) true (forget_block bs b)
+      ∙ ap (cond (eq_by_cmp holder_cmp q (holder b c)) (Some true)) (belief-forget_block q b bs)
 
   -- the owner
   pub owner_share : share_of then_ b c ≡ 2

@@ -1,18 +1,18 @@
 -- A put that makes 24 wait, when its item begins and at its Grant: the block is written, the item is answered, and the segment is sealed, in one event.
 use Rattle.std.proofs.Common.{◌≡◌, ℕ, ◌+◌, ◌<◌, true, nat_le, List, [], ◌∷◌, ◌++◌, length, map, slice_get, Option, Some, None, is_none, refl, ap, ◌∙◌, append-nil}
 use Rattle.std.proofs.lemmas.Grind.{flat_map-append}
-use Rattle.client_call.specs.Calls.{call_for}
+use Rattle.client_call.specs.Calls.{call_new}
 use Rattle.client_call.specs.declared.call.Plan.TheVariants.{One}
 use Rattle.client_call.specs.Fitting.{put_fits}
 use Rattle.client_log.specs.Transition as log
 use Rattle.client_node.specs.Phases.{client_step, on_deliver, serves_on, stepped}
-use Rattle.client_running.specs.Running.{runs}
-use Rattle.client_serving.specs.Packets.{on_grant, on_packet}
-use Rattle.node_base.specs.Known.{knows_place}
-use Rattle.node_base.specs.Maps.{at_start}
+use Rattle.client_running.specs.Running.{run}
+use Rattle.client_serving.specs.Packets.{on_grant, serving_take}
+use Rattle.node_base.specs.Known.{knows_entry}
+use Rattle.node_base.specs.Maps.{maps_start}
 use Rattle.node_base.specs.Nodes.{has_node, peers_of}
 use Rattle.node_base.specs.Room.{has_long_room}
-use Rattle.node_base.specs.Shape.{is_place}
+use Rattle.node_base.specs.Shape.{is_entry}
 use Rattle.token_client.proofs.Tables.{held_of-put_itself}
 use Rattle.token_client.specs.declared.held.Held.{Held}
 use Rattle.token_client.specs.Transition.{accepts}
@@ -28,7 +28,7 @@ use Rattle.node_base.specs.declared.effects.Effect.{Effect}
 use Rattle.node_base.specs.declared.effects.Effect.TheVariants.{Answer}
 use Rattle.node_base.specs.Effects.{act_of, acts_of, packet_of, packets_of}
 use Rattle.quiet_flow.specs.Flow.{unclocked}
-use Rattle.token_client.specs.Held.{may_write, owned}
+use Rattle.token_client.specs.Held.{may_write, held_own}
 use Rattle.token_client.specs.State.{held_of}
 use Rattle.version_model.specs.declared.act.Act.TheVariants as acts
 use Rattle.version_model.specs.declared.answer.Answer.TheVariants.{Version}
@@ -65,7 +65,7 @@ module _ (setup : Setup) (works : NodeId → List Work) (c : ℕ) (q : ClientPar
   last = Answer item (Version ((held_of q.blocks b).ver + 1)) ∷ []
 
   pub packets_so : map unclocked (packets_of (Client c) does) ≡ stores_to c f f.group.members 0
-  unfolding log.all_sends
+  unfolding log.sending_send
   packets_so =
       ap (λ outs. map unclocked (packets_of (Client c) (outs ++ last))) (append-nil sends)
       ∙ ap (map unclocked) (flat_map-append (packet_of (Client c)) sends last)
@@ -74,7 +74,7 @@ module _ (setup : Setup) (works : NodeId → List Work) (c : ℕ) (q : ClientPar
       ∙ unclocked_are f refl c f.group.members 0
 
   pub acts_so : acts_of (Client c) does ≡ acts.Wrote c b value ∷ acts.Answered (Client c) item (Version ((held_of q.blocks b).ver + 1)) ∷ []
-  unfolding log.all_sends
+  unfolding log.sending_send
   acts_so =
       ap (λ outs. acts.Wrote c b value ∷ acts_of (Client c) (outs ++ last)) (append-nil sends)
       ∙ ap (λ xs. acts.Wrote c b value ∷ xs) (flat_map-append (act_of (Client c)) sends last)
@@ -85,7 +85,7 @@ module _ (setup : Setup) (works : NodeId → List Work) (c : ℕ) (p : ClientPar
     (may : may_write (held_of p.blocks b) ≡ true) (fits : put_fits b ((held_of p.blocks b).ver + 1) value ≡ true) (lands : p.flight ≡ None)
     (full : nat_le 24 (length (waiting_then p b value)) ≡ true) (more : log.has_next p.end.seq ≡ true) where
   abbrev pub mid : ClientPart
-  mid = opened setup works c p (call_for One (Put b value))
+  mid = opened setup works c p (call_new One (Put b value))
 
   abbrev pub filled_at_once : ClientPart
   filled_at_once = record (filled_part setup works c mid b value) { item = None }
@@ -96,17 +96,17 @@ module _ (setup : Setup) (works : NodeId → List Work) (c : ℕ) (p : ClientPar
     acts = acts_of (Client c) (does setup works c mid b value (p.begun + 1));
   }
   fills_begin =
-      begin_steps setup works c p (work.Bput c b value) (call_for One (Put b value)) h left few next idle (λ s n. refl) refl
+      begin_steps setup works c p (work.Bput c b value) (call_new One (Put b value)) h left few next idle (λ s n. refl) refl
       ∙ ap (λ d. stepped (client_at setup works c p) (serves_on d))
       (runs_answered (serving_at setup works c mid) (Put b value) refl (serving_at setup works c (filled_part setup works c mid b value))
       (fills setup works c mid b value ++ []) (block.Put ((held_of p.blocks b).ver + 1)) (put_fills setup works c mid b value may fits lands full more) refl)
 
 -- at its Grant
 module _ (setup : Setup) (works : NodeId → List Work) (c : ℕ) (p : ClientPart) (b : BlockId) (value : Option (List ℕ)) (item : ℕ)
-    (its_call : p.call ≡ Some (call_for One (Put b value))) (its_item : p.item ≡ Some item) (stamp : Stamp) (req : ℕ) (entry : Entry)
+    (its_call : p.call ≡ Some (call_new One (Put b value))) (its_item : p.item ≡ Some item) (stamp : Stamp) (req : ℕ) (entry : Entry)
     (accepted : accepts (tokens_at setup works p) b stamp 1 req Own ≡ true) (j : ℕ) (h : HasRoom setup works c p) (there : has_node (peers_of setup) (Manager j) ≡ true)
-    (long : has_long_room entry.ver ≡ true) (of_log : is_place entry.place ≡ true) (known : knows_place (at_start (its_groups setup works)) entry.place ≡ true)
-    (none : is_none (held_of p.blocks b).giving ≡ true) (may : may_write (owned (held_of p.blocks b) stamp entry.ver) ≡ true)
+    (long : has_long_room entry.ver ≡ true) (of_log : is_entry entry.place ≡ true) (known : knows_entry (maps_start (its_groups setup works)) entry.place ≡ true)
+    (none : is_none (held_of p.blocks b).giving ≡ true) (may : may_write (held_own (held_of p.blocks b) stamp entry.ver) ≡ true)
     (fits : put_fits b (entry.ver + 1) value ≡ true) (lands : p.flight ≡ None) where
   abbrev owns : ClientPart
   owns = owning setup works c p b value item its_call its_item stamp req entry
@@ -120,14 +120,14 @@ module _ (setup : Setup) (works : NodeId → List Work) (c : ℕ) (p : ClientPar
       body = body.Grant (record { block = b; stamp = stamp; inc = 1; req = req; mode = Own; entry = entry });
     }
 
-    itself : held_of owns.blocks b ≡ owned (held_of p.blocks b) stamp entry.ver
-    itself = held_of-put_itself b (owned (held_of p.blocks b) stamp entry.ver) p.blocks
+    itself : held_of owns.blocks b ≡ held_own (held_of p.blocks b) stamp entry.ver
+    itself = held_of-put_itself b (held_own (held_of p.blocks b) stamp entry.ver) p.blocks
 
-    packet_is : on_packet (serving_at setup works c p) packet ≡ record { state = serving_at setup works c owns; outs = [] }
-    unfolding on_packet on_grant
+    packet_is : serving_take (serving_at setup works c p) packet ≡ record { state = serving_at setup works c owns; outs = [] }
+    unfolding serving_take on_grant
     packet_is = rw (known, long, grant_hands setup works c p b value item its_call its_item stamp req entry accepted) refl
 
-    runs_is : runs (serving_at setup works c owns) ≡ record {
+    runs_is : run (serving_at setup works c owns) ≡ record {
       state = serving_at setup works c (record (filled_part setup works c owns b value) { item = None });
       outs = does setup works c owns b value item;
     }

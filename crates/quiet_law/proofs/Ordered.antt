@@ -6,7 +6,7 @@ use Rattle.std.specs.List.{AllByRecursion, filter}
 use Rattle.std.specs.List.Sorted.{IsStrictlySortedBy}
 use Rattle.std.specs.Map.{keys_of}
 use Rattle.slot_beliefs.proofs.Shares.{belief, holder_cmp_total}
-use Rattle.slot_beliefs.specs.Beliefs.{held_by, holder_cmp, owned_by, without_block}
+use Rattle.slot_beliefs.specs.Beliefs.{beliefs_hold, holder_cmp, beliefs_own, forget_block}
 use Rattle.slot_beliefs.specs.declared.job.Holder.{Holder}
 use Rattle.xfs_base.proofs.Sorted.{sorted_insert}
 use Rattle.xfs_base.specs.Blocks.{same_block}
@@ -33,12 +33,12 @@ ordered_filter p (e ∷ es) sorted =
     [ true ↦ (below_filter e.0 p es sorted.0, ordered_filter p es sorted.1) | false ↦ ordered_filter p es sorted.1 ]
 
 -- once one owns the block alone
-pub ordered_owned : (bs : List (Holder × Bool)) (h : Holder) → IsInOrder bs → IsInOrder (owned_by bs h)
+pub ordered_owned : (bs : List (Holder × Bool)) (h : Holder) → IsInOrder bs → IsInOrder (beliefs_own bs h)
 ordered_owned bs h sorted =
-    sorted_insert holder_cmp holder_cmp_total h true (without_block bs h.block) (ordered_filter (λ b. not (same_block b.0.block h.block)) bs sorted)
+    sorted_insert holder_cmp holder_cmp_total h true (forget_block bs h.block) (ordered_filter (λ b. not (same_block b.0.block h.block)) bs sorted)
 
 -- once one holds a copy
-pub ordered_held : (bs : List (Holder × Bool)) (h : Holder) → IsInOrder bs → IsInOrder (held_by bs h)
+pub ordered_held : (bs : List (Holder × Bool)) (h : Holder) → IsInOrder bs → IsInOrder (beliefs_hold bs h)
 ordered_held bs h sorted =
     elim (is_some (belief bs h)) as (λ t. IsInOrder (cond t bs (insert_entry holder_cmp bs h false)))
     [ true ↦ sorted | false ↦ sorted_insert holder_cmp holder_cmp_total h false bs sorted ]

@@ -5,16 +5,16 @@ use Rattle.client_call.specs.Fitting.{block_fits, put_fits, value_fits}
 use Rattle.delta_index.specs.Index.{entry_of}
 use Rattle.group_map.specs.Groups.{group_of}
 use Rattle.log_flight.specs.declared.dirty.Change.{Change}
-use Rattle.node_base.specs.Known.{knows_place}
-use Rattle.node_base.specs.Maps.{at_start}
+use Rattle.node_base.specs.Known.{knows_entry}
+use Rattle.node_base.specs.Maps.{maps_start}
 use Rattle.node_base.specs.Nodes.{has_node, peers_of}
 use Rattle.node_base.specs.Room.{has_long_room, has_room}
-use Rattle.node_base.specs.Shape.{is_place}
-use Rattle.slot_beliefs.specs.Beliefs.{holder, owned_by, share_of}
+use Rattle.node_base.specs.Shape.{is_entry}
+use Rattle.slot_beliefs.specs.Beliefs.{holder, beliefs_own, share_of}
 use Rattle.slot_beliefs.specs.Recalls.{applied_of, stamp}
 use Rattle.token_client.proofs.Tables.{held_of-put_itself}
 use Rattle.token_client.specs.declared.held.Held.{Held}
-use Rattle.token_client.specs.Held.{asked as asked_for, is_answer, is_dirty, may_write, owned, written}
+use Rattle.token_client.specs.Held.{held_ask as asked_for, is_answer, is_dirty, may_write, held_own, held_write}
 use Rattle.token_client.specs.Repetitions.{repetition}
 use Rattle.token_client.specs.State.{held_of, put_held}
 use Rattle.token_client.specs.Transition.{accepts}
@@ -163,20 +163,20 @@ module _ (setup : Setup) (works : NodeId → List Work) (k : ℕ) (s : Scene) (c
       (ap (λ n. n == z.epoch) (promised i within) ∙ ap (λ n. 1 == n) calm.epoch)
       (ap (λ x. is_answer x its_stamp (p.req + 1) Own) first_is ∙ answers_it)
 
-  pub place_of_log : (o : Option Place) → IsPlaceReadable setup works s b o → is_place o ≡ true
+  pub place_of_log : (o : Option Place) → IsPlaceReadable setup works s b o → is_entry o ≡ true
   place_of_log None r = refl
   place_of_log (Some place) r = r.of_log
 
-  pub place_known : (o : Option Place) → IsPlaceReadable setup works s b o → knows_place (at_start (its_groups setup works)) o ≡ true
+  pub place_known : (o : Option Place) → IsPlaceReadable setup works s b o → knows_entry (maps_start (its_groups setup works)) o ≡ true
   place_known None r = refl
   place_known (Some place) r = ap is_some (ap (group_of (its_groups setup works)) (sym r.group_id) ∙ r.known)
 
   pub its_place : IsPlaceReadable setup works s b entry.place
   its_place = d.legible i within b refl
 
-  pub more : may_write (owned (held_of first_blocks b) its_stamp entry.ver) ≡ true
+  pub more : may_write (held_own (held_of first_blocks b) its_stamp entry.ver) ≡ true
   more =
-      ap (λ x. may_write (owned x its_stamp entry.ver)) first_is
+      ap (λ x. may_write (held_own x its_stamp entry.ver)) first_is
       ∙ ap (λ g. (true && is_none g) && nat_lt entry.ver u64_end) quiet.giving
       ∙ lt_test entry.ver u64_end (let low = below_long k entry.ver few low_entry in omega arith)
 
@@ -199,10 +199,10 @@ module _ (setup : Setup) (works : NodeId → List Work) (k : ℕ) (s : Scene) (c
   pub long : has_long_room entry.ver ≡ true
   long = long_room k entry.ver few low_entry
 
-  pub its_log : is_place entry.place ≡ true
+  pub its_log : is_entry entry.place ≡ true
   its_log = place_of_log entry.place its_place
 
-  pub its_known : knows_place (at_start (its_groups setup works)) entry.place ≡ true
+  pub its_known : knows_entry (maps_start (its_groups setup works)) entry.place ≡ true
   its_known = place_known entry.place its_place
 
   pub none_given : is_none (held_of first_blocks b).giving ≡ true
@@ -215,30 +215,30 @@ module _ (setup : Setup) (works : NodeId → List Work) (k : ℕ) (s : Scene) (c
   q = record (put_part second b value) { item = None }
 
   abbrev pub z_then : SlotState
-  z_then = record z { beliefs = owned_by z.beliefs (holder b c); turn = z.turn + 1 }
+  z_then = record z { beliefs = beliefs_own z.beliefs (holder b c); turn = z.turn + 1 }
 
   abbrev pub u : Scene
   u = with_client (with_slot s i z_then) c q
 
   abbrev pub owns_now : Held
-  owns_now = owned (held_of first_blocks b) its_stamp entry.ver
+  owns_now = held_own (held_of first_blocks b) its_stamp entry.ver
 
   abbrev pub second_blocks : List (BlockId × Held)
   second_blocks = put_held first_blocks b owns_now
 
   abbrev pub writes_now : Held
-  writes_now = written (held_of second_blocks b) value
+  writes_now = held_write (held_of second_blocks b) value
 
   abbrev pub last_blocks : List (BlockId × Held)
   last_blocks = put_held second_blocks b writes_now
 
   abbrev pub held_then : Held
-  held_then = written (owned first_held its_stamp entry.ver) value
+  held_then = held_write (held_own first_held its_stamp entry.ver) value
 
   pub last_is : held_of last_blocks b ≡ held_then
   last_is =
       held_of-put_itself b writes_now second_blocks
-      ∙ ap (λ x. written x value) (held_of-put_itself b owns_now first_blocks ∙ ap (λ x. owned x its_stamp entry.ver) first_is)
+      ∙ ap (λ x. held_write x value) (held_of-put_itself b owns_now first_blocks ∙ ap (λ x. held_own x its_stamp entry.ver) first_is)
 
   pub others_as : (x : BlockId) → (x ≡ b → ⊥) → held_of last_blocks x ≡ held_of p.blocks x
   others_as x differs = other_held b writes_now second_blocks x differs ∙ other_held b owns_now first_blocks x differs ∙ other_held b first_held p.blocks x differs

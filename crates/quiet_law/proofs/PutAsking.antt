@@ -2,7 +2,7 @@
 use Rattle.std.proofs.Common.{◌≡◌, ℕ, ◌<◌, ◌&&◌, false, cond, nat_lt, List, [], ◌∷◌, length, slice_index, Option, is_none, refl, sym, ap, ◌∙◌, arith, true}
 use Rattle.std.proofs.lemmas.Option.{slice_get_within}
 use Rattle.client_node.specs.Phases.{client_step}
-use Rattle.delta_feed.specs.Transition.{pushed}
+use Rattle.delta_feed.specs.Transition.{feed_push}
 use Rattle.token_client.specs.declared.held.Held.{Held}
 use Rattle.token_client.specs.Held.{may_write, must_ask}
 use Rattle.token_client.specs.State.{held_of}
@@ -62,8 +62,8 @@ module _ (setup : Setup) (works : NodeId → List Work) (k : ℕ) (s : Scene) (c
   nothing_new : nat_lt (slice_index p.acked i) p.fed ≡ false
   nothing_new = (let acked = acked_is in let fed = d.fed c next.client.0 next.client.1 in not_lt_test (slice_index p.acked i) p.fed (omega arith))
 
-  pub told : pushed (feed_at p) i ≡ []
-  unfolding pushed
+  pub told : feed_push (feed_at p) i ≡ []
+  unfolding feed_push
   told = rw (lt_test i 8 within, nothing_new) refl
 
   pub must : must_ask h Own ≡ true

@@ -6,9 +6,9 @@ use Rattle.delta_feed.specs.declared.feed.FiledDeltas.{FiledDeltas}
 use Rattle.delta_feed.specs.Transition.{rows_after, slot_rows}
 use Rattle.log_flight.specs.declared.dirty.Change.{Change}
 use Rattle.log_flight.specs.Items.{change_items, items_of}
-use Rattle.node_base.specs.Known.{knows_place}
-use Rattle.node_base.specs.Maps.{at_start, knows}
-use Rattle.node_base.specs.Shape.{is_name, is_place}
+use Rattle.node_base.specs.Known.{knows_entry}
+use Rattle.node_base.specs.Maps.{maps_start, knows}
+use Rattle.node_base.specs.Shape.{is_name, is_entry}
 use Rattle.segment_format.specs.declared.segment.Item.{Item}
 use Rattle.segment_format.specs.declared.segment.Item.TheVariants.{Block, Delta}
 use Rattle.segment_format.specs.declared.segment.Segment.{Segment}
@@ -102,25 +102,25 @@ module _ (s : Segment) where
 
   -- ---- managers take them
 
-  module _ (setup : Setup) (works : NodeId → List Work) (of_log : is_name s.name ≡ true) (group : knows (at_start (its_groups setup works)) s.group ≡ true) where
-    place_of_log : (b : BlockId) (o : Option Place) → IsLying b o → is_place o ≡ true
+  module _ (setup : Setup) (works : NodeId → List Work) (of_log : is_name s.name ≡ true) (group : knows (maps_start (its_groups setup works)) s.group ≡ true) where
+    place_of_log : (b : BlockId) (o : Option Place) → IsLying b o → is_entry o ≡ true
     place_of_log b None lies = refl
     place_of_log b (Some place) lies = ap (λ (r : SegRef). is_name r.name) lies.0 ∙ of_log
 
-    place_known : (b : BlockId) (o : Option Place) → IsLying b o → knows_place (at_start (its_groups setup works)) o ≡ true
+    place_known : (b : BlockId) (o : Option Place) → IsLying b o → knows_entry (maps_start (its_groups setup works)) o ≡ true
     place_known b None lies = refl
-    place_known b (Some place) lies = ap (λ (r : SegRef). knows (at_start (its_groups setup works)) r.group) lies.0 ∙ group
+    place_known b (Some place) lies = ap (λ (r : SegRef). knows (maps_start (its_groups setup works)) r.group) lies.0 ∙ group
 
-    pub rows_of_log : (rows : List (BlockId × Entry)) → AreLying rows → list_all (λ (row : BlockId × Entry). is_place row.1.place) rows ≡ true
+    pub rows_of_log : (rows : List (BlockId × Entry)) → AreLying rows → list_all (λ (row : BlockId × Entry). is_entry row.1.place) rows ≡ true
     rows_of_log =
-        all_pass (λ (row : BlockId × Entry). IsLying row.0 row.1.place) (λ (row : BlockId × Entry). is_place row.1.place)
+        all_pass (λ (row : BlockId × Entry). IsLying row.0 row.1.place) (λ (row : BlockId × Entry). is_entry row.1.place)
         (λ row lies. place_of_log row.0 row.1.place lies)
 
     pub rows_known : (rows : List (BlockId × Entry)) → AreLying rows
-        → list_all (λ (row : BlockId × Entry). knows_place (at_start (its_groups setup works)) row.1.place) rows ≡ true
+        → list_all (λ (row : BlockId × Entry). knows_entry (maps_start (its_groups setup works)) row.1.place) rows ≡ true
     rows_known =
         all_pass (λ (row : BlockId × Entry). IsLying row.0 row.1.place)
-        (λ (row : BlockId × Entry). knows_place (at_start (its_groups setup works)) row.1.place)
+        (λ (row : BlockId × Entry). knows_entry (maps_start (its_groups setup works)) row.1.place)
         (λ row lies. place_known row.0 row.1.place lies)
 
 -- ---- counts can rise by few rows

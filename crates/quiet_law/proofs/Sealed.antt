@@ -4,7 +4,7 @@ use Rattle.std.proofs.Common.{◌≡◌, ℕ, suc, ◌+◌, ◌<◌, ◌≤◌, 
 use Rattle.std.specs.Prelude.{nat_eq}
 use Rattle.std.specs.List.{AllByRecursion, IsDistinct}
 use Rattle.std.proofs.lemmas.List.Elements.{All-head, All-tail}
-use Rattle.client_log.specs.Transition.{end_from, prior_from}
+use Rattle.client_log.specs.Transition.{end_of, prior_from}
 use Rattle.delta_feed.specs.Transition.{slot_rows}
 use Rattle.delta_index.specs.Index.{entry_of}
 use Rattle.fragment_store.specs.ShelfState.{held_at}
@@ -12,14 +12,14 @@ use Rattle.group_map.specs.declared.group.Group.{Group}
 use Rattle.group_map.specs.declared.group.Member.{Member}
 use Rattle.group_map.specs.Groups.{group_of}
 use Rattle.log_flight.specs.Flights.{FlightState}
-use Rattle.log_flight.specs.Fragments.{piece}
+use Rattle.log_flight.specs.Fragments.{flight_fragment}
 use Rattle.node_base.specs.Known.{knows_meta}
-use Rattle.node_base.specs.Maps.{at_start, knows_prior}
+use Rattle.node_base.specs.Maps.{maps_start, knows_prior}
 use Rattle.node_base.specs.Shape.{is_meta, is_name}
 use Rattle.quiet_flow.proofs.Places.{has_fact}
 use Rattle.segment_format.specs.Ranges.{FitsPrior}
 use Rattle.segment_reading.specs.Reading.{is_known}
-use Rattle.slot_beliefs.specs.Index.{indexed_all}
+use Rattle.slot_beliefs.specs.Index.{merge_all}
 use Rattle.token_manager.specs.SlotState.{SlotState}
 use Rattle.version_model.specs.declared.work.Work.{Work}
 use Rattle.xfs_base.proofs.Alls.{all_filter, all_weaker}
@@ -58,13 +58,13 @@ module _ (setup : Setup) (works : NodeId → List Work) (k : ℕ) (s u : Scene) 
   pub record IsNext : Type 0 where
     pub log : seg.log.0 ≡ c
     pub seq : seg.seq ≡ (s.client c).end.seq + 1
-    pub end : q.end ≡ end_from f.segment
+    pub end : q.end ≡ end_of f.segment
     pub taken : IsTaken setup works f
     pub group : group_of (its_groups setup works) f.segment.group ≡ Some f.group
     pub prior : is_known (its_groups setup works) f.segment.prior ≡ true
     pub lying : AreLying f.segment rows
     pub spelled : IsSpelled f.segment
-    pub end_fits : FitsPrior (prior_from (end_from f.segment))
+    pub end_fits : FitsPrior (prior_from (end_of f.segment))
     pub each : AllByRecursion (IsFirst setup) f.group.members
     pub differ : IsDistinct nat_eq (map (λ (m : Member). m.server) f.group.members)
 
@@ -74,7 +74,7 @@ module _ (setup : Setup) (works : NodeId → List Work) (k : ℕ) (s u : Scene) 
     pub client : u.client c ≡ q
     pub slots : (i : ℕ) → i < 8 → u.slot i ≡ z i
     pub held : (v : ℕ) → u.held v ≡ with_pieces setup works s.held f f.group.members 0 v
-    pub entries : (i : ℕ) → i < 8 → (z i).index.rows ≡ (indexed_all (s.slot i).index (slot_rows i rows)).rows
+    pub entries : (i : ℕ) → i < 8 → (z i).index.rows ≡ (merge_all (s.slot i).index (slot_rows i rows)).rows
 
   -- what of it is as it should be
   pub record AreRight : Type 0 where
@@ -122,15 +122,15 @@ module _ (setup : Setup) (works : NodeId → List Work) (k : ℕ) (s u : Scene) 
       filed = (let low = h.filed in let more = ends_rise g.meta.name.log.0 in omega arith);
     }
 
-    its_meta : (place : ℕ) → (piece f.segment f.group place).meta.name ≡ seg
+    its_meta : (place : ℕ) → (flight_fragment f.segment f.group place).meta.name ≡ seg
     its_meta place = ap (λ (m : FragMeta). m.name) (meta_is f place)
 
-    piece_shelved : (place : ℕ) → IsShelved setup works u (piece f.segment f.group place)
+    piece_shelved : (place : ℕ) → IsShelved setup works u (flight_fragment f.segment f.group place)
     piece_shelved place = record {
       of_log = ap is_meta (meta_is f place) ∙ next.taken.of_log;
       known =
-          ap (knows_meta (at_start (its_groups setup works))) (meta_is f place)
-          ∙ ap (λ t. t && knows_prior (at_start (its_groups setup works)) f.segment.prior) next.taken.group
+          ap (knows_meta (maps_start (its_groups setup works))) (meta_is f place)
+          ∙ ap (λ t. t && knows_prior (maps_start (its_groups setup works)) f.segment.prior) next.taken.group
           ∙ next.taken.prior;
       filed = subst (λ (n : SegName). n.seq ≤ (u.client n.log.0).end.seq) (sym (its_meta place))
           (subst (λ l. seg.seq ≤ (u.client l).end.seq) (sym next.log)
@@ -168,7 +168,7 @@ module _ (setup : Setup) (works : NodeId → List Work) (k : ℕ) (s u : Scene) 
           ap (held_at (u.held _)) (ap (λ (r : SegRef). r.name) lies.0)
           ∙ ap (λ fs. held_at fs seg) (told.held _)
           ∙ pieces_have setup works f f.group.members 0 s.held next.differ (all_new f.group.members next.each) at within
-          ∙ ap (λ n. Some (piece f.segment f.group n)) (from_none at);
+          ∙ ap (λ n. Some (flight_fragment f.segment f.group n)) (from_none at);
     }
 
     legible_then : (i : ℕ) → i < 8 → (b : BlockId) → slot_of b.ino.0 ≡ i → IsPlaceReadable setup works u b (entry_of (u.slot i).index.rows b).place

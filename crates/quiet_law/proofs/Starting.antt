@@ -3,7 +3,7 @@ use Rattle.std.proofs.Common.{◌≡◌, ◌≤◌, ℕ, zero, suc, true, false,
 use Rattle.std.proofs.lemmas.Bool.{false≢true}
 use Rattle.std.proofs.lemmas.List.Elements.{All-nil}
 use Rattle.slot_beliefs.proofs.Counting.{nothing_counted}
-use Rattle.token_client.specs.Held.{unknown}
+use Rattle.token_client.specs.Held.{held_new}
 use Rattle.version_model.specs.declared.work.Work.{Work}
 use Rattle.xfs_base.specs.declared.node.NodeId.{NodeId}
 use Rattle.xfs_base.specs.declared.setup.Setup.{Setup}
@@ -16,7 +16,7 @@ all_zero zero i = refl
 all_zero (suc n) zero = refl
 all_zero (suc n) (suc i) = all_zero n i
 
-quiet : IsQuietBlock 0 unknown
+quiet : IsQuietBlock 0 held_new
 quiet = record { want = refl; fetch = refl; giving = refl; owned = λ dirty. absurd (false≢true dirty); low = omega arith; settled_low = omega arith }
 
 idle : IsIdle 0 first_part

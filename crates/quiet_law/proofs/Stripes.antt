@@ -9,11 +9,11 @@ use Rattle.std.proofs.lemmas.List.Elements.{All-cons, All-head, All-nil, All-tai
 use Rattle.group_map.proofs.AlwaysCurrent.{some_current}
 use Rattle.group_map.proofs.Numbers.{IsCurrent-chosen, length-numbered}
 use Rattle.group_map.proofs.Presence.{is_present}
-use Rattle.group_map.proofs.WellFormedMaps.{IsGroupMap-started}
+use Rattle.group_map.proofs.WellFormedMaps.{IsGroupMap-group_map_start}
 use Rattle.group_map.specs.declared.group.Group.{Group}
 use Rattle.group_map.specs.declared.group.Member.{Member}
 use Rattle.group_map.specs.GroupMapState.{GroupMapState}
-use Rattle.group_map.specs.Groups.{chosen, current_ids, first_layout, generation_at, group_of}
+use Rattle.group_map.specs.Groups.{group_map_choose, current_ids, first_layout, generation_at, group_of}
 use Rattle.group_map.specs.Sizes.{is_group_size}
 use Rattle.group_map.specs.WellFormed.{IsGroupMap, IsNumbered, IsServer, IsStripe}
 use Rattle.log_flight.specs.Flights.{group_for, no_group}
@@ -47,7 +47,7 @@ module _ (setup : Setup) (works : NodeId → List Work) (ok : IsSetup setup) whe
 
   well_formed : IsGroupMap groups
   well_formed =
-      IsGroupMap-started setup.servers setup.groups ok.count.0 (let few = ok.count.1 in omega arith) ok.sizes ok.exist ok.differ ok.parity
+      IsGroupMap-group_map_start setup.servers setup.groups ok.count.0 (let few = ok.count.1 in omega arith) ok.sizes ok.exist ok.differ ok.parity
 
   low_ids : (id : ℕ) (gs : List Group) → IsNumbered id gs → id + length gs ≤ 2 ^ 32 → All (λ (g : Group). g.id < 2 ^ 32) gs
   low_ids id [] numbered h = All-nil (λ (g : Group). g.id < 2 ^ 32)
@@ -95,20 +95,20 @@ module _ (setup : Setup) (works : NodeId → List Work) (ok : IsSetup setup) whe
   at_most : (parity n : ℕ) → is_group_size parity n ≡ true → n ≤ 8
   at_most parity n h = grind (arith, nat_tests)
 
-  striped_by : (log seq : ℕ) (o : Option Group) → group_of groups (chosen groups.groups log seq) ≡ o → IsSomeAnd o (λ (g : Group). IsTrue g.current)
+  striped_by : (log seq : ℕ) (o : Option Group) → group_of groups (group_map_choose groups.groups log seq) ≡ o → IsSomeAnd o (λ (g : Group). IsTrue g.current)
       → IsStriped (group_for groups log seq)
   unfolding group_for
   striped_by log seq None fact some = absurd some
   striped_by log seq (Some g) fact current =
       let stripe : IsStripe setup.servers g.parity g.members =
-      found_is (λ (x : Group). IsStripe setup.servers x.parity x.members) (λ (x : Group). x.id == chosen groups.groups log seq) groups.groups g well_formed.stripes fact in
-      let its_id : g.id ≡ chosen groups.groups log seq =
-      eqb-true g.id (chosen groups.groups log seq) (passes_is (λ (x : Group). x.id == chosen groups.groups log seq) groups.groups g fact) in
+      found_is (λ (x : Group). IsStripe setup.servers x.parity x.members) (λ (x : Group). x.id == group_map_choose groups.groups log seq) groups.groups g well_formed.stripes fact in
+      let its_id : g.id ≡ group_map_choose groups.groups log seq =
+      eqb-true g.id (group_map_choose groups.groups log seq) (passes_is (λ (x : Group). x.id == group_map_choose groups.groups log seq) groups.groups g fact) in
       subst IsStriped (sym (ap (λ o. unwrap_or o no_group) fact)) (record {
         found = subst (λ id. group_of groups id ≡ Some g) (sym its_id) fact;
-        each = all_first g.members stripe.exist (is_present groups (chosen groups.groups log seq) g well_formed.present fact current);
+        each = all_first g.members stripe.exist (is_present groups (group_map_choose groups.groups log seq) g well_formed.present fact current);
         differ = stripe.differ;
-        low = found_is (λ (x : Group). x.id < 2 ^ 32) (λ (x : Group). x.id == chosen groups.groups log seq) groups.groups g all_low fact;
+        low = found_is (λ (x : Group). x.id < 2 ^ 32) (λ (x : Group). x.id == group_map_choose groups.groups log seq) groups.groups g all_low fact;
         some = at_least g.parity (length g.members) stripe.size;
         few = at_most g.parity (length g.members) stripe.size;
       })
@@ -116,5 +116,5 @@ module _ (setup : Setup) (works : NodeId → List Work) (ok : IsSetup setup) whe
   -- that of the next segment of a log is so
   pub striped : (log seq : ℕ) → IsStriped (group_for groups log seq)
   striped log seq =
-      striped_by log seq (group_of groups (chosen groups.groups log seq)) refl
+      striped_by log seq (group_of groups (group_map_choose groups.groups log seq)) refl
       (IsCurrent-chosen 1 groups.groups ((log + seq) % length (current_ids groups.groups)) well_formed.by_id (among log seq))

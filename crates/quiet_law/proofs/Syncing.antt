@@ -1,11 +1,11 @@
 -- A sync where something waits: from one drained state to the next by 2n + 16 deliveries, where n members have the group of the next segment.
 use Rattle.std.proofs.Common.{◌≡◌, inl, ℕ, suc, ◌+◌, ◌-◌, ◌*◌, ◌<◌, ◌≤◌, Bool, true, cond, List, [], ◌∷◌, ◌++◌, map, length, slice_index, Option, Some, None, refl, sym, ap, subst, ◌∙◌, append-nil, arith}
 use Rattle.std.proofs.lemmas.Option.{slice_get_within}
-use Rattle.client_call.specs.Calls.{call_for}
+use Rattle.client_call.specs.Calls.{call_new}
 use Rattle.client_call.specs.declared.call.Call.{Call}
 use Rattle.client_call.specs.declared.call.Plan.TheVariants.{One}
 use Rattle.client_log.specs.Transition as log
-use Rattle.client_log.specs.Transition.{end_from, prior_from}
+use Rattle.client_log.specs.Transition.{end_of, prior_from}
 use Rattle.client_node.specs.Phases.{client_step}
 use Rattle.core_world.specs.declared.any_node.AnyNode.{AnyNode}
 use Rattle.file_plan.specs.declared.block_call.BlockCall.TheVariants.{Sync}
@@ -71,7 +71,7 @@ module _ (setup : Setup) (works : NodeId → List Work) (k : ℕ) (s : Scene) (t
 
   -- the client whose sync is open, and has sealed nothing yet
   abbrev syncs : ClientPart
-  syncs = record p { begun = item; item = Some item; call = Some (call_for One Sync) }
+  syncs = record p { begun = item; item = Some item; call = Some (call_new One Sync) }
 
   -- whichever call is open
   can_with : (number : ℕ) (one : Option ℕ) (call : Option Call) → CanSeal (suc k) (record p { begun = number; item = one; call = call })
@@ -88,7 +88,7 @@ module _ (setup : Setup) (works : NodeId → List Work) (k : ℕ) (s : Scene) (t
   })
 
   can : CanSeal (suc k) syncs
-  can = can_with item (Some item) (Some (call_for One Sync))
+  can = can_with item (Some item) (Some (call_new One Sync))
 
   fed : p.fed ≡ p.end.seq
   fed = d.fed c least most
@@ -188,18 +188,18 @@ module _ (setup : Setup) (works : NodeId → List Work) (k : ℕ) (s : Scene) (t
       (lt_test p.end.seq u32_end (let low = idle.end_low in omega (arith, few)))
 
   packets_so : map unclocked (packets_of (Client c) (stores setup works c p ++ [])) ≡ stores_to c f f.group.members 0
-  unfolding log.all_sends
+  unfolding log.sending_send
   packets_so =
       ap (λ outs. map unclocked (packets_of (Client c) outs)) (append-nil (stores setup works c p))
       ∙ ap (map unclocked) (packets_are f refl c f.group.members 0)
       ∙ unclocked_are f refl c f.group.members 0
 
   acts_so : acts_of (Client c) (stores setup works c p ++ []) ≡ []
-  unfolding log.all_sends
+  unfolding log.sending_send
   acts_so = ap (acts_of (Client c)) (append-nil (stores setup works c p)) ∙ acts_none f refl c f.group.members 0
 
   abbrev filed : Act
-  filed = acts.Filed (name_of (record { 0 = c }) (end_from f.segment))
+  filed = acts.Filed (name_of (record { 0 = c }) (end_of f.segment))
 
   one : AnswersIt c item
       (acts_of (Client c) (stores setup works c p ++ []) ++ (writing.done_by setup works (suc k) c s syncs can ok few_more least most fed linked acked ready after ++ []))

@@ -2,14 +2,14 @@
 use Rattle.std.proofs.Common.{◌≡◌, ℕ, suc, ◌+◌, ◌-◌, ◌<◌, ◌≤◌, ◌==◌, Bool, true, cond, List, [], ◌∷◌, ◌++◌, length, replicate, slice_index, None, refl, sym, ap, subst, ◌∙◌, append-nil, arith}
 use Rattle.std.proofs.lemmas.List.{get_or-replicate, get_or-set_other, get_or-set_same}
 use Rattle.std.proofs.Math.ListN.{length-set}
-use Rattle.client_log.specs.Transition.{end_from, prior_from}
+use Rattle.client_log.specs.Transition.{end_of, prior_from}
 use Rattle.client_node.specs.declared.client.Client.{Client as ClientNode}
 use Rattle.delta_feed.specs.Transition.{slot_rows}
 use Rattle.delta_index.specs.Index.{entry_of}
-use Rattle.fragment_store.specs.Calls.{kept}
+use Rattle.fragment_store.specs.Calls.{shelf_store}
 use Rattle.group_map.specs.declared.group.Member.{Member}
 use Rattle.log_flight.specs.Flights.{FlightState, is_of, none_noted}
-use Rattle.log_flight.specs.Fragments.{piece}
+use Rattle.log_flight.specs.Fragments.{flight_fragment}
 use Rattle.log_owner.specs.Sending.{name_of}
 use Rattle.node_base.specs.declared.effects.Effect.{Effect}
 use Rattle.node_base.specs.Effects.{acts_of, packets_of}
@@ -18,7 +18,7 @@ use Rattle.node_base.specs.Shape.{is_name}
 use Rattle.segment_format.specs.Ranges.{FitsPrior}
 use Rattle.segment_reading.specs.Reading.{is_known}
 use Rattle.slot_beliefs.specs.Beliefs.{share_of}
-use Rattle.slot_beliefs.specs.Index.{Indexed, IsCounted, indexed_all}
+use Rattle.slot_beliefs.specs.Index.{Indexed, IsCounted, merge_all}
 use Rattle.token_manager.specs.SlotState.{SlotState}
 use Rattle.token_manager.specs.Transition.{with_deltas}
 use Rattle.version_model.specs.declared.act.Act.{Act}
@@ -58,7 +58,7 @@ module _ (setup : Setup) (works : NodeId → List Work) (f : FlightState) where
   one_same : (x : Member) (place : ℕ) (g h : ℕ → List Fragment) → ((v : ℕ) → g v ≡ h v) → (v : ℕ)
       → with_piece setup works g f x place v ≡ with_piece setup works h f x place v
   one_same x place g h same v =
-      ap (λ fs. cond (v == x.server) (kept (shelf_at setup works fs) (piece f.segment f.group place)).held (g v)) (same x.server)
+      ap (λ fs. cond (v == x.server) (shelf_store (shelf_at setup works fs) (flight_fragment f.segment f.group place)).held (g v)) (same x.server)
       ∙ ap (λ fs. cond (v == x.server) (kept_by setup works h f x place) fs) (same v)
 
   same_shelves : (xs : List Member) (place : ℕ) (g h : ℕ → List Fragment) → ((v : ℕ) → g v ≡ h v) → (v : ℕ)
@@ -124,7 +124,7 @@ module _ (setup : Setup) (works : NodeId → List Work) (k c : ℕ) (m : Scene) 
       ∙ ap as_told (sym (append-nil told))
 
   abbrev pub filed : Act
-  filed = acts.Filed (name_of (record { 0 = c }) (end_from f.segment))
+  filed = acts.Filed (name_of (record { 0 = c }) (end_of f.segment))
 
   abbrev pub count : ℕ
   count = writing.count setup works (suc k) c m base can ok few least most fed linked acked ready
@@ -185,8 +185,8 @@ module _ (setup : Setup) (works : NodeId → List Work) (k c : ℕ) (m : Scene) 
           let then_ = calm_told setup k (s.slot i) (record { 0 = c }) seq (slot_rows i rows) (d.slots i within)
           (let less = fewer i rows in let small = rows_few setup works (suc k) c base can in omega arith)
           (all_filter _ _ rows (rows_low setup works (suc k) c base can)) in
-          let same : indexed_all (s.slot i).index (slot_rows i rows) ≡ indexed_all (m.slot i).index (slot_rows i rows) =
-          ap (λ (x : Indexed). indexed_all x (slot_rows i rows)) (sym (w.index i within)) in
+          let same : merge_all (s.slot i).index (slot_rows i rows) ≡ merge_all (m.slot i).index (slot_rows i rows) =
+          ap (λ (x : Indexed). merge_all x (slot_rows i rows)) (sym (w.index i within)) in
           record {
             epoch = now.epoch;
             jobs = now.jobs;
@@ -244,7 +244,7 @@ module _ (setup : Setup) (works : NodeId → List Work) (k c : ℕ) (m : Scene) 
             client = ap (λ t. cond t q (m.client c)) (same_test c);
             slots = told_at setup works (suc k) c m base can ok few least most fed linked acked ready;
             held = held_so;
-            entries = λ i within. ap (λ (x : Indexed). (indexed_all x (slot_rows i rows)).rows) (w.index i within);
+            entries = λ i within. ap (λ (x : Indexed). (merge_all x (slot_rows i rows)).rows) (w.index i within);
           })
           (record {
             idle = synced_idle setup works (suc k) c base can q synced;

@@ -15,7 +15,7 @@ use Rattle.segment_format.specs.declared.segment.Item.{Item}
 use Rattle.segment_format.specs.declared.segment.Segment.{Segment}
 use Rattle.segment_format.specs.Rows.{row_of}
 use Rattle.slot_beliefs.proofs.Counting.{keeps-counted-all}
-use Rattle.slot_beliefs.specs.Index.{Indexed, indexed, indexed_all}
+use Rattle.slot_beliefs.specs.Index.{Indexed, block_index_merge, merge_all}
 use Rattle.token_client.specs.declared.held.Held.{Held}
 use Rattle.token_client.specs.State.{held_of}
 use Rattle.token_manager.specs.SlotState.{SlotState}
@@ -82,11 +82,11 @@ chained : (a b c d : ℕ) → a ≤ b + c → b ≤ d + 1 → a ≤ d + suc c
 chained a b c d h g = omega arith
 
 -- there are no more rows than there were and come
-pub indexed_length : (rows : List (BlockId × Entry)) (i : Indexed) → length (indexed_all i rows).rows ≤ length i.rows + length rows
-unfolding indexed
+pub indexed_length : (rows : List (BlockId × Entry)) (i : Indexed) → length (merge_all i rows).rows ≤ length i.rows + length rows
+unfolding block_index_merge
 indexed_length [] i = omega arith
 indexed_length (m ∷ ms) i =
-    chained (length (indexed_all (indexed i m) ms).rows) (length (merged i.rows m.0 m.1)) (length ms) (length i.rows) (indexed_length ms (indexed i m))
+    chained (length (merge_all (block_index_merge i m) ms).rows) (length (merged i.rows m.0 m.1)) (length ms) (length i.rows) (indexed_length ms (block_index_merge i m))
     (merged_length i.rows m.0 m.1)
 
 -- what holds of each entry, and of each row that comes, holds of each entry then
@@ -105,10 +105,10 @@ module _ (P : BlockId → Entry → Type 0) where
       ]
 
   pub indexed_each : (rows : List (BlockId × Entry)) (i : Indexed) → AllByRecursion (λ (row : BlockId × Entry). P row.0 row.1) rows → OfEach i.rows
-      → OfEach (indexed_all i rows).rows
-  unfolding indexed
+      → OfEach (merge_all i rows).rows
+  unfolding block_index_merge
   indexed_each [] i each all = all
-  indexed_each (m ∷ ms) i each all = indexed_each ms (indexed i m) each.1 (merged_each i.rows m.0 m.1 each.0 all)
+  indexed_each (m ∷ ms) i each all = indexed_each ms (block_index_merge i m) each.1 (merged_each i.rows m.0 m.1 each.0 all)
 
 set_length : (xs : List ℕ) (n v : ℕ) → length (slice_set xs n v) ≡ length xs
 set_length [] n v = refl
@@ -126,7 +126,7 @@ calm_told setup k z log upto rows calm few low = record {
   ordered = calm.ordered;
   applied = set_length z.applied (log.0 - 1) upto ∙ calm.applied;
   counted = keeps-counted-all z.index rows calm.counted;
-  rows_low = more (length (indexed_all z.index rows).rows) (length z.index.rows) (length rows) (indexed_length rows z.index) calm.rows_low few;
+  rows_low = more (length (merge_all z.index rows).rows) (length z.index.rows) (length rows) (indexed_length rows z.index) calm.rows_low few;
   turn_low = up z.turn calm.turn_low;
   versions_low = indexed_each (λ b e. e.ver ≤ 64 * suc k) rows z.index low (λ b. up (entry_of z.index.rows b).ver (calm.versions_low b));
 }

@@ -14,7 +14,7 @@ use Rattle.segment_reading.specs.Reading.{is_known}
 use Rattle.slot_beliefs.specs.Beliefs.{share_of}
 use Rattle.token_client.proofs.Tables.{held_of-put_itself, put_each}
 use Rattle.token_client.specs.declared.held.Held.{Held}
-use Rattle.token_client.specs.Held.{is_dirty, may_write, written}
+use Rattle.token_client.specs.Held.{is_dirty, may_write, held_write}
 use Rattle.token_client.specs.State.{held_of}
 use Rattle.version_model.specs.declared.act.Act.TheVariants as acts
 use Rattle.version_model.specs.declared.answer.Answer.TheVariants.{Version}
@@ -116,7 +116,7 @@ module _ (setup : Setup) (works : NodeId → List Work) (k : ℕ) (s : Scene) (t
   w = record (put_part p b value) { begun = item; item = None }
 
   abbrev g : Held
-  g = written h value
+  g = held_write h value
 
   abbrev change : Change
   change = record { entry = record { ver = h.ver + 1; hop = 0; place = None }; value = value }

@@ -2,15 +2,15 @@
 use Rattle.std.proofs.Common.{◌≡◌, ℕ, zero, suc, ◌+◌, ◌*◌, ◌<◌, ◌≤◌, ◌==◌, ◌&&◌, Bool, true, nat_lt, nat_le, List, [], ◌∷◌, ◌++◌, drop, map, length, replicate, slice_index, slice_set, Some, None, is_some, refl, sym, ap, subst, ◌∙◌, append-nil, arith}
 use Rattle.std.specs.Prelude.{slice_index_or}
 use Rattle.std.specs.List.{AllByRecursion}
-use Rattle.client_log.specs.Transition.{end_from, prior_from}
+use Rattle.client_log.specs.Transition.{end_of, prior_from}
 use Rattle.client_node.specs.Serving.{cached_upto}
 use Rattle.delta_feed.specs.Transition.{rows_after, slot_rows}
 use Rattle.group_map.specs.declared.group.Member.{Member}
 use Rattle.log_flight.specs.declared.flight.Fate.TheVariants.{Settle, Wait}
 use Rattle.log_flight.specs.Fate.{fate_of}
-use Rattle.log_flight.specs.Flights.{FlightState, is_of, no_member, none_noted, noting}
-use Rattle.log_owner.specs.Promised.{first_managers}
-use Rattle.log_owner.specs.Sending.{name_of, pushes_all}
+use Rattle.log_flight.specs.Flights.{FlightState, is_of, no_member, none_noted, flight_note}
+use Rattle.log_owner.specs.Promised.{managers_start}
+use Rattle.log_owner.specs.Sending.{name_of, push_all}
 use Rattle.node_base.specs.declared.effects.Effect.{Effect}
 use Rattle.node_base.specs.declared.effects.Effect.TheVariants.{Does, Send}
 use Rattle.node_base.specs.Effects.{acts_of, packets_of}
@@ -123,7 +123,7 @@ module _ (setup : Setup) (works : NodeId → List Work) (k c : ℕ) (m : Scene) 
     call = None;
     blocks = known.blocks;
     cached = known.cached;
-    end = end_from f.segment;
+    end = end_of f.segment;
     dirty = drop 24 p.dirty;
     flight = None;
     filed = p.filed ++ record { seq = seq; rows = rows } ∷ [];
@@ -131,7 +131,7 @@ module _ (setup : Setup) (works : NodeId → List Work) (k c : ℕ) (m : Scene) 
   }
 
   abbrev pub told : List Effect
-  told = Does (acts.Filed (name_of (record { 0 = c }) (end_from f.segment))) ∷ pushes_all (first_managers setup.managers) (feed_at settled)
+  told = Does (acts.Filed (name_of (record { 0 = c }) (end_of f.segment))) ∷ push_all (managers_start setup.managers) (feed_at settled)
 
   first_at : (xs : List Member) → AllByRecursion (IsFirst setup) xs → (at : ℕ) → at < length xs → (slice_index_or xs at no_member).generation ≡ 1
   first_at [] each at within = absurd (omega arith)
@@ -148,12 +148,12 @@ module _ (setup : Setup) (works : NodeId → List Work) (k c : ℕ) (m : Scene) 
     within_eight : place < length ms → place < 8
     within_eight within = (let limit = striped_so.few in omega arith)
 
-    pub waits : place + 1 < length ms → fate_of (its_groups setup works) (noting (record f { noted = noted }) place) ≡ Wait
+    pub waits : place + 1 < length ms → fate_of (its_groups setup works) (flight_note (record f { noted = noted }) place) ≡ Wait
     waits less =
         waits_on setup works (record f { noted = slice_set noted place true }) striped_so.each (place + 1)
         (one_noted noted place (within_eight (omega (arith, less))) are) less
 
-    pub lands : place + 1 ≡ length ms → fate_of (its_groups setup works) (noting (record f { noted = noted }) place) ≡ Settle
+    pub lands : place + 1 ≡ length ms → fate_of (its_groups setup works) (flight_note (record f { noted = noted }) place) ≡ Settle
     lands all =
         settles_last setup works (record f { noted = slice_set noted place true }) striped_so.each (place + 1)
         (one_noted noted place (within_eight (omega (arith, all))) are) (omega (arith, all))
@@ -178,7 +178,7 @@ module _ (setup : Setup) (works : NodeId → List Work) (k c : ℕ) (m : Scene) 
       ap (λ a. push i (a + 1) (rows_after i a settled.filed)) (acked i within)
       ∙ ap (push i seq) (newest_alone i p.end.seq seq p.filed rows can.filed (lt_test p.end.seq seq (omega arith)))
 
-  pushes_so : pushes_all (first_managers setup.managers) (feed_at settled) ≡ map (λ i. push i seq (slot_told i)) all_slots
+  pushes_so : push_all (managers_start setup.managers) (feed_at settled) ≡ map (λ i. push i seq (slot_told i)) all_slots
   pushes_so =
       pushes_are setup works settled more
       ∙ eight_same (λ i. push i (slice_index settled.acked i + 1) (rows_after i (slice_index settled.acked i) settled.filed)) (λ i. push i seq (slot_told i)) push_is
@@ -189,11 +189,11 @@ module _ (setup : Setup) (works : NodeId → List Work) (k c : ℕ) (m : Scene) 
   -- whatever is done after it
   pub deltas_are : (after : List Effect) → map unclocked (packets_of (Client c) (told ++ after)) ≡ deltas ++ map unclocked (packets_of (Client c) after)
   deltas_are after =
-      ap (λ pushes. map unclocked (packets_of (Client c) ((Does (acts.Filed (name_of (record { 0 = c }) (end_from f.segment))) ∷ pushes) ++ after))) pushes_so
+      ap (λ pushes. map unclocked (packets_of (Client c) ((Does (acts.Filed (name_of (record { 0 = c }) (end_of f.segment))) ∷ pushes) ++ after))) pushes_so
 
-  pub acts_are : (after : List Effect) → acts_of (Client c) (told ++ after) ≡ acts.Filed (name_of (record { 0 = c }) (end_from f.segment)) ∷ acts_of (Client c) after
+  pub acts_are : (after : List Effect) → acts_of (Client c) (told ++ after) ≡ acts.Filed (name_of (record { 0 = c }) (end_of f.segment)) ∷ acts_of (Client c) after
   acts_are after =
-      ap (λ pushes. acts_of (Client c) ((Does (acts.Filed (name_of (record { 0 = c }) (end_from f.segment))) ∷ pushes) ++ after)) pushes_so
+      ap (λ pushes. acts_of (Client c) ((Does (acts.Filed (name_of (record { 0 = c }) (end_of f.segment))) ∷ pushes) ++ after)) pushes_so
 
   -- ---- they take it
 

@@ -12,9 +12,9 @@ use Rattle.group_map.specs.Groups.{group_of}
 use Rattle.group_map.specs.declared.group.Group.{Group}
 use Rattle.log_flight.specs.declared.dirty.Change.{Change}
 use Rattle.log_flight.specs.Flights.{no_member}
-use Rattle.log_flight.specs.Fragments.{piece}
+use Rattle.log_flight.specs.Fragments.{flight_fragment}
 use Rattle.node_base.specs.Known.{knows_meta}
-use Rattle.node_base.specs.Maps.{at_start}
+use Rattle.node_base.specs.Maps.{maps_start}
 use Rattle.node_base.specs.Shape.{is_meta, is_name}
 use Rattle.segment_format.specs.declared.segment.Segment.{Segment}
 use Rattle.segment_format.specs.Format.{IsLength, second_version}
@@ -154,7 +154,7 @@ module _ (setup : Setup) (works : NodeId → List Work) where
     pub text : answer_of (text_of segment) ≡ Ok segment
     pub bytes : IsBytes (text_of segment)
     pub held : (at : ℕ) → at < length group.members
-        → held_at (s.held (slice_index_or group.members at no_member).server) place.seg.name ≡ Some (piece segment group at)
+        → held_at (s.held (slice_index_or group.members at no_member).server) place.seg.name ≡ Some (flight_fragment segment group at)
 
   abbrev pub IsPlaceReadable : Scene → BlockId → Option Place → Type 0
   IsPlaceReadable s b None = Unit {0}
@@ -163,7 +163,7 @@ module _ (setup : Setup) (works : NodeId → List Work) where
   -- what a server holds is of a log, and of groups that there are; of a client's log it is not beyond the end
   pub record IsShelved (s : Scene) (f : Fragment) : Type 0 where
     pub of_log : is_meta f.meta ≡ true
-    pub known : knows_meta (at_start (its_groups setup works)) f.meta ≡ true
+    pub known : knows_meta (maps_start (its_groups setup works)) f.meta ≡ true
     pub filed : f.meta.name.seq ≤ (s.client f.meta.name.log.0).end.seq
 
   -- ---- all

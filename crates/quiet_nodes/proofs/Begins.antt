@@ -3,13 +3,13 @@ use Rattle.std.proofs.Common.{◌≡◌, ℕ, ◌+◌, ◌-◌, ◌<◌, ◌&&�
 use Rattle.std.proofs.lemmas.Bool.Decides.{nat_tests}
 use Rattle.std.proofs.lemmas.Bool.{lt-ltb}
 use Rattle.client_running.specs.Opens.{opens}
-use Rattle.client_running.specs.Running.{goes_on, runs}
-use Rattle.client_node.specs.Phases.{client_room, client_step, on_begin, serves_on, serving_begins, stepped, wish_of}
+use Rattle.client_running.specs.Running.{running_go_on, run}
+use Rattle.client_node.specs.Phases.{client_has_room, client_step, on_begin, serves_on, serving_begins, stepped, wish_of}
 use Rattle.client_node.specs.Room.{asked_again, open_block}
 use Rattle.client_call.specs.Calls.{call_of}
 use Rattle.client_call.specs.declared.call.Call.{Call}
 use Rattle.client_call.specs.declared.call.Going.TheVariants.{On}
-use Rattle.client_node.specs.Room.{epochs_room}
+use Rattle.client_node.specs.Room.{epochs_have_room}
 use Rattle.client_serving.specs.declared.serving.Serving.{Serving}
 use Rattle.log_owner.specs.Opening.{attempt_of}
 use Rattle.node_base.specs.Room.{has_room}
@@ -31,12 +31,12 @@ module _ (setup : Setup) (works : NodeId → List Work) (c : ℕ) (p : ClientPar
     pub attempt : has_room (attempt_of p.flight) ≡ true
     pub again : has_room (asked_again (tokens_at setup works p) (open_block p.call)) ≡ true
 
-  epochs_have_room : epochs_room (tokens_at setup works p) ≡ true
-  unfolding epochs_room
-  epochs_have_room = refl
+  epochs_have_room_lem : epochs_have_room (tokens_at setup works p) ≡ true
+  unfolding epochs_have_room
+  epochs_have_room_lem = refl
 
-  pub room : HasRoom → client_room (client_at setup works c p) ≡ true
-  room h = simp (h.asked, h.req, h.seq, h.attempt, h.again, epochs_have_room)
+  pub room : HasRoom → client_has_room (client_at setup works c p) ≡ true
+  room h = simp (h.asked, h.req, h.seq, h.attempt, h.again, epochs_have_room_lem)
 
   -- the call of the next item is open
   abbrev pub opened : Call → ClientPart
@@ -54,12 +54,12 @@ module _ (setup : Setup) (works : NodeId → List Work) (c : ℕ) (p : ClientPar
     above : nat_lt 0 (p.begun + 1) ≡ true
     above = grind (arith, nat_tests)
 
-    begin_is : on_begin setup.servers (client_at setup works c p).phase ≡ serves_on (runs (serving_at setup works c (opened call)))
-    unfolding on_begin opens goes_on
+    begin_is : on_begin setup.servers (client_at setup works c p).phase ≡ serves_on (run (serving_at setup works c (opened call)))
+    unfolding on_begin opens running_go_on
     begin_is = simp (is_left, above, its_place, next, is_call, idle, calls)
 
     pub begin_steps : client_step (client_at setup works c p) Begin
-        ≡ stepped (client_at setup works c p) (serves_on (runs (serving_at setup works c (opened call))))
+        ≡ stepped (client_at setup works c p) (serves_on (run (serving_at setup works c (opened call))))
     begin_steps =
         ap (stepped (client_at setup works c p))
         (ap (λ t. cond t (on_begin setup.servers (client_at setup works c p).phase) (still (client_at setup works c p).phase)) (room h) ∙ begin_is)

@@ -25,19 +25,19 @@ use Rattle.std.specs.Prelude.{ℕ}
 use Rattle.quiet_flow.specs.Flow.{unclocked}
 
 client_blind : (capacity : ℕ) (p : ClientPhase) (packet : Packet) → client_phases.on_deliver capacity p packet ≡ client_phases.on_deliver capacity p (unclocked packet)
-unfolding client_phases.on_deliver serving.on_packet opening.on_packet
+unfolding client_phases.on_deliver serving.serving_take opening.opening_take
 client_blind capacity (clients.Down l) packet = refl
 client_blind capacity (clients.Opening l o) packet = refl
 client_blind capacity (clients.Serving s) packet = refl
 
-manager_blind : (peers : Peers) (p : ManagerPhase) (packet : Packet) → managers.on_deliver peers p packet ≡ managers.on_deliver peers p (unclocked packet)
-unfolding managers.on_deliver manager_serving.hears
+manager_blind : (peers : Peers) (p : ManagerPhase) (packet : Packet) → managers.manager_deliver peers p packet ≡ managers.manager_deliver peers p (unclocked packet)
+unfolding managers.manager_deliver manager_serving.serving_hear
 manager_blind peers (managing.Down kept) packet = refl
 manager_blind peers (managing.Waiting kept hello) packet = refl
 manager_blind peers (managing.Serving s) packet = refl
 
 cleaner_blind : (peers : Peers) (p : CleanerPhase) (packet : Packet) → cleaners.on_deliver peers p packet ≡ cleaners.on_deliver peers p (unclocked packet)
-unfolding cleaners.on_deliver cleaners.hears emptying.on_packet opening.on_packet
+unfolding cleaners.on_deliver cleaners.cleaner_hear emptying.on_packet opening.opening_take
 cleaner_blind peers (cleaning.Down l) packet = refl
 cleaner_blind peers (cleaning.Opening l o) packet = refl
 cleaner_blind peers (cleaning.Serving e) packet = refl

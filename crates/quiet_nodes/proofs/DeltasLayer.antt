@@ -4,12 +4,12 @@ use Rattle.std.specs.List.{list_all}
 use Rattle.std.proofs.lemmas.Bool.Decides.{nat_tests}
 use Rattle.manager_node.specs.declared.manager.Manager.{Manager as ManagerNode}
 use Rattle.manager_node.specs.Events.{manager_step}
-use Rattle.manager_slots.specs.Tokens.{said}
-use Rattle.node_base.specs.Known.{knows_place}
-use Rattle.node_base.specs.Maps.{at_start}
+use Rattle.manager_slots.specs.Tokens.{tokens_say}
+use Rattle.node_base.specs.Known.{knows_entry}
+use Rattle.node_base.specs.Maps.{maps_start}
 use Rattle.node_base.specs.Nodes.{has_node, peers_of}
 use Rattle.node_base.specs.Room.{has_long_room}
-use Rattle.node_base.specs.Shape.{is_place, is_well_formed}
+use Rattle.node_base.specs.Shape.{is_entry, is_well_formed}
 use Rattle.slot_beliefs.specs.declared.job.Job.{Job}
 use Rattle.slot_beliefs.specs.Index.{has_room}
 use Rattle.slot_beliefs.specs.Recalls.{applied_of, applied_upto, is_followed, ready_blocks}
@@ -42,8 +42,8 @@ use Rattle.quiet_nodes.proofs.Turns.{slot_takes}
 
 -- rows that managers take: each place is of a log and a group that there are, and no version is near its end
 pub record AreTaken (setup : Setup) (works : NodeId → List Work) (rows : List (BlockId × Entry)) : Type 0 where
-  pub of_logs : list_all (λ (row : BlockId × Entry). is_place row.1.place) rows ≡ true
-  pub known : list_all (λ (row : BlockId × Entry). knows_place (at_start (its_groups setup works)) row.1.place) rows ≡ true
+  pub of_logs : list_all (λ (row : BlockId × Entry). is_entry row.1.place) rows ≡ true
+  pub known : list_all (λ (row : BlockId × Entry). knows_entry (maps_start (its_groups setup works)) row.1.place) rows ≡ true
   pub low : list_all (λ (row : BlockId × Entry). has_long_room row.1.ver) rows ≡ true
 
 -- whatever is applied, no want that waits is answered
@@ -90,7 +90,7 @@ module _ (setup : Setup) (works : NodeId → List Work) (c seq : ℕ) (least : 1
         (is : transition (slots i) (input.Deltas (record { 0 = c }) seq seq rows) ≡ record { state = z; outs = out.Applied (record { 0 = c }) seq ∷ [] }) where
       comes_so : manager_step (manager_at setup works j slots) (Deliver (deltas_to setup works c seq i rows))
           ≡ record { node = manager_at setup works j (put_number slots i z); packets = ack_by setup works c seq i ∷ []; acts = [] }
-      unfolding said
+      unfolding tokens_say
       comes_so =
           deltas_come setup works j c 0 slots its_deltas within (same_test j) (manager_room setup works j slots turns) (fits taken) taken.known
           z (out.Applied (record { 0 = c }) seq ∷ []) is

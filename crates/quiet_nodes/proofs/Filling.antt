@@ -6,7 +6,7 @@ use Rattle.client_call.specs.Fitting.{put_fits}
 use Rattle.client_log.specs.declared.input.In.TheVariants as log_in
 use Rattle.client_log.specs.LogState.{LogState}
 use Rattle.client_log.specs.Transition as log
-use Rattle.client_running.specs.Blocks.{Made, makes, put_of}
+use Rattle.client_running.specs.Blocks.{Made, blocks_make, put_of}
 use Rattle.client_serving.specs.declared.serving.Serving.{Serving}
 use Rattle.client_serving.specs.Flights as flights
 use Rattle.client_serving.specs.Flights.{held_at}
@@ -64,19 +64,19 @@ module _ (setup : Setup) (works : NodeId → List Work) (c : ℕ) (q : ClientPar
     abbrev now_log : LogState
     now_log = log_at setup works c q
 
-    log_fills : log.on_put now_log b change ≡ record { state = log_at setup works c filled_part; outs = log.all_sends flight }
-    unfolding log.on_put log.if_full log.sealed log.launched
+    log_fills : log.on_put now_log b change ≡ record { state = log_at setup works c filled_part; outs = log.sending_send flight }
+    unfolding log.on_put log.log_go_on log.log_seal log.log_launch
     log_fills = rw (lands, full, next) refl
 
     abbrev following : log.Done → Done
-    following r = (let d = steps flights.writes_one (record now { log = r.state }) r.outs in saying d.outs (flights.seals_again d.state (list_any is_settling r.outs)))
+    following r = (let d = steps flights.write_one (record now { log = r.state }) r.outs in saying d.outs (flights.seals_again d.state (list_any is_settling r.outs)))
 
     abbrev ending : Done → Bool → Done
     ending d settling = saying d.outs (flights.seals_again d.state settling)
 
-    fills_writes : flights.writes now (log_in.Put b (record { ver = its_held.ver + 1; hop = 0; place = None }) value)
+    fills_writes : flights.serving_write now (log_in.Put b (record { ver = its_held.ver + 1; hop = 0; place = None }) value)
         ≡ record { state = serving_at setup works c filled_part; outs = stores setup works c waiting ++ [] }
-    unfolding flights.writes log.all_sends
+    unfolding flights.serving_write log.sending_send
     fills_writes =
         ap following log_fills
         ∙ ap (λ d. ending d (list_any is_settling (log.sends flight flight.group.members 0)))
@@ -86,13 +86,13 @@ module _ (setup : Setup) (works : NodeId → List Work) (c : ℕ) (q : ClientPar
 
     fills_is : put_of now b value ≡ record { state = serving_at setup works c filled_part; outs = stores setup works c waiting ++ [] }
     fills_is =
-        ap (λ v. flights.writes now (log_in.Put b (record { ver = v; hop = 0; place = None }) value)) (ap (λ (h : Held). h.ver) (putting.itself setup works c q b value))
+        ap (λ v. flights.serving_write now (log_in.Put b (record { ver = v; hop = 0; place = None }) value)) (ap (λ (h : Held). h.ver) (putting.itself setup works c q b value))
         ∙ fills_writes
 
     abbrev made : Done → ℕ → Made
     made = putting.made setup works c q b value
 
-    pub put_fills : makes before (Put b value) ≡ record {
+    pub put_fills : blocks_make before (Put b value) ≡ record {
       done = record { state = serving_at setup works c filled_part; outs = fills ++ [] };
       answer = Some (block.Put (its_held.ver + 1));
     }

@@ -1,25 +1,25 @@
 -- A client whose put waits is granted the block: it owns it, writes, and answers, in one event.
 use Rattle.std.proofs.Common.{◌≡◌, ℕ, ◌+◌, true, false, nat_le, List, [], ◌∷◌, length, Option, Some, None, is_none, refl, ap, ◌∙◌}
-use Rattle.client_running.specs.Running.{runs}
+use Rattle.client_running.specs.Running.{run}
 use Rattle.client_node.specs.Phases.{client_step, on_deliver}
-use Rattle.client_call.specs.Calls.{call_for}
+use Rattle.client_call.specs.Calls.{call_new}
 use Rattle.client_call.specs.declared.call.Plan.TheVariants.{One}
 use Rattle.client_call.specs.Fitting.{put_fits}
-use Rattle.client_serving.specs.Follow.{follows, follows_one, hands, notes_copy}
-use Rattle.client_serving.specs.Packets.{on_grant, on_packet}
+use Rattle.client_serving.specs.Follow.{serving_follow, follow_one, hand, note_copy}
+use Rattle.client_serving.specs.Packets.{on_grant, serving_take}
 use Rattle.file_plan.specs.declared.block_call.BlockAnswer.TheVariants as block
 use Rattle.file_plan.specs.declared.block_call.BlockCall.TheVariants.{Put}
 use Rattle.node_base.specs.declared.effects.Effect.TheVariants.{Answer, Does}
-use Rattle.node_base.specs.Known.{knows_place}
-use Rattle.node_base.specs.Maps.{at_start}
+use Rattle.node_base.specs.Known.{knows_entry}
+use Rattle.node_base.specs.Maps.{maps_start}
 use Rattle.node_base.specs.Nodes.{has_node, peers_of}
 use Rattle.node_base.specs.Room.{has_long_room}
-use Rattle.node_base.specs.Shape.{is_place}
+use Rattle.node_base.specs.Shape.{is_entry}
 use Rattle.token_client.proofs.Tables.{held_of-put_itself}
 use Rattle.token_client.specs.declared.held.Held.{Held}
 use Rattle.token_client.specs.declared.input.In.TheVariants.{Granted}
 use Rattle.token_client.specs.declared.output.Out.TheVariants.{Ready}
-use Rattle.token_client.specs.Held.{may_write, owned}
+use Rattle.token_client.specs.Held.{may_write, held_own}
 use Rattle.token_client.specs.State.{held_of, put_held}
 use Rattle.token_client.specs.Transition.{accepts, on_granted}
 use Rattle.version_model.specs.declared.act.Act.TheVariants as acts
@@ -41,35 +41,35 @@ use Rattle.quiet_nodes.proofs.Puts.{put_makes, put_part, waiting_then, writes}
 use Rattle.quiet_nodes.proofs.Running.{runs_answered}
 
 module _ (setup : Setup) (works : NodeId → List Work) (c : ℕ) (p : ClientPart) (b : BlockId) (value : Option (List ℕ)) (item : ℕ)
-    (its_call : p.call ≡ Some (call_for One (Put b value))) (its_item : p.item ≡ Some item) (stamp : Stamp) (req : ℕ) (entry : Entry) where
+    (its_call : p.call ≡ Some (call_new One (Put b value))) (its_item : p.item ≡ Some item) (stamp : Stamp) (req : ℕ) (entry : Entry) where
   abbrev its_held : Held
   its_held = held_of p.blocks b
 
   -- the block is owned, and the call is still open
   abbrev pub owning : ClientPart
-  owning = record p { blocks = put_held p.blocks b (owned its_held stamp entry.ver); call = Some (call_for One (Put b value)); item = Some item }
+  owning = record p { blocks = put_held p.blocks b (held_own its_held stamp entry.ver); call = Some (call_new One (Put b value)); item = Some item }
 
   module _ (accepted : accepts (tokens_at setup works p) b stamp 1 req Own ≡ true) where
     owns_is : on_granted (tokens_at setup works p) b stamp 1 req Own entry ≡ record { state = tokens_at setup works owning; outs = Ready b ∷ [] }
     unfolding on_granted
     owns_is = rw accepted refl
 
-    itself : held_of (put_held p.blocks b (owned its_held stamp entry.ver)) b ≡ owned its_held stamp entry.ver
-    itself = held_of-put_itself b (owned its_held stamp entry.ver) p.blocks
+    itself : held_of (put_held p.blocks b (held_own its_held stamp entry.ver)) b ≡ held_own its_held stamp entry.ver
+    itself = held_of-put_itself b (held_own its_held stamp entry.ver) p.blocks
 
-    ready_is : follows_one (serving_at setup works c owning) (Ready b) ≡ record { state = serving_at setup works c owning; outs = [] }
-    unfolding follows_one notes_copy
+    ready_is : follow_one (serving_at setup works c owning) (Ready b) ≡ record { state = serving_at setup works c owning; outs = [] }
+    unfolding follow_one note_copy
     ready_is = rw itself refl
 
-    pub grant_hands : hands (serving_at setup works c p) (Granted b stamp 1 req Own entry) ≡ record { state = serving_at setup works c owning; outs = [] }
-    unfolding hands follows
+    pub grant_hands : hand (serving_at setup works c p) (Granted b stamp 1 req Own entry) ≡ record { state = serving_at setup works c owning; outs = [] }
+    unfolding hand serving_follow
     grant_hands = rw (its_call, its_item, owns_is, ready_is) refl
 
     -- ---- and is written
 
     module _ (j clock : ℕ) (h : HasRoom setup works c p) (there : has_node (peers_of setup) (Manager j) ≡ true) (long : has_long_room entry.ver ≡ true)
-        (of_log : is_place entry.place ≡ true) (known : knows_place (at_start (its_groups setup works)) entry.place ≡ true)
-        (none : is_none its_held.giving ≡ true) (more : may_write (owned its_held stamp entry.ver) ≡ true) (fits : put_fits b (entry.ver + 1) value ≡ true)
+        (of_log : is_entry entry.place ≡ true) (known : knows_entry (maps_start (its_groups setup works)) entry.place ≡ true)
+        (none : is_none its_held.giving ≡ true) (more : may_write (held_own its_held stamp entry.ver) ≡ true) (fits : put_fits b (entry.ver + 1) value ≡ true)
         (not_full : nat_le 24 (length (waiting_then owning b value)) ≡ false) where
       abbrev packet : Packet
       packet = record {
@@ -83,8 +83,8 @@ module _ (setup : Setup) (works : NodeId → List Work) (c : ℕ) (p : ClientPar
       abbrev pub put_granted : ClientPart
       put_granted = record (put_part owning b value) { item = None }
 
-      packet_is : on_packet (serving_at setup works c p) packet ≡ record { state = serving_at setup works c owning; outs = [] }
-      unfolding on_packet on_grant
+      packet_is : serving_take (serving_at setup works c p) packet ≡ record { state = serving_at setup works c owning; outs = [] }
+      unfolding serving_take on_grant
       packet_is = rw (known, long, grant_hands) refl
 
       may_now : may_write (held_of owning.blocks b) ≡ true
@@ -93,7 +93,7 @@ module _ (setup : Setup) (works : NodeId → List Work) (c : ℕ) (p : ClientPar
       fits_now : put_fits b ((held_of owning.blocks b).ver + 1) value ≡ true
       fits_now = ap (λ (h : Held). put_fits b (h.ver + 1) value) itself ∙ fits
 
-      runs_is : runs (serving_at setup works c owning) ≡ record {
+      runs_is : run (serving_at setup works c owning) ≡ record {
         state = serving_at setup works c put_granted;
         outs = Does (acts.Wrote c b value) ∷ Answer item (Version ((held_of owning.blocks b).ver + 1)) ∷ [];
       }

@@ -1,7 +1,7 @@
 -- A manager of a quiet run: an event of one of its slots.
 use Rattle.std.proofs.Common.{◌≡◌, ℕ, ◌+◌, ◌<◌, ◌==◌, ◌&&◌, true, false, cond, List, [], ◌∷◌, map, ap, ◌∙◌}
 use Rattle.std.specs.Prelude.{flat_map}
-use Rattle.manager_node.specs.Events.{happens, manager_step, on_deliver, seen}
+use Rattle.manager_node.specs.Events.{happens, manager_step, manager_deliver, seen}
 use Rattle.manager_node.specs.declared.phase.Phase.TheVariants as managing
 use Rattle.manager_node.specs.Phases.{phase_has_room, serves}
 use Rattle.node_base.specs.Shape.{is_well_formed}
@@ -10,14 +10,14 @@ use Rattle.manager_slots.specs.Slots.{managed}
 use Rattle.manager_slots.specs.SlotTable as table
 use Rattle.manager_slots.specs.SlotTable.{Table, at_slot}
 use Rattle.manager_slots.specs.Tokens as tokens
-use Rattle.manager_slots.specs.Tokens.{said}
+use Rattle.manager_slots.specs.Tokens.{tokens_say}
 use Rattle.manager_serving.specs.declared.serving.Serving.{Serving}
 use Rattle.manager_serving.specs.Serving as serving
 use Rattle.manager_serving.specs.Serving.{with_slots}
 use Rattle.node_base.specs.declared.effects.Effect.{Effect}
 use Rattle.node_base.specs.Nodes.{has_node, peers_of}
 use Rattle.node_base.specs.Effects.{packets_of, acts_of}
-use Rattle.slot_beliefs.specs.Beliefs.{holder, others, owned_by}
+use Rattle.slot_beliefs.specs.Beliefs.{holder, others, beliefs_own}
 use Rattle.slot_beliefs.specs.Recalls.{stamp}
 use Rattle.token_manager.specs.declared.input.In.TheVariants as input
 use Rattle.token_manager.specs.declared.output.Out.{Out}
@@ -44,7 +44,7 @@ use Rattle.quiet_nodes.proofs.Slots.{managed_phase, set_phase}
 pub want_owns : (z : SlotState) (c inc req end : ℕ) (b : BlockId) → is_dropped z (want_of c b inc req 0 Own) end ≡ false → others z.beliefs b c false ≡ []
     → has_turns z.turn 1 ≡ true
     → transition z (input.Want (want_of c b inc req 0 Own) end) ≡ record {
-      state = record z { beliefs = owned_by z.beliefs (holder b c); turn = z.turn + 1 };
+      state = record z { beliefs = beliefs_own z.beliefs (holder b c); turn = z.turn + 1 };
       outs = out.Grant c b (stamp z.epoch (z.turn + 1)) inc req Own (entry_at z b) ∷ [];
     }
 want_owns z c inc req end b taken alone room = simp (taken, alone, room)
@@ -66,7 +66,7 @@ module _ (setup : Setup) (works : NodeId → List Work) (j i : ℕ) (slots : ℕ
   -- a packet that it takes for the slot
   pub slot_comes : (packet : Packet) (event : SlotPhase → Stepped SlotPhase Effect) (z : SlotState) (outs : List Effect)
       → phase_has_room (manager_at setup works j slots).phase ≡ true
-      → on_deliver (peers_of setup) (managing.Serving (managing_at setup works j slots)) packet
+      → manager_deliver (peers_of setup) (managing.Serving (managing_at setup works j slots)) packet
       ≡ serves (with_slots (managing_at setup works j slots) (at_slot its_table i event))
       → event (managed (slots i)) ≡ record { state = managed z; outs = outs }
       → manager_step (manager_at setup works j slots) (Deliver packet)
@@ -75,7 +75,7 @@ module _ (setup : Setup) (works : NodeId → List Work) (j i : ℕ) (slots : ℕ
   slot_comes packet event z outs room delivers is =
       let serves_now : Serving = managing_at setup works j slots in
       ap (seen (manager_at setup works j slots))
-      (ap (λ t. cond t (on_deliver (peers_of setup) (managing.Serving serves_now) packet) (still (managing.Serving serves_now))) room
+      (ap (λ t. cond t (manager_deliver (peers_of setup) (managing.Serving serves_now) packet) (still (managing.Serving serves_now))) room
       ∙ delivers
       ∙ ap serves (slot_turns event z outs is))
 
@@ -94,23 +94,23 @@ module _ (setup : Setup) (works : NodeId → List Work) (j c clock : ℕ) (slots
   well_formed : is_well_formed (peers_of setup) packet ≡ true
   well_formed = ap (λ t. t && true) there
 
-  deliver_is : on_deliver (peers_of setup) (managing.Serving serves_now) packet
+  deliver_is : manager_deliver (peers_of setup) (managing.Serving serves_now) packet
       ≡ serves (with_slots serves_now (at_slot serves_now.slots i (λ p. tokens.on_want p c want)))
-  unfolding on_deliver serving.hears serving.on_want table.on_want
+  unfolding manager_deliver serving.serving_hear serving.on_want table.on_want
   deliver_is =
-      ap (λ t. cond t (serves (serving.hears serves_now setup.clients packet)) (still (managing.Serving serves_now))) well_formed
+      ap (λ t. cond t (serves (serving.serving_hear serves_now setup.clients packet)) (still (managing.Serving serves_now))) well_formed
 
   -- a Want that comes
   module _ (z : SlotState) (outs : List Out)
       (is : transition (slots i) (input.Want (want_of c want.block want.inc want.req want.again want.mode) want.end) ≡ record { state = z; outs = outs }) where
-    slot_is : tokens.on_want (managed (slots i)) c want ≡ record { state = managed z; outs = flat_map (said i (slots i).epoch) outs }
-    unfolding tokens.on_want tokens.takes
-    slot_is = ap (λ (d : Stepped SlotState Out). record { state = managed d.state; outs = flat_map (said i (slots i).epoch) d.outs }) is
+    slot_is : tokens.on_want (managed (slots i)) c want ≡ record { state = managed z; outs = flat_map (tokens_say i (slots i).epoch) outs }
+    unfolding tokens.on_want tokens.tokens_take
+    slot_is = ap (λ (d : Stepped SlotState Out). record { state = managed d.state; outs = flat_map (tokens_say i (slots i).epoch) d.outs }) is
 
     pub want_comes : manager_step (manager_at setup works j slots) (Deliver packet) ≡ record {
       node = manager_at setup works j (put_number slots i z);
-      packets = packets_of (Manager j) (flat_map (said i (slots i).epoch) outs);
-      acts = acts_of (Manager j) (flat_map (said i (slots i).epoch) outs);
+      packets = packets_of (Manager j) (flat_map (tokens_say i (slots i).epoch) outs);
+      acts = acts_of (Manager j) (flat_map (tokens_say i (slots i).epoch) outs);
     }
     want_comes =
-        slot_comes setup works j i slots within own packet (λ p. tokens.on_want p c want) z (flat_map (said i (slots i).epoch) outs) room deliver_is slot_is
+        slot_comes setup works j i slots within own packet (λ p. tokens.on_want p c want) z (flat_map (tokens_say i (slots i).epoch) outs) room deliver_is slot_is

@@ -1,7 +1,7 @@
 -- A block that may be written is written, where fewer than 24 wait then.
 use Rattle.std.proofs.Common.{◌≡◌, ℕ, ◌+◌, ◌&&◌, ◌||◌, not, Bool, true, false, cond, nat_le, List, [], ◌∷◌, length, Option, Some, None, refl, ap, ◌∙◌}
 use Rattle.indexmap.specs.IndexMap.{insert_entry}
-use Rattle.client_running.specs.Blocks.{Made, changes, changes_if_fits, makes, put_of, puts, wrote}
+use Rattle.client_running.specs.Blocks.{Made, changes, blocks_change, blocks_make, put_of, blocks_put, wrote}
 use Rattle.client_log.specs.declared.input.In.TheVariants as log_in
 use Rattle.client_log.specs.LogState.{LogState}
 use Rattle.client_log.specs.Transition as log
@@ -22,7 +22,7 @@ use Rattle.node_base.specs.declared.effects.Effect.{Effect}
 use Rattle.node_base.specs.declared.effects.Effect.TheVariants.{Does}
 use Rattle.token_client.proofs.Tables.{held_of-put_itself}
 use Rattle.token_client.specs.declared.held.Held.{Held}
-use Rattle.token_client.specs.Held.{may_write, written}
+use Rattle.token_client.specs.Held.{may_write, held_write}
 use Rattle.token_client.specs.State.{held_of, put_held}
 use Rattle.token_client.specs.Transition.{on_wrote}
 use Rattle.version_model.specs.declared.act.Act.TheVariants as acts
@@ -43,24 +43,24 @@ module _ (l : LogState) (b : BlockId) (change : Change) (not_full : nat_le 24 (l
   isn't_full : log.is_full (log.waits l b change) ≡ false
   isn't_full = ap (λ t. log.is_idle l && t) not_full ∙ and_none (log.is_idle l)
 
-  stays : log.if_full (log.waits l b change) ≡ still (log.waits l b change)
-  unfolding log.if_full
-  stays = ap (λ t. cond t (log.sealed (log.waits l b change)) (still (log.waits l b change))) isn't_full
+  stays : log.log_go_on (log.waits l b change) ≡ still (log.waits l b change)
+  unfolding log.log_go_on
+  stays = ap (λ t. cond t (log.log_seal (log.waits l b change)) (still (log.waits l b change))) isn't_full
 
   pub put_waits : log.on_put l b change ≡ still (log.waits l b change)
   unfolding log.on_put
   put_waits =
-      ap (λ t. cond (not t || log.has_next l.end.seq) (log.if_full (log.waits l b change)) (still l)) isn't_full
+      ap (λ t. cond (not t || log.has_next l.end.seq) (log.log_go_on (log.waits l b change)) (still l)) isn't_full
       ∙ stays
 
 module _ (s : Serving) (b : BlockId) (entry : Entry) (value : Option (List ℕ))
     (not_full : nat_le 24 (length (insert_entry same_block s.log.dirty b (record { entry = entry; value = value }))) ≡ false) where
   abbrev following : log.Done → Done
-  following r = (let d = steps flights.writes_one (record s { log = r.state }) r.outs in saying d.outs (flights.seals_again d.state (list_any is_settling r.outs)))
+  following r = (let d = steps flights.write_one (record s { log = r.state }) r.outs in saying d.outs (flights.seals_again d.state (list_any is_settling r.outs)))
 
-  pub put_writes : flights.writes s (log_in.Put b entry value)
+  pub put_writes : flights.serving_write s (log_in.Put b entry value)
       ≡ record { state = record s { log = log.waits s.log b (record { entry = entry; value = value }) }; outs = [] }
-  unfolding flights.writes
+  unfolding flights.serving_write
   put_writes = ap following (put_waits s.log b (record { entry = entry; value = value }) not_full)
 
 module _ (q : ClientPart) (b : BlockId) (value : Option (List ℕ)) where
@@ -76,7 +76,7 @@ module _ (q : ClientPart) (b : BlockId) (value : Option (List ℕ)) where
 
   -- the client once it is written, and the call isn't open
   abbrev pub put_part : ClientPart
-  put_part = record q { blocks = put_held q.blocks b (written held_now value); dirty = waiting_then; cached = without b q.cached; call = None }
+  put_part = record q { blocks = put_held q.blocks b (held_write held_now value); dirty = waiting_then; cached = without b q.cached; call = None }
 
 abbrev pub writes : ℕ → BlockId → Option (List ℕ) → List Effect
 writes c b value = Does (acts.Wrote c b value) ∷ []
@@ -90,17 +90,17 @@ module _ (setup : Setup) (works : NodeId → List Work) (c : ℕ) (q : ClientPar
 
   -- the client that knows of the block what it wrote
   abbrev pub now : Serving
-  now = serving_at setup works c (record q { call = None; blocks = put_held q.blocks b (written its_held value); cached = without b q.cached })
+  now = serving_at setup works c (record q { call = None; blocks = put_held q.blocks b (held_write its_held value); cached = without b q.cached })
 
-  pub itself : held_of (put_held q.blocks b (written its_held value)) b ≡ written its_held value
-  itself = held_of-put_itself b (written its_held value) q.blocks
+  pub itself : held_of (put_held q.blocks b (held_write its_held value)) b ≡ held_write its_held value
+  itself = held_of-put_itself b (held_write its_held value) q.blocks
 
   pub wrote_is : may_write its_held ≡ true → wrote before b value ≡ now
   unfolding on_wrote
   wrote_is may = rw may refl
 
-  pub puts_is : may_write its_held ≡ true → put_fits b (its_held.ver + 1) value ≡ true → makes before (Put b value) ≡ changes before b value
-  unfolding makes puts changes_if_fits
+  pub puts_is : may_write its_held ≡ true → put_fits b (its_held.ver + 1) value ≡ true → blocks_make before (Put b value) ≡ changes before b value
+  unfolding blocks_make blocks_put blocks_change
   puts_is may fits = rw (may, fits) refl
 
   abbrev pub made : Done → ℕ → Made
@@ -117,10 +117,10 @@ module _ (setup : Setup) (works : NodeId → List Work) (c : ℕ) (q : ClientPar
       (not_full : nat_le 24 (length (waiting_then q b value)) ≡ false) where
     waits_is : put_of now b value ≡ record { state = serving_at setup works c (put_part q b value); outs = [] }
     waits_is =
-        ap (λ v. flights.writes now (log_in.Put b (record { ver = v; hop = 0; place = None }) value)) (ap (λ (h : Held). h.ver) itself)
+        ap (λ v. flights.serving_write now (log_in.Put b (record { ver = v; hop = 0; place = None }) value)) (ap (λ (h : Held). h.ver) itself)
         ∙ put_writes now b (record { ver = its_held.ver + 1; hop = 0; place = None }) value not_full
 
-    pub put_makes : makes before (Put b value) ≡ record {
+    pub put_makes : blocks_make before (Put b value) ≡ record {
       done = record { state = serving_at setup works c (put_part q b value); outs = writes c b value };
       answer = Some (block.Put (its_held.ver + 1));
     }

@@ -5,7 +5,7 @@ use Rattle.log_owner.specs.Promised.{first_number}
 use Rattle.manager_node.specs.Phases.{phase_has_room}
 use Rattle.manager_slots.specs.declared.slot_phase.SlotPhase.{SlotPhase}
 use Rattle.manager_slots.specs.declared.slot_phase.SlotPhase.TheVariants as phase
-use Rattle.manager_slots.specs.Slots.{managed, slot_has_room}
+use Rattle.manager_slots.specs.Slots.{managed, slot_phase_has_room}
 use Rattle.node_base.specs.Room.{has_long_room, has_room}
 use Rattle.token_manager.specs.SlotState.{SlotState}
 use Rattle.version_model.specs.declared.work.Work.{Work}
@@ -42,7 +42,7 @@ number_within managers slot some =
     subst (λ n. (1 ≤ n) × (n ≤ managers)) (sym (ap (λ t. cond t 1 (slot % managers + 1)) (zero_test managers some)))
     (omega arith, (let below : slot % managers < managers = mod-lt slot some in omega arith))
 
-pub all_eight : (f : ℕ → SlotPhase) → ((i : ℕ) → i < 8 → slot_has_room (f i) ≡ true) → list_all slot_has_room (map f all_slots) ≡ true
+pub all_eight : (f : ℕ → SlotPhase) → ((i : ℕ) → i < 8 → slot_phase_has_room (f i) ≡ true) → list_all slot_phase_has_room (map f all_slots) ≡ true
 all_eight f each =
     rw (
       each 0 (omega arith),
@@ -72,9 +72,9 @@ pub manager_room : (setup : Setup) (works : NodeId → List Work) (j : ℕ) (slo
     → phase_has_room (manager_at setup works j slots).phase ≡ true
 manager_room setup works j slots turns = all_eight (phase_at setup works slots j) each
   where
-    each : (i : ℕ) → i < 8 → slot_has_room (phase_at setup works slots j i) ≡ true
+    each : (i : ℕ) → i < 8 → slot_phase_has_room (phase_at setup works slots j i) ≡ true
     each i within =
-        elim (manager_of_slot setup works i == j) as (λ t. slot_has_room (cond t (managed (slots i)) (phase.Away 1)) ≡ true) [
+        elim (manager_of_slot setup works i == j) as (λ t. slot_phase_has_room (cond t (managed (slots i)) (phase.Away 1)) ≡ true) [
           | true ↦ let h = turns i within in ap (λ e. has_room e && has_long_room (slots i).turn) h.epoch ∙ h.turn
           | false ↦ refl
         ]

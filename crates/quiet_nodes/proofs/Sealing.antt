@@ -1,13 +1,13 @@
 -- A sync where something waits: what waits first is sealed, and each member of the group is sent its fragment.
 use Rattle.std.proofs.Common.{◌≡◌, ℕ, ◌+◌, ◌<◌, true, nat_lt, List, [], ◌++◌, drop, take, length, Some, None, refl, ap, ◌∙◌}
 use Rattle.std.specs.Prelude.{flat_map, slice_get}
-use Rattle.client_running.specs.Blocks.{makes, syncs}
+use Rattle.client_running.specs.Blocks.{blocks_make, blocks_sync}
 use Rattle.client_log.specs.Transition as log
 use Rattle.client_node.specs.Phases.{client_step, serves_on, stepped}
-use Rattle.client_call.specs.Calls.{call_for}
+use Rattle.client_call.specs.Calls.{call_new}
 use Rattle.client_call.specs.declared.call.Plan.TheVariants.{One}
 use Rattle.log_owner.specs.Opening.{stored}
-use Rattle.client_serving.specs.Follow.{seals}
+use Rattle.client_serving.specs.Follow.{serving_seal}
 use Rattle.file_plan.specs.declared.block_call.BlockCall.TheVariants.{Sync}
 use Rattle.log_flight.specs.Flights.{FlightState, flown, group_for}
 use Rattle.log_flight.specs.Items.{items_of}
@@ -35,32 +35,32 @@ module _ (setup : Setup) (works : NodeId → List Work) (c : ℕ) (q : ClientPar
 
   -- a fragment to each member
   abbrev pub stores : List Effect
-  stores = flat_map stored (log.all_sends its_flight)
+  stores = flat_map stored (log.sending_send its_flight)
 
   module _ (lands : q.flight ≡ None) (some : nat_lt 0 (length q.dirty) ≡ true) (next : log.has_next q.end.seq ≡ true) where
-    log_seals : log.on_seal (log_at setup works c q) ≡ record { state = log_at setup works c sealed_part; outs = log.all_sends its_flight }
-    unfolding log.on_seal log.sealed log.launched
+    log_seals : log.on_seal (log_at setup works c q) ≡ record { state = log_at setup works c sealed_part; outs = log.sending_send its_flight }
+    unfolding log.on_seal log.log_seal log.log_launch
     log_seals = rw (lands, some, next) refl
 
-    pub seals_so : seals (serving_at setup works c q) ≡ record { state = serving_at setup works c sealed_part; outs = stores }
-    unfolding seals
-    seals_so = rw log_seals refl
+    pub serving_seal_so : serving_seal (serving_at setup works c q) ≡ record { state = serving_at setup works c sealed_part; outs = stores }
+    unfolding serving_seal
+    serving_seal_so = rw log_seals refl
 
 module _ (setup : Setup) (works : NodeId → List Work) (c : ℕ) (p : ClientPart) (h : HasRoom setup works c p) (left : p.begun < length (works (Client c)))
     (few : p.begun < u32_end) (next : slice_get (works (Client c)) p.begun ≡ Some (work.Sync c)) (idle : p.item ≡ None) (lands : p.flight ≡ None)
     (some : nat_lt 0 (length p.dirty) ≡ true) (more : log.has_next p.end.seq ≡ true) where
   abbrev mid : ClientPart
-  mid = opened setup works c p (call_for One Sync)
+  mid = opened setup works c p (call_new One Sync)
 
   abbrev before : ClientPart
   before = record mid { call = None }
 
-  sync_makes : makes (serving_at setup works c before) Sync ≡ record {
+  sync_makes : blocks_make (serving_at setup works c before) Sync ≡ record {
     done = record { state = serving_at setup works c (sealed_part setup works c before); outs = stores setup works c before ++ [] };
     answer = None;
   }
-  unfolding makes syncs
-  sync_makes = rw (seals_so setup works c before lands some more) refl
+  unfolding blocks_make blocks_sync
+  sync_makes = rw (serving_seal_so setup works c before lands some more) refl
 
   -- the client then: the sync waits
   abbrev pub sync_sealed : ClientPart
@@ -72,6 +72,6 @@ module _ (setup : Setup) (works : NodeId → List Work) (c : ℕ) (p : ClientPar
     acts = acts_of (Client c) (stores setup works c p ++ []);
   }
   sync_begins =
-      begin_steps setup works c p (work.Sync c) (call_for One Sync) h left few next idle (λ s n. refl) refl
+      begin_steps setup works c p (work.Sync c) (call_new One Sync) h left few next idle (λ s n. refl) refl
       ∙ ap (λ d. stepped (client_at setup works c p) (serves_on d))
       (runs_waits (serving_at setup works c mid) Sync refl (serving_at setup works c (sealed_part setup works c before)) (stores setup works c before ++ []) sync_makes)

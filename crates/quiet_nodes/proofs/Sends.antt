@@ -10,7 +10,7 @@ use Rattle.client_serving.specs.Flights as flights
 use Rattle.client_serving.specs.Sends.{Done}
 use Rattle.group_map.specs.declared.group.Member.{Member}
 use Rattle.log_flight.specs.Flights.{FlightState, is_noted, none_noted}
-use Rattle.log_flight.specs.Fragments.{piece}
+use Rattle.log_flight.specs.Fragments.{flight_fragment}
 use Rattle.log_owner.specs.Opening.{stored}
 use Rattle.log_owner.specs.Sealing.{is_settling}
 use Rattle.log_owner.specs.Sending.{store}
@@ -28,7 +28,7 @@ module _ (f : FlightState) (anew : f.noted ≡ none_noted) where
   nobody_is place = ap (λ noted. is_noted noted place) anew ∙ none_are.each place ∙ not_lt_test place 0 (omega arith)
 
   abbrev first : Member → ℕ → Out
-  first m place = log_out.Send (piece f.segment f.group place) m
+  first m place = log_out.Send (flight_fragment f.segment f.group place) m
 
   -- each member is sent its fragment
   sends_next : (m : Member) (ms : List Member) (place : ℕ) → log.sends f (m ∷ ms) place ≡ first m place ∷ log.sends f ms (place + 1)
@@ -55,12 +55,12 @@ module _ (f : FlightState) (anew : f.noted ≡ none_noted) where
   none_settles (m ∷ ms) place = ap (list_any is_settling) (sends_next m ms place) ∙ none_settles ms (place + 1)
 
   pub sends_written : (s : Serving) (ms : List Member) (place : ℕ)
-      → steps flights.writes_one s (log.sends f ms place) ≡ record { state = s; outs = flat_map stored (log.sends f ms place) }
-  unfolding flights.writes_one
+      → steps flights.write_one s (log.sends f ms place) ≡ record { state = s; outs = flat_map stored (log.sends f ms place) }
+  unfolding flights.write_one
   sends_written s [] place = refl
   sends_written s (m ∷ ms) place =
-      ap (steps flights.writes_one s) (sends_next m ms place)
-      ∙ ap (saying (store (piece f.segment f.group place) m ∷ [])) (sends_written s ms (place + 1))
+      ap (steps flights.write_one s) (sends_next m ms place)
+      ∙ ap (saying (store (flight_fragment f.segment f.group place) m ∷ [])) (sends_written s ms (place + 1))
       ∙ ap (λ outs. with_outs (flat_map stored outs)) (sym (sends_next m ms place))
     where
       with_outs : List Effect → Done

@@ -2,33 +2,33 @@
 -- sync that waits is answered, in one event.
 use Rattle.std.proofs.Common.{◌≡◌, ℕ, ◌+◌, ◌<◌, ◌&&◌, ◌||◌, not, Bool, true, false, cond, nat_lt, List, [], ◌∷◌, ◌++◌, drop, take, map, fold, slice_index, Option, Some, None, is_some, refl, ap, ◌∙◌, append-nil, arith}
 use Rattle.std.specs.List.{list_any}
-use Rattle.client_running.specs.Blocks.{makes, syncs}
-use Rattle.client_running.specs.Running.{runs}
+use Rattle.client_running.specs.Blocks.{blocks_make, blocks_sync}
+use Rattle.client_running.specs.Running.{run}
 use Rattle.client_log.specs.declared.output.Out.TheVariants.{Settled}
 use Rattle.client_log.specs.Transition as log
 use Rattle.client_node.specs.declared.client.Client.{Client as ClientNode}
 use Rattle.client_node.specs.Phases.{client_step, on_deliver}
-use Rattle.client_call.specs.Calls.{call_for}
+use Rattle.client_call.specs.Calls.{call_new}
 use Rattle.client_call.specs.declared.call.Plan.TheVariants.{One}
 use Rattle.log_owner.specs.Sealing.{is_settling}
 use Rattle.token_client.specs.Settling.{is_to_give}
 use Rattle.client_node.specs.Serving.{cached_upto}
 use Rattle.client_serving.specs.declared.serving.Serving.{Serving}
 use Rattle.client_serving.specs.Flights as flights
-use Rattle.client_serving.specs.Flights.{feeds, gives_if_clean, gives_up, keeps_clean, notes_settled, seals_again, settled_rows, settles, writes_one}
-use Rattle.client_serving.specs.Follow.{evicts, notes_clean, seals}
-use Rattle.client_serving.specs.Packets.{on_packet}
+use Rattle.client_serving.specs.Flights.{feeds, give_if_clean, gives_up, keep_row, notes_settled, seals_again, settle_rows, serving_settle, write_one}
+use Rattle.client_serving.specs.Follow.{evicts, note_clean, serving_seal}
+use Rattle.client_serving.specs.Packets.{serving_take}
 use Rattle.client_serving.specs.Sends.{Done}
 use Rattle.coop_cache.specs.declared.output.Out.TheVariants.{Victim}
 use Rattle.coop_cache.specs.Transition.{excess, used_last}
-use Rattle.delta_feed.specs.Transition.{pushed, rows_after}
+use Rattle.delta_feed.specs.Transition.{feed_push, rows_after}
 use Rattle.file_plan.specs.declared.block_call.BlockAnswer.TheVariants as block
 use Rattle.file_plan.specs.declared.block_call.BlockCall.TheVariants.{Sync}
 use Rattle.log_flight.specs.Fate.{fate_of}
 use Rattle.log_flight.specs.declared.flight.Fate.TheVariants.{Settle}
-use Rattle.log_flight.specs.Flights.{FlightState, is_of, noting}
-use Rattle.log_owner.specs.Promised.{first_managers}
-use Rattle.log_owner.specs.Sending.{name_of, pushes_all}
+use Rattle.log_flight.specs.Flights.{FlightState, is_of, flight_note}
+use Rattle.log_owner.specs.Promised.{managers_start}
+use Rattle.log_owner.specs.Sending.{name_of, push_all}
 use Rattle.node_base.specs.Beginning.{answers_unanswered}
 use Rattle.node_base.specs.declared.effects.Effect.{Effect}
 use Rattle.node_base.specs.declared.effects.Effect.TheVariants.{Answer, Does, Send}
@@ -176,18 +176,18 @@ module _ (setup : Setup) (works : NodeId → List Work) (c : ℕ) (p : ClientPar
   evicts_all [] k = refl
   evicts_all (b ∷ bs) k = ap (λ s. fold evicts s (map Victim bs)) (evicts_is k b) ∙ evicts_all bs (leaves k b)
 
-  pub notes_clean_is : (k : Known) (b : BlockId) → notes_clean (at k) b ≡ at (comes_in capacity k b)
-  unfolding notes_clean
-  notes_clean_is k b =
+  pub note_clean_is : (k : Known) (b : BlockId) → note_clean (at k) b ≡ at (comes_in capacity k b)
+  unfolding note_clean
+  note_clean_is k b =
       evicts_all (take (excess capacity (used_last b k.cached)) (used_last b k.cached))
       (record k { cached = drop (excess capacity (used_last b k.cached)) (used_last b k.cached) })
 
-  keeps_clean_is : (k : Known) (row : BlockId × Entry) → keeps_clean (at k) row ≡ at (row_comes_in capacity k row)
-  unfolding keeps_clean
-  keeps_clean_is k row =
+  keep_row_is : (k : Known) (row : BlockId × Entry) → keep_row (at k) row ≡ at (row_comes_in capacity k row)
+  unfolding keep_row
+  keep_row_is k row =
       elim (not (is_dirty (held_of k.blocks row.0)) && is_held (held_of k.blocks row.0).mode) as
-      (λ t. cond t (notes_clean (at k) row.0) (at k) ≡ at (cond t (comes_in capacity k row.0) k)) [
-        | true ↦ notes_clean_is k row.0
+      (λ t. cond t (note_clean (at k) row.0) (at k) ≡ at (cond t (comes_in capacity k row.0) k)) [
+        | true ↦ note_clean_is k row.0
         | false ↦ refl
       ]
 
@@ -197,18 +197,18 @@ module _ (setup : Setup) (works : NodeId → List Work) (c : ℕ) (p : ClientPar
   fold_as step on is (x ∷ xs) k = ap (λ s. fold step s xs) (is k x) ∙ fold_as step on is xs (on k x)
 
   -- stage one: what is known of blocks, and the cache
-  pub rows_settle : (rows : List (BlockId × Entry)) (k : Known) → settled_rows (at k) rows ≡ at (all_settled capacity k rows)
+  pub rows_settle : (rows : List (BlockId × Entry)) (k : Known) → settle_rows (at k) rows ≡ at (all_settled capacity k rows)
   rows_settle rows k =
-      ap (λ s. fold keeps_clean s rows) (fold_as notes_settled row_settles notes_settled_is rows k)
-      ∙ fold_as keeps_clean (row_comes_in capacity) keeps_clean_is rows (fold row_settles k rows)
+      ap (λ s. fold keep_row s rows) (fold_as notes_settled row_settles notes_settled_is rows k)
+      ∙ fold_as keep_row (row_comes_in capacity) keep_row_is rows (fold row_settles k rows)
 
 -- nothing is given up where no block is to be
 module _ (setup : Setup) (works : NodeId → List Work) (c : ℕ) (q : ClientPart) (none : NoneGiving q.blocks) where
   abbrev here : Serving
   here = serving_at setup works c q
 
-  gives_none : (b : BlockId) → gives_if_clean here b ≡ still here
-  unfolding gives_if_clean
+  gives_none : (b : BlockId) → give_if_clean here b ≡ still here
+  unfolding give_if_clean
   gives_none b =
       elim (is_dirty (held_of q.blocks b)) as (λ t. cond t (still here) (gives_up here b (held_of q.blocks b).giving) ≡ still here) [
         | true ↦ refl
@@ -216,12 +216,12 @@ module _ (setup : Setup) (works : NodeId → List Work) (c : ℕ) (q : ClientPar
       ]
 
   -- stage three
-  pub none_given : (bs : List BlockId) → steps gives_if_clean here bs ≡ still here
+  pub none_given : (bs : List BlockId) → steps give_if_clean here bs ≡ still here
   none_given [] = refl
-  none_given (b ∷ bs) = ap (λ (d : Done). saying d.outs (steps gives_if_clean d.state bs)) (gives_none b) ∙ none_given bs
+  none_given (b ∷ bs) = ap (λ (d : Done). saying d.outs (steps give_if_clean d.state bs)) (gives_none b) ∙ none_given bs
 
   none_sealed : seals_again here true ≡ still here
-  none_sealed = ap (λ t. cond t (seals here) (still here)) (none_to_give (tokens_at setup works q) none (dirty_in q.blocks))
+  none_sealed = ap (λ t. cond t (serving_seal here) (still here)) (none_to_give (tokens_at setup works q) none (dirty_in q.blocks))
 
 -- ---- the segment settles
 
@@ -240,21 +240,21 @@ module _ (setup : Setup) (works : NodeId → List Work) (c : ℕ) (p : ClientPar
   }
 
   abbrev pub told : List Effect
-  told = Does (acts.Filed (name_of (record { 0 = c }) end)) ∷ pushes_all (first_managers setup.managers) (feed_at fed_part)
+  told = Does (acts.Filed (name_of (record { 0 = c }) end)) ∷ push_all (managers_start setup.managers) (feed_at fed_part)
 
   feeds_so : feeds (serving_at setup works c (with_known setup works c p known_then)) end rows ≡ serving_at setup works c fed_part
   feeds_so = rw newer refl
 
   abbrev finish : Serving → Done
   finish fed =
-      saying (Does (acts.Filed (name_of (record { 0 = c }) end)) ∷ pushes_all fed.managers fed.feed) (steps gives_if_clean fed (dirty_in p.blocks))
+      saying (Does (acts.Filed (name_of (record { 0 = c }) end)) ∷ push_all fed.managers fed.feed) (steps give_if_clean fed (dirty_in p.blocks))
 
   pub none_then : NoneGiving fed_part.blocks
   none_then = settled_keeps (cached_upto setup.cache) (record { blocks = p.blocks; cached = p.cached }) rows none
 
-  pub settles_so : settles (serving_at setup works c p) end rows ≡ record { state = serving_at setup works c fed_part; outs = told }
-  unfolding settles
-  settles_so =
+  pub serving_settle_so : serving_settle (serving_at setup works c p) end rows ≡ record { state = serving_at setup works c fed_part; outs = told }
+  unfolding serving_settle
+  serving_settle_so =
       ap (λ s. finish (feeds s end rows)) (rows_settle setup works c p rows (record { blocks = p.blocks; cached = p.cached }))
       ∙ ap finish feeds_so
       ∙ ap (saying told) (none_given setup works c fed_part none_then (dirty_in p.blocks))
@@ -264,14 +264,14 @@ module _ (setup : Setup) (works : NodeId → List Work) (c : ℕ) (p : ClientPar
 
 -- whoever holds its blocks: what is in flight lands, and what is made of that is what the packet makes
 module _ (setup : Setup) (works : NodeId → List Work) (c v index generation : ℕ) (name : SegName) (p : ClientPart) (f : FlightState)
-    (flies : p.flight ≡ Some f) (its : is_of f name index generation ≡ true) (lands : fate_of (its_groups setup works) (noting f index) ≡ Settle)
+    (flies : p.flight ≡ Some f) (its : is_of f name index generation ≡ true) (lands : fate_of (its_groups setup works) (flight_note f index) ≡ Settle)
     (empty : p.dirty ≡ []) where
   abbrev landing : ClientPart
-  landing = record p { end = log.end_from f.segment; flight = None }
+  landing = record p { end = log.end_of f.segment; flight = None }
 
   log_settles : log.on_acked (log_at setup works c p) name index generation
-      ≡ record { state = log_at setup works c landing; outs = Settled (log.end_from f.segment) (rows_of f.segment) ∷ [] }
-  unfolding log.on_acked log.looked_at log.settled log.if_full
+      ≡ record { state = log_at setup works c landing; outs = Settled (log.end_of f.segment) (rows_of f.segment) ∷ [] }
+  unfolding log.on_acked log.looked_at log.settled log.log_go_on
   log_settles = rw (flies, its, lands, empty) refl
 
   abbrev last_stored : Packet
@@ -279,16 +279,16 @@ module _ (setup : Setup) (works : NodeId → List Work) (c v index generation : 
 
   abbrev following : log.Done → Done
   following r =
-      (let d = steps writes_one (record (serving_at setup works c p) { log = r.state }) r.outs in
+      (let d = steps write_one (record (serving_at setup works c p) { log = r.state }) r.outs in
       saying d.outs (seals_again d.state (list_any is_settling r.outs)))
 
   abbrev sealing : Done → Done
   sealing d = saying (d.outs ++ []) (seals_again d.state true)
 
   pub stored_settles : (q : ClientPart) (tells : List Effect)
-      → settles (serving_at setup works c landing) (log.end_from f.segment) (rows_of f.segment) ≡ record { state = serving_at setup works c q; outs = tells }
-      → NoneGiving q.blocks → on_packet (serving_at setup works c p) last_stored ≡ record { state = serving_at setup works c q; outs = tells }
-  unfolding on_packet flights.writes writes_one
+      → serving_settle (serving_at setup works c landing) (log.end_of f.segment) (rows_of f.segment) ≡ record { state = serving_at setup works c q; outs = tells }
+      → NoneGiving q.blocks → serving_take (serving_at setup works c p) last_stored ≡ record { state = serving_at setup works c q; outs = tells }
+  unfolding serving_take flights.serving_write write_one
   stored_settles q tells settled none =
       ap following log_settles
       ∙ ap sealing settled
@@ -296,10 +296,10 @@ module _ (setup : Setup) (works : NodeId → List Work) (c v index generation : 
       ∙ ap (λ outs. record { state = serving_at setup works c q; outs = outs }) (append-nil (tells ++ []) ∙ append-nil tells)
 
 module _ (setup : Setup) (works : NodeId → List Work) (c v clock index generation item : ℕ) (name : SegName) (p : ClientPart) (f : FlightState)
-    (flies : p.flight ≡ Some f) (its : is_of f name index generation ≡ true) (lands : fate_of (its_groups setup works) (noting f index) ≡ Settle)
+    (flies : p.flight ≡ Some f) (its : is_of f name index generation ≡ true) (lands : fate_of (its_groups setup works) (flight_note f index) ≡ Settle)
     (empty : p.dirty ≡ []) (newer : nat_lt p.fed f.segment.name.seq ≡ true) (none : NoneGiving p.blocks) where
   abbrev pub its_end : End
-  its_end = log.end_from f.segment
+  its_end = log.end_of f.segment
 
   abbrev pub landed_part : ClientPart
   landed_part = record p { end = its_end; flight = None }
@@ -313,15 +313,15 @@ module _ (setup : Setup) (works : NodeId → List Work) (c v clock index generat
   abbrev packet : Packet
   packet = record { from = Server v; to = Client c; clock = clock; body = body.Stored (record { name = name; index = index; generation = generation }) }
 
-  packet_settles : on_packet (serving_at setup works c p) packet ≡ record { state = serving_at setup works c settled_part; outs = its_told }
-  unfolding on_packet
+  packet_settles : serving_take (serving_at setup works c p) packet ≡ record { state = serving_at setup works c settled_part; outs = its_told }
+  unfolding serving_take
   packet_settles =
       stored_settles setup works c v index generation name p f flies its lands empty settled_part its_told
-      (settles_so setup works c landed_part its_end (rows_of f.segment) newer none)
+      (serving_settle_so setup works c landed_part its_end (rows_of f.segment) newer none)
       (none_then setup works c landed_part its_end (rows_of f.segment) newer none)
 
   module _ (h : HasRoom setup works c p) (there : has_node (peers_of setup) (Server v) ≡ true) (named : is_name name ≡ true)
-      (syncing : p.call ≡ Some (call_for One Sync)) (its_item : p.item ≡ Some item) where
+      (syncing : p.call ≡ Some (call_new One Sync)) (its_item : p.item ≡ Some item) where
     abbrev idle : ClientPart
     idle = record settled_part { call = None }
 
@@ -329,14 +329,14 @@ module _ (setup : Setup) (works : NodeId → List Work) (c v clock index generat
     abbrev pub synced_then : ClientPart
     synced_then = record settled_part { call = None; item = None }
 
-    sync_makes : makes (serving_at setup works c idle) Sync ≡ record {
+    sync_makes : blocks_make (serving_at setup works c idle) Sync ≡ record {
       done = record { state = serving_at setup works c idle; outs = Does (acts.Synced c) ∷ [] };
       answer = Some block.Synced;
     }
-    unfolding makes syncs seals log.on_seal
+    unfolding blocks_make blocks_sync serving_seal log.on_seal
     sync_makes = rw empty refl
 
-    sync_runs : runs (serving_at setup works c settled_part) ≡ record {
+    sync_runs : run (serving_at setup works c settled_part) ≡ record {
       state = serving_at setup works c synced_then;
       outs = Does (acts.Synced c) ∷ Answer item Finished ∷ [];
     }
@@ -375,8 +375,8 @@ module _ (setup : Setup) (works : NodeId → List Work) (p : ClientPart)
       Send (Manager (manager_of_slot setup works i))
       (body.Deltas (record { slot = i; first = slice_index p.acked i + 1; upto = p.fed; rows = rows_after i (slice_index p.acked i) p.filed }))
 
-  pub pushes_are : pushes_all (first_managers setup.managers) (feed_at p) ≡ map deltas_to all_slots
-  unfolding pushed
+  pub pushes_are : push_all (managers_start setup.managers) (feed_at p) ≡ map deltas_to all_slots
+  unfolding feed_push
   pushes_are =
       rw (
         more 0 (omega arith),

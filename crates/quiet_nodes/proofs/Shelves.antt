@@ -6,11 +6,11 @@ use Rattle.std.proofs.lemmas.Bool.{false≢true}
 use Rattle.std.proofs.lemmas.Bool.Decides.{nat_tests}
 use Rattle.std.proofs.lemmas.List.Elements.{All-cons, All-head, All-tail}
 use Rattle.fragment_store.proofs.Tables.{held-with}
-use Rattle.fragment_store.specs.Calls.{kept, with_fragment}
+use Rattle.fragment_store.specs.Calls.{shelf_store, with_fragment}
 use Rattle.fragment_store.specs.ShelfState.{held_at, is_held}
 use Rattle.group_map.specs.declared.group.Member.{Member}
 use Rattle.log_flight.specs.Flights.{FlightState, no_member}
-use Rattle.log_flight.specs.Fragments.{piece}
+use Rattle.log_flight.specs.Fragments.{flight_fragment}
 use Rattle.version_model.specs.declared.work.Work.{Work}
 use Rattle.xfs_base.proofs.Booleans.{by_test}
 use Rattle.xfs_base.proofs.SegmentNames.{one_name, same_itself}
@@ -42,7 +42,7 @@ module _ (P : Fragment → Type 0) (g : Fragment) (here : P g) where
 module _ (setup : Setup) (works : NodeId → List Work) where
   module _ (fs : List Fragment) (g : Fragment) where
     abbrev then_ : List Fragment
-    then_ = (kept (shelf_at setup works fs) g).held
+    then_ = (shelf_store (shelf_at setup works fs) g).held
 
     by_held : (P : List Fragment → Type 0) → (is_held (shelf_at setup works fs) g.meta.name ≡ true → P fs)
         → (is_held (shelf_at setup works fs) g.meta.name ≡ false → P (with_fragment g fs)) → P then_
@@ -78,7 +78,7 @@ module _ (setup : Setup) (works : NodeId → List Work) where
     abbrev name : SegName
     name = f.segment.name
 
-    its_name : (place : ℕ) → (piece f.segment f.group place).meta.name ≡ name
+    its_name : (place : ℕ) → (flight_fragment f.segment f.group place).meta.name ≡ name
     its_name place = ap (λ (m : FragMeta). m.name) (meta_is f place)
 
     equal : (a c : ℕ) → (a == c) ≡ true → a ≡ c
@@ -97,7 +97,7 @@ module _ (setup : Setup) (works : NodeId → List Work) where
         → held_at (with_piece setup works held f m place v) n ≡ Some x
     one_keeps held m place v n x is =
         at_shelf held m place v (λ fs. held_at fs n ≡ Some x)
-        (λ same. shelf_keeps (held m.server) (piece f.segment f.group place) n x (ap (λ w. held_at (held w) n) (sym same) ∙ is)) (λ _. is)
+        (λ same. shelf_keeps (held m.server) (flight_fragment f.segment f.group place) n x (ap (λ w. held_at (held w) n) (sym same) ∙ is)) (λ _. is)
 
     pub pieces_keep : (ms : List Member) (place : ℕ) (held : ℕ → List Fragment) (v : ℕ) (n : SegName) (x : Fragment) → held_at (held v) n ≡ Some x
         → held_at (with_pieces setup works held f ms place v) n ≡ Some x
@@ -105,12 +105,12 @@ module _ (setup : Setup) (works : NodeId → List Work) where
     pieces_keep (m ∷ ms) place held v n x is =
         pieces_keep ms (place + 1) (with_piece setup works held f m place) v n x (one_keeps held m place v n x is)
 
-    pub pieces_all : (P : Fragment → Type 0) → ((place : ℕ) → P (piece f.segment f.group place)) → (ms : List Member) (place : ℕ) (held : ℕ → List Fragment) (v : ℕ)
+    pub pieces_all : (P : Fragment → Type 0) → ((place : ℕ) → P (flight_fragment f.segment f.group place)) → (ms : List Member) (place : ℕ) (held : ℕ → List Fragment) (v : ℕ)
         → ((w : ℕ) → w ≡ v → All P (held w)) → All P (with_pieces setup works held f ms place v)
     pieces_all P here [] place held v all = all v refl
     pieces_all P here (m ∷ ms) place held v all =
         pieces_all P here ms (place + 1) (with_piece setup works held f m place) v
-        (λ w same. at_shelf held m place w (All P) (λ is. shelf_all (held m.server) (piece f.segment f.group place) P (here place) (all m.server (sym is ∙ same)))
+        (λ w same. at_shelf held m place w (All P) (λ is. shelf_all (held m.server) (flight_fragment f.segment f.group place) P (here place) (all m.server (sym is ∙ same)))
         (λ _. all w same))
 
     abbrev pub IsNew : (ℕ → List Fragment) → Member → Type 0
@@ -130,25 +130,25 @@ module _ (setup : Setup) (works : NodeId → List Work) where
     -- each member has its fragment
     pub pieces_have : (ms : List Member) (place : ℕ) (held : ℕ → List Fragment) → IsDistinct nat_eq (map (λ (x : Member). x.server) ms) → AllByRecursion (IsNew held) ms
         → (at : ℕ) → at < length ms
-        → held_at (with_pieces setup works held f ms place (slice_index_or ms at no_member).server) name ≡ Some (piece f.segment f.group (place + at))
+        → held_at (with_pieces setup works held f ms place (slice_index_or ms at no_member).server) name ≡ Some (flight_fragment f.segment f.group (place + at))
     unfolding IsDistinct
     pieces_have [] place held differ new at within = absurd (omega arith)
     pieces_have (m ∷ ms) place held differ new zero within =
-        pieces_keep ms (place + 1) (with_piece setup works held f m place) m.server name (piece f.segment f.group (place + 0))
-        (at_shelf held m place m.server (λ fs. held_at fs name ≡ Some (piece f.segment f.group (place + 0)))
+        pieces_keep ms (place + 1) (with_piece setup works held f m place) m.server name (flight_fragment f.segment f.group (place + 0))
+        (at_shelf held m place m.server (λ fs. held_at fs name ≡ Some (flight_fragment f.segment f.group (place + 0)))
         (λ _. first) (λ differs. absurd (differs refl)))
       where
-        first : held_at (kept_by setup works held f m place) name ≡ Some (piece f.segment f.group (place + 0))
+        first : held_at (kept_by setup works held f m place) name ≡ Some (flight_fragment f.segment f.group (place + 0))
         first =
             ap (held_at (kept_by setup works held f m place)) (sym (its_name place))
-            ∙ shelf_has (held m.server) (piece f.segment f.group place) (ap (held_at (held m.server)) (its_name place) ∙ new.0)
-            ∙ ap (λ n. Some (piece f.segment f.group n)) (none_more place)
+            ∙ shelf_has (held m.server) (flight_fragment f.segment f.group place) (ap (held_at (held m.server)) (its_name place) ∙ new.0)
+            ∙ ap (λ n. Some (flight_fragment f.segment f.group n)) (none_more place)
           where
             none_more : (n : ℕ) → n ≡ n + 0
             none_more n = omega arith
     pieces_have (m ∷ ms) place held differ new (suc at) within =
         pieces_have ms (place + 1) (with_piece setup works held f m place) differ.1 (still_new held m place ms differ.0 new.1) at (omega arith)
-        ∙ ap (λ n. Some (piece f.segment f.group n)) (one_more place at)
+        ∙ ap (λ n. Some (flight_fragment f.segment f.group n)) (one_more place at)
       where
         one_more : (n k : ℕ) → (n + 1) + k ≡ n + suc k
         one_more n k = omega arith

@@ -6,8 +6,8 @@ use Rattle.core_world.specs.declared.any_node.AnyNode.{AnyNode}
 use Rattle.core_world.specs.declared.any_node.AnyNode.TheVariants as any
 use Rattle.group_map.specs.declared.group.Member.{Member}
 use Rattle.log_flight.specs.Flights.{FlightState}
-use Rattle.log_flight.specs.Fragments.{piece}
-use Rattle.node_base.specs.Maps.{at_start, knows, knows_prior}
+use Rattle.log_flight.specs.Fragments.{flight_fragment}
+use Rattle.node_base.specs.Maps.{maps_start, knows, knows_prior}
 use Rattle.node_base.specs.Nodes.{has_node, peers_of}
 use Rattle.node_base.specs.Known.{knows_meta}
 use Rattle.node_base.specs.Shape.{is_meta, is_name}
@@ -30,30 +30,30 @@ use Rattle.quiet_nodes.proofs.Moving.{moves_next, moves_none}
 use Rattle.quiet_nodes.proofs.Staging.{held_frame, held_put}
 use Rattle.quiet_nodes.proofs.Storing.{store_comes}
 
-pub meta_is : (f : FlightState) (place : ℕ) → (piece f.segment f.group place).meta ≡ meta_of f.segment place
-unfolding piece
+pub meta_is : (f : FlightState) (place : ℕ) → (flight_fragment f.segment f.group place).meta ≡ meta_of f.segment place
+unfolding flight_fragment
 meta_is f place = refl
 
 -- a server takes what a segment's fragments say of themselves
 pub record IsTaken (setup : Setup) (works : NodeId → List Work) (f : FlightState) : Type 0 where
   pub of_log : is_name f.segment.name ≡ true
-  pub group : knows (at_start (its_groups setup works)) f.segment.group ≡ true
-  pub prior : knows_prior (at_start (its_groups setup works)) f.segment.prior ≡ true
+  pub group : knows (maps_start (its_groups setup works)) f.segment.group ≡ true
+  pub prior : knows_prior (maps_start (its_groups setup works)) f.segment.prior ≡ true
   pub above : is_greater (pass_cmp (record { inc = 0; att = 0 }) f.segment.name.pass) ≡ false
 
 module _ (setup : Setup) (works : NodeId → List Work) (c : ℕ) (f : FlightState) (there : has_node (peers_of setup) (Client c) ≡ true)
     (taken : IsTaken setup works f) where
   module _ (place : ℕ) where
     abbrev its_piece : Fragment
-    its_piece = piece f.segment f.group place
+    its_piece = flight_fragment f.segment f.group place
 
     pub of_log_piece : is_meta its_piece.meta ≡ true
     of_log_piece = ap is_meta (meta_is f place) ∙ taken.of_log
 
-    pub known_piece : knows_meta (at_start (its_groups setup works)) its_piece.meta ≡ true
+    pub known_piece : knows_meta (maps_start (its_groups setup works)) its_piece.meta ≡ true
     known_piece =
-        ap (knows_meta (at_start (its_groups setup works))) (meta_is f place)
-        ∙ ap (λ t. t && knows_prior (at_start (its_groups setup works)) f.segment.prior) taken.group
+        ap (knows_meta (maps_start (its_groups setup works))) (meta_is f place)
+        ∙ ap (λ t. t && knows_prior (maps_start (its_groups setup works)) f.segment.prior) taken.group
         ∙ taken.prior
 
     above_piece : is_greater (pass_cmp (record { inc = 0; att = 0 }) its_piece.meta.name.pass) ≡ false

@@ -1,12 +1,12 @@
 -- A server of a quiet run keeps a fragment, and says so.
 use Rattle.std.proofs.Common.{◌≡◌, ℕ, true, false, cond, List, [], ◌∷◌, None, refl, ap}
 use Rattle.xfs_base.specs.Stamps.{is_greater}
-use Rattle.fragment_store.specs.Calls.{kept, store_refused, with_fragment}
+use Rattle.fragment_store.specs.Calls.{shelf_store, refusal, with_fragment}
 use Rattle.fragment_store.specs.ShelfState.{ShelfState, is_held}
 use Rattle.store_nodes.specs.declared.server.Server.{Server as ServerNode}
 use Rattle.wire_msg.specs.NodeStep.{NodeStep}
 use Rattle.node_base.specs.Known.{knows_meta}
-use Rattle.node_base.specs.Maps.{at_start}
+use Rattle.node_base.specs.Maps.{maps_start}
 use Rattle.node_base.specs.Nodes.{has_node, peers_of}
 use Rattle.node_base.specs.Shape.{is_meta}
 use Rattle.store_nodes.specs.ServerEvents.{on_packet, on_store, server_step}
@@ -22,7 +22,7 @@ use Rattle.xfs_base.specs.Segments.{pass_cmp}
 use Rattle.quiet_nodes.specs.Scene.{its_groups, server_at, shelf_at}
 
 module _ (setup : Setup) (works : NodeId → List Work) (v c clock : ℕ) (held : List Fragment) (f : Fragment) where
-  kept_is : kept (shelf_at setup works held) f ≡ shelf_at setup works (kept (shelf_at setup works held) f).held
+  kept_is : shelf_store (shelf_at setup works held) f ≡ shelf_at setup works (shelf_store (shelf_at setup works held) f).held
   kept_is =
       elim (is_held (shelf_at setup works held) f.meta.name) as
       (λ t. cond t (shelf_at setup works held) (shelf_at setup works (with_fragment f held))
@@ -34,9 +34,9 @@ module _ (setup : Setup) (works : NodeId → List Work) (v c clock : ℕ) (held 
   abbrev pub store_packet : Packet
   store_packet = record { from = Client c; to = Server v; clock = clock; body = body.Store (record { fragment = f; generation = 1 }) }
 
-  module _ (there : has_node (peers_of setup) (Client c) ≡ true) (of_log : is_meta f.meta ≡ true) (known : knows_meta (at_start (its_groups setup works)) f.meta ≡ true)
+  module _ (there : has_node (peers_of setup) (Client c) ≡ true) (of_log : is_meta f.meta ≡ true) (known : knows_meta (maps_start (its_groups setup works)) f.meta ≡ true)
       (above : is_greater (pass_cmp (record { inc = 0; att = 0 }) f.meta.name.pass) ≡ false) where
-    taken : store_refused (shelf_at setup works held) f.meta.name 1 ≡ None
+    taken : refusal (shelf_at setup works held) f.meta.name 1 ≡ None
     taken = rw above refl
 
     abbrev with_shelf : ShelfState → NodeStep ServerNode
@@ -52,7 +52,7 @@ module _ (setup : Setup) (works : NodeId → List Work) (v c clock : ℕ) (held 
     }
 
     pub store_comes : server_step (server_at setup works v held) (Deliver store_packet) ≡ record {
-      node = server_at setup works v (kept (shelf_at setup works held) f).held;
+      node = server_at setup works v (shelf_store (shelf_at setup works held) f).held;
       packets = record {
         from = Server v;
         to = Client c;

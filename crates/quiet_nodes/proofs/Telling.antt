@@ -2,21 +2,21 @@
 use Rattle.std.proofs.Common.{◌≡◌, ℕ, ◌<◌, ◌==◌, true, cond, nat_lt, List, [], ◌∷◌, slice_set, None, refl, ap, ◌∙◌}
 use Rattle.std.specs.Prelude.{flat_map, slice_index}
 use Rattle.client_node.specs.Phases.{client_step, on_deliver as client_delivers}
-use Rattle.client_serving.specs.Packets.{on_ack, on_packet}
+use Rattle.client_serving.specs.Packets.{on_ack, serving_take}
 use Rattle.manager_node.specs.declared.phase.Phase.TheVariants as managing
-use Rattle.manager_node.specs.Events.{manager_step, on_deliver}
+use Rattle.manager_node.specs.Events.{manager_step, manager_deliver}
 use Rattle.manager_node.specs.Phases.{phase_has_room, serves}
 use Rattle.manager_slots.specs.Slots.{managed}
 use Rattle.manager_slots.specs.SlotTable as table
 use Rattle.manager_slots.specs.SlotTable.{at_slot}
 use Rattle.manager_slots.specs.Tokens as tokens
-use Rattle.manager_slots.specs.Tokens.{said}
+use Rattle.manager_slots.specs.Tokens.{tokens_say}
 use Rattle.manager_serving.specs.declared.serving.Serving.{Serving}
 use Rattle.manager_serving.specs.Serving as serving
 use Rattle.manager_serving.specs.Serving.{with_slots}
 use Rattle.node_base.specs.Effects.{acts_of, packets_of}
-use Rattle.node_base.specs.Known.{names_known}
-use Rattle.node_base.specs.Maps.{at_start}
+use Rattle.node_base.specs.Known.{names_known_groups}
+use Rattle.node_base.specs.Maps.{maps_start}
 use Rattle.node_base.specs.Nodes.{has_node, peers_of}
 use Rattle.node_base.specs.Shape.{is_well_formed}
 use Rattle.slot_beliefs.specs.Recalls.{applied_of, applied_upto, is_followed, ready_blocks}
@@ -54,34 +54,34 @@ module _ (setup : Setup) (works : NodeId → List Work) (j c clock : ℕ) (slots
   abbrev packet : Packet
   packet = record { from = Client c; to = Manager j; clock = clock; body = body.Deltas m }
 
-  module _ (fits : is_well_formed (peers_of setup) packet ≡ true) (known : names_known (at_start (its_groups setup works)) (body.Deltas m) ≡ true) where
+  module _ (fits : is_well_formed (peers_of setup) packet ≡ true) (known : names_known_groups (maps_start (its_groups setup works)) (body.Deltas m) ≡ true) where
     abbrev serves_now : Serving
     serves_now = managing_at setup works j slots
 
-    hears_is : serving.hears serves_now setup.clients packet ≡ with_slots serves_now (at_slot serves_now.slots m.slot (λ p. tokens.on_deltas p (record { 0 = c }) m))
-    unfolding serving.hears serving.on_deltas table.on_deltas
+    hears_is : serving.serving_hear serves_now setup.clients packet ≡ with_slots serves_now (at_slot serves_now.slots m.slot (λ p. tokens.on_deltas p (record { 0 = c }) m))
+    unfolding serving.serving_hear serving.on_deltas table.on_deltas
     hears_is = rw known refl
 
-    deliver_is : on_deliver (peers_of setup) (managing.Serving serves_now) packet
+    deliver_is : manager_deliver (peers_of setup) (managing.Serving serves_now) packet
         ≡ serves (with_slots serves_now (at_slot serves_now.slots m.slot (λ p. tokens.on_deltas p (record { 0 = c }) m)))
-    unfolding on_deliver
-    deliver_is = ap (λ t. cond t (serves (serving.hears serves_now setup.clients packet)) (still (managing.Serving serves_now))) fits ∙ ap serves hears_is
+    unfolding manager_deliver
+    deliver_is = ap (λ t. cond t (serves (serving.serving_hear serves_now setup.clients packet)) (still (managing.Serving serves_now))) fits ∙ ap serves hears_is
 
     module _ (z : SlotState) (outs : List Out)
         (is : transition (slots m.slot) (input.Deltas (record { 0 = c }) m.first m.upto m.rows) ≡ record { state = z; outs = outs }) where
       slot_is : tokens.on_deltas (managed (slots m.slot)) (record { 0 = c }) m
-          ≡ record { state = managed z; outs = flat_map (said m.slot (slots m.slot).epoch) outs }
-      unfolding tokens.takes
-      slot_is = ap (λ (d : Stepped SlotState Out). record { state = managed d.state; outs = flat_map (said m.slot (slots m.slot).epoch) d.outs }) is
+          ≡ record { state = managed z; outs = flat_map (tokens_say m.slot (slots m.slot).epoch) outs }
+      unfolding tokens.tokens_take
+      slot_is = ap (λ (d : Stepped SlotState Out). record { state = managed d.state; outs = flat_map (tokens_say m.slot (slots m.slot).epoch) d.outs }) is
 
       pub deltas_come : manager_step (manager_at setup works j slots) (Deliver packet) ≡ record {
         node = manager_at setup works j (put_number slots m.slot z);
-        packets = packets_of (Manager j) (flat_map (said m.slot (slots m.slot).epoch) outs);
-        acts = acts_of (Manager j) (flat_map (said m.slot (slots m.slot).epoch) outs);
+        packets = packets_of (Manager j) (flat_map (tokens_say m.slot (slots m.slot).epoch) outs);
+        acts = acts_of (Manager j) (flat_map (tokens_say m.slot (slots m.slot).epoch) outs);
       }
       deltas_come =
           slot_comes setup works j m.slot slots within own packet (λ p. tokens.on_deltas p (record { 0 = c }) m) z
-          (flat_map (said m.slot (slots m.slot).epoch) outs) has_room deliver_is slot_is
+          (flat_map (tokens_say m.slot (slots m.slot).epoch) outs) has_room deliver_is slot_is
 
 -- a client with no open call hears what is applied
 module _ (setup : Setup) (works : NodeId → List Work) (c j clock i applied : ℕ) (p : ClientPart) (h : HasRoom setup works c p) (idle : p.call ≡ None)
@@ -93,8 +93,8 @@ module _ (setup : Setup) (works : NodeId → List Work) (c j clock i applied : �
   abbrev pub acked_part : ClientPart
   acked_part = record p { acked = slice_set p.acked i applied }
 
-  ack_is : on_packet (serving_at setup works c p) ack_packet ≡ record { state = serving_at setup works c acked_part; outs = [] }
-  unfolding on_packet on_ack
+  ack_is : serving_take (serving_at setup works c p) ack_packet ≡ record { state = serving_at setup works c acked_part; outs = [] }
+  unfolding serving_take on_ack
   ack_is = rw (within, promised, news) refl
 
   pub ack_comes : client_step (client_at setup works c p) (Deliver ack_packet) ≡ record { node = client_at setup works c acked_part; packets = []; acts = [] }

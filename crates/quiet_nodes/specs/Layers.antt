@@ -1,10 +1,10 @@
 -- The packets of a segment on its way: its fragment to each member of its group, and the member's answer; and what it tells to the manager of each slot, and
 -- that manager's answer. And the scene once they are delivered.
 use Rattle.std.specs.Prelude.{◌≡◌, ◌+◌, ℕ, true, List, [], ◌∷◌}
-use Rattle.fragment_store.specs.Calls.{kept}
+use Rattle.fragment_store.specs.Calls.{shelf_store}
 use Rattle.group_map.specs.declared.group.Member.{Member}
 use Rattle.log_flight.specs.Flights.{FlightState}
-use Rattle.log_flight.specs.Fragments.{piece}
+use Rattle.log_flight.specs.Fragments.{flight_fragment}
 use Rattle.node_base.specs.Nodes.{has_node, peers_of}
 use Rattle.version_model.specs.declared.work.Work.{Work}
 use Rattle.wire_msg.specs.declared.body.Body.TheVariants as body
@@ -30,7 +30,7 @@ store_to c f m place = record {
   from = Client c;
   to = Server m.server;
   clock = 0;
-  body = body.Store (record { fragment = piece f.segment f.group place; generation = m.generation });
+  body = body.Store (record { fragment = flight_fragment f.segment f.group place; generation = m.generation });
 }
 
 -- to each of these members, from a place on
@@ -54,7 +54,7 @@ storeds_by c name (m ∷ ms) place = stored_by c name m place ∷ storeds_by c n
 module _ (setup : Setup) (works : NodeId → List Work) where
   -- what a member keeps then
   abbrev pub kept_by : (ℕ → List Fragment) → FlightState → Member → ℕ → List Fragment
-  kept_by held f m place = (kept (shelf_at setup works (held m.server)) (piece f.segment f.group place)).held
+  kept_by held f m place = (shelf_store (shelf_at setup works (held m.server)) (flight_fragment f.segment f.group place)).held
 
   -- the shelves once a member keeps its fragment
   abbrev pub with_piece : (ℕ → List Fragment) → FlightState → Member → ℕ → ℕ → List Fragment

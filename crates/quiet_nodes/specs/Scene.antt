@@ -13,10 +13,10 @@ use Rattle.core_world.specs.declared.any_node.AnyNode.TheVariants as any
 use Rattle.delta_feed.specs.declared.feed.FiledDeltas.{FiledDeltas}
 use Rattle.fragment_store.specs.ShelfState.{ShelfState, new_shelf}
 use Rattle.group_map.specs.GroupMapState.{GroupMapState}
-use Rattle.group_map.specs.Groups.{started as groups_started}
+use Rattle.group_map.specs.Groups.{group_map_start as groups_started}
 use Rattle.log_flight.specs.declared.dirty.Change.{Change}
 use Rattle.log_flight.specs.Flights.{FlightState}
-use Rattle.log_owner.specs.Promised.{first_managers, first_number}
+use Rattle.log_owner.specs.Promised.{managers_start, first_number}
 use Rattle.manager_node.specs.declared.manager.Manager.{Manager as ManagerNode}
 use Rattle.manager_node.specs.declared.phase.Phase.TheVariants as managers
 use Rattle.manager_node.specs.Events.{first_life}
@@ -24,8 +24,8 @@ use Rattle.manager_slots.specs.declared.slot_phase.SlotPhase.{SlotPhase}
 use Rattle.manager_slots.specs.declared.slot_phase.SlotPhase.TheVariants as phase
 use Rattle.manager_slots.specs.Slots.{managed}
 use Rattle.manager_serving.specs.declared.serving.Serving.{Serving as ManagerServing}
-use Rattle.manager_serving.specs.Serving.{begun as manager_begun}
-use Rattle.node_base.specs.Maps.{at_start}
+use Rattle.manager_serving.specs.Serving.{serving_begin as manager_begun}
+use Rattle.node_base.specs.Maps.{maps_start}
 use Rattle.node_base.specs.Nodes.{peers_of}
 use Rattle.registry_node.specs.Events.{registry_start}
 use Rattle.store_nodes.specs.declared.server.Server.{Server as ServerNode}
@@ -104,8 +104,8 @@ module _ (setup : Setup) (works : NodeId → List Work) where
       questions = record { last = p.asked };
       items = record { works = works (Client c); begun = p.begun; unanswered = p.item };
     };
-    maps = at_start its_groups;
-    managers = first_managers setup.managers;
+    maps = maps_start its_groups;
+    managers = managers_start setup.managers;
     tokens = tokens_at p;
     log = log_at c p;
     feed = record { base = 0; filed = p.filed; end = p.fed; acked = p.acked };
@@ -126,7 +126,7 @@ module _ (setup : Setup) (works : NodeId → List Work) where
   phase_at slots j i = if manager_of_slot i == j then managed (slots i) else phase.Away 1
 
   abbrev pub managing_at : ℕ → (ℕ → SlotState) → ManagerServing
-  managing_at j slots = manager_begun (first_life j (works (Manager j))) (at_start its_groups) (map (phase_at slots j) all_slots) its_groups
+  managing_at j slots = manager_begun (first_life j (works (Manager j))) (maps_start its_groups) (map (phase_at slots j) all_slots) its_groups
 
   abbrev pub manager_at : ℕ → (ℕ → SlotState) → ManagerNode
   manager_at j slots = record { peers = peers_of setup; phase = managers.Serving (managing_at j slots) }

@@ -2,7 +2,7 @@
 use Rattle.std.specs.Prelude.{[], None, replicate}
 use Rattle.client_node.specs.Serving.{empty_end}
 use Rattle.token_manager.specs.SlotState.{SlotState}
-use Rattle.token_manager.specs.Transition.{started}
+use Rattle.token_manager.specs.Transition.{slot_start}
 use Rattle.quiet_nodes.specs.Scene.{ClientPart, Scene}
 
 abbrev pub first_part : ClientPart
@@ -23,7 +23,7 @@ first_part = record {
 }
 
 abbrev pub first_slot : SlotState
-first_slot = started 1 [] [] (replicate 9 0)
+first_slot = slot_start 1 [] [] (replicate 9 0)
 
 abbrev pub start_scene : Scene
 start_scene = record { client = λ c. first_part; slot = λ i. first_slot; held = λ v. [] }

@@ -1,17 +1,17 @@
 -- A client whose get waits is granted a copy of a block that was never settled: it has the copy, reads it, and answers, in one event.
 use Rattle.std.proofs.Common.{◌≡◌, ℕ, true, List, [], ◌∷◌, Some, None, refl}
 use Rattle.client_call.specs.Blocks.{value_of}
-use Rattle.client_call.specs.Calls.{call_for}
+use Rattle.client_call.specs.Calls.{call_new}
 use Rattle.client_call.specs.declared.call.Plan.TheVariants.{One}
 use Rattle.client_node.specs.Phases.{client_step, on_deliver}
-use Rattle.client_serving.specs.Follow.{follows, hands}
-use Rattle.client_serving.specs.Packets.{on_grant, on_packet}
+use Rattle.client_serving.specs.Follow.{serving_follow, hand}
+use Rattle.client_serving.specs.Packets.{on_grant, serving_take}
 use Rattle.file_plan.specs.declared.block_call.BlockCall.TheVariants.{Get}
 use Rattle.node_base.specs.Nodes.{has_node, peers_of}
 use Rattle.token_client.specs.declared.held.Held.{Held}
 use Rattle.token_client.specs.declared.input.In.TheVariants.{Granted}
 use Rattle.token_client.specs.declared.output.Out.TheVariants.{Ready}
-use Rattle.token_client.specs.Held.{copied}
+use Rattle.token_client.specs.Held.{copy_of}
 use Rattle.token_client.specs.State.{held_of}
 use Rattle.token_client.specs.Transition.{accepts, on_granted}
 use Rattle.version_model.specs.declared.act.Act.TheVariants as acts
@@ -31,11 +31,11 @@ use Rattle.quiet_nodes.specs.Scene.{ClientPart, client_at, serving_at, tokens_at
 use Rattle.quiet_nodes.proofs.Begins.{HasRoom, room}
 use Rattle.quiet_reads.proofs.CopyReads.{cached_part, copying, read_part, ready_is, runs_is}
 
-module _ (setup : Setup) (works : NodeId → List Work) (c : ℕ) (p : ClientPart) (b : BlockId) (item : ℕ) (its_call : p.call ≡ Some (call_for One (Get b)))
+module _ (setup : Setup) (works : NodeId → List Work) (c : ℕ) (p : ClientPart) (b : BlockId) (item : ℕ) (its_call : p.call ≡ Some (call_new One (Get b)))
     (its_item : p.item ≡ Some item) (stamp : Stamp) (req ver hop : ℕ) where
   -- a copy of the absent version
   abbrev pub copy : Held
-  copy = copied (held_of p.blocks b) stamp ver None
+  copy = copy_of (held_of p.blocks b) stamp ver None
 
   -- the entry of a block that lies in no log
   abbrev pub entry : Entry
@@ -51,9 +51,9 @@ module _ (setup : Setup) (works : NodeId → List Work) (c : ℕ) (p : ClientPar
     unfolding on_granted
     copies_is = rw accepted refl
 
-    grant_hands : hands (serving_at setup works c p) (Granted b stamp 1 req Copy entry)
+    grant_hands : hand (serving_at setup works c p) (Granted b stamp 1 req Copy entry)
         ≡ record { state = serving_at setup works c (cached_part setup works c p b item copy); outs = [] }
-    unfolding hands follows
+    unfolding hand serving_follow
     grant_hands = rw (its_call, its_item, copies_is, ready_is setup works c p b item copy refl) refl
 
     module _ (j clock : ℕ) (h : HasRoom setup works c p) (there : has_node (peers_of setup) (Manager j) ≡ true) where
@@ -65,9 +65,9 @@ module _ (setup : Setup) (works : NodeId → List Work) (c : ℕ) (p : ClientPar
         body = body.Grant (record { block = b; stamp = stamp; inc = 1; req = req; mode = Copy; entry = entry });
       }
 
-      packet_is : on_packet (serving_at setup works c p) copy_packet
+      packet_is : serving_take (serving_at setup works c p) copy_packet
           ≡ record { state = serving_at setup works c (cached_part setup works c p b item copy); outs = [] }
-      unfolding on_packet on_grant
+      unfolding serving_take on_grant
       packet_is = rw grant_hands refl
 
       pub copy_comes : client_step (client_at setup works c p) (Deliver copy_packet) ≡ record {

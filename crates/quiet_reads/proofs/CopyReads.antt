@@ -1,16 +1,16 @@
 -- A client whose get waits has a copy of the block: it goes into the cache, and the get reads it and answers.
 use Rattle.std.proofs.Common.{◌≡◌, ℕ, false, true, cond, List, [], ◌∷◌, Some, None, refl, ap, ◌∙◌}
 use Rattle.client_call.specs.Blocks.{value_of}
-use Rattle.client_call.specs.Calls.{call_for}
+use Rattle.client_call.specs.Calls.{call_new}
 use Rattle.client_call.specs.declared.call.Plan.TheVariants.{One}
 use Rattle.client_node.specs.Serving.{cached_upto}
-use Rattle.client_running.specs.Blocks.{Made, gets, got, makes, needs}
-use Rattle.client_running.specs.Running.{runs}
+use Rattle.client_running.specs.Blocks.{Made, blocks_get, got, blocks_make, blocks_need}
+use Rattle.client_running.specs.Running.{run}
 use Rattle.client_serving.specs.declared.serving.Serving.{Serving}
-use Rattle.client_serving.specs.Follow.{follows_one, notes_clean, notes_copy}
+use Rattle.client_serving.specs.Follow.{follow_one, note_clean, note_copy}
 use Rattle.client_serving.specs.Sends.{Done}
 use Rattle.coop_cache.specs.CacheState.{CacheState}
-use Rattle.coop_cache.specs.Transition.{is_clean, touched, used_last}
+use Rattle.coop_cache.specs.Transition.{is_clean, touch, used_last}
 use Rattle.file_plan.specs.declared.block_call.BlockAnswer.TheVariants as block
 use Rattle.file_plan.specs.declared.block_call.BlockCall.TheVariants.{Get}
 use Rattle.node_base.specs.declared.effects.Effect.{Effect}
@@ -29,10 +29,10 @@ use Rattle.xfs_base.specs.declared.token.Mode.TheVariants.{Copy}
 use Rattle.xfs_base.specs.Modes.{is_nothing, same_mode}
 use Rattle.quiet_nodes.specs.Scene.{ClientPart, serving_at}
 use Rattle.quiet_nodes.proofs.Running.{runs_answered}
-use Rattle.quiet_nodes.proofs.Settling.{Known, comes_in, notes_clean_is}
+use Rattle.quiet_nodes.proofs.Settling.{Known, comes_in, note_clean_is}
 use Rattle.quiet_reads.proofs.Evicting.{some_room, stays_in}
 
-touched_is : (s : CacheState) (b : BlockId) → touched s b ≡ record { blocks = (touched s b).blocks; capacity = s.capacity }
+touched_is : (s : CacheState) (b : BlockId) → touch s b ≡ record { blocks = (touch s b).blocks; capacity = s.capacity }
 touched_is s b =
     elim (is_clean s b) as (λ t. cond t (record { blocks = used_last b s.blocks; capacity = s.capacity }) s
     ≡ record { blocks = (cond t (record { blocks = used_last b s.blocks; capacity = s.capacity }) s).blocks; capacity = s.capacity }) [
@@ -52,7 +52,7 @@ module _ (setup : Setup) (works : NodeId → List Work) (c : ℕ) (p : ClientPar
   known = comes_in capacity (record { blocks = copy_blocks; cached = p.cached }) b
 
   abbrev pub copying : ClientPart
-  copying = record p { blocks = copy_blocks; call = Some (call_for One (Get b)); item = Some item }
+  copying = record p { blocks = copy_blocks; call = Some (call_new One (Get b)); item = Some item }
 
   abbrev pub cached_part : ClientPart
   cached_part = record copying { blocks = known.blocks; cached = known.cached }
@@ -67,12 +67,12 @@ module _ (setup : Setup) (works : NodeId → List Work) (c : ℕ) (p : ClientPar
   still_at s = record { state = s; outs = [] }
 
   pub ready_is : same_mode copy.mode Copy ≡ true
-      → follows_one (serving_at setup works c copying) (Ready b) ≡ record { state = serving_at setup works c cached_part; outs = [] }
-  unfolding follows_one notes_copy
+      → follow_one (serving_at setup works c copying) (Ready b) ≡ record { state = serving_at setup works c cached_part; outs = [] }
+  unfolding follow_one note_copy
   ready_is is_copy =
-      ap (λ (h : Held). still_at (cond (same_mode h.mode Copy) (notes_clean (serving_at setup works c copying) b) (serving_at setup works c copying))) itself
-      ∙ ap (λ t. still_at (cond t (notes_clean (serving_at setup works c copying) b) (serving_at setup works c copying))) is_copy
-      ∙ ap still_at (notes_clean_is setup works c copying (record { blocks = copy_blocks; cached = p.cached }) b)
+      ap (λ (h : Held). still_at (cond (same_mode h.mode Copy) (note_clean (serving_at setup works c copying) b) (serving_at setup works c copying))) itself
+      ∙ ap (λ t. still_at (cond t (note_clean (serving_at setup works c copying) b) (serving_at setup works c copying))) is_copy
+      ∙ ap still_at (note_clean_is setup works c copying (record { blocks = copy_blocks; cached = p.cached }) b)
 
   -- ---- it is read
 
@@ -81,7 +81,7 @@ module _ (setup : Setup) (works : NodeId → List Work) (c : ℕ) (p : ClientPar
 
   -- the client then
   abbrev pub read_part : ClientPart
-  read_part = record cached_part { cached = (touched its_cache b).blocks; call = None; item = None }
+  read_part = record cached_part { cached = (touch its_cache b).blocks; call = None; item = None }
 
   abbrev before : Serving
   before = serving_at setup works c (record cached_part { call = None })
@@ -93,17 +93,17 @@ module _ (setup : Setup) (works : NodeId → List Work) (c : ℕ) (p : ClientPar
   made s = record { done = record { state = s; outs = reads }; answer = Some (block.Got copy.ver (value_of copy)) }
 
   module _ (held : is_nothing copy.mode ≡ false) where
-    get_makes : makes before (Get b) ≡ made (serving_at setup works c (record cached_part { call = None; cached = (touched its_cache b).blocks }))
-    unfolding makes gets
+    get_makes : blocks_make before (Get b) ≡ made (serving_at setup works c (record cached_part { call = None; cached = (touch its_cache b).blocks }))
+    unfolding blocks_make blocks_get
     get_makes =
-        ap (λ (h : Held). cond (is_nothing h.mode) (needs before b Copy) (got before b h)) known_itself
-        ∙ ap (λ t. cond t (needs before b Copy) (got before b copy)) held
+        ap (λ (h : Held). cond (is_nothing h.mode) (blocks_need before b Copy) (got before b h)) known_itself
+        ∙ ap (λ t. cond t (blocks_need before b Copy) (got before b copy)) held
         ∙ ap (λ cache. made (record before { cache = cache })) (touched_is its_cache b)
 
-    pub runs_is : runs (serving_at setup works c cached_part) ≡ record {
+    pub runs_is : run (serving_at setup works c cached_part) ≡ record {
       state = serving_at setup works c read_part;
       outs = Does (acts.Read c b copy.ver (value_of copy)) ∷ Answer item (Got copy.ver (value_of copy)) ∷ [];
     }
     runs_is =
         runs_answered (serving_at setup works c cached_part) (Get b) refl
-        (serving_at setup works c (record cached_part { call = None; cached = (touched its_cache b).blocks })) reads (block.Got copy.ver (value_of copy)) get_makes refl
+        (serving_at setup works c (record cached_part { call = None; cached = (touch its_cache b).blocks })) reads (block.Got copy.ver (value_of copy)) get_makes refl

@@ -1,6 +1,6 @@
 -- The want of a copy of a block that nobody else is believed to hold is granted.
 use Rattle.std.proofs.Common.{◌≡◌, ◌||◌, ◌&&◌, ◌==◌, not, ℕ, ◌+◌, Bool, true, false, cond, List, [], ◌∷◌, refl}
-use Rattle.slot_beliefs.specs.Beliefs.{held_by, holder, others}
+use Rattle.slot_beliefs.specs.Beliefs.{beliefs_hold, holder, others}
 use Rattle.slot_beliefs.specs.declared.job.Holder.{Holder}
 use Rattle.slot_beliefs.specs.Recalls.{stamp}
 use Rattle.token_manager.specs.declared.input.In.TheVariants as input
@@ -27,7 +27,7 @@ none_owns (e ∷ es) b c none =
 pub want_copies : (z : SlotState) (c inc req end : ℕ) (b : BlockId) → is_dropped z (want_of c b inc req 0 Copy) end ≡ false → others z.beliefs b c false ≡ []
     → has_turns z.turn 1 ≡ true
     → transition z (input.Want (want_of c b inc req 0 Copy) end) ≡ record {
-      state = record z { beliefs = held_by z.beliefs (holder b c); turn = z.turn + 1 };
+      state = record z { beliefs = beliefs_hold z.beliefs (holder b c); turn = z.turn + 1 };
       outs = out.Grant c b (stamp z.epoch (z.turn + 1)) inc req Copy (entry_at z b) ∷ [];
     }
 want_copies z c inc req end b taken alone room = let owned = none_owns z.beliefs b c alone in simp (taken, owned, alone, room)

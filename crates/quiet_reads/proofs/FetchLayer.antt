@@ -5,7 +5,7 @@ use Rattle.core_world.specs.declared.any_node.AnyNode.TheVariants as any
 use Rattle.fragment_store.specs.ShelfState.{held_at}
 use Rattle.group_map.specs.declared.group.Group.{Group}
 use Rattle.group_map.specs.declared.group.Member.{Member}
-use Rattle.log_flight.specs.Fragments.{piece}
+use Rattle.log_flight.specs.Fragments.{flight_fragment}
 use Rattle.log_owner.specs.Sending.{fetch}
 use Rattle.node_base.specs.Effects.{packets_of}
 use Rattle.node_base.specs.Nodes.{has_node, peers_of}
@@ -34,12 +34,12 @@ module _ (setup : Setup) (works : NodeId → List Work) (c ask : ℕ) (name : Se
 
   abbrev pub founds_by : List Member → ℕ → List Packet
   founds_by [] place = []
-  founds_by (m ∷ ms) place = found_packet setup works m.server c 0 ask name [] (piece segment group place) ∷ founds_by ms (place + 1)
+  founds_by (m ∷ ms) place = found_packet setup works m.server c 0 ask name [] (flight_fragment segment group place) ∷ founds_by ms (place + 1)
 
   -- a member holds its fragment
   pub record HoldsPiece (s : Scene) (m : Member) (place : ℕ) : Type 0 where
     pub there : has_node (peers_of setup) (Server m.server) ≡ true
-    pub held : held_at (s.held m.server) name ≡ Some (piece segment group place)
+    pub held : held_at (s.held m.server) name ≡ Some (flight_fragment segment group place)
 
   abbrev pub EachHolds : Scene → List Member → ℕ → Type 0
   EachHolds s [] place = Unit {0}
@@ -50,8 +50,8 @@ module _ (setup : Setup) (works : NodeId → List Work) (c ask : ℕ) (name : Se
   fetches_move s there named [] place each = moves_none setup works s
   fetches_move s there named (m ∷ ms) place each =
       moves_next setup works s s s (fetch_to m)
-      (found_packet setup works m.server c 0 ask name [] (piece segment group place) ∷ []) (fetches_to ms) (founds_by ms (place + 1)) [] [] each.0.there
-      (ap (as_any any.Server) (fetch_comes setup works m.server c 0 ask name (s.held m.server) (piece segment group place) there named each.0.held))
+      (found_packet setup works m.server c 0 ask name [] (flight_fragment segment group place) ∷ []) (fetches_to ms) (founds_by ms (place + 1)) [] [] each.0.there
+      (ap (as_any any.Server) (fetch_comes setup works m.server c 0 ask name (s.held m.server) (flight_fragment segment group place) there named each.0.held))
       (λ other differs. refl) (fetches_move s there named ms (place + 1) each.1)
 
   -- what a client sends that asks them all

@@ -2,16 +2,16 @@
 -- reads its block and answers; and what comes later meets no reading.
 use Rattle.std.proofs.Common.{◌≡◌, ℕ, true, false, cond, List, [], ◌∷◌, Option, Some, None, refl, ap, ◌∙◌}
 use Rattle.client_call.specs.Blocks.{value_of}
-use Rattle.client_call.specs.Reads.{Heard, heard, value_at}
+use Rattle.client_call.specs.Reads.{Heard, hear_reading, value_at}
 use Rattle.client_node.specs.Phases.{client_step, on_deliver}
-use Rattle.client_running.specs.Blocks.{gets, makes}
-use Rattle.client_running.specs.Running.{runs}
+use Rattle.client_running.specs.Blocks.{blocks_get, blocks_make}
+use Rattle.client_running.specs.Running.{run}
 use Rattle.client_serving.specs.declared.serving.Serving.{Serving}
-use Rattle.client_serving.specs.Follow.{follows, hands}
-use Rattle.client_serving.specs.Packets.{on_packet, told_at, told_by}
+use Rattle.client_serving.specs.Follow.{serving_follow, hand}
+use Rattle.client_serving.specs.Packets.{serving_take, told_at, told_by}
 use Rattle.file_plan.specs.declared.block_call.BlockCall.TheVariants.{Get}
 use Rattle.node_base.specs.Known.{knows_meta}
-use Rattle.node_base.specs.Maps.{at_start}
+use Rattle.node_base.specs.Maps.{maps_start}
 use Rattle.node_base.specs.Nodes.{has_node, peers_of}
 use Rattle.node_base.specs.Shape.{is_meta}
 use Rattle.segment_format.specs.declared.segment.Segment.{Segment}
@@ -19,11 +19,11 @@ use Rattle.segment_format.specs.ReadingItems.{answer_of}
 use Rattle.segment_reading.specs.declared.target.Target.{Target}
 use Rattle.segment_reading.specs.declared.reading.Next.TheVariants as next
 use Rattle.segment_reading.specs.declared.reading.Stage.TheVariants.{Asking, Over}
-use Rattle.segment_reading.specs.Reading.{ReadingState, Step, counts, judged, on_answer, read_as, segment_found}
+use Rattle.segment_reading.specs.Reading.{ReadingState, Step, counts, reading_judge, reading_take, reading_reads, segment_found}
 use Rattle.stripe_code.specs.declared.round.RoundState.{RoundState}
 use Rattle.stripe_code.specs.declared.round.RoundState.TheVariants.{Read as ReadText, Waiting}
 use Rattle.stripe_code.specs.declared.round.Told.TheVariants.{Held as HeldPiece}
-use Rattle.stripe_code.specs.Round.{RoundSoFar, state_of, taken}
+use Rattle.stripe_code.specs.Round.{RoundSoFar, state_of, round_take}
 use Rattle.token_client.proofs.Tables.{held_of-put_itself}
 use Rattle.token_client.specs.declared.held.Fetch.{Fetch}
 use Rattle.token_client.specs.declared.held.Held.{Held}
@@ -75,13 +75,13 @@ module _ (setup : Setup) (works : NodeId → List Work) (c v : ℕ) (f : Fragmen
   pub record IsTakenIn : Type 0 where
     pub there : has_node (peers_of setup) (Server v) ≡ true
     pub of_log : is_meta f.meta ≡ true
-    pub known : knows_meta (at_start (its_groups setup works)) f.meta ≡ true
+    pub known : knows_meta (maps_start (its_groups setup works)) f.meta ≡ true
 
   -- ---- the block is being read
 
   module _ (p : ClientPart) (b : BlockId) (item : ℕ) (target : Target) (at : ℕ) (round then_ : RoundSoFar)
       (is_target : target.block ≡ Some (record { item = at; block = b })) (counted : counts (reading_at target ask round) ask v (HeldPiece f) ≡ true)
-      (takes : taken round v (HeldPiece f) ≡ then_) (h : HasRoom setup works c (reads_with p b item (reading_at target ask round))) (taken_in : IsTakenIn) where
+      (takes : round_take round v (HeldPiece f) ≡ then_) (h : HasRoom setup works c (reads_with p b item (reading_at target ask round))) (taken_in : IsTakenIn) where
     abbrev now : ReadingState
     now = reading_at target ask round
 
@@ -89,15 +89,15 @@ module _ (setup : Setup) (works : NodeId → List Work) (c v : ℕ) (f : Fragmen
     next_ = reading_at target ask then_
 
     abbrev judge : RoundState → Step
-    judge state = judged next_ (its_groups setup works) state
+    judge state = reading_judge next_ (its_groups setup works) state
 
     abbrev judge_of : RoundSoFar → Step
-    judge_of r = judged (reading_at target ask r) (its_groups setup works) (state_of r)
+    judge_of r = reading_judge (reading_at target ask r) (its_groups setup works) (state_of r)
 
-    answer_is : (state : RoundState) → state_of then_ ≡ state → on_answer now (its_groups setup works) ask v (HeldPiece f) ≡ judge state
-    unfolding on_answer
+    answer_is : (state : RoundState) → state_of then_ ≡ state → reading_take now (its_groups setup works) ask v (HeldPiece f) ≡ judge state
+    unfolding reading_take
     answer_is state is =
-        ap (λ t. cond t (judge_of (taken round v (HeldPiece f))) (record { state = now; next = next.Wait })) counted
+        ap (λ t. cond t (judge_of (round_take round v (HeldPiece f))) (record { state = now; next = next.Wait })) counted
         ∙ ap judge_of takes
         ∙ ap judge is
 
@@ -105,7 +105,7 @@ module _ (setup : Setup) (works : NodeId → List Work) (c v : ℕ) (f : Fragmen
     reading_part = reads_with p b item now
 
     abbrev hearing : Heard
-    hearing = heard (Some now) (Some (its_groups setup works)) ask v (HeldPiece f)
+    hearing = hear_reading (Some now) (Some (its_groups setup works)) ask v (HeldPiece f)
 
     abbrev heard_by : Step → Heard
     heard_by step = record { reading = Some step.state; next = step.next }
@@ -120,23 +120,23 @@ module _ (setup : Setup) (works : NodeId → List Work) (c v : ℕ) (f : Fragmen
           ap (λ o. told_at (serving_at setup works c reading_part) o hearing) is_target
           ∙ ap (λ step. told_at (serving_at setup works c reading_part) (Some (record { item = at; block = b })) (heard_by step)) (answer_is Waiting waits)
 
-      packet_waits : on_packet (serving_at setup works c reading_part) packet
+      packet_waits : serving_take (serving_at setup works c reading_part) packet
           ≡ record { state = serving_at setup works c (reads_with p b item next_); outs = [] }
-      unfolding on_packet
+      unfolding serving_take
       packet_waits = rw (taken_in.known, told_waits) refl
 
       abbrev before : Serving
       before = serving_at setup works c (record (reads_with p b item next_) { call = None })
 
-      none_needed : hands before (Need b Copy) ≡ record { state = before; outs = [] }
-      unfolding hands follows on_need
+      none_needed : hand before (Need b Copy) ≡ record { state = before; outs = [] }
+      unfolding hand serving_follow on_need
       none_needed = rw asks refl
 
-      get_waits : makes before (Get b) ≡ record { done = record { state = before; outs = [] }; answer = None }
-      unfolding makes gets
+      get_waits : blocks_make before (Get b) ≡ record { done = record { state = before; outs = [] }; answer = None }
+      unfolding blocks_make blocks_get
       get_waits = rw (nothing, none_needed) refl
 
-      runs_waits : runs (serving_at setup works c (reads_with p b item next_))
+      runs_waits : run (serving_at setup works c (reads_with p b item next_))
           ≡ record { state = serving_at setup works c (reads_with p b item next_); outs = [] }
       runs_waits = reading_waits (serving_at setup works c (reads_with p b item next_)) (Get b) (Some next_) refl before [] get_waits
 
@@ -165,16 +165,16 @@ module _ (setup : Setup) (works : NodeId → List Work) (c v : ℕ) (f : Fragmen
       itself = held_of-put_itself b read_copy p.blocks
 
       fetched_hands : (r : ReadingState) → r.target.block ≡ Some (record { item = at; block = b })
-          → hands (serving_at setup works c (reads_with p b item r)) (Fetched b (value_at segment at))
+          → hand (serving_at setup works c (reads_with p b item r)) (Fetched b (value_at segment at))
           ≡ record { state = serving_at setup works c (cached_part setup works c p b item read_copy); outs = [] }
-      unfolding hands follows
+      unfolding hand serving_follow
       fetched_hands r same = rw (fetched_is, same, itself, ready_is setup works c p b item read_copy refl) refl
 
       abbrev over : ReadingState
       over = record next_ { stage = Over }
 
       judged_is : judge (ReadText text) ≡ record { state = over; next = next.Read segment }
-      judged_is = ap (read_as next_) found
+      judged_is = ap (reading_reads next_) found
 
       heard_is : hearing ≡ record { reading = Some over; next = next.Read segment }
       heard_is = ap heard_by (answer_is (ReadText text) enough ∙ judged_is)
@@ -187,9 +187,9 @@ module _ (setup : Setup) (works : NodeId → List Work) (c v : ℕ) (f : Fragmen
           ∙ ap (told_at (serving_at setup works c reading_part) (Some (record { item = at; block = b }))) heard_is
           ∙ fetched_hands over is_target
 
-      packet_reads : on_packet (serving_at setup works c reading_part) packet
+      packet_reads : serving_take (serving_at setup works c reading_part) packet
           ≡ record { state = serving_at setup works c (cached_part setup works c p b item read_copy); outs = [] }
-      unfolding on_packet
+      unfolding serving_take
       packet_reads = rw (taken_in.known, told_reads) refl
 
       pub fragment_reads : client_step (client_at setup works c reading_part) (Deliver packet) ≡ record {
@@ -203,8 +203,8 @@ module _ (setup : Setup) (works : NodeId → List Work) (c v : ℕ) (f : Fragmen
   -- ---- no block is
 
   module _ (p : ClientPart) (idle : p.call ≡ None) (h : HasRoom setup works c p) (taken_in : IsTakenIn) where
-    packet_late : on_packet (serving_at setup works c p) packet ≡ record { state = serving_at setup works c p; outs = [] }
-    unfolding on_packet told_by
+    packet_late : serving_take (serving_at setup works c p) packet ≡ record { state = serving_at setup works c p; outs = [] }
+    unfolding serving_take told_by
     packet_late = rw (taken_in.known, idle) refl
 
     pub fragment_late : client_step (client_at setup works c p) (Deliver packet) ≡ record { node = client_at setup works c p; packets = []; acts = [] }

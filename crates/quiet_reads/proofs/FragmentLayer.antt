@@ -7,9 +7,9 @@ use Rattle.client_node.specs.Phases.{client_step}
 use Rattle.client_call.specs.Reads.{target_of, value_at}
 use Rattle.group_map.specs.declared.group.Group.{Group}
 use Rattle.group_map.specs.declared.group.Member.{Member}
-use Rattle.log_flight.specs.Fragments.{piece}
+use Rattle.log_flight.specs.Fragments.{flight_fragment}
 use Rattle.node_base.specs.Known.{knows_meta}
-use Rattle.node_base.specs.Maps.{at_start}
+use Rattle.node_base.specs.Maps.{maps_start}
 use Rattle.node_base.specs.Nodes.{has_node, peers_of}
 use Rattle.node_base.specs.Shape.{is_meta}
 use Rattle.segment_format.specs.declared.segment.Segment.{Segment}
@@ -52,15 +52,15 @@ module _ (setup : Setup) (works : NodeId → List Work) (c ask : ℕ) (segment :
   abbrev pub founds_from : List Member → ℕ → List Packet
   founds_from [] at = []
   founds_from (m ∷ ms) at =
-      record { from = Server m.server; to = Client c; clock = 0; body = found_body ask (piece segment group at) } ∷ founds_from ms (at + 1)
+      record { from = Server m.server; to = Client c; clock = 0; body = found_body ask (flight_fragment segment group at) } ∷ founds_from ms (at + 1)
 
   -- the members of the group are servers that differ, and their fragments are of a log and of groups that there are
   pub record AreMembers : Type 0 where
     pub servers : AllByRecursion (λ (m : Member). has_node (peers_of setup) (Server m.server) ≡ true) group.members
     pub apart : (before rest : List Member) (m : Member) → group.members ≡ before ++ m ∷ rest → AreOthers segment group m.server before
     pub cut : IsCut (length group.members) group.parity
-    pub of_log : (at : ℕ) → is_meta (piece segment group at).meta ≡ true
-    pub known : (at : ℕ) → knows_meta (at_start (its_groups setup works)) (piece segment group at).meta ≡ true
+    pub of_log : (at : ℕ) → is_meta (flight_fragment segment group at).meta ≡ true
+    pub known : (at : ℕ) → knows_meta (maps_start (its_groups setup works)) (flight_fragment segment group at).meta ≡ true
 
   its_server : (v : ℕ) → (before rest : List Member) (m : Member) → m.server ≡ v
       → list_any (λ x. x == v) (map (λ (x : Member). x.server) (before ++ m ∷ rest)) ≡ true
@@ -111,7 +111,7 @@ module _ (setup : Setup) (works : NodeId → List Work) (c ask : ℕ) (segment :
 
     module _ (can : CanBeRead) (room_then : HasRoom setup works c once_read) where
       taken_in : (before rest : List Member) (m : Member) → group.members ≡ before ++ m ∷ rest → (at : ℕ)
-          → IsTakenIn setup works c m.server (piece segment group at) ask
+          → IsTakenIn setup works c m.server (flight_fragment segment group at) ask
       taken_in before rest m is at = record {
         there = among before rest m
             (subst (λ ms. AllByRecursion (λ (x : Member). has_node (peers_of setup) (Server x.server) ≡ true) ms) is are.servers);
@@ -120,11 +120,11 @@ module _ (setup : Setup) (works : NodeId → List Work) (c ask : ℕ) (segment :
       }
 
       counted : (before rest : List Member) (m : Member) → group.members ≡ before ++ m ∷ rest → length before < count
-          → counts (reading_at (target_of b place) ask (round_with segment group before)) ask m.server (HeldPiece (piece segment group (length before))) ≡ true
+          → counts (reading_at (target_of b place) ask (round_with segment group before)) ask m.server (HeldPiece (flight_fragment segment group (length before))) ≡ true
       counted before rest m is few =
           let asks_it : asks (round_with segment group before) m.server ≡ true
           = ap (λ ms. list_any (λ x. x == m.server) (map (λ (x : Member). x.server) ms)) is ∙ its_server m.server before rest m refl in
-          let named : same_name (piece segment group (length before)).meta.name place.seg.name ≡ true
+          let named : same_name (flight_fragment segment group (length before)).meta.name place.seg.name ≡ true
           = ap (λ meta. same_name meta.name place.seg.name) (meta_is segment group (length before))
           ∙ ap (λ n. same_name n place.seg.name) can.name ∙ same_itself place.seg.name in
           let fits_it = fits_in segment group before (length before) refl few in
@@ -134,9 +134,9 @@ module _ (setup : Setup) (works : NodeId → List Work) (c ask : ℕ) (segment :
           → Moves setup works (with_client s c once_read) (founds_from ms at) [] [] (with_client s c once_read)
       lates_move before [] is at = moves_none setup works (with_client s c once_read)
       lates_move before (m ∷ ms) is at =
-          client_takes setup works s c once_read once_read (with_client s c once_read) (Server m.server) (found_body ask (piece segment group at)) []
+          client_takes setup works s c once_read once_read (with_client s c once_read) (Server m.server) (found_body ask (flight_fragment segment group at)) []
           (founds_from ms (at + 1)) [] [] [] can.there
-          (fragment_late setup works c m.server (piece segment group at) ask once_read refl room_then (taken_in before ms m is at))
+          (fragment_late setup works c m.server (flight_fragment segment group at) ask once_read refl room_then (taken_in before ms m is at))
           (lates_move (before ++ m ∷ []) ms (is ∙ sym (append_assoc before (m ∷ []) ms)) (at + 1))
 
       one_more : (before : List Member) (m : Member) → length (before ++ m ∷ []) ≡ length before + 1
@@ -149,13 +149,13 @@ module _ (setup : Setup) (works : NodeId → List Work) (c ask : ℕ) (segment :
           let none : length {A = Member} [] ≡ 0 = refl in omega arith)
       fragments_move zero before (m ∷ rest) is few at place_is =
           let long = one_more before m in
-          client_takes setup works s c (after_telling before) once_read (with_client s c once_read) (Server m.server) (found_body ask (piece segment group at)) []
+          client_takes setup works s c (after_telling before) once_read (with_client s c once_read) (Server m.server) (found_body ask (flight_fragment segment group at)) []
           (founds_from rest (at + 1)) [] done [] can.there
           (subst
           (λ n. client_step (client_at setup works c (after_telling before))
-          (Deliver (record { from = Server m.server; to = Client c; clock = 0; body = found_body ask (piece segment group n) }))
+          (Deliver (record { from = Server m.server; to = Client c; clock = 0; body = found_body ask (flight_fragment segment group n) }))
           ≡ record { node = client_at setup works c once_read; packets = []; acts = done }) (sym place_is)
-          (fragment_reads setup works c m.server (piece segment group (length before)) ask p b item (target_of b place) place.item (round_with segment group before)
+          (fragment_reads setup works c m.server (flight_fragment segment group (length before)) ask p b item (target_of b place) place.item (round_with segment group before)
           (round_with segment group (before ++ m ∷ [])) refl (counted before rest m is (omega arith)) (taken_is segment group before m (are.apart before rest m is))
           (can.room (reading_at (target_of b place) ask (round_with segment group before))) (taken_in before rest m is (length before)) (text_of segment) segment
           (reads_text segment group (before ++ m ∷ []) are.cut can.bytes (omega arith)) can.found fetch can.its_fetch can.no_want))
@@ -166,12 +166,12 @@ module _ (setup : Setup) (works : NodeId → List Work) (c ask : ℕ) (segment :
           let long = one_more before m in
           let later : group.members ≡ (before ++ m ∷ []) ++ next ∷ rest = is ∙ sym (append_assoc before (m ∷ []) (next ∷ rest)) in
           client_takes setup works s c (after_telling before) (after_telling (before ++ m ∷ [])) (with_client s c once_read) (Server m.server)
-          (found_body ask (piece segment group at)) [] (founds_from (next ∷ rest) (at + 1)) [] [] (done ++ []) can.there
+          (found_body ask (flight_fragment segment group at)) [] (founds_from (next ∷ rest) (at + 1)) [] [] (done ++ []) can.there
           (subst
           (λ n. client_step (client_at setup works c (after_telling before))
-          (Deliver (record { from = Server m.server; to = Client c; clock = 0; body = found_body ask (piece segment group n) }))
+          (Deliver (record { from = Server m.server; to = Client c; clock = 0; body = found_body ask (flight_fragment segment group n) }))
           ≡ record { node = client_at setup works c (after_telling (before ++ m ∷ [])); packets = []; acts = [] }) (sym place_is)
-          (fragment_waits setup works c m.server (piece segment group (length before)) ask p b item (target_of b place) place.item (round_with segment group before)
+          (fragment_waits setup works c m.server (flight_fragment segment group (length before)) ask p b item (target_of b place) place.item (round_with segment group before)
           (round_with segment group (before ++ m ∷ [])) refl (counted before (next ∷ rest) m is (omega arith))
           (taken_is segment group before m (are.apart before (next ∷ rest) m is))
           (can.room (reading_at (target_of b place) ask (round_with segment group before))) (taken_in before (next ∷ rest) m is (length before))

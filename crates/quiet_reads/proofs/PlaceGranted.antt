@@ -1,31 +1,31 @@
 -- A client whose get waits is granted a copy of a block that lies in a log: it asks each member of the segment's group for its fragment, and the get goes on waiting.
 use Rattle.std.proofs.Common.{◌≡◌, ℕ, ◌+◌, not, nat_lt, true, false, List, [], ◌∷◌, ◌++◌, filter, map, Some, None, refl, ap}
-use Rattle.client_call.specs.Calls.{call_for}
+use Rattle.client_call.specs.Calls.{call_new}
 use Rattle.client_call.specs.declared.call.Plan.TheVariants.{One}
 use Rattle.client_call.specs.Reads.{target_of}
 use Rattle.client_node.specs.Phases.{client_step, on_deliver}
-use Rattle.client_running.specs.Blocks.{gets, makes}
-use Rattle.client_running.specs.Running.{runs}
+use Rattle.client_running.specs.Blocks.{blocks_get, blocks_make}
+use Rattle.client_running.specs.Running.{run}
 use Rattle.client_serving.specs.declared.serving.Serving.{Serving}
-use Rattle.client_serving.specs.Follow.{follows, follows_one, hands}
-use Rattle.client_serving.specs.Packets.{on_grant, on_packet}
-use Rattle.client_serving.specs.Reads.{begins, reads}
+use Rattle.client_serving.specs.Follow.{serving_follow, follow_one, hand}
+use Rattle.client_serving.specs.Packets.{on_grant, serving_take}
+use Rattle.client_serving.specs.Reads.{begin_reading, serving_read}
 use Rattle.file_plan.specs.declared.block_call.BlockCall.TheVariants.{Get}
 use Rattle.group_map.specs.declared.group.Group.{Group}
 use Rattle.group_map.specs.Groups.{group_of}
 use Rattle.log_owner.specs.Sending.{fetch}
 use Rattle.node_base.specs.declared.effects.Effect.{Effect}
 use Rattle.node_base.specs.Effects.{acts_of, packets_of}
-use Rattle.node_base.specs.Known.{knows_place}
-use Rattle.node_base.specs.Maps.{at_start}
+use Rattle.node_base.specs.Known.{knows_entry}
+use Rattle.node_base.specs.Maps.{maps_start}
 use Rattle.node_base.specs.Nodes.{has_node, peers_of}
-use Rattle.node_base.specs.Shape.{is_place}
-use Rattle.segment_reading.specs.Reading.{ReadingState, begun, servers_of, to_ask}
+use Rattle.node_base.specs.Shape.{is_entry}
+use Rattle.segment_reading.specs.Reading.{ReadingState, reading_start, servers_of, reading_unanswered}
 use Rattle.token_client.proofs.Tables.{held_of-put_itself}
 use Rattle.token_client.specs.declared.held.Held.{Held}
 use Rattle.token_client.specs.declared.input.In.TheVariants.{Granted, Need}
 use Rattle.token_client.specs.declared.output.Out.TheVariants.{Read}
-use Rattle.token_client.specs.Held.{fetched_from}
+use Rattle.token_client.specs.Held.{fetch_from}
 use Rattle.token_client.specs.State.{held_of, put_held}
 use Rattle.token_client.specs.Transition.{accepts, on_granted, on_need}
 use Rattle.version_model.specs.declared.work.Work.{Work}
@@ -50,21 +50,21 @@ all_asked : (servers : List ℕ) → filter (λ server. not false) servers ≡ s
 all_asked [] = refl
 all_asked (v ∷ servers) = ap (λ vs. v ∷ vs) (all_asked servers)
 
-module _ (setup : Setup) (works : NodeId → List Work) (c : ℕ) (p : ClientPart) (b : BlockId) (item : ℕ) (its_call : p.call ≡ Some (call_for One (Get b)))
+module _ (setup : Setup) (works : NodeId → List Work) (c : ℕ) (p : ClientPart) (b : BlockId) (item : ℕ) (its_call : p.call ≡ Some (call_new One (Get b)))
     (its_item : p.item ≡ Some item) (stamp : Stamp) (req ver hop : ℕ) (place : Place) (group : Group) where
   abbrev its_held : Held
   its_held = held_of p.blocks b
 
   -- the block is being fetched
   abbrev pub fetching : Held
-  fetching = fetched_from its_held stamp ver place
+  fetching = fetch_from its_held stamp ver place
 
   abbrev pub entry : Entry
   entry = record { ver = ver; hop = hop; place = Some place }
 
   -- the first round of reading it
   abbrev pub first_round : ReadingState
-  first_round = begun (target_of b place) group (p.asked + 1)
+  first_round = reading_start (target_of b place) group (p.asked + 1)
 
   abbrev pub fetching_part : ClientPart
   fetching_part = record p {
@@ -78,7 +78,7 @@ module _ (setup : Setup) (works : NodeId → List Work) (c : ℕ) (p : ClientPar
   fetches = map (fetch place.seg.name (p.asked + 1)) (servers_of group)
 
   abbrev granted_part : ClientPart
-  granted_part = record p { blocks = put_held p.blocks b fetching; call = Some (call_for One (Get b)); item = Some item }
+  granted_part = record p { blocks = put_held p.blocks b fetching; call = Some (call_new One (Get b)); item = Some item }
 
   itself : held_of (put_held p.blocks b fetching) b ≡ fetching
   itself = held_of-put_itself b fetching p.blocks
@@ -88,19 +88,19 @@ module _ (setup : Setup) (works : NodeId → List Work) (c : ℕ) (p : ClientPar
     unfolding on_granted
     fetches_is = rw accepted refl
 
-    asks_all : map (fetch place.seg.name (p.asked + 1)) (to_ask first_round) ≡ fetches
+    asks_all : map (fetch place.seg.name (p.asked + 1)) (reading_unanswered first_round) ≡ fetches
     asks_all = ap (map (fetch place.seg.name (p.asked + 1))) (all_asked (servers_of group))
 
-    reads_is : reads (serving_at setup works c granted_part) b place ≡ record { state = serving_at setup works c fetching_part; outs = fetches }
-    unfolding reads begins
+    reads_is : serving_read (serving_at setup works c granted_part) b place ≡ record { state = serving_at setup works c fetching_part; outs = fetches }
+    unfolding serving_read begin_reading
     reads_is = rw (known, more) (ap (λ outs. record { state = serving_at setup works c fetching_part; outs = outs }) asks_all)
 
-    read_is : follows_one (serving_at setup works c granted_part) (Read b place) ≡ record { state = serving_at setup works c fetching_part; outs = fetches }
-    unfolding follows_one
+    read_is : follow_one (serving_at setup works c granted_part) (Read b place) ≡ record { state = serving_at setup works c fetching_part; outs = fetches }
+    unfolding follow_one
     read_is = reads_is
 
-    grant_hands : hands (serving_at setup works c p) (Granted b stamp 1 req Copy entry) ≡ record { state = serving_at setup works c fetching_part; outs = fetches ++ [] }
-    unfolding hands follows
+    grant_hands : hand (serving_at setup works c p) (Granted b stamp 1 req Copy entry) ≡ record { state = serving_at setup works c fetching_part; outs = fetches ++ [] }
+    unfolding hand serving_follow
     grant_hands = rw (its_call, its_item, fetches_is, read_is) refl
 
     -- ---- the get goes on waiting
@@ -108,19 +108,19 @@ module _ (setup : Setup) (works : NodeId → List Work) (c : ℕ) (p : ClientPar
     abbrev before : Serving
     before = serving_at setup works c (record fetching_part { call = None })
 
-    none_needed : hands before (Need b Copy) ≡ record { state = before; outs = [] }
-    unfolding hands follows on_need
+    none_needed : hand before (Need b Copy) ≡ record { state = before; outs = [] }
+    unfolding hand serving_follow on_need
     none_needed = rw itself refl
 
-    get_waits : makes before (Get b) ≡ record { done = record { state = before; outs = [] }; answer = None }
-    unfolding makes gets
+    get_waits : blocks_make before (Get b) ≡ record { done = record { state = before; outs = [] }; answer = None }
+    unfolding blocks_make blocks_get
     get_waits = rw (itself, none_needed) refl
 
-    runs_is : runs (serving_at setup works c fetching_part) ≡ record { state = serving_at setup works c fetching_part; outs = [] }
+    runs_is : run (serving_at setup works c fetching_part) ≡ record { state = serving_at setup works c fetching_part; outs = [] }
     runs_is = reading_waits (serving_at setup works c fetching_part) (Get b) (Some first_round) refl before [] get_waits
 
-    module _ (j clock : ℕ) (h : HasRoom setup works c p) (there : has_node (peers_of setup) (Manager j) ≡ true) (of_log : is_place (Some place) ≡ true)
-        (group_known : knows_place (at_start (its_groups setup works)) (Some place) ≡ true) where
+    module _ (j clock : ℕ) (h : HasRoom setup works c p) (there : has_node (peers_of setup) (Manager j) ≡ true) (of_log : is_entry (Some place) ≡ true)
+        (group_known : knows_entry (maps_start (its_groups setup works)) (Some place) ≡ true) where
       abbrev pub place_packet : Packet
       place_packet = record {
         from = Manager j;
@@ -129,8 +129,8 @@ module _ (setup : Setup) (works : NodeId → List Work) (c : ℕ) (p : ClientPar
         body = body.Grant (record { block = b; stamp = stamp; inc = 1; req = req; mode = Copy; entry = entry });
       }
 
-      packet_is : on_packet (serving_at setup works c p) place_packet ≡ record { state = serving_at setup works c fetching_part; outs = fetches ++ [] }
-      unfolding on_packet on_grant
+      packet_is : serving_take (serving_at setup works c p) place_packet ≡ record { state = serving_at setup works c fetching_part; outs = fetches ++ [] }
+      unfolding serving_take on_grant
       packet_is = rw (group_known, grant_hands) refl
 
       pub place_comes : client_step (client_at setup works c p) (Deliver place_packet) ≡ record {

@@ -7,21 +7,21 @@ use Rattle.std.proofs.lemmas.Bool.Decides.{nat_tests}
 use Rattle.std.proofs.lemmas.List.Elements.{All-from_recursion, All-nil}
 use Rattle.group_map.specs.declared.group.Group.{Group}
 use Rattle.group_map.specs.declared.group.Member.{Member}
-use Rattle.log_flight.specs.Fragments.{piece}
+use Rattle.log_flight.specs.Fragments.{flight_fragment}
 use Rattle.quiet_flow.proofs.Counts.{count_hit, count_miss}
 use Rattle.segment_format.specs.declared.segment.Segment.{Segment}
 use Rattle.segment_format.specs.Text.{text_of}
 use Rattle.segment_reading.specs.Reading.{servers_of}
 use Rattle.fragment_sums.specs.Sums.{parities}
-use Rattle.stripe_code.proofs.Pieces.{length-pieces, pieces_long}
+use Rattle.stripe_code.proofs.Pieces.{length-cut_pieces, pieces_long}
 use Rattle.stripe_code.proofs.WhatWasCut.{reads_what_was_cut}
 use Rattle.stripe_code.specs.declared.round.Answer.{Answer}
 use Rattle.stripe_code.specs.declared.round.RoundState.TheVariants.{Read, Short, Waiting}
 use Rattle.stripe_code.specs.declared.round.Told.TheVariants.{Held}
 use Rattle.stripe_code.specs.Fragments.{fragment_at, meta_of}
 use Rattle.stripe_code.specs.Joined.{joined}
-use Rattle.stripe_code.specs.Round.{IsRound, RoundSoFar, TellsPart, bytes_in, fits, has_answered, have_answered, is_enough, len_in, missing_in, new_round, parts_in, says_as_before, state_of, taken}
-use Rattle.stripe_code.specs.Stripe.{IsBytes, IsCut, part_of, pieces, stripe_of}
+use Rattle.stripe_code.specs.Round.{IsRound, RoundSoFar, TellsPart, bytes_in, fits, has_answered, all_answered, is_enough, len_in, missing_in, round_start, parts_in, is_as_before, state_of, round_take}
+use Rattle.stripe_code.specs.Stripe.{IsBytes, IsCut, part_len, cut_pieces, stripe_of}
 use Rattle.stripe_code.specs.WhatWasCut.{ToldOf}
 
 -- ---- counts over numbers
@@ -63,7 +63,7 @@ module _ (segment : Segment) (group : Group) where
   count = length group.members - group.parity
 
   abbrev told : Member → ℕ → Answer
-  told m place = record { server = m.server; told = Held (piece segment group place) }
+  told m place = record { server = m.server; told = Held (flight_fragment segment group place) }
 
   -- these members have told their fragments, from a place on
   abbrev pub answers_from : List Member → ℕ → List Answer
@@ -71,22 +71,22 @@ module _ (segment : Segment) (group : Group) where
   answers_from (m ∷ ms) place = told m place ∷ answers_from ms (place + 1)
 
   abbrev pub round_with : List Member → RoundSoFar
-  round_with ms = record (new_round (length group.members) group.parity (servers_of group)) { answers = answers_from ms 0 }
+  round_with ms = record (round_start (length group.members) group.parity (servers_of group)) { answers = answers_from ms 0 }
 
-  pub meta_is : (place : ℕ) → (piece segment group place).meta ≡ meta_of segment place
-  unfolding piece
+  pub meta_is : (place : ℕ) → (flight_fragment segment group place).meta ≡ meta_of segment place
+  unfolding flight_fragment
   meta_is place = refl
 
-  bytes_are : (place : ℕ) → (piece segment group place).bytes ≡ fragment_at (stripe_of text (length group.members) group.parity) place
-  unfolding piece
+  bytes_are : (place : ℕ) → (flight_fragment segment group place).bytes ≡ fragment_at (stripe_of text (length group.members) group.parity) place
+  unfolding flight_fragment
   bytes_are place = refl
 
-  index_is : (place : ℕ) → (piece segment group place).meta.index ≡ place
-  unfolding piece
+  index_is : (place : ℕ) → (flight_fragment segment group place).meta.index ≡ place
+  unfolding flight_fragment
   index_is place = refl
 
-  len_is : (place : ℕ) → (piece segment group place).meta.len ≡ length text
-  unfolding piece
+  len_is : (place : ℕ) → (flight_fragment segment group place).meta.len ≡ length text
+  unfolding flight_fragment
   len_is place = refl
 
   -- ---- one more
@@ -114,8 +114,8 @@ module _ (segment : Segment) (group : Group) where
   from_none n = omega arith
 
   pub taken_is : (ms : List Member) (m : Member) → AreOthers m.server ms
-      → taken (round_with ms) m.server (Held (piece segment group (length ms))) ≡ round_with (ms ++ m ∷ [])
-  unfolding taken
+      → round_take (round_with ms) m.server (Held (flight_fragment segment group (length ms))) ≡ round_with (ms ++ m ∷ [])
+  unfolding round_take
   taken_is ms m others =
       ap (λ t. cond t (round_with ms) (pushed (answers_from ms 0 ++ told m (length ms) ∷ []))) (not_yet m.server ms 0 others)
       ∙ ap (λ n. pushed (answers_from ms 0 ++ told m n ∷ [])) (sym (from_none (length ms)))
@@ -126,7 +126,7 @@ module _ (segment : Segment) (group : Group) where
 
   -- ---- it fits
 
-  says : (ms : List Member) (place : ℕ) → says_as_before (len_in (answers_from ms place)) (length text) ≡ true
+  says : (ms : List Member) (place : ℕ) → is_as_before (len_in (answers_from ms place)) (length text) ≡ true
   says [] place = refl
   says (m ∷ ms) place = ap (λ len. length text == len) (len_is place) ∙ same (length text)
     where
@@ -144,27 +144,27 @@ module _ (segment : Segment) (group : Group) where
   long_at part (x ∷ xs) (suc i) all less = long_at part xs i (λ k d under. all (suc k) d (omega arith)) (omega arith)
 
   -- the fragment at a place before the parity is as long as any
-  stripe_long : (i : ℕ) → i < count → length (fragment_at (stripe_of text (length group.members) group.parity) i) ≡ part_of (length text) count
+  stripe_long : (i : ℕ) → i < count → length (fragment_at (stripe_of text (length group.members) group.parity) i) ≡ part_len (length text) count
   unfolding stripe_of
   stripe_long i less =
-      let part = part_of (length text) count in
-      let long = length-pieces count part text in
-      ap length (at_front (pieces count part text) (parities group.parity part (pieces count part text)) i (omega arith))
-      ∙ long_at part (pieces count part text) i (pieces_long count part text) (omega arith)
+      let part = part_len (length text) count in
+      let long = length-cut_pieces count part text in
+      ap length (at_front (cut_pieces count part text) (parities group.parity part (cut_pieces count part text)) i (omega arith))
+      ∙ long_at part (cut_pieces count part text) i (pieces_long count part text) (omega arith)
 
-  long : (place : ℕ) → place < count → length (piece segment group place).bytes ≡ part_of (length text) count
+  long : (place : ℕ) → place < count → length (flight_fragment segment group place).bytes ≡ part_len (length text) count
   long place before = ap length (bytes_are place) ∙ stripe_long place before
 
-  pub fits_in : (ms : List Member) (place : ℕ) → length ms ≡ place → place < count → fits (round_with ms) (piece segment group place) ≡ true
+  pub fits_in : (ms : List Member) (place : ℕ) → length ms ≡ place → place < count → fits (round_with ms) (flight_fragment segment group place) ≡ true
   fits_in ms place is before =
       let within : nat_lt place (length group.members) ≡ true = (let less : place < length group.members = omega arith in lt_is place (length group.members) less) in
       ap
-      (λ i. nat_lt i (length group.members) && says_as_before (len_in (answers_from ms 0)) (piece segment group place).meta.len
-      && (length (piece segment group place).bytes == part_of (piece segment group place).meta.len count)) (index_is place)
+      (λ i. nat_lt i (length group.members) && is_as_before (len_in (answers_from ms 0)) (flight_fragment segment group place).meta.len
+      && (length (flight_fragment segment group place).bytes == part_len (flight_fragment segment group place).meta.len count)) (index_is place)
       ∙ ap
-      (λ len. nat_lt place (length group.members) && says_as_before (len_in (answers_from ms 0)) len
-      && (length (piece segment group place).bytes == part_of len count)) (len_is place)
-      ∙ all_three within (says ms 0) (ap (λ n. n == part_of (length text) count) (long place before) ∙ same (part_of (length text) count))
+      (λ len. nat_lt place (length group.members) && is_as_before (len_in (answers_from ms 0)) len
+      && (length (flight_fragment segment group place).bytes == part_len len count)) (len_is place)
+      ∙ all_three within (says ms 0) (ap (λ n. n == part_len (length text) count) (long place before) ∙ same (part_len (length text) count))
     where
       lt_is : (a b : ℕ) → a < b → nat_lt a b ≡ true
       lt_is a b h = grind (arith, nat_tests)
@@ -186,9 +186,9 @@ module _ (segment : Segment) (group : Group) where
       none_between : (a b : ℕ) → false ≡ (nat_le a b && nat_lt b (a + 0))
       none_between a b = grind (arith, nat_tests)
   in_interval (m ∷ ms) place i =
-      ap (λ n. is_some (cond (n == i) (Some (piece segment group place).bytes) (bytes_at ms (place + 1) i))) (index_is place)
+      ap (λ n. is_some (cond (n == i) (Some (flight_fragment segment group place).bytes) (bytes_at ms (place + 1) i))) (index_is place)
       ∙ elim (place == i) as
-      (λ t. (place == i) ≡ t → is_some (cond t (Some (piece segment group place).bytes) (bytes_at ms (place + 1) i)) ≡ (nat_le place i && nat_lt i (place + suc (length ms)))) [
+      (λ t. (place == i) ≡ t → is_some (cond t (Some (flight_fragment segment group place).bytes) (bytes_at ms (place + 1) i)) ≡ (nat_le place i && nat_lt i (place + suc (length ms)))) [
         | true ↦ λ same. here place i (length ms) same
         | false ↦ λ other. in_interval ms (place + 1) i ∙ there place i (length ms) other
       ] refl
@@ -217,8 +217,8 @@ module _ (segment : Segment) (group : Group) where
 
   -- ---- too few
 
-  unanswered : (answers : List Answer) (xs ys : List ℕ) (v : ℕ) → has_answered answers v ≡ false → have_answered answers (xs ++ v ∷ ys) ≡ false
-  unanswered answers [] ys v open_yet = ap (λ t. t && have_answered answers ys) open_yet
+  unanswered : (answers : List Answer) (xs ys : List ℕ) (v : ℕ) → has_answered answers v ≡ false → all_answered answers (xs ++ v ∷ ys) ≡ false
+  unanswered answers [] ys v open_yet = ap (λ t. t && all_answered answers ys) open_yet
   unanswered answers (x ∷ xs) ys v open_yet =
       ap (λ t. has_answered answers x && t) (unanswered answers xs ys v open_yet) ∙ and_none (has_answered answers x)
     where
@@ -235,7 +235,7 @@ module _ (segment : Segment) (group : Group) where
   unfolding state_of
   waits_for ms rest m is few others =
       ap (λ t. cond t (Read (joined (parts_in (length group.members) (answers_from ms 0)) group.parity (unwrap_or (len_in (answers_from ms 0)) 0)))
-      (cond (have_answered (answers_from ms 0) (servers_of group)) (Short (missing_in (answers_from ms 0))) Waiting)) not_enough
+      (cond (all_answered (answers_from ms 0) (servers_of group)) (Short (missing_in (answers_from ms 0))) Waiting)) not_enough
       ∙ ap (λ t. cond t (Short (missing_in (answers_from ms 0))) Waiting) not_all
     where
       not_enough : is_enough (round_with ms) ≡ false
@@ -244,10 +244,10 @@ module _ (segment : Segment) (group : Group) where
           not_le : (a b : ℕ) → b < a → nat_le a b ≡ false
           not_le a b h = grind (arith, nat_tests)
 
-      not_all : have_answered (answers_from ms 0) (servers_of group) ≡ false
+      not_all : all_answered (answers_from ms 0) (servers_of group) ≡ false
       not_all =
-          ap (λ members. have_answered (answers_from ms 0) (map (λ (x : Member). x.server) members)) is
-          ∙ ap (have_answered (answers_from ms 0)) (servers_split ms rest m)
+          ap (λ members. all_answered (answers_from ms 0) (map (λ (x : Member). x.server) members)) is
+          ∙ ap (all_answered (answers_from ms 0)) (servers_split ms rest m)
           ∙ unanswered (answers_from ms 0) (map (λ (x : Member). x.server) ms) (map (λ (x : Member). x.server) rest) m.server (not_yet m.server ms 0 others)
 
   -- ---- enough
@@ -259,7 +259,7 @@ module _ (segment : Segment) (group : Group) where
     record {
       index = subst (λ i. i < length group.members) (sym (index_is place)) (omega arith);
       says = len_is place ∙ sym is;
-      long = long place (omega arith) ∙ ap (λ n. part_of n count) (sym is);
+      long = long place (omega arith) ∙ ap (λ n. part_len n count) (sym is);
     },
     all_parts len ms (place + 1) is (omega arith),
   )
@@ -285,7 +285,7 @@ module _ (segment : Segment) (group : Group) where
   unfolding state_of its_text
   joins ms enough =
       ap (λ t. cond t (Read (joined (parts_in (length group.members) (answers_from ms 0)) group.parity (unwrap_or (len_in (answers_from ms 0)) 0)))
-      (cond (have_answered (answers_from ms 0) (servers_of group)) (Short (missing_in (answers_from ms 0))) Waiting)) enough
+      (cond (all_answered (answers_from ms 0) (servers_of group)) (Short (missing_in (answers_from ms 0))) Waiting)) enough
 
   pub reads_text : (ms : List Member) → IsCut (length group.members) group.parity → IsBytes text → length ms ≡ count → state_of (round_with ms) ≡ Read text
   reads_text ms cut bytes many =

@@ -49,7 +49,7 @@ use Rattle.quiet_law.proofs.Listed.{listed_alone}
 use Rattle.quiet_gives.proofs.OwnerWay as way
 use Rattle.quiet_gives.proofs.PutsFromDirty as owned
 use Rattle.quiet_gives.proofs.Recalling as recalling
-use Rattle.token_manager.proofs.Guarded.{sorted-given_up}
+use Rattle.token_manager.proofs.Guarded.{sorted-give_way}
 
 copy_is : (x : Option Bool) → share x ≡ 1 → x ≡ Some false
 copy_is None h = absurd (omega (arith, h))
@@ -116,7 +116,7 @@ module _ (setup : Setup) (works : NodeId → List Work) (k : ℕ) (s : Scene) (t
   no_owner = none_left b c o differ (s.slot i).beliefs false owns (owned.listed setup works k s c o b d next.client owner differ dirty true)
 
   zg_ordered : IsInOrder zg.beliefs
-  zg_ordered = sorted-given_up (s.slot i).beliefs (holder b o) true calm.ordered
+  zg_ordered = sorted-give_way (s.slot i).beliefs (holder b o) true calm.ordered
 
   copies : belief zg.beliefs (holder b o) ≡ Some false
   copies = copy_is (belief zg.beliefs (holder b o)) (given_copy (s.slot i).beliefs (holder b o) calm.ordered owns)

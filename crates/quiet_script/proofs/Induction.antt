@@ -5,7 +5,7 @@ use Rattle.std.proofs.lemmas.Bool.Decides.{nat_tests}
 use Rattle.std.proofs.lemmas.List.Sums.{count_by-le-length}
 use Rattle.node_base.specs.Setups.{IsSetup}
 use Rattle.play.specs.declared.player.Player.{Player}
-use Rattle.play.specs.Plays.{answers, estate_of, played, plays_line, starts}
+use Rattle.play.specs.Plays.{answers, estate_of, player_play, plays_line, player_start}
 use Rattle.script_text.specs.declared.script.Line.{Line}
 use Rattle.script_text.specs.declared.script.Script.{Script}
 use Rattle.transcript.specs.Replies.{is_item}
@@ -106,7 +106,7 @@ module _ {N : Type 0} (step : N → Do → NodeStep N) (first : NodeId → Setup
             (omega arith) (omega arith) e.first_drains e.waits e.second_drains e.settled)
             e.settled e.answers_it (each_once_more done line reached.stage.acts e.end.acts leads.node leads.actor e.answers_it reached.each_once) e.so_then
 
-  starts_reached : Between [] (start_stage first script) → Reached [] (starts first script)
+  starts_reached : Between [] (start_stage first script) → Reached [] (player_start first script)
   unfolding start_world
   starts_reached between = record {
     stage = start_stage first script;
@@ -134,10 +134,10 @@ module _ {N : Type 0} (step : N → Do → NodeStep N) (first : NodeId → Setup
 
     -- the whole script
     pub script_answers : Between [] (start_stage first script) → AnswersWithinBounds (estate_of step first script)
-    unfolding played
+    unfolding player_play
     script_answers between =
-        let reached = all_reach [] script.lines (starts first script) refl (starts_reached between) in
-        let end = fold (plays_line step) (starts first script) script.lines in
+        let reached = all_reach [] script.lines (player_start first script) refl (starts_reached between) in
+        let end = fold (plays_line step) (player_start first script) script.lines in
         let acted : end.world.acts ≡ reached.stage.acts = reached.shows.acts in
         record {
           none_open = none_left end reached;

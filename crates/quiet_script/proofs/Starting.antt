@@ -3,7 +3,7 @@ use Rattle.std.proofs.Common.{◌≡◌, ℕ, zero, suc, ◌+◌, ◌<◌, ◌�
 use Rattle.std.specs.List.{range_with_len}
 use Rattle.std.proofs.lemmas.List.{length-map, length-replicate}
 use Rattle.std.proofs.lemmas.List.Elements.{All-nil, All-replicate}
-use Rattle.play.specs.Plays.{starts}
+use Rattle.play.specs.Plays.{player_start}
 use Rattle.script_text.specs.declared.script.Script.{Script}
 use Rattle.version_model.specs.declared.work.Work.{Work}
 use Rattle.wire_msg.specs.declared.packet.Packet.{Packet}
@@ -51,7 +51,7 @@ module _ {N : Type 0} (first : NodeId → Setup → List Work → N) (script : S
       counted from zero = refl
       counted from (suc n) = ap suc (counted (from + 1) n)
 
-  pub starts_shown : Shows script.setup (starts first script) (start_stage first script) []
+  pub starts_shown : Shows script.setup (player_start first script) (start_stage first script) []
   unfolding start_world
   starts_shown = record {
     cluster = refl;

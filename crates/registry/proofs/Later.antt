@@ -18,7 +18,7 @@ use Rattle.xfs_base.specs.Limits.{u32_end, block_logs}
 use Rattle.group_map.specs.GroupMapState.{GroupMapState}
 use Rattle.group_map.specs.Groups.{generation_at}
 use Rattle.manager_map.specs.declared.entry.SlotEntry.{SlotEntry}
-use Rattle.manager_map.specs.Slots.{after_move}
+use Rattle.manager_map.specs.Slots.{manager_map_advance}
 use Rattle.manager_map.specs.Moves.{Move}
 use Rattle.manager_map.proofs.Epochs.{moves_follow}
 use Rattle.registry.specs.declared.checkpoint.Checkpoint.{Checkpoint}
@@ -42,7 +42,7 @@ are_both a b c ab bc = record {
       λ slot same. bc.one_manager slot (omega (arith, ab.epochs slot, bc.epochs slot)) ∙ ab.one_manager slot (omega (arith, ab.epochs slot, bc.epochs slot));
 }
 
-are_moved : (es : List SlotEntry) (slot manager : ℕ) → AreLater es (after_move es slot manager)
+are_moved : (es : List SlotEntry) (slot manager : ℕ) → AreLater es (manager_map_advance es slot manager)
 are_moved es slot manager =
     let move : Move = record { slot = slot; manager = manager } in
     record {
@@ -53,8 +53,8 @@ are_moved es slot manager =
 are_raised_one : (manager : ℕ) (es : List SlotEntry) (slot : ℕ) → AreLater es (raise_one manager es slot)
 unfolding raise_one
 are_raised_one manager es slot =
-    by_test (AreLater es) ((entry_of es slot).manager == manager) (cond (nat_lt 7 slot) es (after_move es slot manager)) es
-    (λ _. by_test (AreLater es) (nat_lt 7 slot) es (after_move es slot manager) (λ _. are_itself es) (λ _. are_moved es slot manager))
+    by_test (AreLater es) ((entry_of es slot).manager == manager) (cond (nat_lt 7 slot) es (manager_map_advance es slot manager)) es
+    (λ _. by_test (AreLater es) (nat_lt 7 slot) es (manager_map_advance es slot manager) (λ _. are_itself es) (λ _. are_moved es slot manager))
     (λ _. are_itself es)
 
 are_raised : (manager : ℕ) (es : List SlotEntry) (slots : List ℕ) → AreLater es (fold (raise_one manager) es slots)

@@ -6,10 +6,10 @@ use Rattle.std.proofs.lemmas.Bool.Decides.{nat_tests}
 use Rattle.xfs_base.proofs.Booleans.{and_first, and_second, contrary, not_true}
 use Rattle.xfs_base.specs.Limits.{u32_end}
 use Rattle.group_map.specs.GroupMapState.{GroupMapState}
-use Rattle.group_map.specs.Groups.{generation_at, group_of, is_hit, lost}
+use Rattle.group_map.specs.Groups.{generation_at, group_of, is_hit, after_loss}
 use Rattle.group_map.specs.WellFormed.{IsServer, IsGroupMap}
 use Rattle.group_map.proofs.Numbers.{find-numbered}
-use Rattle.group_map.proofs.WellFormedMaps.{IsGroupMap-lost}
+use Rattle.group_map.proofs.WellFormedMaps.{IsGroupMap-after_loss}
 use Rattle.registry.specs.BoardState.{BoardState}
 use Rattle.registry.specs.Board.{has_room, may_lose, hears_server}
 
@@ -61,8 +61,8 @@ module _ (groups : GroupMapState) (server generation : ℕ) (may : may_lose grou
   pub loss_room : IsGroupMap groups → length groups.groups + length (filter (is_hit server) groups.groups) ≤ u32_end
   loss_room fact = room_for groups server fact (and_second (nat_lt (generation_at groups.generations server) generation) (has_room groups) known)
 
-  pub loss_kept : IsGroupMap groups → IsGroupMap (lost groups server generation)
-  loss_kept fact = IsGroupMap-lost groups server generation loss_exists (loss_room fact) fact
+  pub loss_kept : IsGroupMap groups → IsGroupMap (after_loss groups server generation)
+  loss_kept fact = IsGroupMap-after_loss groups server generation loss_exists (loss_room fact) fact
 
 pub loss_heard : (s : BoardState) (server generation : ℕ) → hears_server s server generation ≡ true → may_lose s.groups server generation ≡ true
 loss_heard s server generation hears = and_second (nat_lt s.version u32_end) (may_lose s.groups server generation) hears

@@ -9,7 +9,7 @@ use Rattle.xfs_base.specs.declared.node.NodeId.TheVariants.{Manager}
 use Rattle.xfs_base.proofs.Booleans.{and_first, and_second}
 use Rattle.xfs_base.specs.Limits.{u32_end, slot_count}
 use Rattle.manager_map.specs.declared.entry.SlotEntry.{SlotEntry}
-use Rattle.manager_map.specs.Slots.{entry_at, after_move, next_entry}
+use Rattle.manager_map.specs.Slots.{entry_at, manager_map_advance, next_entry}
 use Rattle.registry.specs.declared.input.In.TheVariants.{Hello}
 use Rattle.registry.specs.declared.output.Out.TheVariants.{Changed}
 use Rattle.registry.specs.BoardState.{BoardState}
@@ -41,8 +41,8 @@ module _ (manager : ℕ) where
   unfolding raise_one
   raise-length es at =
       elim ((entry_of es at).manager == manager) as
-      (λ t. length (cond t (cond (nat_lt 7 at) es (after_move es at manager)) es) ≡ length es) [
-        | true ↦ elim (nat_lt 7 at) as (λ t. length (cond t es (after_move es at manager)) ≡ length es) [ true ↦ refl | false ↦ length-set es at _ ]
+      (λ t. length (cond t (cond (nat_lt 7 at) es (manager_map_advance es at manager)) es) ≡ length es) [
+        | true ↦ elim (nat_lt 7 at) as (λ t. length (cond t es (manager_map_advance es at manager)) ≡ length es) [ true ↦ refl | false ↦ length-set es at _ ]
         | false ↦ refl
       ]
 
@@ -50,8 +50,8 @@ module _ (manager : ℕ) where
   unfolding raise_one
   raise-other es at slot other =
       elim ((entry_of es at).manager == manager) as
-      (λ t. entry_at (cond t (cond (nat_lt 7 at) es (after_move es at manager)) es) slot ≡ entry_at es slot) [
-        | true ↦ elim (nat_lt 7 at) as (λ t. entry_at (cond t es (after_move es at manager)) slot ≡ entry_at es slot) [
+      (λ t. entry_at (cond t (cond (nat_lt 7 at) es (manager_map_advance es at manager)) es) slot ≡ entry_at es slot) [
+        | true ↦ elim (nat_lt 7 at) as (λ t. entry_at (cond t es (manager_map_advance es at manager)) slot ≡ entry_at es slot) [
           | true ↦ refl
           | false ↦ set_other es at slot _ other
         ]
@@ -62,11 +62,11 @@ module _ (manager : ℕ) where
   unfolding raise_one
   raise-own es slot small within =
       let low : nat_lt 7 slot ≡ false = grind (arith, nat_tests) in
-      ap (λ b. entry_at (cond ((entry_of es slot).manager == manager) (cond b es (after_move es slot manager)) es) slot) low
-      ∙ ap (λ at. entry_at (cond ((entry_at es at).manager == manager) (after_move es slot manager) es) slot) (small_slot slot small)
+      ap (λ b. entry_at (cond ((entry_of es slot).manager == manager) (cond b es (manager_map_advance es slot manager)) es) slot) low
+      ∙ ap (λ at. entry_at (cond ((entry_at es at).manager == manager) (manager_map_advance es slot manager) es) slot) (small_slot slot small)
       ∙ at_test ((entry_at es slot).manager == manager)
     where
-      at_test : (t : Bool) → entry_at (cond t (after_move es slot manager) es) slot ≡ cond t (next_entry (entry_at es slot) manager) (entry_at es slot)
+      at_test : (t : Bool) → entry_at (cond t (manager_map_advance es slot manager) es) slot ≡ cond t (next_entry (entry_at es slot) manager) (entry_at es slot)
       at_test true = set_own es slot _ within
       at_test false = refl
 

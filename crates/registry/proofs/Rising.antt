@@ -6,7 +6,7 @@ use Rattle.xfs_base.specs.declared.segment.SegRef.{SegRef}
 use Rattle.xfs_base.proofs.Booleans.{by_test}
 use Rattle.xfs_base.proofs.Members.{contains_nothing, contains_first, contains_cases}
 use Rattle.xfs_base.specs.Limits.{u32_end}
-use Rattle.manager_map.specs.Slots.{after_move, entry_at}
+use Rattle.manager_map.specs.Slots.{manager_map_advance, entry_at}
 use Rattle.registry.specs.declared.input.In.{In}
 use Rattle.registry.specs.declared.input.In.TheVariants.{Hello, Reassign, Done}
 use Rattle.registry.specs.declared.output.Out.{Out}
@@ -53,7 +53,7 @@ module _ (s : BoardState) where
   rises-reassign : (slot manager : ℕ) → Rises (reassign s slot manager) (Unit {0})
   unfolding reassign
   rises-reassign slot manager =
-      let answer : List Out = Epoch (entry_at (after_move s.entries slot manager) slot).epoch ∷ [] in
+      let answer : List Out = Epoch (entry_at (manager_map_advance s.entries slot manager) slot).epoch ∷ [] in
       by_test (λ made. Rises made (Unit {0})) (can_move s slot) (record { state = moved s slot manager; outs = Changed ∷ answer })
       (record { state = s; outs = [] }) (λ _. all_told (moved s slot manager) answer refl) (λ _. nobody (Unit {0}))
 

@@ -12,8 +12,8 @@ use Rattle.xfs_base.specs.declared.segment.SegRef.{SegRef}
 use Rattle.xfs_base.specs.declared.setup.Setup.{Setup}
 use Rattle.xfs_base.specs.Limits.{u32_end, slot_count}
 use Rattle.group_map.specs.GroupMapState.{GroupMapState}
-use Rattle.group_map.specs.Groups.{group_of, generation_at, lost, started as first_groups}
-use Rattle.manager_map.specs.Slots.{start_entries, entry_at, after_move}
+use Rattle.group_map.specs.Groups.{group_of, generation_at, after_loss, group_map_start as first_groups}
+use Rattle.manager_map.specs.Slots.{manager_map_start, entry_at, manager_map_advance}
 use Rattle.registry.specs.BoardState.{BoardState}
 use Rattle.registry.specs.Checkpoints.{first_checkpoint, covers_kept, parts_at, horizon_at}
 use Rattle.registry.specs.Slots.{all_slots, entry_of, raised, can_rise}
@@ -57,7 +57,7 @@ abbrev pub hears_server : BoardState → ℕ → ℕ → Bool
 hears_server s server generation = nat_lt s.version u32_end && may_lose s.groups server generation
 
 abbrev pub server_lost : BoardState → ℕ → ℕ → BoardState
-server_lost s server generation = record s { version = s.version + 1; groups = lost s.groups server generation }
+server_lost s server generation = record s { version = s.version + 1; groups = after_loss s.groups server generation }
 
 unfoldable pub server_hello : BoardState → ℕ → ℕ → Made
 server_hello s server generation = if hears_server s server generation then record { state = server_lost s server generation; outs = Changed ∷ [] } else still s
@@ -75,12 +75,12 @@ abbrev pub can_move : BoardState → ℕ → Bool
 can_move s slot = nat_lt slot slot_count && (nat_lt s.version u32_end && nat_lt (entry_of s.entries slot).epoch u32_end)
 
 abbrev pub moved : BoardState → ℕ → ℕ → BoardState
-moved s slot manager = record s { version = s.version + 1; entries = after_move s.entries slot manager }
+moved s slot manager = record s { version = s.version + 1; entries = manager_map_advance s.entries slot manager }
 
 unfoldable pub reassign : BoardState → ℕ → ℕ → Made
 reassign s slot manager =
     if can_move s slot
-    then record { state = moved s slot manager; outs = Changed ∷ Epoch (entry_at (after_move s.entries slot manager) slot).epoch ∷ [] }
+    then record { state = moved s slot manager; outs = Changed ∷ Epoch (entry_at (manager_map_advance s.entries slot manager) slot).epoch ∷ [] }
     else still s
 
 -- ---- a checkpoint that is written
@@ -109,10 +109,10 @@ transition s (Hello node inc) = hello s node inc
 transition s (Reassign slot manager) = reassign s slot manager
 transition s (Done slot epoch parts horizon) = done s slot epoch parts horizon
 
-abbrev pub started : Setup → BoardState
-started setup = record {
+abbrev pub board_start : Setup → BoardState
+board_start setup = record {
   version = 1;
-  entries = start_entries setup.managers;
+  entries = manager_map_start setup.managers;
   checkpoints = map (λ _. first_checkpoint) all_slots;
   incs = [];
   groups = first_groups setup.servers setup.groups;
@@ -129,5 +129,5 @@ slot_news s slot = record {
   horizon = horizon_at s.checkpoints slot;
 }
 
-abbrev pub all_news : BoardState → List SlotNews
-all_news s = map (slot_news s) all_slots
+abbrev pub board_slots : BoardState → List SlotNews
+board_slots s = map (slot_news s) all_slots

@@ -4,7 +4,7 @@ ghost use Rattle.std.specs.List.{IsDistinct};
 ghost use Rattle.xfs_base.specs.Limits.{u32_end};
 ghost use Rattle.group_map.specs.Sizes.{IsParity, bad_size};
 ghost use Rattle.group_map.specs.WellFormed.{IsServer};
-ghost use Rattle.registry.specs.Board.{inc_of, has_room, may_lose, hears_manager, manager_hello, hears_server, server_hello, hello, can_move, reassign, is_kept, keep, done, transition, started, slot_news, all_news};
+ghost use Rattle.registry.specs.Board.{inc_of, has_room, may_lose, hears_manager, manager_hello, hears_server, server_hello, hello, can_move, reassign, is_kept, keep, done, transition, board_start, slot_news, board_slots};
 
 use crate::checkpoint::{Checkpoint, covers_kept, first_checkpoints, horizon_at, parts_at};
 use crate::input::In;
@@ -100,7 +100,7 @@ impl Board {
         requires differ { All (λ g. IsDistinct nat_eq g.servers) setup.now.groups }
         requires parity { All (λ g. IsParity g.parity) setup.now.groups }
         requires sizes { bad_size setup.now.groups ≡ None }
-        ensures { IfOk result (λ board. board ≡ started setup.now) }
+        ensures { IfOk result (λ board. board ≡ board_start setup.now) }
     {
         match GroupMap::start(alloc, setup.servers, setup.groups.as_slice()) {
             Ok(groups) => Ok(Board {
@@ -130,7 +130,7 @@ impl Board {
 
     /// The slots 0 to 7, in order, each with its newest checkpoint.
     pub fn slots(&self, alloc: Global) -> Mem<List<SlotNews>>
-        ensures { IfOk result (λ news. news ≡ all_news self.now) }
+        ensures { IfOk result (λ news. news ≡ board_slots self.now) }
     {
         self.news_of(alloc, &SLOTS)
     }

@@ -20,12 +20,12 @@ use Rattle.xfs_base.specs.declared.setup.Setup.{Setup}
 use Rattle.xfs_base.specs.Steps.{Stepped, still}
 use Rattle.node_base.specs.declared.effects.Effect.{Effect}
 use Rattle.node_base.specs.declared.effects.Effect.TheVariants.{Send, Answer}
-use Rattle.node_base.specs.Beginning.{started, next_item, begun, work_at}
-use Rattle.node_base.specs.Effects.{packets_of, acts_of, sends_to}
+use Rattle.node_base.specs.Beginning.{items_start, next_item, items_begin, work_at}
+use Rattle.node_base.specs.Effects.{packets_of, acts_of, send_each}
 use Rattle.node_base.specs.Nodes.{peers_of, others}
 use Rattle.node_base.specs.Room.{has_room}
 use Rattle.node_base.specs.Shape.{is_well_formed}
-use Rattle.registry.specs.Board.{started as first_board, transition, all_news}
+use Rattle.registry.specs.Board.{board_start as first_board, transition, board_slots}
 use Rattle.registry.specs.BoardState.{BoardState}
 use Rattle.registry.specs.declared.input.In.TheVariants as board
 use Rattle.registry.specs.declared.output.Out.{Out}
@@ -38,44 +38,44 @@ Done = Stepped RegistryNode Effect
 
 -- the registry at the start of a run
 abbrev pub registry_start : Setup → List Work → RegistryNode
-registry_start setup items = record { peers = peers_of setup; items = started items; board = first_board setup }
+registry_start setup items = record { peers = peers_of setup; items = items_start items; board = first_board setup }
 
 -- the maps as they are
 abbrev pub news_of : BoardState → News
-news_of maps = record { version = maps.version; slots = all_news maps; groups = maps.groups }
+news_of maps = record { version = maps.version; slots = board_slots maps; groups = maps.groups }
 
 -- the maps go to all other nodes
-abbrev pub tells_all : RegistryNode → List Effect
-tells_all node = sends_to (others node.peers Registry) (body.MapNews (news_of node.board))
+abbrev pub tell_all : RegistryNode → List Effect
+tell_all node = send_each (others node.peers Registry) (body.MapNews (news_of node.board))
 
 -- ---- a slot goes to a manager
 
 -- changed maps go to all nodes, and the new epoch is the answer to the item
-abbrev pub moved : RegistryNode → ℕ → Out → List Effect
-moved node number Changed = tells_all node
-moved node number (Epoch epoch) = Answer number (answers.Epoch epoch) ∷ []
-moved node number (Kept epoch) = []
+abbrev pub say_one_moved : RegistryNode → ℕ → Out → List Effect
+say_one_moved node number Changed = tell_all node
+say_one_moved node number (Epoch epoch) = Answer number (answers.Epoch epoch) ∷ []
+say_one_moved node number (Kept epoch) = []
 
 abbrev pub after_move : RegistryNode → ℕ → Stepped BoardState Out → Done
 after_move node number stepped =
-    record { state = record node { board = stepped.state }; outs = flat_map (moved (record node { board = stepped.state }) number) stepped.outs }
+    record { state = record node { board = stepped.state }; outs = flat_map (say_one_moved (record node { board = stepped.state }) number) stepped.outs }
 
 unfoldable pub on_move : RegistryNode → ℕ → ℕ → ℕ → Done
 on_move node number slot manager = after_move node number (transition node.board (board.Reassign slot manager))
 
 -- ---- a node asks for the maps, and may tell of a restart or a loss
 
-abbrev pub changed : RegistryNode → Out → List Effect
-changed node Changed = tells_all node
-changed node (Epoch epoch) = []
-changed node (Kept epoch) = []
+abbrev pub say_one_changed : RegistryNode → Out → List Effect
+say_one_changed node Changed = tell_all node
+say_one_changed node (Epoch epoch) = []
+say_one_changed node (Kept epoch) = []
 
 abbrev pub welcome_of : RegistryNode → Hello → Welcome
 welcome_of node hello = record { inc = hello.inc; ask = hello.ask; news = news_of node.board }
 
 -- changed maps go to all nodes first, and then to who asked
 abbrev pub welcomes : RegistryNode → NodeId → Hello → List Out → List Effect
-welcomes node from hello outs = flat_map (changed node) outs ++ Send from (body.Welcome (welcome_of node hello)) ∷ []
+welcomes node from hello outs = flat_map (say_one_changed node) outs ++ Send from (body.Welcome (welcome_of node hello)) ∷ []
 
 abbrev pub after_hello : RegistryNode → NodeId → Hello → Stepped BoardState Out → Done
 after_hello node from hello stepped =
@@ -86,14 +86,14 @@ on_hello node from hello = after_hello node from hello (transition node.board (b
 
 -- ---- a manager has written a checkpoint
 
-abbrev pub kept : NodeId → CkptDone → Out → List Effect
-kept from done Changed = []
-kept from done (Epoch epoch) = []
-kept from done (Kept epoch) = Send from (body.CkptAck (record { slot = done.slot; epoch = epoch; ask = done.ask })) ∷ []
+abbrev pub say_one_kept : NodeId → CkptDone → Out → List Effect
+say_one_kept from done Changed = []
+say_one_kept from done (Epoch epoch) = []
+say_one_kept from done (Kept epoch) = Send from (body.CkptAck (record { slot = done.slot; epoch = epoch; ask = done.ask })) ∷ []
 
 -- the epoch that is kept is the answer
 abbrev pub after_done : RegistryNode → NodeId → CkptDone → Stepped BoardState Out → Done
-after_done node from done stepped = record { state = record node { board = stepped.state }; outs = flat_map (kept from done) stepped.outs }
+after_done node from done stepped = record { state = record node { board = stepped.state }; outs = flat_map (say_one_kept from done) stepped.outs }
 
 unfoldable pub on_done : RegistryNode → NodeId → CkptDone → Done
 on_done node from done = after_done node from done (transition node.board (board.Done done.slot done.epoch done.parts done.horizon))
@@ -118,7 +118,7 @@ at_item node (Some number) = on_item node number (move_of (work_at node.items nu
 
 -- the next item begins
 unfoldable pub on_begin : RegistryNode → Done
-on_begin node = at_item (record node { items = begun node.items }) (next_item node.items)
+on_begin node = at_item (record node { items = items_begin node.items }) (next_item node.items)
 
 abbrev pub hears : RegistryNode → NodeId → Body → Done
 hears node from (body.Hello hello) = on_hello node from hello
@@ -131,7 +131,7 @@ on_packet node packet = if is_well_formed node.peers packet then hears node pack
 abbrev pub on_event : RegistryNode → Do → Done
 on_event node Begin = on_begin node
 on_event node (Deliver packet) = on_packet node packet
-on_event node Tick = record { state = node; outs = tells_all node }
+on_event node Tick = record { state = node; outs = tell_all node }
 
 -- the event is taken where the version is at least 65,536 below its end; an epoch is never above the version
 abbrev pub takes : RegistryNode → Do → Done

@@ -5,7 +5,7 @@ ghost use Rattle.wire_msg.specs.declared.body.Body.TheVariants.{Welcome as Welco
 ghost use Rattle.node_base.specs.declared.effects.Effect.TheVariants.{Send};
 ghost use Rattle.node_base.specs.Beginning.{work_at};
 ghost use Rattle.node_base.specs.Setups.{IsSetup};
-ghost use Rattle.registry_node.specs.Events.{registry_start, news_of, tells_all, moved, on_move, changed, welcome_of, welcomes, on_hello, kept, on_done, move_of, on_begin, on_packet, takes, registry_step};
+ghost use Rattle.registry_node.specs.Events.{registry_start, news_of, tell_all, say_one_moved, on_move, say_one_changed, welcome_of, welcomes, on_hello, say_one_kept, on_done, move_of, on_begin, on_packet, takes, registry_step};
 
 use node_base::{Effects, Items, Peers, has_room, is_well_formed};
 use registry::{Board, In, Out};
@@ -139,7 +139,7 @@ impl RegistryNode {
     }
 
     fn say_moved(&self, alloc: Global, effects: &mut Effects, number: u32, outs: &[Out]) -> Mem<()>
-        ensures { OnOk result (effects.new ≡ effects.old ++ flat_map (moved self.now number) outs.now) }
+        ensures { OnOk result (effects.new ≡ effects.old ++ flat_map (say_one_moved self.now number) outs.now) }
     {
         for out in outs {
             self.say_one_moved(alloc, effects, number, out)?;
@@ -148,7 +148,7 @@ impl RegistryNode {
     }
 
     fn say_one_moved(&self, alloc: Global, effects: &mut Effects, number: u32, out: &Out) -> Mem<()>
-        ensures { OnOk result (effects.new ≡ effects.old ++ moved self.now number out.now) }
+        ensures { OnOk result (effects.new ≡ effects.old ++ say_one_moved self.now number out.now) }
     {
         match out {
             Out::Changed => self.tell_all(alloc, effects),
@@ -214,7 +214,7 @@ impl RegistryNode {
     }
 
     fn say_changed(&self, alloc: Global, effects: &mut Effects, outs: &[Out]) -> Mem<()>
-        ensures { OnOk result (effects.new ≡ effects.old ++ flat_map (changed self.now) outs.now) }
+        ensures { OnOk result (effects.new ≡ effects.old ++ flat_map (say_one_changed self.now) outs.now) }
     {
         for out in outs {
             self.say_one_changed(alloc, effects, out)?;
@@ -223,7 +223,7 @@ impl RegistryNode {
     }
 
     fn say_one_changed(&self, alloc: Global, effects: &mut Effects, out: &Out) -> Mem<()>
-        ensures { OnOk result (effects.new ≡ effects.old ++ changed self.now out.now) }
+        ensures { OnOk result (effects.new ≡ effects.old ++ say_one_changed self.now out.now) }
     {
         match out {
             Out::Changed => self.tell_all(alloc, effects),
@@ -255,7 +255,7 @@ impl RegistryNode {
 
     // The maps go to all other nodes.
     fn tell_all(&self, alloc: Global, effects: &mut Effects) -> Mem<()>
-        ensures { OnOk result (effects.new ≡ effects.old ++ tells_all self.now) }
+        ensures { OnOk result (effects.new ≡ effects.old ++ tell_all self.now) }
     {
         let body = Body::MapNews(Shared::of(alloc, self.news(alloc)?)?);
         effects.send_others(alloc, NodeId::Registry, self.peers, &body)
@@ -285,7 +285,7 @@ fn move_at(items: &Items, number: u32) -> Option<(u8, u8)>
 }
 
 fn say_kept(effects: &mut Effects, from: NodeId, done: &CkptDone, outs: &[Out]) -> Mem<()>
-    ensures { OnOk result (effects.new ≡ effects.old ++ flat_map (kept from done.now) outs.now) }
+    ensures { OnOk result (effects.new ≡ effects.old ++ flat_map (say_one_kept from done.now) outs.now) }
 {
     for out in outs {
         say_one_kept(effects, from, done, out)?;
@@ -294,7 +294,7 @@ fn say_kept(effects: &mut Effects, from: NodeId, done: &CkptDone, outs: &[Out]) 
 }
 
 fn say_one_kept(effects: &mut Effects, from: NodeId, done: &CkptDone, out: &Out) -> Mem<()>
-    ensures { OnOk result (effects.new ≡ effects.old ++ kept from done.now out.now) }
+    ensures { OnOk result (effects.new ≡ effects.old ++ say_one_kept from done.now out.now) }
 {
     match out {
         Out::Kept { epoch } => {

@@ -11,14 +11,14 @@ use Rattle.stripe_code.specs.declared.round.Answer.{Answer}
 use Rattle.stripe_code.specs.declared.round.RoundState.TheVariants as round
 use Rattle.stripe_code.specs.declared.round.Told.{Told}
 use Rattle.stripe_code.specs.Joined.{joined}
-use Rattle.stripe_code.specs.Round.{RoundSoFar, has_answered, have_answered, is_enough, len_in, missing_in, parts_in, taken, state_of}
+use Rattle.stripe_code.specs.Round.{RoundSoFar, has_answered, all_answered, is_enough, len_in, missing_in, parts_in, round_take, state_of}
 use Rattle.segment_reading.specs.declared.reading.Next.TheVariants.{Wait}
 use Rattle.segment_reading.specs.declared.reading.Stage.{Stage}
 use Rattle.segment_reading.specs.declared.reading.Stage.TheVariants.{Asking, Between, Doubted, Over}
 use Rattle.segment_reading.specs.declared.target.Target.{Target}
 use Rattle.segment_reading.specs.Course.{Event, Answered, Alike, Course, Heard, after_event, after_step, at_question, can_be, course, missing_of, round_of, MissedTwice, Decides, IsLostExactly}
 use Rattle.segment_reading.specs.Lost.{missing_twice, are_gone}
-use Rattle.segment_reading.specs.Reading.{ReadingState, Step, begun, on_answer, on_confirmed, judged, read_as, ends, segment_found}
+use Rattle.segment_reading.specs.Reading.{ReadingState, Step, reading_start, reading_take, on_confirmed, reading_judge, reading_reads, ends, segment_found}
 
 first_of : List (List (ℕ × ℕ)) → List (ℕ × ℕ)
 first_of [] = []
@@ -65,8 +65,8 @@ chosen parity (before ∷ rest) pairs =
 
 -- a round with what a server told is a round over the same group
 taken_is : (group : Group) (answers : List Answer) (server : ℕ) (told : Told)
-    → taken (round_of group answers) server told ≡ round_of group (taken (round_of group answers) server told).answers
-unfolding taken
+    → round_take (round_of group answers) server told ≡ round_of group (round_take (round_of group answers) server told).answers
+unfolding round_take
 taken_is group answers server told =
     let r = round_of group answers in
     let more : RoundSoFar = record r { answers = answers ++ record { server = server; told = told } ∷ [] } in
@@ -98,12 +98,12 @@ module _ (target : Target) (group : Group) where
       })
 
   read_holds : (h : Heard) (ended : List (List (ℕ × ℕ))) (o : Option Segment) → missing_of group h ≡ []
-      → After (read_as (standing h ended h.answers Asking) o) h ended
+      → After (reading_reads (standing h ended h.answers Asking) o) h ended
   read_holds h ended (Some s) none = record { told = h.answers; stage = Over; stands = refl; same = λ e. refl; says = tt }
   read_holds h ended None none = ends_holds h ended [] none
 
   judged_holds : (h : Heard) (ended : List (List (ℕ × ℕ))) (groups : GroupMapState)
-      → After (judged (standing h ended h.answers Asking) groups (state_of (round_of group h.answers))) h ended
+      → After (reading_judge (standing h ended h.answers Asking) groups (state_of (round_of group h.answers))) h ended
   unfolding state_of
   judged_holds h ended groups =
       let now = round_of group h.answers in
@@ -113,13 +113,13 @@ module _ (target : Target) (group : Group) where
       λ t e. ap (λ u. if u then [] else missing_in h.answers) e in
       elim (is_enough now) as
       (λ t. is_enough now ≡ t
-      → After (judged r groups
-      (if t then round.Read text else if have_answered h.answers now.servers then round.Short (missing_in h.answers) else round.Waiting)) h
+      → After (reading_judge r groups
+      (if t then round.Read text else if all_answered h.answers now.servers then round.Short (missing_in h.answers) else round.Waiting)) h
       ended) [
         | true ↦ λ e. read_holds h ended (segment_found target groups (answer_of text)) (missing true e)
         | false ↦ λ e.
-            elim (have_answered h.answers now.servers) as
-            (λ t. After (judged r groups (if t then round.Short (missing_in h.answers) else round.Waiting)) h ended) [
+            elim (all_answered h.answers now.servers) as
+            (λ t. After (reading_judge r groups (if t then round.Short (missing_in h.answers) else round.Waiting)) h ended) [
               | true ↦ ends_holds h ended (missing_in h.answers) (missing false e)
               | false ↦ waits h h.answers ended h.answers Asking (λ e. refl) tt
             ]
@@ -127,29 +127,29 @@ module _ (target : Target) (group : Group) where
 
   abbrev heard : Heard → ℕ → ℕ → Told → Heard
   heard h ask server told =
-      record h { answers = if can_be target group h ask server told then (taken (round_of group h.answers) server told).answers else h.answers }
+      record h { answers = if can_be target group h ask server told then (round_take (round_of group h.answers) server told).answers else h.answers }
 
   asking_holds : (h : Heard) (ended : List (List (ℕ × ℕ))) (groups : GroupMapState) (ask server : ℕ) (told : Told)
-      → After (on_answer (standing h ended h.answers Asking) groups ask server told) (heard h ask server told) ended
-  unfolding on_answer
+      → After (reading_take (standing h ended h.answers Asking) groups ask server told) (heard h ask server told) ended
+  unfolding reading_take
   asking_holds h ended groups ask server told =
       let r = standing h ended h.answers Asking in
-      let now = taken (round_of group h.answers) server told in
+      let now = round_take (round_of group h.answers) server told in
       elim (can_be target group h ask server told) as
-      (λ t. After (if t then judged (record r { round = now }) groups (state_of now) else record { state = r; next = Wait })
+      (λ t. After (if t then reading_judge (record r { round = now }) groups (state_of now) else record { state = r; next = Wait })
       (record h { answers = if t then now.answers else h.answers }) ended) [
         | true ↦
-            subst (λ (rd : RoundSoFar). After (judged (record r { round = rd }) groups (state_of rd)) (record h { answers = now.answers }) ended)
+            subst (λ (rd : RoundSoFar). After (reading_judge (record r { round = rd }) groups (state_of rd)) (record h { answers = now.answers }) ended)
             (sym (taken_is group h.answers server told)) (judged_holds (record h { answers = now.answers }) ended groups)
         | false ↦ waits h h.answers ended h.answers Asking (λ e. refl) tt
       ]
 
   answer_holds : (h : Heard) (ended : List (List (ℕ × ℕ))) (so_far : List Answer) (groups : GroupMapState) (ask server : ℕ) (told : Told) (stage : Stage)
       → (stage ≡ Asking → so_far ≡ h.answers) → Says group.parity stage ended
-      → After (on_answer (standing h ended so_far stage) groups ask server told) (heard h ask server told) ended
-  unfolding on_answer
+      → After (reading_take (standing h ended so_far stage) groups ask server told) (heard h ask server told) ended
+  unfolding reading_take
   answer_holds h ended so_far groups ask server told Asking same says =
-      subst (λ (answers : List Answer). After (on_answer (standing h ended answers Asking) groups ask server told) (heard h ask server told) ended)
+      subst (λ (answers : List Answer). After (reading_take (standing h ended answers Asking) groups ask server told) (heard h ask server told) ended)
       (sym (same refl))
       (asking_holds h ended groups ask server told)
   answer_holds h ended so_far groups ask server told Between same says =
@@ -174,7 +174,7 @@ module _ (target : Target) (group : Group) where
 
   event_holds : (c : Course) (e : Event) → Holds target group c → Holds target group (after_event target group e c)
   event_holds c (Answered groups ask server told) holds =
-      subst (λ (r : ReadingState). After (on_answer r groups ask server told) (heard c.heard ask server told) c.ended) (sym holds.stands)
+      subst (λ (r : ReadingState). After (reading_take r groups ask server told) (heard c.heard ask server told) c.ended) (sym holds.stands)
       (answer_holds c.heard c.ended holds.told groups ask server told holds.stage holds.same holds.says)
   event_holds c (Alike ask) holds =
       subst (λ (r : ReadingState). After (on_confirmed r ask) (at_question ask (on_confirmed r ask).next c.heard) c.ended) (sym holds.stands)
@@ -195,7 +195,7 @@ module _ (target : Target) (group : Group) where
 pub lost_exactly : IsLostExactly
 unfolding first_of
 lost_exactly target group ask next events =
-    let start : Course = record { reading = begun target group ask; heard = record { question = ask; answers = [] }; ended = [] } in
+    let start : Course = record { reading = reading_start target group ask; heard = record { question = ask; answers = [] }; ended = [] } in
     let holds = course_holds target group start events (record { told = []; stage = Asking; stands = refl; same = λ e. refl; says = tt }) in
     let c = course target group start events in
     subst (λ (r : ReadingState). Decides r.stage (on_confirmed r next).next (MissedTwice group.parity c.ended)) (sym holds.stands)

@@ -4,14 +4,14 @@ use Rattle.group_map.specs.declared.group.Group.{Group}
 use Rattle.group_map.specs.GroupMapState.{GroupMapState}
 use Rattle.stripe_code.specs.declared.round.Answer.{Answer}
 use Rattle.stripe_code.specs.declared.round.Told.{Told}
-use Rattle.stripe_code.specs.Round.{RoundSoFar, asks, is_enough, missing_in, taken, told_fits}
+use Rattle.stripe_code.specs.Round.{RoundSoFar, asks, is_enough, missing_in, round_take, told_fits}
 use Rattle.segment_reading.specs.declared.reading.Next.{Next}
 use Rattle.segment_reading.specs.declared.reading.Next.TheVariants.{Wait, Ask, Again, Read, Lost}
 use Rattle.segment_reading.specs.declared.reading.Stage.{Stage}
 use Rattle.segment_reading.specs.declared.reading.Stage.TheVariants.{Asking, Between, Doubted, Over}
 use Rattle.segment_reading.specs.declared.target.Target.{Target}
 use Rattle.segment_reading.specs.Lost.{missing_twice}
-use Rattle.segment_reading.specs.Reading.{ReadingState, Step, begun, name_fits, on_answer, on_confirmed, servers_of}
+use Rattle.segment_reading.specs.Reading.{ReadingState, Step, reading_start, name_fits, reading_take, on_confirmed, servers_of}
 
 -- a server told something in answer to a question, where the reader knew these groups; or the reader's own question was answered alike, and a further
 -- one is drawn
@@ -20,7 +20,7 @@ pub data Event : Type 0 where
   Alike : ℕ → Event
 
 abbrev pub transition : ReadingState → Event → Step
-transition r (Answered groups ask server told) = on_answer r groups ask server told
+transition r (Answered groups ask server told) = reading_take r groups ask server told
 transition r (Alike ask) = on_confirmed r ask
 
 -- what was told in the present round: its question, and of each server of the group the first answer to it that can be of the segment
@@ -47,7 +47,7 @@ at_question ask Lost h = h
 
 abbrev pub heard_after : Target → Group → Event → Next → Heard → Heard
 heard_after target group (Answered groups ask server told) next h =
-    record h { answers = if can_be target group h ask server told then (taken (round_of group h.answers) server told).answers else h.answers }
+    record h { answers = if can_be target group h ask server told then (round_take (round_of group h.answers) server told).answers else h.answers }
 heard_after target group (Alike ask) next h = at_question ask next h
 
 -- the pairs that were Missing in a round in which this was told: none where it makes up a text
@@ -81,7 +81,7 @@ course target group c (e ∷ es) = course target group (after_event target group
 
 abbrev pub course_of : Target → Group → ℕ → List Event → Course
 course_of target group ask events =
-    course target group (record { reading = begun target group ask; heard = record { question = ask; answers = [] }; ended = [] }) events
+    course target group (record { reading = reading_start target group ask; heard = record { question = ask; answers = [] }; ended = [] }) events
 
 -- in the last two rounds, one after the other, more of the same pairs were Missing than the parity makes good
 abbrev pub MissedTwice : ℕ → List (List (ℕ × ℕ)) → Type 0
@@ -105,10 +105,10 @@ IsLostExactly = (target : Target) (group : Group) (ask next : ℕ) (events : Lis
 -- Nothing that a server tells loses the segment, whichever question it answers.
 abbrev pub AnswersLoseNothing : Type 0
 AnswersLoseNothing =
-    (r : ReadingState) (groups : GroupMapState) (ask server : ℕ) (told : Told) → (on_answer r groups ask server told).next ≡ Lost → ⊥
+    (r : ReadingState) (groups : GroupMapState) (ask server : ℕ) (told : Told) → (reading_take r groups ask server told).next ≡ Lost → ⊥
 
 -- What answers another question than that of the present round changes nothing.
 abbrev pub OtherAnswersChangeNothing : Type 0
 OtherAnswersChangeNothing =
     (r : ReadingState) (groups : GroupMapState) (ask server : ℕ) (told : Told) → (ask ≡ r.ask → ⊥)
-    → on_answer r groups ask server told ≡ record { state = r; next = Wait }
+    → reading_take r groups ask server told ≡ record { state = r; next = Wait }

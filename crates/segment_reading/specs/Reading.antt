@@ -17,7 +17,7 @@ use Rattle.stripe_code.specs.declared.round.RoundState.{RoundState}
 use Rattle.stripe_code.specs.declared.round.RoundState.TheVariants as round
 use Rattle.stripe_code.specs.declared.round.Told.{Told}
 use Rattle.stripe_code.specs.declared.round.Told.TheVariants.{Held, Missing}
-use Rattle.stripe_code.specs.Round.{RoundSoFar, new_round, asks, taken, state_of, told_fits, unanswered}
+use Rattle.stripe_code.specs.Round.{RoundSoFar, round_start, asks, round_take, state_of, told_fits, unanswered}
 use Rattle.segment_reading.specs.declared.reading.Next.{Next}
 use Rattle.segment_reading.specs.declared.reading.Next.TheVariants.{Wait, Ask, Again, Read, Lost}
 use Rattle.segment_reading.specs.declared.reading.Stage.{Stage}
@@ -43,9 +43,9 @@ abbrev pub servers_of : Group → List ℕ
 servers_of group = map (λ m. m.server) group.members
 
 -- the first round begins
-abbrev pub begun : Target → Group → ℕ → ReadingState
-begun target group ask =
-    record { target = target; ask = ask; kept = []; round = new_round (length group.members) group.parity (servers_of group); stage = Asking }
+abbrev pub reading_start : Target → Group → ℕ → ReadingState
+reading_start target group ask =
+    record { target = target; ask = ask; kept = []; round = round_start (length group.members) group.parity (servers_of group); stage = Asking }
 
 abbrev pub is_asking : Stage → Bool
 is_asking Asking = true
@@ -54,8 +54,8 @@ is_asking Doubted = false
 is_asking Over = false
 
 -- the servers that are to be asked under the present question
-abbrev pub to_ask : ReadingState → List ℕ
-to_ask r = if is_asking r.stage then unanswered r.round else []
+abbrev pub reading_unanswered : ReadingState → List ℕ
+reading_unanswered r = if is_asking r.stage then unanswered r.round else []
 
 -- ---- the segment that is looked for
 
@@ -74,11 +74,11 @@ has_block None s = true
 has_block (Some wanted) s = is_block wanted.block (slice_get s.items wanted.item)
 
 -- it has the name, its prior is in a group that is known, and the item, where one is looked for, is a Block of the block
-abbrev pub is_target : Target → GroupMapState → Segment → Bool
-is_target target groups s = same_name target.seg.name s.name && (is_known groups s.prior && has_block target.block s)
+abbrev pub is_met_by : Target → GroupMapState → Segment → Bool
+is_met_by target groups s = same_name target.seg.name s.name && (is_known groups s.prior && has_block target.block s)
 
 abbrev pub segment_found : Target → GroupMapState → Result Segment SegError → Option Segment
-segment_found target groups (Ok s) = if is_target target groups s then Some s else None
+segment_found target groups (Ok s) = if is_met_by target groups s then Some s else None
 segment_found target groups (Err e) = None
 
 -- ---- an answer
@@ -96,19 +96,19 @@ abbrev pub ends : ReadingState → List (ℕ × ℕ) → Step
 ends r pairs = record { state = record r { kept = pairs; stage = if are_gone r.round.parity r.kept pairs then Doubted else Between }; next = Again }
 
 -- the text of another segment, or of none, counts as a round that ended with no pairs
-abbrev pub read_as : ReadingState → Option Segment → Step
-read_as r (Some s) = record { state = record r { stage = Over }; next = Read s }
-read_as r None = ends r []
+abbrev pub reading_reads : ReadingState → Option Segment → Step
+reading_reads r (Some s) = record { state = record r { stage = Over }; next = Read s }
+reading_reads r None = ends r []
 
-abbrev pub judged : ReadingState → GroupMapState → RoundState → Step
-judged r groups (round.Read bytes) = read_as r (segment_found r.target groups (answer_of bytes))
-judged r groups (round.Short pairs) = ends r pairs
-judged r groups round.Waiting = record { state = r; next = Wait }
+abbrev pub reading_judge : ReadingState → GroupMapState → RoundState → Step
+reading_judge r groups (round.Read bytes) = reading_reads r (segment_found r.target groups (answer_of bytes))
+reading_judge r groups (round.Short pairs) = ends r pairs
+reading_judge r groups round.Waiting = record { state = r; next = Wait }
 
-unfoldable pub on_answer : ReadingState → GroupMapState → ℕ → ℕ → Told → Step
-on_answer r groups ask server told =
+unfoldable pub reading_take : ReadingState → GroupMapState → ℕ → ℕ → Told → Step
+reading_take r groups ask server told =
     if counts r ask server told
-    then (let now = taken r.round server told in judged (record r { round = now }) groups (state_of now))
+    then (let now = round_take r.round server told in reading_judge (record r { round = now }) groups (state_of now))
     else record { state = r; next = Wait }
 
 -- ---- the reader's own question was answered alike

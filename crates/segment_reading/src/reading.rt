@@ -5,7 +5,7 @@ ghost use Rattle.segment_format.specs.ReadingItems.{answer_of};
 ghost use Rattle.stripe_code.specs.Round.{told_fits};
 ghost use Rattle.stripe_code.specs.Stripe.{IsCut};
 ghost use Rattle.segment_reading.specs.Lost.{missing_twice, same_pair};
-ghost use Rattle.segment_reading.specs.Reading.{begun, to_ask, judged, read_as, on_answer, on_confirmed, is_asking, counts, ends, name_fits, segment_found};
+ghost use Rattle.segment_reading.specs.Reading.{reading_start, reading_unanswered, reading_judge, reading_reads, reading_take, on_confirmed, is_asking, counts, ends, name_fits, segment_found};
 
 use crate::Target;
 use group_map::{Group, GroupMap, Member};
@@ -82,7 +82,7 @@ impl Reading {
     /// Begins the first round, under this question of the reader.
     pub fn start(alloc: Global, target: Target, group: &Group, ask: u32) -> Mem<Reading>
         requires { IsCut (length group.now.members) group.now.parity }
-        ensures { IfOk result (λ reading. reading ≡ begun target group.now ask) }
+        ensures { IfOk result (λ reading. reading ≡ reading_start target group.now ask) }
     {
         let servers = servers_of(alloc, group.members.as_slice())?;
         let n = group.members.len() as u8;
@@ -120,7 +120,7 @@ impl Reading {
     /// The servers that are to be asked under the present question, when the round begins and at each tick:
     /// those of the group, in order of its members, that have not answered. None between rounds.
     pub fn unanswered(&self, alloc: Global) -> Mem<List<u8>>
-        ensures { IfOk result (λ servers. servers ≡ to_ask self.now) }
+        ensures { IfOk result (λ servers. servers ≡ reading_unanswered self.now) }
     {
         if self.stage.is_asking() {
             return self.round.unanswered(alloc);
@@ -131,7 +131,7 @@ impl Reading {
     /// Takes what a server told in answer to a question. It is dropped unless a round is on, the question is
     /// the present one, the server is a member, and a fragment can be one of this segment's. After want of
     /// memory nothing is said of the reading.
-    #[tactic(auto, unfolding(crate::specs::Reading::on_answer))]
+    #[tactic(auto, unfolding(crate::specs::Reading::reading_take))]
     pub fn take(
         &mut self,
         alloc: Global,
@@ -140,8 +140,8 @@ impl Reading {
         server: u8,
         told: Told,
     ) -> Mem<Next>
-        ensures state { OnOk result (self.new ≡ (on_answer self.old groups.now ask server told).state) }
-        ensures next { IfOk result (λ next. next ≡ (on_answer self.old groups.now ask server told).next) }
+        ensures state { OnOk result (self.new ≡ (reading_take self.old groups.now ask server told).state) }
+        ensures next { IfOk result (λ next. next ≡ (reading_take self.old groups.now ask server told).next) }
     {
         if !self.counts(ask, server, &told) {
             drop(told);
@@ -153,8 +153,8 @@ impl Reading {
 
     /// What the reader does next where its round stands so.
     fn judge(&mut self, alloc: Global, groups: &GroupMap, stands: RoundState) -> Mem<Next>
-        ensures state { OnOk result (self.new ≡ (judged self.old groups.now stands).state) }
-        ensures next { IfOk result (λ next. next ≡ (judged self.old groups.now stands).next) }
+        ensures state { OnOk result (self.new ≡ (reading_judge self.old groups.now stands).state) }
+        ensures next { IfOk result (λ next. next ≡ (reading_judge self.old groups.now stands).next) }
     {
         match stands {
             RoundState::Waiting => Ok(Next::Wait),
@@ -168,8 +168,8 @@ impl Reading {
 
     /// The text was of the segment, or else of another or of none.
     fn reads(&mut self, alloc: Global, read: Option<Segment>) -> Next
-        ensures state { self.new ≡ (read_as self.old read).state }
-        ensures next { result ≡ (read_as self.old read).next }
+        ensures state { self.new ≡ (reading_reads self.old read).state }
+        ensures next { result ≡ (reading_reads self.old read).next }
     {
         match read {
             Some(segment) => {

@@ -1,6 +1,6 @@
 //! What a reader looks for.
 ghost use Rattle.std.specs.Prelude.{◌≡◌, slice_get};
-ghost use Rattle.segment_reading.specs.Reading.{is_target, is_known, is_block};
+ghost use Rattle.segment_reading.specs.Reading.{is_met_by, is_known, is_block};
 
 use group_map::GroupMap;
 use segment_format::{Item, Segment};
@@ -28,7 +28,7 @@ impl Target {
     /// Whether the segment is the one that is looked for: it has the name, its prior, where it has one, is
     /// in a group that is known, and the item, where one is looked for, is a Block of the block.
     pub fn is_met_by(&self, segment: &Segment, groups: &GroupMap) -> bool
-        ensures { result ≡ is_target self.now groups.now segment.now }
+        ensures { result ≡ is_met_by self.now groups.now segment.now }
     {
         let Some(wanted) = self.block else {
             return self.seg.name.is_same(segment.name) && is_known(segment.prior, groups);

@@ -1,14 +1,14 @@
 -- Each event of a storage server leaves its shelf as it was, or as one call makes it: the one walk through all that can happen to it.
 use Rattle.std.proofs.Common.{◌≡◌, ℕ, true, false, ◌==◌, ◌&&◌, Option, Some, None, is_some, refl, sym, ap, ◌∙◌}
 use Rattle.disk_shelf.specs.declared.ask.Ask.TheVariants as asks
-use Rattle.fragment_store.specs.Calls.{barred, on_lose as lost, store_refused}
+use Rattle.fragment_store.specs.Calls.{barred, on_lose as lost, refusal}
 use Rattle.fragment_store.specs.declared.store_error.StoreError.{StoreError}
 use Rattle.fragment_store.specs.ShelfState.{ShelfState}
 use Rattle.group_map.specs.GroupMapState.{GroupMapState}
 use Rattle.group_rebuild.specs.declared.input.In.TheVariants as input
-use Rattle.node_base.specs.Beginning.{begun, next_item, work_at}
-use Rattle.node_base.specs.Known.{names_known}
-use Rattle.node_base.specs.Maps.{fits, is_older, taken}
+use Rattle.node_base.specs.Beginning.{items_begin, next_item, work_at}
+use Rattle.node_base.specs.Known.{names_known_groups}
+use Rattle.node_base.specs.Maps.{fits, is_older, maps_take}
 use Rattle.node_base.specs.Room.{has_room}
 use Rattle.node_base.specs.Shape.{is_well_formed}
 use Rattle.node_moves.specs.server_moves.Moves.{Came}
@@ -90,7 +90,7 @@ module _ (what : Do) where
     news_taken : (node : Node) (news : News) → node.shelf ≡ first.shelf → Goes first.shelf (takes_news node news)
     unfolding takes_news
     news_taken node news same =
-        let next : Node = record node { maps = taken node.maps news } in
+        let next : Node = record node { maps = maps_take node.maps news } in
         by_test (Goes first.shelf) (is_older node.maps news) (rebuilds next (input.Maps news.groups)) (still node)
         (λ t. Rests (rebuild_keeps_shelf next (input.Maps news.groups) (λ told. told) ∙ same)) (λ t. Rests same)
 
@@ -112,7 +112,7 @@ module _ (what : Do) where
     stored : (m : Store) → packet.body ≡ body.Store m → Goes first.shelf (on_store first packet.from m)
     unfolding on_store
     stored m says =
-        by_test (Goes first.shelf) (is_some (store_refused first.shelf m.fragment.meta.name m.generation)) (still first) _ (λ t. Rests refl)
+        by_test (Goes first.shelf) (is_some (refusal first.shelf m.fragment.meta.name m.generation)) (still first) _ (λ t. Rests refl)
         (λ t. Calls (asks.Store m.fragment m.generation) (Stores packet m (came (body.Store m) says) (none_refused _ t)) refl)
 
     heard : (said : Body) → packet.body ≡ said → Goes first.shelf (hears first packet.from said)
@@ -129,7 +129,7 @@ module _ (what : Do) where
 
     heard_known : (said : Body) → packet.body ≡ said → Goes first.shelf (hears_known first packet.from said)
     heard_known said says =
-        by_test (Goes first.shelf) (names_known first.maps said) (hears first packet.from said) (asks_for_maps first) (λ t. heard said says) (λ t. maps_asked)
+        by_test (Goes first.shelf) (names_known_groups first.maps said) (hears first packet.from said) (asks_for_maps first) (λ t. heard said says) (λ t. maps_asked)
 
     body_heard : (said : Body) → packet.body ≡ said → Goes first.shelf (on_body first packet.from said)
     body_heard (body.MapNews news) says = news_heard news
@@ -167,7 +167,7 @@ module _ (what : Do) where
 
     begins : Goes first.shelf (on_begin first)
     unfolding on_begin
-    begins = item_begun (record first { items = begun first.items }) (next_item first.items) refl
+    begins = item_begun (record first { items = items_begin first.items }) (next_item first.items) refl
 
   -- ---- all events
 

@@ -10,7 +10,7 @@ use Rattle.disk_shelf.specs.declared.ask.Ask.{Ask}
 use Rattle.disk_shelf.specs.declared.ask.Ask.TheVariants as asks
 use Rattle.fragment_store.proofs.Entries.{none_held}
 use Rattle.fragment_store.proofs.Tables.{fence_of-with, held-with, is_marked-with, log_cmp_total}
-use Rattle.fragment_store.specs.Calls.{kept, on_delete, on_fence, on_fill, on_lose, with_fragment}
+use Rattle.fragment_store.specs.Calls.{shelf_store, on_delete, on_fence, on_fill, on_lose, with_fragment}
 use Rattle.fragment_store.specs.ShelfState.{ShelfState, fence_of, held_at, is_held, is_marked, log_cmp, same_name}
 use Rattle.shelved_nodes.specs.Changes.{ChangesByOne, MayMake, shelf_after, shelf_after_one}
 use Rattle.shelved_nodes.specs.Changes.ChangesByOne.{Calls, Rests}
@@ -129,7 +129,7 @@ module _ (old : ShelfState) where
   abbrev more : Fragment → ShelfState
   more f = record old { held = with_fragment f old.held }
 
-  is_kept : (f : Fragment) → is_held old f.meta.name ≡ false → more f ≡ kept old f
+  is_kept : (f : Fragment) → is_held old f.meta.name ≡ false → more f ≡ shelf_store old f
   is_kept f e = ap (λ b. cond b old (more f)) (sym e)
 
   held_new : (f : Fragment) → is_held old f.meta.name ≡ false → held_at (with_fragment f old.held) f.meta.name ≡ Some f
@@ -137,7 +137,7 @@ module _ (old : ShelfState) where
       held-with f old.held f.meta.name (none_held (held_at old.held f.meta.name) e)
       ∙ ap (λ b. cond b (Some f) (held_at old.held f.meta.name)) (same_itself f.meta.name)
 
-  store_gives : (f : Fragment) (generation : ℕ) → GivesBy (body.Store (record { fragment = f; generation = generation })) (kept old f)
+  store_gives : (f : Fragment) (generation : ℕ) → GivesBy (body.Store (record { fragment = f; generation = generation })) (shelf_store old f)
   store_gives f generation =
       by_test (GivesBy (body.Store (record { fragment = f; generation = generation }))) (is_held old f.meta.name) old (more f)
       (λ e. rest_by (body.Store (record { fragment = f; generation = generation })))
@@ -167,7 +167,7 @@ module _ (old : ShelfState) where
   fill_gives f = by (is_marked old.marks f.meta.name) (is_held old f.meta.name) refl refl
     where
       filled : (t u : Bool) → is_marked old.marks f.meta.name ≡ t → is_held old f.meta.name ≡ u → on_fill old f ≡ cond t old (cond u old (more f))
-      filled t u e g = ap (λ b. cond b old (kept old f)) e ∙ ap (λ b. cond t old (cond b old (more f))) g
+      filled t u e g = ap (λ b. cond b old (shelf_store old f)) e ∙ ap (λ b. cond t old (cond b old (more f))) g
 
       seen : is_held old f.meta.name ≡ false → fill_in old (more f) ≡ Some (asks.Fill f)
       seen g =

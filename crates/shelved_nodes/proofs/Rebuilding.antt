@@ -9,18 +9,18 @@ use Rattle.group_rebuild.specs.declared.input.In.{In}
 use Rattle.group_rebuild.specs.declared.input.In.TheVariants as input
 use Rattle.group_rebuild.specs.declared.reads.Present.{Present}
 use Rattle.group_rebuild.specs.declared.wanted.Wanted.{Wanted}
-use Rattle.group_rebuild.specs.Reads.{ReadsState, answered, at_first, counts, fetches, go_on, judged, on_answer}
+use Rattle.group_rebuild.specs.Reads.{ReadsState, answered, reads_of, counts, fetches, go_on, reads_judge, reads_take}
 use Rattle.group_rebuild.specs.Reads as reads
 use Rattle.group_rebuild.specs.RebuildState.{RebuildState}
-use Rattle.group_rebuild.specs.Transition.{awaited, awaits, begun, begun_if_all, heard_from, on_listed, on_tick, repeated, told_by, transition}
+use Rattle.group_rebuild.specs.Transition.{awaited, awaits, rebuild_begin, begun_if_all, heard_from, on_listed, on_tick, repeated, told_by, transition}
 use Rattle.group_rebuild.specs.Wanted.{refilled}
 use Rattle.store_nodes.specs.declared.server.Rebuilding.{Rebuilding}
 use Rattle.store_nodes.specs.declared.server.Server.{Server as Node}
-use Rattle.store_nodes.specs.Rebuilds.{fetch_asked, goes_on, rebuilds, says}
+use Rattle.store_nodes.specs.Rebuilds.{ask_fragment, goes_on, rebuilds, says}
 use Rattle.stripe_code.specs.declared.round.RoundState.{RoundState}
 use Rattle.stripe_code.specs.declared.round.RoundState.TheVariants.{Read, Short, Waiting}
 use Rattle.stripe_code.specs.declared.round.Told.{Told}
-use Rattle.stripe_code.specs.Round.{RoundSoFar, state_of, taken, unanswered}
+use Rattle.stripe_code.specs.Round.{RoundSoFar, state_of, round_take, unanswered}
 use Rattle.xfs_base.proofs.Alls.{all_map}
 use Rattle.xfs_base.proofs.Booleans.{by_test}
 use Rattle.xfs_base.specs.declared.fragment.FragMeta.{FragMeta}
@@ -50,7 +50,7 @@ going_on_fills_nothing : (left : List Wanted) (r : ReadsState) → FillNothing (
 going_on_fills_nothing [] r = (tt, tt)
 going_on_fills_nothing (w ∷ ws) r = no_fetch_fills w.meta.name (reads.one_more r.ask) w.others
 
-judging_fills_one : (r : ReadsState) (w : Wanted) (round : RoundSoFar) (state : RoundState) → FillsOne (judged r w round state).outs
+judging_fills_one : (r : ReadsState) (w : Wanted) (round : RoundSoFar) (state : RoundState) → FillsOne (reads_judge r w round state).outs
 judging_fills_one r w round (Read text) =
     OneFill (refilled w text) (go_on r.left (record r { filled = reads.one_more r.filled })).outs
     (going_on_fills_nothing r.left (record r { filled = reads.one_more r.filled }))
@@ -62,11 +62,11 @@ answer_fills_one : (r : ReadsState) (present : Option Present) (ask server : ℕ
 answer_fills_one r None ask server told = NoFill [] tt
 answer_fills_one r (Some p) ask server told =
     by_test (λ (d : Stepped ReadsState Out). FillsOne d.outs) ((ask == r.ask) && counts p server told)
-    (judged r p.wanted (taken p.round server told) (state_of (taken p.round server told))) (still r)
-    (λ t. judging_fills_one r p.wanted (taken p.round server told) (state_of (taken p.round server told))) (λ t. NoFill [] tt)
+    (reads_judge r p.wanted (round_take p.round server told) (state_of (round_take p.round server told))) (still r)
+    (λ t. judging_fills_one r p.wanted (round_take p.round server told) (state_of (round_take p.round server told))) (λ t. NoFill [] tt)
 
 told_fills_one : (s : RebuildState) (r : Option ReadsState) (ask server : ℕ) (told : Told) → FillsOne (told_by s r ask server told).outs
-unfolding on_answer
+unfolding reads_take
 told_fills_one s None ask server told = NoFill [] tt
 told_fills_one s (Some r) ask server told = answer_fills_one r r.present ask server told
 
@@ -87,7 +87,7 @@ list_fills_nothing s server metas barred =
     by_test (λ (d : Stepped RebuildState Out). FillNothing d.outs) (is_some s.reads || not (awaits s server)) (still s)
     (begun_if_all (heard_from s server metas) barred) (λ t. tt)
     (λ t. by_test (λ (d : Stepped RebuildState Out). FillNothing d.outs) (length (awaited (heard_from s server metas)) == 0)
-    (begun (heard_from s server metas) barred) (still (heard_from s server metas)) (λ u. going_on_fills_nothing _ _) (λ u. tt))
+    (rebuild_begin (heard_from s server metas) barred) (still (heard_from s server metas)) (λ u. going_on_fills_nothing _ _) (λ u. tt))
 
 -- what fills a fragment in
 abbrev pub IsTold : In → Type 0
@@ -116,7 +116,7 @@ unfolding says
 said_keeps_shelf node (out.List server) so = refl
 said_keeps_shelf node (out.Fetch server name own) so = by node.rebuilding
   where
-    by : (r : Option Rebuilding) → (fetch_asked node r server name own).state.shelf ≡ node.shelf
+    by : (r : Option Rebuilding) → (ask_fragment node r server name own).state.shelf ≡ node.shelf
     by None = refl
     by (Some r) = refl
 said_keeps_shelf node (out.Fill f) so = absurd so

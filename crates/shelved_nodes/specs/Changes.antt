@@ -3,7 +3,7 @@ use Rattle.std.specs.Prelude.{◌≡◌, true, Option, Some, None}
 use Rattle.disk_shelf.specs.Asks.{after_ask}
 use Rattle.disk_shelf.specs.declared.ask.Ask.{Ask}
 use Rattle.disk_shelf.specs.declared.ask.Ask.TheVariants as asks
-use Rattle.fragment_store.specs.Calls.{store_refused}
+use Rattle.fragment_store.specs.Calls.{refusal}
 use Rattle.fragment_store.specs.ShelfState.{ShelfState}
 use Rattle.node_base.specs.Room.{has_room}
 use Rattle.node_moves.specs.server_moves.Moves.{Came}
@@ -31,7 +31,7 @@ shelf_after_one s (Some call) = shelf_after s call
 
 -- the calls that an event may make of a shelf
 pub data MayMake (what : Do) (s : ShelfState) : Ask → Type 0 where
-  Stores : (packet : Packet) (m : Store) → Came what packet (body.Store m) → store_refused s m.fragment.meta.name m.generation ≡ None
+  Stores : (packet : Packet) (m : Store) → Came what packet (body.Store m) → refusal s m.fragment.meta.name m.generation ≡ None
       → MayMake what s (asks.Store m.fragment m.generation)
   Fences : (packet : Packet) (m : Fence) → Came what packet (body.Fence m) → MayMake what s (asks.Fence m.log m.pass)
   Deletes : (packet : Packet) (m : Delete) → Came what packet (body.Delete m) → MayMake what s (asks.Delete m.name)

@@ -20,14 +20,14 @@ use Rattle.xfs_base.specs.Segments.{seg_cmp}
 use Rattle.xfs_base.proofs.BlockOrder.{block_cmp_total}
 use Rattle.delta_index.specs.Entries.{no_entry, is_newer}
 use Rattle.delta_index.specs.Index.{entry_of, merged}
-use Rattle.usage_table.specs.Counts.{IsTable, count_of, blocks_at, after_shift}
+use Rattle.usage_table.specs.Counts.{IsTable, count_of, blocks_at, usage_shift}
 use Rattle.xfs_base.proofs.Orders.{seg_cmp_total, seg_cmp_exact}
 use Rattle.xfs_base.proofs.Sorted.{sorted_insert}
 use Rattle.xfs_base.specs.Limits.{u32_end}
-use Rattle.usage_table.proofs.Table.{table_after_shift, count_of-after_shift}
-use Rattle.index_pages.specs.Pages.{PagesState, put_newer, cleaned}
-use Rattle.index_pages.proofs.PlainTable.{rows-put_newer}
-use Rattle.slot_beliefs.specs.Index.{Indexed, nothing_indexed, pages_of, cleaned_index, IsCounted, segment_of, live_in, moved, indexed, indexed_all, can_rise, has_room, Fits}
+use Rattle.usage_table.proofs.Table.{table_after_shift, count_of-usage_shift}
+use Rattle.index_pages.specs.Pages.{PagesState, pages_merge, pages_clean}
+use Rattle.index_pages.proofs.PlainTable.{rows-pages_merge}
+use Rattle.slot_beliefs.specs.Index.{Indexed, block_index_new, pages_of, block_index_clean, IsCounted, segment_of, live_in, moved, block_index_merge, merge_all, can_rise, has_room, Fits}
 
 -- an end that is the segment moves one block at it
 one_at : (seg : SegName) → blocks_at (Some seg) seg ≡ 1
@@ -91,12 +91,12 @@ live_in-insert seg block entry (r ∷ rs) sorted =
 pub held_counted : (i : Indexed) → IsCounted i → (block : BlockId) → ForSome (segment_of (entry_of i.rows block)) (λ seg. 0 < count_of i.usage seg)
 held_counted i counted block = λ seg fact. subst (λ n. 0 < n) (sym (counted.counted seg)) (held_lives i.rows block seg fact)
 
-pub keeps-counted : (i : Indexed) (m : BlockId × Entry) → IsCounted i → IsCounted (indexed i m)
-unfolding indexed merged
+pub keeps-counted : (i : Indexed) (m : BlockId × Entry) → IsCounted i → IsCounted (block_index_merge i m)
+unfolding block_index_merge merged
 keeps-counted i m counted =
     let held = segment_of (entry_of i.rows m.0) in
     let to = segment_of m.1 in
-    let paged = put_newer (pages_of i) m.0 m.1 in
+    let paged = pages_merge (pages_of i) m.0 m.1 in
     elim (is_newer m.1 (entry_of i.rows m.0)) as
     (λ b. IsCounted
     (record { rows = cond b (insert_entry block_cmp i.rows m.0 m.1) i.rows; usage = moved b i.usage held to; numbers = paged.numbers; pages = paged.pages })) [
@@ -104,8 +104,8 @@ keeps-counted i m counted =
         sorted = sorted_insert block_cmp block_cmp_total m.0 m.1 i.rows counted.sorted;
         table = table_after_shift i.usage held to counted.table;
         counted = λ seg.
-            let shifted : count_of (after_shift i.usage held to) seg + blocks_at held seg ≡ count_of i.usage seg + blocks_at to seg =
-            count_of-after_shift i.usage held to seg counted.table (held_counted i counted m.0) in
+            let shifted : count_of (usage_shift i.usage held to) seg + blocks_at held seg ≡ count_of i.usage seg + blocks_at to seg =
+            count_of-usage_shift i.usage held to seg counted.table (held_counted i counted m.0) in
             let lives : live_in seg (insert_entry block_cmp i.rows m.0 m.1) + blocks_at held seg ≡ live_in seg i.rows + blocks_at to seg =
             live_in-insert seg m.0 m.1 i.rows counted.sorted in
             let was : count_of i.usage seg ≡ live_in seg i.rows = counted.counted seg in
@@ -116,23 +116,23 @@ keeps-counted i m counted =
 
 -- a count rises by no more than the block that came
 grown : (i : Indexed) (m : BlockId × Entry) → IsCounted i → (seg : SegName)
-    → count_of (indexed i m).usage seg ≤ count_of i.usage seg + blocks_at (segment_of m.1) seg
-unfolding indexed
+    → count_of (block_index_merge i m).usage seg ≤ count_of i.usage seg + blocks_at (segment_of m.1) seg
+unfolding block_index_merge
 grown i m counted seg =
     let held = segment_of (entry_of i.rows m.0) in
     let to = segment_of m.1 in
     elim (is_newer m.1 (entry_of i.rows m.0)) as (λ b. count_of (moved b i.usage held to) seg ≤ count_of i.usage seg + blocks_at to seg) [
-      | true ↦ let shifted : count_of (after_shift i.usage held to) seg + blocks_at held seg ≡ count_of i.usage seg + blocks_at to seg =
-          count_of-after_shift i.usage held to seg counted.table (held_counted i counted m.0) in omega arith
+      | true ↦ let shifted : count_of (usage_shift i.usage held to) seg + blocks_at held seg ≡ count_of i.usage seg + blocks_at to seg =
+          count_of-usage_shift i.usage held to seg counted.table (held_counted i counted m.0) in omega arith
       | false ↦ omega arith
     ]
 
 -- ---- room for all
 
-pub fits_more : (i : Indexed) (m : BlockId × Entry) (ms : List (BlockId × Entry)) → IsCounted i → Fits i.usage (m ∷ ms) → Fits (indexed i m).usage ms
+pub fits_more : (i : Indexed) (m : BlockId × Entry) (ms : List (BlockId × Entry)) → IsCounted i → Fits i.usage (m ∷ ms) → Fits (block_index_merge i m).usage ms
 fits_more i m ms counted fits = λ seg some.
     let room : count_of i.usage seg + (blocks_at (segment_of m.1) seg + live_in seg ms) < 2 ^ 32 = fits seg (omega arith) in
-    let more : count_of (indexed i m).usage seg ≤ count_of i.usage seg + blocks_at (segment_of m.1) seg = grown i m counted seg in
+    let more : count_of (block_index_merge i m).usage seg ≤ count_of i.usage seg + blocks_at (segment_of m.1) seg = grown i m counted seg in
     omega arith
 
 -- no segment has more of the rows than there are
@@ -176,7 +176,7 @@ room_fits usage rows room = λ seg some.
 
 -- ---- from nothing, and over all
 
-pub nothing_counted : IsCounted nothing_indexed
+pub nothing_counted : IsCounted block_index_new
 unfolding IsStrictlySortedBy
 nothing_counted = record {
   sorted = tt;
@@ -184,9 +184,9 @@ nothing_counted = record {
   counted = λ seg. refl;
 }
 
-pub keeps-counted-all : (i : Indexed) (rows : List (BlockId × Entry)) → IsCounted i → IsCounted (indexed_all i rows)
+pub keeps-counted-all : (i : Indexed) (rows : List (BlockId × Entry)) → IsCounted i → IsCounted (merge_all i rows)
 keeps-counted-all i [] counted = counted
-keeps-counted-all i (m ∷ ms) counted = keeps-counted-all (indexed i m) ms (keeps-counted i m counted)
+keeps-counted-all i (m ∷ ms) counted = keeps-counted-all (block_index_merge i m) ms (keeps-counted i m counted)
 
 -- ---- the two ways of the code
 
@@ -203,49 +203,49 @@ same_rows i j rows usage counted = record {
 }
 
 -- the pages with an entry merged, and the counts that follow, are the index with it
-is_indexed : (i : Indexed) (m : BlockId × Entry) (p : PagesState) (usage : List (SegName × ℕ)) → p ≡ put_newer (pages_of i) m.0 m.1
-    → usage ≡ moved (is_newer m.1 (entry_of i.rows m.0)) i.usage (segment_of (entry_of i.rows m.0)) (segment_of m.1) → shown p usage ≡ indexed i m
-unfolding indexed
+is_indexed : (i : Indexed) (m : BlockId × Entry) (p : PagesState) (usage : List (SegName × ℕ)) → p ≡ pages_merge (pages_of i) m.0 m.1
+    → usage ≡ moved (is_newer m.1 (entry_of i.rows m.0)) i.usage (segment_of (entry_of i.rows m.0)) (segment_of m.1) → shown p usage ≡ block_index_merge i m
+unfolding block_index_merge
 is_indexed i m p usage same follows =
-    let rows : p.rows ≡ merged i.rows m.0 m.1 = ap (λ (q : PagesState). q.rows) same ∙ rows-put_newer (pages_of i) m.0 m.1 in
+    let rows : p.rows ≡ merged i.rows m.0 m.1 = ap (λ (q : PagesState). q.rows) same ∙ rows-pages_merge (pages_of i) m.0 m.1 in
     λ k. record { rows = rows k; usage = follows k; numbers = (same k).numbers; pages = (same k).pages }
 
 -- the pages, cleaned, and the counts are the index, cleaned
-pub cleaned_indexed : (i : Indexed) (p : PagesState) → p ≡ cleaned (pages_of i) → shown p i.usage ≡ cleaned_index i
-unfolding cleaned
+pub cleaned_indexed : (i : Indexed) (p : PagesState) → p ≡ pages_clean (pages_of i) → shown p i.usage ≡ block_index_clean i
+unfolding pages_clean
 cleaned_indexed i p same = λ k. record { rows = (same k).rows; usage = i.usage; numbers = (same k).numbers; pages = (same k).pages }
 
 -- the pages of an index follow it
-pub pages-indexed : (i : Indexed) (m : BlockId × Entry) → pages_of (indexed i m) ≡ put_newer (pages_of i) m.0 m.1
-pages-indexed i m =
+pub pages-block_index_merge : (i : Indexed) (m : BlockId × Entry) → pages_of (block_index_merge i m) ≡ pages_merge (pages_of i) m.0 m.1
+pages-block_index_merge i m =
     sym (ap pages_of
-    (is_indexed i m (put_newer (pages_of i) m.0 m.1)
+    (is_indexed i m (pages_merge (pages_of i) m.0 m.1)
     (moved (is_newer m.1 (entry_of i.rows m.0)) i.usage (segment_of (entry_of i.rows m.0)) (segment_of m.1)) refl refl))
 
-pub pages-cleaned : (i : Indexed) → pages_of (cleaned_index i) ≡ cleaned (pages_of i)
-pages-cleaned i = sym (ap pages_of (cleaned_indexed i (cleaned (pages_of i)) refl))
+pub pages-pages_clean : (i : Indexed) → pages_of (block_index_clean i) ≡ pages_clean (pages_of i)
+pages-pages_clean i = sym (ap pages_of (cleaned_indexed i (pages_clean (pages_of i)) refl))
 
-pub kept_indexed : (i : Indexed) (m : BlockId × Entry) (p : PagesState) → is_newer m.1 (entry_of i.rows m.0) ≡ false → p ≡ put_newer (pages_of i) m.0 m.1
-    → shown p i.usage ≡ indexed i m
+pub kept_indexed : (i : Indexed) (m : BlockId × Entry) (p : PagesState) → is_newer m.1 (entry_of i.rows m.0) ≡ false → p ≡ pages_merge (pages_of i) m.0 m.1
+    → shown p i.usage ≡ block_index_merge i m
 kept_indexed i m p old same =
     is_indexed i m p i.usage same (sym (ap (λ b. moved b i.usage (segment_of (entry_of i.rows m.0)) (segment_of m.1)) old))
 
 pub put_indexed : (i : Indexed) (m : BlockId × Entry) (p : PagesState) (usage : List (SegName × ℕ)) → is_newer m.1 (entry_of i.rows m.0) ≡ true
-    → p ≡ put_newer (pages_of i) m.0 m.1
-    → usage ≡ after_shift i.usage (segment_of (entry_of i.rows m.0)) (segment_of m.1) → shown p usage ≡ indexed i m
+    → p ≡ pages_merge (pages_of i) m.0 m.1
+    → usage ≡ usage_shift i.usage (segment_of (entry_of i.rows m.0)) (segment_of m.1) → shown p usage ≡ block_index_merge i m
 put_indexed i m p usage newer same follows =
     is_indexed i m p usage same (follows ∙ sym (ap (λ b. moved b i.usage (segment_of (entry_of i.rows m.0)) (segment_of m.1)) newer))
 
-pub counted_as : (i : Indexed) (m : BlockId × Entry) (p : PagesState) (usage : List (SegName × ℕ)) → IsCounted i → shown p usage ≡ indexed i m
+pub counted_as : (i : Indexed) (m : BlockId × Entry) (p : PagesState) (usage : List (SegName × ℕ)) → IsCounted i → shown p usage ≡ block_index_merge i m
     → IsCounted (shown p usage)
 counted_as i m p usage counted same = subst IsCounted (sym same) (keeps-counted i m counted)
 
 -- cleaned pages have the same rows
-pub counted_clean : (i : Indexed) (p : PagesState) → p ≡ cleaned (pages_of i) → IsCounted i → IsCounted (shown p i.usage)
-unfolding cleaned
+pub counted_clean : (i : Indexed) (p : PagesState) → p ≡ pages_clean (pages_of i) → IsCounted i → IsCounted (shown p i.usage)
+unfolding pages_clean
 counted_clean i p same = same_rows i (shown p i.usage) (ap (λ (q : PagesState). q.rows) same) refl
 
-pub fits_next : (i j : Indexed) (rows : List (BlockId × Entry)) (k : ℕ) (d : BlockId × Entry) → IsCounted i → j ≡ indexed i (get_or rows k d) → k < length rows
+pub fits_next : (i j : Indexed) (rows : List (BlockId × Entry)) (k : ℕ) (d : BlockId × Entry) → IsCounted i → j ≡ block_index_merge i (get_or rows k d) → k < length rows
     → Fits i.usage (drop k rows) → Fits j.usage (drop (k + 1) rows)
 fits_next i j rows k d counted next here fits =
     subst (λ (n : Indexed). Fits n.usage (drop (k + 1) rows)) (sym next)

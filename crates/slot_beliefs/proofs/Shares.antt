@@ -19,7 +19,7 @@ use Rattle.xfs_base.proofs.Members.{contains_first, contains_rest}
 use Rattle.xfs_base.specs.Modes.{is_own}
 use Rattle.slot_beliefs.specs.declared.job.Holder.{Holder}
 use Rattle.slot_beliefs.specs.declared.job.Wanted.{Wanted}
-use Rattle.slot_beliefs.specs.Beliefs.{holder_cmp, holder, others, without_block, owned_by, held_by, want_met, given_up, share, share_of, wanted_share}
+use Rattle.slot_beliefs.specs.Beliefs.{holder_cmp, holder, others, forget_block, beliefs_own, beliefs_hold, meet_want, give_way, share, share_of, wanted_share}
 
 pub holder_cmp_exact : CmpEqualImpliesEq holder_cmp
 holder_cmp_exact a b h =
@@ -55,19 +55,19 @@ never : (t : Bool) → nothing_held ≡ cond t nothing_held nothing_held
 never true = refl
 never false = refl
 
-pub belief-without_block : (q : Holder) (block : BlockId) (bs : List (Holder × Bool))
-    → belief (without_block bs block) q ≡ cond (same_block q.block block) None (belief bs q)
-belief-without_block q block [] = never (same_block q.block block)
-belief-without_block q block (e ∷ es) =
+pub belief-forget_block : (q : Holder) (block : BlockId) (bs : List (Holder × Bool))
+    → belief (forget_block bs block) q ≡ cond (same_block q.block block) None (belief bs q)
+belief-forget_block q block [] = never (same_block q.block block)
+belief-forget_block q block (e ∷ es) =
     let at = is_at (holder_cmp q) e.0 in
     let of = same_block q.block block in
-    let rest = belief-without_block q block es in
+    let rest = belief-forget_block q block es in
     let one : at ≡ true → of ≡ same_block e.0.block block = λ same. ap (λ (h : Holder). same_block h.block block) (tells_apart holder_cmp_exact q e.0 same) in
     elim (same_block e.0.block block) as
     (λ t. same_block e.0.block block ≡ t
-    → belief (cond (not t) (e ∷ without_block es block) (without_block es block)) q ≡ cond of None (cond at (Some e.1) (belief es q))) [
-      | true ↦ λ dropped. dropped_from at of (Some e.1) (belief es q) (belief (without_block es block) q) (λ same. one same ∙ dropped) rest
-      | false ↦ λ kept. kept_in at of (Some e.1) (belief es q) (belief (without_block es block) q) (λ same. one same ∙ kept) rest
+    → belief (cond (not t) (e ∷ forget_block es block) (forget_block es block)) q ≡ cond of None (cond at (Some e.1) (belief es q))) [
+      | true ↦ λ dropped. dropped_from at of (Some e.1) (belief es q) (belief (forget_block es block) q) (λ same. one same ∙ dropped) rest
+      | false ↦ λ kept. kept_in at of (Some e.1) (belief es q) (belief (forget_block es block) q) (λ same. one same ∙ kept) rest
     ] refl
 
 -- ---- once the asker has what it wants
@@ -89,16 +89,16 @@ least_put false o apart = omega arith
 pub apart_test : (q h : Holder) → (q ≡ h → ⊥) → eq_by_cmp holder_cmp q h ≡ true → ⊥
 apart_test q h apart same = apart (tells_apart holder_cmp_exact q h same)
 
-least-owned_by : (bs : List (Holder × Bool)) (h q : Holder) → (q ≡ h → ⊥) → share (belief (owned_by bs h) q) ≤ share (belief bs q)
-least-owned_by bs h q apart =
-    let fact : belief (owned_by bs h) q ≡ cond (eq_by_cmp holder_cmp q h) (Some true) (cond (same_block q.block h.block) None (belief bs q)) =
-    lookup-insert_entry holder_cmp_total q h true (without_block bs h.block)
-    ∙ ap (cond (eq_by_cmp holder_cmp q h) (Some true)) (belief-without_block q h.block bs) in
+least-beliefs_own : (bs : List (Holder × Bool)) (h q : Holder) → (q ≡ h → ⊥) → share (belief (beliefs_own bs h) q) ≤ share (belief bs q)
+least-beliefs_own bs h q apart =
+    let fact : belief (beliefs_own bs h) q ≡ cond (eq_by_cmp holder_cmp q h) (Some true) (cond (same_block q.block h.block) None (belief bs q)) =
+    lookup-insert_entry holder_cmp_total q h true (forget_block bs h.block)
+    ∙ ap (cond (eq_by_cmp holder_cmp q h) (Some true)) (belief-forget_block q h.block bs) in
     subst (λ o. share o ≤ share (belief bs q)) (sym fact)
     (least_cond (eq_by_cmp holder_cmp q h) (same_block q.block h.block) (belief bs q) (apart_test q h apart))
 
-least-held_by : (bs : List (Holder × Bool)) (h q : Holder) → (q ≡ h → ⊥) → share (belief (held_by bs h) q) ≤ share (belief bs q)
-least-held_by bs h q apart =
+least-beliefs_hold : (bs : List (Holder × Bool)) (h q : Holder) → (q ≡ h → ⊥) → share (belief (beliefs_hold bs h) q) ≤ share (belief bs q)
+least-beliefs_hold bs h q apart =
     elim (is_some (belief bs h)) as (λ t. share (belief (cond t bs (insert_entry holder_cmp bs h false)) q) ≤ share (belief bs q)) [
       | true ↦ omega arith
       | false ↦ subst (λ o. share o ≤ share (belief bs q)) (sym (lookup-insert_entry holder_cmp_total q h false bs))
@@ -107,14 +107,14 @@ least-held_by bs h q apart =
 
 -- nobody but the asker has more than before
 pub least : (bs : List (Holder × Bool)) (want : Wanted) (q : Holder) → (q ≡ holder want.block want.client → ⊥)
-    → share (belief (want_met bs want) q) ≤ share (belief bs q)
+    → share (belief (meet_want bs want) q) ≤ share (belief bs q)
 least bs want q apart =
     let h = holder want.block want.client in
-    elim (is_own want.mode) as (λ t. share (belief (cond t (owned_by bs h) (held_by bs h)) q) ≤ share (belief bs q))
-    [ true ↦ least-owned_by bs h q apart | false ↦ least-held_by bs h q apart ]
+    elim (is_own want.mode) as (λ t. share (belief (cond t (beliefs_own bs h) (beliefs_hold bs h)) q) ≤ share (belief bs q))
+    [ true ↦ least-beliefs_own bs h q apart | false ↦ least-beliefs_hold bs h q apart ]
 
-asker-held_by : (bs : List (Holder × Bool)) (h : Holder) → (share (belief (held_by bs h) h) ≤ 1) ⊎ (share (belief (held_by bs h) h) ≤ share (belief bs h))
-asker-held_by bs h =
+asker-beliefs_hold : (bs : List (Holder × Bool)) (h : Holder) → (share (belief (beliefs_hold bs h) h) ≤ 1) ⊎ (share (belief (beliefs_hold bs h) h) ≤ share (belief bs h))
+asker-beliefs_hold bs h =
     elim (is_some (belief bs h)) as
     (λ t. (share (belief (cond t bs (insert_entry holder_cmp bs h false)) h) ≤ 1)
     ⊎ (share (belief (cond t bs (insert_entry holder_cmp bs h false)) h) ≤ share (belief bs h))) [
@@ -128,14 +128,14 @@ asker-held_by bs h =
 -- the asker has no more than it wanted, or than it had
 pub asker : (bs : List (Holder × Bool)) (want : Wanted) → let h =
     holder want.block want.client in
-    (share (belief (want_met bs want) h) ≤ wanted_share want.mode) ⊎ (share (belief (want_met bs want) h) ≤ share (belief bs h))
+    (share (belief (meet_want bs want) h) ≤ wanted_share want.mode) ⊎ (share (belief (meet_want bs want) h) ≤ share (belief bs h))
 asker bs want =
     let h = holder want.block want.client in
     elim (is_own want.mode) as
-    (λ t. (share (belief (cond t (owned_by bs h) (held_by bs h)) h) ≤ cond t 2 1)
-    ⊎ (share (belief (cond t (owned_by bs h) (held_by bs h)) h) ≤ share (belief bs h))) [
-      | true ↦ inl (share_at_most (belief (owned_by bs h) h))
-      | false ↦ asker-held_by bs h
+    (λ t. (share (belief (cond t (beliefs_own bs h) (beliefs_hold bs h)) h) ≤ cond t 2 1)
+    ⊎ (share (belief (cond t (beliefs_own bs h) (beliefs_hold bs h)) h) ≤ share (belief bs h))) [
+      | true ↦ inl (share_at_most (belief (beliefs_own bs h) h))
+      | false ↦ asker-beliefs_hold bs h
     ]
 
 -- ---- once a client gave a block up
@@ -167,7 +167,7 @@ forgotten bs h q sorted = lookup-remove_entry holder_laws (is_at (holder_cmp h))
 
 -- nobody has more than before
 pub less : (bs : List (Holder × Bool)) (h q : Holder) (keep : Bool) → IsStrictlySortedBy holder_cmp (keys_of bs)
-    → share (belief (given_up bs h keep) q) ≤ share (belief bs q)
+    → share (belief (give_way bs h keep) q) ≤ share (belief bs q)
 less bs h q true sorted =
     elim (is_some (belief bs h)) as
     (λ t. is_some (belief bs h) ≡ t → share (belief (cond t (set_value (is_at (holder_cmp h)) bs false) bs) q) ≤ share (belief bs q)) [
@@ -179,9 +179,9 @@ less bs h q false sorted = subst (λ o. share o ≤ share (belief bs q)) (sym (f
 
 -- the giver has at most what it may keep
 pub kept : (bs : List (Holder × Bool)) (h : Holder) (mode : Mode) → IsStrictlySortedBy holder_cmp (keys_of bs)
-    → share (belief (given_up bs h (not (is_own mode))) h) + wanted_share mode ≤ 2
+    → share (belief (give_way bs h (not (is_own mode))) h) + wanted_share mode ≤ 2
 kept bs h mode sorted =
-    elim (is_own mode) as (λ t. share (belief (given_up bs h (not t)) h) + cond t 2 1 ≤ 2) [
+    elim (is_own mode) as (λ t. share (belief (give_way bs h (not t)) h) + cond t 2 1 ≤ 2) [
       | true ↦ let gone : share (belief (remove_entry (is_at (holder_cmp h)) bs) h) ≡ 0 =
           ap share (forgotten bs h h sorted ∙ ap (λ t. cond t None (belief bs h)) (holder_laws.refl h)) in omega arith
       | false ↦ elim (is_some (belief bs h)) as

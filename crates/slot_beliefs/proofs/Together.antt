@@ -17,7 +17,7 @@ use Rattle.xfs_base.specs.declared.block.BlockId.{BlockId}
 use Rattle.xfs_base.specs.Blocks.{block_cmp, same_block}
 use Rattle.xfs_base.proofs.BlockOrder.{block_cmp_total, block_cmp_exact, same_block_exact, same_block_itself}
 use Rattle.slot_beliefs.specs.declared.job.Holder.{Holder}
-use Rattle.slot_beliefs.specs.Beliefs.{holder_cmp, holder, others, without_block}
+use Rattle.slot_beliefs.specs.Beliefs.{holder_cmp, holder, others, forget_block}
 use Rattle.slot_beliefs.proofs.Shares.{holder_cmp_exact}
 
 -- whether a belief is not before all beliefs about a block
@@ -93,9 +93,9 @@ none_of block (e ∷ es) sorted starts =
       | false ↦ λ lt rest. (before_all block e.0 (reached _ false lt), none_of block es sorted.1 rest)
     ] refl starts
 
-pub without_none : (block : BlockId) (es : List (Holder × Bool)) → NoneOf block es → without_block es block ≡ es
+pub without_none : (block : BlockId) (es : List (Holder × Bool)) → NoneOf block es → forget_block es block ≡ es
 without_none block [] h = refl
-without_none block (e ∷ es) h = ap (λ t. cond (not t) (e ∷ without_block es block) (without_block es block)) h.0 ∙ ap (λ r. e ∷ r) (without_none block es h.1)
+without_none block (e ∷ es) h = ap (λ t. cond (not t) (e ∷ forget_block es block) (forget_block es block)) h.0 ∙ ap (λ r. e ∷ r) (without_none block es h.1)
 
 others_none : (block : BlockId) (client : ℕ) (owners : Bool) (es : List (Holder × Bool)) → NoneOf block es → others es block client owners ≡ []
 others_none block client owners [] h = refl
@@ -159,13 +159,13 @@ listed_all clients (e ∷ es) block client owners past =
 
 -- a belief about a block that goes is no belief about another
 pub without_removed : (h : Holder) (block : BlockId) (es : List (Holder × Bool)) → same_block h.block block ≡ true
-    → without_block (remove_entry (is_at (holder_cmp h)) es) block ≡ without_block es block
+    → forget_block (remove_entry (is_at (holder_cmp h)) es) block ≡ forget_block es block
 without_removed h block [] same = refl
 without_removed h block (e ∷ es) same =
     elim (is_at (holder_cmp h) e.0) as
-    (λ t. is_at (holder_cmp h) e.0 ≡ t → without_block (cond t es (e ∷ remove_entry (is_at (holder_cmp h)) es)) block ≡ without_block (e ∷ es) block) [
+    (λ t. is_at (holder_cmp h) e.0 ≡ t → forget_block (cond t es (e ∷ remove_entry (is_at (holder_cmp h)) es)) block ≡ forget_block (e ∷ es) block) [
       | true ↦ λ at.
           let here : same_block e.0.block block ≡ true = ap (λ k. same_block k.block block) (sym (tells_apart holder_cmp_exact h e.0 at)) ∙ same in
-          sym (ap (λ t. cond (not t) (e ∷ without_block es block) (without_block es block)) here)
+          sym (ap (λ t. cond (not t) (e ∷ forget_block es block) (forget_block es block)) here)
       | false ↦ λ _. ap (λ r. cond (not (same_block e.0.block block)) (e ∷ r) r) (without_removed h block es same)
     ] refl

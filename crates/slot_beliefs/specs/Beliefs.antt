@@ -28,41 +28,41 @@ others (b ∷ bs) block client owners =
     else others bs block client owners
 
 -- the beliefs of other blocks
-abbrev pub without_block : List (Holder × Bool) → BlockId → List (Holder × Bool)
-without_block beliefs block = filter (λ b. not (same_block b.0.block block)) beliefs
+abbrev pub forget_block : List (Holder × Bool) → BlockId → List (Holder × Bool)
+forget_block beliefs block = filter (λ b. not (same_block b.0.block block)) beliefs
 
 -- a client that is believed to hold this block
 abbrev pub IsBelieved : List (Holder × Bool) → BlockId → Holder → Type 0
 IsBelieved beliefs block h = IsTrue (same_block h.block block) × IsTrue (is_some (lookup (is_at (holder_cmp h)) beliefs))
 
 -- the one belief about this block: that the client owns it
-abbrev pub owned_by : List (Holder × Bool) → Holder → List (Holder × Bool)
-owned_by beliefs h = insert_entry holder_cmp (without_block beliefs h.block) h true
+abbrev pub beliefs_own : List (Holder × Bool) → Holder → List (Holder × Bool)
+beliefs_own beliefs h = insert_entry holder_cmp (forget_block beliefs h.block) h true
 
 -- the client is believed to hold the block, unless it is believed to already
-abbrev pub held_by : List (Holder × Bool) → Holder → List (Holder × Bool)
-held_by beliefs h = if is_some (lookup (is_at (holder_cmp h)) beliefs) then beliefs else insert_entry holder_cmp beliefs h false
+abbrev pub beliefs_hold : List (Holder × Bool) → Holder → List (Holder × Bool)
+beliefs_hold beliefs h = if is_some (lookup (is_at (holder_cmp h)) beliefs) then beliefs else insert_entry holder_cmp beliefs h false
 
 -- the beliefs once the asker has what it wants
-abbrev pub want_met : List (Holder × Bool) → Wanted → List (Holder × Bool)
-want_met beliefs want = if is_own want.mode then owned_by beliefs (holder want.block want.client) else held_by beliefs (holder want.block want.client)
+abbrev pub meet_want : List (Holder × Bool) → Wanted → List (Holder × Bool)
+meet_want beliefs want = if is_own want.mode then beliefs_own beliefs (holder want.block want.client) else beliefs_hold beliefs (holder want.block want.client)
 
 -- the client is believed to hold no more than a copy
-abbrev pub no_owner : List (Holder × Bool) → Holder → List (Holder × Bool)
-no_owner beliefs h = if is_some (lookup (is_at (holder_cmp h)) beliefs) then set_value (is_at (holder_cmp h)) beliefs false else beliefs
+abbrev pub disown : List (Holder × Bool) → Holder → List (Holder × Bool)
+disown beliefs h = if is_some (lookup (is_at (holder_cmp h)) beliefs) then set_value (is_at (holder_cmp h)) beliefs false else beliefs
 
 -- the beliefs once a client gave a block up, with leave to keep a copy or without
-abbrev pub given_up : List (Holder × Bool) → Holder → Bool → List (Holder × Bool)
-given_up beliefs h keep = if keep then no_owner beliefs h else remove_entry (is_at (holder_cmp h)) beliefs
+abbrev pub give_way : List (Holder × Bool) → Holder → Bool → List (Holder × Bool)
+give_way beliefs h keep = if keep then disown beliefs h else remove_entry (is_at (holder_cmp h)) beliefs
 
 -- the beliefs with one more; that a client holds nothing is no belief
-unfoldable pub believed : List (Holder × Bool) → BlockId × ℕ × Mode → List (Holder × Bool)
-believed beliefs b = if is_nothing b.2 then beliefs else insert_entry holder_cmp beliefs (holder b.0 b.1) (is_own b.2)
+unfoldable pub believe : List (Holder × Bool) → BlockId × ℕ × Mode → List (Holder × Bool)
+believe beliefs b = if is_nothing b.2 then beliefs else insert_entry holder_cmp beliefs (holder b.0 b.1) (is_own b.2)
 
 -- the beliefs that a list names: of two about one client and block the later
 abbrev pub all_believed : List (Holder × Bool) → List (BlockId × ℕ × Mode) → List (Holder × Bool)
 all_believed beliefs [] = beliefs
-all_believed beliefs (b ∷ bs) = all_believed (believed beliefs b) bs
+all_believed beliefs (b ∷ bs) = all_believed (believe beliefs b) bs
 
 -- what a client is believed to have of a block: 0 nothing, 1 a copy, 2 the block
 abbrev pub share : Option Bool → ℕ

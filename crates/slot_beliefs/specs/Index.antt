@@ -11,9 +11,9 @@ use Rattle.xfs_base.specs.declared.segment.SegName.{SegName}
 use Rattle.xfs_base.specs.Limits.{u32_end}
 use Rattle.delta_index.specs.Entries.{is_newer}
 use Rattle.delta_index.specs.Index.{entry_of, merged}
-use Rattle.usage_table.specs.Counts.{IsTable, count_of, blocks_at, after_shift}
+use Rattle.usage_table.specs.Counts.{IsTable, count_of, blocks_at, usage_shift}
 use Rattle.index_pages.specs.declared.layout.Page.{Page}
-use Rattle.index_pages.specs.Pages.{PagesState, put_newer, cleaned}
+use Rattle.index_pages.specs.Pages.{PagesState, pages_merge, pages_clean}
 
 pub record Indexed : Type 0 where
   -- what the index holds of each block, by block
@@ -26,16 +26,16 @@ pub record Indexed : Type 0 where
   pub pages : List Page
 
 -- the index of nothing
-abbrev pub nothing_indexed : Indexed
-nothing_indexed = record { rows = []; usage = []; numbers = []; pages = [] }
+abbrev pub block_index_new : Indexed
+block_index_new = record { rows = []; usage = []; numbers = []; pages = [] }
 
 -- the pages of an index
 abbrev pub pages_of : Indexed → PagesState
 pages_of i = record { rows = i.rows; numbers = i.numbers; pages = i.pages }
 
 -- from here on no page of the index has changed
-abbrev pub cleaned_index : Indexed → Indexed
-cleaned_index i = record i { pages = (cleaned (pages_of i)).pages }
+abbrev pub block_index_clean : Indexed → Indexed
+block_index_clean i = record i { pages = (pages_clean (pages_of i)).pages }
 
 -- the segment of a place
 abbrev pub segment_at : Option Place → Option SegName
@@ -53,21 +53,21 @@ live_in seg (m ∷ ms) = blocks_at (segment_of m.1) seg + live_in seg ms
 
 -- the counts once a block that lay in one segment lies in the other, where its entry was taken
 abbrev pub moved : Bool → List (SegName × ℕ) → Option SegName → Option SegName → List (SegName × ℕ)
-moved taken usage from to = if taken then after_shift usage from to else usage
+moved taken usage from to = if taken then usage_shift usage from to else usage
 
 -- one entry is merged, the counts follow, and the page of an entry that is taken has changed
-unfoldable pub indexed : Indexed → BlockId × Entry → Indexed
-indexed i m = record {
+unfoldable pub block_index_merge : Indexed → BlockId × Entry → Indexed
+block_index_merge i m = record {
   rows = merged i.rows m.0 m.1;
   usage = moved (is_newer m.1 (entry_of i.rows m.0)) i.usage (segment_of (entry_of i.rows m.0)) (segment_of m.1);
-  numbers = (put_newer (pages_of i) m.0 m.1).numbers;
-  pages = (put_newer (pages_of i) m.0 m.1).pages;
+  numbers = (pages_merge (pages_of i) m.0 m.1).numbers;
+  pages = (pages_merge (pages_of i) m.0 m.1).pages;
 }
 
 -- all of these are merged, in their order
-abbrev pub indexed_all : Indexed → List (BlockId × Entry) → Indexed
-indexed_all i [] = i
-indexed_all i (m ∷ ms) = indexed_all (indexed i m) ms
+abbrev pub merge_all : Indexed → List (BlockId × Entry) → Indexed
+merge_all i [] = i
+merge_all i (m ∷ ms) = merge_all (block_index_merge i m) ms
 
 -- whether a count can rise by so many
 abbrev pub can_rise : ℕ → List (SegName × ℕ) → Option SegName → Bool

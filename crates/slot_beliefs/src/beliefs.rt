@@ -1,7 +1,7 @@
 //! Who is believed to hold each block.
 ghost use Rattle.std.specs.Prelude.{◌≡◌, ◌==◌, ◌&&◌, ◌||◌, ◌∷◌, ◌++◌, not, OnOk, IfOk, IfSome, IfNone, [], if◌then◌else◌};
 ghost use Rattle.xfs_base.specs.Modes.{is_own};
-ghost use Rattle.slot_beliefs.specs.Beliefs.{holder, IsBelieved, others, without_block, owned_by, held_by, want_met, no_owner, given_up, believed, all_believed};
+ghost use Rattle.slot_beliefs.specs.Beliefs.{holder, IsBelieved, others, forget_block, beliefs_own, beliefs_hold, meet_want, disown, give_way, believe, all_believed};
 
 use crate::job::{Holder, Wanted};
 use std::alloc::Global;
@@ -74,7 +74,7 @@ fn is_other(holder: Holder, owns: bool, client: u8, owners: bool) -> bool
 // The first client that is believed to hold a block.
 fn first_believed(beliefs: &BTreeMap<Holder, bool>, block: BlockId) -> Option<Holder>
     ensures found { IfSome result (λ holder. IsBelieved beliefs.now.entries block holder) }
-    ensures none { IfNone result (without_block beliefs.now.entries block ≡ beliefs.now.entries) }
+    ensures none { IfNone result (forget_block beliefs.now.entries block ≡ beliefs.now.entries) }
 {
     match beliefs.range(first_holder(block)..).next() {
         Some((holder, _)) => {
@@ -88,7 +88,7 @@ fn first_believed(beliefs: &BTreeMap<Holder, bool>, block: BlockId) -> Option<Ho
 }
 
 fn forget_block(beliefs: &mut BTreeMap<Holder, bool>, block: BlockId)
-    ensures { beliefs.new.entries ≡ without_block beliefs.old.entries block }
+    ensures { beliefs.new.entries ≡ forget_block beliefs.old.entries block }
 {
     while let Some(holder) = first_believed(beliefs, block) {
         beliefs.remove(&holder);
@@ -96,7 +96,7 @@ fn forget_block(beliefs: &mut BTreeMap<Holder, bool>, block: BlockId)
 }
 
 fn own(beliefs: &mut BTreeMap<Holder, bool>, holder: Holder) -> Mem<()>
-    ensures { OnOk result (beliefs.new.entries ≡ owned_by beliefs.old.entries holder) }
+    ensures { OnOk result (beliefs.new.entries ≡ beliefs_own beliefs.old.entries holder) }
 {
     forget_block(beliefs, holder.block);
     beliefs.insert(holder, true)?;
@@ -104,7 +104,7 @@ fn own(beliefs: &mut BTreeMap<Holder, bool>, holder: Holder) -> Mem<()>
 }
 
 fn hold(beliefs: &mut BTreeMap<Holder, bool>, holder: Holder) -> Mem<()>
-    ensures { OnOk result (beliefs.new.entries ≡ held_by beliefs.old.entries holder) }
+    ensures { OnOk result (beliefs.new.entries ≡ beliefs_hold beliefs.old.entries holder) }
 {
     if !beliefs.contains_key(&holder) {
         beliefs.insert(holder, false)?;
@@ -114,7 +114,7 @@ fn hold(beliefs: &mut BTreeMap<Holder, bool>, holder: Holder) -> Mem<()>
 
 /// Believes that the asker has what it wants.
 pub fn meet_want(beliefs: &mut BTreeMap<Holder, bool>, want: Wanted) -> Mem<()>
-    ensures { OnOk result (beliefs.new.entries ≡ want_met beliefs.old.entries want) }
+    ensures { OnOk result (beliefs.new.entries ≡ meet_want beliefs.old.entries want) }
 {
     let holder = Holder {
         block: want.block,
@@ -128,7 +128,7 @@ pub fn meet_want(beliefs: &mut BTreeMap<Holder, bool>, want: Wanted) -> Mem<()>
 }
 
 fn disown(beliefs: &mut BTreeMap<Holder, bool>, holder: Holder)
-    ensures { beliefs.new.entries ≡ no_owner beliefs.old.entries holder }
+    ensures { beliefs.new.entries ≡ disown beliefs.old.entries holder }
 {
     if let Some(owns) = beliefs.get_mut(&holder) {
         *owns = false;
@@ -137,7 +137,7 @@ fn disown(beliefs: &mut BTreeMap<Holder, bool>, holder: Holder)
 
 /// Believes that a client gave a block up to one that wants it: it may keep a copy, unless the other writes.
 pub fn give_way(beliefs: &mut BTreeMap<Holder, bool>, holder: Holder, wanted: Mode)
-    ensures { beliefs.new.entries ≡ given_up beliefs.old.entries holder (not (is_own wanted)) }
+    ensures { beliefs.new.entries ≡ give_way beliefs.old.entries holder (not (is_own wanted)) }
 {
     if wanted.is_own() {
         beliefs.remove(&holder);
@@ -146,9 +146,9 @@ pub fn give_way(beliefs: &mut BTreeMap<Holder, bool>, holder: Holder, wanted: Mo
     }
 }
 
-#[tactic(auto, unfolding(crate::specs::Beliefs::believed))]
+#[tactic(auto, unfolding(crate::specs::Beliefs::believe))]
 fn believe(beliefs: &mut BTreeMap<Holder, bool>, belief: (BlockId, u8, Mode)) -> Mem<()>
-    ensures { OnOk result (beliefs.new.entries ≡ believed beliefs.old.entries belief) }
+    ensures { OnOk result (beliefs.new.entries ≡ believe beliefs.old.entries belief) }
 {
     let (block, client, mode) = belief;
     if mode.is_nothing() {

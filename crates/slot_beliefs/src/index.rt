@@ -5,7 +5,7 @@ ghost use Rattle.std.specs.Option.{ForSome};
 ghost use Rattle.xfs_base.specs.Limits.{u32_end};
 ghost use Rattle.usage_table.specs.Counts.{count_of};
 ghost use Rattle.delta_index.specs.Index.{entry_of};
-ghost use Rattle.slot_beliefs.specs.Index.{Indexed, nothing_indexed, pages_of, cleaned_index, segment_of, indexed, indexed_all, can_rise, has_room, Fits, IsCounted};
+ghost use Rattle.slot_beliefs.specs.Index.{Indexed, block_index_new, pages_of, block_index_clean, segment_of, block_index_merge, merge_all, can_rise, has_room, Fits, IsCounted};
 
 use index_pages::Pages;
 use std::alloc::Global;
@@ -63,7 +63,7 @@ fn can_rise(more: usize, usage: &Usage, seg: Option<SegName>) -> bool
 impl BlockIndex {
     /// An index of nothing. It keeps the allocator and takes no memory.
     pub fn new(alloc: Global) -> BlockIndex
-        ensures { result ≡ nothing_indexed }
+        ensures { result ≡ block_index_new }
     {
         BlockIndex {
             pages: Pages::new(alloc),
@@ -87,7 +87,7 @@ impl BlockIndex {
 
     /// From here on no page of the index has changed.
     pub fn clean(&mut self)
-        ensures { self.new ≡ cleaned_index self.old }
+        ensures { self.new ≡ block_index_clean self.old }
     {
         self.pages.clean();
     }
@@ -113,10 +113,10 @@ impl BlockIndex {
     }
 
     // One entry is merged, and the counts follow. Where memory is wanting in between, both are given up.
-    #[tactic(auto, unfolding(crate::specs::Index::indexed))]
+    #[tactic(auto, unfolding(crate::specs::Index::block_index_merge))]
     fn merge(&mut self, alloc: Global, row: (BlockId, Entry)) -> Mem<()>
         requires { ForSome (segment_of row.1) (λ seg. count_of self.old.usage seg < u32_end) }
-        ensures ok { OnOk result (self.new ≡ indexed self.old row) }
+        ensures ok { OnOk result (self.new ≡ block_index_merge self.old row) }
         ensures counted { OnOk result (IsCounted self.old × IsCounted self.new) }
     {
         let (block, entry) = row;
@@ -138,7 +138,7 @@ impl BlockIndex {
     /// memory. After want of memory nothing is said of the index.
     pub fn merge_all(&mut self, alloc: Global, rows: &[(BlockId, Entry)]) -> Mem<()>
         requires { Fits self.old.usage rows.now }
-        ensures { OnOk result (self.new ≡ indexed_all self.old rows.now) }
+        ensures { OnOk result (self.new ≡ merge_all self.old rows.now) }
     {
         for row in rows {
             self.merge(alloc, *row)?;

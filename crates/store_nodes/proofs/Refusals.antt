@@ -7,11 +7,11 @@ use Rattle.xfs_base.specs.Segments.{pass_cmp}
 use Rattle.xfs_base.specs.Stamps.{is_greater}
 use Rattle.fragment_store.specs.declared.store_error.StoreError.{StoreError}
 use Rattle.fragment_store.specs.declared.store_error.StoreError.TheVariants.{WrongGeneration, Marked, Fenced, Memory}
-use Rattle.fragment_store.specs.Calls.{store_refused}
+use Rattle.fragment_store.specs.Calls.{refusal}
 use Rattle.fragment_store.specs.ShelfState.{ShelfState, is_marked, fence_of}
 
 -- a shelf never refuses a fragment for want of memory
-pub not_memory : (s : ShelfState) (name : SegName) (generation : ℕ) → store_refused s name generation ≡ Some Memory → ⊥
+pub not_memory : (s : ShelfState) (name : SegName) (generation : ℕ) → refusal s name generation ≡ Some Memory → ⊥
 not_memory s name generation =
     by_tests (not (nat_eq generation s.generation)) (is_marked s.marks name) (is_greater (pass_cmp (fence_of s.fences name.log) name.pass)) s.generation
     (fence_of s.fences name.log)

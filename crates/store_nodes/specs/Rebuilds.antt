@@ -11,7 +11,7 @@ use Rattle.xfs_base.specs.Steps.{Stepped, still, steps}
 use Rattle.node_base.specs.declared.effects.Effect.{Effect}
 use Rattle.node_base.specs.declared.effects.Effect.TheVariants.{Send}
 use Rattle.node_base.specs.Asking.{number_for, asked_as, drawn_for, own_of}
-use Rattle.node_base.specs.Beginning.{answered, answers_unanswered}
+use Rattle.node_base.specs.Beginning.{items_answer, answers_unanswered}
 use Rattle.fragment_store.specs.Calls.{on_fill, barred}
 use Rattle.group_rebuild.specs.Transition.{transition}
 use Rattle.group_rebuild.specs.declared.input.In.{In}
@@ -28,14 +28,14 @@ Done = Stepped Node Effect
 
 -- ---- what the rebuild says
 
-abbrev pub lists_asked : Option Rebuilding → ℕ → List Effect
-lists_asked None server = []
-lists_asked (Some r) server = Send (Server server) (body.List (record { ask = r.lists })) ∷ []
+abbrev pub ask_list : Option Rebuilding → ℕ → List Effect
+ask_list None server = []
+ask_list (Some r) server = Send (Server server) (body.List (record { ask = r.lists })) ∷ []
 
 -- a round asks under one question of the server's
-abbrev pub fetch_asked : Node → Option Rebuilding → ℕ → SegName → ℕ → Done
-fetch_asked node None server name own = still node
-fetch_asked node (Some r) server name own =
+abbrev pub ask_fragment : Node → Option Rebuilding → ℕ → SegName → ℕ → Done
+ask_fragment node None server name own = still node
+ask_fragment node (Some r) server name own =
     record {
       state = record node {
         questions = drawn_for r.fetches node.questions own;
@@ -45,11 +45,11 @@ fetch_asked node (Some r) server name own =
     }
 
 unfoldable pub says : Node → Out → Done
-says node (out.List server) = record { state = node; outs = lists_asked node.rebuilding server }
-says node (out.Fetch server name own) = fetch_asked node node.rebuilding server name own
+says node (out.List server) = record { state = node; outs = ask_list node.rebuilding server }
+says node (out.Fetch server name own) = ask_fragment node node.rebuilding server name own
 says node (out.Fill fragment) = still (record node { shelf = on_fill node.shelf fragment })
 says node (out.Finished filled gone) =
-    record { state = record node { rebuilding = None; items = answered node.items }; outs = answers_unanswered node.items.unanswered (Rebuilt filled gone) }
+    record { state = record node { rebuilding = None; items = items_answer node.items }; outs = answers_unanswered node.items.unanswered (Rebuilt filled gone) }
 
 abbrev pub goes_on : Node → Option Rebuilding → In → Done
 goes_on node None given = still node

@@ -27,19 +27,19 @@ use Rattle.xfs_base.specs.Segments.{pass_cmp}
 use Rattle.xfs_base.specs.Steps.{still, saying}
 use Rattle.node_base.specs.declared.effects.Effect.{Effect}
 use Rattle.node_base.specs.declared.effects.Effect.TheVariants.{Send, Answer}
-use Rattle.node_base.specs.Asking.{next_ask, drawn}
-use Rattle.node_base.specs.Beginning.{started as first_items, next_item, begun, work_at, waiting, answered, answers_unanswered}
+use Rattle.node_base.specs.Asking.{next_ask, draw}
+use Rattle.node_base.specs.Beginning.{items_start as first_items, next_item, items_begin, work_at, items_wait, items_answer, answers_unanswered}
 use Rattle.node_base.specs.Effects.{packets_of, acts_of}
-use Rattle.node_base.specs.Known.{names_known}
-use Rattle.node_base.specs.Maps.{at_start, fits, is_older, taken}
+use Rattle.node_base.specs.Known.{names_known_groups}
+use Rattle.node_base.specs.Maps.{maps_start, fits, is_older, maps_take}
 use Rattle.node_base.specs.Nodes.{peers_of}
 use Rattle.node_base.specs.Room.{has_room}
 use Rattle.node_base.specs.Shape.{is_well_formed}
-use Rattle.fragment_store.specs.Calls.{store_refused, kept, on_list as listed_on, on_delete as without, on_fence as fenced_at, on_lose as lost}
+use Rattle.fragment_store.specs.Calls.{refusal, shelf_store, on_list as listed_on, on_delete as without, on_fence as fenced_at, on_lose as lost}
 use Rattle.fragment_store.specs.ShelfState.{ShelfState, new_shelf, held_at, fence_of}
 use Rattle.group_map.specs.GroupMapState.{GroupMapState}
-use Rattle.group_map.specs.Groups.{started as first_groups}
-use Rattle.group_rebuild.specs.RebuildState.{started}
+use Rattle.group_map.specs.Groups.{group_map_start as first_groups}
+use Rattle.group_rebuild.specs.RebuildState.{rebuild_start}
 use Rattle.group_rebuild.specs.declared.input.In.TheVariants as input
 use Rattle.store_nodes.specs.declared.server.Server.{Server as Node}
 use Rattle.store_nodes.specs.declared.server.Wish.{Wish}
@@ -53,7 +53,7 @@ server_start number setup items =
       number = number;
       peers = peers_of setup;
       items = first_items items;
-      maps = at_start (first_groups setup.servers setup.groups);
+      maps = maps_start (first_groups setup.servers setup.groups);
       questions = record { last = 0 };
       shelf = new_shelf;
       hello = None;
@@ -63,15 +63,15 @@ server_start number setup items =
 -- ---- fragments
 
 -- the shelf with this fragment, where nothing speaks against it
-abbrev pub shelf_with : ShelfState → Fragment → ℕ → ShelfState
-shelf_with s fragment generation = if is_some (store_refused s fragment.meta.name generation) then s else kept s fragment
+abbrev pub keeps : ShelfState → Fragment → ℕ → ShelfState
+keeps s fragment generation = if is_some (refusal s fragment.meta.name generation) then s else shelf_store s fragment
 
 -- one that is kept is told of; a refused one is not
 unfoldable pub on_store : Node → NodeId → Store → Done
 on_store node from store =
-    if is_some (store_refused node.shelf store.fragment.meta.name store.generation) then still node
+    if is_some (refusal node.shelf store.fragment.meta.name store.generation) then still node
     else record {
-      state = record node { shelf = kept node.shelf store.fragment };
+      state = record node { shelf = shelf_store node.shelf store.fragment };
       outs = Send from (body.Stored (record { name = store.fragment.meta.name; index = store.fragment.meta.index; generation = store.generation })) ∷ [];
     }
 
@@ -114,7 +114,7 @@ hello_of s ask = Send Registry (body.Hello (record { inc = s.generation; ask = a
 
 -- newer maps are taken, and the rebuild that is under way has their groups
 unfoldable pub takes_news : Node → News → Done
-takes_news node news = if is_older node.maps news then rebuilds (record node { maps = taken node.maps news }) (input.Maps news.groups) else still node
+takes_news node news = if is_older node.maps news then rebuilds (record node { maps = maps_take node.maps news }) (input.Maps news.groups) else still node
 
 abbrev pub on_news : Node → News → Done
 on_news node news = if fits node.maps news then takes_news node news else still node
@@ -128,7 +128,7 @@ on_welcome node welcome =
 
 -- a packet names a group that is not known: it is dropped, and the maps are asked for
 unfoldable pub asks_for_maps : Node → Done
-asks_for_maps node = record { state = record node { questions = drawn node.questions }; outs = hello_of node.shelf (next_ask node.questions) ∷ [] }
+asks_for_maps node = record { state = record node { questions = draw node.questions }; outs = hello_of node.shelf (next_ask node.questions) ∷ [] }
 
 -- ---- packets
 
@@ -147,7 +147,7 @@ hears node from (body.Missing missing) = on_missing node (server_in from) missin
 hears node from _ = still node
 
 abbrev pub hears_known : Node → NodeId → Body → Done
-hears_known node from said = if names_known node.maps said then hears node from said else asks_for_maps node
+hears_known node from said = if names_known_groups node.maps said then hears node from said else asks_for_maps node
 
 abbrev pub on_body : Node → NodeId → Body → Done
 on_body node from (body.MapNews news) = on_news node news
@@ -163,10 +163,10 @@ on_packet node packet = if is_well_formed node.peers packet then on_body node pa
 unfoldable pub on_lose : Node → ℕ → Done
 on_lose node number = record {
   state = record node {
-    items = answered node.items;
+    items = items_answer node.items;
     rebuilding = None;
     shelf = lost node.shelf;
-    questions = drawn node.questions;
+    questions = draw node.questions;
     hello = Some (next_ask node.questions);
   };
   outs = answers_unanswered node.items.unanswered answers.Cut ++ Answer number answers.Done ∷ hello_of (lost node.shelf) (next_ask node.questions) ∷ [];
@@ -177,9 +177,9 @@ begins_rebuild node number None = still node
 begins_rebuild node number (Some groups) =
     rebuilds
     (record node {
-      items = waiting node.items number;
-      questions = drawn node.questions;
-      rebuilding = Some (record { rebuild = started node.number groups; lists = next_ask node.questions; fetches = record { own = 0; ask = 0 } });
+      items = items_wait node.items number;
+      questions = draw node.questions;
+      rebuilding = Some (record { rebuild = rebuild_start node.number groups; lists = next_ask node.questions; fetches = record { own = 0; ask = 0 } });
     })
     input.Tick
 
@@ -207,7 +207,7 @@ at_item node (Some number) = on_wish node number (wish_of (work_at node.items nu
 
 -- the next item begins
 unfoldable pub on_begin : Node → Done
-on_begin node = at_item (record node { items = begun node.items }) (next_item node.items)
+on_begin node = at_item (record node { items = items_begin node.items }) (next_item node.items)
 
 -- ---- all events
 

@@ -1,7 +1,7 @@
 //! What a storage server does for a rebuild of its shelf that is under way.
 ghost use Rattle.std.specs.Prelude.{◌≡◌, ◌++◌, OnOk, Some};
 ghost use Rattle.xfs_base.specs.Steps.{steps};
-ghost use Rattle.store_nodes.specs.Rebuilds.{says, lists_asked, fetch_asked, rebuilds, goes_on, awaits_list, fetch_of, on_listed, on_found, on_missing};
+ghost use Rattle.store_nodes.specs.Rebuilds.{says, ask_list, ask_fragment, rebuilds, goes_on, awaits_list, fetch_of, on_listed, on_found, on_missing};
 
 use crate::Server;
 use crate::server::Rebuilding;
@@ -81,7 +81,7 @@ impl Server {
     }
 
     fn ask_list(&self, effects: &mut Effects, server: u8) -> Mem<()>
-        ensures { OnOk result (effects.new ≡ effects.old ++ lists_asked self.now.rebuilding server) }
+        ensures { OnOk result (effects.new ≡ effects.old ++ ask_list self.now.rebuilding server) }
     {
         match &self.rebuilding {
             None => Ok(()),
@@ -99,8 +99,8 @@ impl Server {
         name: SegName,
         own: u32,
     ) -> Mem<()>
-        ensures state { OnOk result (self.new ≡ (fetch_asked self.old self.old.rebuilding server name own).state) }
-        ensures effects { OnOk result (effects.new ≡ effects.old ++ (fetch_asked self.old self.old.rebuilding server name own).outs) }
+        ensures state { OnOk result (self.new ≡ (ask_fragment self.old self.old.rebuilding server name own).state) }
+        ensures effects { OnOk result (effects.new ≡ effects.old ++ (ask_fragment self.old self.old.rebuilding server name own).outs) }
     {
         match &mut self.rebuilding {
             None => Ok(()),

@@ -1,7 +1,7 @@
 //! What a storage server does with fragments.
 ghost use Rattle.std.specs.Prelude.{◌≡◌, ◌++◌, IfOk, OnOk, is_some, not};
-ghost use Rattle.fragment_store.specs.Calls.{store_refused, on_list as listed_on};
-ghost use Rattle.store_nodes.specs.ServerEvents.{shelf_with, on_store, on_fetch, of_log, on_fence, on_list, on_delete};
+ghost use Rattle.fragment_store.specs.Calls.{refusal, on_list as listed_on};
+ghost use Rattle.store_nodes.specs.ServerEvents.{keeps, on_store, on_fetch, of_log, on_fence, on_list, on_delete};
 
 use crate::Server;
 use fragment_store::{Shelf, StoreError};
@@ -145,8 +145,8 @@ impl Server {
 
 // Keeps a fragment, and says whether it does: it does where nothing speaks against it.
 fn keeps(alloc: Global, shelf: &mut Shelf, fragment: Fragment, generation: u32) -> Mem<bool>
-    ensures shelf { OnOk result (shelf.new ≡ shelf_with shelf.old fragment generation) }
-    ensures kept { IfOk result (λ kept. kept ≡ not (is_some (store_refused shelf.old fragment.meta.name generation))) }
+    ensures shelf { OnOk result (shelf.new ≡ keeps shelf.old fragment generation) }
+    ensures kept { IfOk result (λ kept. kept ≡ not (is_some (refusal shelf.old fragment.meta.name generation))) }
 {
     match shelf.store(alloc, fragment, generation) {
         Ok(()) => Ok(true),

@@ -28,16 +28,16 @@ use Rattle.stripe_cleaner.specs.declared.output.Out.TheVariants as out
 use Rattle.stripe_cleaner.specs.declared.phase.Phase.{Phase}
 use Rattle.stripe_cleaner.specs.declared.phase.Phase.TheVariants.{Greeting, Listing, Counting, Reading, Checking, Deleting, Over}
 use Rattle.stripe_cleaner.specs.Candidates.{is_cleaned, is_candidate, least_horizon, candidates_with_one, candidates_with}
-use Rattle.stripe_cleaner.specs.Checks.{all_dead, any_asked, live_at, dead_at, moved_at, moves, questions, checks_from}
-use Rattle.stripe_cleaner.specs.CleaningState.{CleaningState, started}
+use Rattle.stripe_cleaner.specs.Checks.{all_dead, any_asked, live_at, dead_at, moved_at, moves, questions, checks_of}
+use Rattle.stripe_cleaner.specs.CleaningState.{CleaningState, cleaning_start}
 use Rattle.stripe_cleaner.specs.Counting.{CountingState, fullness_cmp, fullness_of, by_fullness_with_one, by_fullness, segment_at, chosen, has_usage, is_counted, awaited_slots, all_slots}
 use Rattle.stripe_cleaner.specs.Histories.{state_after, IsWelcomed, IsBelow, EmptiesBelow}
-use Rattle.stripe_cleaner.specs.Job.{Turn, next_of, next, servers_of, deleting, counted, left_to_delete, same_name, on_deleted, checking, on_read, looked_at, is_moving, on_moved}
+use Rattle.stripe_cleaner.specs.Job.{Turn, next_of, next, servers_of, job_delete, counted, job_go_on, same_name, on_deleted, job_check, on_read, job_look, is_moving, on_moved}
 use Rattle.stripe_cleaner.specs.JobState.{JobState}
-use Rattle.stripe_cleaner.specs.Listing.{ListingState, begun, is_among, without}
+use Rattle.stripe_cleaner.specs.Listing.{ListingState, listing_begin, is_among, without}
 use Rattle.stripe_cleaner.specs.Promises.{promised_with, is_above, is_promised}
 use Rattle.stripe_cleaner.specs.Transition as step
-use Rattle.stripe_cleaner.specs.Transition.{Done, turned, is_greeting, usage_asks, welcomed, on_welcome, forgotten, forgetting, on_promise, mapped, listed, heard, on_list, usage_with, on_counts, listed_in, counted_in, read_in, answered_in, moved_in, deleted_in, awaits, on_usage, is_heard, may_move, on_live, on_dead, transition}
+use Rattle.stripe_cleaner.specs.Transition.{Done, turned, is_greeting, usage_asks, welcomed, on_welcome, forgotten, forgetting, on_promise, mapped, listing_go_on, listing_hear, on_list, counting_hear, on_counts, listed_in, counted_in, read_in, answered_in, moved_in, deleted_in, phase_asking, on_usage, cleaning_hears, may_move, on_live, on_dead, transition}
 use Rattle.stripe_cleaner.proofs.Histories.{split_with, always}
 use Rattle.stripe_cleaner.proofs.Turns.{says_deletes, says_lists, says_usage_asks, says_questions}
 
@@ -142,30 +142,30 @@ module _ (start : CleaningState) where
     next_is_below [] j all = (tt, (tt, tt))
     next_is_below (s ∷ left) j all = ((all.0, all.1), (all.0, tt))
 
-    deleting_is_below : (j : JobState) (segment : SegRef) → AllBelow j segment → Fine (deleting j segment)
+    deleting_is_below : (j : JobState) (segment : SegRef) → AllBelow j segment → Fine (job_delete j segment)
     deleting_is_below j segment b = (b, says_deletes (EmptiesBelow start history) segment.name (λ server. b.0) (servers_of j.groups segment))
 
     deleted_is_below : (server : ℕ) (name : SegName) (j : JobState) (segment : SegRef) (servers : List ℕ) → AllBelow j segment
         → Fine (on_deleted server name j segment servers)
     deleted_is_below server name j segment servers b =
-        by_test Fine (same_name name segment.name && is_among servers server) (left_to_delete j segment (without servers server))
+        by_test Fine (same_name name segment.name && is_among servers server) (job_go_on j segment (without servers server))
         (still (Deleting j segment servers))
         (λ t. by_test Fine (length (without servers server) == 0) (next (counted j)) (still (Deleting j segment (without servers server)))
         (λ u. next_is_below j.left (counted j) b.1) (λ u. (b, tt)))
         (λ t. (b, tt))
 
-    checking_is_below : (j : JobState) (segment : SegRef) (checks : List Check) → AllBelow j segment → Fine (checking j segment checks)
-    unfolding checking
+    checking_is_below : (j : JobState) (segment : SegRef) (checks : List Check) → AllBelow j segment → Fine (job_check j segment checks)
+    unfolding job_check
     checking_is_below j segment checks b =
-        by_test Fine (all_dead checks) (deleting j segment) (record { state = Checking j segment checks; outs = questions segment checks })
+        by_test Fine (all_dead checks) (job_delete j segment) (record { state = Checking j segment checks; outs = questions segment checks })
         (λ t. deleting_is_below j segment b)
         (λ t. (b, says_questions (EmptiesBelow start history) (λ block place. tt) segment checks))
 
     looked_is_below : (j : JobState) (segment : SegRef) (was_asked : Bool) (checks : List Check) → AllBelow j segment
-        → Fine (looked_at j segment was_asked checks)
-    unfolding looked_at
+        → Fine (job_look j segment was_asked checks)
+    unfolding job_look
     looked_is_below j segment was_asked checks b =
-        by_test Fine (all_dead checks) (deleting j segment)
+        by_test Fine (all_dead checks) (job_delete j segment)
         (cond (was_asked && not (any_asked checks)) (record { state = Checking j segment checks; outs = out.Move (moves checks) ∷ [] })
         (still (Checking j segment checks)))
         (λ t. deleting_is_below j segment b)
@@ -182,12 +182,12 @@ module _ (start : CleaningState) where
     read_is_below : (read : Option Segment) (j : JobState) (segment : SegRef) → AllBelow j segment → Fine (on_read read j segment)
     read_is_below None j segment b = next_is_below j.left j b.1
     read_is_below (Some read) j segment b =
-        by_test Fine (same_name read.name segment.name) (checking j segment (checks_from 0 read.items)) (still (Reading j segment))
-        (λ t. checking_is_below j segment (checks_from 0 read.items) b)
+        by_test Fine (same_name read.name segment.name) (job_check j segment (checks_of 0 read.items)) (still (Reading j segment))
+        (λ t. checking_is_below j segment (checks_of 0 read.items) b)
         (λ t. (b, tt))
 
     -- once all lists are in, each candidate is below
-    listed_is_below : (l : ListingState) → BelowIn (Listing l) → Fine (listed l)
+    listed_is_below : (l : ListingState) → BelowIn (Listing l) → Fine (listing_go_on l)
     listed_is_below l b =
         by_test Fine (length l.awaited == 0)
         (record { state = Counting (record { groups = l.groups; candidates = l.candidates; usages = [] }); outs = usage_asks all_slots }) (still (Listing l))
@@ -200,11 +200,11 @@ module _ (start : CleaningState) where
 
     list_is_below : (server : ℕ) (held : List FragMeta) (l : ListingState) → BelowIn (Listing l) → Fine (on_list server held l)
     list_is_below server held l b =
-        by_test Fine (is_among l.awaited server) (listed (heard l server held)) (still (Listing l))
-        (λ t. listed_is_below (heard l server held) (b.0, candidates_stay l.slots held l.candidates b.1))
+        by_test Fine (is_among l.awaited server) (listing_go_on (listing_hear l server held)) (still (Listing l))
+        (λ t. listed_is_below (listing_hear l server held) (b.0, candidates_stay l.slots held l.candidates b.1))
         (λ t. (b, tt))
 
-    counted_is_below : (count : ℕ) (c : CountingState) → BelowIn (Counting c) → Fine (step.counted count c)
+    counted_is_below : (count : ℕ) (c : CountingState) → BelowIn (Counting c) → Fine (step.counting_go_on count c)
     counted_is_below count c b =
         by_test Fine (is_counted c.usages) (next (record { groups = c.groups; left = chosen count c; deleted = 0 })) (still (Counting c))
         (λ t. next_is_below (chosen count c) (record { groups = c.groups; left = chosen count c; deleted = 0 }) (chosen_from Below count c b))
@@ -212,9 +212,9 @@ module _ (start : CleaningState) where
 
     counts_are_below : (count slot : ℕ) (counts : _) (c : CountingState) → BelowIn (Counting c) → Fine (on_counts count slot counts c)
     counts_are_below count slot counts c b =
-        by_test Fine (has_usage c.usages slot) (still (Counting c)) (step.counted count (usage_with slot counts c))
+        by_test Fine (has_usage c.usages slot) (still (Counting c)) (step.counting_go_on count (counting_hear slot counts c))
         (λ t. (b, tt))
-        (λ t. counted_is_below count (usage_with slot counts c) b)
+        (λ t. counted_is_below count (counting_hear slot counts c) b)
 
     -- ---- each input in each phase
 
@@ -252,7 +252,7 @@ module _ (start : CleaningState) where
     deleted_in_below server name (Deleting j segment servers) b = deleted_is_below server name j segment servers b
     deleted_in_below server name p b = (b, tt)
 
-    awaits_below : (p : Phase) → BelowIn p → Says (awaits p)
+    awaits_below : (p : Phase) → BelowIn p → Says (phase_asking p)
     awaits_below Greeting b = (tt, tt)
     awaits_below (Listing l) b = says_lists (EmptiesBelow start history) (λ server. tt) l.awaited
     awaits_below (Counting c) b = says_usage_asks (EmptiesBelow start history) (λ slot. tt) (awaited_slots c.usages)
@@ -294,7 +294,7 @@ module _ (start : CleaningState) where
       by_test (FineDone (history ++ input.Welcome slots groups ∷ [])) (is_greeting s.phase && (length slots == slot_count)) (welcomed s slots groups) (still s)
       (λ t. (
         (record { groups = groups; before = history; later = []; split = refl; awaited = and_first (is_greeting s.phase) (length slots == slot_count) t }, tt),
-        says_lists (EmptiesBelow start (history ++ input.Welcome slots groups ∷ [])) (λ server. tt) (begun slots groups).awaited,
+        says_lists (EmptiesBelow start (history ++ input.Welcome slots groups ∷ [])) (λ server. tt) (listing_begin slots groups).awaited,
       ))
       (λ t. (b, tt))
 
@@ -316,14 +316,14 @@ module _ (start : CleaningState) where
   live_is_below : (h : List In) (s : CleaningState) (block : BlockId) (epoch : ℕ) (entry : Entry) → BelowIn h s.phase → FineDone h (on_live s block epoch entry)
   unfolding on_live
   live_is_below h s block epoch entry b =
-      by_test (FineDone h) (is_heard s.promised block epoch && may_move entry) (turned s (answered_in (live_at block entry) s.phase)) (still s)
+      by_test (FineDone h) (cleaning_hears s.promised block epoch && may_move entry) (turned s (answered_in (live_at block entry) s.phase)) (still s)
       (λ t. answered_in_below h (live_at block entry) s.phase b)
       (λ t. (b, tt))
 
   dead_is_below : (h : List In) (s : CleaningState) (block : BlockId) (epoch : ℕ) → BelowIn h s.phase → FineDone h (on_dead s block epoch)
   unfolding on_dead
   dead_is_below h s block epoch b =
-      by_test (FineDone h) (is_heard s.promised block epoch) (turned s (answered_in (dead_at block) s.phase)) (still s)
+      by_test (FineDone h) (cleaning_hears s.promised block epoch) (turned s (answered_in (dead_at block) s.phase)) (still s)
       (λ t. answered_in_below h (dead_at block) s.phase b)
       (λ t. (b, tt))
 
@@ -351,7 +351,7 @@ module _ (start : CleaningState) where
       (λ history i k. (turn_is_below history i (in_later history i (state_after start history).phase k)).0)
 
 pub all_empties_below : (count : ℕ) (history : List In) (i : In)
-    → AllByRecursion (EmptiesBelow (started count) (history ++ i ∷ [])) (transition (state_after (started count) history) i).outs
+    → AllByRecursion (EmptiesBelow (cleaning_start count) (history ++ i ∷ [])) (transition (state_after (cleaning_start count) history) i).outs
 all_empties_below count history i =
-    (turn_is_below (started count) history i
-    (in_later (started count) history i (state_after (started count) history).phase (below_always (started count) tt history))).1
+    (turn_is_below (cleaning_start count) history i
+    (in_later (cleaning_start count) history i (state_after (cleaning_start count) history).phase (below_always (cleaning_start count) tt history))).1

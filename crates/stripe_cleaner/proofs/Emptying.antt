@@ -25,14 +25,14 @@ use Rattle.stripe_cleaner.specs.declared.input.In.TheVariants as input
 use Rattle.stripe_cleaner.specs.declared.output.Out.{Out}
 use Rattle.stripe_cleaner.specs.declared.phase.Phase.{Phase}
 use Rattle.stripe_cleaner.specs.declared.phase.Phase.TheVariants.{Reading, Checking, Deleting}
-use Rattle.stripe_cleaner.specs.Checks.{checks_from, after_live, after_dead, after_moved, live_at, dead_at, moved_at, is_dead, any_asked, all_dead, questions}
-use Rattle.stripe_cleaner.specs.CleaningState.{CleaningState, started}
+use Rattle.stripe_cleaner.specs.Checks.{checks_of, after_live, after_dead, after_moved, live_at, dead_at, moved_at, is_dead, any_asked, all_dead, questions}
+use Rattle.stripe_cleaner.specs.CleaningState.{CleaningState, cleaning_start}
 use Rattle.stripe_cleaner.specs.Histories.{state_after, Stage, stage_at_live, stage_at_dead, stage_at_moved, awaits_moved, stage_with, stage_from, stage_after, blocks_of, reads, IsEmptied, KnownOf, DeletesEmptied}
 use Rattle.stripe_cleaner.specs.Histories.Stage.{Asked, Live, Moved, Dead}
-use Rattle.stripe_cleaner.specs.Job.{Turn, same_name, checking, is_moving}
-use Rattle.stripe_cleaner.specs.Listing.{begun}
+use Rattle.stripe_cleaner.specs.Job.{Turn, same_name, job_check, is_moving}
+use Rattle.stripe_cleaner.specs.Listing.{listing_begin}
 use Rattle.stripe_cleaner.specs.Promises.{promised_with, is_above, is_promised}
-use Rattle.stripe_cleaner.specs.Transition.{Done, turned, is_greeting, welcomed, on_welcome, forgetting, on_promise, counted_in, read_in, answered_in, moved_in, on_usage, is_heard, may_move, on_live, on_dead, transition}
+use Rattle.stripe_cleaner.specs.Transition.{Done, turned, is_greeting, welcomed, on_welcome, forgetting, on_promise, counted_in, read_in, answered_in, moved_in, on_usage, cleaning_hears, may_move, on_live, on_dead, transition}
 use Rattle.stripe_cleaner.proofs.Histories.{split_with, always}
 use Rattle.stripe_cleaner.proofs.Turns.{says_lists, says_questions, next_fine, checking_fine, looked_fine, listed_in_fine, counted_in_fine, forgetting_fine, mapped_fine, deleted_in_fine, awaits_fine}
 
@@ -72,11 +72,11 @@ dead-stage fate.Dead h = refl
 -- what is dead stays so
 dead_stays : (s : CleaningState) (i : In) (b : BlockId) → stage_with s i b Dead ≡ Dead
 dead_stays s (input.Live block epoch entry) b =
-    by_test (λ (x : Stage). x ≡ Dead) (is_heard s.promised block epoch && may_move entry) (cond (same_block b block) Dead Dead) Dead
+    by_test (λ (x : Stage). x ≡ Dead) (cleaning_hears s.promised block epoch && may_move entry) (cond (same_block b block) Dead Dead) Dead
     (λ t. by_test (λ (x : Stage). x ≡ Dead) (same_block b block) Dead Dead (λ u. refl) (λ u. refl))
     (λ t. refl)
 dead_stays s (input.Dead block epoch) b =
-    by_test (λ (x : Stage). x ≡ Dead) (is_heard s.promised block epoch) (cond (same_block b block) Dead Dead) Dead
+    by_test (λ (x : Stage). x ≡ Dead) (cleaning_hears s.promised block epoch) (cond (same_block b block) Dead Dead) Dead
     (λ t. by_test (λ (x : Stage). x ≡ Dead) (same_block b block) Dead Dead (λ u. refl) (λ u. refl))
     (λ t. refl)
 dead_stays s input.Moved b = by_test (λ (x : Stage). x ≡ Dead) (awaits_moved s.phase) Dead Dead (λ t. refl) (λ t. refl)
@@ -84,7 +84,7 @@ dead_stays s i b = refl
 
 -- ---- blocks
 
-blocks-checks : (n : ℕ) (items : List Item) → map (λ (c : Check). c.block) (checks_from n items) ≡ blocks_of items
+blocks-checks : (n : ℕ) (items : List Item) → map (λ (c : Check). c.block) (checks_of n items) ≡ blocks_of items
 blocks-checks n [] = refl
 blocks-checks n (Block block value ∷ items) = ap (λ bs. block ∷ bs) (blocks-checks (n + 1) items)
 blocks-checks n (Delta block ver hop item ∷ items) = blocks-checks (n + 1) items
@@ -220,7 +220,7 @@ module _ (start : CleaningState) where
 
   -- a segment that is read is checked
   checked_first : (history : List In) (segment : Segment) (name : SegName) → reads name (state_after start history).phase → segment.name ≡ name
-      → IsChecked (history ++ input.Read (Some segment) ∷ []) name (checks_from 0 segment.items)
+      → IsChecked (history ++ input.Read (Some segment) ∷ []) name (checks_of 0 segment.items)
   checked_first history segment name awaited named = record {
     segment = segment;
     before = history;
@@ -232,7 +232,7 @@ module _ (start : CleaningState) where
     stages = go 0 segment.items;
   }
     where
-      go : (n : ℕ) (items : List Item) → AllByRecursion (λ (c : Check). stage_of c.fate ≡ Asked) (checks_from n items)
+      go : (n : ℕ) (items : List Item) → AllByRecursion (λ (c : Check). stage_of c.fate ≡ Asked) (checks_of n items)
       go n [] = tt
       go n (Block block value ∷ items) = (refl, go (n + 1) items)
       go n (Delta block ver hop item ∷ items) = go (n + 1) items
@@ -266,11 +266,11 @@ module _ (start : CleaningState) where
       → Fine (history ++ input.Read read ∷ []) (read_in read p)
   read_fine history None (Reading j segment) e k = next_fine (IsChecked (history ++ input.Read None ∷ [])) (IsEmptied start (history ++ input.Read None ∷ [])) j.left j
   read_fine history (Some read) (Reading j segment) e k =
-      by_test (Fine (history ++ input.Read (Some read) ∷ [])) (same_name read.name segment.name) (checking j segment (checks_from 0 read.items))
+      by_test (Fine (history ++ input.Read (Some read) ∷ [])) (same_name read.name segment.name) (job_check j segment (checks_of 0 read.items))
       (still (Reading j segment))
       (λ t. let k = checked_first history read segment.name (subst (reads segment.name) (sym e) refl) (tells_apart seg_cmp_exact read.name segment.name t) in
-      checking_fine (IsChecked (history ++ input.Read (Some read) ∷ [])) (IsEmptied start (history ++ input.Read (Some read) ∷ [])) j segment (checks_from 0 read.items) k
-      (λ dead servers. emptied_from (history ++ input.Read (Some read) ∷ []) segment.name (checks_from 0 read.items) dead k))
+      checking_fine (IsChecked (history ++ input.Read (Some read) ∷ [])) (IsEmptied start (history ++ input.Read (Some read) ∷ [])) j segment (checks_of 0 read.items) k
+      (λ dead servers. emptied_from (history ++ input.Read (Some read) ∷ []) segment.name (checks_of 0 read.items) dead k))
       (λ t. (tt, tt))
   read_fine history read (Checking j segment checks) e k = (checked_later history (input.Read read) segment.name checks (λ b x. refl) k, tt)
   read_fine history read (Deleting j segment servers) e k = (emptied_later history (input.Read read) segment.name k, tt)
@@ -309,7 +309,7 @@ module _ (start : CleaningState) where
   unfolding on_live
   live_fine history block epoch entry k =
       let s : CleaningState = state_after start history in
-      by_test (FineDone (history ++ input.Live block epoch entry ∷ [])) (is_heard s.promised block epoch && may_move entry)
+      by_test (FineDone (history ++ input.Live block epoch entry ∷ [])) (cleaning_hears s.promised block epoch && may_move entry)
       (turned s (answered_in (live_at block entry) s.phase)) (still s)
       (λ t. answered_fine history (input.Live block epoch entry) (live_at block entry) s.phase (live_block block entry)
       (λ c. live_stage block entry c (same_block c.block block) refl
@@ -322,7 +322,7 @@ module _ (start : CleaningState) where
   unfolding on_dead
   dead_fine history block epoch k =
       let s : CleaningState = state_after start history in
-      by_test (FineDone (history ++ input.Dead block epoch ∷ [])) (is_heard s.promised block epoch) (turned s (answered_in (dead_at block) s.phase)) (still s)
+      by_test (FineDone (history ++ input.Dead block epoch ∷ [])) (cleaning_hears s.promised block epoch) (turned s (answered_in (dead_at block) s.phase)) (still s)
       (λ t. answered_fine history (input.Dead block epoch) (dead_at block) s.phase (dead_block block)
       (λ c. dead_stage block c (same_block c.block block) refl
       ∙ ap (λ y. cond y (cond (same_block c.block block) (stage_at_dead (stage_of c.fate)) (stage_of c.fate)) (stage_of c.fate)) (sym t))
@@ -348,7 +348,7 @@ module _ (start : CleaningState) where
   unfolding on_welcome
   welcome_fine h s slots groups k =
       by_test (FineDone h) (is_greeting s.phase && (length slots == slot_count)) (welcomed s slots groups) (still s)
-      (λ t. (tt, says_lists (DeletesEmptied start h) (λ server. tt) (begun slots groups).awaited)) (λ t. (k, tt))
+      (λ t. (tt, says_lists (DeletesEmptied start h) (λ server. tt) (listing_begin slots groups).awaited)) (λ t. (k, tt))
 
   promise_fine : (h : List In) (s : CleaningState) (slot epoch : ℕ) → KnownIn h s.phase → FineDone h (on_promise s slot epoch)
   unfolding on_promise
@@ -399,5 +399,5 @@ module _ (start : CleaningState) where
   known_always k = always start (λ history s. KnownIn history s.phase) k (λ history i known. (turn_fine history i known).0)
 
 pub all_deletes_emptied : (count : ℕ) (history : List In) (i : In)
-    → AllByRecursion (DeletesEmptied (started count) (history ++ i ∷ [])) (transition (state_after (started count) history) i).outs
-all_deletes_emptied count history i = (turn_fine (started count) history i (known_always (started count) tt history)).1
+    → AllByRecursion (DeletesEmptied (cleaning_start count) (history ++ i ∷ [])) (transition (state_after (cleaning_start count) history) i).outs
+all_deletes_emptied count history i = (turn_fine (cleaning_start count) history i (known_always (cleaning_start count) tt history)).1

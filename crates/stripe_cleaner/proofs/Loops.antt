@@ -11,7 +11,7 @@ use Rattle.xfs_base.specs.declared.segment.SegRef.{SegRef}
 use Rattle.stripe_cleaner.specs.declared.checks.Check.{Check}
 use Rattle.stripe_cleaner.specs.declared.checks.Fate.TheVariants.{Asked}
 use Rattle.stripe_cleaner.specs.declared.counting.Fullness.{Fullness}
-use Rattle.stripe_cleaner.specs.Checks.{check_of, checks_from}
+use Rattle.stripe_cleaner.specs.Checks.{check_of, checks_of}
 use Rattle.stripe_cleaner.specs.declared.output.Out.TheVariants.{UsageAsk}
 use Rattle.stripe_cleaner.specs.Counting.{segment_at, has_usage, awaited_among, live_in}
 use Rattle.stripe_cleaner.specs.Transition.{usage_asks}
@@ -30,12 +30,12 @@ same_item n (Block block value) = let e : min (min n no_item) no_item ≡ min n 
 same_item n (Delta block ver hop item) = refl
 same_item n (Part slot rows) = refl
 
-pub checks_past : (n : ℕ) (items : List Item) → checks_from (min n no_item) items ≡ checks_from n items
+pub checks_past : (n : ℕ) (items : List Item) → checks_of (min n no_item) items ≡ checks_of n items
 checks_past n [] = refl
 checks_past n (i ∷ rest) =
     let e : min (min n no_item + 1) no_item ≡ min (n + 1) no_item = omega arith in
-    let later : checks_from (min n no_item + 1) rest ≡ checks_from (n + 1) rest =
-    sym (checks_past (min n no_item + 1) rest) ∙ ap (λ m. checks_from m rest) e ∙ checks_past (n + 1) rest in
+    let later : checks_of (min n no_item + 1) rest ≡ checks_of (n + 1) rest =
+    sym (checks_past (min n no_item + 1) rest) ∙ ap (λ m. checks_of m rest) e ∙ checks_past (n + 1) rest in
     λ k. same_item n i k ++ later k
 
 -- the segment that comes is the next of those that are chosen
@@ -50,11 +50,11 @@ first_step left count e rest lt =
 
 -- the checks of the item that comes, and of those after it
 pub checks_more : (checks new all : List Check) (n m : ℕ) (item : Item) (rest : List Item) → m ≡ min (n + 1) no_item → new ≡ checks ++ check_of n item
-    → checks ++ checks_from n (item ∷ rest) ≡ all
-    → new ++ checks_from m rest ≡ all
+    → checks ++ checks_of n (item ∷ rest) ≡ all
+    → new ++ checks_of m rest ≡ all
 checks_more checks new all n m item rest next added whole =
-    ap (λ c. c ++ checks_from m rest) added ∙ append_assoc checks (check_of n item) (checks_from m rest)
-    ∙ ap (λ c. checks ++ (check_of n item ++ c)) (ap (λ k. checks_from k rest) next ∙ checks_past (n + 1) rest) ∙ whole
+    ap (λ c. c ++ checks_of m rest) added ∙ append_assoc checks (check_of n item) (checks_of m rest)
+    ∙ ap (λ c. checks ++ (check_of n item ++ c)) (ap (λ k. checks_of k rest) next ∙ checks_past (n + 1) rest) ∙ whole
 
 asks_cons : (b : Bool) (slot : ℕ) (rest : List ℕ) → usage_asks (cond b (slot ∷ rest) rest) ≡ cond b (UsageAsk slot ∷ []) [] ++ usage_asks rest
 asks_cons true slot rest = refl

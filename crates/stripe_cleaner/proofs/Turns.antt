@@ -17,12 +17,12 @@ use Rattle.stripe_cleaner.specs.declared.phase.Phase.{Phase}
 use Rattle.stripe_cleaner.specs.declared.phase.Phase.TheVariants.{Greeting, Listing, Counting, Reading, Checking, Deleting, Over}
 use Rattle.stripe_cleaner.specs.Checks.{is_awaited, any_asked, all_dead, place_in, questions, moves}
 use Rattle.stripe_cleaner.specs.Counting.{CountingState, has_usage, is_counted, awaited_slots, all_slots, chosen}
-use Rattle.stripe_cleaner.specs.Job.{Turn, next_of, next, deletes, servers_of, deleting, counted, left_to_delete, same_name, on_deleted, checking, looked_at}
+use Rattle.stripe_cleaner.specs.Job.{Turn, next_of, next, deletes, servers_of, job_delete, counted, job_go_on, same_name, on_deleted, job_check, job_look}
 use Rattle.stripe_cleaner.specs.Histories.{KnownOf, DeletesOf}
 use Rattle.stripe_cleaner.specs.JobState.{JobState}
 use Rattle.stripe_cleaner.specs.Listing.{ListingState, is_among, without}
 use Rattle.stripe_cleaner.specs.Transition as step
-use Rattle.stripe_cleaner.specs.Transition.{lists, usage_asks, forgotten, forgetting, mapped, listed, heard, usage_with, listed_in, counted_in, deleted_in, awaits}
+use Rattle.stripe_cleaner.specs.Transition.{lists, usage_asks, forgotten, forgetting, mapped, listing_go_on, listing_hear, counting_hear, listed_in, counted_in, deleted_in, phase_asking}
 
 -- ---- lists of packets of one kind
 
@@ -67,32 +67,32 @@ module _ (Checked : SegName → List Check → Type 0) (Gone : SegName → Type 
   next_fine [] j = (tt, (tt, tt))
   next_fine (s ∷ left) j = (tt, (tt, tt))
 
-  deleting_fine : (j : JobState) (segment : SegRef) → ((servers : List ℕ) → Known (Deleting j segment servers)) → Fine (deleting j segment)
+  deleting_fine : (j : JobState) (segment : SegRef) → ((servers : List ℕ) → Known (Deleting j segment servers)) → Fine (job_delete j segment)
   deleting_fine j segment k =
       (k (servers_of j.groups segment), says_deletes May segment.name (λ server. k []) (servers_of j.groups segment))
 
   deleted_fine : (server : ℕ) (name : SegName) (j : JobState) (segment : SegRef) (servers : List ℕ) → Known (Deleting j segment servers)
       → Fine (on_deleted server name j segment servers)
   deleted_fine server name j segment servers k =
-      by_test Fine (same_name name segment.name && is_among servers server) (left_to_delete j segment (without servers server))
+      by_test Fine (same_name name segment.name && is_among servers server) (job_go_on j segment (without servers server))
       (still (Deleting j segment servers))
       (λ t. by_test Fine (length (without servers server) == 0) (next (counted j)) (still (Deleting j segment (without servers server)))
       (λ u. next_fine j.left (counted j)) (λ u. (k, tt)))
       (λ t. (k, tt))
 
   pub checking_fine : (j : JobState) (segment : SegRef) (checks : List Check) → Known (Checking j segment checks)
-      → (all_dead checks ≡ true → (servers : List ℕ) → Known (Deleting j segment servers)) → Fine (checking j segment checks)
-  unfolding checking
+      → (all_dead checks ≡ true → (servers : List ℕ) → Known (Deleting j segment servers)) → Fine (job_check j segment checks)
+  unfolding job_check
   checking_fine j segment checks k ends =
-      by_test Fine (all_dead checks) (deleting j segment) (record { state = Checking j segment checks; outs = questions segment checks })
+      by_test Fine (all_dead checks) (job_delete j segment) (record { state = Checking j segment checks; outs = questions segment checks })
       (λ t. deleting_fine j segment (ends t))
       (λ t. (k, says_questions May (λ block place. tt) segment checks))
 
   pub looked_fine : (j : JobState) (segment : SegRef) (was_asked : Bool) (checks : List Check) → Known (Checking j segment checks)
-      → (all_dead checks ≡ true → (servers : List ℕ) → Known (Deleting j segment servers)) → Fine (looked_at j segment was_asked checks)
-  unfolding looked_at
+      → (all_dead checks ≡ true → (servers : List ℕ) → Known (Deleting j segment servers)) → Fine (job_look j segment was_asked checks)
+  unfolding job_look
   looked_fine j segment was_asked checks k ends =
-      by_test Fine (all_dead checks) (deleting j segment)
+      by_test Fine (all_dead checks) (job_delete j segment)
       (cond (was_asked && not (any_asked checks)) (record { state = Checking j segment checks; outs = out.Move (moves checks) ∷ [] })
       (still (Checking j segment checks)))
       (λ t. deleting_fine j segment (ends t))
@@ -101,7 +101,7 @@ module _ (Checked : SegName → List Check → Type 0) (Gone : SegName → Type 
 
   -- ---- inputs that are no answers
 
-  listed_fine : (l : ListingState) → Fine (listed l)
+  listed_fine : (l : ListingState) → Fine (listing_go_on l)
   listed_fine l =
       by_test Fine (length l.awaited == 0)
       (record { state = Counting (record { groups = l.groups; candidates = l.candidates; usages = [] }); outs = usage_asks all_slots }) (still (Listing l))
@@ -110,10 +110,10 @@ module _ (Checked : SegName → List Check → Type 0) (Gone : SegName → Type 
 
   pub listed_in_fine : (server : ℕ) (held : List FragMeta) (p : Phase) → Known p → Fine (listed_in server held p)
   listed_in_fine server held (Listing l) k =
-      by_test Fine (is_among l.awaited server) (listed (heard l server held)) (still (Listing l)) (λ t. listed_fine (heard l server held)) (λ t. (k, tt))
+      by_test Fine (is_among l.awaited server) (listing_go_on (listing_hear l server held)) (still (Listing l)) (λ t. listed_fine (listing_hear l server held)) (λ t. (k, tt))
   listed_in_fine server held p k = (k, tt)
 
-  counted_fine : (count : ℕ) (s : CountingState) → Fine (step.counted count s)
+  counted_fine : (count : ℕ) (s : CountingState) → Fine (step.counting_go_on count s)
   counted_fine count s =
       by_test Fine (is_counted s.usages) (next (record { groups = s.groups; left = chosen count s; deleted = 0 })) (still (Counting s))
       (λ t. next_fine (chosen count s) (record { groups = s.groups; left = chosen count s; deleted = 0 }))
@@ -121,8 +121,8 @@ module _ (Checked : SegName → List Check → Type 0) (Gone : SegName → Type 
 
   pub counted_in_fine : (count slot : ℕ) (counts : _) (p : Phase) → Known p → Fine (counted_in count slot counts p)
   counted_in_fine count slot counts (Counting s) k =
-      by_test Fine (has_usage s.usages slot) (still (Counting s)) (step.counted count (usage_with slot counts s)) (λ t. (k, tt))
-      (λ t. counted_fine count (usage_with slot counts s))
+      by_test Fine (has_usage s.usages slot) (still (Counting s)) (step.counting_go_on count (counting_hear slot counts s)) (λ t. (k, tt))
+      (λ t. counted_fine count (counting_hear slot counts s))
   counted_in_fine count slot counts p k = (k, tt)
 
   pub forgetting_fine : (slot : ℕ) (p : Phase) → Known p → Fine (forgetting slot p)
@@ -139,7 +139,7 @@ module _ (Checked : SegName → List Check → Type 0) (Gone : SegName → Type 
   deleted_in_fine server name (Deleting j segment servers) k = deleted_fine server name j segment servers k
   deleted_in_fine server name p k = (k, tt)
 
-  pub awaits_fine : (p : Phase) → Known p → AllByRecursion May (awaits p)
+  pub awaits_fine : (p : Phase) → Known p → AllByRecursion May (phase_asking p)
   awaits_fine Greeting k = (tt, tt)
   awaits_fine (Listing l) k = says_lists May (λ server. tt) l.awaited
   awaits_fine (Counting s) k = says_usage_asks May (λ slot. tt) (awaited_slots s.usages)

@@ -21,9 +21,9 @@ check_of number (Block block value) = record { block = block; item = min number 
 check_of number item = []
 
 -- each Block among the items from a number on is asked for
-abbrev pub checks_from : ℕ → List Item → List Check
-checks_from number [] = []
-checks_from number (i ∷ rest) = check_of number i ++ checks_from (number + 1) rest
+abbrev pub checks_of : ℕ → List Item → List Check
+checks_of number [] = []
+checks_of number (i ∷ rest) = check_of number i ++ checks_of (number + 1) rest
 
 -- ---- what an answer makes of a block
 
@@ -96,10 +96,10 @@ question segment c = if is_awaited c.fate then Some (out.Check c.block (place_in
 abbrev pub questions : SegRef → List Check → List Out
 questions segment checks = filter_map (question segment) checks
 
-abbrev pub move_from : BlockId → Fate → Option (BlockId × Entry × Option (List ℕ))
-move_from block (Live e value) = Some (block, e, value)
-move_from block fate = None
+abbrev pub move_of : BlockId → Fate → Option (BlockId × Entry × Option (List ℕ))
+move_of block (Live e value) = Some (block, e, value)
+move_of block fate = None
 
 -- what is live, as it is to be written
 abbrev pub moves : List Check → List (BlockId × Entry × Option (List ℕ))
-moves checks = filter_map (λ c. move_from c.block c.fate) checks
+moves checks = filter_map (λ c. move_of c.block c.fate) checks

@@ -13,5 +13,5 @@ pub record CleaningState : Type 0 where
   pub phase : Phase
 
 -- nothing is known yet
-abbrev pub started : ℕ → CleaningState
-started count = record { count = count; promised = none_promised; phase = Greeting }
+abbrev pub cleaning_start : ℕ → CleaningState
+cleaning_start count = record { count = count; promised = none_promised; phase = Greeting }

@@ -20,7 +20,7 @@ use Rattle.stripe_cleaner.specs.declared.phase.Phase.TheVariants as phase
 use Rattle.stripe_cleaner.specs.Candidates.{least_horizon}
 use Rattle.stripe_cleaner.specs.CleaningState.{CleaningState}
 use Rattle.stripe_cleaner.specs.Job.{is_moving}
-use Rattle.stripe_cleaner.specs.Transition.{is_greeting, is_heard, may_move, transition}
+use Rattle.stripe_cleaner.specs.Transition.{is_greeting, cleaning_hears, may_move, transition}
 
 -- a job that began so and took these inputs
 abbrev pub state_after : CleaningState → List In → CleaningState
@@ -79,8 +79,8 @@ awaits_moved phase = false
 -- how far the block is after an input in this state: a Live or Dead of it counts in the promised epoch alone
 abbrev pub stage_with : CleaningState → In → BlockId → Stage → Stage
 stage_with s (input.Live b epoch entry) block stage =
-    if is_heard s.promised b epoch && may_move entry then (if same_block block b then stage_at_live stage else stage) else stage
-stage_with s (input.Dead b epoch) block stage = if is_heard s.promised b epoch then (if same_block block b then stage_at_dead stage else stage) else stage
+    if cleaning_hears s.promised b epoch && may_move entry then (if same_block block b then stage_at_live stage else stage) else stage
+stage_with s (input.Dead b epoch) block stage = if cleaning_hears s.promised b epoch then (if same_block block b then stage_at_dead stage else stage) else stage
 stage_with s input.Moved block stage = if awaits_moved s.phase then stage_at_moved stage else stage
 stage_with s input block stage = stage
 

@@ -13,7 +13,7 @@ use Rattle.stripe_cleaner.specs.declared.phase.Phase.{Phase}
 use Rattle.stripe_cleaner.specs.declared.phase.Phase.TheVariants.{Reading, Checking, Deleting, Over}
 use Rattle.stripe_cleaner.specs.declared.output.Out.{Out}
 use Rattle.stripe_cleaner.specs.declared.output.Out.TheVariants as out
-use Rattle.stripe_cleaner.specs.Checks.{checks_from, all_dead, any_asked, any_live, moved_at, moves, questions}
+use Rattle.stripe_cleaner.specs.Checks.{checks_of, all_dead, any_asked, any_live, moved_at, moves, questions}
 use Rattle.stripe_cleaner.specs.JobState.{JobState}
 use Rattle.stripe_cleaner.specs.Listing.{is_among, without}
 pub use Rattle.xfs_base.specs.Segments.{same_name}
@@ -44,43 +44,43 @@ abbrev pub deletes : SegName → List ℕ → List Out
 deletes name servers = map (λ server. out.Delete server name) servers
 
 -- each of its members' servers is to delete the segment
-abbrev pub deleting : JobState → SegRef → Turn
-deleting job segment = record { state = Deleting job segment (servers_of job.groups segment); outs = deletes segment.name (servers_of job.groups segment) }
+abbrev pub job_delete : JobState → SegRef → Turn
+job_delete job segment = record { state = Deleting job segment (servers_of job.groups segment); outs = deletes segment.name (servers_of job.groups segment) }
 
 -- one more was deleted; the count does not pass its type's end
 abbrev pub counted : JobState → JobState
 counted job = record job { deleted = min (job.deleted + 1) u32_end }
 
-abbrev pub left_to_delete : JobState → SegRef → List ℕ → Turn
-left_to_delete job segment servers = if length servers == 0 then next (counted job) else still (Deleting job segment servers)
+abbrev pub job_go_on : JobState → SegRef → List ℕ → Turn
+job_go_on job segment servers = if length servers == 0 then next (counted job) else still (Deleting job segment servers)
 
 -- a server has deleted it; where all have, it is counted, and the next is read
 abbrev pub on_deleted : ℕ → SegName → JobState → SegRef → List ℕ → Turn
 on_deleted server name job segment servers =
-    if same_name name segment.name && is_among servers server then left_to_delete job segment (without servers server)
+    if same_name name segment.name && is_among servers server then job_go_on job segment (without servers server)
     else still (Deleting job segment servers)
 
 -- ---- checking
 
 -- Each Block of the segment is asked for; one without any is deleted.
-unfoldable pub checking : JobState → SegRef → List Check → Turn
-checking job segment checks = if all_dead checks then deleting job segment else record { state = Checking job segment checks; outs = questions segment checks }
+unfoldable pub job_check : JobState → SegRef → List Check → Turn
+job_check job segment checks = if all_dead checks then job_delete job segment else record { state = Checking job segment checks; outs = questions segment checks }
 
 -- the segment is read; one that is lost is passed over
 abbrev pub on_read : Option Segment → JobState → SegRef → Turn
 on_read None job segment = next job
-on_read (Some read) job segment = if same_name read.name segment.name then checking job segment (checks_from 0 read.items) else still (Reading job segment)
+on_read (Some read) job segment = if same_name read.name segment.name then job_check job segment (checks_of 0 read.items) else still (Reading job segment)
 
 -- Once the last that was asked for is answered, what is live is moved. A segment of which each block is dead is deleted.
-unfoldable pub looked_at : JobState → SegRef → Bool → List Check → Turn
-looked_at job segment was_asked checks =
-    if all_dead checks then deleting job segment
+unfoldable pub job_look : JobState → SegRef → Bool → List Check → Turn
+job_look job segment was_asked checks =
+    if all_dead checks then job_delete job segment
     else if was_asked && not (any_asked checks) then record { state = Checking job segment checks; outs = out.Move (moves checks) ∷ [] }
     else still (Checking job segment checks)
 
 -- an answer of a block
 abbrev pub on_answer : (Check → Check) → JobState → SegRef → List Check → Turn
-on_answer answer job segment checks = looked_at job segment (any_asked checks) (map answer checks)
+on_answer answer job segment checks = job_look job segment (any_asked checks) (map answer checks)
 
 -- whether a move is awaited: none is asked for, and something is live
 abbrev pub is_moving : List Check → Bool

@@ -19,8 +19,8 @@ abbrev pub all_servers : ℕ → List ℕ
 all_servers servers = map (λ before. before + 1) (range_with_len 0 servers)
 
 -- no list is in
-abbrev pub begun : List SlotNews → GroupMapState → ListingState
-begun slots groups = record { groups = groups; slots = slots; awaited = all_servers groups.servers; candidates = [] }
+abbrev pub listing_begin : List SlotNews → GroupMapState → ListingState
+listing_begin slots groups = record { groups = groups; slots = slots; awaited = all_servers groups.servers; candidates = [] }
 
 abbrev pub is_among : List ℕ → ℕ → Bool
 is_among numbers number = list_any (λ n. n == number) numbers

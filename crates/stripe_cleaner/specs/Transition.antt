@@ -27,7 +27,7 @@ use Rattle.stripe_cleaner.specs.Counting.{CountingState, all_slots, has_usage, i
 use Rattle.stripe_cleaner.specs.Job as job
 use Rattle.stripe_cleaner.specs.Job.{Turn, next, deletes}
 use Rattle.stripe_cleaner.specs.JobState.{JobState}
-use Rattle.stripe_cleaner.specs.Listing.{ListingState, begun, is_among, without}
+use Rattle.stripe_cleaner.specs.Listing.{ListingState, listing_begin, is_among, without}
 use Rattle.stripe_cleaner.specs.Promises.{is_promised, is_above, promised_with, promised_of}
 
 abbrev pub Done : Type 0
@@ -51,8 +51,8 @@ is_greeting phase = false
 
 abbrev pub welcomed : CleaningState → List SlotNews → GroupMapState → Done
 welcomed s slots groups = record {
-  state = record s { promised = promised_of slots s.promised; phase = Listing (begun slots groups) };
-  outs = lists (begun slots groups).awaited;
+  state = record s { promised = promised_of slots s.promised; phase = Listing (listing_begin slots groups) };
+  outs = lists (listing_begin slots groups).awaited;
 }
 
 -- Welcome: all servers are asked for what they hold.
@@ -87,29 +87,29 @@ mapped groups phase = phase
 -- ---- the choice
 
 -- once all lists are in, all slots are asked for their counts
-abbrev pub listed : ListingState → Turn
-listed l =
+abbrev pub listing_go_on : ListingState → Turn
+listing_go_on l =
     if length l.awaited == 0 then record {
       state = Counting (record { groups = l.groups; candidates = l.candidates; usages = [] });
       outs = usage_asks all_slots;
     }
     else still (Listing l)
 
-abbrev pub heard : ListingState → ℕ → List FragMeta → ListingState
-heard l server held = record l { awaited = without l.awaited server; candidates = candidates_with l.slots held l.candidates }
+abbrev pub listing_hear : ListingState → ℕ → List FragMeta → ListingState
+listing_hear l server held = record l { awaited = without l.awaited server; candidates = candidates_with l.slots held l.candidates }
 
 abbrev pub on_list : ℕ → List FragMeta → ListingState → Turn
-on_list server held l = if is_among l.awaited server then listed (heard l server held) else still (Listing l)
+on_list server held l = if is_among l.awaited server then listing_go_on (listing_hear l server held) else still (Listing l)
 
 -- once all counts are in, the least full candidates are emptied, in order
-abbrev pub counted : ℕ → CountingState → Turn
-counted count c = if is_counted c.usages then next (record { groups = c.groups; left = chosen count c; deleted = 0 }) else still (Counting c)
+abbrev pub counting_go_on : ℕ → CountingState → Turn
+counting_go_on count c = if is_counted c.usages then next (record { groups = c.groups; left = chosen count c; deleted = 0 }) else still (Counting c)
 
-abbrev pub usage_with : ℕ → List (SegName × ℕ) → CountingState → CountingState
-usage_with slot counts c = record c { usages = insert_entry nat_cmp c.usages slot counts }
+abbrev pub counting_hear : ℕ → List (SegName × ℕ) → CountingState → CountingState
+counting_hear slot counts c = record c { usages = insert_entry nat_cmp c.usages slot counts }
 
 abbrev pub on_counts : ℕ → ℕ → List (SegName × ℕ) → CountingState → Turn
-on_counts count slot counts c = if has_usage c.usages slot then still (Counting c) else counted count (usage_with slot counts c)
+on_counts count slot counts c = if has_usage c.usages slot then still (Counting c) else counting_go_on count (counting_hear slot counts c)
 
 -- ---- each input in the phase that awaits it; in the others it changes nothing
 
@@ -138,14 +138,14 @@ deleted_in server name (Deleting j segment servers) = job.on_deleted server name
 deleted_in server name phase = still phase
 
 -- Tick: what is awaited is asked for again; a move is repeated by the log.
-abbrev pub awaits : Phase → List Out
-awaits Greeting = out.Hello ∷ []
-awaits (Listing l) = lists l.awaited
-awaits (Counting c) = usage_asks (awaited_slots c.usages)
-awaits (Reading j segment) = out.Fetch segment ∷ []
-awaits (Checking j segment checks) = questions segment checks
-awaits (Deleting j segment servers) = deletes segment.name servers
-awaits Over = []
+abbrev pub phase_asking : Phase → List Out
+phase_asking Greeting = out.Hello ∷ []
+phase_asking (Listing l) = lists l.awaited
+phase_asking (Counting c) = usage_asks (awaited_slots c.usages)
+phase_asking (Reading j segment) = out.Fetch segment ∷ []
+phase_asking (Checking j segment checks) = questions segment checks
+phase_asking (Deleting j segment servers) = deletes segment.name servers
+phase_asking Over = []
 
 -- ---- all inputs
 
@@ -160,8 +160,8 @@ abbrev pub on_read : CleaningState → Option Segment → Done
 on_read s read = turned s (read_in read s.phase)
 
 -- whether an answer of a block in an epoch counts
-abbrev pub is_heard : List ℕ → BlockId → ℕ → Bool
-is_heard promised block epoch = is_promised promised (slot_of block.ino.0) epoch
+abbrev pub cleaning_hears : List ℕ → BlockId → ℕ → Bool
+cleaning_hears promised block epoch = is_promised promised (slot_of block.ino.0) epoch
 
 -- whether an entry's count of moves has one after it
 abbrev pub may_move : Entry → Bool
@@ -169,11 +169,11 @@ may_move entry = nat_lt entry.hop u32_end
 
 -- Live, in the promised epoch.
 unfoldable pub on_live : CleaningState → BlockId → ℕ → Entry → Done
-on_live s block epoch entry = if is_heard s.promised block epoch && may_move entry then turned s (answered_in (live_at block entry) s.phase) else still s
+on_live s block epoch entry = if cleaning_hears s.promised block epoch && may_move entry then turned s (answered_in (live_at block entry) s.phase) else still s
 
 -- Dead, in the promised epoch.
 unfoldable pub on_dead : CleaningState → BlockId → ℕ → Done
-on_dead s block epoch = if is_heard s.promised block epoch then turned s (answered_in (dead_at block) s.phase) else still s
+on_dead s block epoch = if cleaning_hears s.promised block epoch then turned s (answered_in (dead_at block) s.phase) else still s
 
 -- what each input makes of a job
 abbrev pub transition : CleaningState → In → Done
@@ -187,4 +187,4 @@ transition s (input.Live block epoch entry) = on_live s block epoch entry
 transition s (input.Dead block epoch) = on_dead s block epoch
 transition s input.Moved = turned s (moved_in s.phase)
 transition s (input.Deleted server name) = turned s (deleted_in server name s.phase)
-transition s input.Tick = record { state = s; outs = awaits s.phase }
+transition s input.Tick = record { state = s; outs = phase_asking s.phase }

@@ -2,7 +2,7 @@
 ghost use Rattle.std.specs.Prelude.{◌≡◌, ◌++◌, ◌+◌, ◌<◌, IfOk, OnOk, map, min};
 ghost use Rattle.segment_format.specs.Rule.{no_item};
 ghost use Rattle.xfs_base.specs.Limits.{u32_end};
-ghost use Rattle.stripe_cleaner.specs.Checks.{check_of, checks_from, moved_once, after_live, after_dead, after_moved, live_at, dead_at, moved_at, is_asked, is_live, is_dead, is_awaited, any_asked, any_live, all_dead, question, questions, move_from, moves};
+ghost use Rattle.stripe_cleaner.specs.Checks.{check_of, checks_of, moved_once, after_live, after_dead, after_moved, live_at, dead_at, moved_at, is_asked, is_live, is_dead, is_awaited, any_asked, any_live, all_dead, question, questions, move_of, moves};
 
 use crate::output::Out;
 use segment_format::Item;
@@ -163,7 +163,7 @@ fn moved_once(entry: Entry) -> Entry
 
 /// Each Block among the items is asked for.
 pub(crate) fn checks_of(alloc: Global, items: List<Item>) -> Mem<List<Check>>
-    ensures { IfOk result (λ checks. checks ≡ checks_from 0 items) }
+    ensures { IfOk result (λ checks. checks ≡ checks_of 0 items) }
 {
     let mut checks = List::new(alloc);
     let mut number = 0u16;
@@ -304,7 +304,7 @@ pub(crate) fn moves_of(alloc: Global, checks: &[Check]) -> Mem<List<(BlockId, En
 }
 
 fn move_of(alloc: Global, check: &Check) -> Mem<Option<(BlockId, Entry, Value)>>
-    ensures { IfOk result (λ one. one ≡ move_from check.now.block check.now.fate) }
+    ensures { IfOk result (λ one. one ≡ move_of check.now.block check.now.fate) }
 {
     match &check.fate {
         Fate::Live(entry, value) => Ok(Some((check.block, *entry, value.copy(alloc)?))),

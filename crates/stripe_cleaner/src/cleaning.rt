@@ -1,7 +1,7 @@
 //! The job: its state, its start, and what it takes.
 ghost use Rattle.std.specs.Prelude.{◌≡◌, ◌++◌, IfOk, OnOk};
-ghost use Rattle.stripe_cleaner.specs.CleaningState.{started};
-ghost use Rattle.stripe_cleaner.specs.Transition.{on_welcome, on_promise, on_listed, on_usage, on_read, is_heard, on_live, on_dead, moved_in, deleted_in, mapped, turned, transition};
+ghost use Rattle.stripe_cleaner.specs.CleaningState.{cleaning_start};
+ghost use Rattle.stripe_cleaner.specs.Transition.{on_welcome, on_promise, on_listed, on_usage, on_read, cleaning_hears, on_live, on_dead, moved_in, deleted_in, mapped, turned, transition};
 
 use crate::input::In;
 use crate::listing::Listing;
@@ -49,7 +49,7 @@ impl Cleaning {
     /// A job that empties up to so many segments, of which nothing is known yet. Its first Tick says Hello;
     /// what the node had promised before is handed in by Promise.
     pub fn start(_alloc: Global, count: u32) -> Mem<Cleaning>
-        ensures { IfOk result (λ made. made ≡ started count) }
+        ensures { IfOk result (λ made. made ≡ cleaning_start count) }
     {
         Ok(Cleaning {
             count,
@@ -206,7 +206,7 @@ impl Cleaning {
 
     // Whether an answer of a block in an epoch counts.
     fn hears(&self, block: BlockId, epoch: u32) -> bool
-        ensures { result ≡ is_heard self.now.promised block epoch }
+        ensures { result ≡ cleaning_hears self.now.promised block epoch }
     {
         is_promised(&self.promised, block.ino.slot(), epoch)
     }

@@ -7,7 +7,7 @@ ghost use Rattle.std.specs.BTreeMap.{is_at, insert_entry};
 ghost use Rattle.xfs_base.specs.Limits.{u32_end, slot_count};
 ghost use Rattle.usage_table.specs.Counts.{count_of};
 ghost use Rattle.stripe_cleaner.specs.Counting.{has_usage, is_counted, awaited_among, awaited_slots, live_in, live_among, live_count, fullness_of, by_fullness, chosen, segment_at};
-ghost use Rattle.stripe_cleaner.specs.Transition.{usage_asks, forgotten, forgetting, counted, usage_with, on_counts};
+ghost use Rattle.stripe_cleaner.specs.Transition.{usage_asks, forgotten, forgetting, counting_go_on, counting_hear, on_counts};
 
 use crate::job::Job;
 use crate::output::Out;
@@ -144,7 +144,7 @@ impl Counting {
     }
 
     fn hear(&mut self, slot: u8, counts: List<(SegName, u32)>) -> Mem<()>
-        ensures { OnOk result (self.new ≡ usage_with slot counts self.old) }
+        ensures { OnOk result (self.new ≡ counting_hear slot counts self.old) }
     {
         put_usage(&mut self.usages, slot, counts)?;
         Ok(())
@@ -152,8 +152,8 @@ impl Counting {
 
     // Once all counts are in, the segments are chosen, and the first is read.
     fn go_on(self, alloc: Global, outs: &mut List<Out>, count: u32) -> Mem<Phase>
-        ensures phase { IfOk result (λ phase. phase ≡ (counted count self).state) }
-        ensures outs { OnOk result (outs.new ≡ outs.old ++ (counted count self).outs) }
+        ensures phase { IfOk result (λ phase. phase ≡ (counting_go_on count self).state) }
+        ensures outs { OnOk result (outs.new ≡ outs.old ++ (counting_go_on count self).outs) }
     {
         if !is_counted(&self.usages) {
             return Ok(Phase::Counting(self));

@@ -4,7 +4,7 @@ ghost use Rattle.xfs_base.specs.Limits.{u32_end};
 ghost use Rattle.stripe_cleaner.specs.declared.output.Out.TheVariants.{Finished, Move};
 ghost use Rattle.stripe_cleaner.specs.declared.phase.Phase.TheVariants.{Checking, Over};
 ghost use Rattle.stripe_cleaner.specs.Checks.{live_at, dead_at, moves};
-ghost use Rattle.stripe_cleaner.specs.Job.{next, servers_in, servers_of, deletes, deleting, left_to_delete, on_deleted, checking, on_read, looked_at, on_answer, is_moving, on_moved};
+ghost use Rattle.stripe_cleaner.specs.Job.{next, servers_in, servers_of, deletes, job_delete, job_go_on, on_deleted, job_check, on_read, job_look, on_answer, is_moving, on_moved};
 
 use crate::checks::{
     Check, all_dead, all_dead_at, all_live_at, all_moved, any_asked, any_live, checks_of, moves_of,
@@ -130,7 +130,7 @@ impl Job {
     }
 
     // Each of these is asked for; without any the segment is deleted.
-    #[tactic(auto, unfolding(crate::specs::Job::checking))]
+    #[tactic(auto, unfolding(crate::specs::Job::job_check))]
     fn check(
         self,
         alloc: Global,
@@ -138,8 +138,8 @@ impl Job {
         segment: SegRef,
         checks: List<Check>,
     ) -> Mem<Phase>
-        ensures phase { IfOk result (λ phase. phase ≡ (checking self segment checks).state) }
-        ensures outs { OnOk result (outs.new ≡ outs.old ++ (checking self segment checks).outs) }
+        ensures phase { IfOk result (λ phase. phase ≡ (job_check self segment checks).state) }
+        ensures outs { OnOk result (outs.new ≡ outs.old ++ (job_check self segment checks).outs) }
     {
         if all_dead(checks.as_slice()) {
             drop(checks);
@@ -190,7 +190,7 @@ impl Job {
     }
 
     // Once the last is answered, what is live is moved; a segment of which each block is dead is deleted.
-    #[tactic(auto, unfolding(crate::specs::Job::looked_at))]
+    #[tactic(auto, unfolding(crate::specs::Job::job_look))]
     fn look(
         self,
         alloc: Global,
@@ -199,8 +199,8 @@ impl Job {
         was_asked: bool,
         checks: List<Check>,
     ) -> Mem<Phase>
-        ensures phase { IfOk result (λ phase. phase ≡ (looked_at self segment was_asked checks).state) }
-        ensures outs { OnOk result (outs.new ≡ outs.old ++ (looked_at self segment was_asked checks).outs) }
+        ensures phase { IfOk result (λ phase. phase ≡ (job_look self segment was_asked checks).state) }
+        ensures outs { OnOk result (outs.new ≡ outs.old ++ (job_look self segment was_asked checks).outs) }
     {
         if all_dead(checks.as_slice()) {
             drop(checks);
@@ -267,8 +267,8 @@ impl Job {
 
     // Each of its members' servers is to delete the segment.
     fn delete(self, alloc: Global, outs: &mut List<Out>, segment: SegRef) -> Mem<Phase>
-        ensures phase { IfOk result (λ phase. phase ≡ (deleting self segment).state) }
-        ensures outs { OnOk result (outs.new ≡ outs.old ++ (deleting self segment).outs) }
+        ensures phase { IfOk result (λ phase. phase ≡ (job_delete self segment).state) }
+        ensures outs { OnOk result (outs.new ≡ outs.old ++ (job_delete self segment).outs) }
     {
         match servers_of(alloc, &self.groups, segment) {
             Ok(servers) => {
@@ -316,8 +316,8 @@ impl Job {
     }
 
     fn go_on(mut self, outs: &mut List<Out>, segment: SegRef, servers: List<u8>) -> Mem<Phase>
-        ensures phase { IfOk result (λ phase. phase ≡ (left_to_delete self segment servers).state) }
-        ensures outs { OnOk result (outs.new ≡ outs.old ++ (left_to_delete self segment servers).outs) }
+        ensures phase { IfOk result (λ phase. phase ≡ (job_go_on self segment servers).state) }
+        ensures outs { OnOk result (outs.new ≡ outs.old ++ (job_go_on self segment servers).outs) }
     {
         if !servers.is_empty() {
             return Ok(Phase::Deleting {

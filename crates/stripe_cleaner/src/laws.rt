@@ -3,7 +3,7 @@
 ghost use Rattle.std.specs.Prelude.{ℕ, List, [], ◌∷◌, ◌++◌};
 ghost use Rattle.std.specs.List.{AllByRecursion};
 ghost use Rattle.stripe_cleaner.specs.declared.input.In.{In};
-ghost use Rattle.stripe_cleaner.specs.CleaningState.{started};
+ghost use Rattle.stripe_cleaner.specs.CleaningState.{cleaning_start};
 ghost use Rattle.stripe_cleaner.specs.Histories.{state_after, EmptiesBelow, DeletesEmptied};
 ghost use Rattle.stripe_cleaner.specs.Transition.{transition};
 
@@ -11,12 +11,12 @@ ghost use Rattle.stripe_cleaner.specs.Transition.{transition};
 /// the Welcome of the job.
 pub fn empties_below_the_horizon()
     ensures { (count : ℕ) (history : List In) (input : In)
-        → AllByRecursion (EmptiesBelow (started count) (history ++ input ∷ [])) (transition (state_after (started count) history) input).outs }
+        → AllByRecursion (EmptiesBelow (cleaning_start count) (history ++ input ∷ [])) (transition (state_after (cleaning_start count) history) input).outs }
 {}
 
 /// A segment is deleted only after it was read and each of its Block items was then answered Dead in the
 /// promised epoch, after it was moved or where it was never live.
 pub fn deletes_what_is_emptied()
     ensures { (count : ℕ) (history : List In) (input : In)
-        → AllByRecursion (DeletesEmptied (started count) (history ++ input ∷ [])) (transition (state_after (started count) history) input).outs }
+        → AllByRecursion (DeletesEmptied (cleaning_start count) (history ++ input ∷ [])) (transition (state_after (cleaning_start count) history) input).outs }
 {}

@@ -1,8 +1,8 @@
 //! The gathering of what the storage servers hold.
 ghost use Rattle.std.specs.Prelude.{◌≡◌, ◌++◌, [], IfOk, OnOk, slice_index};
 ghost use Rattle.stripe_cleaner.specs.Candidates.{horizon_at, least_horizon, is_cleaned, is_candidate, candidates_with};
-ghost use Rattle.stripe_cleaner.specs.Listing.{all_servers, begun, is_among, without};
-ghost use Rattle.stripe_cleaner.specs.Transition.{lists, heard, listed, on_list};
+ghost use Rattle.stripe_cleaner.specs.Listing.{all_servers, listing_begin, is_among, without};
+ghost use Rattle.stripe_cleaner.specs.Transition.{lists, listing_hear, listing_go_on, on_list};
 
 use crate::counting::Counting;
 use crate::output::Out;
@@ -59,7 +59,7 @@ impl Listing {
 
     /// No list is in, and all servers are awaited.
     pub(crate) fn begin(alloc: Global, slots: List<SlotNews>, groups: GroupMap) -> Mem<Listing>
-        ensures { IfOk result (λ listing. listing ≡ begun slots groups) }
+        ensures { IfOk result (λ listing. listing ≡ listing_begin slots groups) }
     {
         match all_servers(alloc, groups.servers()) {
             Ok(awaited) => Ok(Listing {
@@ -107,7 +107,7 @@ impl Listing {
     }
 
     fn hear(&mut self, alloc: Global, server: u8, held: &[FragMeta]) -> Mem<()>
-        ensures { OnOk result (self.new ≡ heard self.old server held.now) }
+        ensures { OnOk result (self.new ≡ listing_hear self.old server held.now) }
     {
         let awaited = mem::replace(&mut self.awaited, List::new(alloc));
         let others = without(alloc, awaited, server)?;
@@ -117,8 +117,8 @@ impl Listing {
 
     // Once all lists are in, the slots are asked for their counts.
     fn go_on(self, alloc: Global, outs: &mut List<Out>) -> Mem<Phase>
-        ensures phase { IfOk result (λ phase. phase ≡ (listed self).state) }
-        ensures outs { OnOk result (outs.new ≡ outs.old ++ (listed self).outs) }
+        ensures phase { IfOk result (λ phase. phase ≡ (listing_go_on self).state) }
+        ensures outs { OnOk result (outs.new ≡ outs.old ++ (listing_go_on self).outs) }
     {
         if !self.awaited.is_empty() {
             return Ok(Phase::Listing(self));

@@ -2,7 +2,7 @@
 ghost use Rattle.std.specs.Prelude.{◌≡◌, ◌++◌, ◌<◌, IfOk, OnOk};
 ghost use Rattle.xfs_base.specs.Limits.{u32_end};
 ghost use Rattle.stripe_cleaner.specs.Checks.{live_at, dead_at};
-ghost use Rattle.stripe_cleaner.specs.Transition.{is_greeting, mapped, forgetting, listed_in, counted_in, read_in, answered_in, moved_in, deleted_in, awaits};
+ghost use Rattle.stripe_cleaner.specs.Transition.{is_greeting, mapped, forgetting, listed_in, counted_in, read_in, answered_in, moved_in, deleted_in, phase_asking};
 
 use crate::checks::{Check, add_questions};
 use crate::counting::Counting;
@@ -237,7 +237,7 @@ impl Phase {
     /// This phase, in which what is awaited is asked for.
     pub(crate) fn asking(self, outs: &mut List<Out>) -> Mem<Phase>
         ensures phase { IfOk result (λ phase. phase ≡ self) }
-        ensures outs { OnOk result (outs.new ≡ outs.old ++ awaits self) }
+        ensures outs { OnOk result (outs.new ≡ outs.old ++ phase_asking self) }
     {
         match self.tick(outs) {
             Ok(()) => Ok(self),
@@ -250,7 +250,7 @@ impl Phase {
 
     /// Asks again for what is awaited.
     pub(crate) fn tick(&self, outs: &mut List<Out>) -> Mem<()>
-        ensures { OnOk result (outs.new ≡ outs.old ++ awaits self.now) }
+        ensures { OnOk result (outs.new ≡ outs.old ++ phase_asking self.now) }
     {
         match self {
             Phase::Greeting => outs.push(Out::Hello),

@@ -9,26 +9,26 @@ use Rattle.std.proofs.Math.Dec.{eqb-suc-zero}
 use Rattle.std.proofs.lemmas.List.Elements.{All-nil, All-cons, All-append, All-take, All-drop, All-replicate}
 use Rattle.std.specs.List.{concat}
 use Rattle.std.specs.Prelude.{All}
-use Rattle.stripe_code.specs.Stripe.{IsBytes, part_of, zeros, padded, pieces}
+use Rattle.stripe_code.specs.Stripe.{IsBytes, part_len, zeros, piece_of, cut_pieces}
 
-pub length-pieces : (count part : ℕ) (text : List ℕ) → length (pieces count part text) ≡ count
-length-pieces zero part text = refl
-length-pieces (suc count) part text = ap suc (length-pieces count part (drop part text))
+pub length-cut_pieces : (count part : ℕ) (text : List ℕ) → length (cut_pieces count part text) ≡ count
+length-cut_pieces zero part text = refl
+length-cut_pieces (suc count) part text = ap suc (length-cut_pieces count part (drop part text))
 
-pub pieces_long : (count part : ℕ) (text : List ℕ) → All (λ f. length f ≡ part) (pieces count part text)
+pub pieces_long : (count part : ℕ) (text : List ℕ) → All (λ f. length f ≡ part) (cut_pieces count part text)
 pieces_long zero part text = All-nil (λ (f : List ℕ). length f ≡ part)
 pieces_long (suc count) part text =
     let front : length (take part text) ≤ part = omega (arith, length-take part text) in
-    let long : length (padded part (take part text)) ≡ part =
+    let long : length (piece_of part (take part text)) ≡ part =
     length-append (take part text) (zeros (part - length (take part text)))
     ∙ ap (λ (n : ℕ). length (take part text) + n) (length-replicate (part - length (take part text)) 0) ∙ omega arith in
-    All-cons (λ (f : List ℕ). length f ≡ part) (padded part (take part text)) (pieces count part (drop part text)) long
+    All-cons (λ (f : List ℕ). length f ≡ part) (piece_of part (take part text)) (cut_pieces count part (drop part text)) long
     (pieces_long count part (drop part text))
 
-pub pieces_bytes : (count part : ℕ) (text : List ℕ) → IsBytes text → All IsBytes (pieces count part text)
+pub pieces_bytes : (count part : ℕ) (text : List ℕ) → IsBytes text → All IsBytes (cut_pieces count part text)
 pieces_bytes zero part text bytes = All-nil IsBytes
 pieces_bytes (suc count) part text bytes =
-    All-cons IsBytes (padded part (take part text)) (pieces count part (drop part text))
+    All-cons IsBytes (piece_of part (take part text)) (cut_pieces count part (drop part text))
     (All-append (λ byte. byte < 256) (take part text) (zeros (part - length (take part text))) (All-take (λ byte. byte < 256) part text bytes)
     (All-replicate (λ byte. byte < 256) (part - length (take part text)) 0 (omega arith)))
     (pieces_bytes count part (drop part text) (All-drop (λ byte. byte < 256) part text bytes))
@@ -37,14 +37,14 @@ long_padding : (m n k : ℕ) → k ≡ m + n → zeros m ++ zeros n ≡ zeros k
 long_padding m n k e = replicate-append-replicate m n 0 ∙ ap zeros (sym e)
 
 -- end to end, where they suffice, they are the text and zeros
-pub concat-pieces : (count part : ℕ) (text : List ℕ) → length text ≤ count * part → concat (pieces count part text) ≡ padded (count * part) text
-concat-pieces zero part [] within = ap zeros (let e : 0 ≡ 0 * part - 0 = omega arith in e)
-concat-pieces zero part (x ∷ text) within = absurd (let none : 0 * part ≡ 0 = omega arith in omega arith)
-concat-pieces (suc count) part text within =
+pub concat-cut_pieces : (count part : ℕ) (text : List ℕ) → length text ≤ count * part → concat (cut_pieces count part text) ≡ piece_of (count * part) text
+concat-cut_pieces zero part [] within = ap zeros (let e : 0 ≡ 0 * part - 0 = omega arith in e)
+concat-cut_pieces zero part (x ∷ text) within = absurd (let none : 0 * part ≡ 0 = omega arith in omega arith)
+concat-cut_pieces (suc count) part text within =
     let more : suc count * part ≡ part + count * part = suc-mul count part ∙ add_comm (count * part) part in
     let rest : length (drop part text) ≡ length text - part = length-drop part text in
-    let end : concat (pieces count part (drop part text)) ≡ drop part text ++ zeros (count * part - length (drop part text)) =
-    concat-pieces count part (drop part text) (omega arith) in
+    let end : concat (cut_pieces count part (drop part text)) ≡ drop part text ++ zeros (count * part - length (drop part text)) =
+    concat-cut_pieces count part (drop part text) (omega arith) in
     let front = take part text in
     let front_long : length front ≡ min part (length text) = length-take part text in
     elim (cases_lt part (length text)) [
@@ -57,9 +57,9 @@ concat-pieces (suc count) part text within =
       | inr short ↦
           let whole : front ≡ text = take_all part text short in
           let over : drop part text ≡ [] = drop_all part text short in
-          let after : concat (pieces count part (drop part text)) ≡ zeros (count * part) =
+          let after : concat (cut_pieces count part (drop part text)) ≡ zeros (count * part) =
           end ∙ ap (λ (a : List ℕ). a ++ zeros (count * part - length a)) over ∙ ap zeros (sub-zero (count * part)) in
-          ap₂ (λ (a b : List ℕ). a ++ b) (ap (padded part) whole) after ∙ append_assoc text (zeros (part - length text)) (zeros (count * part))
+          ap₂ (λ (a b : List ℕ). a ++ b) (ap (piece_of part) whole) after ∙ append_assoc text (zeros (part - length text)) (zeros (count * part))
           ∙ ap (λ (a : List ℕ). text ++ a) (long_padding (part - length text) (count * part) (suc count * part - length text) (omega arith))
     ]
 
@@ -76,15 +76,15 @@ rounded_up count q (suc r) low =
     let wide : count * rounded q (suc r) ≡ count * q + count = ap (λ (n : ℕ). count * n) up ∙ more in
     omega arith
 
-pub pieces_suffice : (len count : ℕ) → 0 < count → len ≤ count * part_of len count
+pub pieces_suffice : (len count : ℕ) → 0 < count → len ≤ count * part_len len count
 unfolding rounded
 pieces_suffice len count some =
     let split : len / count * count + len % count ≡ len = div-add-mod' len count in
-    subst (λ (n : ℕ). n ≤ count * part_of len count) split (rounded_up count (len / count) (len % count) (mod_below len count some))
+    subst (λ (n : ℕ). n ≤ count * part_len len count) split (rounded_up count (len / count) (len % count) (mod_below len count some))
 
 -- the text is the front of its pieces
-pub text_of_pieces : (count : ℕ) (text : List ℕ) → 0 < count → take (length text) (concat (pieces count (part_of (length text) count) text)) ≡ text
+pub text_of_pieces : (count : ℕ) (text : List ℕ) → 0 < count → take (length text) (concat (cut_pieces count (part_len (length text) count) text)) ≡ text
 text_of_pieces count text some =
-    let part = part_of (length text) count in
-    ap (take (length text)) (concat-pieces count part text (pieces_suffice (length text) count some))
+    let part = part_len (length text) count in
+    ap (take (length text)) (concat-cut_pieces count part text (pieces_suffice (length text) count some))
     ∙ take-append_seam text (zeros (count * part - length text))

@@ -5,19 +5,19 @@ use Rattle.std.specs.List.{range_with_len}
 use Rattle.std.proofs.lemmas.List.{length-append}
 use Rattle.stripe_code.specs.Fragments.{fragment_at}
 use Rattle.stripe_code.specs.Joined.{AreOf}
-use Rattle.stripe_code.specs.Stripe.{IsCut, part_of, pieces, stripe_of}
-use Rattle.stripe_code.proofs.Pieces.{length-pieces}
+use Rattle.stripe_code.specs.Stripe.{IsCut, part_len, cut_pieces, stripe_of}
+use Rattle.stripe_code.proofs.Pieces.{length-cut_pieces}
 
 -- a stripe has as many fragments as there are members
 pub length_stripe : (text : List ℕ) (n parity : ℕ) → IsCut n parity → length (stripe_of text n parity) ≡ n
 unfolding stripe_of
 length_stripe text n zero cut = absurd (let a = cut.some in omega arith)
 length_stripe text n (suc zero) cut =
-    length-append (pieces (n - 1) (part_of (length text) (n - 1)) text) _
-    ∙ (let a = length-pieces (n - 1) (part_of (length text) (n - 1)) text in let b = cut.least in omega arith)
+    length-append (cut_pieces (n - 1) (part_len (length text) (n - 1)) text) _
+    ∙ (let a = length-cut_pieces (n - 1) (part_len (length text) (n - 1)) text in let b = cut.least in omega arith)
 length_stripe text n (suc (suc zero)) cut =
-    length-append (pieces (n - 2) (part_of (length text) (n - 2)) text) _
-    ∙ (let a = length-pieces (n - 2) (part_of (length text) (n - 2)) text in let b = cut.least in omega arith)
+    length-append (cut_pieces (n - 2) (part_len (length text) (n - 2)) text) _
+    ∙ (let a = length-cut_pieces (n - 2) (part_len (length text) (n - 2)) text in let b = cut.least in omega arith)
 length_stripe text n (suc (suc (suc p))) cut = absurd (let a = cut.few in omega arith)
 
 -- each that is there is the stripe's at its place

@@ -11,21 +11,21 @@ use Rattle.stripe_code.specs.declared.round.Told.{Told}
 use Rattle.stripe_code.specs.declared.round.Told.TheVariants.{Held, Missing}
 use Rattle.xfs_base.specs.declared.fragment.Fragment.{Fragment}
 use Rattle.xfs_base.proofs.Booleans.{and_first, and_second}
-use Rattle.stripe_code.specs.Round.{RoundSoFar, IsRound, IsPart, TellsPart, count_of, bytes_in, bytes_told, len_in, len_told, parts_in, told_fits, says_as_before}
-use Rattle.stripe_code.specs.Joined.{HasLengths, excess, missing_from}
-use Rattle.stripe_code.specs.Stripe.{IsCut, part_of}
+use Rattle.stripe_code.specs.Round.{RoundSoFar, IsRound, IsPart, TellsPart, count_of, bytes_in, bytes_told, len_in, len_told, parts_in, told_fits, is_as_before}
+use Rattle.stripe_code.specs.Joined.{HasLengths, too_many, missing_from}
+use Rattle.stripe_code.specs.Stripe.{IsCut, part_len}
 
 -- ---- the parts that are in are as long as joining asks
 
 bytes_long_more : (n count len index : ℕ) (told : Told) (others : Option (List ℕ)) → TellsPart n count len told
-    → IfSome others (λ b. length b ≡ part_of len count)
-    → IfSome (bytes_told index told others) (λ b. length b ≡ part_of len count)
+    → IfSome others (λ b. length b ≡ part_len len count)
+    → IfSome (bytes_told index told others) (λ b. length b ≡ part_len len count)
 bytes_long_more n count len index (Missing g) others part long = long
 bytes_long_more n count len index (Held f) others part long =
-    elim (f.meta.index == index) as (λ t. IfSome (if t then Some f.bytes else others) (λ b. length b ≡ part_of len count)) [ true ↦ part.long | false ↦ long ]
+    elim (f.meta.index == index) as (λ t. IfSome (if t then Some f.bytes else others) (λ b. length b ≡ part_len len count)) [ true ↦ part.long | false ↦ long ]
 
 bytes_long : (n count len index : ℕ) (answers : List Answer) → All (λ a. TellsPart n count len a.told) answers
-    → IfSome (bytes_in index answers) (λ b. length b ≡ part_of len count)
+    → IfSome (bytes_in index answers) (λ b. length b ≡ part_len len count)
 bytes_long n count len index [] all = tt
 bytes_long n count len index (a ∷ rest) all =
     bytes_long_more n count len index a.told (bytes_in index rest) (All-head (λ (b : Answer). TellsPart n count len b.told) a rest all)
@@ -35,9 +35,9 @@ each_index : (P : Option (List ℕ) → Type 0) (f : ℕ → Option (List ℕ)) 
 each_index P f from zero all = All-nil P
 each_index P f from (suc n) all = All-cons P (f from) (map f (range_with_len (from + 1) n)) (all from) (each_index P f (from + 1) n all)
 
-pub round_lengths : (r : RoundSoFar) → IsRound r → HasLengths (part_of (unwrap_or (len_in r.answers) 0) (count_of r)) (parts_in r.n r.answers)
+pub round_lengths : (r : RoundSoFar) → IsRound r → HasLengths (part_len (unwrap_or (len_in r.answers) 0) (count_of r)) (parts_in r.n r.answers)
 round_lengths r fact =
-    each_index (λ p. IfSome p (λ f. length f ≡ part_of (unwrap_or (len_in r.answers) 0) (count_of r))) (λ index. bytes_in index r.answers) 0 r.n
+    each_index (λ p. IfSome p (λ f. length f ≡ part_len (unwrap_or (len_in r.answers) 0) (count_of r))) (λ index. bytes_in index r.answers) 0 r.n
     (λ index. bytes_long r.n (count_of r) (unwrap_or (len_in r.answers) 0) index r.answers fact.parts)
 
 -- ---- one more answer
@@ -68,7 +68,7 @@ none_in n count len (a ∷ rest) none =
     All-cons (λ (b : Answer). TellsPart n count len b.told) a rest here.0 (none_in n count len rest here.1)
 
 new_part : (n count : ℕ) (before : Option ℕ) (f : Fragment)
-    → (nat_lt f.meta.index n && says_as_before before f.meta.len && (length f.bytes == part_of f.meta.len count)) ≡ true
+    → (nat_lt f.meta.index n && is_as_before before f.meta.len && (length f.bytes == part_len f.meta.len count)) ≡ true
     → IsPart n count (unwrap_or (or_else before (Some f.meta.len)) 0) f
 unfolding or_else
 new_part n count None f h =
@@ -76,7 +76,7 @@ new_part n count None f h =
     record {
       index = ltb-true f.meta.index n (and_first (nat_lt f.meta.index n) _ front);
       says = refl;
-      long = eqb-true (length f.bytes) (part_of f.meta.len count) (and_second (nat_lt f.meta.index n && true) _ h);
+      long = eqb-true (length f.bytes) (part_len f.meta.len count) (and_second (nat_lt f.meta.index n && true) _ h);
     }
 new_part n count (Some len) f h =
     let front = and_first (nat_lt f.meta.index n && (f.meta.len == len)) _ h in
@@ -84,8 +84,8 @@ new_part n count (Some len) f h =
     record {
       index = ltb-true f.meta.index n (and_first (nat_lt f.meta.index n) _ front);
       says = same;
-      long = eqb-true (length f.bytes) (part_of f.meta.len count) (and_second (nat_lt f.meta.index n && (f.meta.len == len)) _ h)
-          ∙ ap (λ (k : ℕ). part_of k count) same;
+      long = eqb-true (length f.bytes) (part_len f.meta.len count) (and_second (nat_lt f.meta.index n && (f.meta.len == len)) _ h)
+          ∙ ap (λ (k : ℕ). part_len k count) same;
     }
 
 new_told : (r : RoundSoFar) (told : Told) → told_fits r told ≡ true
@@ -122,14 +122,14 @@ round_cut r ps fact e =
     subst (λ (n : ℕ). IsCut n r.parity) (sym many) fact.cut
 
 pub round_parts : (r : RoundSoFar) (ps : List (Option (List ℕ))) → IsRound r → ps ≡ parts_in r.n r.answers
-    → HasLengths (part_of (unwrap_or (len_in r.answers) 0) (length ps - r.parity)) ps
+    → HasLengths (part_len (unwrap_or (len_in r.answers) 0) (length ps - r.parity)) ps
 round_parts r ps fact e =
     let many : length ps ≡ r.n = ap (λ (qs : List (Option (List ℕ))). length qs) e ∙ length-map-range_with_len (λ index. bytes_in index r.answers) 0 r.n in
     let len = unwrap_or (len_in r.answers) 0 in
-    subst (λ (n : ℕ). HasLengths (part_of len (n - r.parity)) ps) (sym many)
-    (subst (λ (qs : List (Option (List ℕ))). HasLengths (part_of len (count_of r)) qs) (sym e) (round_lengths r fact))
+    subst (λ (n : ℕ). HasLengths (part_len len (n - r.parity)) ps) (sym many)
+    (subst (λ (qs : List (Option (List ℕ))). HasLengths (part_len len (count_of r)) qs) (sym e) (round_lengths r fact))
 
-few_excess : (parity : ℕ) → 1 ≤ parity → parity ≤ 2 → (gone : List ℕ) → length gone ≤ parity → excess parity gone ≡ None
+few_excess : (parity : ℕ) → 1 ≤ parity → parity ≤ 2 → (gone : List ℕ) → length gone ≤ parity → too_many parity gone ≡ None
 few_excess zero some limit gone few = absurd (omega arith)
 few_excess (suc zero) some limit [] few = refl
 few_excess (suc zero) some limit (a ∷ []) few = refl
@@ -158,7 +158,7 @@ missing_and_there i (Some f ∷ ps) =
 
 -- where enough is in, no more is missing than the parity makes good
 pub enough_in : (r : RoundSoFar) (ps : List (Option (List ℕ))) → IsRound r → ps ≡ parts_in r.n r.answers → count_of r ≤ count_by is_some ps
-    → excess r.parity (missing_from 0 ps) ≡ None
+    → too_many r.parity (missing_from 0 ps) ≡ None
 enough_in r ps fact e enough =
     let many : length ps ≡ r.n = ap (λ (qs : List (Option (List ℕ))). length qs) e ∙ length-map-range_with_len (λ index. bytes_in index r.answers) 0 r.n in
     let all = missing_and_there 0 ps in

@@ -14,7 +14,7 @@ use Rattle.stripe_code.specs.declared.round.Told.TheVariants.{Held, Missing}
 use Rattle.stripe_code.specs.Fragments.{fragment_at}
 use Rattle.stripe_code.specs.Joined.{AreOf, missing_from, joined}
 use Rattle.stripe_code.specs.WhatWasCut.{ToldOf, ReadsWhatWasCut}
-use Rattle.stripe_code.specs.Round.{RoundSoFar, IsRound, count_of, len_in, len_told, bytes_in, bytes_told, parts_in, is_enough, have_answered, missing_in, state_of}
+use Rattle.stripe_code.specs.Round.{RoundSoFar, IsRound, count_of, len_in, len_told, bytes_in, bytes_told, parts_in, is_enough, all_answered, missing_in, state_of}
 use Rattle.stripe_code.specs.Stripe.{IsBytes, stripe_of}
 use Rattle.stripe_code.proofs.Given.{gives_back}
 use Rattle.stripe_code.proofs.Places.{length_stripe, are_of, none_counted}
@@ -92,7 +92,7 @@ unfolding state_of
 reads_what_was_cut r text found round bytes told =
     by_test (λ (s : RoundState). s ≡ Read found → found ≡ text) (is_enough r)
     (Read (joined (parts_in r.n r.answers) r.parity (unwrap_or (len_in r.answers) 0)))
-    (if have_answered r.answers r.servers then Short (missing_in r.answers) else Waiting)
+    (if all_answered r.answers r.servers then Short (missing_in r.answers) else Waiting)
     (λ t same. (let fact = joined_is r text round bytes told (leb-true (count_of r) (count_by is_some (parts_in r.n r.answers)) t) in cc))
-    (λ t. by_test (λ (s : RoundState). s ≡ Read found → found ≡ text) (have_answered r.answers r.servers) (Short (missing_in r.answers)) Waiting
+    (λ t. by_test (λ (s : RoundState). s ≡ Read found → found ≡ text) (all_answered r.answers r.servers) (Short (missing_in r.answers)) Waiting
     (λ k same. absurd cc) (λ k same. absurd cc))

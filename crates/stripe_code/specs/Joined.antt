@@ -20,11 +20,11 @@ pub use Rattle.fragment_sums.specs.Recovered.{
 }
 
 -- what is said where more are missing than the parity makes good: the first of them
-abbrev pub excess : ℕ → List ℕ → Option JoinError
-excess parity [] = None
-excess parity (a ∷ []) = None
-excess parity (a ∷ b ∷ []) = if parity == 1 then Some (TwoGone a b) else None
-excess parity (a ∷ b ∷ c ∷ rest) = if parity == 1 then Some (TwoGone a b) else Some (ThreeGone a b c)
+abbrev pub too_many : ℕ → List ℕ → Option JoinError
+too_many parity [] = None
+too_many parity (a ∷ []) = None
+too_many parity (a ∷ b ∷ []) = if parity == 1 then Some (TwoGone a b) else None
+too_many parity (a ∷ b ∷ c ∷ rest) = if parity == 1 then Some (TwoGone a b) else Some (ThreeGone a b c)
 
 -- the text of this length whose stripe has these fragments
 unfoldable pub joined : List (Option (List ℕ)) → ℕ → ℕ → List ℕ

@@ -8,7 +8,7 @@ use Rattle.stripe_code.specs.declared.round.RoundState.TheVariants.{Read, Short,
 use Rattle.stripe_code.specs.declared.round.Told.{Told}
 use Rattle.stripe_code.specs.declared.round.Told.TheVariants.{Held, Missing}
 use Rattle.stripe_code.specs.Joined.{joined}
-use Rattle.stripe_code.specs.Stripe.{IsCut, part_of}
+use Rattle.stripe_code.specs.Stripe.{IsCut, part_len}
 
 -- a segment cut for n members is asked for of these servers, and these answers count, in the order in which they came
 pub record RoundSoFar : Type 0 where
@@ -17,8 +17,8 @@ pub record RoundSoFar : Type 0 where
   pub servers : List ℕ
   pub answers : List Answer
 
-abbrev pub new_round : ℕ → ℕ → List ℕ → RoundSoFar
-new_round n parity servers = record { n = n; parity = parity; servers = servers; answers = [] }
+abbrev pub round_start : ℕ → ℕ → List ℕ → RoundSoFar
+round_start n parity servers = record { n = n; parity = parity; servers = servers; answers = [] }
 
 -- how many pieces the text has
 abbrev pub count_of : RoundSoFar → ℕ
@@ -36,11 +36,11 @@ unanswered r = filter (λ server. not (has_answered r.answers server)) r.servers
 
 -- the same round before any answer
 abbrev pub anew : RoundSoFar → RoundSoFar
-anew r = new_round r.n r.parity r.servers
+anew r = round_start r.n r.parity r.servers
 
 -- what a server told, where it is the first that it tells
-unfoldable pub taken : RoundSoFar → ℕ → Told → RoundSoFar
-taken r server told = if has_answered r.answers server then r else record r { answers = r.answers ++ record { server = server; told = told } ∷ [] }
+unfoldable pub round_take : RoundSoFar → ℕ → Told → RoundSoFar
+round_take r server told = if has_answered r.answers server then r else record r { answers = r.answers ++ record { server = server; told = told } ∷ [] }
 
 -- ---- what is in
 
@@ -79,26 +79,26 @@ parts_in n answers = map (λ index. bytes_in index answers) (range_with_len 0 n)
 abbrev pub is_enough : RoundSoFar → Bool
 is_enough r = nat_le (count_of r) (count_by is_some (parts_in r.n r.answers))
 
-abbrev pub have_answered : List Answer → List ℕ → Bool
-have_answered answers servers = list_all (λ server. has_answered answers server) servers
+abbrev pub all_answered : List Answer → List ℕ → Bool
+all_answered answers servers = list_all (λ server. has_answered answers server) servers
 
 -- the text, where enough is in; else the pairs that were Missing, where all have answered; else it waits
 unfoldable pub state_of : RoundSoFar → RoundState
 state_of r =
     if is_enough r then Read (joined (parts_in r.n r.answers) r.parity (unwrap_or (len_in r.answers) 0))
-    else if have_answered r.answers r.servers then Short (missing_in r.answers)
+    else if all_answered r.answers r.servers then Short (missing_in r.answers)
     else Waiting
 
 -- ---- which fragments can be of the segment
 
 -- the length that is said is that of the fragments before
-abbrev pub says_as_before : Option ℕ → ℕ → Bool
-says_as_before None len = true
-says_as_before (Some before) len = len == before
+abbrev pub is_as_before : Option ℕ → ℕ → Bool
+is_as_before None len = true
+is_as_before (Some before) len = len == before
 
 -- the index is below n, the length is that of the fragments before, and there are as many bytes as that asks
 abbrev pub fits : RoundSoFar → Fragment → Bool
-fits r f = nat_lt f.meta.index r.n && says_as_before (len_in r.answers) f.meta.len && (length f.bytes == part_of f.meta.len (count_of r))
+fits r f = nat_lt f.meta.index r.n && is_as_before (len_in r.answers) f.meta.len && (length f.bytes == part_len f.meta.len (count_of r))
 
 abbrev pub told_fits : RoundSoFar → Told → Bool
 told_fits r (Held f) = fits r f
@@ -108,7 +108,7 @@ told_fits r (Missing g) = true
 pub record IsPart (n count len : ℕ) (f : Fragment) : Type 0 where
   pub index : f.meta.index < n
   pub says : f.meta.len ≡ len
-  pub long : length f.bytes ≡ part_of len count
+  pub long : length f.bytes ≡ part_len len count
 
 abbrev pub TellsPart : ℕ → ℕ → ℕ → Told → Type 0
 TellsPart n count len (Held f) = IsPart n count len f

@@ -1,6 +1,6 @@
 //! A text cut into the fragments of a stripe.
 ghost use Rattle.std.specs.Prelude.{◌≡◌, ◌≤◌, ◌<◌, IfOk, length, take, drop};
-ghost use Rattle.stripe_code.specs.Stripe.{IsCut, part_of, padded, pieces, stripe_of};
+ghost use Rattle.stripe_code.specs.Stripe.{IsCut, part_len, piece_of, cut_pieces, stripe_of};
 
 use fragment_sums::with_parity;
 use std::alloc::Global;
@@ -24,7 +24,7 @@ pub fn cut(alloc: Global, segment: &[u8], n: usize, parity: u8) -> Mem<List<List
 /// How long each fragment is of a text of `len` bytes that is cut into so many pieces.
 pub(crate) fn part_len(len: usize, count: usize) -> usize
     requires { 0 < count }
-    ensures { result ≡ part_of len count }
+    ensures { result ≡ part_len len count }
 {
     let whole = len / count;
     if len % count == 0 { whole } else { whole + 1 }
@@ -32,7 +32,7 @@ pub(crate) fn part_len(len: usize, count: usize) -> usize
 
 /// The text in pieces, the last filled up with zeros.
 fn cut_pieces(alloc: Global, text: &[u8], count: usize, part: usize) -> Mem<List<List<u8>>>
-    ensures { IfOk result (λ cut. cut ≡ pieces count part text.now) }
+    ensures { IfOk result (λ cut. cut ≡ cut_pieces count part text.now) }
 {
     let mut cut = List::new(alloc);
     let mut rest = text;
@@ -60,7 +60,7 @@ fn split(text: &[u8], part: usize) -> (&[u8], &[u8])
 /// The bytes, filled up with zeros.
 fn piece_of(alloc: Global, text: &[u8], part: usize) -> Mem<List<u8>>
     requires { length text.now ≤ part }
-    ensures { IfOk result (λ piece. piece ≡ padded part text.now) }
+    ensures { IfOk result (λ piece. piece ≡ piece_of part text.now) }
 {
     let mut piece = Vec::from_slice(alloc, text)?;
     piece.resize(part, 0)?;

@@ -2,8 +2,8 @@
 ghost use Rattle.std.specs.Prelude.{◌≡◌, ◌⊎◌, ◌-◌, ℕ, List as Seq, ◌∷◌, ◌++◌, Some, None, IfOk, IfErr, OnOk, length, take};
 ghost use Rattle.std.specs.List.{concat};
 ghost use Rattle.stripe_code.specs.declared.joining.JoinError.TheVariants.{Memory};
-ghost use Rattle.stripe_code.specs.Joined.{HasLengths, AreOf, missing_from, excess, filled, joined};
-ghost use Rattle.stripe_code.specs.Stripe.{IsCut, IsBytes, part_of, stripe_of};
+ghost use Rattle.stripe_code.specs.Joined.{HasLengths, AreOf, missing_from, too_many, filled, joined};
+ghost use Rattle.stripe_code.specs.Stripe.{IsCut, IsBytes, part_len, stripe_of};
 
 use crate::cutting::part_len;
 use fragment_sums::{missing, recovered};
@@ -45,14 +45,14 @@ pub fn join(
     len: usize,
 ) -> Result<List<u8>, JoinError>
     requires size { IsCut (length parts.now) parity }
-    requires lengths { HasLengths (part_of len (length parts.now - parity)) parts.now }
+    requires lengths { HasLengths (part_len len (length parts.now - parity)) parts.now }
     // Whatever is missing, the text that was cut comes back.
     ensures gives_back { IfOk result
         (λ found. (text : Seq ℕ) → IsBytes text → length text ≡ len → AreOf parts.now (stripe_of text (length parts.now) parity) → found ≡ text) }
     ensures exact { IfOk result (λ found. found ≡ joined parts.now parity len) }
     // Which refusal it is, and that it comes where too many are missing and not else, but for memory.
-    ensures enough { OnOk result (excess parity (missing_from 0 parts.now) ≡ None) }
-    ensures gone { IfErr result (λ e. (e ≡ Memory) ⊎ (excess parity (missing_from 0 parts.now) ≡ Some e)) }
+    ensures enough { OnOk result (too_many parity (missing_from 0 parts.now) ≡ None) }
+    ensures gone { IfErr result (λ e. (e ≡ Memory) ⊎ (too_many parity (missing_from 0 parts.now) ≡ Some e)) }
 {
     let gone = missing(alloc, parts)?;
     match too_many(gone.as_slice(), parity) {
@@ -68,7 +68,7 @@ pub fn join(
 #[tactic(auto, unfolding(crate::specs::Joined::joined))]
 fn join_enough(alloc: Global, parts: &[Option<List<u8>>], parity: u8, len: usize) -> Mem<List<u8>>
     requires size { IsCut (length parts.now) parity }
-    requires lengths { HasLengths (part_of len (length parts.now - parity)) parts.now }
+    requires lengths { HasLengths (part_len len (length parts.now - parity)) parts.now }
     ensures { IfOk result (λ found. found ≡ joined parts.now parity len) }
 {
     let count = parts.len() - usize::from(parity);
@@ -79,7 +79,7 @@ fn join_enough(alloc: Global, parts: &[Option<List<u8>>], parity: u8, len: usize
 
 /// What is said where more is gone than the parity makes good.
 fn too_many(gone: &[usize], parity: u8) -> Option<JoinError>
-    ensures { result ≡ excess parity gone.now }
+    ensures { result ≡ too_many parity gone.now }
 {
     match gone.split_first() {
         Some((a, rest)) => too_many_behind(*a, rest, parity),
@@ -89,7 +89,7 @@ fn too_many(gone: &[usize], parity: u8) -> Option<JoinError>
 
 /// The same, where one is gone and these behind it.
 fn too_many_behind(a: usize, rest: &[usize], parity: u8) -> Option<JoinError>
-    ensures { result ≡ excess parity (a ∷ rest.now) }
+    ensures { result ≡ too_many parity (a ∷ rest.now) }
 {
     match rest.split_first() {
         Some((b, rest)) => too_many_of(a, *b, rest, parity),
@@ -99,7 +99,7 @@ fn too_many_behind(a: usize, rest: &[usize], parity: u8) -> Option<JoinError>
 
 /// The same, where two are gone and these behind them.
 fn too_many_of(a: usize, b: usize, rest: &[usize], parity: u8) -> Option<JoinError>
-    ensures { result ≡ excess parity (a ∷ b ∷ rest.now) }
+    ensures { result ≡ too_many parity (a ∷ b ∷ rest.now) }
 {
     if parity == 1 {
         return Some(JoinError::TwoGone(a, b));

@@ -1,9 +1,9 @@
 //! One round of asking servers for the fragments of a segment.
 ghost use Rattle.std.specs.Prelude.{◌≡◌, ◌-◌, ◌<◌, ◌==◌, ◌&&◌, IsTrue, IfOk, OnOk, Option, Some, None, length, filter, not, is_some, count_by, unwrap_or};
 ghost use Rattle.std.specs.List.{list_any};
-ghost use Rattle.stripe_code.specs.Joined.{HasLengths, excess, joined, missing_from};
-ghost use Rattle.stripe_code.specs.Round.{asks, has_answered, have_answered, unanswered, anew, taken, len_in, bytes_in, missing_in, parts_in, count_of, state_of, says_as_before, fits, told_fits};
-ghost use Rattle.stripe_code.specs.Stripe.{IsCut, part_of};
+ghost use Rattle.stripe_code.specs.Joined.{HasLengths, too_many, joined, missing_from};
+ghost use Rattle.stripe_code.specs.Round.{asks, has_answered, all_answered, unanswered, anew, round_take, len_in, bytes_in, missing_in, parts_in, count_of, state_of, is_as_before, fits, told_fits};
+ghost use Rattle.stripe_code.specs.Stripe.{IsCut, part_len};
 
 use crate::cutting::part_len;
 use crate::{JoinError, join};
@@ -80,14 +80,14 @@ impl Model for Round {
 }
 
 impl Round {
-    ghost use Rattle.stripe_code.specs.Round.{new_round};
+    ghost use Rattle.stripe_code.specs.Round.{round_start};
 
     /// A round over these servers for a segment that was cut for n members with this parity: 1 or 2, and n
     /// from parity + 2 to 8. The servers should differ, one for each member; nothing here tests it, and of
     /// one that stands twice an answer counts once. Only memory can be wanting.
     pub fn start(alloc: Global, n: u8, parity: u8, servers: &[u8]) -> Mem<Round>
         requires { IsCut n parity }
-        ensures { IfOk result (λ round. round ≡ new_round n parity servers.now) }
+        ensures { IfOk result (λ round. round ≡ round_start n parity servers.now) }
     {
         Ok(Round {
             n,
@@ -102,7 +102,7 @@ impl Round {
     pub fn take(&mut self, alloc: Global, server: u8, told: Told) -> Mem<RoundState>
         requires asked { IsTrue (asks self.old server) }
         requires one_of_it { IsTrue (told_fits self.old told) }
-        ensures taken { OnOk result (self.new ≡ taken self.old server told) }
+        ensures taken { OnOk result (self.new ≡ round_take self.old server told) }
         ensures stands { IfOk result (λ state. state ≡ state_of self.new) }
     {
         self.note(server, told)?;
@@ -165,10 +165,10 @@ impl Round {
     }
 
     /// Keeps what a server told, where it is the first that it tells.
-    #[tactic(auto, unfolding(crate::specs::Round::taken))]
+    #[tactic(auto, unfolding(crate::specs::Round::round_take))]
     fn note(&mut self, server: u8, told: Told) -> Mem<()>
         requires { IsTrue (told_fits self.old told) }
-        ensures { OnOk result (self.new ≡ taken self.old server told) }
+        ensures { OnOk result (self.new ≡ round_take self.old server told) }
     {
         if self.has_answered(server) {
             drop(told);
@@ -209,8 +209,8 @@ impl Round {
 /// The text that parts join to. Enough is there, so that only memory can be wanting.
 fn joined_text(alloc: Global, parts: &[Option<List<u8>>], parity: u8, len: u32) -> Mem<List<u8>>
     requires size { IsCut (length parts.now) parity }
-    requires lengths { HasLengths (part_of len (length parts.now - parity)) parts.now }
-    requires enough { excess parity (missing_from 0 parts.now) ≡ None }
+    requires lengths { HasLengths (part_len len (length parts.now - parity)) parts.now }
+    requires enough { too_many parity (missing_from 0 parts.now) ≡ None }
     ensures { IfOk result (λ text. text ≡ joined parts.now parity len) }
 {
     match join(alloc, parts, parity, len as usize) {
@@ -242,7 +242,7 @@ fn is_one_of(servers: &[u8], server: u8) -> bool
 }
 
 fn all_answered(answers: &[Answer], servers: &[u8]) -> bool
-    ensures { result ≡ have_answered answers.now servers.now }
+    ensures { result ≡ all_answered answers.now servers.now }
 {
     for server in servers {
         if !is_among(answers, *server) {
@@ -287,7 +287,7 @@ fn len_or_zero(answers: &[Answer]) -> u32
 }
 
 fn is_as_before(before: Option<u32>, len: u32) -> bool
-    ensures { result ≡ says_as_before before len }
+    ensures { result ≡ is_as_before before len }
 {
     match before {
         None => true,

@@ -16,7 +16,7 @@ use Rattle.takeover.specs.declared.report.Report.{Report}
 use Rattle.takeover.specs.declared.source.Present.{Present}
 use Rattle.takeover.specs.Course.{IsOver}
 use Rattle.takeover.specs.TakeState.{TakeState}
-use Rattle.takeover.specs.Transition.{Done, awaited, awaits, can_ask, polls, told_at, on_told, begun_if_all, on_report, waiting, sought_again, on_maps, repeated, transition}
+use Rattle.takeover.specs.Transition.{Done, awaited, awaits, can_ask, polls, told_at, on_told, begin_if_all, on_report, waiting, sought_again, on_maps, repeated, transition}
 
 -- a step after which all is still over, and in which nothing was said
 record Ended (d : Done) : Type 0 where
@@ -30,7 +30,7 @@ nobody s node none some = contrary (sym (ap (λ nodes. list_any (λ n. same_node
 ended_report : (s : TakeState) (report : Report) → IsOver s → Ended (on_report s report)
 unfolding on_report
 ended_report s report h =
-    by_test Ended (can_ask s && awaits s report.from) (begun_if_all (record s { reports = s.reports ++ report ∷ [] })) (still s)
+    by_test Ended (can_ask s && awaits s report.from) (begin_if_all (record s { reports = s.reports ++ report ∷ [] })) (still s)
     (λ t. absurd (nobody s report.from h.reported (and_second (can_ask s) (awaits s report.from) t)))
     (λ t. record { silent = refl; over = h })
 

@@ -5,7 +5,7 @@ use Rattle.segment_format.specs.declared.segment.Segment.{Segment}
 use Rattle.segment_format.specs.declared.seg_error.SegError.{SegError}
 use Rattle.segment_format.specs.ReadingItems.{answer_of}
 use Rattle.std.specs.Prelude.{Result, Ok, Err}
-use Rattle.segment_reading.specs.Reading.{ReadingState, Step, on_answer, on_confirmed, counts, judged, read_as, goes_on, segment_found, is_target}
+use Rattle.segment_reading.specs.Reading.{ReadingState, Step, reading_take, on_confirmed, counts, reading_judge, reading_reads, goes_on, segment_found, is_met_by}
 use Rattle.segment_reading.specs.declared.reading.Next.{Next}
 use Rattle.segment_reading.specs.declared.reading.Next.TheVariants.{Wait, Ask, Again, Read, Lost}
 use Rattle.segment_reading.specs.declared.reading.Stage.{Stage}
@@ -14,29 +14,29 @@ use Rattle.segment_reading.specs.declared.target.Target.{Target}
 use Rattle.xfs_base.proofs.Booleans.{by_test, and_first}
 use Rattle.xfs_base.proofs.SegmentNames.{one_name}
 use Rattle.xfs_base.specs.Segments.{same_name}
-use Rattle.stripe_code.specs.Round.{taken, state_of}
+use Rattle.stripe_code.specs.Round.{round_take, state_of}
 use Rattle.stripe_code.specs.declared.round.RoundState.{RoundState}
 use Rattle.stripe_code.specs.declared.round.RoundState.TheVariants as round
 use Rattle.stripe_code.specs.declared.round.Told.{Told}
 
 -- ---- what is looked for stays
 
-target-read_as : (r : ReadingState) (o : Option Segment) → (read_as r o).state.target ≡ r.target
-target-read_as r (Some s) = refl
-target-read_as r None = refl
+target-reading_reads : (r : ReadingState) (o : Option Segment) → (reading_reads r o).state.target ≡ r.target
+target-reading_reads r (Some s) = refl
+target-reading_reads r None = refl
 
-target-judged : (r : ReadingState) (groups : GroupMapState) (s : RoundState) → (judged r groups s).state.target ≡ r.target
-target-judged r groups (round.Read bytes) = target-read_as r (segment_found r.target groups (answer_of bytes))
-target-judged r groups (round.Short pairs) = refl
-target-judged r groups round.Waiting = refl
+target-reading_judge : (r : ReadingState) (groups : GroupMapState) (s : RoundState) → (reading_judge r groups s).state.target ≡ r.target
+target-reading_judge r groups (round.Read bytes) = target-reading_reads r (segment_found r.target groups (answer_of bytes))
+target-reading_judge r groups (round.Short pairs) = refl
+target-reading_judge r groups round.Waiting = refl
 
-pub target-on_answer : (r : ReadingState) (groups : GroupMapState) (ask server : ℕ) (told : Told) → (on_answer r groups ask server told).state.target ≡ r.target
-unfolding on_answer
-target-on_answer r groups ask server told =
-    let now = taken r.round server told in
-    by_test (λ (s : Step). s.state.target ≡ r.target) (counts r ask server told) (judged (record r { round = now }) groups (state_of now))
+pub target-reading_take : (r : ReadingState) (groups : GroupMapState) (ask server : ℕ) (told : Told) → (reading_take r groups ask server told).state.target ≡ r.target
+unfolding reading_take
+target-reading_take r groups ask server told =
+    let now = round_take r.round server told in
+    by_test (λ (s : Step). s.state.target ≡ r.target) (counts r ask server told) (reading_judge (record r { round = now }) groups (state_of now))
     (record { state = r; next = Wait })
-    (λ t. target-judged (record r { round = now }) groups (state_of now))
+    (λ t. target-reading_judge (record r { round = now }) groups (state_of now))
     (λ t. refl)
 
 target-goes_on : (r : ReadingState) (ask : ℕ) (stage : Stage) → (goes_on r ask stage).state.target ≡ r.target
@@ -60,23 +60,23 @@ IsNamed target Again = Unit {0}
 IsNamed target Lost = Unit {0}
 
 named-found : (r : ReadingState) (target : Target) (groups : GroupMapState) (answer : Result Segment SegError)
-    → IsNamed target (read_as r (segment_found target groups answer)).next
+    → IsNamed target (reading_reads r (segment_found target groups answer)).next
 named-found r target groups (Ok s) =
-    by_test (λ (o : Option Segment). IsNamed target (read_as r o).next) (is_target target groups s) (Some s) None
+    by_test (λ (o : Option Segment). IsNamed target (reading_reads r o).next) (is_met_by target groups s) (Some s) None
     (λ t. sym (one_name target.seg.name s.name (and_first (same_name target.seg.name s.name) _ t)))
     (λ t. tt)
 named-found r target groups (Err e) = tt
 
-named-judged : (r : ReadingState) (groups : GroupMapState) (s : RoundState) → IsNamed r.target (judged r groups s).next
-named-judged r groups (round.Read bytes) = named-found r r.target groups (answer_of bytes)
-named-judged r groups (round.Short pairs) = tt
-named-judged r groups round.Waiting = tt
+named-reading_judge : (r : ReadingState) (groups : GroupMapState) (s : RoundState) → IsNamed r.target (reading_judge r groups s).next
+named-reading_judge r groups (round.Read bytes) = named-found r r.target groups (answer_of bytes)
+named-reading_judge r groups (round.Short pairs) = tt
+named-reading_judge r groups round.Waiting = tt
 
-pub named-on_answer : (r : ReadingState) (groups : GroupMapState) (ask server : ℕ) (told : Told) → IsNamed r.target (on_answer r groups ask server told).next
-unfolding on_answer
-named-on_answer r groups ask server told =
-    let now = taken r.round server told in
-    by_test (λ (s : Step). IsNamed r.target s.next) (counts r ask server told) (judged (record r { round = now }) groups (state_of now))
+pub named-reading_take : (r : ReadingState) (groups : GroupMapState) (ask server : ℕ) (told : Told) → IsNamed r.target (reading_take r groups ask server told).next
+unfolding reading_take
+named-reading_take r groups ask server told =
+    let now = round_take r.round server told in
+    by_test (λ (s : Step). IsNamed r.target s.next) (counts r ask server told) (reading_judge (record r { round = now }) groups (state_of now))
     (record { state = r; next = Wait })
-    (λ t. named-judged (record r { round = now }) groups (state_of now))
+    (λ t. named-reading_judge (record r { round = now }) groups (state_of now))
     (λ t. tt)

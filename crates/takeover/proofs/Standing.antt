@@ -8,7 +8,7 @@ use Rattle.group_map.specs.Groups.{group_of}
 use Rattle.delta_index.specs.Index.{entry_of, merged_all}
 use Rattle.delta_index.proofs.IndexJoin.{index_join}
 use Rattle.segment_format.specs.declared.segment.Segment.{Segment}
-use Rattle.segment_reading.specs.Reading.{ReadingState, begun, to_ask, on_answer, on_confirmed}
+use Rattle.segment_reading.specs.Reading.{ReadingState, reading_start, reading_unanswered, reading_take, on_confirmed}
 use Rattle.segment_reading.specs.declared.reading.Next.{Next}
 use Rattle.segment_reading.specs.declared.reading.Next.TheVariants as next
 use Rattle.segment_reading.specs.declared.target.Target.{Target}
@@ -35,11 +35,11 @@ use Rattle.takeover.specs.ReadBack.{IsReadBack, AreReadBack, Read, nothing_read,
 use Rattle.takeover.specs.Reports.{applied_of, beliefs_of}
 use Rattle.takeover.specs.Rows.{told_of}
 use Rattle.takeover.specs.Sources.{sources_of, prior_of, goes_back}
-use Rattle.takeover.specs.TakeState.{TakeState, started}
-use Rattle.takeover.specs.Transition.{Done, awaited, awaits, can_ask, fetches, polls, reads, asks, target_of, sought_over, sought, is_index, handed, next_of, go_on, with_chain, goes_on_from, has_read, lost, confirmed_as, again, judged_as, told_in, told_at, on_told, begun_if_all, on_report, waits_in, waiting, sought_again, on_maps, unanswered, repeated, transition}
+use Rattle.takeover.specs.TakeState.{TakeState, take_start}
+use Rattle.takeover.specs.Transition.{Done, awaited, awaits, can_ask, fetches, polls, take_read, ask_servers, target_of, sought_over, seek, is_index, hand_over, next_of, go_on, join_chain, go_on_from, has_read, take_lose, confirmed_as, again, take_follow, take_judge, told_at, on_told, begin_if_all, on_report, present_waiting, waiting, sought_again, on_maps, present_repeat, repeated, transition}
 use Rattle.takeover.proofs.Chains.{all_merged, one_more_whole}
 use Rattle.takeover.proofs.Ending.{nobody}
-use Rattle.takeover.proofs.Readings.{IsNamed, target-on_answer, target-on_confirmed, named-on_answer}
+use Rattle.takeover.proofs.Readings.{IsNamed, target-reading_take, target-on_confirmed, named-reading_take}
 
 -- ---- how a takeover stands
 
@@ -131,25 +131,25 @@ module _ (news : SlotNews) where
   -- ---- one source after the other
 
   reads_goes : (s : TakeState) (r : Read) (source : Source) (o : Option ReadingState) → s.news ≡ news → IsReading news s r source → LooksFor source o
-      → Goes news (still (reads s source o)) r
+      → Goes news (still (take_read s source o)) r
   reads_goes s r source o of h looks = record {
-    stands = record { of = of; by = (reading_still s r source s.groups (reads s source o).present s.ask h, looks) };
-    claims = claims_nothing (reads s source o) r;
+    stands = record { of = of; by = (reading_still s r source s.groups (take_read s source o).present s.ask h, looks) };
+    claims = claims_nothing (take_read s source o) r;
   }
 
   asks_goes : (s : TakeState) (r : Read) (source : Source) (reading : ReadingState) → s.news ≡ news → IsReading news s r source
-      → reading.target ≡ target_of source → Goes news (asks s source reading) r
+      → reading.target ≡ target_of source → Goes news (ask_servers s source reading) r
   asks_goes s r source reading of h looks = record {
-    stands = record { of = of; by = (reading_still s r source s.groups (reads s source (Some reading)).present (s.ask + 1) h, looks) };
-    claims = claims-fetches (asks s source reading).state r source.seg.name (s.ask + 1) (to_ask reading);
+    stands = record { of = of; by = (reading_still s r source s.groups (take_read s source (Some reading)).present (s.ask + 1) h, looks) };
+    claims = claims-fetches (ask_servers s source reading).state r source.seg.name (s.ask + 1) (reading_unanswered reading);
   }
 
-  sought_goes : (s : TakeState) (r : Read) (source : Source) → s.news ≡ news → IsReading news s r source → Goes news (sought s source) r
-  unfolding sought
+  sought_goes : (s : TakeState) (r : Read) (source : Source) → s.news ≡ news → IsReading news s r source → Goes news (seek s source) r
+  unfolding seek
   sought_goes s r source of h =
       elim (group_of s.groups source.seg.group) as (λ o. Goes news (sought_over s source o) r) [
         | None ↦ reads_goes s r source None of h tt
-        | Some group ↦ asks_goes s r source (begun (target_of source) group (s.ask + 1)) of h refl
+        | Some group ↦ asks_goes s r source (reading_start (target_of source) group (s.ask + 1)) of h refl
       ]
 
   -- all sources were read whole
@@ -177,7 +177,7 @@ module _ (news : SlotNews) where
       out : Out
       out = Active s.news.epoch s.index (beliefs_of s.reports) (applied_of s.news.horizon s.reports)
 
-      claims : All (Claims news over r) (handed s)
+      claims : All (Claims news over r) (hand_over s)
       claims =
           by_test (λ (outs : List Out). All (Claims news over r) outs) (is_index s.index) (out ∷ []) []
           (λ t. All-cons (Claims news over r) out [] (taken, record { reported = b.reported; nothing_read = refl }) (claims_nothing over r))
@@ -211,9 +211,9 @@ module _ (news : SlotNews) where
 
   read_goes : (s : TakeState) (r : Read) (source : Source) (segment : Segment) (back : Bool) → goes_back source segment ≡ back → s.news ≡ news
       → IsReading news s r source → segment.name ≡ source.seg.name
-      → Goes news (goes_on_from (record s { chain = told_of s.news.slot segment ∷ s.chain }) (left_of source segment back)) (read_of r segment back)
+      → Goes news (go_on_from (record s { chain = told_of s.news.slot segment ∷ s.chain }) (left_of source segment back)) (read_of r segment back)
   read_goes s r source segment back e of h name =
-      elim back as (λ b. goes_back source segment ≡ b → Goes news (goes_on_from more (left_of source segment b)) (read_of r segment b)) [
+      elim back as (λ b. goes_back source segment ≡ b → Goes news (go_on_from more (left_of source segment b)) (read_of r segment b)) [
         | true ↦ λ t. sought_goes more (read_of r segment true) before of (record {
           past = h.past;
           first = h.first;
@@ -224,7 +224,7 @@ module _ (news : SlotNews) where
           index = h.index;
           chain = grown;
         })
-        | false ↦ λ t. go_on_goes (with_chain more) (read_of r segment false) of (record {
+        | false ↦ λ t. go_on_goes (join_chain more) (read_of r segment false) of (record {
           past = h.past ++ h.first ∷ [];
           sources = h.sources ∙ sym (append_assoc h.past (h.first ∷ []) s.sources);
           whole = one_more_whole h.past r.whole h.first (segment ∷ r.present) h.whole (source, h.present, name, sym (ap (left_of source segment) t));
@@ -251,11 +251,11 @@ module _ (news : SlotNews) where
 
   -- ---- an answer
 
-  lost_goes : (s : TakeState) (r : Read) (source : Source) → s.news ≡ news → IsReading news s r source → Goes news (lost s source.seg.name) r
+  lost_goes : (s : TakeState) (r : Read) (source : Source) → s.news ≡ news → IsReading news s r source → Goes news (take_lose s source.seg.name) r
   lost_goes s r source of h = record {
     stands = record { of = of; by = inr h.reported };
-    claims = All-cons (Claims news (lost s source.seg.name).state r) (Lost source.seg.name) [] (record { reported = h.reported; nothing_read = refl })
-        (claims_nothing (lost s source.seg.name).state r);
+    claims = All-cons (Claims news (take_lose s source.seg.name).state r) (Lost source.seg.name) [] (record { reported = h.reported; nothing_read = refl })
+        (claims_nothing (take_lose s source.seg.name).state r);
   }
 
   confirmed_goes : (s : TakeState) (r : Read) (source : Source) (reading : ReadingState) (n : Next) → s.news ≡ news → IsReading news s r source
@@ -274,20 +274,20 @@ module _ (news : SlotNews) where
       confirmed_goes s r source step.state step.next of h (target-on_confirmed reading (s.ask + 1) ∙ looks)
 
   judged_goes : (s : TakeState) (r : Read) (p : Present) (reading : ReadingState) (n : Next) → s.news ≡ news → IsReading news s r p.source
-      → reading.target ≡ target_of p.source → IsNamed (target_of p.source) n → Goes news (judged_as s p.source reading n) (and_of r p (segment_of n))
+      → reading.target ≡ target_of p.source → IsNamed (target_of p.source) n → Goes news (take_follow s p.source reading n) (and_of r p (segment_of n))
   judged_goes s r p reading next.Again of h looks named = again_goes s r p.source reading of h looks
   judged_goes s r p reading (next.Read segment) of h looks named = has_read_goes s r p.source segment of h named
   judged_goes s r p reading next.Wait of h looks named = reads_goes s r p.source (Some reading) of h looks
   judged_goes s r p reading next.Ask of h looks named = reads_goes s r p.source (Some reading) of h looks
   judged_goes s r p reading next.Lost of h looks named = reads_goes s r p.source (Some reading) of h looks
 
-  told_in_goes : (s : TakeState) (r : Read) (p : Present) (o : Option ReadingState) (ask server : ℕ) (t : Told) → s.news ≡ news → IsReading news s r p.source
-      → LooksFor p.source o → Goes news (told_in s p.source o ask server t) (read_in s r p o ask server t)
-  told_in_goes s r p None ask server t of h looks = reads_goes s r p.source None of h tt
-  told_in_goes s r p (Some reading) ask server t of h looks =
-      let step = on_answer reading s.groups ask server t in
-      judged_goes s r p step.state step.next of h (target-on_answer reading s.groups ask server t ∙ looks)
-      (subst (λ (x : Target). IsNamed x step.next) looks (named-on_answer reading s.groups ask server t))
+  take_judge_goes : (s : TakeState) (r : Read) (p : Present) (o : Option ReadingState) (ask server : ℕ) (t : Told) → s.news ≡ news → IsReading news s r p.source
+      → LooksFor p.source o → Goes news (take_judge s p.source o ask server t) (read_in s r p o ask server t)
+  take_judge_goes s r p None ask server t of h looks = reads_goes s r p.source None of h tt
+  take_judge_goes s r p (Some reading) ask server t of h looks =
+      let step = reading_take reading s.groups ask server t in
+      judged_goes s r p step.state step.next of h (target-reading_take reading s.groups ask server t ∙ looks)
+      (subst (λ (x : Target). IsNamed x step.next) looks (named-reading_take reading s.groups ask server t))
 
   told_at_goes : (s : TakeState) (r : Read) (o : Option Present) (ask server : ℕ) (t : Told) → s.news ≡ news → StandsBy news s r o
       → Goes news (told_at (record s { present = None }) o ask server t) (read_at s r o ask server t)
@@ -296,7 +296,7 @@ module _ (news : SlotNews) where
     claims = claims_nothing (record s { present = None }) r;
   }
   told_at_goes s r (Some p) ask server t of by =
-      told_in_goes (record s { present = None }) r p p.reading ask server t of (reading_still s r p.source s.groups None s.ask by.0) by.1
+      take_judge_goes (record s { present = None }) r p p.reading ask server t of (reading_still s r p.source s.groups None s.ask by.0) by.1
 
   still_goes : (s : TakeState) (r : Read) → Stands news s r → Goes news (still s) r
   still_goes s r h = record { stands = h; claims = claims_nothing s r }
@@ -317,7 +317,7 @@ module _ (news : SlotNews) where
   empty [] e = refl
   empty (x ∷ xs) e = absurd (omega arith)
 
-  begun_goes : (s : TakeState) (r : Read) → s.news ≡ news → s.present ≡ None → IsFresh s r → Goes news (begun_if_all s) r
+  begun_goes : (s : TakeState) (r : Read) → s.news ≡ news → s.present ≡ None → IsFresh s r → Goes news (begin_if_all s) r
   begun_goes s r of none fresh =
       let all = record s { sources = sources_of s.news s.reports } in
       by_test (λ d. Goes news d r) (length (awaited s) == 0) (go_on all) (still s)
@@ -333,7 +333,7 @@ module _ (news : SlotNews) where
       (λ t. still_goes s r (record { of = of; by = subst (StandsBy news s r) (sym none) (inl fresh) }))
 
   heard_goes : (s : TakeState) (r : Read) (report : Report) (o : Option Present) → s.present ≡ o → s.news ≡ news → StandsBy news s r o
-      → awaits s report.from ≡ true → Goes news (begun_if_all (record s { reports = s.reports ++ report ∷ [] })) r
+      → awaits s report.from ≡ true → Goes news (begin_if_all (record s { reports = s.reports ++ report ∷ [] })) r
   heard_goes s r report None e of by some =
       elim by [
         | inl fresh ↦ begun_goes (record s { reports = s.reports ++ report ∷ [] }) r of e (fresh_still s r s.groups (s.reports ++ report ∷ []) s.present fresh)
@@ -344,7 +344,7 @@ module _ (news : SlotNews) where
   on_report_goes : (s : TakeState) (r : Read) (report : Report) → Stands news s r → Goes news (on_report s report) r
   unfolding on_report
   on_report_goes s r report h =
-      by_test (λ d. Goes news d r) (can_ask s && awaits s report.from) (begun_if_all (record s { reports = s.reports ++ report ∷ [] })) (still s)
+      by_test (λ d. Goes news d r) (can_ask s && awaits s report.from) (begin_if_all (record s { reports = s.reports ++ report ∷ [] })) (still s)
       (λ t. heard_goes s r report s.present refl h.of h.by (and_second (can_ask s) (awaits s report.from) t))
       (λ t. still_goes s r h)
 
@@ -356,9 +356,9 @@ module _ (news : SlotNews) where
   with_groups s r groups (Some p) by = (reading_still s r p.source groups s.present s.ask by.0, by.1)
 
   sought_again_goes : (s : TakeState) (r : Read) (source : Source) (o : Option ReadingState) → Stands news s r → IsReading news s r source
-      → Goes news (sought_again s (waits_in source o)) r
+      → Goes news (sought_again s (present_waiting source o)) r
   sought_again_goes s r source None all h =
-      by_test (λ d. Goes news d r) (can_ask s) (sought s source) (still s) (λ t. sought_goes s r source all.of h) (λ t. still_goes s r all)
+      by_test (λ d. Goes news d r) (can_ask s) (seek s source) (still s) (λ t. sought_goes s r source all.of h) (λ t. still_goes s r all)
   sought_again_goes s r source (Some reading) all h = still_goes s r all
 
   waiting_goes : (s : TakeState) (r : Read) (o : Option Present) → Stands news s r → StandsBy news s r o → Goes news (sought_again s (waiting o)) r
@@ -371,13 +371,13 @@ module _ (news : SlotNews) where
       let by = with_groups s r groups s.present h.by in
       waiting_goes (record s { groups = groups }) r s.present (record { of = h.of; by = by }) by
 
-  claims-unanswered : (s : TakeState) (r : Read) (source : Source) (o : Option ReadingState) → All (Claims news s r) (unanswered source o)
-  claims-unanswered s r source None = claims_nothing s r
-  claims-unanswered s r source (Some reading) = claims-fetches s r source.seg.name reading.ask (to_ask reading)
+  claims-present_repeat : (s : TakeState) (r : Read) (source : Source) (o : Option ReadingState) → All (Claims news s r) (present_repeat source o)
+  claims-present_repeat s r source None = claims_nothing s r
+  claims-present_repeat s r source (Some reading) = claims-fetches s r source.seg.name reading.ask (reading_unanswered reading)
 
   claims-repeated : (s : TakeState) (r : Read) (o : Option Present) → All (Claims news s r) (repeated o)
   claims-repeated s r None = claims_nothing s r
-  claims-repeated s r (Some p) = claims-unanswered s r p.source p.reading
+  claims-repeated s r (Some p) = claims-present_repeat s r p.source p.reading
 
   -- ---- any course of inputs
 
@@ -396,7 +396,7 @@ module _ (news : SlotNews) where
   stands_after c [] h = h
   stands_after c (i ∷ rest) h = stands_after (after_input c i) rest (input_goes c.state c.read i h).stands
 
-  at_first : (groups : GroupMapState) (clients : ℕ) → Stands news (started news groups clients) nothing_read
+  at_first : (groups : GroupMapState) (clients : ℕ) → Stands news (take_start news groups clients) nothing_read
   at_first groups clients = record { of = refl; by = inl (record { whole = refl; present = refl; index = refl; chain = refl }) }
 
 -- what is said of each thing that is told
@@ -405,7 +405,7 @@ claims_of : (news : SlotNews) (groups : GroupMapState) (clients : ℕ) (inputs :
     → Claims news (after_input (course_of news groups clients inputs) i).state (after_input (course_of news groups clients inputs) i).read out
 claims_of news groups clients inputs i out contains =
     let c = course_of news groups clients inputs in
-    let stands = stands_after news (record { state = started news groups clients; read = nothing_read }) inputs (at_first news groups clients) in
+    let stands = stands_after news (record { state = take_start news groups clients; read = nothing_read }) inputs (at_first news groups clients) in
     let goes = input_goes news c.state c.read i stands in
     All-contains (Claims news (transition c.state i).state (read_after c.state c.read i)) (transition c.state i).outs out goes.claims contains
 

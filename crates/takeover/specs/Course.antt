@@ -4,7 +4,7 @@ use Rattle.group_map.specs.GroupMapState.{GroupMapState}
 use Rattle.delta_index.specs.Index.{entry_of, merged_all}
 use Rattle.delta_index.specs.Join.{join}
 use Rattle.segment_format.specs.declared.segment.Segment.{Segment}
-use Rattle.segment_reading.specs.Reading.{ReadingState, on_answer}
+use Rattle.segment_reading.specs.Reading.{ReadingState, reading_take}
 use Rattle.segment_reading.specs.declared.reading.Next.{Next}
 use Rattle.segment_reading.specs.declared.reading.Next.TheVariants as next
 use Rattle.stripe_code.specs.declared.round.Told.{Told}
@@ -23,7 +23,7 @@ use Rattle.takeover.specs.declared.source.Present.{Present}
 use Rattle.takeover.specs.ReadBack.{Read, nothing_read, and_read, AreReadBack, told_by_all}
 use Rattle.takeover.specs.Reports.{applied_of, beliefs_of}
 use Rattle.takeover.specs.Sources.{sources_of}
-use Rattle.takeover.specs.TakeState.{TakeState, started}
+use Rattle.takeover.specs.TakeState.{TakeState, take_start}
 use Rattle.takeover.specs.Transition.{can_ask, awaited, transition}
 
 -- ---- what is read
@@ -42,7 +42,7 @@ and_of r p (Some s) = and_read r p.source s
 
 abbrev pub read_in : TakeState → Read → Present → Option ReadingState → ℕ → ℕ → Told → Read
 read_in s r p None ask server told = r
-read_in s r p (Some reading) ask server told = and_of r p (segment_of (on_answer reading s.groups ask server told).next)
+read_in s r p (Some reading) ask server told = and_of r p (segment_of (reading_take reading s.groups ask server told).next)
 
 abbrev pub read_at : TakeState → Read → Option Present → ℕ → ℕ → Told → Read
 read_at s r None ask server told = r
@@ -75,7 +75,7 @@ after_inputs c (i ∷ rest) = after_inputs (after_input c i) rest
 
 -- a takeover that took these inputs, in their order
 abbrev pub course_of : SlotNews → GroupMapState → ℕ → List In → Course
-course_of news groups clients inputs = after_inputs (record { state = started news groups clients; read = nothing_read }) inputs
+course_of news groups clients inputs = after_inputs (record { state = take_start news groups clients; read = nothing_read }) inputs
 
 -- ---- what is handed out
 

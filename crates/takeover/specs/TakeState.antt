@@ -29,6 +29,6 @@ pub record TakeState : Type 0 where
   pub index : List (BlockId × Entry)
 
 -- nothing is known yet
-abbrev pub started : SlotNews → GroupMapState → ℕ → TakeState
-started news groups clients =
+abbrev pub take_start : SlotNews → GroupMapState → ℕ → TakeState
+take_start news groups clients =
     record { news = news; groups = groups; clients = clients; reports = []; sources = []; present = None; ask = 0; chain = []; index = [] }

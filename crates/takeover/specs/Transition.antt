@@ -6,7 +6,7 @@ use Rattle.group_map.specs.Groups.{group_of}
 use Rattle.group_map.specs.declared.group.Group.{Group}
 use Rattle.delta_index.specs.Index.{merged_all}
 use Rattle.segment_format.specs.declared.segment.Segment.{Segment}
-use Rattle.segment_reading.specs.Reading.{ReadingState, Step, begun, to_ask, on_answer, on_confirmed}
+use Rattle.segment_reading.specs.Reading.{ReadingState, Step, reading_start, reading_unanswered, reading_take, on_confirmed}
 use Rattle.segment_reading.specs.declared.reading.Next.{Next}
 use Rattle.segment_reading.specs.declared.reading.Next.TheVariants as next
 use Rattle.segment_reading.specs.declared.target.Target.{Target}
@@ -50,23 +50,23 @@ abbrev pub fetches : SegName → ℕ → List ℕ → List Out
 fetches name ask servers = map (λ server. Fetch server name ask) servers
 
 -- this is read at present
-abbrev pub reads : TakeState → Source → Option ReadingState → TakeState
-reads s source reading = record s { present = Some (record { source = source; reading = reading }) }
+abbrev pub take_read : TakeState → Source → Option ReadingState → TakeState
+take_read s source reading = record s { present = Some (record { source = source; reading = reading }) }
 
 -- a round begins under the next question
-abbrev pub asks : TakeState → Source → ReadingState → Done
-asks s source r = record { state = reads (record s { ask = s.ask + 1 }) source (Some r); outs = fetches source.seg.name (s.ask + 1) (to_ask r) }
+abbrev pub ask_servers : TakeState → Source → ReadingState → Done
+ask_servers s source r = record { state = take_read (record s { ask = s.ask + 1 }) source (Some r); outs = fetches source.seg.name (s.ask + 1) (reading_unanswered r) }
 
 abbrev pub target_of : Source → Target
 target_of source = record { seg = source.seg; block = None }
 
 -- its segment is read over its group, or waits until that is known
 abbrev pub sought_over : TakeState → Source → Option Group → Done
-sought_over s source None = still (reads s source None)
-sought_over s source (Some group) = asks s source (begun (target_of source) group (s.ask + 1))
+sought_over s source None = still (take_read s source None)
+sought_over s source (Some group) = ask_servers s source (reading_start (target_of source) group (s.ask + 1))
 
-unfoldable pub sought : TakeState → Source → Done
-sought s source = sought_over s source (group_of s.groups source.seg.group)
+unfoldable pub seek : TakeState → Source → Done
+seek s source = sought_over s source (group_of s.groups source.seg.group)
 
 -- an index may have no more rows than a slot's index may have pages, 4,294,967,295
 abbrev pub is_index : List (BlockId × Entry) → Bool
@@ -76,13 +76,13 @@ is_index rows = nat_le (length rows) u32_end
 abbrev pub active : TakeState → List (BlockId × Entry) → Out
 active s index = Active s.news.epoch index (beliefs_of s.reports) (applied_of s.news.horizon s.reports)
 
-abbrev pub handed : TakeState → List Out
-handed s = if is_index s.index then active s s.index ∷ [] else []
+abbrev pub hand_over : TakeState → List Out
+hand_over s = if is_index s.index then active s s.index ∷ [] else []
 
 -- the next source is read; where none is left, the slot is handed over
 abbrev pub next_of : List Source → TakeState → Done
-next_of [] s = record { state = record s { sources = []; present = None }; outs = handed s }
-next_of (source ∷ rest) s = sought (record s { sources = rest }) source
+next_of [] s = record { state = record s { sources = []; present = None }; outs = hand_over s }
+next_of (source ∷ rest) s = seek (record s { sources = rest }) source
 
 unfoldable pub go_on : TakeState → Done
 go_on s = next_of s.sources s
@@ -90,33 +90,33 @@ go_on s = next_of s.sources s
 -- ---- a segment was read
 
 -- what a source told, each segment before those above it, is merged
-abbrev pub joined : List (BlockId × Entry) → List (List (BlockId × Entry)) → List (BlockId × Entry)
-joined index chain = fold merged_all index chain
+abbrev pub rows_join : List (BlockId × Entry) → List (List (BlockId × Entry)) → List (BlockId × Entry)
+rows_join index chain = fold merged_all index chain
 
-abbrev pub with_chain : TakeState → TakeState
-with_chain s = record s { index = joined s.index s.chain; chain = [] }
+abbrev pub join_chain : TakeState → TakeState
+join_chain s = record s { index = rows_join s.index s.chain; chain = [] }
 
 -- the segment before it is read, or the source is read whole
-abbrev pub goes_on_from : TakeState → Option Source → Done
-goes_on_from s None = go_on (with_chain s)
-goes_on_from s (Some before) = sought s before
+abbrev pub go_on_from : TakeState → Option Source → Done
+go_on_from s None = go_on (join_chain s)
+go_on_from s (Some before) = seek s before
 
 unfoldable pub has_read : TakeState → Source → Segment → Done
-has_read s source segment = goes_on_from (record s { chain = told_of s.news.slot segment ∷ s.chain }) (back_from source segment)
+has_read s source segment = go_on_from (record s { chain = told_of s.news.slot segment ∷ s.chain }) (back_from source segment)
 
 -- the slot is broken: from here on nothing is read
-abbrev pub lost : TakeState → SegName → Done
-lost s name = record { state = record s { sources = []; present = None }; outs = Lost name ∷ [] }
+abbrev pub take_lose : TakeState → SegName → Done
+take_lose s name = record { state = record s { sources = []; present = None }; outs = Lost name ∷ [] }
 
 -- ---- an answer
 
 -- between two rounds a takeover asks nothing: the next round begins at once, or the segment is lost
 abbrev pub confirmed_as : TakeState → Source → ReadingState → Next → Done
-confirmed_as s source r next.Ask = asks s source r
-confirmed_as s source r next.Lost = lost s source.seg.name
-confirmed_as s source r next.Wait = still (reads s source (Some r))
-confirmed_as s source r next.Again = still (reads s source (Some r))
-confirmed_as s source r (next.Read segment) = still (reads s source (Some r))
+confirmed_as s source r next.Ask = ask_servers s source r
+confirmed_as s source r next.Lost = take_lose s source.seg.name
+confirmed_as s source r next.Wait = still (take_read s source (Some r))
+confirmed_as s source r next.Again = still (take_read s source (Some r))
+confirmed_as s source r (next.Read segment) = still (take_read s source (Some r))
 
 abbrev pub confirmed_by : TakeState → Source → Step → Done
 confirmed_by s source step = confirmed_as s source step.state step.next
@@ -124,24 +124,24 @@ confirmed_by s source step = confirmed_as s source step.state step.next
 unfoldable pub again : TakeState → Source → ReadingState → Done
 again s source r = confirmed_by s source (on_confirmed r (s.ask + 1))
 
-abbrev pub judged_as : TakeState → Source → ReadingState → Next → Done
-judged_as s source r next.Again = again s source r
-judged_as s source r (next.Read segment) = has_read s source segment
-judged_as s source r next.Wait = still (reads s source (Some r))
-judged_as s source r next.Ask = still (reads s source (Some r))
-judged_as s source r next.Lost = still (reads s source (Some r))
+abbrev pub take_follow : TakeState → Source → ReadingState → Next → Done
+take_follow s source r next.Again = again s source r
+take_follow s source r (next.Read segment) = has_read s source segment
+take_follow s source r next.Wait = still (take_read s source (Some r))
+take_follow s source r next.Ask = still (take_read s source (Some r))
+take_follow s source r next.Lost = still (take_read s source (Some r))
 
 abbrev pub judged_by : TakeState → Source → Step → Done
-judged_by s source step = judged_as s source step.state step.next
+judged_by s source step = take_follow s source step.state step.next
 
 -- an answer to the reading of a source, where its group is known
-abbrev pub told_in : TakeState → Source → Option ReadingState → ℕ → ℕ → Told → Done
-told_in s source None ask server told = still (reads s source None)
-told_in s source (Some r) ask server told = judged_by s source (on_answer r s.groups ask server told)
+abbrev pub take_judge : TakeState → Source → Option ReadingState → ℕ → ℕ → Told → Done
+take_judge s source None ask server told = still (take_read s source None)
+take_judge s source (Some r) ask server told = judged_by s source (reading_take r s.groups ask server told)
 
 abbrev pub told_at : TakeState → Option Present → ℕ → ℕ → Told → Done
 told_at s None ask server told = still s
-told_at s (Some p) ask server told = told_in s p.source p.reading ask server told
+told_at s (Some p) ask server told = take_judge s p.source p.reading ask server told
 
 -- what a server told in answer to a question
 unfoldable pub on_told : TakeState → ℕ → ℕ → Told → Done
@@ -153,27 +153,27 @@ abbrev pub awaits : TakeState → NodeId → Bool
 awaits s node = list_any (λ n. same_node n node) (awaited s)
 
 -- once all reports are in, the reading begins
-abbrev pub begun_if_all : TakeState → Done
-begun_if_all s = if length (awaited s) == 0 then go_on (record s { sources = sources_of s.news s.reports }) else still s
+abbrev pub begin_if_all : TakeState → Done
+begin_if_all s = if length (awaited s) == 0 then go_on (record s { sources = sources_of s.news s.reports }) else still s
 
 -- the first report of a node that was polled is kept
 unfoldable pub on_report : TakeState → Report → Done
-on_report s report = if can_ask s && awaits s report.from then begun_if_all (record s { reports = s.reports ++ report ∷ [] }) else still s
+on_report s report = if can_ask s && awaits s report.from then begin_if_all (record s { reports = s.reports ++ report ∷ [] }) else still s
 
 -- ---- the groups, and time
 
-abbrev pub waits_in : Source → Option ReadingState → Option Source
-waits_in source None = Some source
-waits_in source (Some r) = None
+abbrev pub present_waiting : Source → Option ReadingState → Option Source
+present_waiting source None = Some source
+present_waiting source (Some r) = None
 
 -- the source that waits for its group
 abbrev pub waiting : Option Present → Option Source
 waiting None = None
-waiting (Some p) = waits_in p.source p.reading
+waiting (Some p) = present_waiting p.source p.reading
 
 abbrev pub sought_again : TakeState → Option Source → Done
 sought_again s None = still s
-sought_again s (Some source) = if can_ask s then sought s source else still s
+sought_again s (Some source) = if can_ask s then seek s source else still s
 
 unfoldable pub on_maps : TakeState → GroupMapState → Done
 on_maps s groups = sought_again (record s { groups = groups }) (waiting s.present)
@@ -181,13 +181,13 @@ on_maps s groups = sought_again (record s { groups = groups }) (waiting s.presen
 abbrev pub polls : List NodeId → List Out
 polls nodes = map (λ node. Poll node) nodes
 
-abbrev pub unanswered : Source → Option ReadingState → List Out
-unanswered source None = []
-unanswered source (Some r) = fetches source.seg.name r.ask (to_ask r)
+abbrev pub present_repeat : Source → Option ReadingState → List Out
+present_repeat source None = []
+present_repeat source (Some r) = fetches source.seg.name r.ask (reading_unanswered r)
 
 abbrev pub repeated : Option Present → List Out
 repeated None = []
-repeated (Some p) = unanswered p.source p.reading
+repeated (Some p) = present_repeat p.source p.reading
 
 -- what is unanswered is asked again
 abbrev pub on_tick : TakeState → List Out

@@ -1,6 +1,6 @@
 //! The reading of a takeover, one segment after the other.
 ghost use Rattle.std.specs.Prelude.{◌≡◌, ◌++◌, IfOk, OnOk, IsTrue, Some};
-ghost use Rattle.takeover.specs.Transition.{can_ask, reads, asks, sought, go_on, active, handed, with_chain, goes_on_from, has_read, lost, again, judged_as, told_in};
+ghost use Rattle.takeover.specs.Transition.{can_ask, take_read, ask_servers, seek, go_on, active, hand_over, join_chain, go_on_from, has_read, take_lose, again, take_follow, take_judge};
 
 use crate::Take;
 use crate::output::Out;
@@ -32,7 +32,7 @@ impl Take {
 
     // What the manager goes on with, unless the index is too long for a slot.
     fn hand_over(&self, alloc: Global, outs: &mut List<Out>) -> Mem<()>
-        ensures { OnOk result (outs.new ≡ outs.old ++ handed self.now) }
+        ensures { OnOk result (outs.new ≡ outs.old ++ hand_over self.now) }
     {
         let index = self.index.rows(alloc)?;
         if !is_index(index.as_slice()) {
@@ -54,11 +54,11 @@ impl Take {
     }
 
     /// The next segment of a source is read over its group, or waits until that is known.
-    #[tactic(auto, unfolding(crate::specs::Transition::sought))]
+    #[tactic(auto, unfolding(crate::specs::Transition::seek))]
     pub(crate) fn seek(&mut self, alloc: Global, outs: &mut List<Out>, source: Source) -> Mem<()>
         requires { IsTrue (can_ask self.old) }
-        ensures state { OnOk result (self.new ≡ (sought self.old source).state) }
-        ensures outs { OnOk result (outs.new ≡ outs.old ++ (sought self.old source).outs) }
+        ensures state { OnOk result (self.new ≡ (seek self.old source).state) }
+        ensures outs { OnOk result (outs.new ≡ outs.old ++ (seek self.old source).outs) }
     {
         match self.groups.lookup(source.seg.group) {
             Err(_) => {
@@ -81,8 +81,8 @@ impl Take {
         reading: Reading,
     ) -> Mem<()>
         requires { IsTrue (can_ask self.old) }
-        ensures state { OnOk result (self.new ≡ (asks self.old source reading).state) }
-        ensures outs { OnOk result (outs.new ≡ outs.old ++ (asks self.old source reading).outs) }
+        ensures state { OnOk result (self.new ≡ (ask_servers self.old source reading).state) }
+        ensures outs { OnOk result (outs.new ≡ outs.old ++ (ask_servers self.old source reading).outs) }
     {
         self.ask += 1;
         let servers = reading.unanswered(alloc)?;
@@ -93,7 +93,7 @@ impl Take {
 
     // This is read at present.
     fn read(&mut self, source: Source, reading: Option<Reading>)
-        ensures { self.new ≡ reads self.old source reading }
+        ensures { self.new ≡ take_read self.old source reading }
     {
         self.present = Some(Present { source, reading });
     }
@@ -110,8 +110,8 @@ impl Take {
         told: Told,
     ) -> Mem<()>
         requires { IsTrue (can_ask self.old) }
-        ensures state { OnOk result (self.new ≡ (told_in self.old source reading ask server told).state) }
-        ensures outs { OnOk result (outs.new ≡ outs.old ++ (told_in self.old source reading ask server told).outs) }
+        ensures state { OnOk result (self.new ≡ (take_judge self.old source reading ask server told).state) }
+        ensures outs { OnOk result (outs.new ≡ outs.old ++ (take_judge self.old source reading ask server told).outs) }
     {
         match reading {
             None => {
@@ -135,8 +135,8 @@ impl Take {
         next: Next,
     ) -> Mem<()>
         requires { IsTrue (can_ask self.old) }
-        ensures state { OnOk result (self.new ≡ (judged_as self.old source reading next).state) }
-        ensures outs { OnOk result (outs.new ≡ outs.old ++ (judged_as self.old source reading next).outs) }
+        ensures state { OnOk result (self.new ≡ (take_follow self.old source reading next).state) }
+        ensures outs { OnOk result (outs.new ≡ outs.old ++ (take_follow self.old source reading next).outs) }
     {
         match next {
             Next::Again => self.again(alloc, outs, source, reading),
@@ -173,8 +173,8 @@ impl Take {
 
     // The slot is broken.
     fn lose(&mut self, outs: &mut List<Out>, name: SegName) -> Mem<()>
-        ensures state { OnOk result (self.new ≡ (lost self.old name).state) }
-        ensures outs { OnOk result (outs.new ≡ outs.old ++ (lost self.old name).outs) }
+        ensures state { OnOk result (self.new ≡ (take_lose self.old name).state) }
+        ensures outs { OnOk result (outs.new ≡ outs.old ++ (take_lose self.old name).outs) }
     {
         self.sources.clear();
         self.present = None;
@@ -202,8 +202,8 @@ impl Take {
     // The segment before it is read, or the source is read whole.
     fn go_on_from(&mut self, alloc: Global, outs: &mut List<Out>, before: Option<Source>) -> Mem<()>
         requires { IsTrue (can_ask self.old) }
-        ensures state { OnOk result (self.new ≡ (goes_on_from self.old before).state) }
-        ensures outs { OnOk result (outs.new ≡ outs.old ++ (goes_on_from self.old before).outs) }
+        ensures state { OnOk result (self.new ≡ (go_on_from self.old before).state) }
+        ensures outs { OnOk result (outs.new ≡ outs.old ++ (go_on_from self.old before).outs) }
     {
         match before {
             Some(source) => self.seek(alloc, outs, source),
@@ -216,7 +216,7 @@ impl Take {
 
     // What the source told is merged.
     fn join_chain(&mut self, alloc: Global) -> Mem<()>
-        ensures { OnOk result (self.new ≡ with_chain self.old) }
+        ensures { OnOk result (self.new ≡ join_chain self.old) }
     {
         join(alloc, &mut self.index, &self.chain)?;
         self.chain.clear();

@@ -3,7 +3,7 @@ ghost use Rattle.std.specs.Prelude.{◌≡◌, ◌++◌, IfOk, OnOk, filter};
 ghost use Rattle.std.specs.List.{flat_map};
 ghost use Rattle.delta_index.specs.Index.{merged_all};
 ghost use Rattle.takeover.specs.Rows.{is_of, part_rows, told_of};
-ghost use Rattle.takeover.specs.Transition.{is_index, joined};
+ghost use Rattle.takeover.specs.Transition.{is_index, rows_join};
 
 use delta_index::DeltaIndex;
 use segment_format::{Item, Segment, rows_of};
@@ -79,7 +79,7 @@ pub(crate) fn is_index(rows: &[Row]) -> bool
 
 /// Merges what a source told, the lowest segment first.
 pub(crate) fn join(alloc: Global, index: &mut DeltaIndex, chain: &VecDeque<List<Row>>) -> Mem<()>
-    ensures { OnOk result (index.new ≡ joined index.old chain.now.items) }
+    ensures { OnOk result (index.new ≡ rows_join index.old chain.now.items) }
 {
     for place in 0..chain.len() {
         merge(alloc, index, chain[place].as_slice())?;

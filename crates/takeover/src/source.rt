@@ -3,7 +3,7 @@ ghost use Rattle.std.specs.Prelude.{◌≡◌, ◌++◌, ◌≤◌, IfOk, OnOk, 
 ghost use Rattle.std.specs.List.{flat_map, range_with_len};
 ghost use Rattle.xfs_base.specs.Limits.{block_logs};
 ghost use Rattle.takeover.specs.Sources.{part_source, log_sources, sources_of, back_from};
-ghost use Rattle.takeover.specs.Transition.{target_of, waits_in, unanswered, fetches};
+ghost use Rattle.takeover.specs.Transition.{target_of, present_waiting, present_repeat, fetches};
 
 use crate::output::Out;
 use crate::report::{LOGS_END, Report, end_of, horizon_at};
@@ -68,7 +68,7 @@ impl Source {
 impl Present {
     /// The source, where it waits for its group.
     pub fn waiting(&self) -> Option<Source>
-        ensures { result ≡ waits_in self.now.source self.now.reading }
+        ensures { result ≡ present_waiting self.now.source self.now.reading }
     {
         match &self.reading {
             None => Some(self.source),
@@ -78,7 +78,7 @@ impl Present {
 
     /// Asks again what is unanswered.
     pub fn repeat(&self, alloc: Global, outs: &mut List<Out>) -> Mem<()>
-        ensures { OnOk result (outs.new ≡ outs.old ++ unanswered self.now.source self.now.reading) }
+        ensures { OnOk result (outs.new ≡ outs.old ++ present_repeat self.now.source self.now.reading) }
     {
         match &self.reading {
             None => Ok(()),

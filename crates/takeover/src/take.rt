@@ -1,8 +1,8 @@
 //! The takeover.
 ghost use Rattle.std.specs.Prelude.{◌≡◌, ◌++◌, IfOk, OnOk, All, IsTrue, Some, None};
 ghost use Rattle.takeover.specs.Course.{StartsSlot};
-ghost use Rattle.takeover.specs.TakeState.{started};
-ghost use Rattle.takeover.specs.Transition.{can_ask, awaited, awaits, begun_if_all, on_report, on_told, waiting, on_maps, polls, on_tick, transition};
+ghost use Rattle.takeover.specs.TakeState.{take_start};
+ghost use Rattle.takeover.specs.Transition.{can_ask, awaited, awaits, begin_if_all, on_report, on_told, waiting, on_maps, polls, on_tick, transition};
 
 use crate::input::In;
 use crate::output::Out;
@@ -81,7 +81,7 @@ impl Take {
     /// nine numbers from 1 on, and there are 1 to 8 clients; of other news nothing more is said than what the
     /// takeover does. Its first Tick polls the clients and the cleaner.
     pub fn start(alloc: Global, news: SlotNews, groups: GroupMap, clients: u8) -> Mem<Take>
-        ensures { IfOk result (λ take. take ≡ started news groups clients) }
+        ensures { IfOk result (λ take. take ≡ take_start news groups clients) }
     {
         Ok(Take {
             news,
@@ -174,8 +174,8 @@ impl Take {
     // Once all reports are in, the reading begins.
     fn begin_if_all(&mut self, alloc: Global, outs: &mut List<Out>) -> Mem<()>
         requires { IsTrue (can_ask self.old) }
-        ensures state { OnOk result (self.new ≡ (begun_if_all self.old).state) }
-        ensures outs { OnOk result (outs.new ≡ outs.old ++ (begun_if_all self.old).outs) }
+        ensures state { OnOk result (self.new ≡ (begin_if_all self.old).state) }
+        ensures outs { OnOk result (outs.new ≡ outs.old ++ (begin_if_all self.old).outs) }
     {
         if self.awaited(alloc)?.is_empty() {
             self.sources = sources_of(alloc, &self.news, self.reports.as_slice())?;

@@ -8,16 +8,16 @@ use Rattle.xfs_base.proofs.Booleans.{or_second, or_first}
 use Rattle.token_client.specs.declared.input.In.{In}
 use Rattle.token_client.specs.declared.input.In.TheVariants.{Need, Granted, Supplied, Forwarded, Recalled, Wrote, Settled, Fetched, Evict, Reask, Quit, Promise, Tick}
 use Rattle.token_client.specs.Laws.{IsSound, needs, state_after, StaysSound, StampsNeverFall, NumbersRise, OpensByNeed}
-use Rattle.token_client.specs.State.{TokensState, started}
+use Rattle.token_client.specs.State.{TokensState, tokens_start}
 use Rattle.token_client.specs.Transition.{transition}
 use Rattle.token_client.proofs.Follows.{Follows, follows_still, follows_through, follows_weaker}
 use Rattle.token_client.proofs.Promises.{on_recalled-follows, on_promise-follows, on_tick-follows}
-use Rattle.token_client.proofs.SoundBlocks.{unknown-sound}
+use Rattle.token_client.proofs.SoundBlocks.{held_new-sound}
 use Rattle.token_client.proofs.Transitions.{on_need-follows, on_granted-follows, on_supplied-follows, on_forwarded-follows, on_wrote-follows, on_settled-follows, on_fetched-follows, on_evict-follows, on_reask-follows, on_quit-follows}
 
-pub started-sound : (inc : ℕ) (epochs : List ℕ) → IsSound (started inc epochs)
+pub tokens_start-sound : (inc : ℕ) (epochs : List ℕ) → IsSound (tokens_start inc epochs)
 unfolding IsStrictlySortedBy
-started-sound inc epochs = record { sorted = tt; each = λ b. unknown-sound _ }
+tokens_start-sound inc epochs = record { sorted = tt; each = λ b. held_new-sound _ }
 
 -- each input may open what needs it
 pub transition-follows : (opens : BlockId → Type 0) (s : TokensState) → IsSound s → (input : In) → ((b : BlockId) → needs b input ≡ true → opens b)
@@ -51,7 +51,7 @@ inputs-follow s p (i ∷ rest) =
     follows_through all s t (state_after t rest) one two
 
 pub stays_sound : StaysSound
-stays_sound inc epochs inputs = (inputs-follow (started inc epochs) (started-sound inc epochs) inputs).sound
+stays_sound inc epochs inputs = (inputs-follow (tokens_start inc epochs) (tokens_start-sound inc epochs) inputs).sound
 
 pub stamps_never_fall : StampsNeverFall
 stamps_never_fall s inputs block p = (inputs-follow s p inputs).stamps block

@@ -24,24 +24,24 @@ use Rattle.xfs_base.proofs.Orders.{not_later_itself}
 use Rattle.xfs_base.specs.Limits.{u32_end}
 use Rattle.token_client.specs.declared.held.Held.{Held}
 use Rattle.token_client.specs.declared.output.Out.TheVariants.{Want}
-use Rattle.token_client.specs.Held.{unknown, is_asking, asked, unfetched, promise_dropped}
+use Rattle.token_client.specs.Held.{held_new, is_asking, held_ask, unfetched, drop_promised}
 use Rattle.token_client.specs.Laws.{IsSound, IsSoundBlock}
 use Rattle.token_client.specs.State.{TokensState, held_of, with_held, epoch_of, is_in_slot}
-use Rattle.token_client.specs.Transition.{Done, new_want, is_promised, refetch, give, can_refetch, recalled_above, recalled_again, recalled, on_recalled, fetched_in, dropped_in, all_dropped_in, raised, ask_copy, may_promise, on_promise, is_spent, ask_again, wanted_in, on_tick}
+use Rattle.token_client.specs.Transition.{Done, tokens_ask, is_promised, refetch, give, can_refetch, recalled_above, recalled_again, recalled, on_recalled, fetched_blocks, drop_in, drop_all_in, raised, ask_copy, may_promise, on_promise, is_spent, ask_again, wanted_blocks, on_tick}
 use Rattle.token_client.proofs.Tables.{InOrder, held_of-put_itself, put_same, in_order-changed, held_of-changed}
 use Rattle.token_client.proofs.Follows.{Follows, follows_still, follows_through, follows_steps, follows_less}
-use Rattle.token_client.proofs.SoundBlocks.{asks_by_fetch, asks_less, unheld_is_unowned, unfetched-sound, promise_dropped-sound}
+use Rattle.token_client.proofs.SoundBlocks.{asks_by_fetch, asks_less, unheld_is_unowned, unfetched-sound, drop_promised-sound}
 use Rattle.token_client.proofs.Transitions.{epoch_at, ask-follows, same-follows, give-follows, recalled_again-follows, ask_again-follows}
 
 -- asking changes no epoch, and no stamp of the block
 ask-same : (s : TokensState) (block : BlockId) (mode : Mode)
-    → ((new_want s block mode).state.epochs ≡ s.epochs) × ((held_of (new_want s block mode).state.blocks block).stamp ≡ (held_of s.blocks block).stamp)
-unfolding new_want
+    → ((tokens_ask s block mode).state.epochs ≡ s.epochs) × ((held_of (tokens_ask s block mode).state.blocks block).stamp ≡ (held_of s.blocks block).stamp)
+unfolding tokens_ask
 ask-same s block mode =
     let h : Held = held_of s.blocks block in
     by_test (λ (d : Done). (d.state.epochs ≡ s.epochs) × ((held_of d.state.blocks block).stamp ≡ h.stamp)) (nat_lt s.req u32_end)
-    (record { state = record (with_held s block (asked h (s.req + 1) mode)) { req = s.req + 1 }; outs = Want block (s.req + 1) 0 mode ∷ [] }) (still s)
-    (λ t. (refl, ap (λ (g : Held). g.stamp) (held_of-put_itself block (asked h (s.req + 1) mode) s.blocks)))
+    (record { state = record (with_held s block (held_ask h (s.req + 1) mode)) { req = s.req + 1 }; outs = Want block (s.req + 1) 0 mode ∷ [] }) (still s)
+    (λ t. (refl, ap (λ (g : Held). g.stamp) (held_of-put_itself block (held_ask h (s.req + 1) mode) s.blocks)))
     (λ t. (refl, refl))
 
 refetch-same : (s : TokensState) (block : BlockId)
@@ -50,7 +50,7 @@ unfolding refetch
 refetch-same s block =
     let h : Held = held_of s.blocks block in
     let dropped : TokensState = with_held s block (unfetched h) in
-    by_test (λ (d : Done). (d.state.epochs ≡ s.epochs) × ((held_of d.state.blocks block).stamp ≡ h.stamp)) (is_some h.fetch) (new_want dropped block Copy)
+    by_test (λ (d : Done). (d.state.epochs ≡ s.epochs) × ((held_of d.state.blocks block).stamp ≡ h.stamp)) (is_some h.fetch) (tokens_ask dropped block Copy)
     (still s)
     (λ t. ((ask-same dropped block Copy).0, (ask-same dropped block Copy).1 ∙ ap (λ (g : Held). g.stamp) (held_of-put_itself block (unfetched h) s.blocks)))
     (λ t. (refl, refl))
@@ -66,21 +66,21 @@ refetch-follows opens s p block =
     let dropped : TokensState = with_held s block (unfetched h) in
     let sound : IsSoundBlock (epoch_at s block) h = p.each block in
     let now : held_of dropped.blocks block ≡ unfetched h = held_of-put_itself block (unfetched h) s.blocks in
-    by_test (λ (d : Done). Follows opens s d.state) (is_some h.fetch) (new_want dropped block Copy) (still s)
+    by_test (λ (d : Done). Follows opens s d.state) (is_some h.fetch) (tokens_ask dropped block Copy) (still s)
     (λ t.
     let asks : is_asking h ≡ true = asks_by_fetch h t in
     let one : Follows (Asked s) s dropped = same-follows (Asked s) s p block (unfetched h) refl (asks_less h) (unfetched-sound (epoch_at s block) h sound) in
-    let two : Follows (Asked s) dropped (new_want dropped block Copy).state = ask-follows (Asked s) dropped one.sound block Copy
+    let two : Follows (Asked s) dropped (tokens_ask dropped block Copy).state = ask-follows (Asked s) dropped one.sound block Copy
     (ap (λ (g : Held). is_own g.mode) now ∙ unheld_is_unowned h.mode (sound.fetch_unheld t))
     (ap (λ (g : Held). is_none g.giving) now ∙ sound.asks_ungiven asks) (inr asks) in
-    follows_less opens s (new_want dropped block Copy).state (follows_through (Asked s) s dropped (new_want dropped block Copy).state one two))
+    follows_less opens s (tokens_ask dropped block Copy).state (follows_through (Asked s) s dropped (tokens_ask dropped block Copy).state one two))
     (λ t. follows_still opens s p)
 
 -- what is known of each block once a promise has dropped what it ends
-pub dropped-known : (s : TokensState) (slot : ℕ) (b : BlockId) → held_of (all_dropped_in slot s.blocks) b ≡ dropped_in slot b (held_of s.blocks b)
+pub dropped-known : (s : TokensState) (slot : ℕ) (b : BlockId) → held_of (drop_all_in slot s.blocks) b ≡ drop_in slot b (held_of s.blocks b)
 dropped-known s slot b =
-    held_of-changed (dropped_in slot) b s.blocks
-    (by_test (λ (g : Held). g ≡ unknown) (is_in_slot slot b) (promise_dropped unknown) unknown (λ t. refl) (λ t. refl))
+    held_of-changed (drop_in slot) b s.blocks
+    (by_test (λ (g : Held). g ≡ held_new) (is_in_slot slot b) (drop_promised held_new) held_new (λ t. refl) (λ t. refl))
 
 module _ (opens : BlockId → Type 0) (s : TokensState) (p : IsSound s) where
   recalled_above-follows : (block : BlockId) (stamp : Stamp) (keep : Bool) → stamp.epoch ≡ epoch_at s block
@@ -118,34 +118,34 @@ module _ (opens : BlockId → Type 0) (s : TokensState) (p : IsSound s) where
   pub on_tick-follows : Follows opens s (on_tick s).state
   unfolding on_tick
   on_tick-follows =
-      by_test (λ (d : Done). Follows opens s d.state) (list_any (λ h. is_spent h.want) (values_of s.blocks)) (still s) (steps ask_again s (wanted_in s.blocks))
+      by_test (λ (d : Done). Follows opens s d.state) (list_any (λ h. is_spent h.want) (values_of s.blocks)) (still s) (steps ask_again s (wanted_blocks s.blocks))
       (λ t. follows_still opens s p)
-      (λ t. follows_steps opens ask_again (λ u block q. ask_again-follows opens u q block) s (wanted_in s.blocks) p)
+      (λ t. follows_steps opens ask_again (λ u block q. ask_again-follows opens u q block) s (wanted_blocks s.blocks) p)
 
   -- a promise drops what it ends
   dropped-sound : (slot epoch : ℕ) (b : BlockId)
-      → IsSoundBlock (epoch_of (slice_set s.epochs slot epoch) (slot_of b.ino.0)) (dropped_in slot b (held_of s.blocks b))
+      → IsSoundBlock (epoch_of (slice_set s.epochs slot epoch) (slot_of b.ino.0)) (drop_in slot b (held_of s.blocks b))
   dropped-sound slot epoch b =
       let h : Held = held_of s.blocks b in
       let other : is_in_slot slot b ≡ false → slot_of b.ino.0 ≢ slot = λ f. apart (slot_of b.ino.0) slot f in
-      by_test (IsSoundBlock (epoch_of (slice_set s.epochs slot epoch) (slot_of b.ino.0))) (is_in_slot slot b) (promise_dropped h) h
-      (λ t. promise_dropped-sound (epoch_at s b) h (p.each b) (epoch_of (slice_set s.epochs slot epoch) (slot_of b.ino.0)))
+      by_test (IsSoundBlock (epoch_of (slice_set s.epochs slot epoch) (slot_of b.ino.0))) (is_in_slot slot b) (drop_promised h) h
+      (λ t. drop_promised-sound (epoch_at s b) h (p.each b) (epoch_of (slice_set s.epochs slot epoch) (slot_of b.ino.0)))
       (λ t. subst (λ n. IsSoundBlock n h) (sym (get_or-set_other s.epochs slot (slot_of b.ino.0) epoch 0 (other t))) (p.each b))
     where
       apart : (n m : ℕ) → (n == m) ≡ false → n ≢ m
       apart n m f = grind (arith, nat_tests)
 
-  dropped-at : (slot : ℕ) (b : BlockId) (h : Held) → (dropped_in slot b h).stamp ≡ h.stamp
-  dropped-at slot b h = by_test (λ (g : Held). g.stamp ≡ h.stamp) (is_in_slot slot b) (promise_dropped h) h (λ t. refl) (λ t. refl)
+  dropped-at : (slot : ℕ) (b : BlockId) (h : Held) → (drop_in slot b h).stamp ≡ h.stamp
+  dropped-at slot b h = by_test (λ (g : Held). g.stamp ≡ h.stamp) (is_in_slot slot b) (drop_promised h) h (λ t. refl) (λ t. refl)
 
-  dropped-asks : (slot : ℕ) (b : BlockId) (h : Held) → is_asking (dropped_in slot b h) ≡ true → is_asking h ≡ true
+  dropped-asks : (slot : ℕ) (b : BlockId) (h : Held) → is_asking (drop_in slot b h) ≡ true → is_asking h ≡ true
   dropped-asks slot b h =
-      by_test (λ (g : Held). is_asking g ≡ true → is_asking h ≡ true) (is_in_slot slot b) (promise_dropped h) h (λ t a. asks_less h a) (λ t a. a)
+      by_test (λ (g : Held). is_asking g ≡ true → is_asking h ≡ true) (is_in_slot slot b) (drop_promised h) h (λ t a. asks_less h a) (λ t a. a)
 
   raised-follows : (slot epoch : ℕ) → Follows opens s (raised s slot epoch)
   raised-follows slot epoch = record {
     sound = record {
-      sorted = in_order-changed (dropped_in slot) s.blocks p.sorted;
+      sorted = in_order-changed (drop_in slot) s.blocks p.sorted;
       each = λ b. subst (IsSoundBlock (epoch_of (slice_set s.epochs slot epoch) (slot_of b.ino.0))) (sym (dropped-known s slot b)) (dropped-sound slot epoch b);
     };
     stamps = λ b. ap (λ (g : Held). is_later (held_of s.blocks b).stamp g.stamp) (dropped-known s slot b)
@@ -172,14 +172,14 @@ agrees-more : (d : BlockId × Held) (table es : List (BlockId × Held)) → AllB
 agrees-more d table [] below h = tt
 agrees-more d table (e ∷ es) below h =
     let apart : eq_by_cmp block_cmp e.0 d.0 ≡ false = ap is_eq (block_cmp_total.antisymm e.0 d.0) ∙ ap (λ o. is_eq (ordering_reverse o)) below.0 in
-    (ap (λ t. unwrap_or (cond t (Some d.1) (lookup (is_at (block_cmp e.0)) table)) unknown) apart ∙ h.0, agrees-more d table es below.1 h.1)
+    (ap (λ t. unwrap_or (cond t (Some d.1) (lookup (is_at (block_cmp e.0)) table)) held_new) apart ∙ h.0, agrees-more d table es below.1 h.1)
 
 -- a table in order answers with its own entries
 pub agrees-itself : (es : List (BlockId × Held)) → InOrder es → Agrees es es
 unfolding IsStrictlySortedBy
 agrees-itself [] s = tt
 agrees-itself (e ∷ es) s = (
-  ap (λ o. unwrap_or (cond (is_eq o) (Some e.1) (lookup (is_at (block_cmp e.0)) es)) unknown) (tied_itself block_cmp_total e.0),
+  ap (λ o. unwrap_or (cond (is_eq o) (Some e.1) (lookup (is_at (block_cmp e.0)) es)) held_new) (tied_itself block_cmp_total e.0),
   agrees-more e es es s.0 (agrees-itself es s.1),
 )
 
@@ -187,7 +187,7 @@ agrees-itself (e ∷ es) s = (
 abbrev pub IsFetched : List (BlockId × Held) → ℕ → BlockId → Type 0
 IsFetched table slot b = (is_in_slot slot b ≡ true) × (is_some (held_of table b).fetch ≡ true)
 
-pub fetched-facts : (table : List (BlockId × Held)) (slot : ℕ) (es : List (BlockId × Held)) → Agrees table es → Each (IsFetched table slot) (fetched_in slot es)
+pub fetched-facts : (table : List (BlockId × Held)) (slot : ℕ) (es : List (BlockId × Held)) → Agrees table es → Each (IsFetched table slot) (fetched_blocks slot es)
 fetched-facts table slot [] h = tt
 fetched-facts table slot (e ∷ es) h =
     by_test (λ (rows : List (BlockId × Held)). Each (IsFetched table slot) (keys_of rows)) (is_in_slot slot e.0 && is_some e.1.fetch)
@@ -207,10 +207,10 @@ abbrev IsFree : TokensState → BlockId → Type 0
 IsFree s b = (is_own (held_of s.blocks b).mode ≡ false) × (is_none (held_of s.blocks b).giving ≡ true)
 
 -- asking leaves others free
-ask-free : (s : TokensState) (block : BlockId) (mode : Mode) (b : BlockId) → IsFree s b → IsFree (new_want s block mode).state b
-unfolding new_want
+ask-free : (s : TokensState) (block : BlockId) (mode : Mode) (b : BlockId) → IsFree s b → IsFree (tokens_ask s block mode).state b
+unfolding tokens_ask
 ask-free s block mode b free =
-    let g : Held = asked (held_of s.blocks block) (s.req + 1) mode in
+    let g : Held = held_ask (held_of s.blocks block) (s.req + 1) mode in
     by_test (λ (d : Done). IsFree d.state b) (nat_lt s.req u32_end)
     (record { state = record (with_held s block g) { req = s.req + 1 }; outs = Want block (s.req + 1) 0 mode ∷ [] }) (still s)
     (λ t. (put_same (λ (h : Held). is_own h.mode) b block g s.blocks refl ∙ free.0, put_same (λ (h : Held). is_none h.giving) b block g s.blocks refl ∙ free.1))
@@ -220,7 +220,7 @@ asks-follow : (opens : BlockId → Type 0) (s : TokensState) → IsSound s → (
     → Follows opens s (steps ask_copy s blocks).state
 asks-follow opens s p [] free why = follows_still opens s p
 asks-follow opens s p (b ∷ bs) free why =
-    let t : TokensState = (new_want s b Copy).state in
+    let t : TokensState = (tokens_ask s b Copy).state in
     let one : Follows opens s t = ask-follows opens s p b Copy free.0.0 free.0.1 (inr why.0) in
     follows_through opens s t (steps ask_copy t bs).state one
     (asks-follow opens t one.sound bs (Each-weaker (IsFree s) (IsFree t) (λ c. ask-free s b Copy c) bs free.1) why.1)
@@ -229,7 +229,7 @@ pub on_promise-follows : (opens : BlockId → Type 0) (s : TokensState) → IsSo
 unfolding on_promise
 on_promise-follows opens s p slot epoch =
     let risen : TokensState = raised s slot epoch in
-    let blocks : List BlockId = fetched_in slot s.blocks in
+    let blocks : List BlockId = fetched_blocks slot s.blocks in
     let facts : Each (IsFetched s.blocks slot) blocks = fetched-facts s.blocks slot s.blocks (agrees-itself s.blocks p.sorted) in
     let one : Follows (Asked s) s risen = raised-follows (Asked s) s p slot epoch in
     let free : Each (IsFree risen) blocks = Each-weaker (IsFetched s.blocks slot) (IsFree risen) (λ b f. freed b f) blocks facts in
@@ -242,5 +242,5 @@ on_promise-follows opens s p slot epoch =
     freed : (b : BlockId) → IsFetched s.blocks slot b → IsFree (raised s slot epoch) b
     freed b f =
         let h : Held = held_of s.blocks b in
-        let now : held_of (raised s slot epoch).blocks b ≡ promise_dropped h = dropped-known s slot b ∙ ap (λ t. cond t (promise_dropped h) h) f.0 in
+        let now : held_of (raised s slot epoch).blocks b ≡ drop_promised h = dropped-known s slot b ∙ ap (λ t. cond t (drop_promised h) h) f.0 in
         (ap (λ (g : Held). is_own g.mode) now ∙ unheld_is_unowned h.mode ((p.each b).fetch_unheld f.1), ap (λ (g : Held). is_none g.giving) now)

@@ -13,10 +13,10 @@ use Rattle.xfs_base.specs.Limits.{u32_end}
 use Rattle.token_client.specs.declared.held.Held.{Held}
 use Rattle.token_client.specs.declared.held.Wanted.{Wanted}
 use Rattle.token_client.specs.declared.output.Out.TheVariants.{Want, Gave, Flush, Ready}
-use Rattle.token_client.specs.Held.{is_wanted, is_answer, is_dirty, is_asking, asked, unfetched, grant_taken, copied, unasked, gives_after, put_off, given_up, promise_dropped}
+use Rattle.token_client.specs.Held.{is_wanted, is_answer, is_dirty, is_asking, held_ask, unfetched, take_grant, copy_of, quit, gives_after, put_off, give_up, drop_promised}
 use Rattle.token_client.specs.Readings.{EndedWantTakesNothing, core_of, DirtyKeepsItsStamp, PromiseDrops, QuitEnds}
 use Rattle.token_client.specs.State.{TokensState, held_of, with_held}
-use Rattle.token_client.specs.Transition.{Done, new_want, accepts, is_promised, grant_next, on_granted, on_supplied, refetch, give, can_refetch, recalled_above, was_answered, recalled_again, recalled, on_recalled, on_quit, fetched_in, raised, ask_copy, may_promise, on_promise}
+use Rattle.token_client.specs.Transition.{Done, tokens_ask, accepts, is_promised, grant_next, on_granted, on_supplied, refetch, give, can_refetch, recalled_above, was_answered, recalled_again, recalled, on_recalled, on_quit, fetched_blocks, raised, ask_copy, may_promise, on_promise}
 use Rattle.token_client.proofs.Tables.{put_same, held_of-put_itself}
 use Rattle.token_client.proofs.Promises.{dropped-known}
 
@@ -41,7 +41,7 @@ granted-still : (s : TokensState) (block : BlockId) (stamp : Stamp) (inc req : �
 unfolding on_granted
 granted-still s block stamp inc req h mode entry =
     by_test (λ (d : Done). d ≡ still s) (accepts s block stamp inc req mode)
-    (record { state = with_held s block (grant_taken (held_of s.blocks block) stamp mode entry); outs = grant_next block mode entry.place ∷ [] }) (still s)
+    (record { state = with_held s block (take_grant (held_of s.blocks block) stamp mode entry); outs = grant_next block mode entry.place ∷ [] }) (still s)
     (λ t. contrary (not_accepted s block stamp inc req mode h t)) (λ t. refl)
 
 supplied-still : (s : TokensState) (block : BlockId) (stamp : Stamp) (inc req : ℕ) → is_none (held_of s.blocks block).want ≡ true
@@ -49,7 +49,7 @@ supplied-still : (s : TokensState) (block : BlockId) (stamp : Stamp) (inc req : 
 unfolding on_supplied
 supplied-still s block stamp inc req h ver value =
     by_test (λ (d : Done). d ≡ still s) (accepts s block stamp inc req Copy)
-    (record { state = with_held s block (copied (held_of s.blocks block) stamp ver value); outs = Ready block ∷ [] }) (still s)
+    (record { state = with_held s block (copy_of (held_of s.blocks block) stamp ver value); outs = Ready block ∷ [] }) (still s)
     (λ t. contrary (not_accepted s block stamp inc req Copy h t)) (λ t. refl)
 
 pub ended_want_takes_nothing : EndedWantTakesNothing
@@ -59,10 +59,10 @@ ended_want_takes_nothing s block stamp inc req h = (granted-still s block stamp 
 abbrev core_in : TokensState → BlockId → Held
 core_in s block = core_of (held_of s.blocks block)
 
-ask-core : (s : TokensState) (block : BlockId) (mode : Mode) → core_in (new_want s block mode).state block ≡ core_in s block
-unfolding new_want
+ask-core : (s : TokensState) (block : BlockId) (mode : Mode) → core_in (tokens_ask s block mode).state block ≡ core_in s block
+unfolding tokens_ask
 ask-core s block mode =
-    let g : Held = asked (held_of s.blocks block) (s.req + 1) mode in
+    let g : Held = held_ask (held_of s.blocks block) (s.req + 1) mode in
     by_test (λ (d : Done). core_in d.state block ≡ core_in s block) (nat_lt s.req u32_end)
     (record { state = record (with_held s block g) { req = s.req + 1 }; outs = Want block (s.req + 1) 0 mode ∷ [] }) (still s)
     (λ t. put_same core_of block block g s.blocks refl) (λ t. refl)
@@ -72,7 +72,7 @@ unfolding refetch
 refetch-core s block =
     let h : Held = held_of s.blocks block in
     let dropped : TokensState = with_held s block (unfetched h) in
-    by_test (λ (d : Done). core_in d.state block ≡ core_in s block) (is_some h.fetch) (new_want dropped block Copy) (still s)
+    by_test (λ (d : Done). core_in d.state block ≡ core_in s block) (is_some h.fetch) (tokens_ask dropped block Copy) (still s)
     (λ t. ask-core dropped block Copy ∙ put_same core_of block block (unfetched h) s.blocks refl) (λ t. refl)
 
 put_off-core : (h : Held) (stamp : Stamp) (keep : Bool) → core_of (put_off h stamp keep) ≡ core_of h
@@ -87,7 +87,7 @@ give-core s block stamp keep dirty =
     let h : Held = held_of s.blocks block in
     by_test (λ (d : Done). core_in d.state block ≡ core_in s block) (is_dirty h)
     (record { state = with_held s block (put_off h stamp keep); outs = Flush block ∷ [] })
-    (record { state = with_held s block (given_up h stamp keep); outs = Gave block stamp ∷ [] })
+    (record { state = with_held s block (give_up h stamp keep); outs = Gave block stamp ∷ [] })
     (λ t. put_same core_of block block (put_off h stamp keep) s.blocks (put_off-core h stamp keep))
     (λ t. contrary (sym t ∙ dirty))
 
@@ -124,10 +124,10 @@ dirty_keeps_its_stamp s block stamp keep dirty =
 abbrev IsDropped : TokensState → BlockId → Type 0
 IsDropped s b = (is_none (held_of s.blocks b).fetch ≡ true) × (is_none (held_of s.blocks b).giving ≡ true)
 
-ask-dropped : (s : TokensState) (block b : BlockId) → IsDropped s b → IsDropped (new_want s block Copy).state b
-unfolding new_want
+ask-dropped : (s : TokensState) (block b : BlockId) → IsDropped s b → IsDropped (tokens_ask s block Copy).state b
+unfolding tokens_ask
 ask-dropped s block b h =
-    let g : Held = asked (held_of s.blocks block) (s.req + 1) Copy in
+    let g : Held = held_ask (held_of s.blocks block) (s.req + 1) Copy in
     by_test (λ (d : Done). IsDropped d.state b) (nat_lt s.req u32_end)
     (record { state = record (with_held s block g) { req = s.req + 1 }; outs = Want block (s.req + 1) 0 Copy ∷ [] }) (still s)
     (λ t. (put_same (λ (k : Held). is_none k.fetch) b block g s.blocks refl ∙ h.0, put_same (λ (k : Held). is_none k.giving) b block g s.blocks refl ∙ h.1))
@@ -137,15 +137,15 @@ pub promise_drops : PromiseDrops
 unfolding on_promise
 promise_drops s slot epoch block taken here =
     let h : Held = held_of s.blocks block in
-    let now : held_of (raised s slot epoch).blocks block ≡ promise_dropped h = dropped-known s slot block ∙ ap (λ t. cond t (promise_dropped h) h) here in
+    let now : held_of (raised s slot epoch).blocks block ≡ drop_promised h = dropped-known s slot block ∙ ap (λ t. cond t (drop_promised h) h) here in
     let start : IsDropped (raised s slot epoch) block = (ap (λ (g : Held). is_none g.fetch) now, ap (λ (g : Held). is_none g.giving) now) in
-    by_test (λ (d : Done). IsDropped d.state block) (may_promise s slot epoch) (steps ask_copy (raised s slot epoch) (fetched_in slot s.blocks)) (still s)
-    (λ t. steps_keep ask_copy (λ u. IsDropped u block) (λ u b. ask-dropped u b block) (raised s slot epoch) (fetched_in slot s.blocks) start)
+    by_test (λ (d : Done). IsDropped d.state block) (may_promise s slot epoch) (steps ask_copy (raised s slot epoch) (fetched_blocks slot s.blocks)) (still s)
+    (λ t. steps_keep ask_copy (λ u. IsDropped u block) (λ u b. ask-dropped u b block) (raised s slot epoch) (fetched_blocks slot s.blocks) start)
     (λ t. contrary (sym t ∙ taken))
 
 pub quit_ends : QuitEnds
 unfolding on_quit
 quit_ends s block =
     let h : Held = held_of s.blocks block in
-    by_test (λ (d : Done). is_asking (held_of d.state.blocks block) ≡ false) (is_asking h) (still (with_held s block (unasked h))) (still s)
-    (λ t. ap is_asking (held_of-put_itself block (unasked h) s.blocks)) (λ t. t)
+    by_test (λ (d : Done). is_asking (held_of d.state.blocks block) ≡ false) (is_asking h) (still (with_held s block (quit h))) (still s)
+    (λ t. ap is_asking (held_of-put_itself block (quit h) s.blocks)) (λ t. t)

@@ -13,7 +13,7 @@ use Rattle.token_client.specs.declared.held.Fetch.{Fetch}
 use Rattle.token_client.specs.declared.held.Giving.{Giving}
 use Rattle.token_client.specs.declared.held.Held.{Held}
 use Rattle.token_client.specs.declared.held.Wanted.{Wanted}
-use Rattle.token_client.specs.Held.{unknown, is_dirty, is_asking, asked, asked_again, owned, copied, fetched_from, copy_granted, grant_taken, fetch_ended, written, version_settled, let_go, unasked, unfetched, promise_dropped, gives_after, put_off, given_up}
+use Rattle.token_client.specs.Held.{held_new, is_dirty, is_asking, held_ask, asked_again, held_own, copy_of, fetch_from, take_copy, take_grant, end_fetch, held_write, version_settled, let_go, quit, unfetched, drop_promised, gives_after, put_off, give_up}
 use Rattle.token_client.specs.Laws.{IsSoundBlock, IsGivingAbove}
 
 or_left : (a b : Bool) → (a || false) ≡ true → (a || b) ≡ true
@@ -66,55 +66,55 @@ sound epoch h unowned ungiven unheld below own above valueless = record {
   unheld_valueless = valueless;
 }
 
-pub unknown-sound : (epoch : ℕ) → IsSoundBlock epoch unknown
-unknown-sound epoch = sound epoch unknown (λ a. refl) (λ a. refl) (λ f. refl) (omega arith) (λ d. d) tt (λ v. refl)
+pub held_new-sound : (epoch : ℕ) → IsSoundBlock epoch held_new
+held_new-sound epoch = sound epoch held_new (λ a. refl) (λ a. refl) (λ f. refl) (omega arith) (λ d. d) tt (λ v. refl)
 
 itself_clean : (n : ℕ) → nat_lt n n ≡ true → false ≡ true
 itself_clean n h = grind (arith, nat_tests)
 
 module _ (epoch : ℕ) (h : Held) (p : IsSoundBlock epoch h) where
-  pub asked-sound : (req : ℕ) (mode : Mode) → is_own h.mode ≡ false → is_none h.giving ≡ true → IsSoundBlock epoch (asked h req mode)
-  asked-sound req mode unowned ungiven =
-      sound epoch (asked h req mode) (λ a. unowned) (λ a. ungiven) p.fetch_unheld p.settled_below p.dirty_owned p.giving_above p.unheld_valueless
+  pub held_ask-sound : (req : ℕ) (mode : Mode) → is_own h.mode ≡ false → is_none h.giving ≡ true → IsSoundBlock epoch (held_ask h req mode)
+  held_ask-sound req mode unowned ungiven =
+      sound epoch (held_ask h req mode) (λ a. unowned) (λ a. ungiven) p.fetch_unheld p.settled_below p.dirty_owned p.giving_above p.unheld_valueless
 
   pub asked_again-sound : (w : Wanted) → is_asking h ≡ true → IsSoundBlock epoch (asked_again h w)
   asked_again-sound w a =
       sound epoch (asked_again h w) (λ b. p.asks_unowned a)
       (λ b. p.asks_ungiven a) p.fetch_unheld p.settled_below p.dirty_owned p.giving_above p.unheld_valueless
 
-  owned-sound : (stamp : Stamp) (ver : ℕ) → is_none h.giving ≡ true → IsSoundBlock epoch (owned h stamp ver)
-  owned-sound stamp ver ungiven =
-      sound epoch (owned h stamp ver) (λ a. contrary a) (λ a. ungiven) (λ f. contrary f) (omega arith) (λ d. refl) (nothing_above epoch stamp h.giving ungiven)
+  held_own-sound : (stamp : Stamp) (ver : ℕ) → is_none h.giving ≡ true → IsSoundBlock epoch (held_own h stamp ver)
+  held_own-sound stamp ver ungiven =
+      sound epoch (held_own h stamp ver) (λ a. contrary a) (λ a. ungiven) (λ f. contrary f) (omega arith) (λ d. refl) (nothing_above epoch stamp h.giving ungiven)
       (λ v. refl)
 
-  pub copied-sound : (stamp : Stamp) (ver : ℕ) (value : Option (List ℕ)) → is_none h.giving ≡ true → IsSoundBlock epoch (copied h stamp ver value)
-  copied-sound stamp ver value ungiven =
-      sound epoch (copied h stamp ver value) (λ a. refl) (λ a. ungiven) (λ f. contrary f) (omega arith) (λ d. contrary (itself_clean ver d))
+  pub copy_of-sound : (stamp : Stamp) (ver : ℕ) (value : Option (List ℕ)) → is_none h.giving ≡ true → IsSoundBlock epoch (copy_of h stamp ver value)
+  copy_of-sound stamp ver value ungiven =
+      sound epoch (copy_of h stamp ver value) (λ a. refl) (λ a. ungiven) (λ f. contrary f) (omega arith) (λ d. contrary (itself_clean ver d))
       (nothing_above epoch stamp h.giving ungiven) (λ v. contrary (sym v))
 
-  fetched_from-sound : (stamp : Stamp) (ver : ℕ) (place : Place) → is_asking h ≡ true → IsSoundBlock epoch (fetched_from h stamp ver place)
-  fetched_from-sound stamp ver place a =
-      sound epoch (fetched_from h stamp ver place) (λ b. refl) (λ b. p.asks_ungiven a) (λ f. refl) p.settled_below (λ d. contrary (sym (p.asks_clean a) ∙ d))
+  fetch_from-sound : (stamp : Stamp) (ver : ℕ) (place : Place) → is_asking h ≡ true → IsSoundBlock epoch (fetch_from h stamp ver place)
+  fetch_from-sound stamp ver place a =
+      sound epoch (fetch_from h stamp ver place) (λ b. refl) (λ b. p.asks_ungiven a) (λ f. refl) p.settled_below (λ d. contrary (sym (p.asks_clean a) ∙ d))
       (nothing_above epoch stamp h.giving (p.asks_ungiven a)) (λ v. refl)
 
-  copy_granted-sound : (stamp : Stamp) (ver : ℕ) (place : Option Place) → is_asking h ≡ true → IsSoundBlock epoch (copy_granted h stamp ver place)
-  copy_granted-sound stamp ver None a = copied-sound stamp ver None (p.asks_ungiven a)
-  copy_granted-sound stamp ver (Some place) a = fetched_from-sound stamp ver place a
+  take_copy-sound : (stamp : Stamp) (ver : ℕ) (place : Option Place) → is_asking h ≡ true → IsSoundBlock epoch (take_copy h stamp ver place)
+  take_copy-sound stamp ver None a = copy_of-sound stamp ver None (p.asks_ungiven a)
+  take_copy-sound stamp ver (Some place) a = fetch_from-sound stamp ver place a
 
-  pub grant_taken-sound : (stamp : Stamp) (mode : Mode) (entry : Entry) → is_asking h ≡ true → IsSoundBlock epoch (grant_taken h stamp mode entry)
-  grant_taken-sound stamp mode entry a =
-      by_test (IsSoundBlock epoch) (is_own mode) (owned h stamp entry.ver) (copy_granted h stamp entry.ver entry.place)
-      (λ t. owned-sound stamp entry.ver (p.asks_ungiven a)) (λ t. copy_granted-sound stamp entry.ver entry.place a)
+  pub take_grant-sound : (stamp : Stamp) (mode : Mode) (entry : Entry) → is_asking h ≡ true → IsSoundBlock epoch (take_grant h stamp mode entry)
+  take_grant-sound stamp mode entry a =
+      by_test (IsSoundBlock epoch) (is_own mode) (held_own h stamp entry.ver) (take_copy h stamp entry.ver entry.place)
+      (λ t. held_own-sound stamp entry.ver (p.asks_ungiven a)) (λ t. take_copy-sound stamp entry.ver entry.place a)
 
-  pub fetch_ended-sound : (fetch : Option Fetch) (value : Option (List ℕ)) → is_none h.giving ≡ true → IsSoundBlock epoch (fetch_ended h fetch value)
-  fetch_ended-sound None value ungiven = p
-  fetch_ended-sound (Some fetch) value ungiven =
-      sound epoch (fetch_ended h (Some fetch) value) (λ a. refl) (λ a. ungiven) (λ f. contrary f) (omega arith) (λ d. contrary (itself_clean fetch.ver d))
+  pub end_fetch-sound : (fetch : Option Fetch) (value : Option (List ℕ)) → is_none h.giving ≡ true → IsSoundBlock epoch (end_fetch h fetch value)
+  end_fetch-sound None value ungiven = p
+  end_fetch-sound (Some fetch) value ungiven =
+      sound epoch (end_fetch h (Some fetch) value) (λ a. refl) (λ a. ungiven) (λ f. contrary f) (omega arith) (λ d. contrary (itself_clean fetch.ver d))
       (nothing_above epoch h.stamp h.giving ungiven) (λ v. contrary (sym v))
 
-  pub written-sound : (value : Option (List ℕ)) → is_own h.mode ≡ true → IsSoundBlock epoch (written h value)
-  written-sound value own =
-      sound epoch (written h value) p.asks_unowned p.asks_ungiven p.fetch_unheld (let below : h.settled ≤ h.ver = p.settled_below in omega arith)
+  pub held_write-sound : (value : Option (List ℕ)) → is_own h.mode ≡ true → IsSoundBlock epoch (held_write h value)
+  held_write-sound value own =
+      sound epoch (held_write h value) p.asks_unowned p.asks_ungiven p.fetch_unheld (let below : h.settled ≤ h.ver = p.settled_below in omega arith)
       (λ d. own) p.giving_above (λ v. contrary (sym v ∙ own_is_held h.mode own))
 
   pub version_settled-sound : (ver : ℕ) → nat_lt h.settled ver ≡ true → nat_le ver h.ver ≡ true → IsSoundBlock epoch (version_settled h ver)
@@ -126,17 +126,17 @@ module _ (epoch : ℕ) (h : Held) (p : IsSoundBlock epoch h) where
   pub let_go-sound : is_dirty h ≡ false → IsSoundBlock epoch (let_go h)
   let_go-sound clean = sound epoch (let_go h) (λ a. refl) p.asks_ungiven (λ f. refl) p.settled_below (λ d. contrary (sym clean ∙ d)) p.giving_above (λ v. refl)
 
-  pub unasked-sound : IsSoundBlock epoch (unasked h)
-  unasked-sound = sound epoch (unasked h) (λ a. contrary a) (λ a. contrary a) (λ f. contrary f) p.settled_below p.dirty_owned p.giving_above p.unheld_valueless
+  pub quit-sound : IsSoundBlock epoch (quit h)
+  quit-sound = sound epoch (quit h) (λ a. contrary a) (λ a. contrary a) (λ f. contrary f) p.settled_below p.dirty_owned p.giving_above p.unheld_valueless
 
   pub unfetched-sound : IsSoundBlock epoch (unfetched h)
   unfetched-sound =
       sound epoch (unfetched h) (λ a. p.asks_unowned (asks_less h a)) (λ a. p.asks_ungiven (asks_less h a))
       (λ f. contrary f) p.settled_below p.dirty_owned p.giving_above p.unheld_valueless
 
-  pub promise_dropped-sound : (raised : ℕ) → IsSoundBlock raised (promise_dropped h)
-  promise_dropped-sound raised =
-      sound raised (promise_dropped h) (λ a. p.asks_unowned (asks_less h a)) (λ a. refl) (λ f. contrary f) p.settled_below p.dirty_owned tt p.unheld_valueless
+  pub drop_promised-sound : (raised : ℕ) → IsSoundBlock raised (drop_promised h)
+  drop_promised-sound raised =
+      sound raised (drop_promised h) (λ a. p.asks_unowned (asks_less h a)) (λ a. refl) (λ f. contrary f) p.settled_below p.dirty_owned tt p.unheld_valueless
 
   pub put_off-sound : (stamp : Stamp) (keep : Bool) → is_dirty h ≡ true → stamp.epoch ≡ epoch → is_later stamp h.stamp ≡ true
       → IsSoundBlock epoch (put_off h stamp keep)
@@ -146,8 +146,8 @@ module _ (epoch : ℕ) (h : Held) (p : IsSoundBlock epoch h) where
       (λ t. sound epoch given p.asks_unowned (λ a. contrary (sym (p.asks_clean a) ∙ dirty)) p.fetch_unheld p.settled_below p.dirty_owned
       (promised, above) p.unheld_valueless)
 
-  pub given_up-sound : (stamp : Stamp) (keep : Bool) → is_dirty h ≡ false → IsSoundBlock epoch (given_up h stamp keep)
-  given_up-sound stamp keep clean =
+  pub give_up-sound : (stamp : Stamp) (keep : Bool) → is_dirty h ≡ false → IsSoundBlock epoch (give_up h stamp keep)
+  give_up-sound stamp keep clean =
       let kept : Held = record h { mode = Copy; stamp = stamp; giving = None } in
       let gone : Held = record h { mode = Nothing; value = None; stamp = stamp; giving = None } in
       by_test (IsSoundBlock epoch) (keep && is_held h.mode) kept gone

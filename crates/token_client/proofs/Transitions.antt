@@ -19,12 +19,12 @@ use Rattle.token_client.specs.declared.held.Held.{Held}
 use Rattle.token_client.specs.declared.held.Wanted.{Wanted}
 use Rattle.token_client.specs.declared.output.Out.{Out}
 use Rattle.token_client.specs.declared.output.Out.TheVariants.{Want, Gave, Flush, Ready}
-use Rattle.token_client.specs.Held.{is_dirty, is_asking, must_ask, is_wanted, is_answer, may_write, is_settled_by, may_end_fetch, may_evict, asked, asked_again, grant_taken, copied, fetch_ended, written, version_settled, let_go, unasked, put_off, given_up, gives_after, owned, copy_granted}
+use Rattle.token_client.specs.Held.{is_dirty, is_asking, must_ask, is_wanted, is_answer, may_write, is_settled_by, may_end_fetch, may_evict, held_ask, asked_again, take_grant, copy_of, end_fetch, held_write, version_settled, let_go, quit, put_off, give_up, gives_after, held_own, take_copy}
 use Rattle.token_client.specs.Laws.{IsSound, IsSoundBlock}
 use Rattle.token_client.specs.State.{TokensState, held_of, with_held, epoch_of}
-use Rattle.token_client.specs.Transition.{Done, new_want, on_need, accepts, is_promised, grant_next, on_granted, on_supplied, serves, supplies, on_forwarded, give, was_answered, recalled_again, on_wrote, on_settled, on_fetched, on_evict, on_reask, on_quit, is_spent, repeated, ask_again}
+use Rattle.token_client.specs.Transition.{Done, tokens_ask, on_need, accepts, is_promised, grant_next, on_granted, on_supplied, serves, supplies, on_forwarded, give, was_answered, recalled_again, on_wrote, on_settled, on_fetched, on_evict, on_reask, on_quit, is_spent, repeated, ask_again}
 use Rattle.token_client.proofs.Follows.{Follows, follows_still, follows_put, follows_with}
-use Rattle.token_client.proofs.SoundBlocks.{asks_by_want, asks_by_fetch, unheld_is_unowned, asked-sound, asked_again-sound, copied-sound, grant_taken-sound, fetch_ended-sound, written-sound, version_settled-sound, let_go-sound, unasked-sound, put_off-sound, given_up-sound}
+use Rattle.token_client.proofs.SoundBlocks.{asks_by_want, asks_by_fetch, unheld_is_unowned, held_ask-sound, asked_again-sound, copy_of-sound, take_grant-sound, end_fetch-sound, held_write-sound, version_settled-sound, let_go-sound, quit-sound, put_off-sound, give_up-sound}
 
 -- the epoch that a block's slot is promised to
 abbrev pub epoch_at : TokensState → BlockId → ℕ
@@ -41,12 +41,12 @@ pub answered_want : (w : Option Wanted) (req : ℕ) (mode : Mode) → is_wanted 
 answered_want None req mode h = h
 answered_want (Some w) req mode h = refl
 
-granted_at : (h : Held) (stamp : Stamp) (mode : Mode) (entry : Entry) → (grant_taken h stamp mode entry).stamp ≡ stamp
+granted_at : (h : Held) (stamp : Stamp) (mode : Mode) (entry : Entry) → (take_grant h stamp mode entry).stamp ≡ stamp
 granted_at h stamp mode entry =
-    by_test (λ (g : Held). g.stamp ≡ stamp) (is_own mode) (owned h stamp entry.ver) (copy_granted h stamp entry.ver entry.place) (λ t. refl)
+    by_test (λ (g : Held). g.stamp ≡ stamp) (is_own mode) (held_own h stamp entry.ver) (take_copy h stamp entry.ver entry.place) (λ t. refl)
     (λ t. copy_at entry.place)
   where
-    copy_at : (place : Option Place) → (copy_granted h stamp entry.ver place).stamp ≡ stamp
+    copy_at : (place : Option Place) → (take_copy h stamp entry.ver place).stamp ≡ stamp
     copy_at None = refl
     copy_at (Some place) = refl
 
@@ -60,19 +60,19 @@ put_off-asks h stamp keep =
     by_test (λ (g : Held). is_asking g ≡ true → is_asking h ≡ true) (gives_after h.giving stamp) h
     (record h { giving = Some (record { stamp = stamp; keep = keep }) }) (λ t a. a) (λ t a. a)
 
-given_up-at : (h : Held) (stamp : Stamp) (keep : Bool) → (given_up h stamp keep).stamp ≡ stamp
-given_up-at h stamp keep =
+give_up-at : (h : Held) (stamp : Stamp) (keep : Bool) → (give_up h stamp keep).stamp ≡ stamp
+give_up-at h stamp keep =
     by_test (λ (g : Held). g.stamp ≡ stamp) (keep && is_held h.mode) (record h { mode = Copy; stamp = stamp; giving = None })
     (record h { mode = Nothing; value = None; stamp = stamp; giving = None }) (λ t. refl) (λ t. refl)
 
-given_up-asks : (h : Held) (stamp : Stamp) (keep : Bool) → is_asking (given_up h stamp keep) ≡ true → is_asking h ≡ true
-given_up-asks h stamp keep =
+give_up-asks : (h : Held) (stamp : Stamp) (keep : Bool) → is_asking (give_up h stamp keep) ≡ true → is_asking h ≡ true
+give_up-asks h stamp keep =
     by_test (λ (g : Held). is_asking g ≡ true → is_asking h ≡ true) (keep && is_held h.mode) (record h { mode = Copy; stamp = stamp; giving = None })
     (record h { mode = Nothing; value = None; stamp = stamp; giving = None }) (λ t a. a) (λ t a. a)
 
-fetch_ended-at : (h : Held) (fetch : Option Fetch) (value : Option (List ℕ)) → (fetch_ended h fetch value).stamp ≡ h.stamp
-fetch_ended-at h None value = refl
-fetch_ended-at h (Some fetch) value = refl
+end_fetch-at : (h : Held) (fetch : Option Fetch) (value : Option (List ℕ)) → (end_fetch h fetch value).stamp ≡ h.stamp
+end_fetch-at h None value = refl
+end_fetch-at h (Some fetch) value = refl
 
 module _ (opens : BlockId → Type 0) (s : TokensState) (p : IsSound s) where
   abbrev At : Done → Type 0
@@ -83,15 +83,15 @@ module _ (opens : BlockId → Type 0) (s : TokensState) (p : IsSound s) where
 
   -- a want may be opened for a block that isn't owned and isn't being given up
   pub ask-follows : (block : BlockId) (mode : Mode) → is_own (held_of s.blocks block).mode ≡ false → is_none (held_of s.blocks block).giving ≡ true
-      → (is_asking (held_of s.blocks block) ≡ true) ⊎ opens block → At (new_want s block mode)
-  unfolding new_want
+      → (is_asking (held_of s.blocks block) ≡ true) ⊎ opens block → At (tokens_ask s block mode)
+  unfolding tokens_ask
   ask-follows block mode unowned ungiven why =
       let h : Held = held_of s.blocks block in
       by_test At (nat_lt s.req u32_end)
-      (record { state = record (with_held s block (asked h (s.req + 1) mode)) { req = s.req + 1 }; outs = Want block (s.req + 1) 0 mode ∷ [] }) (still s)
-      (λ t. follows_put opens s block (asked h (s.req + 1) mode) (s.req + 1) p (omega arith)
+      (record { state = record (with_held s block (held_ask h (s.req + 1) mode)) { req = s.req + 1 }; outs = Want block (s.req + 1) 0 mode ∷ [] }) (still s)
+      (λ t. follows_put opens s block (held_ask h (s.req + 1) mode) (s.req + 1) p (omega arith)
       (record {
-        sound = asked-sound (epoch_at s block) h (p.each block) (s.req + 1) mode unowned ungiven;
+        sound = held_ask-sound (epoch_at s block) h (p.each block) (s.req + 1) mode unowned ungiven;
         stamp = not_later_itself h.stamp;
         opened = λ a. why;
       }))
@@ -102,7 +102,7 @@ module _ (opens : BlockId → Type 0) (s : TokensState) (p : IsSound s) where
   on_need-follows block mode why =
       let h : Held = held_of s.blocks block in
       let free : Bool = not (is_asking h) && is_none h.giving in
-      by_test At (must_ask h mode) (new_want s block mode) (still s)
+      by_test At (must_ask h mode) (tokens_ask s block mode) (still s)
       (λ t. ask-follows block mode (unowned_where_needed h.mode mode (not_true (allows h.mode mode) (and_second free (not (allows h.mode mode)) t)))
       (and_second (not (is_asking h)) (is_none h.giving) (and_first free (not (allows h.mode mode)) t)) (inr why))
       (λ t. stays)
@@ -124,9 +124,9 @@ module _ (opens : BlockId → Type 0) (s : TokensState) (p : IsSound s) where
   on_granted-follows block stamp inc req mode entry =
       let h : Held = held_of s.blocks block in
       let outs : List Out = grant_next block mode entry.place ∷ [] in
-      by_test At (accepts s block stamp inc req mode) (record { state = with_held s block (grant_taken h stamp mode entry); outs = outs }) (still s)
-      (λ t. answer-follows block stamp inc req mode (grant_taken h stamp mode entry) outs t (granted_at h stamp mode entry)
-      (grant_taken-sound (epoch_at s block) h (p.each block) stamp mode entry))
+      by_test At (accepts s block stamp inc req mode) (record { state = with_held s block (take_grant h stamp mode entry); outs = outs }) (still s)
+      (λ t. answer-follows block stamp inc req mode (take_grant h stamp mode entry) outs t (granted_at h stamp mode entry)
+      (take_grant-sound (epoch_at s block) h (p.each block) stamp mode entry))
       (λ t. stays)
 
   pub on_supplied-follows : (block : BlockId) (stamp : Stamp) (inc req : ℕ) (ver : ℕ) (value : Option (List ℕ))
@@ -134,9 +134,9 @@ module _ (opens : BlockId → Type 0) (s : TokensState) (p : IsSound s) where
   unfolding on_supplied
   on_supplied-follows block stamp inc req ver value =
       let h : Held = held_of s.blocks block in
-      by_test At (accepts s block stamp inc req Copy) (record { state = with_held s block (copied h stamp ver value); outs = Ready block ∷ [] }) (still s)
-      (λ t. answer-follows block stamp inc req Copy (copied h stamp ver value) (Ready block ∷ []) t refl
-      (λ a. copied-sound (epoch_at s block) h (p.each block) stamp ver value ((p.each block).asks_ungiven a)))
+      by_test At (accepts s block stamp inc req Copy) (record { state = with_held s block (copy_of h stamp ver value); outs = Ready block ∷ [] }) (still s)
+      (λ t. answer-follows block stamp inc req Copy (copy_of h stamp ver value) (Ready block ∷ []) t refl
+      (λ a. copy_of-sound (epoch_at s block) h (p.each block) stamp ver value ((p.each block).asks_ungiven a)))
       (λ t. stays)
 
   pub on_forwarded-follows : (block : BlockId) (stamp : Stamp) (ver : ℕ) → At (on_forwarded s block stamp ver)
@@ -157,14 +157,14 @@ module _ (opens : BlockId → Type 0) (s : TokensState) (p : IsSound s) where
   give-follows block stamp keep promised above =
       let h : Held = held_of s.blocks block in
       by_test At (is_dirty h) (record { state = with_held s block (put_off h stamp keep); outs = Flush block ∷ [] })
-      (record { state = with_held s block (given_up h stamp keep); outs = Gave block stamp ∷ [] })
+      (record { state = with_held s block (give_up h stamp keep); outs = Gave block stamp ∷ [] })
       (λ t. same-follows block (put_off h stamp keep) (put_off-at h stamp keep) (put_off-asks h stamp keep)
       (put_off-sound (epoch_at s block) h (p.each block) stamp keep t promised above))
-      (λ t. follows_with opens s block (given_up h stamp keep) p
+      (λ t. follows_with opens s block (give_up h stamp keep) p
       (record {
-        sound = given_up-sound (epoch_at s block) h (p.each block) stamp keep t;
-        stamp = ap (is_later h.stamp) (given_up-at h stamp keep) ∙ not_later_back h.stamp stamp above;
-        opened = λ a. inl (given_up-asks h stamp keep a);
+        sound = give_up-sound (epoch_at s block) h (p.each block) stamp keep t;
+        stamp = ap (is_later h.stamp) (give_up-at h stamp keep) ∙ not_later_back h.stamp stamp above;
+        opened = λ a. inl (give_up-asks h stamp keep a);
       }))
 
   pub recalled_again-follows : (block : BlockId) (stamp : Stamp) → At (recalled_again s block stamp)
@@ -177,9 +177,9 @@ module _ (opens : BlockId → Type 0) (s : TokensState) (p : IsSound s) where
   on_wrote-follows block value =
       let h : Held = held_of s.blocks block in
       let free : Bool = is_own h.mode && is_none h.giving in
-      by_test At (may_write h) (still (with_held s block (written h value))) (still s)
-      (λ t. same-follows block (written h value) refl (λ a. a)
-      (written-sound (epoch_at s block) h (p.each block) value (and_first (is_own h.mode) (is_none h.giving) (and_first free (nat_lt h.ver u64_end) t))))
+      by_test At (may_write h) (still (with_held s block (held_write h value))) (still s)
+      (λ t. same-follows block (held_write h value) refl (λ a. a)
+      (held_write-sound (epoch_at s block) h (p.each block) value (and_first (is_own h.mode) (is_none h.giving) (and_first free (nat_lt h.ver u64_end) t))))
       (λ t. stays)
 
   pub on_settled-follows : (block : BlockId) (ver : ℕ) → At (on_settled s block ver)
@@ -196,10 +196,10 @@ module _ (opens : BlockId → Type 0) (s : TokensState) (p : IsSound s) where
   unfolding on_fetched
   on_fetched-follows block value =
       let h : Held = held_of s.blocks block in
-      by_test At (may_end_fetch h) (record { state = with_held s block (fetch_ended h h.fetch value); outs = Ready block ∷ [] }) (still s)
+      by_test At (may_end_fetch h) (record { state = with_held s block (end_fetch h h.fetch value); outs = Ready block ∷ [] }) (still s)
       (λ t. let asks : is_asking h ≡ true = asks_by_fetch h (and_first (is_some h.fetch) (is_none h.want) t) in
-      same-follows block (fetch_ended h h.fetch value) (fetch_ended-at h h.fetch value) (λ a. asks)
-      (fetch_ended-sound (epoch_at s block) h (p.each block) h.fetch value ((p.each block).asks_ungiven asks)))
+      same-follows block (end_fetch h h.fetch value) (end_fetch-at h h.fetch value) (λ a. asks)
+      (end_fetch-sound (epoch_at s block) h (p.each block) h.fetch value ((p.each block).asks_ungiven asks)))
       (λ t. stays)
 
   pub on_evict-follows : (block : BlockId) → At (on_evict s block)
@@ -212,7 +212,7 @@ module _ (opens : BlockId → Type 0) (s : TokensState) (p : IsSound s) where
       (λ t. stays)
 
   -- a copy may be asked for of a block that has a fetch
-  pub ask_fetched-follows : (block : BlockId) → is_some (held_of s.blocks block).fetch ≡ true → At (new_want s block Copy)
+  pub ask_fetched-follows : (block : BlockId) → is_some (held_of s.blocks block).fetch ≡ true → At (tokens_ask s block Copy)
   ask_fetched-follows block t =
       let h : Held = held_of s.blocks block in
       let sound : IsSoundBlock (epoch_at s block) h = p.each block in
@@ -221,14 +221,14 @@ module _ (opens : BlockId → Type 0) (s : TokensState) (p : IsSound s) where
 
   pub on_reask-follows : (block : BlockId) → At (on_reask s block)
   unfolding on_reask
-  on_reask-follows block = by_test At (is_some (held_of s.blocks block).fetch) (new_want s block Copy) (still s) (λ t. ask_fetched-follows block t) (λ t. stays)
+  on_reask-follows block = by_test At (is_some (held_of s.blocks block).fetch) (tokens_ask s block Copy) (still s) (λ t. ask_fetched-follows block t) (λ t. stays)
 
   pub on_quit-follows : (block : BlockId) → At (on_quit s block)
   unfolding on_quit
   on_quit-follows block =
       let h : Held = held_of s.blocks block in
-      by_test At (is_asking h) (still (with_held s block (unasked h))) (still s)
-      (λ t. same-follows block (unasked h) refl (λ a. t) (unasked-sound (epoch_at s block) h (p.each block))) (λ t. stays)
+      by_test At (is_asking h) (still (with_held s block (quit h))) (still s)
+      (λ t. same-follows block (quit h) refl (λ a. t) (quit-sound (epoch_at s block) h (p.each block))) (λ t. stays)
 
   repeated-follows : (block : BlockId) (w : Option Wanted) → (is_some w ≡ true → is_asking (held_of s.blocks block) ≡ true) → At (repeated s block w)
   repeated-follows block None asks = stays

@@ -19,10 +19,10 @@ use Rattle.token_client.specs.declared.input.In.{In}
 use Rattle.token_client.specs.declared.input.In.TheVariants.{Need, Granted, Supplied, Forwarded, Recalled, Wrote, Settled, Fetched, Evict, Reask, Quit, Promise, Tick}
 use Rattle.token_client.specs.declared.output.Out.{Out}
 use Rattle.token_client.specs.declared.output.Out.TheVariants.{Want, Gave, Flush, Ready}
-use Rattle.token_client.specs.Held.{is_dirty, is_asking, must_ask, is_wanted, is_answer, may_write, is_settled_by, may_end_fetch, may_evict, asked, asked_again, grant_taken, copied, fetch_ended, written, version_settled, let_go, unasked, unfetched, promise_dropped, gives_after, put_off, given_up}
+use Rattle.token_client.specs.Held.{is_dirty, is_asking, must_ask, is_wanted, is_answer, may_write, is_settled_by, may_end_fetch, may_evict, held_ask, asked_again, take_grant, copy_of, end_fetch, held_write, version_settled, let_go, quit, unfetched, drop_promised, gives_after, put_off, give_up}
 use Rattle.token_client.specs.Laws.{IsSound, DirtyVersionsNeverFall}
 use Rattle.token_client.specs.State.{TokensState, held_of, with_held, is_in_slot}
-use Rattle.token_client.specs.Transition.{Done, new_want, on_need, accepts, is_promised, grant_next, on_granted, on_supplied, serves, supplies, on_forwarded, refetch, give, can_refetch, recalled_above, was_answered, recalled_again, recalled, on_recalled, on_wrote, on_settled, on_fetched, on_evict, on_reask, on_quit, fetched_in, raised, ask_copy, may_promise, on_promise, is_spent, repeated, ask_again, wanted_in, on_tick, transition}
+use Rattle.token_client.specs.Transition.{Done, tokens_ask, on_need, accepts, is_promised, grant_next, on_granted, on_supplied, serves, supplies, on_forwarded, refetch, give, can_refetch, recalled_above, was_answered, recalled_again, recalled, on_recalled, on_wrote, on_settled, on_fetched, on_evict, on_reask, on_quit, fetched_blocks, raised, ask_copy, may_promise, on_promise, is_spent, repeated, ask_again, wanted_blocks, on_tick, transition}
 use Rattle.token_client.proofs.Promises.{dropped-known}
 use Rattle.token_client.proofs.SoundBlocks.{asks_by_want, asks_by_fetch}
 use Rattle.token_client.proofs.Tables.{put_each, put_same}
@@ -39,10 +39,10 @@ Keeps s t = (b : BlockId) → ver_in t b ≡ ver_in s b
 keeps_put : (s : TokensState) (block : BlockId) (g : Held) → g.ver ≡ ver_in s block → Keeps s (with_held s block g)
 keeps_put s block g same b = put_same (λ (h : Held). h.ver) b block g s.blocks same
 
-ask-keeps : (s : TokensState) (block : BlockId) (mode : Mode) → Keeps s (new_want s block mode).state
-unfolding new_want
+ask-keeps : (s : TokensState) (block : BlockId) (mode : Mode) → Keeps s (tokens_ask s block mode).state
+unfolding tokens_ask
 ask-keeps s block mode =
-    let g : Held = asked (held_of s.blocks block) (s.req + 1) mode in
+    let g : Held = held_ask (held_of s.blocks block) (s.req + 1) mode in
     by_test (λ (d : Done). Keeps s d.state) (nat_lt s.req u32_end)
     (record { state = record (with_held s block g) { req = s.req + 1 }; outs = Want block (s.req + 1) 0 mode ∷ [] }) (still s) (λ _. keeps_put s block g refl)
     (λ _ b. refl)
@@ -51,7 +51,7 @@ refetch-keeps : (s : TokensState) (block : BlockId) → Keeps s (refetch s block
 unfolding refetch
 refetch-keeps s block =
     let g : Held = unfetched (held_of s.blocks block) in
-    by_test (λ (d : Done). Keeps s d.state) (is_some (held_of s.blocks block).fetch) (new_want (with_held s block g) block Copy) (still s)
+    by_test (λ (d : Done). Keeps s d.state) (is_some (held_of s.blocks block).fetch) (tokens_ask (with_held s block g) block Copy) (still s)
     (λ _ b. ask-keeps (with_held s block g) block Copy b ∙ keeps_put s block g refl b) (λ _ b. refl)
 
 put_off-ver : (h : Held) (stamp : Stamp) (keep : Bool) → (put_off h stamp keep).ver ≡ h.ver
@@ -59,8 +59,8 @@ put_off-ver h stamp keep =
     by_test (λ (g : Held). g.ver ≡ h.ver) (gives_after h.giving stamp) h (record h { giving = Some (record { stamp = stamp; keep = keep }) }) (λ _. refl)
     (λ _. refl)
 
-given_up-ver : (h : Held) (stamp : Stamp) (keep : Bool) → (given_up h stamp keep).ver ≡ h.ver
-given_up-ver h stamp keep =
+give_up-ver : (h : Held) (stamp : Stamp) (keep : Bool) → (give_up h stamp keep).ver ≡ h.ver
+give_up-ver h stamp keep =
     by_test (λ (g : Held). g.ver ≡ h.ver) (keep && is_held h.mode) (record h { mode = Copy; stamp = stamp; giving = None })
     (record h { mode = Nothing; value = None; stamp = stamp; giving = None }) (λ _. refl) (λ _. refl)
 
@@ -69,8 +69,8 @@ unfolding give
 give-keeps s block stamp keep =
     let h : Held = held_of s.blocks block in
     by_test (λ (d : Done). Keeps s d.state) (is_dirty h) (record { state = with_held s block (put_off h stamp keep); outs = Flush block ∷ [] })
-    (record { state = with_held s block (given_up h stamp keep); outs = Gave block stamp ∷ [] })
-    (λ _. keeps_put s block (put_off h stamp keep) (put_off-ver h stamp keep)) (λ _. keeps_put s block (given_up h stamp keep) (given_up-ver h stamp keep))
+    (record { state = with_held s block (give_up h stamp keep); outs = Gave block stamp ∷ [] })
+    (λ _. keeps_put s block (put_off h stamp keep) (put_off-ver h stamp keep)) (λ _. keeps_put s block (give_up h stamp keep) (give_up-ver h stamp keep))
 
 recalled-keeps : (s : TokensState) (block : BlockId) (stamp : Stamp) (keep : Bool) → Keeps s (on_recalled s block stamp keep).state
 unfolding on_recalled recalled recalled_above recalled_again
@@ -87,13 +87,13 @@ recalled-keeps s block stamp keep =
 raised-keeps : (s : TokensState) (slot epoch : ℕ) → Keeps s (raised s slot epoch)
 raised-keeps s slot epoch b =
     let h : Held = held_of s.blocks b in
-    ap (λ (g : Held). g.ver) (dropped-known s slot b) ∙ by_test (λ (g : Held). g.ver ≡ h.ver) (is_in_slot slot b) (promise_dropped h) h (λ _. refl) (λ _. refl)
+    ap (λ (g : Held). g.ver) (dropped-known s slot b) ∙ by_test (λ (g : Held). g.ver ≡ h.ver) (is_in_slot slot b) (drop_promised h) h (λ _. refl) (λ _. refl)
 
 promise-keeps : (s : TokensState) (slot epoch : ℕ) → Keeps s (on_promise s slot epoch).state
 unfolding on_promise
 promise-keeps s slot epoch =
-    by_test (λ (d : Done). Keeps s d.state) (may_promise s slot epoch) (steps ask_copy (raised s slot epoch) (fetched_in slot s.blocks)) (still s)
-    (λ _. steps_keep ask_copy (Keeps s) (λ t block so_far b. ask-keeps t block Copy b ∙ so_far b) (raised s slot epoch) (fetched_in slot s.blocks)
+    by_test (λ (d : Done). Keeps s d.state) (may_promise s slot epoch) (steps ask_copy (raised s slot epoch) (fetched_blocks slot s.blocks)) (still s)
+    (λ _. steps_keep ask_copy (Keeps s) (λ t block so_far b. ask-keeps t block Copy b ∙ so_far b) (raised s slot epoch) (fetched_blocks slot s.blocks)
     (raised-keeps s slot epoch))
     (λ _ b. refl)
 
@@ -110,8 +110,8 @@ again-keeps s block =
 tick-keeps : (s : TokensState) → Keeps s (on_tick s).state
 unfolding on_tick
 tick-keeps s =
-    by_test (λ (d : Done). Keeps s d.state) (list_any (λ h. is_spent h.want) (values_of s.blocks)) (still s) (steps ask_again s (wanted_in s.blocks))
-    (λ _ b. refl) (λ _. steps_keep ask_again (Keeps s) (λ t block so_far b. again-keeps t block b ∙ so_far b) s (wanted_in s.blocks) (λ b. refl))
+    by_test (λ (d : Done). Keeps s d.state) (list_any (λ h. is_spent h.want) (values_of s.blocks)) (still s) (steps ask_again s (wanted_blocks s.blocks))
+    (λ _ b. refl) (λ _. steps_keep ask_again (Keeps s) (λ t block so_far b. again-keeps t block b ∙ so_far b) s (wanted_blocks s.blocks) (λ b. refl))
 
 -- ---- what lowers the version of no dirty block
 
@@ -145,22 +145,22 @@ module _ (s : TokensState) (p : IsSound s) where
   unfolding on_fetched
   fetched-rises block value =
       let h : Held = held_of s.blocks block in
-      by_test (Rises s) (may_end_fetch h) (record { state = with_held s block (fetch_ended h h.fetch value); outs = Ready block ∷ [] }) (still s)
-      (λ t. rises_put s block (fetch_ended h h.fetch value) (Ready block ∷ [])
+      by_test (Rises s) (may_end_fetch h) (record { state = with_held s block (end_fetch h h.fetch value); outs = Ready block ∷ [] }) (still s)
+      (λ t. rises_put s block (end_fetch h h.fetch value) (Ready block ∷ [])
       (λ dirty. asks_clean block (asks_by_fetch h (and_first (is_some h.fetch) (is_none h.want) t)) dirty)) (λ _. rises_still s)
 
   rises : (input : In) → Rises s (transition s input)
   unfolding on_need on_granted on_supplied on_forwarded on_wrote on_settled on_evict on_reask on_quit
   rises (Need block mode) =
-      by_test (Rises s) (must_ask (held_of s.blocks block) mode) (new_want s block mode) (still s)
-      (λ _. rises_kept s (new_want s block mode) (ask-keeps s block mode)) (λ _. rises_still s)
+      by_test (Rises s) (must_ask (held_of s.blocks block) mode) (tokens_ask s block mode) (still s)
+      (λ _. rises_kept s (tokens_ask s block mode) (ask-keeps s block mode)) (λ _. rises_still s)
   rises (Granted block stamp inc req mode entry) =
-      let g : Held = grant_taken (held_of s.blocks block) stamp mode entry in
+      let g : Held = take_grant (held_of s.blocks block) stamp mode entry in
       let outs : List Out = grant_next block mode entry.place ∷ [] in
       by_test (Rises s) (accepts s block stamp inc req mode) (record { state = with_held s block g; outs = outs }) (still s)
       (λ t. answer-rises block stamp inc req mode g outs t) (λ _. rises_still s)
   rises (Supplied block stamp inc req ver value) =
-      let g : Held = copied (held_of s.blocks block) stamp ver value in
+      let g : Held = copy_of (held_of s.blocks block) stamp ver value in
       by_test (Rises s) (accepts s block stamp inc req Copy) (record { state = with_held s block g; outs = Ready block ∷ [] }) (still s)
       (λ t. answer-rises block stamp inc req Copy g (Ready block ∷ []) t) (λ _. rises_still s)
   rises (Forwarded block stamp ver) =
@@ -168,7 +168,7 @@ module _ (s : TokensState) (p : IsSound s) where
       (λ _ b _. omega arith) (λ _. rises_still s)
   rises (Recalled block stamp keep) = rises_kept s (on_recalled s block stamp keep) (recalled-keeps s block stamp keep)
   rises (Wrote block value) =
-      let g : Held = written (held_of s.blocks block) value in
+      let g : Held = held_write (held_of s.blocks block) value in
       by_test (Rises s) (may_write (held_of s.blocks block)) (still (with_held s block g)) (still s) (λ _. rises_put s block g [] (λ _. omega arith))
       (λ _. rises_still s)
   rises (Settled block ver) =
@@ -181,10 +181,10 @@ module _ (s : TokensState) (p : IsSound s) where
       by_test (Rises s) (may_evict (held_of s.blocks block)) (still (with_held s block g)) (still s) (λ _. rises_put s block g [] (λ _. omega arith))
       (λ _. rises_still s)
   rises (Reask block) =
-      by_test (Rises s) (is_some (held_of s.blocks block).fetch) (new_want s block Copy) (still s)
-      (λ _. rises_kept s (new_want s block Copy) (ask-keeps s block Copy)) (λ _. rises_still s)
+      by_test (Rises s) (is_some (held_of s.blocks block).fetch) (tokens_ask s block Copy) (still s)
+      (λ _. rises_kept s (tokens_ask s block Copy) (ask-keeps s block Copy)) (λ _. rises_still s)
   rises (Quit block) =
-      let g : Held = unasked (held_of s.blocks block) in
+      let g : Held = quit (held_of s.blocks block) in
       by_test (Rises s) (is_asking (held_of s.blocks block)) (still (with_held s block g)) (still s) (λ _. rises_put s block g [] (λ _. omega arith))
       (λ _. rises_still s)
   rises (Promise slot epoch) = rises_kept s (on_promise s slot epoch) (promise-keeps s slot epoch)

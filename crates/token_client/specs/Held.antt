@@ -14,8 +14,8 @@ use Rattle.token_client.specs.declared.held.Held.{Held}
 use Rattle.token_client.specs.declared.held.Wanted.{Wanted}
 
 -- nothing is known of a block that no event spoke of
-abbrev pub unknown : Held
-unknown = record { mode = Nothing; ver = 0; settled = 0; value = None; stamp = record { epoch = 0; turn = 0 }; want = None; fetch = None; giving = None }
+abbrev pub held_new : Held
+held_new = record { mode = Nothing; ver = 0; settled = 0; value = None; stamp = record { epoch = 0; turn = 0 }; want = None; fetch = None; giving = None }
 
 -- whether the newest version isn't settled
 abbrev pub is_dirty : Held → Bool
@@ -55,42 +55,42 @@ abbrev pub may_evict : Held → Bool
 may_evict h = is_held h.mode && not (is_dirty h)
 
 -- a new want
-abbrev pub asked : Held → ℕ → Mode → Held
-asked h req mode = record h { want = Some (record { req = req; again = 0; mode = mode }) }
+abbrev pub held_ask : Held → ℕ → Mode → Held
+held_ask h req mode = record h { want = Some (record { req = req; again = 0; mode = mode }) }
 
 -- the want was sent once more
 abbrev pub asked_again : Held → Wanted → Held
 asked_again h w = record h { want = Some (record w { again = w.again + 1 }) }
 
 -- owned at the granted version, with no value until the call writes
-abbrev pub owned : Held → Stamp → ℕ → Held
-owned h stamp ver = record h { mode = Own; ver = ver; settled = ver; value = None; stamp = stamp; want = None; fetch = None }
+abbrev pub held_own : Held → Stamp → ℕ → Held
+held_own h stamp ver = record h { mode = Own; ver = ver; settled = ver; value = None; stamp = stamp; want = None; fetch = None }
 
 -- a copy of a settled version
-abbrev pub copied : Held → Stamp → ℕ → Option (List ℕ) → Held
-copied h stamp ver value = record h { mode = Copy; ver = ver; settled = ver; value = Some value; stamp = stamp; want = None; fetch = None }
+abbrev pub copy_of : Held → Stamp → ℕ → Option (List ℕ) → Held
+copy_of h stamp ver value = record h { mode = Copy; ver = ver; settled = ver; value = Some value; stamp = stamp; want = None; fetch = None }
 
 -- a copy that has to be read first
-abbrev pub fetched_from : Held → Stamp → ℕ → Place → Held
-fetched_from h stamp ver place = record h { mode = Nothing; value = None; stamp = stamp; want = None; fetch = Some (record { ver = ver; place = place }) }
+abbrev pub fetch_from : Held → Stamp → ℕ → Place → Held
+fetch_from h stamp ver place = record h { mode = Nothing; value = None; stamp = stamp; want = None; fetch = Some (record { ver = ver; place = place }) }
 
 -- a granted copy: of no place, it is of an absent version
-abbrev pub copy_granted : Held → Stamp → ℕ → Option Place → Held
-copy_granted h stamp ver None = copied h stamp ver None
-copy_granted h stamp ver (Some place) = fetched_from h stamp ver place
+abbrev pub take_copy : Held → Stamp → ℕ → Option Place → Held
+take_copy h stamp ver None = copy_of h stamp ver None
+take_copy h stamp ver (Some place) = fetch_from h stamp ver place
 
 -- what a grant makes of the block
-abbrev pub grant_taken : Held → Stamp → Mode → Entry → Held
-grant_taken h stamp mode entry = if is_own mode then owned h stamp entry.ver else copy_granted h stamp entry.ver entry.place
+abbrev pub take_grant : Held → Stamp → Mode → Entry → Held
+take_grant h stamp mode entry = if is_own mode then held_own h stamp entry.ver else take_copy h stamp entry.ver entry.place
 
 -- the fetch ends with the value that was read
-abbrev pub fetch_ended : Held → Option Fetch → Option (List ℕ) → Held
-fetch_ended h None value = h
-fetch_ended h (Some fetch) value = record h { mode = Copy; ver = fetch.ver; settled = fetch.ver; value = Some value; fetch = None }
+abbrev pub end_fetch : Held → Option Fetch → Option (List ℕ) → Held
+end_fetch h None value = h
+end_fetch h (Some fetch) value = record h { mode = Copy; ver = fetch.ver; settled = fetch.ver; value = Some value; fetch = None }
 
 -- a new version
-abbrev pub written : Held → Option (List ℕ) → Held
-written h value = record h { ver = h.ver + 1; value = Some value }
+abbrev pub held_write : Held → Option (List ℕ) → Held
+held_write h value = record h { ver = h.ver + 1; value = Some value }
 
 -- a version is known to be settled
 abbrev pub version_settled : Held → ℕ → Held
@@ -101,16 +101,16 @@ abbrev pub let_go : Held → Held
 let_go h = record h { mode = Nothing; value = None }
 
 -- want and fetch are over
-abbrev pub unasked : Held → Held
-unasked h = record h { want = None; fetch = None }
+abbrev pub quit : Held → Held
+quit h = record h { want = None; fetch = None }
 
 -- the fetch is dropped
 abbrev pub unfetched : Held → Held
 unfetched h = record h { fetch = None }
 
 -- the fetch and the giving are dropped
-abbrev pub promise_dropped : Held → Held
-promise_dropped h = record h { fetch = None; giving = None }
+abbrev pub drop_promised : Held → Held
+drop_promised h = record h { fetch = None; giving = None }
 
 -- whether a later recall stands there already
 abbrev pub gives_after : Option Giving → Stamp → Bool
@@ -122,8 +122,8 @@ abbrev pub put_off : Held → Stamp → Bool → Held
 put_off h stamp keep = if gives_after h.giving stamp then h else record h { giving = Some (record { stamp = stamp; keep = keep }) }
 
 -- what is held is given up, but for a copy where that may stay; the stamp rises to the recall's
-abbrev pub given_up : Held → Stamp → Bool → Held
-given_up h stamp keep =
+abbrev pub give_up : Held → Stamp → Bool → Held
+give_up h stamp keep =
     if keep && is_held h.mode
     then record h { mode = Copy; stamp = stamp; giving = None }
     else record h { mode = Nothing; value = None; stamp = stamp; giving = None }

@@ -14,7 +14,7 @@ use Rattle.token_client.specs.declared.held.Held.{Held}
 use Rattle.token_client.specs.declared.input.In.{In}
 use Rattle.token_client.specs.declared.input.In.TheVariants.{Need, Granted, Supplied, Forwarded, Recalled, Wrote, Settled, Fetched, Evict, Reask, Quit, Promise, Tick}
 use Rattle.token_client.specs.Held.{is_dirty, is_asking}
-use Rattle.token_client.specs.State.{TokensState, started, held_of, epoch_of}
+use Rattle.token_client.specs.State.{TokensState, tokens_start, held_of, epoch_of}
 use Rattle.token_client.specs.Transition.{transition}
 
 -- a put-off recall is of this epoch, and later than the stamp
@@ -65,7 +65,7 @@ state_after s inputs = (steps transition s inputs).state
 
 -- Whatever a client's tokens take from their start, what holds of each block holds.
 abbrev pub StaysSound : Type 0
-StaysSound = (inc : ℕ) (epochs : List ℕ) (inputs : List In) → IsSound (state_after (started inc epochs) inputs)
+StaysSound = (inc : ℕ) (epochs : List ℕ) (inputs : List In) → IsSound (state_after (tokens_start inc epochs) inputs)
 
 -- The stamp of a block never falls, whatever is taken.
 abbrev pub StampsNeverFall : Type 0

@@ -14,5 +14,5 @@ abbrev pub is_giving : TokensState → Bool
 is_giving t = list_any (is_to_give t) (dirty_in t.blocks)
 
 -- the tokens hear that the version of a row is settled
-unfoldable pub row_settled : TokensState → BlockId × Entry → TokensState
-row_settled tokens row = (on_settled tokens row.0 row.1.ver).state
+unfoldable pub note_row : TokensState → BlockId × Entry → TokensState
+note_row tokens row = (on_settled tokens row.0 row.1.ver).state

@@ -8,7 +8,7 @@ use Rattle.xfs_base.specs.declared.token.Mode.{Mode}
 use Rattle.xfs_base.specs.Blocks.{block_cmp, slot_of}
 use Rattle.xfs_base.specs.Modes.{is_held}
 use Rattle.token_client.specs.declared.held.Held.{Held}
-use Rattle.token_client.specs.Held.{unknown, is_dirty}
+use Rattle.token_client.specs.Held.{held_new, is_dirty}
 
 -- the incarnation of the client, the promised epoch of each slot, the number of the last want, and what
 -- is known of each block, by block
@@ -19,12 +19,12 @@ pub record TokensState : Type 0 where
   pub blocks : List (BlockId × Held)
 
 -- nothing was asked, and nothing is known of any block
-abbrev pub started : ℕ → List ℕ → TokensState
-started inc epochs = record { inc = inc; epochs = epochs; req = 0; blocks = [] }
+abbrev pub tokens_start : ℕ → List ℕ → TokensState
+tokens_start inc epochs = record { inc = inc; epochs = epochs; req = 0; blocks = [] }
 
 -- what is known of a block
 abbrev pub held_of : List (BlockId × Held) → BlockId → Held
-held_of blocks block = unwrap_or (lookup (is_at (block_cmp block)) blocks) unknown
+held_of blocks block = unwrap_or (lookup (is_at (block_cmp block)) blocks) held_new
 
 -- the blocks, with this known of one
 abbrev pub put_held : List (BlockId × Held) → BlockId → Held → List (BlockId × Held)

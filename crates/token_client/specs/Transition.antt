@@ -19,7 +19,7 @@ use Rattle.token_client.specs.declared.input.In.{In}
 use Rattle.token_client.specs.declared.input.In.TheVariants.{Need, Granted, Supplied, Forwarded, Recalled, Wrote, Settled, Fetched, Evict, Reask, Quit, Promise, Tick}
 use Rattle.token_client.specs.declared.output.Out.{Out}
 use Rattle.token_client.specs.declared.output.Out.TheVariants.{Want, Gave, Supply, Flush, Read, Ready}
-use Rattle.token_client.specs.Held.{is_dirty, is_asking, must_ask, is_answer, may_write, is_settled_by, may_end_fetch, may_evict, asked, asked_again, grant_taken, copied, fetch_ended, written, version_settled, let_go, unasked, unfetched, promise_dropped, put_off, given_up}
+use Rattle.token_client.specs.Held.{is_dirty, is_asking, must_ask, is_answer, may_write, is_settled_by, may_end_fetch, may_evict, held_ask, asked_again, take_grant, copy_of, end_fetch, held_write, version_settled, let_go, quit, unfetched, drop_promised, put_off, give_up}
 use Rattle.token_client.specs.State.{TokensState, held_of, with_held, epoch_of, is_in_slot}
 
 -- a state, and what was given on the way to it
@@ -31,11 +31,11 @@ abbrev pub is_promised : TokensState → BlockId → Stamp → Bool
 is_promised s block stamp = epoch_of s.epochs (slot_of block.ino.0) == stamp.epoch
 
 -- A new want, with the next number. Where there is no next number, nothing happens.
-unfoldable pub new_want : TokensState → BlockId → Mode → Done
-new_want s block mode =
+unfoldable pub tokens_ask : TokensState → BlockId → Mode → Done
+tokens_ask s block mode =
     if nat_lt s.req u32_end
     then record {
-      state = record (with_held s block (asked (held_of s.blocks block) (s.req + 1) mode)) { req = s.req + 1 };
+      state = record (with_held s block (held_ask (held_of s.blocks block) (s.req + 1) mode)) { req = s.req + 1 };
       outs = Want block (s.req + 1) 0 mode ∷ [];
     }
     else still s
@@ -43,7 +43,7 @@ new_want s block mode =
 -- A call needs a block in a mode. It is asked for where the block has neither a want nor a fetch, isn't
 -- being given up, and its mode doesn't serve.
 unfoldable pub on_need : TokensState → BlockId → Mode → Done
-on_need s block mode = if must_ask (held_of s.blocks block) mode then new_want s block mode else still s
+on_need s block mode = if must_ask (held_of s.blocks block) mode then tokens_ask s block mode else still s
 
 -- An answer counts in the promised epoch, in this incarnation, for the open want, and with a stamp above
 -- the block's.
@@ -63,14 +63,14 @@ grant_next block mode place = if is_own mode then Ready block else copy_next blo
 unfoldable pub on_granted : TokensState → BlockId → Stamp → ℕ → ℕ → Mode → Entry → Done
 on_granted s block stamp inc req mode entry =
     if accepts s block stamp inc req mode
-    then record { state = with_held s block (grant_taken (held_of s.blocks block) stamp mode entry); outs = grant_next block mode entry.place ∷ [] }
+    then record { state = with_held s block (take_grant (held_of s.blocks block) stamp mode entry); outs = grant_next block mode entry.place ∷ [] }
     else still s
 
 -- A supply ends a want of a copy, and a fetch; the waiting call runs on.
 unfoldable pub on_supplied : TokensState → BlockId → Stamp → ℕ → ℕ → ℕ → Option (List ℕ) → Done
 on_supplied s block stamp inc req ver value =
     if accepts s block stamp inc req Copy
-    then record { state = with_held s block (copied (held_of s.blocks block) stamp ver value); outs = Ready block ∷ [] }
+    then record { state = with_held s block (copy_of (held_of s.blocks block) stamp ver value); outs = Ready block ∷ [] }
     else still s
 
 -- whether a forward of the promised epoch asks for the very version that is held as a copy
@@ -87,7 +87,7 @@ on_forwarded s block stamp ver = if serves s block stamp ver then record { state
 
 -- A call whose fetch is dropped wants its copy again, with a new number.
 unfoldable pub refetch : TokensState → BlockId → Done
-refetch s block = if is_some (held_of s.blocks block).fetch then new_want (with_held s block (unfetched (held_of s.blocks block))) block Copy else still s
+refetch s block = if is_some (held_of s.blocks block).fetch then tokens_ask (with_held s block (unfetched (held_of s.blocks block))) block Copy else still s
 
 -- A block that isn't dirty is given up at once; of a dirty one the giving is put off, and the log seals.
 -- The stamp of a dirty block doesn't rise yet.
@@ -95,7 +95,7 @@ unfoldable pub give : TokensState → BlockId → Stamp → Bool → Done
 give s block stamp keep =
     if is_dirty (held_of s.blocks block)
     then record { state = with_held s block (put_off (held_of s.blocks block) stamp keep); outs = Flush block ∷ [] }
-    else record { state = with_held s block (given_up (held_of s.blocks block) stamp keep); outs = Gave block stamp ∷ [] }
+    else record { state = with_held s block (give_up (held_of s.blocks block) stamp keep); outs = Gave block stamp ∷ [] }
 
 -- whether a fetch could be asked for again
 abbrev pub can_refetch : TokensState → BlockId → Bool
@@ -126,7 +126,7 @@ on_recalled s block stamp keep = if is_promised s block stamp then recalled s bl
 
 -- A write makes the next version of a block that is owned and isn't being given up.
 unfoldable pub on_wrote : TokensState → BlockId → Option (List ℕ) → Done
-on_wrote s block value = if may_write (held_of s.blocks block) then still (with_held s block (written (held_of s.blocks block) value)) else still s
+on_wrote s block value = if may_write (held_of s.blocks block) then still (with_held s block (held_write (held_of s.blocks block) value)) else still s
 
 -- A version of the block is settled. A put-off recall is taken again by the node, after the cache had
 -- its turn.
@@ -139,7 +139,7 @@ on_settled s block ver =
 unfoldable pub on_fetched : TokensState → BlockId → Option (List ℕ) → Done
 on_fetched s block value =
     if may_end_fetch (held_of s.blocks block)
-    then record { state = with_held s block (fetch_ended (held_of s.blocks block) (held_of s.blocks block).fetch value); outs = Ready block ∷ [] }
+    then record { state = with_held s block (end_fetch (held_of s.blocks block) (held_of s.blocks block).fetch value); outs = Ready block ∷ [] }
     else still s
 
 -- A clean block leaves the cache; so does one whose granted Own isn't used.
@@ -148,42 +148,42 @@ on_evict s block = if may_evict (held_of s.blocks block) then still (with_held s
 
 -- The place of a block that is being fetched is asked for again. The fetch stays.
 unfoldable pub on_reask : TokensState → BlockId → Done
-on_reask s block = if is_some (held_of s.blocks block).fetch then new_want s block Copy else still s
+on_reask s block = if is_some (held_of s.blocks block).fetch then tokens_ask s block Copy else still s
 
 -- The want and the fetch of a block whose call answers that it is lost are over.
 unfoldable pub on_quit : TokensState → BlockId → Done
-on_quit s block = if is_asking (held_of s.blocks block) then still (with_held s block (unasked (held_of s.blocks block))) else still s
+on_quit s block = if is_asking (held_of s.blocks block) then still (with_held s block (quit (held_of s.blocks block))) else still s
 
 -- the blocks of a slot that are being fetched
-abbrev pub fetched_in : ℕ → List (BlockId × Held) → List BlockId
-fetched_in slot blocks = keys_of (filter (λ e. is_in_slot slot e.0 && is_some e.1.fetch) blocks)
+abbrev pub fetched_blocks : ℕ → List (BlockId × Held) → List BlockId
+fetched_blocks slot blocks = keys_of (filter (λ e. is_in_slot slot e.0 && is_some e.1.fetch) blocks)
 
 -- fetch and giving of the slot's blocks are dropped
-abbrev pub dropped_in : ℕ → BlockId → Held → Held
-dropped_in slot block h = if is_in_slot slot block then promise_dropped h else h
+abbrev pub drop_in : ℕ → BlockId → Held → Held
+drop_in slot block h = if is_in_slot slot block then drop_promised h else h
 
-abbrev pub all_dropped_in : ℕ → List (BlockId × Held) → List (BlockId × Held)
-all_dropped_in slot blocks = map (λ e. (e.0, dropped_in slot e.0 e.1)) blocks
+abbrev pub drop_all_in : ℕ → List (BlockId × Held) → List (BlockId × Held)
+drop_all_in slot blocks = map (λ e. (e.0, drop_in slot e.0 e.1)) blocks
 
 -- the slot is promised to this epoch
 abbrev pub raised : TokensState → ℕ → ℕ → TokensState
-raised s slot epoch = record s { epochs = slice_set s.epochs slot epoch; blocks = all_dropped_in slot s.blocks }
+raised s slot epoch = record s { epochs = slice_set s.epochs slot epoch; blocks = drop_all_in slot s.blocks }
 
 -- A call that waits wants its copy again.
 abbrev pub ask_copy : TokensState → BlockId → Done
-ask_copy s block = new_want s block Copy
+ask_copy s block = tokens_ask s block Copy
 
 -- whether an epoch is at least the promised one, and there are numbers for all wants that it makes new
 abbrev pub may_promise : TokensState → ℕ → ℕ → Bool
-may_promise s slot epoch = (nat_lt slot slot_count && nat_le (epoch_of s.epochs slot) epoch) && nat_le (length (fetched_in slot s.blocks)) (u32_end - s.req)
+may_promise s slot epoch = (nat_lt slot slot_count && nat_le (epoch_of s.epochs slot) epoch) && nat_le (length (fetched_blocks slot s.blocks)) (u32_end - s.req)
 
 -- A promise drops fetch and giving of the slot's blocks; calls whose fetch was dropped want again.
 unfoldable pub on_promise : TokensState → ℕ → ℕ → Done
-on_promise s slot epoch = if may_promise s slot epoch then steps ask_copy (raised s slot epoch) (fetched_in slot s.blocks) else still s
+on_promise s slot epoch = if may_promise s slot epoch then steps ask_copy (raised s slot epoch) (fetched_blocks slot s.blocks) else still s
 
 -- the blocks that have a want
-abbrev pub wanted_in : List (BlockId × Held) → List BlockId
-wanted_in blocks = keys_of (filter (λ e. is_some e.1.want) blocks)
+abbrev pub wanted_blocks : List (BlockId × Held) → List BlockId
+wanted_blocks blocks = keys_of (filter (λ e. is_some e.1.want) blocks)
 
 -- whether a want can't be counted once more
 abbrev pub is_spent : Option Wanted → Bool
@@ -200,7 +200,7 @@ ask_again s block = if is_spent (held_of s.blocks block).want then still s else 
 
 -- Each want is sent once more, in the order of blocks. Where one can't be counted once more, none is.
 unfoldable pub on_tick : TokensState → Done
-on_tick s = if list_any (λ h. is_spent h.want) (values_of s.blocks) then still s else steps ask_again s (wanted_in s.blocks)
+on_tick s = if list_any (λ h. is_spent h.want) (values_of s.blocks) then still s else steps ask_again s (wanted_blocks s.blocks)
 
 -- what the tokens do on an input
 abbrev pub transition : TokensState → In → Done

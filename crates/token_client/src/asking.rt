@@ -3,7 +3,7 @@ ghost use Rattle.std.specs.Prelude.{◌≡◌, ◌++◌, [], is_some, OnOk};
 ghost use Rattle.xfs_base.specs.Steps.{steps};
 ghost use Rattle.token_client.specs.Held.{must_ask};
 ghost use Rattle.token_client.specs.State.{held_of};
-ghost use Rattle.token_client.specs.Transition.{fetched_in, is_promised, accepts, new_want, on_need, on_granted, on_supplied, on_fetched, on_reask, on_quit, may_promise, ask_copy, on_promise, ask_again, on_tick};
+ghost use Rattle.token_client.specs.Transition.{fetched_blocks, is_promised, accepts, tokens_ask, on_need, on_granted, on_supplied, on_fetched, on_reask, on_quit, may_promise, ask_copy, on_promise, ask_again, on_tick};
 
 use crate::held::{Held, Wanted};
 use crate::output::Out;
@@ -61,10 +61,10 @@ impl Tokens {
     }
 
     /// A new want, with the next number.
-    #[tactic(auto, unfolding(crate::specs::Transition::new_want))]
+    #[tactic(auto, unfolding(crate::specs::Transition::tokens_ask))]
     pub(crate) fn ask(&mut self, outs: &mut List<Out>, block: BlockId, mode: Mode) -> Mem<()>
-        ensures state { OnOk result (self.new ≡ (new_want self.old block mode).state) }
-        ensures outs { OnOk result (outs.new ≡ outs.old ++ (new_want self.old block mode).outs) }
+        ensures state { OnOk result (self.new ≡ (tokens_ask self.old block mode).state) }
+        ensures outs { OnOk result (outs.new ≡ outs.old ++ (tokens_ask self.old block mode).outs) }
     {
         if self.req >= u32::MAX {
             return Ok(());
@@ -198,7 +198,7 @@ impl Tokens {
     /// Whether a promise is taken: its epoch is at least the promised one, and each want that it makes
     /// new has a number.
     pub(crate) fn may_promise(&self, slot: u8, epoch: u32, fetches: &List<BlockId>) -> bool
-        requires { fetches.now ≡ fetched_in slot self.now.blocks }
+        requires { fetches.now ≡ fetched_blocks slot self.now.blocks }
         ensures { result ≡ may_promise self.now slot epoch }
     {
         slot < SLOT_COUNT

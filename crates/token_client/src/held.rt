@@ -92,11 +92,11 @@ fn gives_after(giving: Option<Giving>, stamp: Stamp) -> bool
 }
 
 impl Held {
-    ghost use Rattle.token_client.specs.Held.{unknown, is_dirty, is_asking, must_ask, is_answer, may_write, is_settled_by, may_end_fetch, may_evict, asked, owned, copied, fetched_from, copy_granted, grant_taken, fetch_ended, written, let_go, unasked, promise_dropped, put_off, given_up};
+    ghost use Rattle.token_client.specs.Held.{held_new, is_dirty, is_asking, must_ask, is_answer, may_write, is_settled_by, may_end_fetch, may_evict, held_ask, held_own, copy_of, fetch_from, take_copy, take_grant, end_fetch, held_write, let_go, quit, drop_promised, put_off, give_up};
 
     /// Nothing is known.
     pub(crate) fn new() -> Held
-        ensures { result ≡ unknown }
+        ensures { result ≡ held_new }
     {
         Held {
             mode: Mode::Nothing,
@@ -171,7 +171,7 @@ impl Held {
 
     /// Opens a want.
     pub(crate) fn ask(&mut self, req: u32, mode: Mode)
-        ensures { self.new ≡ asked self.old req mode }
+        ensures { self.new ≡ held_ask self.old req mode }
     {
         self.want = Some(Wanted {
             req,
@@ -182,7 +182,7 @@ impl Held {
 
     /// It is owned at this version, with no value yet.
     fn own(&mut self, stamp: Stamp, ver: u64)
-        ensures { self.new ≡ owned self.old stamp ver }
+        ensures { self.new ≡ held_own self.old stamp ver }
     {
         self.mode = Mode::Own;
         self.ver = ver;
@@ -195,7 +195,7 @@ impl Held {
 
     /// It is a copy of this settled version.
     pub(crate) fn copy_of(&mut self, stamp: Stamp, ver: u64, value: Value)
-        ensures { self.new ≡ copied self.old stamp ver value }
+        ensures { self.new ≡ copy_of self.old stamp ver value }
     {
         self.mode = Mode::Copy;
         self.ver = ver;
@@ -208,7 +208,7 @@ impl Held {
 
     /// It is to be read at a place.
     fn fetch_from(&mut self, stamp: Stamp, ver: u64, place: Place)
-        ensures { self.new ≡ fetched_from self.old stamp ver place }
+        ensures { self.new ≡ fetch_from self.old stamp ver place }
     {
         self.mode = Mode::Nothing;
         self.value = None;
@@ -219,7 +219,7 @@ impl Held {
 
     /// Takes a granted copy.
     fn take_copy(&mut self, stamp: Stamp, ver: u64, place: Option<Place>)
-        ensures { self.new ≡ copy_granted self.old stamp ver place }
+        ensures { self.new ≡ take_copy self.old stamp ver place }
     {
         match place {
             None => self.copy_of(stamp, ver, Value::absent()),
@@ -229,7 +229,7 @@ impl Held {
 
     /// Takes a grant.
     pub(crate) fn take_grant(&mut self, stamp: Stamp, mode: Mode, entry: Entry)
-        ensures { self.new ≡ grant_taken self.old stamp mode entry }
+        ensures { self.new ≡ take_grant self.old stamp mode entry }
     {
         if mode.is_own() {
             self.own(stamp, entry.ver);
@@ -240,7 +240,7 @@ impl Held {
 
     /// Ends the fetch with what was read.
     pub(crate) fn end_fetch(&mut self, value: Value)
-        ensures { self.new ≡ fetch_ended self.old self.old.fetch value }
+        ensures { self.new ≡ end_fetch self.old self.old.fetch value }
     {
         if let Some(fetch) = self.fetch {
             self.mode = Mode::Copy;
@@ -254,7 +254,7 @@ impl Held {
     /// Takes a new version.
     pub(crate) fn write(&mut self, value: Value)
         requires { self.old.ver < u64_end }
-        ensures { self.new ≡ written self.old value }
+        ensures { self.new ≡ held_write self.old value }
     {
         self.ver += 1;
         self.value = Some(value);
@@ -270,7 +270,7 @@ impl Held {
 
     /// Ends the want and the fetch.
     pub(crate) fn quit(&mut self)
-        ensures { self.new ≡ unasked self.old }
+        ensures { self.new ≡ quit self.old }
     {
         self.want = None;
         self.fetch = None;
@@ -287,7 +287,7 @@ impl Held {
 
     /// Gives up what is held, but for a copy where that may stay.
     pub(crate) fn give_up(&mut self, stamp: Stamp, keep: bool)
-        ensures { self.new ≡ given_up self.old stamp keep }
+        ensures { self.new ≡ give_up self.old stamp keep }
     {
         if keep && self.mode.is_held() {
             self.mode = Mode::Copy;
@@ -301,7 +301,7 @@ impl Held {
 
     /// Drops what a promise ends: the fetch and the recall that is put off.
     pub(crate) fn drop_promised(&mut self)
-        ensures { self.new ≡ promise_dropped self.old }
+        ensures { self.new ≡ drop_promised self.old }
     {
         self.fetch = None;
         self.giving = None;

@@ -1,6 +1,6 @@
 //! What is settled of blocks, and whether some of them are still to be given up.
 ghost use Rattle.std.specs.Prelude.{◌≡◌, IfOk, OnOk, fold};
-ghost use Rattle.token_client.specs.Settling.{is_giving, is_to_give, row_settled};
+ghost use Rattle.token_client.specs.Settling.{is_giving, is_to_give, note_row};
 
 use crate::tokens::Tokens;
 use std::alloc::Global;
@@ -9,7 +9,7 @@ use xfs_base::{BlockId, Entry, Mem};
 impl Tokens {
     /// The versions of these rows are settled.
     pub fn note_settled(&mut self, rows: &[(BlockId, Entry)]) -> Mem<()>
-        ensures { OnOk result (self.new ≡ fold row_settled self.old rows.now) }
+        ensures { OnOk result (self.new ≡ fold note_row self.old rows.now) }
     {
         for row in rows {
             self.note_row(*row)?;
@@ -17,9 +17,9 @@ impl Tokens {
         Ok(())
     }
 
-    #[tactic(auto, unfolding(crate::specs::Settling::row_settled))]
+    #[tactic(auto, unfolding(crate::specs::Settling::note_row))]
     fn note_row(&mut self, row: (BlockId, Entry)) -> Mem<()>
-        ensures { OnOk result (self.new ≡ row_settled self.old row) }
+        ensures { OnOk result (self.new ≡ note_row self.old row) }
     {
         self.on_settled(row.0, row.1.ver)
     }

@@ -7,7 +7,7 @@ ghost use Rattle.xfs_base.specs.Blocks.{block_cmp};
 ghost use Rattle.token_client.specs.Held.{is_answer, may_write, is_settled_by, may_end_fetch, may_evict, is_asking};
 ghost use Rattle.token_client.specs.State.{held_of, held_in, dirty_in};
 ghost use Rattle.token_client.specs.Repetitions.{repetition};
-ghost use Rattle.token_client.specs.Transition.{fetched_in, wanted_in, all_dropped_in, dropped_in, is_spent, copy_next, grant_next};
+ghost use Rattle.token_client.specs.Transition.{fetched_blocks, wanted_blocks, drop_all_in, drop_in, is_spent, copy_next, grant_next};
 
 use crate::held::{Held, Wanted};
 use crate::output::Out;
@@ -32,7 +32,7 @@ pub(crate) fn fetched_blocks(
     blocks: &BTreeMap<BlockId, Held>,
     slot: u8,
 ) -> Mem<List<BlockId>>
-    ensures { IfOk result (λ found. found ≡ fetched_in slot blocks.now.entries) }
+    ensures { IfOk result (λ found. found ≡ fetched_blocks slot blocks.now.entries) }
 {
     let mut found = List::new(alloc);
     for (block, held) in blocks {
@@ -45,7 +45,7 @@ pub(crate) fn fetched_blocks(
 
 /// The blocks that have a want, in order.
 pub(crate) fn wanted_blocks(alloc: Global, blocks: &BTreeMap<BlockId, Held>) -> Mem<List<BlockId>>
-    ensures { IfOk result (λ found. found ≡ wanted_in blocks.now.entries) }
+    ensures { IfOk result (λ found. found ≡ wanted_blocks blocks.now.entries) }
 {
     let mut found = List::new(alloc);
     for (block, held) in blocks {
@@ -115,7 +115,7 @@ pub(crate) fn repetition(want: Option<Wanted>) -> u32
 
 /// Drops what a promise of a slot ends, if the block is of the slot.
 pub(crate) fn drop_in(slot: u8, block: BlockId, held: &mut Held)
-    ensures { held.new ≡ dropped_in slot block held.old }
+    ensures { held.new ≡ drop_in slot block held.old }
 {
     if block.ino.slot() == slot {
         held.drop_promised();
@@ -124,7 +124,7 @@ pub(crate) fn drop_in(slot: u8, block: BlockId, held: &mut Held)
 
 /// Drops what a promise of a slot ends.
 pub(crate) fn drop_all_in(slot: u8, blocks: &mut BTreeMap<BlockId, Held>)
-    ensures { blocks.new.entries ≡ all_dropped_in slot blocks.old.entries }
+    ensures { blocks.new.entries ≡ drop_all_in slot blocks.old.entries }
 {
     blocks.retain(|block, held| {
         drop_in(slot, *block, held);

@@ -1,7 +1,7 @@
 //! The tokens of a client: their state, their start, and what they take.
 ghost use Rattle.std.specs.Prelude.{◌≡◌, length, OnOk, IfOk};
 ghost use Rattle.xfs_base.specs.Limits.{slot_count};
-ghost use Rattle.token_client.specs.State.{started};
+ghost use Rattle.token_client.specs.State.{tokens_start};
 ghost use Rattle.token_client.specs.Transition.{transition};
 
 use crate::held::Held;
@@ -47,7 +47,7 @@ impl Tokens {
     /// No block is known, and nothing was asked. The epochs are those that the slots are promised to.
     pub fn start(alloc: Global, inc: u32, epochs: List<u32>) -> Mem<Tokens>
         requires { length epochs ≡ slot_count }
-        ensures { IfOk result (λ tokens. tokens ≡ started inc epochs) }
+        ensures { IfOk result (λ tokens. tokens ≡ tokens_start inc epochs) }
     {
         let mut promised = [0_u32; BY_SLOT];
         promised.copy_from_slice(epochs.as_slice());

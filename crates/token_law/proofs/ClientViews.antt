@@ -20,7 +20,7 @@ use Rattle.slot_beliefs.specs.Recalls as slot
 use Rattle.token_client.specs.declared.held.Held.{Held}
 use Rattle.token_client.specs.Held.{is_dirty}
 use Rattle.token_client.specs.State.{held_of, is_in_slot, epoch_of}
-use Rattle.token_client.specs.State.{started as fresh_tokens}
+use Rattle.token_client.specs.State.{tokens_start as fresh_tokens}
 use Rattle.token_client.specs.Transition as client
 use Rattle.token_manager.specs.SlotState.{SlotState}
 use Rattle.token_protocol.specs.Acts.Act.{Fell as FellBlock, Back as BackBlock}

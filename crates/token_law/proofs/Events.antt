@@ -3,9 +3,9 @@ use Rattle.std.proofs.Common.{ℕ, suc, Bool}
 use Rattle.xfs_base.specs.declared.token.Mode.TheVariants.{Copy, Own}
 use Rattle.token_client.specs.declared.input.In.TheVariants as input
 use Rattle.token_client.specs.Laws.{IsSound}
-use Rattle.token_client.specs.State.{started as fresh_tokens}
+use Rattle.token_client.specs.State.{tokens_start as fresh_tokens}
 use Rattle.token_client.specs.Transition as client
-use Rattle.token_client.proofs.AllInputs.{started-sound, transition-follows}
+use Rattle.token_client.proofs.AllInputs.{tokens_start-sound, transition-follows}
 use Rattle.token_manager.specs.declared.input.In.TheVariants as told
 use Rattle.token_manager.specs.Transition as slot
 use Rattle.token_manager.proofs.Turns.{takes-transition}
@@ -141,7 +141,7 @@ keeps logs members part n m (Crashes c flight falls pos less up once so) sure i 
   views = λ b inside. crash_view logs members part b n (i.views b inside) c flight falls pos less up so;
 }
 keeps logs members part n m (Returns c inc epochs chain count pos less up later rises flies) sure i = record {
-  sound = put_each (λ k x. IsSound x) n.tokens c (fresh_tokens inc epochs) (started-sound inc epochs) (λ k other. i.sound k);
+  sound = put_each (λ k x. IsSound x) n.tokens c (fresh_tokens inc epochs) (tokens_start-sound inc epochs) (λ k other. i.sound k);
   ran = i.ran;
   views = λ b inside. returned_view logs members part n i b inside (whole_books logs members n sure) c inc epochs chain count pos less up later rises flies;
 }

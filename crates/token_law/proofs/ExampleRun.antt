@@ -14,7 +14,7 @@ use Rattle.xfs_base.proofs.Booleans.{contrary}
 use Rattle.version_model.specs.declared.act.Act.TheVariants as act
 use Rattle.token_client.specs.declared.held.Held.{Held}
 use Rattle.token_client.specs.declared.input.In.TheVariants as input
-use Rattle.token_client.specs.Held.{unknown, asked, owned, written, version_settled, given_up, copied}
+use Rattle.token_client.specs.Held.{held_new, held_ask, held_own, held_write, version_settled, give_up, copy_of}
 use Rattle.token_client.specs.State.{TokensState, held_of}
 use Rattle.token_client.specs.Transition as client
 use Rattle.token_manager.specs.declared.input.In.TheVariants as told
@@ -23,7 +23,7 @@ use Rattle.token_manager.specs.Transition as slot
 use Rattle.token_protocol.specs.Basics.{put}
 use Rattle.delta_index.specs.Entries.{no_entry}
 use Rattle.delta_index.specs.Index.{entry_of, merged}
-use Rattle.slot_beliefs.specs.Index.{indexed, indexed_all}
+use Rattle.slot_beliefs.specs.Index.{block_index_merge, merge_all}
 use Rattle.token_law.specs.Books.{Row, row_in, nothing_said, said, sealed, filed}
 use Rattle.token_law.specs.Example.{example_block, example_value, IsShared}
 use Rattle.token_law.specs.Net.{Net, opening, IsServing, Happens}
@@ -47,7 +47,7 @@ nothing_there = record { ver = 0; hop = 0; place = None }
 -- ---- the first client asks to own the block, and writes it
 
 abbrev wants : Held
-wants = asked unknown 1 Own
+wants = held_ask held_new 1 Own
 
 abbrev n1 : Net
 n1 = record opening { tokens = put opening.tokens 1 (knows wants); sent = WantSent 1 1 1 0 example_block Own 0 ∷ [] }
@@ -56,11 +56,11 @@ serves : (n : Net) (c : ℕ) → 0 < c → c < 3 → n.up c ≡ true → IsServi
 serves n c some within up = record { some = some; within = within; up = up; end_is = refl }
 
 step1 : Happens true 3 1 opening n1
-unfolding client.on_need client.new_want
+unfolding client.on_need client.tokens_ask
 step1 = Acts 1 0 (input.Need example_block Own) (serves opening 1 (omega arith) (omega arith) refl) tt
 
 abbrev z0 : SlotState
-z0 = slot.started 1 [] [] zeros
+z0 = slot.slot_start 1 [] [] zeros
 
 abbrev z1 : SlotState
 z1 = (slot.transition z0 (told.Want (slot.want_of 1 example_block 1 1 0 Own) 0)).state
@@ -72,7 +72,7 @@ step2 : Happens true 3 1 n1 n2
 step2 = GetsWant 1 z0 1 1 1 0 example_block Own 0 refl (inl refl)
 
 abbrev wrote : Held
-wrote = written (owned wants (at 1) 0) example_value
+wrote = held_write (held_own wants (at 1) 0) example_value
 
 abbrev n3 : Net
 n3 = record n2 { tokens = put n2.tokens 1 (knows wrote); acts = act.Wrote 1 example_block example_value ∷ [] }
@@ -133,8 +133,8 @@ n6 = record n5 { slots = put n5.slots 1 (Some z2) }
 same_place : (p : Place) → Some place ≡ Some p → (p.seg.name.log.0 ≡ 1) × (p.seg.name.seq ≡ 1)
 same_place p fact = let same = some_one place p fact in (ap (λ (x : Place). x.seg.name.log.0) (sym same), ap (λ (x : Place). x.seg.name.seq) (sym same))
 
-covers_here : Covers n5.books example_block 1 1 (slot.entry_at z1 example_block) (entry_of (indexed_all z1.index deltas).rows example_block)
-unfolding indexed merged
+covers_here : Covers n5.books example_block 1 1 (slot.entry_at z1 example_block) (entry_of (merge_all z1.index deltas).rows example_block)
+unfolding block_index_merge merged
 covers_here = record {
   later = omega arith;
   rows = λ q. limit q;
@@ -154,14 +154,14 @@ nothing_of k differs = ap (λ t. unwrap_or (cond t (Some entry) None) no_entry) 
     apart true fact = contrary (sym differs ∙ ap (λ (x : BlockId). same_block example_block x) (tells_apart block_cmp_exact k example_block fact))
     apart false fact = refl
 
-covers_there : (k : BlockId) → same_block example_block k ≡ false → Covers n5.books k 1 1 (slot.entry_at z1 k) (entry_of (indexed_all z1.index deltas).rows k)
-unfolding indexed merged
+covers_there : (k : BlockId) → same_block example_block k ≡ false → Covers n5.books k 1 1 (slot.entry_at z1 k) (entry_of (merge_all z1.index deltas).rows k)
+unfolding block_index_merge merged
 covers_there k differs = record { later = omega arith; rows = λ q. limit q; source = inl (nothing_of k differs) }
   where
     row : (row_in rows k).version ≡ 0
     row = ap (λ t. (if t then record { version = 1; value = example_value } else nothing_said).version) differs
 
-    limit : (q : ℕ) → q ≤ 1 → (said n5.books 1 q k).version ≤ (entry_of (indexed_all z1.index deltas).rows k).ver
+    limit : (q : ℕ) → q ≤ 1 → (said n5.books 1 q k).version ≤ (entry_of (merge_all z1.index deltas).rows k).ver
     limit zero below = omega arith
     limit (suc zero) below = let none = row in omega arith
     limit (suc (suc q)) below = absurd (omega arith)
@@ -169,9 +169,9 @@ covers_there k differs = record { later = omega arith; rows = λ q. limit q; sou
 deltas_cover : DeltasCover 1 n5.books z1 (record { 0 = 1 }) 1 deltas
 deltas_cover = record { filed = omega arith; each = λ k inside. go k (same_block example_block k) refl }
   where
-    go : (k : BlockId) (t : Bool) → same_block example_block k ≡ t → Covers n5.books k 1 1 (slot.entry_at z1 k) (entry_of (indexed_all z1.index deltas).rows k)
+    go : (k : BlockId) (t : Bool) → same_block example_block k ≡ t → Covers n5.books k 1 1 (slot.entry_at z1 k) (entry_of (merge_all z1.index deltas).rows k)
     go k true fact =
-        subst (λ x. Covers n5.books x 1 1 (slot.entry_at z1 x) (entry_of (indexed_all z1.index deltas).rows x))
+        subst (λ x. Covers n5.books x 1 1 (slot.entry_at z1 x) (entry_of (merge_all z1.index deltas).rows x))
         (sym (same_block_exact example_block k fact)) covers_here
     go k false fact = covers_there k fact
 
@@ -181,13 +181,13 @@ step6 = GetsDeltas 1 z1 (record { 0 = 1 }) 1 1 deltas refl (omega arith) (omega 
 -- ---- the second client asks for a copy, the first keeps one, and supplies it
 
 abbrev needs : Held
-needs = asked unknown 1 Copy
+needs = held_ask held_new 1 Copy
 
 abbrev n7 : Net
 n7 = record n6 { tokens = put n6.tokens 2 (knows needs); sent = WantSent 2 1 1 0 example_block Copy 0 ∷ n6.sent }
 
 step7 : Happens true 3 1 n6 n7
-unfolding client.on_need client.new_want
+unfolding client.on_need client.tokens_ask
 step7 = Acts 2 0 (input.Need example_block Copy) (serves n6 2 (omega arith) (omega arith) refl) tt
 
 abbrev z3 : SlotState
@@ -200,7 +200,7 @@ step8 : Happens true 3 1 n7 n8
 step8 = GetsWant 1 z2 2 1 1 0 example_block Copy 0 refl (inl refl)
 
 abbrev kept : Held
-kept = given_up known_settled (at 2) true
+kept = give_up known_settled (at 2) true
 
 abbrev n9 : Net
 n9 = record n8 { tokens = put n8.tokens 1 (knows kept); sent = GaveSent 1 example_block (at 2) 1 ∷ n8.sent }
@@ -216,7 +216,7 @@ abbrev n10 : Net
 n10 = record n9 { slots = put n9.slots 1 (Some z4); sent = ForwardSent 1 2 example_block (at 3) 1 1 1 ∷ n9.sent }
 
 step10 : Happens true 3 1 n9 n10
-unfolding slot.gave_noted indexed merged
+unfolding slot.gave_noted block_index_merge merged
 step10 = GetsGave 1 z3 1 example_block (at 2) 1 refl (inl refl)
 
 abbrev n11 : Net
@@ -228,7 +228,7 @@ step11 = GetsForward 1 2 example_block (at 3) 1 1 1 example_value (omega arith) 
 -- ---- it reads
 
 abbrev n12 : Net
-n12 = record n11 { tokens = put n11.tokens 2 (knows (copied needs (at 3) 1 example_value)) }
+n12 = record n11 { tokens = put n11.tokens 2 (knows (copy_of needs (at 3) 1 example_value)) }
 
 step12 : Happens true 3 1 n11 n12
 unfolding client.on_supplied

@@ -11,14 +11,14 @@ use Rattle.version_model.specs.declared.act.Act.TheVariants as act
 use Rattle.xfs_base.specs.declared.token.Mode.{Mode}
 use Rattle.delta_index.specs.Index.{entry_of}
 use Rattle.slot_beliefs.specs.Beliefs.{all_believed, share_of}
-use Rattle.slot_beliefs.specs.Index.{indexed_all}
+use Rattle.slot_beliefs.specs.Index.{merge_all}
 use Rattle.token_client.specs.Laws.{IsSound}
-use Rattle.token_client.specs.State.{started as fresh_tokens, epoch_of, is_in_slot}
-use Rattle.token_client.proofs.AllInputs.{started-sound}
+use Rattle.token_client.specs.State.{tokens_start as fresh_tokens, epoch_of, is_in_slot}
+use Rattle.token_client.proofs.AllInputs.{tokens_start-sound}
 use Rattle.token_manager.specs.declared.input.In as slot_in
 use Rattle.token_manager.specs.declared.input.In.TheVariants as told
 use Rattle.token_manager.specs.Laws.{OwnsAlone, IsNotTick}
-use Rattle.token_manager.specs.Recalls.{all_sent}
+use Rattle.token_manager.specs.Recalls.{send_all}
 use Rattle.token_manager.specs.SlotState.{SlotState}
 use Rattle.token_manager.specs.Transition as slot
 use Rattle.token_manager.proofs.Guarded.{sound-start, sound-transition}
@@ -89,8 +89,8 @@ module _ (logs : Bool) (members part : ℕ) (n : Net) (i : Good logs members par
             let p = v.past e s fact in
             let of_slot = p.1 in
             let old : e < v.world.epoch = ltb-true e v.world.epoch h in
-            stale_view logs members part b n v e s (slot_packets (all_sent s.jobs)) old p.1
-            (λ q new. told_carried logs members part b n v v.world (all_sent s.jobs) (tick_stale b v.world s (i.ran e s fact) (omega arith)) q new)
+            stale_view logs members part b n v e s (slot_packets (send_all s.jobs)) old p.1
+            (λ q new. told_carried logs members part b n v v.world (send_all s.jobs) (tick_stale b v.world s (i.ran e s fact) (omega arith)) q new)
         | false ↦ λ h. slot_event b v e s told.Tick fact (λ _. tt) (λ old. absurd (not_below e v.world.epoch h old)) refl
       ] refl
     where
@@ -108,14 +108,14 @@ module _ (logs : Bool) (members part : ℕ) (n : Net) (i : Good logs members par
         seen same,
       )) (λ _. tt) (takes-transition s (told.Deltas log first upto rows) tt).0
     where
-      seen : e ≡ v.world.epoch → Premise logs (IndexCovers v.world log.0 upto (entry_seen (entry_of (indexed_all s.index rows).rows b)))
+      seen : e ≡ v.world.epoch → Premise logs (IndexCovers v.world log.0 upto (entry_seen (entry_of (merge_all s.index rows).rows b)))
       seen same =
           let eq : v.slot ≡ s = some_one v.slot s (sym v.reigns ∙ ap n.slots (sym same) ∙ fact) in
           owed_both logs (Kept b n.books v.world) (IsLatest n e → DeltasCover part n.books s log upto rows)
-          (IndexCovers v.world log.0 upto (entry_seen (entry_of (indexed_all s.index rows).rows b)))
+          (IndexCovers v.world log.0 upto (entry_seen (entry_of (merge_all s.index rows).rows b)))
           (λ kept c.
           let d = c (λ k z at. let p = (v.past k z at).0 in omega arith) in
-          covers_of b n.books v.world kept log.0 upto (slot.entry_at s b) (entry_of (indexed_all s.index rows).rows b)
+          covers_of b n.books v.world kept log.0 upto (slot.entry_at s b) (entry_of (merge_all s.index rows).rows b)
           (v.manages.index ∙ ap (λ (z : SlotState). entry_seen (slot.entry_at z b)) eq) d.filed (d.each b inside))
           v.kept covers
 
@@ -127,11 +127,11 @@ module _ (logs : Bool) (members part : ℕ) (n : Net) (i : Good logs members par
       → n.slots epoch ≡ None → ((c : ℕ) → 0 < c → c < members → Contains order c)
       → All (λ c. (0 < c) × (c < members)) order → ((c : ℕ) → 0 < c → c < members → In (ReportSent c epoch (rows c) (ends c)) n.sent)
       → Premise logs (IsLatest n epoch → Gathered members part n.books index applied ends)
-      → Good logs members part (record n { slots = put n.slots epoch (Some (slot.started epoch index (all_reported rows order) applied)) })
+      → Good logs members part (record n { slots = put n.slots epoch (Some (slot.slot_start epoch index (all_reported rows order) applied)) })
   activated_good epoch index applied rows ends order none all each reports_sent gathered =
       record {
         sound = i.sound;
-        ran = ran_put n.slots epoch (slot.started epoch index (all_reported rows order) applied) (begun epoch index (all_reported rows order) applied) i.ran;
+        ran = ran_put n.slots epoch (slot.slot_start epoch index (all_reported rows order) applied) (begun epoch index (all_reported rows order) applied) i.ran;
         views = λ b inside. at b inside (i.views b inside) (nat_lt (i.views b inside).world.epoch epoch) refl;
       }
     where
@@ -155,7 +155,7 @@ module _ (logs : Bool) (members part : ℕ) (n : Net) (i : Good logs members par
           (λ g. g (λ k z fact. let p = (v.past k z fact).0 in omega arith)) gathered) inside
 
       alone : (b : BlockId) (v : View logs members part b n) → v.world.epoch < epoch
-          → OwnsAlone (slot.started epoch index (all_reported rows order) applied).beliefs
+          → OwnsAlone (slot.slot_start epoch index (all_reported rows order) applied).beliefs
       alone b v later k c d apart =
           elim (is_in_slot part k) as
           (λ t. is_in_slot part k ≡ t
@@ -174,14 +174,14 @@ module _ (logs : Bool) (members part : ℕ) (n : Net) (i : Good logs members par
           ] refl
 
       at : (b : BlockId) → is_in_slot part b ≡ true → (v : View logs members part b n) (t : Bool) → nat_lt v.world.epoch epoch ≡ t
-          → View logs members part b (record n { slots = put n.slots epoch (Some (slot.started epoch index (all_reported rows order) applied)) })
+          → View logs members part b (record n { slots = put n.slots epoch (Some (slot.slot_start epoch index (all_reported rows order) applied)) })
       at b inside v true h =
           let later = ltb-true v.world.epoch epoch h in
           later_view logs members part b n v epoch index applied rows ends none order all each reports_sent later inside (gathered_at b inside v later)
           (sound-start epoch index (all_reported rows order) applied (alone b v later))
       at b inside v false h =
           let other : epoch ≡ v.world.epoch → ⊥ = λ same. taken v.slot none v.slot (ap n.slots same ∙ v.reigns) in
-          stale_view logs members part b n v epoch (slot.started epoch index (all_reported rows order) applied) []
+          stale_view logs members part b n v epoch (slot.slot_start epoch index (all_reported rows order) applied) []
           (below epoch v.world.epoch (ltb-false v.world.epoch epoch h) other) refl (λ p fact. absurd fact)
 
   -- a client returns, with empty segments behind what it found
@@ -200,7 +200,7 @@ module _ (logs : Bool) (members part : ℕ) (n : Net) (i : Good logs members par
       let m : Net = acted (record n { tokens = put n.tokens c (fresh_tokens inc epochs); up = put n.up c true; books = k }) (act.Back c chain ∷ []) in
       empties_view logs members part b m c count
       (return_view logs members part b n (i.views b inside) c inc epochs chain pos less up later rises inside flies) pos less (put_here n.up c true)
-      (subst IsSound (sym (put_here n.tokens c (fresh_tokens inc epochs))) (started-sound inc epochs))
+      (subst IsSound (sym (put_here n.tokens c (fresh_tokens inc epochs))) (tokens_start-sound inc epochs))
       (owed logs (k.flying c ≡ false) (λ _. landed t))
       (owed_on logs (BooksWhole members n.books) (BooksWhole members k) (whole_reopened members n.books c t) whole)
     where

@@ -12,15 +12,15 @@ use Rattle.slot_beliefs.specs.Recalls.{recalls, noted, ready_blocks, applied_upt
 use Rattle.token_manager.specs.declared.input.In.{In}
 use Rattle.token_manager.specs.declared.input.In.TheVariants.{Want, Gave, Deltas, Check, Tick}
 use Rattle.token_manager.specs.Laws.{IsGivenOut, RecallsAreGivenOut, state_after}
-use Rattle.token_manager.specs.Recalls.{recall_of, sent, all_sent}
+use Rattle.token_manager.specs.Recalls.{recall_of, send_recalls, send_all}
 use Rattle.token_manager.specs.SlotState.{SlotState}
-use Rattle.token_manager.specs.Transition.{started, with_deltas, finished_at, transition}
+use Rattle.token_manager.specs.Transition.{slot_start, with_deltas, finish_job, transition}
 use Rattle.token_manager.proofs.Cases.{recalled_from, by_want, by_gave, by_deltas, by_finished_at}
 use Rattle.token_manager.proofs.JobsBarGrants.{Waiting, waiting-removed, waiting-put, nobody_waits}
 use Rattle.token_manager.proofs.RecallTurns.{given-all}
 use Rattle.token_protocol.specs.World.{World}
 use Rattle.token_tie.specs.Managed.{AllTold}
-use Rattle.token_tie.proofs.Applying.{all_sent-told}
+use Rattle.token_tie.proofs.Applying.{send_all-told}
 
 -- It came from a start by these inputs.
 pub record Ran (s : SlotState) : Type 0 where
@@ -29,9 +29,9 @@ pub record Ran (s : SlotState) : Type 0 where
   pub beliefs : List (BlockId × ℕ × Mode)
   pub applied : List ℕ
   pub taken : List In
-  pub reaches : s ≡ state_after (started epoch index beliefs applied) taken
+  pub reaches : s ≡ state_after (slot_start epoch index beliefs applied) taken
 
-pub begun : (epoch : ℕ) (index : List (BlockId × Entry)) (beliefs : List (BlockId × ℕ × Mode)) (applied : List ℕ) → Ran (started epoch index beliefs applied)
+pub begun : (epoch : ℕ) (index : List (BlockId × Entry)) (beliefs : List (BlockId × ℕ × Mode)) (applied : List ℕ) → Ran (slot_start epoch index beliefs applied)
 begun epoch index beliefs applied = record { epoch = epoch; index = index; beliefs = beliefs; applied = applied; taken = []; reaches = refl }
 
 pub on : (s : SlotState) (x : In) → Ran s → Ran (transition s x).state
@@ -42,7 +42,7 @@ on s x r = record {
   applied = r.applied;
   taken = r.taken ++ x ∷ [];
   reaches = ap (λ (z : SlotState). (transition z x).state) r.reaches
-      ∙ sym (steps_both transition (started r.epoch r.index r.beliefs r.applied) r.taken (x ∷ []));
+      ∙ sym (steps_both transition (slot_start r.epoch r.index r.beliefs r.applied) r.taken (x ∷ []));
 }
 
 -- ---- its wants stand in order
@@ -56,7 +56,7 @@ waiting-transition s (Gave client block stamp end) w =
     (λ job fact. waiting-put s.jobs block (record { want = job.want; awaited = noted job.awaited client stamp end }) (w.own block job fact) w)
 waiting-transition s (Deltas log first upto rows) w =
     by_deltas (λ r. Waiting r.state.jobs) s log first upto rows w w
-    (λ _. steps_keep finished_at (λ (z : SlotState). Waiting z.jobs)
+    (λ _. steps_keep finish_job (λ (z : SlotState). Waiting z.jobs)
     (λ z block v. by_finished_at (λ r. Waiting r.state.jobs) z block v (λ job fact. waiting-removed z.jobs block v))
     (with_deltas s log upto rows) (ready_blocks s.jobs (applied_upto s.applied log upto)) w)
 waiting-transition s (Check block place) w = w
@@ -65,7 +65,7 @@ waiting-transition s Tick w = w
 waiting : (s : SlotState) → Ran s → Waiting s.jobs
 waiting s r =
     subst (λ (z : SlotState). Waiting z.jobs) (sym r.reaches)
-    (steps_keep transition (λ (z : SlotState). Waiting z.jobs) waiting-transition (started r.epoch r.index r.beliefs r.applied) r.taken nobody_waits)
+    (steps_keep transition (λ (z : SlotState). Waiting z.jobs) waiting-transition (slot_start r.epoch r.index r.beliefs r.applied) r.taken nobody_waits)
 
 given : (s : SlotState) → Ran s → RecallsAreGivenOut s
 given s r = subst RecallsAreGivenOut (sym r.reaches) (given-all r.epoch r.index r.beliefs r.applied r.taken)
@@ -73,17 +73,17 @@ given s r = subst RecallsAreGivenOut (sym r.reaches) (given-all r.epoch r.index 
 -- ---- what its tick sends again
 
 -- recalls of an epoch before the reigning one ask nothing
-sent-stale : (b : BlockId) (w : World) (epoch turn : ℕ) (rows : List Awaited) → epoch < w.epoch → All (IsGivenOut epoch turn) rows → AllTold b w (sent b rows)
-sent-stale b w epoch turn [] old all = tt
-sent-stale b w epoch turn (a ∷ rows) old all =
+send_recalls-stale : (b : BlockId) (w : World) (epoch turn : ℕ) (rows : List Awaited) → epoch < w.epoch → All (IsGivenOut epoch turn) rows → AllTold b w (send_recalls b rows)
+send_recalls-stale b w epoch turn [] old all = tt
+send_recalls-stale b w epoch turn (a ∷ rows) old all =
     let here : IsGivenOut epoch turn a = All-head (IsGivenOut epoch turn) a rows all in
     let of_epoch = here.of_epoch in
     let from_1 = here.from_1 in
-    let rest = sent-stale b w epoch turn rows old (All-tail (IsGivenOut epoch turn) a rows all) in
-    elim (is_some a.end) as (λ t. AllTold b w (cond t (sent b rows) (recall_of b a ∷ sent b rows))) [
+    let rest = send_recalls-stale b w epoch turn rows old (All-tail (IsGivenOut epoch turn) a rows all) in
+    elim (is_some a.end) as (λ t. AllTold b w (cond t (send_recalls b rows) (recall_of b a ∷ send_recalls b rows))) [
       | true ↦ rest
       | false ↦ (λ same. record { low = omega arith; some = omega arith; recalled = λ reigns. absurd (omega arith) }, rest)
     ]
 
-pub tick_stale : (b : BlockId) (w : World) (s : SlotState) → Ran s → s.epoch < w.epoch → AllTold b w (all_sent s.jobs)
-tick_stale b w s r old = all_sent-told false b w s.jobs (waiting s r).sorted (λ job fact. sent-stale b w s.epoch s.turn job.awaited old (given s r b job fact))
+pub tick_stale : (b : BlockId) (w : World) (s : SlotState) → Ran s → s.epoch < w.epoch → AllTold b w (send_all s.jobs)
+tick_stale b w s r old = send_all-told false b w s.jobs (waiting s r).sorted (λ job fact. send_recalls-stale b w s.epoch s.turn job.awaited old (given s r b job fact))

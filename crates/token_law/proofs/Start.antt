@@ -2,7 +2,7 @@
 use Rattle.std.proofs.Common.{◌≡◌, ℕ, zero, suc, ◌-◌, ◌%◌, ◌≤◌, ◌<◌, Bool, true, false, nat_lt, get_or, List, [], ◌∷◌, Some, None, refl, sym, ap, arith}
 use Rattle.std.proofs.lemmas.Bool.Decides.{nat_tests}
 use Rattle.xfs_base.specs.Blocks.{slot_of}
-use Rattle.token_client.proofs.AllInputs.{started-sound}
+use Rattle.token_client.proofs.AllInputs.{tokens_start-sound}
 use Rattle.token_manager.specs.SlotState.{SlotState}
 use Rattle.token_manager.specs.Transition as slot
 use Rattle.token_manager.proofs.Guarded.{sound-start}
@@ -61,8 +61,8 @@ serving_is c members less = grind (arith, nat_tests)
 
 pub begins : (logs : Bool) (members part : ℕ) → 0 < members → Good logs members part opening
 begins logs members part some = record {
-  sound = λ c. started-sound 1 ones;
-  ran = ran_put (λ e. None) 1 (slot.started 1 [] [] zeros) (begun 1 [] [] zeros) (λ k z fact. absurd (cc));
+  sound = λ c. tokens_start-sound 1 ones;
+  ran = ran_put (λ e. None) 1 (slot.slot_start 1 [] [] zeros) (begun 1 [] [] zeros) (λ k z fact. absurd (cc));
   views = λ b inside. record {
     world = start members;
     steps = Ended;
@@ -90,7 +90,7 @@ begins logs members part some = record {
       fetch = refl;
     };
     fell = λ c pos less down _. contrary (sym down);
-    slot = slot.started 1 [] [] zeros;
+    slot = slot.slot_start 1 [] [] zeros;
     sound = sound-start 1 [] [] zeros (λ block c d apart. omega arith);
     reigns = refl;
     manages = record {
@@ -101,8 +101,8 @@ begins logs members part some = record {
       index = refl;
       job = record { nothing = λ d. refl; paid = λ d. omega arith };
     };
-    past = put_each (λ e o. (s : SlotState) → o ≡ Some s → (e ≤ 1) × (s.epoch ≡ e)) (λ e. None) 1 (Some (slot.started 1 [] [] zeros))
-        (λ s fact. (omega arith, ap (λ (x : SlotState). x.epoch) (sym (some_one (slot.started 1 [] [] zeros) s fact))))
+    past = put_each (λ e o. (s : SlotState) → o ≡ Some s → (e ≤ 1) × (s.epoch ≡ e)) (λ e. None) 1 (Some (slot.slot_start 1 [] [] zeros))
+        (λ s fact. (omega arith, ap (λ (x : SlotState). x.epoch) (sym (some_one (slot.slot_start 1 [] [] zeros) s fact))))
         (λ e other s fact. absurd (clash s fact));
     sent = λ p fact. absurd fact;
     kept = owed logs (Kept b no_books (start members)) (λ _. record { ends = λ l. refl; flights = λ l. refl; says = λ l q. refl });

@@ -9,7 +9,7 @@ use Rattle.xfs_base.specs.declared.token.Mode.TheVariants.{Nothing, Copy, Own}
 use Rattle.act_tie.specs.BlockActs.{acts_of}
 use Rattle.slot_beliefs.specs.Beliefs.{share_of, all_believed}
 use Rattle.slot_beliefs.specs.Recalls.{applied_of}
-use Rattle.slot_beliefs.specs.Index.{nothing_indexed, indexed_all}
+use Rattle.slot_beliefs.specs.Index.{block_index_new, merge_all}
 use Rattle.token_client.specs.State.{held_of}
 use Rattle.token_manager.specs.SlotState.{SlotState}
 use Rattle.token_manager.specs.Transition as slot
@@ -197,14 +197,14 @@ module _ (logs : Bool) (members part : ℕ) (b : BlockId) (n : Net) (v : View lo
 
   -- one that doesn't reign begins unheard; one of a later epoch reigns
   abbrev pub begun : SlotState
-  begun = slot.started epoch index beliefs applied
+  begun = slot.slot_start epoch index beliefs applied
 
   -- of the log of nobody all is applied
   abbrev pub upto : ℕ → ℕ
   upto = put (applied_of applied) 0 (old.end 0)
 
   abbrev pub entry : abstract_entry.Entry
-  entry = entry_seen (entry_of (indexed_all nothing_indexed index).rows b)
+  entry = entry_seen (entry_of (merge_all block_index_new index).rows b)
 
   abbrev pub next : World
   next = takeover.activates now epoch report upto entry
@@ -214,7 +214,7 @@ module _ (logs : Bool) (members part : ℕ) (b : BlockId) (n : Net) (v : View lo
   unfolding hears
   gathers gathered inside =
       owed_both logs (Kept b n.books old × CleanerEmpty old) (Gathered members part n.books index applied ends) (IndexGathered now report upto entry)
-      (λ known g. gathered_of b n.books now known.0 report (applied_of applied) (entry_of (indexed_all nothing_indexed index).rows b)
+      (λ known g. gathered_of b n.books now known.0 report (applied_of applied) (entry_of (merge_all block_index_new index).rows b)
       (record { end = known.1.end; flight = known.1.flight; rows = known.1.rows; applied = known.1.applied; written = known.1.written }) refl
       (λ c pos less. let within : c < members = let m = v.many in omega arith in let e = (hears c).end pos within in let limit = g.reported c pos within in
       omega arith)

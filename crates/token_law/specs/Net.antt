@@ -18,7 +18,7 @@ use Rattle.token_client.specs.declared.input.In.TheVariants as input
 use Rattle.token_client.specs.declared.output.Out as outputs
 use Rattle.token_client.specs.declared.output.Out.TheVariants as output
 use Rattle.token_client.specs.Held.{may_write}
-use Rattle.token_client.specs.State.{TokensState, started as fresh_tokens, held_of, held_in, epoch_of, is_in_slot}
+use Rattle.token_client.specs.State.{TokensState, tokens_start as fresh_tokens, held_of, held_in, epoch_of, is_in_slot}
 use Rattle.token_client.specs.Transition as client
 use Rattle.token_manager.specs.declared.input.In.TheVariants as told
 use Rattle.token_manager.specs.declared.output.Out as tellings
@@ -241,7 +241,7 @@ pub data Happens (logs : Bool) (members part : ℕ) : Net → Net → Type 0 whe
       → n.slots e ≡ None → ((c : ℕ) → 0 < c → c < members → Contains order c) → All (λ c. (0 < c) × (c < members)) order
       → ((c : ℕ) → 0 < c → c < members → In (ReportSent c e (rows c) (ends c)) n.sent)
       → Premise logs (IsLatest n e → Gathered members part n.books index applied ends)
-      → Happens logs members part n (record n { slots = put n.slots e (Some (slot.started e index (all_reported rows order) applied)) })
+      → Happens logs members part n (record n { slots = put n.slots e (Some (slot.slot_start e index (all_reported rows order) applied)) })
   -- an act that changes no history is done
   Says : {n : Net} (a : Act) → IsNeutral a → Happens logs members part n (acted n (a ∷ []))
 
@@ -255,7 +255,7 @@ abbrev pub opening : Net
 opening = record {
   tokens = λ c. fresh_tokens 1 (1 ∷ 1 ∷ 1 ∷ 1 ∷ 1 ∷ 1 ∷ 1 ∷ 1 ∷ []);
   up = λ c. true;
-  slots = put (λ e. None) 1 (Some (slot.started 1 [] [] (0 ∷ 0 ∷ 0 ∷ 0 ∷ 0 ∷ 0 ∷ 0 ∷ 0 ∷ 0 ∷ [])));
+  slots = put (λ e. None) 1 (Some (slot.slot_start 1 [] [] (0 ∷ 0 ∷ 0 ∷ 0 ∷ 0 ∷ 0 ∷ 0 ∷ 0 ∷ 0 ∷ [])));
   sent = [];
   promised = 1;
   books = no_books;

@@ -6,7 +6,7 @@ use Rattle.xfs_base.specs.declared.segment.LogId.{LogId}
 use Rattle.xfs_base.specs.declared.segment.SegName.{SegName}
 use Rattle.act_tie.specs.BlockActs.{fall_of, is_adopted}
 use Rattle.delta_index.specs.Index.{entry_of}
-use Rattle.slot_beliefs.specs.Index.{nothing_indexed, indexed_all}
+use Rattle.slot_beliefs.specs.Index.{block_index_new, merge_all}
 use Rattle.slot_beliefs.specs.Recalls.{applied_of}
 use Rattle.token_client.specs.declared.held.Fetch.{Fetch}
 use Rattle.token_client.specs.declared.held.Held.{Held}
@@ -51,15 +51,15 @@ pub record Covers (k : Books) (b : BlockId) (l upto : ℕ) (old new : Entry) : T
 -- Deltas tell no more than was filed, and each block's entry covers it then
 pub record DeltasCover (part : ℕ) (k : Books) (s : SlotState) (log : LogId) (upto : ℕ) (rows : List (BlockId × Entry)) : Type 0 where
   pub filed : upto ≤ k.end log.0
-  pub each : (b : BlockId) → is_in_slot part b ≡ true → Covers k b log.0 upto (entry_at s b) (entry_of (indexed_all s.index rows).rows b)
+  pub each : (b : BlockId) → is_in_slot part b ≡ true → Covers k b log.0 upto (entry_at s b) (entry_of (merge_all s.index rows).rows b)
 
 -- what a new manager gathered: each log at least up to its reported end, no further than it is filed, and of each block the greatest entry of that
 pub record Gathered (members part : ℕ) (k : Books) (index : List (BlockId × Entry)) (applied : List ℕ) (ends : ℕ → ℕ) : Type 0 where
   pub reported : (c : ℕ) → 0 < c → c < members → ends c ≤ applied_of applied c
   pub filed : (l : ℕ) → 0 < l → applied_of applied l ≤ k.end l
-  pub source : (b : BlockId) → is_in_slot part b ≡ true → IsFiled k b (entry_of (indexed_all nothing_indexed index).rows b)
+  pub source : (b : BlockId) → is_in_slot part b ≡ true → IsFiled k b (entry_of (merge_all block_index_new index).rows b)
   pub rows : (b : BlockId) → is_in_slot part b ≡ true → (l q : ℕ) → 0 < l → q ≤ applied_of applied l
-      → (said k l q b).version ≤ (entry_of (indexed_all nothing_indexed index).rows b).ver
+      → (said k l q b).version ≤ (entry_of (merge_all block_index_new index).rows b).ver
 
 -- ---- falls and returns
 

@@ -6,13 +6,13 @@ use Rattle.xfs_base.specs.declared.block.BlockId.{BlockId}
 use Rattle.xfs_base.specs.declared.entry.Entry.{Entry}
 use Rattle.xfs_base.specs.declared.token.Mode.{Mode}
 use Rattle.xfs_base.proofs.StepLoops.{steps_keep}
-use Rattle.slot_beliefs.specs.Index.{IsCounted, nothing_indexed}
+use Rattle.slot_beliefs.specs.Index.{IsCounted, block_index_new}
 use Rattle.slot_beliefs.specs.Recalls.{applied_of, ready_blocks, applied_upto}
 use Rattle.slot_beliefs.proofs.Counting.{nothing_counted, keeps-counted-all}
 use Rattle.token_manager.specs.declared.input.In.{In}
 use Rattle.token_manager.specs.declared.input.In.TheVariants.{Want, Gave, Deltas, Check, Tick}
 use Rattle.token_manager.specs.SlotState.{SlotState}
-use Rattle.token_manager.specs.Transition.{Done, started, joins_on, with_deltas, finished_at, transition}
+use Rattle.token_manager.specs.Transition.{Done, slot_start, joins_on, with_deltas, finish_job, transition}
 use Rattle.token_manager.specs.Laws.{state_after}
 use Rattle.token_manager.proofs.Cases.{by_want, by_gave, by_deltas, by_finished_at}
 
@@ -31,8 +31,8 @@ leads_on applied first upto joins = grind (arith, nat_tests)
 abbrev Rises : SlotState → Done → Type 0
 Rises s r = (log : ℕ) → applied_of s.applied log ≤ applied_of r.state.applied log
 
-rises-finished : (s : SlotState) (blocks : List BlockId) → Rises s (steps finished_at s blocks)
-rises-finished s blocks = steps_keep finished_at (λ t. (log : ℕ) → applied_of s.applied log ≤ applied_of t.applied log)
+rises-finished : (s : SlotState) (blocks : List BlockId) → Rises s (steps finish_job s blocks)
+rises-finished s blocks = steps_keep finish_job (λ t. (log : ℕ) → applied_of s.applied log ≤ applied_of t.applied log)
     (λ t block so_far. by_finished_at (λ r. (log : ℕ) → applied_of s.applied log ≤ applied_of r.state.applied log) t block so_far (λ job fact. so_far)) s blocks
     (λ log. omega arith)
 
@@ -45,7 +45,7 @@ rises-transition s (Deltas log first upto rows) = by_deltas (Rises s) s log firs
     let here : applied_of s.applied of ≤ applied_of (applied_upto s.applied log upto) of =
     rises s.applied (log.0 - 1) (of - 1) upto (leads_on _ first upto joins) in
     let later : applied_of (applied_upto s.applied log upto) of ≤ applied_of
-    (steps finished_at (with_deltas s log upto rows) (ready_blocks s.jobs (applied_upto s.applied log upto))).state.applied of =
+    (steps finish_job (with_deltas s log upto rows) (ready_blocks s.jobs (applied_upto s.applied log upto))).state.applied of =
     rises-finished (with_deltas s log upto rows) (ready_blocks s.jobs (applied_upto s.applied log upto)) of in
     omega arith)
 rises-transition s (Check block place) = λ log. omega arith
@@ -64,8 +64,8 @@ rises-all s (i ∷ rest) = λ log.
 abbrev Counted : Done → Type 0
 Counted r = IsCounted r.state.index
 
-counted-finished : (s : SlotState) (blocks : List BlockId) → IsCounted s.index → Counted (steps finished_at s blocks)
-counted-finished = steps_keep finished_at (λ t. IsCounted t.index) (λ t block counted. by_finished_at Counted t block counted (λ _ _. counted))
+counted-finished : (s : SlotState) (blocks : List BlockId) → IsCounted s.index → Counted (steps finish_job s blocks)
+counted-finished = steps_keep finish_job (λ t. IsCounted t.index) (λ t block counted. by_finished_at Counted t block counted (λ _ _. counted))
 
 counted-transition : (s : SlotState) (input : In) → IsCounted s.index → Counted (transition s input)
 counted-transition s (Want want end) counted =
@@ -78,7 +78,7 @@ counted-transition s (Check block place) counted = counted
 counted-transition s Tick counted = counted
 
 pub counted-all : (epoch : ℕ) (index : List (BlockId × Entry)) (beliefs : List (BlockId × ℕ × Mode)) (applied : List ℕ) (inputs : List In)
-    → IsCounted (state_after (started epoch index beliefs applied) inputs).index
+    → IsCounted (state_after (slot_start epoch index beliefs applied) inputs).index
 counted-all epoch index beliefs applied inputs =
-    steps_keep transition (λ t. IsCounted t.index) counted-transition (started epoch index beliefs applied) inputs
-    (keeps-counted-all nothing_indexed index nothing_counted)
+    steps_keep transition (λ t. IsCounted t.index) counted-transition (slot_start epoch index beliefs applied) inputs
+    (keeps-counted-all block_index_new index nothing_counted)

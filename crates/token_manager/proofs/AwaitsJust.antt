@@ -23,13 +23,13 @@ use Rattle.slot_beliefs.specs.declared.job.Holder.{Holder}
 use Rattle.slot_beliefs.specs.declared.job.Wanted.{Wanted}
 use Rattle.slot_beliefs.specs.declared.job.Job.{Job}
 use Rattle.slot_beliefs.specs.declared.job.Awaited.{Awaited}
-use Rattle.slot_beliefs.specs.Beliefs.{holder_cmp, holder, others, without_block, owned_by, held_by, want_met, given_up, share, share_of, wanted_share}
+use Rattle.slot_beliefs.specs.Beliefs.{holder_cmp, holder, others, forget_block, beliefs_own, beliefs_hold, meet_want, give_way, share, share_of, wanted_share}
 use Rattle.slot_beliefs.specs.Recalls.{recalls, answers, noted, ready_blocks, job_at, without_job, applied_upto}
-use Rattle.slot_beliefs.proofs.Shares.{holder_cmp_exact, holder_cmp_total, holder_laws, belief, belief-without_block, apart_test, disowned, forgotten, gives_way}
+use Rattle.slot_beliefs.proofs.Shares.{holder_cmp_exact, holder_cmp_total, holder_laws, belief, belief-forget_block, apart_test, disowned, forgotten, gives_way}
 use Rattle.token_manager.specs.declared.input.In.{In}
 use Rattle.token_manager.specs.declared.input.In.TheVariants.{Want, Gave, Deltas, Check, Tick}
 use Rattle.token_manager.specs.SlotState.{SlotState}
-use Rattle.token_manager.specs.Transition.{started, finished, given, gave_one, with_deltas, finished_at, transition}
+use Rattle.token_manager.specs.Transition.{slot_start, slot_finish, given, gave_one, with_deltas, finish_job, transition}
 use Rattle.token_manager.specs.Laws.{OwnsAlone, Awaits, MustGiveWay, IsGuarded, state_after}
 use Rattle.token_manager.proofs.Cases.{recalled_from, by_want, all_given, by_gave_both, by_deltas, let_go, by_finished_at}
 use Rattle.token_manager.proofs.JobsBarGrants.{Waiting, block_laws, waiting-removed, after_removal, was_there, gone, not_waiting}
@@ -48,15 +48,15 @@ kept_put false x o apart = omega arith
 
 -- of other blocks nobody has less than before
 pub more_elsewhere : (bs : List (Holder × Bool)) (want : Wanted) (q : Holder) → (q.block ≡ want.block → ⊥)
-    → share (belief bs q) ≤ share (belief (want_met bs want) q)
+    → share (belief bs q) ≤ share (belief (meet_want bs want) q)
 more_elsewhere bs want q other =
     let h = holder want.block want.client in
     let apart : eq_by_cmp holder_cmp q h ≡ true → ⊥ = apart_test q h (λ p. other (ap (λ (x : Holder). x.block) p)) in
-    elim (is_own want.mode) as (λ t. share (belief bs q) ≤ share (belief (cond t (owned_by bs h) (held_by bs h)) q)) [
+    elim (is_own want.mode) as (λ t. share (belief bs q) ≤ share (belief (cond t (beliefs_own bs h) (beliefs_hold bs h)) q)) [
       | true ↦
-          let fact : belief (owned_by bs h) q ≡ cond (eq_by_cmp holder_cmp q h) (Some true) (cond (same_block q.block h.block) None (belief bs q)) =
-          lookup-insert_entry holder_cmp_total q h true (without_block bs h.block)
-          ∙ ap (cond (eq_by_cmp holder_cmp q h) (Some true)) (belief-without_block q h.block bs) in
+          let fact : belief (beliefs_own bs h) q ≡ cond (eq_by_cmp holder_cmp q h) (Some true) (cond (same_block q.block h.block) None (belief bs q)) =
+          lookup-insert_entry holder_cmp_total q h true (forget_block bs h.block)
+          ∙ ap (cond (eq_by_cmp holder_cmp q h) (Some true)) (belief-forget_block q h.block bs) in
           subst (λ o. share (belief bs q) ≤ share o) (sym fact)
           (kept_cond (eq_by_cmp holder_cmp q h) (same_block q.block h.block) (belief bs q) apart (λ same. other (sym (same_block_exact q.block h.block same))))
       | false ↦ elim (is_some (belief bs h)) as (λ t. share (belief bs q) ≤ share (belief (cond t bs (insert_entry holder_cmp bs h false)) q)) [
@@ -68,7 +68,7 @@ more_elsewhere bs want q other =
 
 -- nobody but the giver has less than before
 pub more_others : (bs : List (Holder × Bool)) (h q : Holder) (keep : Bool) → IsStrictlySortedBy holder_cmp (keys_of bs) → (q ≡ h → ⊥)
-    → share (belief bs q) ≤ share (belief (given_up bs h keep) q)
+    → share (belief bs q) ≤ share (belief (give_way bs h keep) q)
 more_others bs h q true sorted apart =
     elim (is_some (belief bs h)) as
     (λ t. is_some (belief bs h) ≡ t → share (belief bs q) ≤ share (belief (cond t (set_value (is_at (holder_cmp h)) bs false) bs) q)) [
@@ -265,9 +265,9 @@ other_block jobs block b job w none fact same =
     let clash : None ≡ Some job = sym none ∙ here in
     absurd (cc)
 
-exact-finished : (s : SlotState) (want : Wanted) → Waiting s.jobs → Exact s → job_at s.jobs want.block ≡ None → Exact (finished s want).state
-exact-finished s want w exact none = record {
-  only = λ block job fact c waits. must_kept s.beliefs (want_met s.beliefs want) job.want c
+exact-slot_finish : (s : SlotState) (want : Wanted) → Waiting s.jobs → Exact s → job_at s.jobs want.block ≡ None → Exact (slot_finish s want).state
+exact-slot_finish s want w exact none = record {
+  only = λ block job fact c waits. must_kept s.beliefs (meet_want s.beliefs want) job.want c
       (more_elsewhere s.beliefs want (holder job.want.block c) (other_block s.jobs want.block block job w none fact)) (exact.only block job fact c waits);
   once = exact.once;
 }
@@ -350,17 +350,17 @@ exact-gave_one s job client block stamp end sound exact mine any = record {
     each false b found fact = exact.once b found fact
 
 exact-steps : (s : SlotState) (applied : List ℕ) (blocks : List BlockId) → Sound s → Exact s → ReadyAt s.jobs applied blocks
-    → Exact (steps finished_at s blocks).state
+    → Exact (steps finish_job s blocks).state
 exact-steps s applied [] sound exact ready = exact
 exact-steps s applied (b ∷ bs) sound exact ready =
     let w = sound.waiting in
-    let one : Exact (finished_at s b).state =
+    let one : Exact (finish_job s b).state =
     by_finished_at (λ r. Exact r.state) s b exact
-    (λ job fact. exact-finished (let_go s b) job.want (waiting-removed s.jobs b w) (exact-let_go s b w exact)
+    (λ job fact. exact-slot_finish (let_go s b) job.want (waiting-removed s.jobs b w) (exact-let_go s b w exact)
     (subst (λ x. job_at (without_job s.jobs b) x ≡ None) (sym (w.own b job fact)) (gone s.jobs b w.sorted))) in
-    let next : Sound (finished_at s b).state =
+    let next : Sound (finish_job s b).state =
     by_finished_at (λ r. Sound r.state) s b sound (λ job fact. sound-answered s applied b job sound fact (ready b (contains_first b bs) job fact)) in
-    exact-steps (finished_at s b).state applied bs next one (λ block has job fact. ready block (contains_rest b block bs has) job
+    exact-steps (finish_job s b).state applied bs next one (λ block has job fact. ready block (contains_rest b block bs has) job
     (jobs_fewer s b block job w fact))
 
 -- ---- the inputs
@@ -369,7 +369,7 @@ exact-transition : (s : SlotState) (input : In) → Sound s → Exact s → Exac
 exact-transition s (Want want end) sound exact =
     let owners = not (is_own want.mode) in
     by_want (λ r. Exact r.state) s want end exact
-    (λ going _. exact-finished s want sound.waiting exact (not_waiting (job_at s.jobs want.block) _ _ going))
+    (λ going _. exact-slot_finish s want sound.waiting exact (not_waiting (job_at s.jobs want.block) _ _ going))
     (λ _. exact-recalled s (record { want = want; awaited = recalls s.epoch s.turn owners (recalled_from s want) }) (s.turn + length (recalled_from s want))
     (λ c waits. let found = others_from s.beliefs want.block want.client c owners sound.sorted (recalls-await s.epoch s.turn owners (recalled_from s want) c waits) in
     (found.0, must_found (is_own want.mode) (belief s.beliefs (holder want.block c)) found.1))
@@ -377,7 +377,7 @@ exact-transition s (Want want end) sound exact =
 exact-transition s (Gave client block stamp end) sound exact =
     let w = sound.waiting in
     by_gave_both (λ r. Exact r.state) s client block stamp end exact
-    (λ job fact _ _. exact-finished (all_given s client block job.want) job.want (waiting-removed s.jobs block w)
+    (λ job fact _ _. exact-slot_finish (all_given s client block job.want) job.want (waiting-removed s.jobs block w)
     (exact-all_given s job.want client block sound exact)
     (subst (λ x. job_at (without_job s.jobs block) x ≡ None) (sym (w.own block job fact)) (gone s.jobs block w.sorted)))
     (λ job fact any. exact-gave_one s job client block stamp end sound exact fact any)
@@ -391,12 +391,12 @@ exact-transition s (Check block place) sound exact = exact
 exact-transition s Tick sound exact = exact
 
 pub guarded-all : (epoch : ℕ) (index : List (BlockId × Entry)) (beliefs : List (BlockId × ℕ × Mode)) (applied : List ℕ) (inputs : List In)
-    → OwnsAlone (started epoch index beliefs applied).beliefs → IsGuarded (state_after (started epoch index beliefs applied) inputs)
+    → OwnsAlone (slot_start epoch index beliefs applied).beliefs → IsGuarded (state_after (slot_start epoch index beliefs applied) inputs)
 guarded-all epoch index beliefs applied inputs alone =
-    let first : Exact (started epoch index beliefs applied) = record { only = λ block job fact. absurd (cc); once = λ block job fact. absurd (cc) } in
-    let last : Sound (state_after (started epoch index beliefs applied) inputs) × Exact (state_after (started epoch index beliefs applied) inputs) =
+    let first : Exact (slot_start epoch index beliefs applied) = record { only = λ block job fact. absurd (cc); once = λ block job fact. absurd (cc) } in
+    let last : Sound (state_after (slot_start epoch index beliefs applied) inputs) × Exact (state_after (slot_start epoch index beliefs applied) inputs) =
     steps_keep transition (λ t. Sound t × Exact t) (λ t input both. (sound-transition t input both.0, exact-transition t input both.0 both.1))
-    (started epoch index beliefs applied) inputs (sound-start epoch index beliefs applied alone, first)
+    (slot_start epoch index beliefs applied) inputs (sound-start epoch index beliefs applied alone, first)
     in
     record {
       alone = last.0.alone;

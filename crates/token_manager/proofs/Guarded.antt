@@ -26,13 +26,13 @@ use Rattle.slot_beliefs.specs.declared.job.Holder.{Holder}
 use Rattle.slot_beliefs.specs.declared.job.Wanted.{Wanted}
 use Rattle.slot_beliefs.specs.declared.job.Job.{Job}
 use Rattle.slot_beliefs.specs.declared.job.Awaited.{Awaited}
-use Rattle.slot_beliefs.specs.Beliefs.{holder_cmp, holder, without_block, owned_by, held_by, want_met, given_up, believed, all_believed, share, share_of, wanted_share}
+use Rattle.slot_beliefs.specs.Beliefs.{holder_cmp, holder, forget_block, beliefs_own, beliefs_hold, meet_want, give_way, believe, all_believed, share, share_of, wanted_share}
 use Rattle.slot_beliefs.specs.Recalls.{recalls, answers, noted, is_applied, is_ready, ready_blocks, job_at, without_job, applied_upto}
 use Rattle.slot_beliefs.proofs.Shares.{holder_cmp_exact, holder_cmp_total, holder_laws, belief, least, asker, less, kept, found_by}
 use Rattle.token_manager.specs.declared.input.In.{In}
 use Rattle.token_manager.specs.declared.input.In.TheVariants.{Want, Gave, Deltas, Check, Tick}
 use Rattle.token_manager.specs.SlotState.{SlotState}
-use Rattle.token_manager.specs.Transition.{started, finished, given, with_deltas, finished_at, transition}
+use Rattle.token_manager.specs.Transition.{slot_start, slot_finish, given, with_deltas, finish_job, transition}
 use Rattle.token_manager.specs.Laws.{OwnsAlone, Awaits}
 use Rattle.token_manager.proofs.Cases.{recalled_from, by_want, all_given, by_gave, by_deltas, let_go, by_finished_at}
 use Rattle.token_manager.proofs.JobsBarGrants.{Waiting, block_laws, after_removal, was_there, gone, waiting-removed, waiting-put, nobody_waits, not_waiting}
@@ -60,28 +60,28 @@ sorted_filter p (e ∷ es) sorted =
 sorted-put : (bs : List (Holder × Bool)) (h : Holder) (owns : Bool) → IsInOrder bs → IsInOrder (insert_entry holder_cmp bs h owns)
 sorted-put bs h owns sorted = sorted_insert holder_cmp holder_cmp_total h owns bs sorted
 
-sorted-want_met : (bs : List (Holder × Bool)) (want : Wanted) → IsInOrder bs → IsInOrder (want_met bs want)
-sorted-want_met bs want sorted =
+sorted-meet_want : (bs : List (Holder × Bool)) (want : Wanted) → IsInOrder bs → IsInOrder (meet_want bs want)
+sorted-meet_want bs want sorted =
     let h = holder want.block want.client in
-    elim (is_own want.mode) as (λ t. IsInOrder (cond t (owned_by bs h) (held_by bs h))) [
-      | true ↦ sorted-put (without_block bs h.block) h true (sorted_filter (λ b. not (same_block b.0.block h.block)) bs sorted)
+    elim (is_own want.mode) as (λ t. IsInOrder (cond t (beliefs_own bs h) (beliefs_hold bs h))) [
+      | true ↦ sorted-put (forget_block bs h.block) h true (sorted_filter (λ b. not (same_block b.0.block h.block)) bs sorted)
       | false ↦ elim (is_some (belief bs h)) as (λ t. IsInOrder (cond t bs (insert_entry holder_cmp bs h false)))
           [ true ↦ sorted | false ↦ sorted-put bs h false sorted ]
     ]
 
-pub sorted-given_up : (bs : List (Holder × Bool)) (h : Holder) (keep : Bool) → IsInOrder bs → IsInOrder (given_up bs h keep)
-sorted-given_up bs h true sorted =
+pub sorted-give_way : (bs : List (Holder × Bool)) (h : Holder) (keep : Bool) → IsInOrder bs → IsInOrder (give_way bs h keep)
+sorted-give_way bs h true sorted =
     elim (is_some (belief bs h)) as (λ t. IsInOrder (cond t (set_value (is_at (holder_cmp h)) bs false) bs)) [
       | true ↦ subst (IsStrictlySortedBy holder_cmp) (sym (keys-set_value (is_at (holder_cmp h)) bs false)) sorted
       | false ↦ sorted
     ]
-sorted-given_up bs h false sorted = sorted_remove holder_cmp (is_at (holder_cmp h)) bs sorted
+sorted-give_way bs h false sorted = sorted_remove holder_cmp (is_at (holder_cmp h)) bs sorted
 
 sorted-all : (bs : List (Holder × Bool)) (list : List (BlockId × ℕ × Mode)) → IsInOrder bs → IsInOrder (all_believed bs list)
-unfolding believed
+unfolding believe
 sorted-all bs [] sorted = sorted
 sorted-all bs (b ∷ list) sorted =
-    sorted-all (believed bs b) list
+    sorted-all (believe bs b) list
     (elim (is_nothing b.2) as (λ t. IsInOrder (cond t bs (insert_entry holder_cmp bs (holder b.0 b.1) (is_own b.2))))
     [ true ↦ sorted | false ↦ sorted-put bs (holder b.0 b.1) (is_own b.2) sorted ])
 
@@ -103,14 +103,14 @@ abbrev pub LeavesRoom : List (Holder × Bool) → Wanted → Type 0
 LeavesRoom bs want = (c : ℕ) → (c ≡ want.client → ⊥) → share_of bs want.block c + wanted_share want.mode ≤ 2
 
 alone-asker : (bs : List (Holder × Bool)) (want : Wanted) (block : BlockId) (c d : ℕ) → OwnsAlone bs → LeavesRoom bs want → (c ≡ d → ⊥)
-    → holder block c ≡ holder want.block want.client → share_of (want_met bs want) block c + share_of (want_met bs want) block d ≤ 2
+    → holder block c ≡ holder want.block want.client → share_of (meet_want bs want) block c + share_of (meet_want bs want) block d ≤ 2
 alone-asker bs want block c d alone room apart p =
     let same : block ≡ want.block = ap (λ (h : Holder). h.block) p in
     let me : c ≡ want.client = ap (λ (h : Holder). h.client) p in
-    let mine : (share_of (want_met bs want) block c ≤ wanted_share want.mode) ⊎ (share_of (want_met bs want) block c ≤ share_of bs block c) =
-    subst (λ h. (share (belief (want_met bs want) h) ≤ wanted_share want.mode) ⊎ (share (belief (want_met bs want) h) ≤ share (belief bs h))) (sym p)
+    let mine : (share_of (meet_want bs want) block c ≤ wanted_share want.mode) ⊎ (share_of (meet_want bs want) block c ≤ share_of bs block c) =
+    subst (λ h. (share (belief (meet_want bs want) h) ≤ wanted_share want.mode) ⊎ (share (belief (meet_want bs want) h) ≤ share (belief bs h))) (sym p)
     (asker bs want) in
-    with_asker (share_of (want_met bs want) block c) (share_of bs block c) (share_of (want_met bs want) block d) (share_of bs block d)
+    with_asker (share_of (meet_want bs want) block c) (share_of bs block c) (share_of (meet_want bs want) block d) (share_of bs block d)
     (wanted_share want.mode) mine
     (least bs want (holder block d) (λ q. apart (me ∙ sym (ap (λ (h : Holder). h.client) q))))
     (subst (λ b. share_of bs b d + wanted_share want.mode ≤ 2) (sym same) (room d (λ e. apart (me ∙ sym e))))
@@ -122,13 +122,13 @@ swapped m n h = omega arith
 both_less : (m' n' m n : ℕ) → m' ≤ m → n' ≤ n → m + n ≤ 2 → m' + n' ≤ 2
 both_less m' n' m n a b c = omega arith
 
-alone-want_met : (bs : List (Holder × Bool)) (want : Wanted) → OwnsAlone bs → LeavesRoom bs want → OwnsAlone (want_met bs want)
-alone-want_met bs want alone room block c d apart =
+alone-meet_want : (bs : List (Holder × Bool)) (want : Wanted) → OwnsAlone bs → LeavesRoom bs want → OwnsAlone (meet_want bs want)
+alone-meet_want bs want alone room block c d apart =
     let h = holder want.block want.client in
     ⊎_elim
     (λ p. alone-asker bs want block c d alone room apart p)
     (λ c_apart. ⊎_elim
-    (λ q. swapped (share_of (want_met bs want) block d) (share_of (want_met bs want) block c) (alone-asker bs want block d c alone room (λ e. apart (sym e)) q))
+    (λ q. swapped (share_of (meet_want bs want) block d) (share_of (meet_want bs want) block c) (alone-asker bs want block d c alone room (λ e. apart (sym e)) q))
     (λ d_apart. both_less _ _ (share_of bs block c) (share_of bs block d) (least bs want (holder block c) c_apart) (least bs want (holder block d) d_apart)
     (alone block c d apart))
     (decided (holder block d) h))
@@ -196,12 +196,12 @@ pub record Sound (s : SlotState) : Type 0 where
   pub alone : OwnsAlone s.beliefs
   pub awaits : (block : BlockId) (job : Job) → job_at s.jobs block ≡ Some job → AwaitsAll s.beliefs job
 
-sound-finished : (s : SlotState) (want : Wanted) → Sound s → job_at s.jobs want.block ≡ None → LeavesRoom s.beliefs want → Sound (finished s want).state
-sound-finished s want sound none room = record {
-  sorted = sorted-want_met s.beliefs want sound.sorted;
+sound-slot_finish : (s : SlotState) (want : Wanted) → Sound s → job_at s.jobs want.block ≡ None → LeavesRoom s.beliefs want → Sound (slot_finish s want).state
+sound-slot_finish s want sound none room = record {
+  sorted = sorted-meet_want s.beliefs want sound.sorted;
   waiting = sound.waiting;
-  alone = alone-want_met s.beliefs want sound.alone room;
-  awaits = λ block job fact. awaits-less s.beliefs (want_met s.beliefs want) job
+  alone = alone-meet_want s.beliefs want sound.alone room;
+  awaits = λ block job fact. awaits-less s.beliefs (meet_want s.beliefs want) job
       (λ c. least s.beliefs want (holder job.want.block c) (λ p. other_block block job fact (ap (λ (h : Holder). h.block) p))) (sound.awaits block job fact);
 }
   where
@@ -241,11 +241,11 @@ sound-given s want client block sound =
     let h = holder block client in
     let keep = not (is_own want.mode) in
     record {
-      sorted = sorted-given_up s.beliefs h keep sound.sorted;
+      sorted = sorted-give_way s.beliefs h keep sound.sorted;
       waiting = sound.waiting;
       alone = λ b c d apart. both_less _ _ (share_of s.beliefs b c) (share_of s.beliefs b d) (less s.beliefs h (holder b c) keep sound.sorted)
           (less s.beliefs h (holder b d) keep sound.sorted) (sound.alone b c d apart);
-      awaits = λ b job fact. awaits-less s.beliefs (given_up s.beliefs h keep) job (λ c. less s.beliefs h (holder job.want.block c) keep sound.sorted)
+      awaits = λ b job fact. awaits-less s.beliefs (give_way s.beliefs h keep) job (λ c. less s.beliefs h (holder job.want.block c) keep sound.sorted)
           (sound.awaits b job fact);
     }
 
@@ -317,24 +317,24 @@ ready_finds (e ∷ es) applied sorted block has job fact =
     at false apart found false ready h rest = rest h found
 
 pub sound-answered : (s : SlotState) (applied : List ℕ) (block : BlockId) (job : Job) → Sound s → job_at s.jobs block ≡ Some job
-    → is_ready applied job.awaited ≡ true → Sound (finished (let_go s block) job.want).state
+    → is_ready applied job.awaited ≡ true → Sound (slot_finish (let_go s block) job.want).state
 sound-answered s applied block job sound fact ready =
-    sound-finished (let_go s block) job.want (sound-let_go s block sound)
+    sound-slot_finish (let_go s block) job.want (sound-let_go s block sound)
     (subst (λ x. job_at (without_job s.jobs block) x ≡ None) (sym (sound.waiting.own block job fact)) (gone s.jobs block sound.waiting.sorted))
     (leaves_room s.beliefs applied job (sound.awaits block job fact) ready)
 
-pub jobs_fewer : (s : SlotState) (block b : BlockId) (job : Job) → Waiting s.jobs → job_at (finished_at s block).state.jobs b ≡ Some job
+pub jobs_fewer : (s : SlotState) (block b : BlockId) (job : Job) → Waiting s.jobs → job_at (finish_job s block).state.jobs b ≡ Some job
     → job_at s.jobs b ≡ Some job
 jobs_fewer s block b job w = by_finished_at (λ r. job_at r.state.jobs b ≡ Some job → job_at s.jobs b ≡ Some job) s block (λ fact. fact)
     (λ _ _ fact. was_there (eq_by_cmp block_cmp block b) (job_at s.jobs b) job (sym (after_removal s.jobs block b w.sorted) ∙ fact))
 
 pub sound-steps : (s : SlotState) (applied : List ℕ) (blocks : List BlockId) → Sound s → ReadyAt s.jobs applied blocks
-    → Sound (steps finished_at s blocks).state
+    → Sound (steps finish_job s blocks).state
 sound-steps s applied [] sound ready = sound
 sound-steps s applied (b ∷ bs) sound ready =
-    let one : Sound (finished_at s b).state =
+    let one : Sound (finish_job s b).state =
     by_finished_at (λ r. Sound r.state) s b sound (λ job fact. sound-answered s applied b job sound fact (ready b (contains_first b bs) job fact)) in
-    sound-steps (finished_at s b).state applied bs one
+    sound-steps (finish_job s b).state applied bs one
     (λ block has job fact. ready block (contains_rest b block bs has) job (jobs_fewer s b block job sound.waiting fact))
 
 -- ---- the inputs
@@ -342,14 +342,14 @@ sound-steps s applied (b ∷ bs) sound ready =
 pub sound-transition : (s : SlotState) (input : In) → Sound s → Sound (transition s input).state
 sound-transition s (Want want end) sound =
     by_want (λ r. Sound r.state) s want end sound
-    (λ going none. sound-finished s want sound (not_waiting (job_at s.jobs want.block) _ _ going)
+    (λ going none. sound-slot_finish s want sound (not_waiting (job_at s.jobs want.block) _ _ going)
     (λ c apart. not_more _ (λ more. no_first (recalled_from s want) c none (found_by s.beliefs want c apart more))))
     (λ _. sound-put s want.block (record { want = want; awaited = recalls s.epoch s.turn (not (is_own want.mode)) (recalled_from s want) })
     (s.turn + length (recalled_from s want)) refl
     (λ c apart more. awaits-recalls s.epoch s.turn (not (is_own want.mode)) (recalled_from s want) c (found_by s.beliefs want c apart more)) sound)
 sound-transition s (Gave client block stamp end) sound =
     by_gave (λ r. Sound r.state) s client block stamp end sound
-    (λ job fact ready. sound-finished (all_given s client block job.want) job.want
+    (λ job fact ready. sound-slot_finish (all_given s client block job.want) job.want
     (sound-let_go (given s job.want client block) block (sound-given s job.want client block sound))
     (subst (λ x. job_at (without_job s.jobs block) x ≡ None) (sym (sound.waiting.own block job fact)) (gone s.jobs block sound.waiting.sorted))
     (leaves_room (given s job.want client block).beliefs s.applied (record { want = job.want; awaited = noted job.awaited client stamp end })
@@ -369,7 +369,7 @@ unfolding IsStrictlySortedBy
 no_beliefs = tt
 
 pub sound-start : (epoch : ℕ) (index : List (BlockId × Entry)) (beliefs : List (BlockId × ℕ × Mode)) (applied : List ℕ)
-    → OwnsAlone (started epoch index beliefs applied).beliefs → Sound (started epoch index beliefs applied)
+    → OwnsAlone (slot_start epoch index beliefs applied).beliefs → Sound (slot_start epoch index beliefs applied)
 sound-start epoch index beliefs applied alone = record {
   sorted = sorted-all [] beliefs no_beliefs;
   waiting = nobody_waits;

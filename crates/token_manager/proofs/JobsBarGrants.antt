@@ -26,9 +26,9 @@ use Rattle.token_manager.specs.declared.output.Out.{Out}
 use Rattle.token_manager.specs.declared.output.Out.TheVariants.{Grant, Forward, Recall, Applied, Live, Dead}
 use Rattle.token_manager.specs.declared.input.In.{In}
 use Rattle.token_manager.specs.declared.input.In.TheVariants.{Want, Gave, Deltas, Check, Tick}
-use Rattle.token_manager.specs.Recalls.{sent, all_sent}
+use Rattle.token_manager.specs.Recalls.{send_recalls, send_all}
 use Rattle.token_manager.specs.SlotState.{SlotState}
-use Rattle.token_manager.specs.Transition.{Done, started, passers, answer, finished, with_deltas, finished_at, is_place, entry_at, transition}
+use Rattle.token_manager.specs.Transition.{Done, slot_start, passers, answer, slot_finish, with_deltas, finish_job, is_place, entry_at, transition}
 use Rattle.token_manager.specs.Laws.{HandsOut, state_after}
 use Rattle.token_manager.proofs.Cases.{recalled_from, by_want, all_given, by_gave, by_deltas, let_go, by_finished_at}
 
@@ -43,15 +43,15 @@ gives_both b (Applied log upto ∷ xs) ys g = gives_both b xs ys g
 gives_both b (Live entry ∷ xs) ys g = gives_both b xs ys g
 gives_both b (Dead ∷ xs) ys g = gives_both b xs ys g
 
-sent_gives : (b block : BlockId) (awaited : List Awaited) → HandsOut b (sent block awaited) → ⊥
+sent_gives : (b block : BlockId) (awaited : List Awaited) → HandsOut b (send_recalls block awaited) → ⊥
 sent_gives b block [] = λ g. g
 sent_gives b block (a ∷ rest) =
-    elim (is_some a.end) as (λ t. HandsOut b (cond t (sent block rest) (Recall a.client block a.stamp a.keep ∷ sent block rest)) → ⊥)
+    elim (is_some a.end) as (λ t. HandsOut b (cond t (send_recalls block rest) (Recall a.client block a.stamp a.keep ∷ send_recalls block rest)) → ⊥)
     [ true ↦ sent_gives b block rest | false ↦ sent_gives b block rest ]
 
-all_sent_gives : (b : BlockId) (jobs : List (BlockId × Job)) → HandsOut b (all_sent jobs) → ⊥
-all_sent_gives b [] g = g
-all_sent_gives b (e ∷ es) g = ⊎_elim (sent_gives b e.0 e.1.awaited) (all_sent_gives b es) (gives_both b (sent e.0 e.1.awaited) (all_sent es) g)
+send_all_gives : (b : BlockId) (jobs : List (BlockId × Job)) → HandsOut b (send_all jobs) → ⊥
+send_all_gives b [] g = g
+send_all_gives b (e ∷ es) g = ⊎_elim (sent_gives b e.0 e.1.awaited) (send_all_gives b es) (gives_both b (send_recalls e.0 e.1.awaited) (send_all es) g)
 
 -- what a want is answered gives just its block
 answer_gives : (s : SlotState) (want : Wanted) (from : List ℕ) (b : BlockId) → HandsOut b (answer s want from ∷ []) → want.block ≡ b
@@ -115,7 +115,7 @@ record Bars (s : SlotState) (r : Done) : Type 0 where
 
 -- a want that waited is answered
 bars-answered : (s t : SlotState) (block : BlockId) (job : Job) → Waiting s.jobs → job_at s.jobs block ≡ Some job → t.jobs ≡ without_job s.jobs block
-    → Bars s (finished t job.want)
+    → Bars s (slot_finish t job.want)
 bars-answered s t block job w fact jobs = record {
   given = λ b g.
       let one : job.want.block ≡ b = answer_gives t job.want (passers t job.want) b g in
@@ -127,17 +127,17 @@ bars-answered s t block job w fact jobs = record {
 bars-same : (s : SlotState) → Waiting s.jobs → Bars s (still s)
 bars-same s w = record { given = λ b g. absurd g; waiting = w; none_more = λ b none. none }
 
-bars-one : (s : SlotState) (block : BlockId) → Waiting s.jobs → Bars s (finished_at s block)
+bars-one : (s : SlotState) (block : BlockId) → Waiting s.jobs → Bars s (finish_job s block)
 bars-one s block w = by_finished_at (Bars s) s block (bars-same s w) (λ job fact. bars-answered s (let_go s block) block job w fact refl)
 
-bars-steps : (s : SlotState) (blocks : List BlockId) → Waiting s.jobs → Bars s (steps finished_at s blocks)
+bars-steps : (s : SlotState) (blocks : List BlockId) → Waiting s.jobs → Bars s (steps finish_job s blocks)
 bars-steps s [] w = bars-same s w
 bars-steps s (b ∷ bs) w =
     let one = bars-one s b w in
-    let next = (finished_at s b).state in
+    let next = (finish_job s b).state in
     let rest = bars-steps next bs one.waiting in
     record {
-      given = λ x g. ⊎_elim (λ h. rest.none_more x (one.given x h)) (rest.given x) (gives_both x (finished_at s b).outs (steps finished_at next bs).outs g);
+      given = λ x g. ⊎_elim (λ h. rest.none_more x (one.given x h)) (rest.given x) (gives_both x (finish_job s b).outs (steps finish_job next bs).outs g);
       waiting = rest.waiting;
       none_more = λ x none. rest.none_more x (one.none_more x none);
     }
@@ -169,7 +169,7 @@ barred-transition s (Want want end) w =
     })
 barred-transition s (Gave client block stamp end) w =
     by_gave Barred s client block stamp end (barred s (still s) (bars-same s w))
-    (λ job fact _. barred s (finished (all_given s client block job.want) job.want) (bars-answered s (all_given s client block job.want) block job w fact refl))
+    (λ job fact _. barred s (slot_finish (all_given s client block job.want) job.want) (bars-answered s (all_given s client block job.want) block job w fact refl))
     (λ job fact. record {
       given = λ b g. absurd g;
       waiting = waiting-put s.jobs block (record { want = job.want; awaited = noted job.awaited client stamp end }) (w.own block job fact) w;
@@ -183,7 +183,7 @@ barred-transition s (Check block place) w = record { given = λ b. gives_none (i
     gives_none : (t : Bool) (b : BlockId) → HandsOut b (cond t (Live (entry_at s block)) Dead ∷ []) → job_at s.jobs b ≡ None
     gives_none true b g = absurd g
     gives_none false b g = absurd g
-barred-transition s Tick w = record { given = λ b g. absurd (all_sent_gives b s.jobs g); waiting = w }
+barred-transition s Tick w = record { given = λ b g. absurd (send_all_gives b s.jobs g); waiting = w }
 
 pub nobody_waits : Waiting []
 unfolding IsStrictlySortedBy
@@ -194,8 +194,8 @@ waiting-all = steps_keep transition (λ t. Waiting t.jobs) (λ t input w. (barre
 
 pub barred-all : (epoch : ℕ) (index : List (BlockId × Entry)) (beliefs : List (BlockId × ℕ × Mode)) (applied : List ℕ) (inputs : List In) (input : In)
     (b : BlockId)
-    → HandsOut b (transition (state_after (started epoch index beliefs applied) inputs) input).outs
-    → job_at (transition (state_after (started epoch index beliefs applied) inputs) input).state.jobs b ≡ None
+    → HandsOut b (transition (state_after (slot_start epoch index beliefs applied) inputs) input).outs
+    → job_at (transition (state_after (slot_start epoch index beliefs applied) inputs) input).state.jobs b ≡ None
 barred-all epoch index beliefs applied inputs input =
-    (barred-transition (state_after (started epoch index beliefs applied) inputs) input
-    (waiting-all (started epoch index beliefs applied) inputs nobody_waits)).given
+    (barred-transition (state_after (slot_start epoch index beliefs applied) inputs) input
+    (waiting-all (slot_start epoch index beliefs applied) inputs nobody_waits)).given

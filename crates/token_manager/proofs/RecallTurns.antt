@@ -20,7 +20,7 @@ use Rattle.slot_beliefs.specs.Recalls.{recalls, answers, noted, ready_blocks, jo
 use Rattle.token_manager.specs.declared.input.In.{In}
 use Rattle.token_manager.specs.declared.input.In.TheVariants.{Want, Gave, Deltas, Check, Tick}
 use Rattle.token_manager.specs.SlotState.{SlotState}
-use Rattle.token_manager.specs.Transition.{started, with_deltas, finished_at, transition}
+use Rattle.token_manager.specs.Transition.{slot_start, with_deltas, finish_job, transition}
 use Rattle.token_manager.specs.Laws.{IsGivenOut, RecallsAreGivenOut, state_after}
 use Rattle.token_manager.proofs.Cases.{recalled_from, by_want, by_gave, by_deltas, by_finished_at}
 use Rattle.token_manager.proofs.JobsBarGrants.{Waiting, after_removal, was_there, waiting-removed, waiting-put, nobody_waits}
@@ -74,13 +74,13 @@ module _ (s : SlotState) (stands : Stands s) where
       given-later s.epoch s.turn (s.turn + 1) found.awaited (omega arith)
       (stands.given b found (was_there (eq_by_cmp block_cmp block b) (job_at s.jobs b) found (sym (after_removal s.jobs block b stands.waiting.sorted) ∙ fact)))
 
-  stands-finished_at : (block : BlockId) → Stands (finished_at s block).state
-  stands-finished_at block =
+  stands-finish_job : (block : BlockId) → Stands (finish_job s block).state
+  stands-finish_job block =
       by_finished_at (λ r. Stands r.state) s block stands
       (λ job fact. record { waiting = waiting-removed s.jobs block stands.waiting; given = given-removed block })
 
-stands-steps : (s : SlotState) (blocks : List BlockId) → Stands s → Stands (steps finished_at s blocks).state
-stands-steps = steps_keep finished_at Stands (λ t block stands. stands-finished_at t stands block)
+stands-steps : (s : SlotState) (blocks : List BlockId) → Stands s → Stands (steps finish_job s blocks).state
+stands-steps = steps_keep finish_job Stands (λ t block stands. stands-finish_job t stands block)
 
 stands-transition : (s : SlotState) (input : In) → Stands s → Stands (transition s input).state
 stands-transition s (Want want end) stands =
@@ -113,7 +113,7 @@ stands-transition s (Check block place) stands = stands
 stands-transition s Tick stands = stands
 
 pub given-all : (epoch : ℕ) (index : List (BlockId × Entry)) (beliefs : List (BlockId × ℕ × Mode)) (applied : List ℕ) (inputs : List In)
-    → RecallsAreGivenOut (state_after (started epoch index beliefs applied) inputs)
+    → RecallsAreGivenOut (state_after (slot_start epoch index beliefs applied) inputs)
 given-all epoch index beliefs applied inputs =
-    (steps_keep transition Stands stands-transition (started epoch index beliefs applied) inputs
+    (steps_keep transition Stands stands-transition (slot_start epoch index beliefs applied) inputs
     (record { waiting = nobody_waits; given = λ b job fact. absurd (cc) })).given

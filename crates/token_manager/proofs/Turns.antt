@@ -9,9 +9,9 @@ use Rattle.token_manager.specs.declared.output.Out.{Out}
 use Rattle.token_manager.specs.declared.output.Out.TheVariants.{Grant, Forward, Recall, Applied, Live, Dead}
 use Rattle.token_manager.specs.declared.input.In.{In}
 use Rattle.token_manager.specs.declared.input.In.TheVariants.{Want, Gave, Deltas, Check, Tick}
-use Rattle.token_manager.specs.Recalls.{sent}
+use Rattle.token_manager.specs.Recalls.{send_recalls}
 use Rattle.token_manager.specs.SlotState.{SlotState}
-use Rattle.token_manager.specs.Transition.{Done, passers, answer, with_deltas, finished_at, is_place, entry_at, transition}
+use Rattle.token_manager.specs.Transition.{Done, passers, answer, with_deltas, finish_job, is_place, entry_at, transition}
 use Rattle.token_manager.specs.Laws.{CountsTurns, IsNotTick}
 use Rattle.token_manager.proofs.Cases.{recalled_from, by_want, all_given, by_gave, by_deltas, let_go, by_finished_at}
 
@@ -28,11 +28,11 @@ takes_both epoch from at last (Live entry ∷ xs) ys xs_take ys_take = takes_bot
 takes_both epoch from at last (Dead ∷ xs) ys xs_take ys_take = takes_both epoch from at last xs ys xs_take ys_take
 
 takes-recalls : (epoch turn : ℕ) (block : BlockId) (keep : Bool) (clients : List ℕ)
-    → CountsTurns epoch turn (sent block (recalls epoch turn keep clients)) (turn + length clients)
+    → CountsTurns epoch turn (send_recalls block (recalls epoch turn keep clients)) (turn + length clients)
 takes-recalls epoch turn block keep [] = omega arith
 takes-recalls epoch turn block keep (c ∷ cs) =
     let same : turn + 1 + length cs ≡ turn + length (c ∷ cs) = omega arith in
-    (refl, subst (CountsTurns epoch (turn + 1) (sent block (recalls epoch (turn + 1) keep cs))) same (takes-recalls epoch (turn + 1) block keep cs))
+    (refl, subst (CountsTurns epoch (turn + 1) (send_recalls block (recalls epoch (turn + 1) keep cs))) same (takes-recalls epoch (turn + 1) block keep cs))
 
 -- the epoch stays, and the turns are taken
 abbrev Takes : SlotState → Done → Type 0
@@ -42,19 +42,19 @@ takes-answer : (s : SlotState) (want : Wanted) (passers : List ℕ) → CountsTu
 takes-answer s want [] = (refl, refl)
 takes-answer s want (c ∷ cs) = (refl, refl)
 
-takes-finished_at : (s : SlotState) (block : BlockId) → Takes s (finished_at s block)
-takes-finished_at s block =
+takes-finish_job : (s : SlotState) (block : BlockId) → Takes s (finish_job s block)
+takes-finish_job s block =
     by_finished_at (Takes s) s block (refl, refl) (λ job fact. (refl, takes-answer (let_go s block) job.want (passers (let_go s block) job.want)))
 
-takes-steps : (s : SlotState) (blocks : List BlockId) → Takes s (steps finished_at s blocks)
+takes-steps : (s : SlotState) (blocks : List BlockId) → Takes s (steps finish_job s blocks)
 takes-steps s [] = (refl, refl)
 takes-steps s (b ∷ bs) =
-    let one = takes-finished_at s b in
-    let next = (finished_at s b).state in
+    let one = takes-finish_job s b in
+    let next = (finish_job s b).state in
     let rest = takes-steps next bs in (
       rest.0 ∙ one.0,
-      takes_both s.epoch s.turn next.turn _ (finished_at s b).outs (steps finished_at next bs).outs one.1
-          (subst (λ e. CountsTurns e next.turn (steps finished_at next bs).outs (steps finished_at next bs).state.turn) one.0 rest.1),
+      takes_both s.epoch s.turn next.turn _ (finish_job s b).outs (steps finish_job next bs).outs one.1
+          (subst (λ e. CountsTurns e next.turn (steps finish_job next bs).outs (steps finish_job next bs).state.turn) one.0 rest.1),
     )
 
 pub takes-transition : (s : SlotState) (input : In) → IsNotTick input → Takes s (transition s input)

@@ -22,7 +22,7 @@ use Rattle.token_manager.specs.declared.output.Out.{Out}
 use Rattle.token_manager.specs.declared.output.Out.TheVariants.{Grant, Forward, Recall, Applied, Live, Dead}
 use Rattle.token_manager.specs.Laws.{IsAnswered, IsTaken, WaitsAt, state_after}
 use Rattle.token_manager.specs.SlotState.{SlotState}
-use Rattle.token_manager.specs.Transition.{Done, has_turns, started, passers, answer, finish, finished, finished_at, on_want, recall, recall_or_finish, recalled, transition, with_deltas}
+use Rattle.token_manager.specs.Transition.{Done, has_turns, slot_start, passers, answer, finish, slot_finish, finish_job, on_want, recall, recall_or_finish, recalled, transition, with_deltas}
 use Rattle.token_manager.proofs.Cases.{recalled_from, on_want-taken, by_want, all_given, by_gave, by_deltas, let_go, by_finished_at}
 use Rattle.token_manager.proofs.JobsBarGrants.{Waiting, after_removal, block_laws, nobody_waits, not_waiting, waiting-all, waiting-removed}
 
@@ -64,7 +64,7 @@ module _ (want : Wanted) where
       → MetAtOnce (recall_or_finish s want clients)
   met_by_count s clients one many =
       by_test MetAtOnce (length clients == 0) (finish s want) (recall s want clients)
-      (λ _. subst MetAtOnce (sym (ap (λ t. cond t (finished s want) (still s)) one)) (inl (answer_answers s want (passers s want))))
+      (λ _. subst MetAtOnce (sym (ap (λ t. cond t (slot_finish s want) (still s)) one)) (inl (answer_answers s want (passers s want))))
       (λ _. subst MetAtOnce (sym (ap (λ t. cond t (recalled s want clients) (still s)) many))
       (inr (
         recalls s.epoch s.turn (not (is_own want.mode)) clients,
@@ -98,10 +98,10 @@ module _ (block : BlockId) (want : Wanted) where
 
   -- where the want that waits for a block is answered, this one is, or it waits for another
   met_answered : (s t : SlotState) (b : BlockId) (job : Job) → Waiting s.jobs → job_at s.jobs b ≡ Some job → t.jobs ≡ without_job s.jobs b
-      → WaitsAt s block want → Met (finished t job.want)
+      → WaitsAt s block want → Met (slot_finish t job.want)
   met_answered s t b job w fact jobs h = by_block (eq_by_cmp block_cmp b block) refl
     where
-      by_block : (same : Bool) → eq_by_cmp block_cmp b block ≡ same → Met (finished t job.want)
+      by_block : (same : Bool) → eq_by_cmp block_cmp b block ≡ same → Met (slot_finish t job.want)
       by_block true same =
           inl (subst (λ v. IsAnswered v (answer t job.want (passers t job.want) ∷ [])) (same_want s b job fact h (tells_apart block_cmp_exact b block same))
           (answer_answers t job.want (passers t job.want)))
@@ -128,17 +128,17 @@ module _ (block : BlockId) (want : Wanted) where
       )
       by_block false apart = (h.0, found ∙ ap (λ t. cond t (Some put) (job_at s.jobs block)) apart ∙ h.1)
 
-  met_one : (s : SlotState) (b : BlockId) → Waiting s.jobs → WaitsAt s block want → Met (finished_at s b)
+  met_one : (s : SlotState) (b : BlockId) → Waiting s.jobs → WaitsAt s block want → Met (finish_job s b)
   met_one s b w h = by_finished_at Met s b (inr h) (λ job fact. met_answered s (let_go s b) b job w fact refl h)
 
-  met_steps : (s : SlotState) (blocks : List BlockId) → Waiting s.jobs → WaitsAt s block want → Met (steps finished_at s blocks)
+  met_steps : (s : SlotState) (blocks : List BlockId) → Waiting s.jobs → WaitsAt s block want → Met (steps finish_job s blocks)
   met_steps s [] w h = inr h
   met_steps s (b ∷ bs) w h =
-      let next : SlotState = (finished_at s b).state in
+      let next : SlotState = (finish_job s b).state in
       let waits : Waiting next.jobs = by_finished_at (λ (d : Done). Waiting d.state.jobs) s b w (λ job fact. waiting-removed s.jobs b w) in
-      ⊎_elim (λ answered. inl (answered_before want (finished_at s b).outs (steps finished_at next bs).outs answered))
+      ⊎_elim (λ answered. inl (answered_before want (finish_job s b).outs (steps finish_job next bs).outs answered))
       (λ still_so.
-      ⊎_elim (λ answered. inl (answered_behind want (finished_at s b).outs (steps finished_at next bs).outs answered)) inr
+      ⊎_elim (λ answered. inl (answered_behind want (finish_job s b).outs (steps finish_job next bs).outs answered)) inr
       (met_steps next bs waits still_so))
       (met_one s b w h)
 
@@ -167,9 +167,9 @@ module _ (block : BlockId) (want : Wanted) where
 
 pub not_forgotten : (epoch : ℕ) (index : List (BlockId × Entry)) (beliefs : List (BlockId × ℕ × Mode)) (applied : List ℕ) (inputs : List In) (input : In)
     (block : BlockId) (want : Wanted)
-    → WaitsAt (state_after (started epoch index beliefs applied) inputs) block want
-    → IsAnswered want (transition (state_after (started epoch index beliefs applied) inputs) input).outs
-    ⊎ WaitsAt (transition (state_after (started epoch index beliefs applied) inputs) input).state block want
+    → WaitsAt (state_after (slot_start epoch index beliefs applied) inputs) block want
+    → IsAnswered want (transition (state_after (slot_start epoch index beliefs applied) inputs) input).outs
+    ⊎ WaitsAt (transition (state_after (slot_start epoch index beliefs applied) inputs) input).state block want
 not_forgotten epoch index beliefs applied inputs input block want h =
-    let start : SlotState = started epoch index beliefs applied in
+    let start : SlotState = slot_start epoch index beliefs applied in
     met block want (state_after start inputs) input (waiting-all start inputs nobody_waits) h

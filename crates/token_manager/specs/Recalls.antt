@@ -10,11 +10,11 @@ abbrev pub recall_of : BlockId → Awaited → Out
 recall_of block a = Recall a.client block a.stamp a.keep
 
 -- the recalls that are not answered, sent
-abbrev pub sent : BlockId → List Awaited → List Out
-sent block [] = []
-sent block (a ∷ rest) = if is_some a.end then sent block rest else recall_of block a ∷ sent block rest
+abbrev pub send_recalls : BlockId → List Awaited → List Out
+send_recalls block [] = []
+send_recalls block (a ∷ rest) = if is_some a.end then send_recalls block rest else recall_of block a ∷ send_recalls block rest
 
 -- the recalls of all wants that are not answered, sent in order of blocks
-abbrev pub all_sent : List (BlockId × Job) → List Out
-all_sent [] = []
-all_sent (e ∷ es) = sent e.0 e.1.awaited ++ all_sent es
+abbrev pub send_all : List (BlockId × Job) → List Out
+send_all [] = []
+send_all (e ∷ es) = send_recalls e.0 e.1.awaited ++ send_all es

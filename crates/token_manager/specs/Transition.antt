@@ -16,14 +16,14 @@ use Rattle.xfs_base.specs.Modes.{is_own, is_nothing}
 use Rattle.slot_beliefs.specs.declared.job.Wanted.{Wanted}
 use Rattle.slot_beliefs.specs.declared.job.Awaited.{Awaited}
 use Rattle.slot_beliefs.specs.declared.job.Job.{Job}
-use Rattle.slot_beliefs.specs.Beliefs.{holder, others, want_met, given_up, all_believed}
-use Rattle.slot_beliefs.specs.Index.{nothing_indexed, cleaned_index, indexed_all, has_room}
+use Rattle.slot_beliefs.specs.Beliefs.{holder, others, meet_want, give_way, all_believed}
+use Rattle.slot_beliefs.specs.Index.{block_index_new, block_index_clean, merge_all, has_room}
 use Rattle.slot_beliefs.specs.Recalls.{stamp, recalls, answers, noted, applied_of, is_ready, ready_blocks, job_at, without_job, is_followed, applied_upto}
 use Rattle.token_manager.specs.declared.output.Out.{Out}
 use Rattle.token_manager.specs.declared.output.Out.TheVariants.{Grant, Forward, Applied, Live, Dead}
 use Rattle.token_manager.specs.declared.input.In.{In}
 use Rattle.token_manager.specs.declared.input.In.TheVariants.{Want, Gave, Deltas, Check, Tick}
-use Rattle.token_manager.specs.Recalls.{sent, all_sent}
+use Rattle.token_manager.specs.Recalls.{send_recalls, send_all}
 use Rattle.token_manager.specs.SlotState.{SlotState}
 
 -- a state of a slot, and what was sent on the way to it
@@ -31,10 +31,10 @@ abbrev pub Done : Type 0
 Done = Stepped SlotState Out
 
 -- a slot that starts with this index, these beliefs and this much of each log
-abbrev pub started : ℕ → List (BlockId × Entry) → List (BlockId × ℕ × Mode) → List ℕ → SlotState
-started epoch index beliefs applied = record {
+abbrev pub slot_start : ℕ → List (BlockId × Entry) → List (BlockId × ℕ × Mode) → List ℕ → SlotState
+slot_start epoch index beliefs applied = record {
   epoch = epoch;
-  index = indexed_all nothing_indexed index;
+  index = merge_all block_index_new index;
   beliefs = all_believed [] beliefs;
   jobs = [];
   turn = 0;
@@ -42,8 +42,8 @@ started epoch index beliefs applied = record {
 }
 
 -- from here on no page of the index has changed
-abbrev pub cleaned : SlotState → SlotState
-cleaned s = record s { index = cleaned_index s.index }
+abbrev pub slot_clean : SlotState → SlotState
+slot_clean s = record s { index = block_index_clean s.index }
 
 -- whether so many more turns can be given out
 abbrev pub has_turns : ℕ → ℕ → Bool
@@ -68,15 +68,15 @@ answer s want [] = Grant want.client want.block (next_stamp s) want.inc want.req
 answer s want (c ∷ cs) = Forward c want.block (next_stamp s) want.client want.inc want.req (entry_at s want.block).ver
 
 -- the want is answered under a new turn, and the asker is believed to have what it wants
-abbrev pub finished : SlotState → Wanted → Done
-finished s want = record {
-  state = record s { beliefs = want_met s.beliefs want; turn = s.turn + 1 };
+abbrev pub slot_finish : SlotState → Wanted → Done
+slot_finish s want = record {
+  state = record s { beliefs = meet_want s.beliefs want; turn = s.turn + 1 };
   outs = answer s want (passers s want) ∷ [];
 }
 
 -- where no turn is left, nothing
 abbrev pub finish : SlotState → Wanted → Done
-finish s want = if has_turns s.turn 1 then finished s want else still s
+finish s want = if has_turns s.turn 1 then slot_finish s want else still s
 
 -- ---- want
 
@@ -88,7 +88,7 @@ recalled s want clients = record {
         (record { want = want; awaited = recalls s.epoch s.turn (not (is_own want.mode)) clients });
     turn = s.turn + length clients;
   };
-  outs = sent want.block (recalls s.epoch s.turn (not (is_own want.mode)) clients);
+  outs = send_recalls want.block (recalls s.epoch s.turn (not (is_own want.mode)) clients);
 }
 
 -- where too few turns are left, nothing
@@ -113,11 +113,11 @@ on_want s want end = if is_dropped s want end then still s else recall_or_finish
 
 -- a client has given a block up
 abbrev pub given : SlotState → Wanted → ℕ → BlockId → SlotState
-given s want client block = record s { beliefs = given_up s.beliefs (holder block client) (not (is_own want.mode)) }
+given s want client block = record s { beliefs = give_way s.beliefs (holder block client) (not (is_own want.mode)) }
 
 -- the want need wait no longer; where no turn is left, nothing, and the answer isn't noted either
 abbrev pub gave_last : SlotState → ℕ → BlockId → Wanted → Done
-gave_last s client block want = if has_turns s.turn 1 then finished (record (given s want client block) { jobs = without_job s.jobs block }) want else still s
+gave_last s client block want = if has_turns s.turn 1 then slot_finish (record (given s want client block) { jobs = without_job s.jobs block }) want else still s
 
 -- the recalls, with the answer noted; the want goes on waiting
 abbrev pub gave_one : SlotState → ℕ → BlockId → Wanted → List Awaited → SlotState
@@ -141,20 +141,20 @@ on_gave s client block stamp end = gave_job s client block stamp end (job_at s.j
 
 abbrev pub finished_job : SlotState → BlockId → Option Job → Done
 finished_job s block None = still s
-finished_job s block (Some job) = finished (record s { jobs = without_job s.jobs block }) job.want
+finished_job s block (Some job) = slot_finish (record s { jobs = without_job s.jobs block }) job.want
 
 -- the want that waits for this block is answered
-unfoldable pub finished_at : SlotState → BlockId → Done
-finished_at s block = finished_job s block (job_at s.jobs block)
+unfoldable pub finish_job : SlotState → BlockId → Done
+finish_job s block = finished_job s block (job_at s.jobs block)
 
 -- the rows are merged in their order, the counts follow, and so much of the log is applied
 abbrev pub with_deltas : SlotState → LogId → ℕ → List (BlockId × Entry) → SlotState
-with_deltas s log upto rows = record s { index = indexed_all s.index rows; applied = applied_upto s.applied log upto }
+with_deltas s log upto rows = record s { index = merge_all s.index rows; applied = applied_upto s.applied log upto }
 
 -- the log learns how much is applied, and then the wants that need wait no longer are answered, in order
 -- of blocks
 abbrev pub apply : SlotState → LogId → ℕ → List (BlockId × Entry) → Done
-apply s log upto rows = saying (Applied log upto ∷ []) (steps finished_at (with_deltas s log upto rows) (ready_blocks s.jobs (applied_upto s.applied log upto)))
+apply s log upto rows = saying (Applied log upto ∷ []) (steps finish_job (with_deltas s log upto rows) (ready_blocks s.jobs (applied_upto s.applied log upto)))
 
 -- whether turns are left for the wants that would be answered, and counts can rise by the rows
 abbrev pub can_apply : SlotState → LogId → ℕ → List (BlockId × Entry) → Bool
@@ -162,8 +162,8 @@ can_apply s log upto rows =
     has_turns s.turn (length (ready_blocks s.jobs (applied_upto s.applied log upto))) && has_room (length rows) s.index.usage rows
 
 -- where one could not rise, nothing
-abbrev pub apply_or_not : SlotState → LogId → ℕ → List (BlockId × Entry) → Done
-apply_or_not s log upto rows = if can_apply s log upto rows then apply s log upto rows else still s
+abbrev pub slot_apply : SlotState → LogId → ℕ → List (BlockId × Entry) → Done
+slot_apply s log upto rows = if can_apply s log upto rows then apply s log upto rows else still s
 
 -- whether deltas join on to what is applied of their log, and lead beyond it
 abbrev pub joins_on : ℕ → ℕ → ℕ → Bool
@@ -175,7 +175,7 @@ told_applied s log = record { state = s; outs = Applied log (applied_of s.applie
 
 -- deltas of a log that the slot follows
 abbrev pub deltas_of : SlotState → LogId → ℕ → ℕ → List (BlockId × Entry) → Done
-deltas_of s log first upto rows = if joins_on (applied_of s.applied log.0) first upto then apply_or_not s log upto rows else told_applied s log
+deltas_of s log first upto rows = if joins_on (applied_of s.applied log.0) first upto then slot_apply s log upto rows else told_applied s log
 
 -- a log tells where blocks lie
 abbrev pub on_deltas : SlotState → LogId → ℕ → ℕ → List (BlockId × Entry) → Done
@@ -198,7 +198,7 @@ on_check s block place = record { state = s; outs = found (entry_at s block) pla
 
 -- each recall that isn't answered is sent again, under its stamp
 abbrev pub on_tick : SlotState → Done
-on_tick s = record { state = s; outs = all_sent s.jobs }
+on_tick s = record { state = s; outs = send_all s.jobs }
 
 -- ---- all
 

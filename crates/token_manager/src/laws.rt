@@ -5,19 +5,19 @@ ghost use Rattle.xfs_base.specs.declared.block.BlockId.{BlockId};
 ghost use Rattle.xfs_base.specs.declared.entry.Entry.{Entry};
 ghost use Rattle.xfs_base.specs.declared.token.Mode.{Mode};
 ghost use Rattle.token_manager.specs.declared.input.In.{In};
-ghost use Rattle.index_pages.specs.Pages.{put_newer, cleaned};
-ghost use Rattle.slot_beliefs.specs.Index.{Indexed, indexed, pages_of, cleaned_index, IsCounted};
+ghost use Rattle.index_pages.specs.Pages.{pages_merge, pages_clean};
+ghost use Rattle.slot_beliefs.specs.Index.{Indexed, block_index_merge, pages_of, block_index_clean, IsCounted};
 ghost use Rattle.slot_beliefs.specs.declared.job.Wanted.{Wanted};
 ghost use Rattle.slot_beliefs.specs.Recalls.{applied_of, job_at};
 ghost use Rattle.token_manager.specs.SlotState.{SlotState};
-ghost use Rattle.token_manager.specs.Transition.{on_want, started, transition};
+ghost use Rattle.token_manager.specs.Transition.{on_want, slot_start, transition};
 ghost use Rattle.token_manager.specs.Laws.{state_after, CountsTurns, IsNotTick, given_out, stamps_after, HandsOut, OwnsAlone, IsGuarded, RecallsAreGivenOut, IsAnswered, IsTaken, WaitsAt};
 
 /// Whatever a slot took, the live blocks that it counts in each segment are those that a count from
 /// scratch over the places of its index gives.
 pub fn counts_follow_the_index()
     ensures { (epoch : ℕ) (index : List (BlockId × Entry)) (beliefs : List (BlockId × ℕ × Mode)) (applied : List ℕ) (inputs : List In)
-        → IsCounted (state_after (started epoch index beliefs applied) inputs).index }
+        → IsCounted (state_after (slot_start epoch index beliefs applied) inputs).index }
 {}
 
 /// What is applied of a log never falls.
@@ -44,8 +44,8 @@ pub fn no_stamp_is_given_out_twice()
 pub fn waiting_bars_grants()
     ensures { (epoch : ℕ) (index : List (BlockId × Entry)) (beliefs : List (BlockId × ℕ × Mode)) (applied : List ℕ) (inputs : List In) (input : In)
         (block : BlockId)
-        → HandsOut block (transition (state_after (started epoch index beliefs applied) inputs) input).outs
-        → job_at (transition (state_after (started epoch index beliefs applied) inputs) input).state.jobs block ≡ None }
+        → HandsOut block (transition (state_after (slot_start epoch index beliefs applied) inputs) input).outs
+        → job_at (transition (state_after (slot_start epoch index beliefs applied) inputs) input).state.jobs block ≡ None }
 {}
 
 /// Where owners are alone at the start, they are alone for ever: whoever is believed to own a block is the
@@ -54,21 +54,21 @@ pub fn waiting_bars_grants()
 /// who have anything of the block.
 pub fn owners_are_alone()
     ensures { (epoch : ℕ) (index : List (BlockId × Entry)) (beliefs : List (BlockId × ℕ × Mode)) (applied : List ℕ) (inputs : List In)
-        → OwnsAlone (started epoch index beliefs applied).beliefs → IsGuarded (state_after (started epoch index beliefs applied) inputs) }
+        → OwnsAlone (slot_start epoch index beliefs applied).beliefs → IsGuarded (state_after (slot_start epoch index beliefs applied) inputs) }
 {}
 
 /// Each recall of a want that waits bears the epoch of the slot, and a turn from 1 to the last that was
 /// given out; so a tick sends no stamp that the slot did not give out.
 pub fn recalls_are_given_out()
     ensures { (epoch : ℕ) (index : List (BlockId × Entry)) (beliefs : List (BlockId × ℕ × Mode)) (applied : List ℕ) (inputs : List In)
-        → RecallsAreGivenOut (state_after (started epoch index beliefs applied) inputs) }
+        → RecallsAreGivenOut (state_after (slot_start epoch index beliefs applied) inputs) }
 {}
 
 /// The pages of a slot's index are what the entries that are merged make of them, and cleaning makes them
 /// clean: so what is known of pages into which entries are merged is known of a slot's.
 pub fn pages_follow_the_index()
-    ensures merged { (i : Indexed) (m : BlockId × Entry) → pages_of (indexed i m) ≡ put_newer (pages_of i) m.0 m.1 }
-    ensures cleaned { (i : Indexed) → pages_of (cleaned_index i) ≡ cleaned (pages_of i) }
+    ensures merged { (i : Indexed) (m : BlockId × Entry) → pages_of (block_index_merge i m) ≡ pages_merge (pages_of i) m.0 m.1 }
+    ensures cleaned { (i : Indexed) → pages_of (block_index_clean i) ≡ pages_clean (pages_of i) }
 {}
 
 /// A want that is no cause to be dropped is answered at once, or waits for its block: that is, one that wants
@@ -82,7 +82,7 @@ pub fn each_want_is_answered_or_waits()
 pub fn no_want_is_forgotten()
     ensures { (epoch : ℕ) (index : List (BlockId × Entry)) (beliefs : List (BlockId × ℕ × Mode)) (applied : List ℕ) (inputs : List In) (input : In)
         (block : BlockId) (want : Wanted)
-        → WaitsAt (state_after (started epoch index beliefs applied) inputs) block want
-        → IsAnswered want (transition (state_after (started epoch index beliefs applied) inputs) input).outs
-        ⊎ WaitsAt (transition (state_after (started epoch index beliefs applied) inputs) input).state block want }
+        → WaitsAt (state_after (slot_start epoch index beliefs applied) inputs) block want
+        → IsAnswered want (transition (state_after (slot_start epoch index beliefs applied) inputs) input).outs
+        ⊎ WaitsAt (transition (state_after (slot_start epoch index beliefs applied) inputs) input).state block want }
 {}

@@ -2,7 +2,7 @@
 ghost use Rattle.std.specs.Prelude.{◌≡◌, OnOk, ◌++◌};
 ghost use Rattle.std.specs.BTreeMap.{insert_entry};
 ghost use Rattle.xfs_base.specs.Blocks.{block_cmp};
-ghost use Rattle.token_manager.specs.Recalls.{sent, all_sent};
+ghost use Rattle.token_manager.specs.Recalls.{send_recalls, send_all};
 
 use crate::output::Out;
 use slot_beliefs::recalls::wait;
@@ -12,7 +12,7 @@ use xfs_base::{BlockId, List, Mem};
 
 // Sends the recalls that are not answered.
 pub(crate) fn send_recalls(outs: &mut List<Out>, block: BlockId, awaited: &[Awaited]) -> Mem<()>
-    ensures { OnOk result (outs.new ≡ outs.old ++ sent block awaited.now) }
+    ensures { OnOk result (outs.new ≡ outs.old ++ send_recalls block awaited.now) }
 {
     for recall in awaited {
         if recall.end.is_none() {
@@ -35,7 +35,7 @@ pub(crate) fn await_all(
     awaited: List<Awaited>,
 ) -> Mem<()>
     ensures jobs { OnOk result (jobs.new.entries ≡ insert_entry block_cmp jobs.old.entries want.block (record { want = want; awaited = awaited })) }
-    ensures outs { OnOk result (outs.new ≡ outs.old ++ sent want.block awaited) }
+    ensures outs { OnOk result (outs.new ≡ outs.old ++ send_recalls want.block awaited) }
 {
     send_recalls(outs, want.block, awaited.as_slice())?;
     wait(jobs, want.block, want, awaited)
@@ -43,7 +43,7 @@ pub(crate) fn await_all(
 
 // Sends the recalls of all wants that are not answered.
 pub(crate) fn send_all(outs: &mut List<Out>, jobs: &BTreeMap<BlockId, Job>) -> Mem<()>
-    ensures { OnOk result (outs.new ≡ outs.old ++ all_sent jobs.now.entries) }
+    ensures { OnOk result (outs.new ≡ outs.old ++ send_all jobs.now.entries) }
 {
     for (block, job) in jobs {
         send_recalls(outs, *block, job.awaited.as_slice())?;

@@ -6,7 +6,7 @@ ghost use Rattle.xfs_base.specs.declared.segment.SegName.{SegName};
 ghost use Rattle.xfs_base.specs.Limits.{block_logs};
 ghost use Rattle.slot_beliefs.specs.Index.{pages_of, live_in, has_room};
 ghost use Rattle.slot_beliefs.specs.Recalls.{applied_of, ready_blocks, is_followed, applied_upto};
-ghost use Rattle.token_manager.specs.Transition.{started, cleaned, has_turns, passers, answer, finished, recall_or_finish, recall, is_dropped, on_want, gave_last, gave_noted, on_gave, finished_at, apply, apply_or_not, on_deltas, transition};
+ghost use Rattle.token_manager.specs.Transition.{slot_start, slot_clean, has_turns, passers, answer, slot_finish, recall_or_finish, recall, is_dropped, on_want, gave_last, gave_noted, on_gave, finish_job, apply, slot_apply, on_deltas, transition};
 
 use crate::input::In;
 use crate::output::{Out, found};
@@ -91,7 +91,7 @@ impl Slot {
     ) -> Mem<Slot>
         requires nine { length applied ≡ block_logs }
         requires room { (seg : SegName) → live_in seg index < 2 ^ 32 }
-        ensures { IfOk result (λ slot. slot ≡ started epoch index beliefs applied) }
+        ensures { IfOk result (λ slot. slot ≡ slot_start epoch index beliefs applied) }
     {
         let applied = nine(applied.as_slice());
         Slot::start_with(alloc, epoch, index.as_slice(), beliefs.as_slice(), applied)
@@ -105,7 +105,7 @@ impl Slot {
         applied: [u32; BY_LOG],
     ) -> Mem<Slot>
         requires { (seg : SegName) → live_in seg index.now < 2 ^ 32 }
-        ensures { IfOk result (λ slot. slot ≡ started epoch index.now beliefs.now applied) }
+        ensures { IfOk result (λ slot. slot ≡ slot_start epoch index.now beliefs.now applied) }
     {
         let beliefs = all_believed(alloc, beliefs)?;
         let mut rows = BlockIndex::new(alloc);
@@ -151,7 +151,7 @@ impl Slot {
 
     /// From here on no page of the index has changed; nothing else changes. Takes no memory.
     pub fn clean(&mut self)
-        ensures { self.new ≡ cleaned self.old }
+        ensures { self.new ≡ slot_clean self.old }
     {
         self.index.clean();
     }
@@ -226,8 +226,8 @@ impl Slot {
     // Answers a want under a new turn.
     fn finish(&mut self, alloc: Global, outs: &mut List<Out>, want: Wanted) -> Mem<()>
         requires { IsTrue (has_turns self.old.turn 1) }
-        ensures state { OnOk result (self.new ≡ (finished self.old want).state) }
-        ensures outs { OnOk result (outs.new ≡ outs.old ++ (finished self.old want).outs) }
+        ensures state { OnOk result (self.new ≡ (slot_finish self.old want).state) }
+        ensures outs { OnOk result (outs.new ≡ outs.old ++ (slot_finish self.old want).outs) }
     {
         self.send_answer(alloc, outs, want)?;
         self.turn += 1;
@@ -405,11 +405,11 @@ impl Slot {
     }
 
     // Answers the want that waits for a block.
-    #[tactic(auto, unfolding(crate::specs::Transition::finished_at))]
+    #[tactic(auto, unfolding(crate::specs::Transition::finish_job))]
     fn finish_job(&mut self, alloc: Global, outs: &mut List<Out>, block: BlockId) -> Mem<()>
         requires { IsTrue (has_turns self.old.turn 1) }
-        ensures state { OnOk result (self.new ≡ (finished_at self.old block).state) }
-        ensures outs { OnOk result (outs.new ≡ outs.old ++ (finished_at self.old block).outs) }
+        ensures state { OnOk result (self.new ≡ (finish_job self.old block).state) }
+        ensures outs { OnOk result (outs.new ≡ outs.old ++ (finish_job self.old block).outs) }
         ensures turn { OnOk result (self.new.turn ≤ self.old.turn + 1) }
     {
         match take_want(&mut self.jobs, block) {
@@ -421,8 +421,8 @@ impl Slot {
     // Answers the wants that wait for these blocks, in order.
     fn finish_jobs(&mut self, alloc: Global, outs: &mut List<Out>, blocks: &[BlockId]) -> Mem<()>
         requires { IsTrue (has_turns self.old.turn (length blocks.now)) }
-        ensures state { OnOk result (self.new ≡ (steps finished_at self.old blocks.now).state) }
-        ensures outs { OnOk result (outs.new ≡ outs.old ++ (steps finished_at self.old blocks.now).outs) }
+        ensures state { OnOk result (self.new ≡ (steps finish_job self.old blocks.now).state) }
+        ensures outs { OnOk result (outs.new ≡ outs.old ++ (steps finish_job self.old blocks.now).outs) }
     {
         for block in blocks {
             self.finish_job(alloc, outs, *block)?;
@@ -462,8 +462,8 @@ impl Slot {
         rows: &[(BlockId, Entry)],
     ) -> Mem<()>
         requires { IsTrue (is_followed log) }
-        ensures state { OnOk result (self.new ≡ (apply_or_not self.old log upto rows.now).state) }
-        ensures outs { OnOk result (outs.new ≡ outs.old ++ (apply_or_not self.old log upto rows.now).outs) }
+        ensures state { OnOk result (self.new ≡ (slot_apply self.old log upto rows.now).state) }
+        ensures outs { OnOk result (outs.new ≡ outs.old ++ (slot_apply self.old log upto rows.now).outs) }
     {
         let applied = applied_upto(&self.applied, log, upto);
         let ready = ready_blocks(alloc, &self.jobs, &applied)?;
@@ -482,8 +482,8 @@ impl Slot {
     ) -> Mem<()>
         requires followed { IsTrue (is_followed log) }
         requires ready { ready.now ≡ ready_blocks self.old.jobs (applied_upto self.old.applied log upto) }
-        ensures state { OnOk result (self.new ≡ (apply_or_not self.old log upto rows.now).state) }
-        ensures outs { OnOk result (outs.new ≡ outs.old ++ (apply_or_not self.old log upto rows.now).outs) }
+        ensures state { OnOk result (self.new ≡ (slot_apply self.old log upto rows.now).state) }
+        ensures outs { OnOk result (outs.new ≡ outs.old ++ (slot_apply self.old log upto rows.now).outs) }
     {
         if !has_turns(self.turn, ready.len()) || !self.index.has_room(rows) {
             return Ok(());

@@ -21,7 +21,7 @@ use Rattle.std.specs.declared.cmp.Ordering.TheVariants.{Less}
 use Rattle.std.proofs.lemmas.List.{get_or-set_other, get_or-set_same}
 use Rattle.slot_beliefs.specs.declared.job.Awaited.{Awaited}
 use Rattle.slot_beliefs.specs.declared.job.Job.{Job}
-use Rattle.slot_beliefs.specs.Index.{indexed_all}
+use Rattle.slot_beliefs.specs.Index.{merge_all}
 use Rattle.slot_beliefs.specs.Beliefs.{holder}
 use Rattle.slot_beliefs.specs.Recalls.{recalls, applied_of, is_ready, ready_blocks, job_at, applied_upto, is_followed}
 use Rattle.token_manager.specs.declared.input.In as inputs
@@ -30,9 +30,9 @@ use Rattle.token_protocol.specs.Premises.{Premise, IndexCovers}
 use Rattle.xfs_base.proofs.BlockOrder.{block_cmp_exact}
 use Rattle.token_manager.specs.declared.output.Out.{Out}
 use Rattle.token_manager.specs.declared.output.Out.TheVariants.{Applied, Live, Dead}
-use Rattle.token_manager.specs.Recalls.{sent, recall_of, all_sent}
+use Rattle.token_manager.specs.Recalls.{send_recalls, recall_of, send_all}
 use Rattle.token_manager.specs.SlotState.{SlotState}
-use Rattle.token_manager.specs.Transition.{Done, entry_at, passers, finished, finished_at, with_deltas, apply, can_apply, apply_or_not, joins_on, told_applied, deltas_of, on_deltas, is_place, on_check, on_tick, transition}
+use Rattle.token_manager.specs.Transition.{Done, entry_at, passers, slot_finish, finish_job, with_deltas, apply, can_apply, slot_apply, joins_on, told_applied, deltas_of, on_deltas, is_place, on_check, on_tick, transition}
 use Rattle.token_manager.proofs.Cases.{let_go, by_finished_at}
 use Rattle.token_manager.proofs.Guarded.{Sound, ReadyAt, ready_finds, sound-answered, jobs_fewer, leaves_room, ready_none}
 use Rattle.token_manager.proofs.AwaitsJust.{more_elsewhere}
@@ -51,7 +51,7 @@ use Rattle.token_protocol.proofs.Told.{steps_through}
 use Rattle.token_tie.proofs.Frames.{both_quiet}
 use Rattle.token_tie.proofs.Managing.{by_nothing, by_through, told_on, told_both, runs_nowhere, turns-runs}
 use Rattle.token_tie.proofs.Wanting.{by_block, none_is, reached_sound, answer_quiet, takes_want}
-use Rattle.token_tie.proofs.Gaving.{no_end, named_applied, zero_is, finished-at, takes_gave}
+use Rattle.token_tie.proofs.Gaving.{no_end, named_applied, zero_is, slot_finish-at, takes_gave}
 use Rattle.xfs_base.specs.Modes.{is_own}
 use Rattle.xfs_base.proofs.Booleans.{by_test}
 use Rattle.xfs_base.specs.Limits.{block_logs}
@@ -79,7 +79,7 @@ by_deltas_known : (Q : Done → Type 0) (s : SlotState) (log : LogId) (first upt
     → (0 < log.0 → applied_of s.applied log.0 ≤ upto → Q (apply s log upto rows)) → Q (on_deltas s log first upto rows)
 by_deltas_known Q s log first upto rows same told done =
     by_test Q (is_followed log) (deltas_of s log first upto rows) (still s)
-    (λ known. by_test Q (joins_on (applied_of s.applied log.0) first upto) (apply_or_not s log upto rows) (told_applied s log)
+    (λ known. by_test Q (joins_on (applied_of s.applied log.0) first upto) (slot_apply s log upto rows) (told_applied s log)
     (λ joins. by_test Q (can_apply s log upto rows) (apply s log upto rows) (still s)
     (λ _. done (followed log.0 known) (joined (applied_of s.applied log.0) first upto joins)) (λ _. same))
     (λ _. told))
@@ -102,7 +102,7 @@ module _ (logs : Bool) (b : BlockId) where
 
   -- the want that waits for this block is answered
   let_go-runs : (w : World) (s : SlotState) (job : Job) → Sound s → Manages b s w → job_at s.jobs b ≡ Some job → is_ready s.applied job.awaited ≡ true
-      → Runs logs b w (finished (let_go s b) job.want)
+      → Runs logs b w (slot_finish (let_go s b) job.want)
   let_go-runs w s job sound m fact ready =
       let waits : Waits job s.epoch w.awaited w.keep w.owed w.applied w.wants w.recalls =
       subst (λ o. JobShown o s.epoch w.awaited w.keep w.owed w.applied w.wants w.recalls) fact m.job in
@@ -121,25 +121,25 @@ module _ (logs : Bool) (b : BlockId) where
         index = m.index;
         job = subst (λ o. JobShown o s.epoch w.awaited w.keep w.owed w.applied w.wants w.recalls) (sym none) idle;
       } in
-      finished-at logs b w (let_go s b) job.want waits.end (sound.waiting.own b job fact) shown none waits.something
+      slot_finish-at logs b w (let_go s b) job.want waits.end (sound.waiting.own b job fact) shown none waits.something
       (leaves_room s.beliefs s.applied job (sound.awaits b job fact) ready) waits.asked waits.asker
 
   -- a want for another block is answered
   let_go-there : (w : World) (s : SlotState) (block : BlockId) (job : Job) → Sound s → Manages b s w → (block ≡ b → ⊥) → job_at s.jobs block ≡ Some job
-      → Runs logs b w (finished (let_go s block) job.want)
+      → Runs logs b w (slot_finish (let_go s block) job.want)
   let_go-there w s block job sound m other fact =
       let apart : job.want.block ≡ b → ⊥ = λ same. other (sym (sound.waiting.own block job fact) ∙ same) in
       let u = let_go s block in
-      turns-runs logs b w s (finished u job.want) 1 m refl refl (λ c. more_elsewhere s.beliefs job.want (holder b c) (λ same. apart (sym same))) refl refl
+      turns-runs logs b w s (slot_finish u job.want) 1 m refl refl (λ c. more_elsewhere s.beliefs job.want (holder b c) (λ same. apart (sym same))) refl refl
       (after_removal s.jobs block b sound.waiting.sorted
       ∙ elim (eq_by_cmp block_cmp block b) as (λ t. eq_by_cmp block_cmp block b ≡ t → cond t None (job_at s.jobs b) ≡ job_at s.jobs b)
       [ true ↦ λ same. absurd (other (tells_apart block_cmp_exact block b same)) | false ↦ λ _. refl ] refl)
       (λ v. answer_quiet logs b v u job.want (passers u job.want) apart)
 
   one-runs : (w : World) (s : SlotState) (block : BlockId) → Sound s → Manages b s w
-      → ((job : Job) → job_at s.jobs block ≡ Some job → is_ready s.applied job.awaited ≡ true) → Runs logs b w (finished_at s block)
+      → ((job : Job) → job_at s.jobs block ≡ Some job → is_ready s.applied job.awaited ≡ true) → Runs logs b w (finish_job s block)
   one-runs w s block sound m ready =
-      by_block b (λ k. ((job : Job) → job_at s.jobs k ≡ Some job → is_ready s.applied job.awaited ≡ true) → Runs logs b w (finished_at s k))
+      by_block b (λ k. ((job : Job) → job_at s.jobs k ≡ Some job → is_ready s.applied job.awaited ≡ true) → Runs logs b w (finish_job s k))
       (λ r. by_finished_at (Runs logs b w) s b (runs_nowhere logs b w s m) (λ job fact. let_go-runs w s job sound m fact (r job fact)))
       (λ k other _. by_finished_at (Runs logs b w) s k (runs_nowhere logs b w s m) (λ job fact. let_go-there w s k job sound m other fact)) block ready
 
@@ -154,30 +154,30 @@ module _ (logs : Bool) (b : BlockId) where
         told = told_both b u.world d.outs e.outs (told_on b t.world u.world d.outs u.frame t.told) u.told;
       }
 
-  same_applied : (s : SlotState) (block : BlockId) → (finished_at s block).state.applied ≡ s.applied
+  same_applied : (s : SlotState) (block : BlockId) → (finish_job s block).state.applied ≡ s.applied
   same_applied s block = by_finished_at (λ d. d.state.applied ≡ s.applied) s block refl (λ job fact. refl)
 
   many-run : (w : World) (s : SlotState) (applied : List ℕ) (blocks : List BlockId) → s.applied ≡ applied → Sound s → Manages b s w
-      → ReadyAt s.jobs applied blocks → Runs logs b w (steps finished_at s blocks)
+      → ReadyAt s.jobs applied blocks → Runs logs b w (steps finish_job s blocks)
   many-run w s applied [] fact sound m ready = runs_nowhere logs b w s m
   many-run w s applied (k ∷ ks) fact sound m ready =
-      let d = finished_at s k in
+      let d = finish_job s k in
       let here : (job : Job) → job_at s.jobs k ≡ Some job → is_ready s.applied job.awaited ≡ true =
       λ job h. subst (λ a. is_ready a job.awaited ≡ true) (sym fact) (ready k (contains_first k ks) job h) in
       let t = one-runs w s k sound m here in
       let next : Sound d.state =
       by_finished_at (λ r. Sound r.state) s k sound (λ job h. sound-answered s applied k job sound h (ready k (contains_first k ks) job h)) in
-      runs_through w s d (steps finished_at d.state ks) t
+      runs_through w s d (steps finish_job d.state ks) t
       (many-run t.world d.state applied ks (same_applied s k ∙ fact) next t.shows
       (λ block has job h. ready block (contains_rest k block ks has) job (jobs_fewer s k block job sound.waiting h)))
 
   pub takes_deltas : (w : World) (s : SlotState) (log : LogId) (first upto : ℕ) (rows : List (BlockId × Entry)) → Sound s → Manages b s w
-      → log.0 - 1 < length s.applied → Premise logs (IndexCovers w log.0 upto (entry_seen (entry_of (indexed_all s.index rows).rows b)))
+      → log.0 - 1 < length s.applied → Premise logs (IndexCovers w log.0 upto (entry_seen (entry_of (merge_all s.index rows).rows b)))
       → Runs logs b w (on_deltas s log first upto rows)
   takes_deltas w s log first upto rows sound m known covers =
       by_deltas_known (Runs logs b w) s log first upto rows (runs_nowhere logs b w s m) (saying (Applied log (applied_of s.applied log.0) ∷ []) (tt, tt))
       (λ some limit.
-      let e = entry_seen (entry_of (indexed_all s.index rows).rows b) in
+      let e = entry_seen (entry_of (merge_all s.index rows).rows b) in
       let v = manages.applies w log.0 upto e in
       let u = with_deltas s log upto rows in
       let was = m.applied log.0 some in
@@ -213,37 +213,37 @@ module _ (logs : Bool) (b : BlockId) where
 
   -- what waits for this block is shown by its recalls
   abbrev pub Resent : World → List (BlockId × Job) → Type 0
-  Resent w es = (job : Job) → job_at es b ≡ Some job → AllTold b w (sent b job.awaited)
+  Resent w es = (job : Job) → job_at es b ≡ Some job → AllTold b w (send_recalls b job.awaited)
 
-  sent-there : (w : World) (block : BlockId) (rows : List Awaited) → (block ≡ b → ⊥) → AllTold b w (sent block rows)
-  sent-there w block [] other = tt
-  sent-there w block (a ∷ rows) other =
-      elim (is_some a.end) as (λ t. AllTold b w (cond t (sent block rows) (recall_of block a ∷ sent block rows)))
-      [ true ↦ sent-there w block rows other | false ↦ (λ same. absurd (other same), sent-there w block rows other) ]
+  send_recalls-there : (w : World) (block : BlockId) (rows : List Awaited) → (block ≡ b → ⊥) → AllTold b w (send_recalls block rows)
+  send_recalls-there w block [] other = tt
+  send_recalls-there w block (a ∷ rows) other =
+      elim (is_some a.end) as (λ t. AllTold b w (cond t (send_recalls block rows) (recall_of block a ∷ send_recalls block rows)))
+      [ true ↦ send_recalls-there w block rows other | false ↦ (λ same. absurd (other same), send_recalls-there w block rows other) ]
 
-  pub all_sent-told : (w : World) (es : List (BlockId × Job)) → IsStrictlySortedBy block_cmp (keys_of es) → Resent w es → AllTold b w (all_sent es)
+  pub send_all-told : (w : World) (es : List (BlockId × Job)) → IsStrictlySortedBy block_cmp (keys_of es) → Resent w es → AllTold b w (send_all es)
   unfolding IsStrictlySortedBy
-  all_sent-told w [] sorted resent = tt
-  all_sent-told w (e ∷ es) sorted resent =
-      let rest_ : ((job : Job) → job_at es b ≡ Some job → AllTold b w (sent b job.awaited)) → AllTold b w (all_sent es) = all_sent-told w es sorted.1 in
-      elim (eq_by_cmp block_cmp b e.0) as (λ t. eq_by_cmp block_cmp b e.0 ≡ t → AllTold b w (sent e.0 e.1.awaited ++ all_sent es)) [
+  send_all-told w [] sorted resent = tt
+  send_all-told w (e ∷ es) sorted resent =
+      let rest_ : ((job : Job) → job_at es b ≡ Some job → AllTold b w (send_recalls b job.awaited)) → AllTold b w (send_all es) = send_all-told w es sorted.1 in
+      elim (eq_by_cmp block_cmp b e.0) as (λ t. eq_by_cmp block_cmp b e.0 ≡ t → AllTold b w (send_recalls e.0 e.1.awaited ++ send_all es)) [
         | true ↦ λ same.
             let one : b ≡ e.0 = tells_apart block_cmp_exact b e.0 same in
-            told_both b w (sent e.0 e.1.awaited) (all_sent es)
-            (subst (λ k. AllTold b w (sent k e.1.awaited)) one (resent e.1 (ap (λ t. cond t (Some e.1) (job_at es b)) same)))
+            told_both b w (send_recalls e.0 e.1.awaited) (send_all es)
+            (subst (λ k. AllTold b w (send_recalls k e.1.awaited)) one (resent e.1 (ap (λ t. cond t (Some e.1) (job_at es b)) same)))
             (rest_ (λ job fact. absurd (no_end job (job_at es b) (subst (λ k. job_at es k ≡ None) (sym one) (nobody_below e.0 es sorted.0)) fact)))
         | false ↦ λ apart.
-            told_both b w (sent e.0 e.1.awaited) (all_sent es)
-            (sent-there w e.0 e.1.awaited (λ same. false≢true (sym apart ∙ subst (λ k. eq_by_cmp block_cmp b k ≡ true) (sym same) (block_laws.refl b))))
+            told_both b w (send_recalls e.0 e.1.awaited) (send_all es)
+            (send_recalls-there w e.0 e.1.awaited (λ same. false≢true (sym apart ∙ subst (λ k. eq_by_cmp block_cmp b k ≡ true) (sym same) (block_laws.refl b))))
             (rest_ (λ job fact. resent job (ap (λ t. cond t (Some e.1) (job_at es b)) apart ∙ fact)))
       ] refl
 
-  sent-here : (w : World) (leave : Bool) (epoch : ℕ) (rows : List Awaited) → epoch ≡ w.epoch → AllAwaited leave epoch w.awaited w.keep w.recalls rows
-      → AllTold b w (sent b rows)
-  sent-here w leave epoch [] reigns all = tt
-  sent-here w leave epoch (a ∷ rows) reigns all =
-      elim (is_some a.end) as (λ t. is_some a.end ≡ t → AllTold b w (cond t (sent b rows) (recall_of b a ∷ sent b rows))) [
-        | true ↦ λ _. sent-here w leave epoch rows reigns all.1
+  send_recalls-here : (w : World) (leave : Bool) (epoch : ℕ) (rows : List Awaited) → epoch ≡ w.epoch → AllAwaited leave epoch w.awaited w.keep w.recalls rows
+      → AllTold b w (send_recalls b rows)
+  send_recalls-here w leave epoch [] reigns all = tt
+  send_recalls-here w leave epoch (a ∷ rows) reigns all =
+      elim (is_some a.end) as (λ t. is_some a.end ≡ t → AllTold b w (cond t (send_recalls b rows) (recall_of b a ∷ send_recalls b rows))) [
+        | true ↦ λ _. send_recalls-here w leave epoch rows reigns all.1
         | false ↦ λ none.
             let shown = all.0 (none_is a.end none) in
             let turn = ap (λ (z : Stamp). z.turn) shown.stamp in let of_epoch = ap (λ (z : Stamp). z.epoch) shown.stamp in let some = shown.some in (
@@ -252,7 +252,7 @@ module _ (logs : Bool) (b : BlockId) where
                 some = omega arith;
                 recalled = λ _. subst (λ n. In (record { client = a.client; stamp = n; keep = kept a.keep }) w.recalls) (sym turn) shown.sent;
               },
-              sent-here w leave epoch rows reigns all.1,
+              send_recalls-here w leave epoch rows reigns all.1,
             )
       ] refl
 
@@ -263,8 +263,8 @@ module _ (logs : Bool) (b : BlockId) where
     quiet = refl;
     frame = by_nothing w;
     shows = m;
-    told = all_sent-told w s.jobs sound.waiting.sorted (λ job fact.
-        sent-here w (not (is_own job.want.mode)) s.epoch job.awaited m.epoch (waits job fact).each);
+    told = send_all-told w s.jobs sound.waiting.sorted (λ job fact.
+        send_recalls-here w (not (is_own job.want.mode)) s.epoch job.awaited m.epoch (waits job fact).each);
   }
     where
       waits : (job : Job) → job_at s.jobs b ≡ Some job → Waits job s.epoch w.awaited w.keep w.owed w.applied w.wants w.recalls

@@ -15,9 +15,9 @@ use Rattle.token_client.specs.declared.held.Held.{Held}
 use Rattle.token_client.specs.declared.held.Wanted.{Wanted}
 use Rattle.token_client.specs.declared.output.Out.{Out}
 use Rattle.token_client.specs.declared.output.Out.TheVariants.{Want, Gave, Flush, Ready}
-use Rattle.token_client.specs.Held.{is_asking, must_ask, is_dirty, may_write, is_settled_by, may_end_fetch, may_evict, asked, grant_taken, copied, fetch_ended, written, version_settled, let_go, unasked, unfetched, put_off, given_up}
+use Rattle.token_client.specs.Held.{is_asking, must_ask, is_dirty, may_write, is_settled_by, may_end_fetch, may_evict, held_ask, take_grant, copy_of, end_fetch, held_write, version_settled, let_go, quit, unfetched, put_off, give_up}
 use Rattle.token_client.specs.State.{TokensState, held_of, put_held, with_held}
-use Rattle.token_client.specs.Transition.{Done, is_promised, new_want, on_need, accepts, copy_next, grant_next, on_granted, on_supplied, refetch, give, can_refetch, recalled_above, was_answered, recalled_again, recalled, on_recalled, on_wrote, on_settled, on_fetched, on_evict, on_reask, on_quit, is_spent, repeated, ask_again}
+use Rattle.token_client.specs.Transition.{Done, is_promised, tokens_ask, on_need, accepts, copy_next, grant_next, on_granted, on_supplied, refetch, give, can_refetch, recalled_above, was_answered, recalled_again, recalled, on_recalled, on_wrote, on_settled, on_fetched, on_evict, on_reask, on_quit, is_spent, repeated, ask_again}
 use Rattle.token_client.proofs.Tables.{held_of-put}
 use Rattle.token_protocol.specs.Client.{Client}
 use Rattle.token_protocol.specs.World.{World}
@@ -86,12 +86,12 @@ module _ (g : Setting) where
         → Apart s (record { state = with_held s block h; outs = outs })
     apart_with s h outs quiet = apart_put s h s.req outs (omega arith) quiet
 
-    pub ask-apart : (s : TokensState) (mode : Mode) → Apart s (new_want s block mode)
-    unfolding new_want
+    pub ask-apart : (s : TokensState) (mode : Mode) → Apart s (tokens_ask s block mode)
+    unfolding tokens_ask
     ask-apart s mode =
         by_test (Apart s) (nat_lt s.req u32_end)
         (record {
-          state = record (with_held s block (asked (held_of s.blocks block) (s.req + 1) mode)) { req = s.req + 1 };
+          state = record (with_held s block (held_ask (held_of s.blocks block) (s.req + 1) mode)) { req = s.req + 1 };
           outs = Want block (s.req + 1) 0 mode ∷ [];
         }) (still s)
         (λ t. apart_put s _ (s.req + 1) _ (omega arith) (λ end w. (λ fact. absurd (other fact), tt))) (λ t. apart_still s)
@@ -99,7 +99,7 @@ module _ (g : Setting) where
     pub on_need-apart : (s : TokensState) (mode : Mode) → Apart s (on_need s block mode)
     unfolding on_need
     on_need-apart s mode =
-        by_test (Apart s) (must_ask (held_of s.blocks block) mode) (new_want s block mode) (still s) (λ t. ask-apart s mode) (λ t. apart_still s)
+        by_test (Apart s) (must_ask (held_of s.blocks block) mode) (tokens_ask s block mode) (still s) (λ t. ask-apart s mode) (λ t. apart_still s)
 
     copy_quiet : (place : Option Place) (end : ℕ) (w : World) → AllSaid g end w (copy_next block place ∷ [])
     copy_quiet None end w = (tt, tt)
@@ -113,7 +113,7 @@ module _ (g : Setting) where
     unfolding on_granted
     on_granted-apart s stamp inc req mode entry =
         by_test (Apart s) (accepts s block stamp inc req mode)
-        (record { state = with_held s block (grant_taken (held_of s.blocks block) stamp mode entry); outs = grant_next block mode entry.place ∷ [] }) (still s)
+        (record { state = with_held s block (take_grant (held_of s.blocks block) stamp mode entry); outs = grant_next block mode entry.place ∷ [] }) (still s)
         (λ t. apart_with s _ _ (grant_quiet mode entry.place)) (λ t. apart_still s)
 
     pub on_supplied-apart : (s : TokensState) (stamp : Stamp) (inc req ver : ℕ) (value : Option (List ℕ))
@@ -121,22 +121,22 @@ module _ (g : Setting) where
     unfolding on_supplied
     on_supplied-apart s stamp inc req ver value =
         by_test (Apart s) (accepts s block stamp inc req Copy)
-        (record { state = with_held s block (copied (held_of s.blocks block) stamp ver value); outs = Ready block ∷ [] }) (still s)
+        (record { state = with_held s block (copy_of (held_of s.blocks block) stamp ver value); outs = Ready block ∷ [] }) (still s)
         (λ t. apart_with s _ _ (λ end w. (tt, tt))) (λ t. apart_still s)
 
     refetch-apart : (s : TokensState) → Apart s (refetch s block)
     unfolding refetch
     refetch-apart s =
         let dropped = with_held s block (unfetched (held_of s.blocks block)) in
-        by_test (Apart s) (is_some (held_of s.blocks block).fetch) (new_want dropped block Copy) (still s)
-        (λ t. apart_through s (still dropped) (new_want dropped block Copy) (apart_with s _ [] (λ end w. tt)) (ask-apart dropped Copy)) (λ t. apart_still s)
+        by_test (Apart s) (is_some (held_of s.blocks block).fetch) (tokens_ask dropped block Copy) (still s)
+        (λ t. apart_through s (still dropped) (tokens_ask dropped block Copy) (apart_with s _ [] (λ end w. tt)) (ask-apart dropped Copy)) (λ t. apart_still s)
 
     give-apart : (s : TokensState) (stamp : Stamp) (keep : Bool) → Apart s (give s block stamp keep)
     unfolding give
     give-apart s stamp keep =
         let h = held_of s.blocks block in
         by_test (Apart s) (is_dirty h) (record { state = with_held s block (put_off h stamp keep); outs = Flush block ∷ [] })
-        (record { state = with_held s block (given_up h stamp keep); outs = Gave block stamp ∷ [] })
+        (record { state = with_held s block (give_up h stamp keep); outs = Gave block stamp ∷ [] })
         (λ t. apart_with s _ _ (λ end w. (tt, tt))) (λ t. apart_with s _ _ (λ end w. (λ fact. absurd (other fact), tt)))
 
     pub on_recalled-apart : (s : TokensState) (stamp : Stamp) (keep : Bool) → Apart s (on_recalled s block stamp keep)
@@ -153,7 +153,7 @@ module _ (g : Setting) where
     pub on_wrote-apart : (s : TokensState) (value : Option (List ℕ)) → Apart s (on_wrote s block value)
     unfolding on_wrote
     on_wrote-apart s value =
-        by_test (Apart s) (may_write (held_of s.blocks block)) (still (with_held s block (written (held_of s.blocks block) value))) (still s)
+        by_test (Apart s) (may_write (held_of s.blocks block)) (still (with_held s block (held_write (held_of s.blocks block) value))) (still s)
         (λ t. apart_with s _ [] (λ end w. tt)) (λ t. apart_still s)
 
     pub on_settled-apart : (s : TokensState) (ver : ℕ) → Apart s (on_settled s block ver)
@@ -166,7 +166,7 @@ module _ (g : Setting) where
     unfolding on_fetched
     on_fetched-apart s value =
         let h = held_of s.blocks block in
-        by_test (Apart s) (may_end_fetch h) (record { state = with_held s block (fetch_ended h h.fetch value); outs = Ready block ∷ [] }) (still s)
+        by_test (Apart s) (may_end_fetch h) (record { state = with_held s block (end_fetch h h.fetch value); outs = Ready block ∷ [] }) (still s)
         (λ t. apart_with s _ _ (λ end w. (tt, tt))) (λ t. apart_still s)
 
     pub on_evict-apart : (s : TokensState) → Apart s (on_evict s block)
@@ -177,12 +177,12 @@ module _ (g : Setting) where
 
     pub on_reask-apart : (s : TokensState) → Apart s (on_reask s block)
     unfolding on_reask
-    on_reask-apart s = by_test (Apart s) (is_some (held_of s.blocks block).fetch) (new_want s block Copy) (still s) (λ t. ask-apart s Copy) (λ t. apart_still s)
+    on_reask-apart s = by_test (Apart s) (is_some (held_of s.blocks block).fetch) (tokens_ask s block Copy) (still s) (λ t. ask-apart s Copy) (λ t. apart_still s)
 
     pub on_quit-apart : (s : TokensState) → Apart s (on_quit s block)
     unfolding on_quit
     on_quit-apart s =
-        by_test (Apart s) (is_asking (held_of s.blocks block)) (still (with_held s block (unasked (held_of s.blocks block)))) (still s)
+        by_test (Apart s) (is_asking (held_of s.blocks block)) (still (with_held s block (quit (held_of s.blocks block)))) (still s)
         (λ t. apart_with s _ [] (λ end w. tt)) (λ t. apart_still s)
 
     repeated-apart : (s : TokensState) (v : Option Wanted) → Apart s (repeated s block v)

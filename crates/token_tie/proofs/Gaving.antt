@@ -16,15 +16,15 @@ use Rattle.slot_beliefs.specs.declared.job.Wanted.{Wanted}
 use Rattle.slot_beliefs.specs.declared.job.Awaited.{Awaited}
 use Rattle.slot_beliefs.specs.declared.job.Holder.{Holder}
 use Rattle.slot_beliefs.specs.declared.job.Job.{Job}
-use Rattle.slot_beliefs.specs.Beliefs.{holder_cmp, holder, given_up, share_of}
+use Rattle.slot_beliefs.specs.Beliefs.{holder_cmp, holder, give_way, share_of}
 use Rattle.slot_beliefs.specs.Beliefs as manager
 use Rattle.slot_beliefs.specs.Recalls.{recalls, applied_of, is_ready, is_applied, answers, noted, job_at}
 use Rattle.slot_beliefs.specs.Recalls as recall
 use Rattle.slot_beliefs.proofs.Shares.{belief, disowned, holder_laws}
 use Rattle.token_manager.specs.Laws.{Awaits}
-use Rattle.token_manager.specs.Recalls.{sent}
+use Rattle.token_manager.specs.Recalls.{send_recalls}
 use Rattle.token_manager.specs.SlotState.{SlotState}
-use Rattle.token_manager.specs.Transition.{passers, finished, given, gave_one, on_gave}
+use Rattle.token_manager.specs.Transition.{passers, slot_finish, given, gave_one, on_gave}
 use Rattle.token_manager.proofs.Cases.{all_given, by_gave_both}
 use Rattle.token_manager.proofs.Guarded.{Sound, LeavesRoom, leaves_room, awaits-given, awaits-noted, ready_none}
 use Rattle.token_manager.proofs.AwaitsJust.{more_elsewhere, more_others, answered}
@@ -40,7 +40,7 @@ use Rattle.token_tie.specs.Seen.{kept}
 use Rattle.token_tie.specs.Managed.{want_seen, AwaitedShown, AllAwaited, Named, Idle, Waits, JobShown, Manages, ByManager, Runs}
 use Rattle.token_protocol.proofs.Told.{steps_through}
 use Rattle.token_tie.proofs.Frames.{put_there, both_quiet}
-use Rattle.token_tie.proofs.Managing.{by_through, runs_nowhere, turns-runs, finished-runs}
+use Rattle.token_tie.proofs.Managing.{by_through, runs_nowhere, turns-runs, slot_finish-runs}
 use Rattle.token_tie.proofs.Wanting.{by_block, answer_quiet, other_put}
 use Rattle.xfs_base.specs.Modes.{is_nothing, is_own}
 use Rattle.xfs_base.proofs.Booleans.{and_first, and_second, contrary}
@@ -154,7 +154,7 @@ zero_is n none =
 
 -- the giver is believed to have what it was let keep of what it had
 giver_has : (bs : List (Holder × Bool)) (h : Holder) (keep : Bool) (n : ℕ) → n ≤ manager.share (belief bs h)
-    → min n (kept keep) ≤ manager.share (belief (given_up bs h keep) h)
+    → min n (kept keep) ≤ manager.share (belief (give_way bs h keep) h)
 giver_has bs h true n less =
     elim (is_some (belief bs h)) as
     (λ t. is_some (belief bs h) ≡ t → min n 1 ≤ manager.share (belief (cond t (set_value (is_at (holder_cmp h)) bs false) bs) h)) [
@@ -175,11 +175,11 @@ giver_has bs h false n less = nothing n _
 
 module _ (logs : Bool) where
   -- an answer under the job's own name for the block
-  pub finished-at : (b : BlockId) (w : World) (s : SlotState) (ask : Wanted) (end : ℕ) → ask.block ≡ b → Manages b s w → job_at s.jobs b ≡ None
-      → is_nothing ask.mode ≡ false → LeavesRoom s.beliefs ask → In (want_seen ask end) w.wants → end ≤ w.applied ask.client → Runs logs b w (finished s ask)
-  finished-at b w s ask end same m none something room asked asker =
-      subst (λ k. Manages k s w → job_at s.jobs k ≡ None → Runs logs k w (finished s ask)) same
-      (λ m none. finished-runs logs w s ask end m none something room asked asker) m none
+  pub slot_finish-at : (b : BlockId) (w : World) (s : SlotState) (ask : Wanted) (end : ℕ) → ask.block ≡ b → Manages b s w → job_at s.jobs b ≡ None
+      → is_nothing ask.mode ≡ false → LeavesRoom s.beliefs ask → In (want_seen ask end) w.wants → end ≤ w.applied ask.client → Runs logs b w (slot_finish s ask)
+  slot_finish-at b w s ask end same m none something room asked asker =
+      subst (λ k. Manages k s w → job_at s.jobs k ≡ None → Runs logs k w (slot_finish s ask)) same
+      (λ m none. slot_finish-runs logs w s ask end m none something room asked asker) m none
 
   module _ (b : BlockId) (w : World) (s : SlotState) (client : ℕ) (stamp : Stamp) (end : ℕ) (job : Job) (sound : Sound s) (m : Manages b s w)
       (some : 0 < client) (fact : job_at s.jobs b ≡ Some job)
@@ -273,7 +273,7 @@ module _ (logs : Bool) where
         }
 
     -- the want waits no longer
-    gave_last-runs : is_ready s.applied rows ≡ true → Runs logs b w (finished (all_given s client b job.want) job.want)
+    gave_last-runs : is_ready s.applied rows ≡ true → Runs logs b w (slot_finish (all_given s client b job.want) job.want)
     gave_last-runs ready =
         let u = all_given s client b job.want in
         let none : job_at u.jobs b ≡ None = gone s.jobs b sound.waiting.sorted in
@@ -290,7 +290,7 @@ module _ (logs : Bool) where
           index = m.index;
           job = subst (λ o. JobShown o s.epoch v.awaited v.keep v.owed v.applied v.wants v.recalls) (sym none) idle;
         } in
-        let t = finished-at b v u job.want waits.end (sound.waiting.own b job fact) shown none waits.something
+        let t = slot_finish-at b v u job.want waits.end (sound.waiting.own b job fact) shown none waits.something
         (leaves_room (given s job.want client b).beliefs s.applied (record { want = job.want; awaited = rows })
         (awaits-given s job client b stamp end sound fact) ready) waits.asked waits.asker in
         record {
@@ -313,7 +313,7 @@ module _ (logs : Bool) where
       let mine = sound.waiting.own block job fact in
       let apart : job.want.block ≡ b → ⊥ = λ same. other (sym mine ∙ same) in
       let u = all_given s client block job.want in
-      turns-runs logs b w s (finished u job.want) 1 m refl refl
+      turns-runs logs b w s (slot_finish u job.want) 1 m refl refl
       (λ c. let p = less job c in let q = more_elsewhere u.beliefs job.want (holder b c) (λ same. apart (sym same)) in omega arith) refl refl
       (after_removal s.jobs block b sound.waiting.sorted
       ∙ elim (eq_by_cmp block_cmp block b) as (λ t. eq_by_cmp block_cmp block b ≡ t → cond t None (job_at s.jobs b) ≡ job_at s.jobs b)

@@ -12,7 +12,7 @@ use Rattle.token_client.specs.declared.held.Held.{Held}
 use Rattle.token_client.specs.declared.held.Wanted.{Wanted}
 use Rattle.token_client.specs.declared.output.Out.{Out}
 use Rattle.token_client.specs.declared.output.Out.TheVariants.{Want, Gave}
-use Rattle.token_client.specs.Held.{gives_after, is_answer, is_wanted, is_dirty, asked, asked_again, owned, copied, fetched_from, fetch_ended, written, let_go, unfetched, promise_dropped, put_off, given_up}
+use Rattle.token_client.specs.Held.{gives_after, is_answer, is_wanted, is_dirty, held_ask, asked_again, held_own, copy_of, fetch_from, end_fetch, held_write, let_go, unfetched, drop_promised, put_off, give_up}
 use Rattle.token_protocol.specs.Acts.Act.{Wrote as WroteBlock}
 use Rattle.token_protocol.specs.Client.{Client}
 use Rattle.token_protocol.specs.Entry as abstract_entry
@@ -88,13 +88,13 @@ module _ (logs : Bool) (g : Setting) (end : ℕ) (w : World) where
   drops_fetch-goes l = lets_fetch_go l l.held.giving
 
   -- with the recall that was put off
-  pub drops_promised-goes : (l : Local) → Shown l → To (record l { held = promise_dropped l.held }) []
+  pub drops_promised-goes : (l : Local) → Shown l → To (record l { held = drop_promised l.held }) []
   drops_promised-goes l = lets_fetch_go l None
 
   -- a want is opened, whether or not one was open
   pub asks-goes : (l : Local) (mode : Mode) → Shown l → is_held mode ≡ true → mode_number l.held.mode < mode_number mode
       → Premise logs (SettledEnd w g.client end)
-      → To (record l { req = l.req + 1; held = asked l.held (l.req + 1) mode }) (Want g.block (l.req + 1) 0 mode ∷ [])
+      → To (record l { req = l.req + 1; held = held_ask l.held (l.req + 1) mode }) (Want g.block (l.req + 1) 0 mode ∷ [])
   asks-goes l mode s some less settled =
       let known = s.mode in let counted = s.counted in
       acts_by logs g end w (asks w g.client (mode_number mode) (l.req + 1) end) [] _ _ (record here { want = mode_number mode; request = l.req + 1 })
@@ -182,7 +182,7 @@ module _ (logs : Bool) (g : Setting) (end : ℕ) (w : World) where
 
     -- a copy of an absent version
     pub absent-goes : (ver hop : ℕ) → MayTake w (offer_seen g.client stamp inc req Copy (located ver hop None)) 1
-        → To (record l { held = copied l.held stamp ver None }) outs
+        → To (record l { held = copy_of l.held stamp ver None }) outs
     absent-goes ver hop may =
         let p = offer_seen g.client stamp inc req Copy (located ver hop None) in
         acts_by logs g end w (takes_value w p 0) [] _ outs _ (TakesAbsent p may (record { unplaced = refl })) refl refl refl (λ p fact. fact) (λ y fact. fact)
@@ -192,7 +192,7 @@ module _ (logs : Bool) (g : Setting) (end : ℕ) (w : World) where
     pub supplied-goes : (ver hop : ℕ) (place : Option Place) (value : Option (List ℕ))
         → MayTake w (offer_seen g.client stamp inc req Copy (located ver hop place)) 1
         → Premise logs (IsSupplied w (offer_seen g.client stamp inc req Copy (located ver hop place)) (g.number value))
-        → To (record l { held = copied l.held stamp ver value }) outs
+        → To (record l { held = copy_of l.held stamp ver value }) outs
     supplied-goes ver hop place value may fact =
         let p = offer_seen g.client stamp inc req Copy (located ver hop place) in
         acts_by logs g end w (takes_value w p (g.number value)) [] _ outs _ (TakesSupply p (g.number value) may fact) refl refl refl (λ p fact. fact)
@@ -201,7 +201,7 @@ module _ (logs : Bool) (g : Setting) (end : ℕ) (w : World) where
 
     -- a place, which is read first
     pub place-goes : (ver hop : ℕ) (place : Place) → MayTake w (offer_seen g.client stamp inc req Copy (located ver hop (Some place))) 1
-        → To (record l { held = fetched_from l.held stamp ver place }) outs
+        → To (record l { held = fetch_from l.held stamp ver place }) outs
     place-goes ver hop place may =
         let p = offer_seen g.client stamp inc req Copy (located ver hop (Some place)) in
         acts_by logs g end w (takes_place w p) [] _ outs _ (TakesPlace p may (record { placed = omega arith })) refl refl refl (λ p fact. fact) (λ y fact. fact)
@@ -210,7 +210,7 @@ module _ (logs : Bool) (g : Setting) (end : ℕ) (w : World) where
     -- owned, and written in the same event
     pub first-goes : (ver hop : ℕ) (place : Option Place) (value : Option (List ℕ))
         → MayTake w (offer_seen g.client stamp inc req Own (located ver hop place)) 2
-        → Acts logs g end w (WroteBlock g.client (g.number value) ∷ []) (record l { held = written (owned l.held stamp ver) value }) outs
+        → Acts logs g end w (WroteBlock g.client (g.number value) ∷ []) (record l { held = held_write (held_own l.held stamp ver) value }) outs
     first-goes ver hop place value may =
         let p = offer_seen g.client stamp inc req Own (located ver hop place) in
         acts_by logs g end w (writes_first w p (g.number value)) (WroteBlock g.client (g.number value) ∷ []) _ outs _
@@ -219,7 +219,7 @@ module _ (logs : Bool) (g : Setting) (end : ℕ) (w : World) where
 
     -- owned, and let go unwritten
     pub declines-goes : (ver hop : ℕ) (place : Option Place) → MayTake w (offer_seen g.client stamp inc req Own (located ver hop place)) 2
-        → To (record l { held = let_go (owned l.held stamp ver) }) outs
+        → To (record l { held = let_go (held_own l.held stamp ver) }) outs
     declines-goes ver hop place may =
         let p = offer_seen g.client stamp inc req Own (located ver hop place) in
         acts_by logs g end w (declines w p) [] _ outs _ (Declines p may) refl refl refl (λ p fact. fact) (λ y fact. fact)
@@ -229,7 +229,7 @@ module _ (logs : Bool) (g : Setting) (end : ℕ) (w : World) where
 
   -- a read of the place ends
   pub fetches-goes : (l : Local) (f : Fetch) (value : Option (List ℕ)) (outs : List Out) → Shown l → l.held.fetch ≡ Some f → Run outs
-      → Premise logs (PlaceRead w g.client (g.number value)) → To (record l { held = fetch_ended l.held (Some f) value }) outs
+      → Premise logs (PlaceRead w g.client (g.number value)) → To (record l { held = end_fetch l.held (Some f) value }) outs
   fetches-goes l f value outs s fact run read =
       let open_ : FetchShown (Some f) here.fetching here.fetch = subst (λ o. FetchShown o here.fetching here.fetch) fact s.fetch in
       let ver : here.fetch.version ≡ f.ver = ap (λ (e : abstract_entry.Entry). e.version) open_.1.1 in
@@ -239,7 +239,7 @@ module _ (logs : Bool) (g : Setting) (end : ℕ) (w : World) where
       (run (fetches w g.client (g.number value)))
 
   pub writes-goes : (l : Local) (value : Option (List ℕ)) → Shown l → is_own l.held.mode ≡ true
-      → Acts logs g end w (WroteBlock g.client (g.number value) ∷ []) (record l { held = written l.held value }) []
+      → Acts logs g end w (WroteBlock g.client (g.number value) ∷ []) (record l { held = held_write l.held value }) []
   writes-goes l value s own =
       let owns : here.mode ≡ 2 = s.mode ∙ own_rank l.held.mode own in
       let known = s.version in
@@ -280,7 +280,7 @@ module _ (logs : Bool) (g : Setting) (end : ℕ) (w : World) where
 
   pub gives-goes : (l : Local) (stamp : Stamp) (keep : Bool) → Shown l → w.epoch ≤ here.promised → SentRecall g.client w stamp keep → stamp.epoch ≡ l.promised
       → is_later stamp l.held.stamp ≡ true → is_dirty l.held ≡ false
-      → is_none l.held.fetch ≡ true → Premise logs (SettledEnd w g.client end) → To (record l { held = given_up l.held stamp keep }) (Gave g.block stamp ∷ [])
+      → is_none l.held.fetch ≡ true → Premise logs (SettledEnd w g.client end) → To (record l { held = give_up l.held stamp keep }) (Gave g.block stamp ∷ [])
   gives-goes l stamp keep s high sent same later clean unfetched_ settled =
       let seen = taken (node_seen l.promised l.held.stamp) here w.epoch (stamp_seen stamp) s.stamps high sent.low sent.some same
       (later_exceeds stamp l.held.stamp later) in
@@ -311,7 +311,7 @@ module _ (logs : Bool) (g : Setting) (end : ℕ) (w : World) where
 
   -- ---- promises
 
-  pub promises-goes : (l : Local) (epoch : ℕ) → Shown l → l.promised ≤ epoch → To (record l { promised = epoch; held = promise_dropped l.held }) []
+  pub promises-goes : (l : Local) (epoch : ℕ) → Shown l → l.promised ≤ epoch → To (record l { promised = epoch; held = drop_promised l.held }) []
   promises-goes l epoch s rises =
       let p = s.stamps.promised in
       acts_by logs g end w (promises w g.client epoch) [] _ [] _ (Promises g.client epoch (record { serving = s.serving; higher = omega arith })) refl refl refl

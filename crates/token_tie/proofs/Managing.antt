@@ -14,16 +14,16 @@ use Rattle.xfs_base.proofs.BlockOrder.{block_cmp_total, lookup-insert_entry}
 use Rattle.slot_beliefs.specs.declared.job.Wanted.{Wanted}
 use Rattle.slot_beliefs.specs.declared.job.Holder.{Holder}
 use Rattle.slot_beliefs.specs.declared.job.Job.{Job}
-use Rattle.slot_beliefs.specs.Beliefs.{holder_cmp, holder, others, without_block, owned_by, held_by, want_met, share_of, wanted_share}
+use Rattle.slot_beliefs.specs.Beliefs.{holder_cmp, holder, others, forget_block, beliefs_own, beliefs_hold, meet_want, share_of, wanted_share}
 use Rattle.slot_beliefs.specs.Beliefs as manager
 use Rattle.slot_beliefs.specs.Recalls.{recalls, applied_of, stamp, job_at}
 use Rattle.slot_beliefs.proofs.Shares.{holder_cmp_total, holder_laws, belief, apart_test}
 use Rattle.token_manager.specs.declared.output.Out.{Out}
 use Rattle.token_manager.specs.declared.output.Out.TheVariants.{Grant, Forward, Recall, Applied, Live, Dead}
 use Rattle.token_manager.specs.Laws.{Awaits}
-use Rattle.token_manager.specs.Recalls.{sent}
+use Rattle.token_manager.specs.Recalls.{send_recalls}
 use Rattle.token_manager.specs.SlotState.{SlotState}
-use Rattle.token_manager.specs.Transition.{Done, entry_at, passers, answer, finished, recalled}
+use Rattle.token_manager.specs.Transition.{Done, entry_at, passers, answer, slot_finish, recalled}
 use Rattle.token_manager.proofs.Guarded.{LeavesRoom}
 use Rattle.token_manager.proofs.AwaitsJust.{Once}
 use Rattle.token_manager.proofs.JobsBarGrants.{block_laws}
@@ -111,15 +111,15 @@ none_least (Some x) h = contrary (sym h)
 
 -- the asker is believed to have what it had and what it wants
 asker_has : (bs : List (Holder × Bool)) (ask : Wanted) (n : ℕ) → is_nothing ask.mode ≡ false → n ≤ share_of bs ask.block ask.client
-    → max n (mode_number ask.mode) ≤ share_of (want_met bs ask) ask.block ask.client
+    → max n (mode_number ask.mode) ≤ share_of (meet_want bs ask) ask.block ask.client
 asker_has bs ask n something less =
     let h = holder ask.block ask.client in
     let limit : manager.share (belief bs h) ≤ 2 = most_rank (belief bs h) in
     let named : mode_number ask.mode ≡ wanted_share ask.mode = rank_wanted ask.mode something in
     let itself = λ (t : Bool) (es : List (Holder × Bool)). lookup-insert_entry holder_cmp_total h h t es
     ∙ ap (λ c. cond c (Some t) (belief es h)) (holder_laws.refl h) in
-    elim (is_own ask.mode) as (λ t. is_own ask.mode ≡ t → max n (mode_number ask.mode) ≤ manager.share (belief (cond t (owned_by bs h) (held_by bs h)) h)) [
-      | true ↦ λ own. let two : manager.share (belief (owned_by bs h) h) ≡ 2 = ap manager.share (itself true (without_block bs h.block)) in let one =
+    elim (is_own ask.mode) as (λ t. is_own ask.mode ≡ t → max n (mode_number ask.mode) ≤ manager.share (belief (cond t (beliefs_own bs h) (beliefs_hold bs h)) h)) [
+      | true ↦ λ own. let two : manager.share (belief (beliefs_own bs h) h) ≡ 2 = ap manager.share (itself true (forget_block bs h.block)) in let one =
           rank_own ask.mode own in at_most n (mode_number ask.mode) _ (omega arith) (omega arith)
       | false ↦ λ copy. let one : mode_number ask.mode ≡ 1 = rank_copy ask.mode something copy in
           elim (is_some (belief bs h)) as
@@ -145,12 +145,12 @@ asker_has bs ask n something less =
 
 -- of the others nobody has less where the asker wants a copy
 others_have : (bs : List (Holder × Bool)) (ask : Wanted) (d : ℕ) → (d ≡ ask.client → ⊥) → is_own ask.mode ≡ false
-    → share_of bs ask.block d ≤ share_of (want_met bs ask) ask.block d
+    → share_of bs ask.block d ≤ share_of (meet_want bs ask) ask.block d
 others_have bs ask d other copy =
     let h = holder ask.block ask.client in
     let q = holder ask.block d in
     let apart : eq_by_cmp holder_cmp q h ≡ true → ⊥ = apart_test q h (λ p. other (ap (λ (x : Holder). x.client) p)) in
-    subst (λ t. share_of bs ask.block d ≤ share_of (cond t (owned_by bs h) (held_by bs h)) ask.block d) (sym copy)
+    subst (λ t. share_of bs ask.block d ≤ share_of (cond t (beliefs_own bs h) (beliefs_hold bs h)) ask.block d) (sym copy)
     (elim (is_some (belief bs h)) as (λ t. manager.share (belief bs q) ≤ manager.share (belief (cond t bs (insert_entry holder_cmp bs h false)) q)) [
       | true ↦ omega arith
       | false ↦ subst (λ o. manager.share (belief bs q) ≤ manager.share o) (sym (lookup-insert_entry holder_cmp_total q h false bs))
@@ -238,10 +238,10 @@ module _ (logs : Bool) where
   no_passers s ask own = ap (λ t. cond (t || not (ask.again == 0)) [] (others s.beliefs ask.block ask.client false)) own
 
   -- a want that need not wait is answered
-  pub finished-runs : (w : World) (s : SlotState) (ask : Wanted) (end : ℕ) → Manages ask.block s w → job_at s.jobs ask.block ≡ None
+  pub slot_finish-runs : (w : World) (s : SlotState) (ask : Wanted) (end : ℕ) → Manages ask.block s w → job_at s.jobs ask.block ≡ None
       → is_nothing ask.mode ≡ false → LeavesRoom s.beliefs ask → In (want_seen ask end) w.wants → end ≤ w.applied ask.client
-      → Runs logs ask.block w (finished s ask)
-  finished-runs w s ask end m none something room asked asker =
+      → Runs logs ask.block w (slot_finish s ask)
+  slot_finish-runs w s ask end m none something room asked asker =
       let p = want_seen ask end in
       let idle : Idle w.awaited w.owed w.applied = subst (λ o. JobShown o s.epoch w.awaited w.keep w.owed w.applied w.wants w.recalls) none m.job in
       let named : mode_number ask.mode ≡ wanted_share ask.mode = rank_wanted ask.mode something in
@@ -257,7 +257,7 @@ module _ (logs : Bool) where
         shows = record {
           epoch = m.epoch;
           turn = turn;
-          belief = put_each (λ d n. n ≤ share_of (want_met s.beliefs ask) ask.block d) w.belief ask.client (max (w.belief ask.client) (mode_number ask.mode))
+          belief = put_each (λ d n. n ≤ share_of (meet_want s.beliefs ask) ask.block d) w.belief ask.client (max (w.belief ask.client) (mode_number ask.mode))
               (asker_has s.beliefs ask (w.belief ask.client) something (m.belief ask.client))
               (λ d other. elsewhere d other (is_own ask.mode) refl (fits d other));
           applied = m.applied;
@@ -285,7 +285,7 @@ module _ (logs : Bool) where
       two Own h = refl
 
       elsewhere : (d : ℕ) → (d ≡ ask.client → ⊥) → (t : Bool) → is_own ask.mode ≡ t → w.belief d + mode_number ask.mode ≤ 2
-          → w.belief d ≤ share_of (want_met s.beliefs ask) ask.block d
+          → w.belief d ≤ share_of (meet_want s.beliefs ask) ask.block d
       elsewhere d other true own fits = let n = two ask.mode own in omega arith
       elsewhere d other false copy fits = let x = m.belief d in let y = others_have s.beliefs ask d other copy in omega arith
 
@@ -302,7 +302,7 @@ module _ (logs : Bool) where
     others : (d : ℕ) → (Contains cs d → ⊥) → (world.awaited d ≡ w.awaited d) × (world.keep d ≡ w.keep d)
     only : (d : ℕ) → 0 < world.awaited d → (0 < w.awaited d) ⊎ Awaits (recalls epoch turn keeps cs) d
     each : AllAwaited keeps epoch world.awaited world.keep world.recalls (recalls epoch turn keeps cs)
-    told : AllTold b world (sent b (recalls epoch turn keeps cs))
+    told : AllTold b world (send_recalls b (recalls epoch turn keeps cs))
 
   recalling : (b : BlockId) (keeps : Bool) (epoch turn : ℕ) (w : World) (cs : List ℕ) → Once cs → turn ≡ w.turn → epoch ≡ w.epoch
       → Recalled keeps b epoch turn w cs

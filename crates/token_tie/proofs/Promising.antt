@@ -12,9 +12,9 @@ use Rattle.xfs_base.specs.Blocks.{slot_of}
 use Rattle.xfs_base.specs.Steps.{still, steps}
 use Rattle.token_client.specs.declared.held.Held.{Held}
 use Rattle.token_client.specs.declared.output.Out.TheVariants.{Want}
-use Rattle.token_client.specs.Held.{asked, promise_dropped}
+use Rattle.token_client.specs.Held.{held_ask, drop_promised}
 use Rattle.token_client.specs.State.{TokensState, held_of, with_held, epoch_of, is_in_slot}
-use Rattle.token_client.specs.Transition.{Done, new_want, fetched_in, all_dropped_in, raised, ask_copy, may_promise, on_promise, is_spent, ask_again, wanted_in, on_tick}
+use Rattle.token_client.specs.Transition.{Done, tokens_ask, fetched_blocks, drop_all_in, raised, ask_copy, may_promise, on_promise, is_spent, ask_again, wanted_blocks, on_tick}
 use Rattle.token_client.proofs.Tables.{put_same}
 use Rattle.token_client.proofs.Promises.{dropped-known, Each, Each-weaker, IsFetched, fetched-facts, agrees-itself}
 use Rattle.token_protocol.specs.Premises.{Premise, SettledEnd}
@@ -33,14 +33,14 @@ use Rattle.xfs_base.specs.Limits.{u32_end, slot_count}
 
 -- asking for another block, or for this one, leaves this one's mode
 ask-mode : (g : Setting) (u : TokensState) (block : BlockId) → (held_of (ask_copy u block).state.blocks g.block).mode ≡ (held_of u.blocks g.block).mode
-unfolding new_want
+unfolding tokens_ask
 ask-mode g u block =
     by_test (λ (d : Done). (held_of d.state.blocks g.block).mode ≡ (held_of u.blocks g.block).mode) (nat_lt u.req u32_end)
     (record {
-      state = record (with_held u block (asked (held_of u.blocks block) (u.req + 1) Copy)) { req = u.req + 1 };
+      state = record (with_held u block (held_ask (held_of u.blocks block) (u.req + 1) Copy)) { req = u.req + 1 };
       outs = Want block (u.req + 1) 0 Copy ∷ [];
     }) (still u)
-    (λ t. put_same (λ (h : Held). h.mode) g.block block (asked (held_of u.blocks block) (u.req + 1) Copy) u.blocks refl) (λ t. refl)
+    (λ t. put_same (λ (h : Held). h.mode) g.block block (held_ask (held_of u.blocks block) (u.req + 1) Copy) u.blocks refl) (λ t. refl)
 
 -- past the end nothing is set
 set_past : (xs : List ℕ) (i v : ℕ) → length xs ≤ i → set xs i v ≡ xs
@@ -101,8 +101,8 @@ module _ (logs : Bool) (g : Setting) (end : ℕ) where
     pub on_tick-took : At (on_tick s)
     unfolding on_tick
     on_tick-took =
-        by_test At (list_any (λ h. is_spent h.want) (values_of s.blocks)) (still s) (steps ask_again s (wanted_in s.blocks)) (λ t. stays)
-        (λ t. agains-took w s (wanted_in s.blocks) r.shows r.settled)
+        by_test At (list_any (λ h. is_spent h.want) (values_of s.blocks)) (still s) (steps ask_again s (wanted_blocks s.blocks)) (λ t. stays)
+        (λ t. agains-took w s (wanted_blocks s.blocks) r.shows r.settled)
 
     -- what is known of the block once its slot, or another, is promised
     promised-known : (slot epoch : ℕ) → nat_le (epoch_of s.epochs slot) epoch ≡ true → At (still (raised s slot epoch))
@@ -112,7 +112,7 @@ module _ (logs : Bool) (g : Setting) (end : ℕ) where
           | false ↦ λ fact.
               let now : epoch_of (slice_set s.epochs slot epoch) (slot_of g.block.ino.0) ≡ l.promised =
               get_or-set_other s.epochs slot (slot_of g.block.ino.0) epoch 0 (eqb-false (slot_of g.block.ino.0) slot fact) in
-              let kept_ : held_of (all_dropped_in slot s.blocks) g.block ≡ h = dropped-known s slot g.block ∙ ap (λ t. cond t (promise_dropped h) h) fact in
+              let kept_ : held_of (drop_all_in slot s.blocks) g.block ≡ h = dropped-known s slot g.block ∙ ap (λ t. cond t (drop_promised h) h) fact in
               subst (λ (m : Local). Goes logs g end w m []) (λ i. record l { promised = sym now i; held = sym kept_ i }) stays
         ] refl
       where
@@ -124,16 +124,16 @@ module _ (logs : Bool) (g : Setting) (end : ℕ) where
             let same : slot_of g.block.ino.0 ≡ slot = eqb-true (slot_of g.block.ino.0) slot fact in
             let now : epoch_of (slice_set s.epochs slot epoch) (slot_of g.block.ino.0) ≡ epoch =
             ap (λ n. epoch_of (slice_set s.epochs slot epoch) n) same ∙ get_or-set_same s.epochs slot epoch 0 (ltb-true slot (length s.epochs) known) in
-            let dropped : held_of (all_dropped_in slot s.blocks) g.block ≡ promise_dropped h =
-            dropped-known s slot g.block ∙ ap (λ t. cond t (promise_dropped h) h) fact in
+            let dropped : held_of (drop_all_in slot s.blocks) g.block ≡ drop_promised h =
+            dropped-known s slot g.block ∙ ap (λ t. cond t (drop_promised h) h) fact in
             let before : l.promised ≡ epoch_of s.epochs slot = ap (epoch_of s.epochs) same in
             subst (λ (m : Local). Goes logs g end w m []) (λ i. record l { promised = sym now i; held = sym dropped i })
             (promises-goes logs g end w l epoch r.shows (lower l.promised (epoch_of s.epochs slot) epoch before rises))
         inside false unknown_ fact =
             let now : epoch_of (slice_set s.epochs slot epoch) (slot_of g.block.ino.0) ≡ l.promised =
             ap (λ xs. epoch_of xs (slot_of g.block.ino.0)) (set_past s.epochs slot epoch (ltb-false slot (length s.epochs) unknown_)) in
-            let dropped : held_of (all_dropped_in slot s.blocks) g.block ≡ promise_dropped h =
-            dropped-known s slot g.block ∙ ap (λ t. cond t (promise_dropped h) h) fact in
+            let dropped : held_of (drop_all_in slot s.blocks) g.block ≡ drop_promised h =
+            dropped-known s slot g.block ∙ ap (λ t. cond t (drop_promised h) h) fact in
             subst (λ (m : Local). Goes logs g end w m []) (λ i. record l { promised = sym now i; held = sym dropped i })
             (drops_promised-goes logs g end w l r.shows)
 
@@ -141,18 +141,18 @@ module _ (logs : Bool) (g : Setting) (end : ℕ) where
     unfolding on_promise
     on_promise-took slot epoch =
         let u = raised s slot epoch in
-        let blocks = fetched_in slot s.blocks in
+        let blocks = fetched_blocks slot s.blocks in
         let facts : Each (IsFetched s.blocks slot) blocks = fetched-facts s.blocks slot s.blocks (agrees-itself s.blocks r.sound.sorted) in
         let mode : (held_of u.blocks g.block).mode ≡ h.mode =
         ap (λ (k : Held). k.mode) (dropped-known s slot g.block)
-        ∙ by_test (λ (k : Held). k.mode ≡ h.mode) (is_in_slot slot g.block) (promise_dropped h) h (λ t. refl) (λ t. refl) in
+        ∙ by_test (λ (k : Held). k.mode ≡ h.mode) (is_in_slot slot g.block) (drop_promised h) h (λ t. refl) (λ t. refl) in
         let free : Each (Unheld g u) blocks =
         Each-weaker (IsFetched s.blocks slot) (Unheld g u)
         (λ k f fact. ap is_held mode ∙ (r.sound.each g.block).fetch_unheld (subst (λ b. is_some (held_of s.blocks b).fetch ≡ true) fact f.1)) blocks facts in
         by_test At (may_promise s slot epoch) (steps ask_copy u blocks) (still s)
         (λ may.
         let rises = and_second (nat_lt slot slot_count) (nat_le (epoch_of s.epochs slot) epoch)
-        (and_first (nat_lt slot slot_count && nat_le (epoch_of s.epochs slot) epoch) (nat_le (length (fetched_in slot s.blocks)) (u32_end - s.req)) may) in
+        (and_first (nat_lt slot slot_count && nat_le (epoch_of s.epochs slot) epoch) (nat_le (length (fetched_blocks slot s.blocks)) (u32_end - s.req)) may) in
         let t = promised-known slot epoch rises in
         goes_through logs g end w (local_of u g.block) _ [] _ t
         (asks-took t.world u blocks (shown_on logs g end w [] (local_of u g.block) [] t) (end_on logs w t.world g.client end t.frame r.settled) free))

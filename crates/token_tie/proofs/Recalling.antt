@@ -6,9 +6,9 @@ use Rattle.xfs_base.specs.declared.token.Stamp.{Stamp}
 use Rattle.xfs_base.specs.Steps.{still, saying}
 use Rattle.token_client.specs.declared.held.Held.{Held}
 use Rattle.token_client.specs.declared.output.Out.TheVariants.{Want, Gave, Flush}
-use Rattle.token_client.specs.Held.{is_dirty, asked, unfetched, put_off, given_up}
+use Rattle.token_client.specs.Held.{is_dirty, held_ask, unfetched, put_off, give_up}
 use Rattle.token_client.specs.State.{TokensState, held_of, with_held}
-use Rattle.token_client.specs.Transition.{Done, is_promised, new_want, refetch, give, can_refetch, recalled_above, was_answered, recalled_again, recalled, on_recalled}
+use Rattle.token_client.specs.Transition.{Done, is_promised, tokens_ask, refetch, give, can_refetch, recalled_above, was_answered, recalled_again, recalled, on_recalled}
 use Rattle.token_client.proofs.Tables.{held_of-put_itself}
 use Rattle.token_protocol.specs.Basics.{In}
 use Rattle.token_protocol.specs.Premises.{Premise, SettledEnd}
@@ -63,9 +63,9 @@ module _ (logs : Bool) (g : Setting) (end : ℕ) where
       let m = local_of u g.block in
       let p = shows.stamps.promised in
       by_test (Took logs g end v) (is_dirty h) (record { state = with_held u g.block (put_off h stamp keep); outs = Flush g.block ∷ [] })
-      (record { state = with_held u g.block (given_up h stamp keep); outs = Gave g.block stamp ∷ [] })
+      (record { state = with_held u g.block (give_up h stamp keep); outs = Gave g.block stamp ∷ [] })
       (λ t. lifted logs g end v u (put_off h stamp keep) u.req _ (put_off-goes logs g end v m stamp keep (Flush g.block ∷ []) shows (λ x. (tt, tt))))
-      (λ t. lifted logs g end v u (given_up h stamp keep) u.req _
+      (λ t. lifted logs g end v u (give_up h stamp keep) u.req _
       (gives-goes logs g end v m stamp keep shows (omega arith) sent same later t unfetched_ settled_))
 
   module _ (w : World) (s : TokensState) (r : laws.Ready logs g end w s) where
@@ -84,20 +84,20 @@ module _ (logs : Bool) (g : Setting) (end : ℕ) where
     -- a Recall above the stamp: a fetch is dropped and asked for again, and then the block is given
     recalled_above-here : (stamp : Stamp) (keep : Bool) → SentRecall g.client w stamp keep → stamp.epoch ≡ l.promised → is_later stamp h.stamp ≡ true
         → At (recalled_above s g.block stamp keep)
-    unfolding recalled_above refetch new_want
+    unfolding recalled_above refetch tokens_ask
     recalled_above-here stamp keep sent same later =
         let p = r.shows.stamps.promised in
         let high = r.promised in
         let dropped = with_held s g.block (unfetched h) in
         let gone : held_of dropped.blocks g.block ≡ unfetched h = held_of-put_itself g.block (unfetched h) s.blocks in
-        let mine = asked (held_of dropped.blocks g.block) (s.req + 1) Copy in
+        let mine = held_ask (held_of dropped.blocks g.block) (s.req + 1) Copy in
         let u : TokensState = record (with_held dropped g.block mine) { req = s.req + 1 } in
-        let now : held_of u.blocks g.block ≡ asked (unfetched h) (s.req + 1) Copy =
-        held_of-put_itself g.block mine dropped.blocks ∙ ap (λ (k : Held). asked k (s.req + 1) Copy) gone in
+        let now : held_of u.blocks g.block ≡ held_ask (unfetched h) (s.req + 1) Copy =
+        held_of-put_itself g.block mine dropped.blocks ∙ ap (λ (k : Held). held_ask k (s.req + 1) Copy) gone in
         let outs = Want g.block (s.req + 1) 0 Copy ∷ [] in
         let Given : Done → Type 0 = λ (d : Done). At (saying d.outs (give d.state g.block stamp keep)) in
         by_test At (can_refetch s g.block) (saying (refetch s g.block).outs (give (refetch s g.block).state g.block stamp keep)) (still s)
-        (λ room. by_test Given (is_some h.fetch) (new_want dropped g.block Copy) (still s)
+        (λ room. by_test Given (is_some h.fetch) (tokens_ask dropped g.block Copy) (still s)
         (λ some. by_test Given (nat_lt s.req u32_end) (record { state = u; outs = outs }) (still dropped)
         (λ _.
         let m = record l { held = unfetched h } in
@@ -105,7 +105,7 @@ module _ (logs : Bool) (g : Setting) (end : ℕ) where
         let zero_ = unheld_rank h.mode ((r.sound.each g.block).fetch_unheld some) in
         let two = asks-goes logs g end one.world m Copy (shown_on logs g end w [] m [] one) refl (omega arith)
         (end_on logs w one.world g.client end one.frame r.settled) in
-        let both = goes_through logs g end w m (record m { req = s.req + 1; held = asked (unfetched h) (s.req + 1) Copy }) [] outs one two in
+        let both = goes_through logs g end w m (record m { req = s.req + 1; held = held_ask (unfetched h) (s.req + 1) Copy }) [] outs one two in
         let t : Goes logs g end w (local_of u g.block) outs = subst (λ k. Goes logs g end w (record l { req = s.req + 1; held = k }) outs) (sym now) both in
         let epoch = epoch_on logs g end w t.world t.frame in
         goes_through logs g end w (local_of u g.block) _ outs _ t

@@ -18,9 +18,9 @@ use Rattle.token_client.specs.declared.held.Held.{Held}
 use Rattle.token_client.specs.declared.held.Wanted.{Wanted}
 use Rattle.token_client.specs.declared.output.Out.{Out}
 use Rattle.token_client.specs.declared.output.Out.TheVariants.{Want, Read, Ready}
-use Rattle.token_client.specs.Held.{is_asking, must_ask, is_answer, is_wanted, is_dirty, may_write, is_settled_by, may_end_fetch, may_evict, asked, asked_again, owned, copy_granted, grant_taken, copied, fetch_ended, written, version_settled, let_go, unasked}
+use Rattle.token_client.specs.Held.{is_asking, must_ask, is_answer, is_wanted, is_dirty, may_write, is_settled_by, may_end_fetch, may_evict, held_ask, asked_again, held_own, take_copy, take_grant, copy_of, end_fetch, held_write, version_settled, let_go, quit}
 use Rattle.token_client.specs.State.{TokensState, held_of, with_held}
-use Rattle.token_client.specs.Transition.{Done, is_promised, new_want, on_need, accepts, copy_next, grant_next, on_granted, on_supplied, serves, supplies, on_forwarded, on_wrote, on_settled, on_fetched, on_evict, on_reask, on_quit, is_spent, repeated, ask_again}
+use Rattle.token_client.specs.Transition.{Done, is_promised, tokens_ask, on_need, accepts, copy_next, grant_next, on_granted, on_supplied, serves, supplies, on_forwarded, on_wrote, on_settled, on_fetched, on_evict, on_reask, on_quit, is_spent, repeated, ask_again}
 use Rattle.token_client.proofs.SoundBlocks.{asks_by_want}
 use Rattle.token_client.proofs.Tables.{held_of-put_itself}
 use Rattle.token_protocol.specs.Acts.{Act}
@@ -90,14 +90,14 @@ module _ (logs : Bool) (g : Setting) (end : ℕ) where
   -- a want is asked, in any state that is shown
   pub ask-there : (v : World) (u : TokensState) (mode : Mode) → Shows g v.epoch (local_of u g.block) (v.client g.client)
       → Premise logs (SettledEnd v g.client end) → is_held mode ≡ true → mode_number (held_of u.blocks g.block).mode < mode_number mode
-      → Took logs g end v (new_want u g.block mode)
-  unfolding new_want
+      → Took logs g end v (tokens_ask u g.block mode)
+  unfolding tokens_ask
   ask-there v u mode shows settled_ some less =
       let m = local_of u g.block in
       by_test (Took logs g end v) (nat_lt u.req u32_end)
-      (record { state = record (with_held u g.block (asked m.held (u.req + 1) mode)) { req = u.req + 1 }; outs = Want g.block (u.req + 1) 0 mode ∷ [] })
+      (record { state = record (with_held u g.block (held_ask m.held (u.req + 1) mode)) { req = u.req + 1 }; outs = Want g.block (u.req + 1) 0 mode ∷ [] })
       (still u)
-      (λ t. lifted v u (asked m.held (u.req + 1) mode) (u.req + 1) _ (asks-goes logs g end v m mode shows some less settled_))
+      (λ t. lifted v u (held_ask m.held (u.req + 1) mode) (u.req + 1) _ (asks-goes logs g end v m mode shows some less settled_))
       (λ t. goes_nowhere logs g end v m shows)
 
   -- and so is one that is sent again
@@ -128,13 +128,13 @@ module _ (logs : Bool) (g : Setting) (end : ℕ) where
     stays : At (still s)
     stays = goes_nowhere logs g end w l r.shows
 
-    asks-here : (mode : Mode) → is_held mode ≡ true → mode_number h.mode < mode_number mode → At (new_want s g.block mode)
+    asks-here : (mode : Mode) → is_held mode ≡ true → mode_number h.mode < mode_number mode → At (tokens_ask s g.block mode)
     asks-here mode some less = ask-there w s mode r.shows r.settled some less
 
     pub on_need-here : (mode : Mode) → At (on_need s g.block mode)
     unfolding on_need
     on_need-here mode =
-        by_test At (must_ask h mode) (new_want s g.block mode) (still s)
+        by_test At (must_ask h mode) (tokens_ask s g.block mode) (still s)
         (λ t. let n = needed h.mode mode (not_true (allows h.mode mode) (and_second (not (is_asking h) && is_none h.giving) (not (allows h.mode mode)) t)) in
         asks-here mode n.0 n.1)
         (λ t. stays)
@@ -143,7 +143,7 @@ module _ (logs : Bool) (g : Setting) (end : ℕ) where
 
     copied-here : (stamp : Stamp) (inc req ver hop : ℕ) (place : Option Place) → SentOffer g.client w stamp inc req Copy (located ver hop place)
         → meets logs g end w l stamp inc req Copy ≡ true
-        → Goes logs g end w (record l { held = copy_granted h stamp ver place }) (copy_next g.block place ∷ [])
+        → Goes logs g end w (record l { held = take_copy h stamp ver place }) (copy_next g.block place ∷ [])
     copied-here stamp inc req ver hop None sent t =
         let may = taking logs g end w l stamp inc req Copy (located ver hop None) r.shows r.promised sent t in
         absent-goes logs g end w l stamp inc req (Ready g.block ∷ []) r.shows (λ v. (tt, tt)) may.0 ver hop may.1
@@ -158,18 +158,18 @@ module _ (logs : Bool) (g : Setting) (end : ℕ) where
     on_granted-here stamp inc req Own entry sent = absurd (sent refl)
     on_granted-here stamp inc req Copy entry sent =
         by_test At (accepts s g.block stamp inc req Copy)
-        (record { state = with_held s g.block (grant_taken h stamp Copy entry); outs = grant_next g.block Copy entry.place ∷ [] }) (still s)
-        (λ t. lifted w s (copy_granted h stamp entry.ver entry.place) s.req _ (copied-here stamp inc req entry.ver entry.hop entry.place (sent refl) t))
+        (record { state = with_held s g.block (take_grant h stamp Copy entry); outs = grant_next g.block Copy entry.place ∷ [] }) (still s)
+        (λ t. lifted w s (take_copy h stamp entry.ver entry.place) s.req _ (copied-here stamp inc req entry.ver entry.hop entry.place (sent refl) t))
         (λ t. stays)
 
     pub on_supplied-here : (stamp : Stamp) (inc req ver : ℕ) (value : Option (List ℕ)) → laws.SentSupply logs g w stamp inc req ver value
         → At (on_supplied s g.block stamp inc req ver value)
     unfolding on_supplied
     on_supplied-here stamp inc req ver value sent =
-        by_test At (accepts s g.block stamp inc req Copy) (record { state = with_held s g.block (copied h stamp ver value); outs = Ready g.block ∷ [] })
+        by_test At (accepts s g.block stamp inc req Copy) (record { state = with_held s g.block (copy_of h stamp ver value); outs = Ready g.block ∷ [] })
         (still s)
         (λ t. let may = taking logs g end w l stamp inc req Copy (located ver sent.hop sent.place) r.shows r.promised sent.offer t in
-        lifted w s (copied h stamp ver value) s.req _
+        lifted w s (copy_of h stamp ver value) s.req _
         (supplied-goes logs g end w l stamp inc req (Ready g.block ∷ []) r.shows (λ v. (tt, tt)) may.0 ver sent.hop sent.place value may.1
         (sent.content may.0)))
         (λ t. stays)
@@ -193,7 +193,7 @@ module _ (logs : Bool) (g : Setting) (end : ℕ) where
     unfolding on_granted on_wrote
     owns_and_writes stamp inc req entry value sent t room =
         let may = taking logs g end w l stamp inc req Own (entry_seen entry) r.shows r.promised sent t in
-        let mine = owned h stamp entry.ver in
+        let mine = held_own h stamp entry.ver in
         let u = with_held s g.block mine in
         let now : held_of u.blocks g.block ≡ mine = held_of-put_itself g.block mine s.blocks in
         let free : may_write (held_of u.blocks g.block) ≡ true =
@@ -202,9 +202,9 @@ module _ (logs : Bool) (g : Setting) (end : ℕ) where
         by_test (λ (d : Done). Acted logs g end w acts (saying d.outs (on_wrote d.state g.block value))) (accepts s g.block stamp inc req Own)
         (record { state = u; outs = Ready g.block ∷ [] }) (still s)
         (λ _. by_test (λ (d : Done). Acted logs g end w acts (saying (Ready g.block ∷ []) d)) (may_write (held_of u.blocks g.block))
-        (still (with_held u g.block (written (held_of u.blocks g.block) value))) (still u)
-        (λ _. acts_lifted w acts u (written (held_of u.blocks g.block) value) s.req _
-        (subst (λ k. Acts logs g end w acts (record l { held = written k value }) (Ready g.block ∷ [])) (sym now)
+        (still (with_held u g.block (held_write (held_of u.blocks g.block) value))) (still u)
+        (λ _. acts_lifted w acts u (held_write (held_of u.blocks g.block) value) s.req _
+        (subst (λ k. Acts logs g end w acts (record l { held = held_write k value }) (Ready g.block ∷ [])) (sym now)
         (first-goes logs g end w l stamp inc req (Ready g.block ∷ []) r.shows (λ v. (tt, tt)) may.0 entry.ver entry.hop entry.place value may.1)))
         (λ f. contrary (sym f ∙ free)))
         (λ f. contrary (sym f ∙ t))
@@ -218,7 +218,7 @@ module _ (logs : Bool) (g : Setting) (end : ℕ) where
     unfolding on_granted on_evict
     owns_and_declines stamp inc req entry sent t =
         let may = taking logs g end w l stamp inc req Own (entry_seen entry) r.shows r.promised sent t in
-        let mine = owned h stamp entry.ver in
+        let mine = held_own h stamp entry.ver in
         let u = with_held s g.block mine in
         let now : held_of u.blocks g.block ≡ mine = held_of-put_itself g.block mine s.blocks in
         let free : may_evict (held_of u.blocks g.block) ≡ true = ap may_evict now ∙ ap not (clean_itself entry.ver) in
@@ -257,9 +257,9 @@ module _ (logs : Bool) (g : Setting) (end : ℕ) where
         elim (may_write h) as
         (λ t. may_write h ≡ t
         → Acted logs g end w (if t then WroteBlock g.client (g.number value) ∷ [] else [])
-        (if t then still (with_held s g.block (written h value)) else still s)) [
+        (if t then still (with_held s g.block (held_write h value)) else still s)) [
           | true ↦ λ t.
-              acts_lifted w (WroteBlock g.client (g.number value) ∷ []) s (written h value) s.req []
+              acts_lifted w (WroteBlock g.client (g.number value) ∷ []) s (held_write h value) s.req []
               (writes-goes logs g end w l value r.shows
               (and_first (is_own h.mode) (is_none h.giving) (and_first (is_own h.mode && is_none h.giving) (nat_lt h.ver u64_end) t)))
           | false ↦ λ t. stays
@@ -269,10 +269,10 @@ module _ (logs : Bool) (g : Setting) (end : ℕ) where
         → At (on_fetched s g.block value)
     unfolding on_fetched
     on_fetched-here value read =
-        by_test At (may_end_fetch h) (record { state = with_held s g.block (fetch_ended h h.fetch value); outs = Ready g.block ∷ [] }) (still s)
+        by_test At (may_end_fetch h) (record { state = with_held s g.block (end_fetch h h.fetch value); outs = Ready g.block ∷ [] }) (still s)
         (λ t. let f = some_is h.fetch (and_first (is_some h.fetch) (is_none h.want) t) in
-        lifted w s (fetch_ended h h.fetch value) s.req _
-        (subst (λ o. Goes logs g end w (record l { held = fetch_ended h o value }) (Ready g.block ∷ [])) (sym f.1)
+        lifted w s (end_fetch h h.fetch value) s.req _
+        (subst (λ o. Goes logs g end w (record l { held = end_fetch h o value }) (Ready g.block ∷ [])) (sym f.1)
         (fetches-goes logs g end w l f.0 value (Ready g.block ∷ []) r.shows f.1 (λ v. (tt, tt)) (read f.0 f.1))))
         (λ t. stays)
 
@@ -286,7 +286,7 @@ module _ (logs : Bool) (g : Setting) (end : ℕ) where
     pub on_reask-here : At (on_reask s g.block)
     unfolding on_reask
     on_reask-here =
-        by_test At (is_some h.fetch) (new_want s g.block Copy) (still s)
+        by_test At (is_some h.fetch) (tokens_ask s g.block Copy) (still s)
         (λ t. asks-here Copy refl (let z = unheld_rank h.mode ((r.sound.each g.block).fetch_unheld t) in omega arith)) (λ t. stays)
 
     pub on_quit-here : At (on_quit s g.block)
@@ -294,8 +294,8 @@ module _ (logs : Bool) (g : Setting) (end : ℕ) where
     on_quit-here =
         let m = record l { held = record h { want = None } } in
         let t = drops_want-goes logs g end w l r.shows in
-        by_test At (is_asking h) (still (with_held s g.block (unasked h))) (still s)
-        (λ _. lifted w s (unasked h) s.req [] (goes_through logs g end w m _ [] [] t (drops_fetch-goes logs g end t.world m (shown_on logs g end w [] m [] t))))
+        by_test At (is_asking h) (still (with_held s g.block (quit h))) (still s)
+        (λ _. lifted w s (quit h) s.req [] (goes_through logs g end w m _ [] [] t (drops_fetch-goes logs g end t.world m (shown_on logs g end w [] m [] t))))
         (λ _. stays)
 
     -- a version that is settled is no news

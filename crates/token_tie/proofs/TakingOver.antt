@@ -14,11 +14,11 @@ use Rattle.xfs_base.specs.declared.token.Mode.TheVariants.{Nothing, Copy, Own}
 use Rattle.xfs_base.specs.Blocks.{block_cmp}
 use Rattle.xfs_base.proofs.BlockOrder.{lookup-insert_entry, block_cmp_exact}
 use Rattle.slot_beliefs.specs.declared.job.Holder.{Holder}
-use Rattle.slot_beliefs.specs.Beliefs.{holder_cmp, holder, believed, all_believed, share_of}
+use Rattle.slot_beliefs.specs.Beliefs.{holder_cmp, holder, believe, all_believed, share_of}
 use Rattle.slot_beliefs.specs.Beliefs as manager
 use Rattle.slot_beliefs.proofs.Shares.{holder_cmp_exact, holder_cmp_total, holder_laws, belief}
 use Rattle.token_client.specs.declared.held.Held.{Held}
-use Rattle.token_client.specs.Held.{unknown}
+use Rattle.token_client.specs.Held.{held_new}
 use Rattle.token_client.specs.State.{held_of, held_in, is_in_slot}
 use Rattle.token_client.specs.Transition.{is_promised}
 use Rattle.token_client.proofs.Promises.{Agrees, agrees-itself}
@@ -126,10 +126,10 @@ module _ (b : BlockId) (c : ℕ) (mode : Mode) where
   nothing_least Copy n h = contrary h
   nothing_least Own n h = contrary h
 
-  one-believed : (bs : List (Holder × Bool)) (x : BlockId × ℕ × Mode) → (x.0 ≡ b → x.1 ≡ c → mode_number mode ≤ mode_number x.2)
-      → (mode_number mode ≤ share_of bs b c) ⊎ ((x.0 ≡ b) × (x.1 ≡ c)) → mode_number mode ≤ share_of (believed bs x) b c
-  unfolding believed
-  one-believed bs x least why =
+  one-believe : (bs : List (Holder × Bool)) (x : BlockId × ℕ × Mode) → (x.0 ≡ b → x.1 ≡ c → mode_number mode ≤ mode_number x.2)
+      → (mode_number mode ≤ share_of bs b c) ⊎ ((x.0 ≡ b) × (x.1 ≡ c)) → mode_number mode ≤ share_of (believe bs x) b c
+  unfolding believe
+  one-believe bs x least why =
       let q = holder b c in
       let k = holder x.0 x.1 in
       by_test (λ (rows : List (Holder × Bool)). is_nothing x.2 ≡ is_nothing x.2 → mode_number mode ≤ manager.share (belief rows q)) (is_nothing x.2) bs
@@ -150,12 +150,12 @@ module _ (b : BlockId) (c : ℕ) (mode : Mode) where
           (sym apart ∙ subst (λ (k : Holder). eq_by_cmp holder_cmp (holder b c) k ≡ true) (λ i. record { block = sym h.0 i; client = sym h.1 i })
           (holder_laws.refl (holder b c))))) why
 
-  pub all-believed : (bs : List (Holder × Bool)) (xs : List (BlockId × ℕ × Mode)) → Least xs → (mode_number mode ≤ share_of bs b c) ⊎ Speaks xs
+  pub all-believe : (bs : List (Holder × Bool)) (xs : List (BlockId × ℕ × Mode)) → Least xs → (mode_number mode ≤ share_of bs b c) ⊎ Speaks xs
       → mode_number mode ≤ share_of (all_believed bs xs) b c
-  all-believed bs [] least why = ⊎_elim (λ h. h) (λ h. absurd h) why
-  all-believed bs (x ∷ xs) least why =
-      all-believed (believed bs x) xs least.1
-      (⊎_elim (λ h. inl (one-believed bs x least.0 (inl h))) (λ s. ⊎_elim (λ h. inl (one-believed bs x least.0 (inr h))) inr s) why)
+  all-believe bs [] least why = ⊎_elim (λ h. h) (λ h. absurd h) why
+  all-believe bs (x ∷ xs) least why =
+      all-believe (believe bs x) xs least.1
+      (⊎_elim (λ h. inl (one-believe bs x least.0 (inl h))) (λ s. ⊎_elim (λ h. inl (one-believe bs x least.0 (inr h))) inr s) why)
 
   least_both : (xs ys : List (BlockId × ℕ × Mode)) → Least xs → Least ys → Least (xs ++ ys)
   least_both [] ys h k = k
@@ -196,9 +196,9 @@ module _ (slot : ℕ) (b : BlockId) where
   speaks_mine c (e ∷ es) inside held =
       at (eq_by_cmp block_cmp b e.0) refl held (λ h. speaks_mine c es inside h)
     where
-      at : (t : Bool) → eq_by_cmp block_cmp b e.0 ≡ t → is_held (unwrap_or (cond t (Some e.1) (lookup (is_at (block_cmp b)) es)) unknown).mode ≡ true
+      at : (t : Bool) → eq_by_cmp block_cmp b e.0 ≡ t → is_held (unwrap_or (cond t (Some e.1) (lookup (is_at (block_cmp b)) es)) held_new).mode ≡ true
           → (is_held (held_of es b).mode ≡ true → Speaks b c (held_of es b).mode (reported c (held_in slot es)))
-          → Speaks b c (unwrap_or (cond t (Some e.1) (lookup (is_at (block_cmp b)) es)) unknown).mode
+          → Speaks b c (unwrap_or (cond t (Some e.1) (lookup (is_at (block_cmp b)) es)) held_new).mode
           (reported c (map (λ e. (e.0, e.1.mode))
           (cond (is_in_slot slot e.0 && is_held e.1.mode) (e ∷ filter (λ e. is_in_slot slot e.0 && is_held e.1.mode) es)
           (filter (λ e. is_in_slot slot e.0 && is_held e.1.mode) es))))
@@ -253,8 +253,8 @@ module _ (b : BlockId) (c : ℕ) (n : ℕ) where
   believed_rank Own h = omega arith
 
   one-limit : (bs : List (Holder × Bool)) (x : BlockId × ℕ × Mode) → (x.0 ≡ b → x.1 ≡ c → mode_number x.2 ≤ n) → share_of bs b c ≤ n
-      → share_of (believed bs x) b c ≤ n
-  unfolding believed
+      → share_of (believe bs x) b c ≤ n
+  unfolding believe
   one-limit bs x limit less =
       let q = holder b c in
       let k = holder x.0 x.1 in
@@ -270,9 +270,9 @@ module _ (b : BlockId) (c : ℕ) (n : ℕ) where
           let i = believed_rank x.2 some in omega arith
       at false apart some = less
 
-  limit-believed : (bs : List (Holder × Bool)) (xs : List (BlockId × ℕ × Mode)) → Most xs → share_of bs b c ≤ n → share_of (all_believed bs xs) b c ≤ n
-  limit-believed bs [] limit less = less
-  limit-believed bs (x ∷ xs) limit less = limit-believed (believed bs x) xs limit.1 (one-limit bs x limit.0 less)
+  limit-believe : (bs : List (Holder × Bool)) (xs : List (BlockId × ℕ × Mode)) → Most xs → share_of bs b c ≤ n → share_of (all_believed bs xs) b c ≤ n
+  limit-believe bs [] limit less = less
+  limit-believe bs (x ∷ xs) limit less = limit-believe (believe bs x) xs limit.1 (one-limit bs x limit.0 less)
 
   most_both : (xs ys : List (BlockId × ℕ × Mode)) → Most xs → Most ys → Most (xs ++ ys)
   most_both [] ys h k = k
@@ -317,7 +317,7 @@ module _ (slot : ℕ) (b : BlockId) (c : ℕ) where
       → share_of (all_believed [] (all_reported (λ d. held_in slot (blocks d)) cs)) b c ≤ mode_number (held_of (blocks c) b).mode
   reports_most blocks cs sorted =
       let n = mode_number (held_of (blocks c) b).mode in
-      limit-believed b c n [] (all_reported (λ d. held_in slot (blocks d)) cs)
+      limit-believe b c n [] (all_reported (λ d. held_in slot (blocks d)) cs)
       (most_all b c n (λ d. held_in slot (blocks d)) cs
       (λ d. ⊎_elim (λ same. subst (λ k. Most b c n (reported k (held_in slot (blocks k)))) (sym same)
       (most_mine c (blocks c) (blocks c) (agrees-itself (blocks c) (sorted c)))) (λ other. most_other b c n d (held_in slot (blocks d)) other)
@@ -328,7 +328,7 @@ module _ (slot : ℕ) (b : BlockId) (c : ℕ) where
   pub reports_none : (blocks : ℕ → List (BlockId × Held)) (cs : List ℕ) → is_in_slot slot b ≡ false
       → share_of (all_believed [] (all_reported (λ d. held_in slot (blocks d)) cs)) b c ≤ 0
   reports_none blocks cs outside =
-      limit-believed b c 0 [] (all_reported (λ d. held_in slot (blocks d)) cs)
+      limit-believe b c 0 [] (all_reported (λ d. held_in slot (blocks d)) cs)
       (most_all b c 0 (λ d. held_in slot (blocks d)) cs (λ d. most_none d (blocks d) outside)) (omega arith)
 
 none_rank : (m : Mode) (n : ℕ) → is_held m ≡ false → mode_number m ≤ n
@@ -341,6 +341,6 @@ reports_believed slot blocks cs b c sorted inside has =
     let m = (held_of (blocks c) b).mode in
     let xs = all_reported (λ d. held_in slot (blocks d)) cs in
     elim (is_held m) as (λ t. is_held m ≡ t → mode_number m ≤ share_of (all_believed [] xs) b c) [
-      | true ↦ λ held. all-believed b c m [] xs (all_least slot b blocks c sorted cs) (inr (all_speak slot b blocks c sorted cs inside held has))
+      | true ↦ λ held. all-believe b c m [] xs (all_least slot b blocks c sorted cs) (inr (all_speak slot b blocks c sorted cs inside held has))
       | false ↦ λ none. none_rank m _ none
     ] refl

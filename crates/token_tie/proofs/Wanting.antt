@@ -14,9 +14,9 @@ use Rattle.slot_beliefs.specs.declared.job.Job.{Job}
 use Rattle.slot_beliefs.specs.Beliefs.{holder}
 use Rattle.slot_beliefs.specs.Recalls.{recalls, applied_of, job_at}
 use Rattle.slot_beliefs.proofs.Shares.{found_by}
-use Rattle.token_manager.specs.Recalls.{sent}
+use Rattle.token_manager.specs.Recalls.{send_recalls}
 use Rattle.token_manager.specs.SlotState.{SlotState}
-use Rattle.token_manager.specs.Transition.{want_of, started, passers, answer, finished, recalled, on_want, transition}
+use Rattle.token_manager.specs.Transition.{want_of, slot_start, passers, answer, slot_finish, recalled, on_want, transition}
 use Rattle.token_manager.proofs.Cases.{recalled_from, by_want}
 use Rattle.token_manager.proofs.Guarded.{Sound, sound-start, sound-transition, no_first, not_more}
 use Rattle.token_manager.proofs.AwaitsJust.{more_elsewhere, others_once}
@@ -25,7 +25,7 @@ use Rattle.token_protocol.specs.Basics.{In}
 use Rattle.token_protocol.specs.World.{World}
 use Rattle.token_tie.specs.Managed.{want_seen, Manages, AllTold, Runs}
 use Rattle.token_tie.specs.SlotInputs.{Reached}
-use Rattle.token_tie.proofs.Managing.{runs_nowhere, turns-runs, finished-runs, recalled-runs}
+use Rattle.token_tie.proofs.Managing.{runs_nowhere, turns-runs, slot_finish-runs, recalled-runs}
 use Rattle.xfs_base.specs.Modes.{is_nothing, is_own}
 use Rattle.xfs_base.proofs.Booleans.{contrary}
 
@@ -41,7 +41,7 @@ by_block b P here there block =
 pub reached_sound : (s : SlotState) → Reached s → Sound s
 reached_sound s r =
     subst Sound (sym r.reached)
-    (steps_keep transition Sound sound-transition (started r.epoch r.index r.beliefs r.applied) r.taken
+    (steps_keep transition Sound sound-transition (slot_start r.epoch r.index r.beliefs r.applied) r.taken
     (sound-start r.epoch r.index r.beliefs r.applied r.alone))
 
 -- what isn't dropped wants something, finds no want that waits, and names an end that is applied
@@ -60,7 +60,7 @@ module _ (logs : Bool) where
   answer_quiet b v s ask (c ∷ cs) other = (λ same. absurd (other same), tt)
 
   sent_quiet : (b : BlockId) (v : World) (block : BlockId) (epoch turn : ℕ) (keep : Bool) (cs : List ℕ) → (block ≡ b → ⊥)
-      → AllTold b v (sent block (recalls epoch turn keep cs))
+      → AllTold b v (send_recalls block (recalls epoch turn keep cs))
   sent_quiet b v block epoch turn keep [] other = tt
   sent_quiet b v block epoch turn keep (c ∷ cs) other = (λ same. absurd (other same), sent_quiet b v block epoch (turn + 1) keep cs other)
 
@@ -77,7 +77,7 @@ module _ (logs : Bool) where
   want-there : (b : BlockId) (w : World) (s : SlotState) (ask : Wanted) (end : ℕ) → Manages b s w → (ask.block ≡ b → ⊥) → Runs logs b w (on_want s ask end)
   want-there b w s ask end m other =
       by_want (Runs logs b w) s ask end (runs_nowhere logs b w s m)
-      (λ _ _. turns-runs logs b w s (finished s ask) 1 m refl refl (λ c. more_elsewhere s.beliefs ask (holder b c) (λ same. other (sym same))) refl refl refl
+      (λ _ _. turns-runs logs b w s (slot_finish s ask) 1 m refl refl (λ c. more_elsewhere s.beliefs ask (holder b c) (λ same. other (sym same))) refl refl refl
       (λ v. answer_quiet b v s ask (passers s ask) other))
       (λ _. turns-runs logs b w s (recalled s ask (recalled_from s ask)) (length (recalled_from s ask)) m refl refl (λ c. omega arith) refl refl
       (other_put s b ask.block _ other) (λ v. sent_quiet b v ask.block s.epoch s.turn (not (is_own ask.mode)) (recalled_from s ask) other))
@@ -89,7 +89,7 @@ module _ (logs : Bool) where
       by_want (Runs logs ask.block w) s ask end (runs_nowhere logs ask.block w s m)
       (λ going none. let k = kept_all (is_nothing ask.mode) (is_some (job_at s.jobs ask.block)) (nat_lt (applied_of s.applied ask.client) end) going in
       let a = ltb-false (applied_of s.applied ask.client) end k.2 in let q = m.applied ask.client some in
-      finished-runs logs w s ask end m (none_is (job_at s.jobs ask.block) k.1) k.0
+      slot_finish-runs logs w s ask end m (none_is (job_at s.jobs ask.block) k.1) k.0
       (λ c apart. not_more _ (λ more. no_first (recalled_from s ask) c none (found_by s.beliefs ask c apart more))) asked (omega arith))
       (λ going. let k = kept_all (is_nothing ask.mode) (is_some (job_at s.jobs ask.block)) (nat_lt (applied_of s.applied ask.client) end) going in
       let a = ltb-false (applied_of s.applied ask.client) end k.2 in let q = m.applied ask.client some in

@@ -7,12 +7,12 @@ use Rattle.xfs_base.specs.declared.token.Stamp.{Stamp}
 use Rattle.xfs_base.specs.Blocks.{block_cmp, slot_of}
 use Rattle.delta_index.specs.Index.{entry_of}
 use Rattle.slot_beliefs.specs.Beliefs.{all_believed, share_of}
-use Rattle.slot_beliefs.specs.Index.{nothing_indexed, indexed_all}
+use Rattle.slot_beliefs.specs.Index.{block_index_new, merge_all}
 use Rattle.slot_beliefs.specs.Recalls.{applied_of}
 use Rattle.token_client.specs.declared.held.Held.{Held}
-use Rattle.token_client.specs.State.{TokensState, started as fresh_tokens, held_of, held_in, epoch_of, is_in_slot}
+use Rattle.token_client.specs.State.{TokensState, tokens_start as fresh_tokens, held_of, held_in, epoch_of, is_in_slot}
 use Rattle.token_client.specs.Transition.{serves}
-use Rattle.token_manager.specs.Transition.{started}
+use Rattle.token_manager.specs.Transition.{slot_start}
 use Rattle.token_protocol.specs.Client.{Client}
 use Rattle.token_protocol.specs.Crashing.{down, back}
 use Rattle.token_protocol.specs.Laws.{HasNewest}
@@ -48,7 +48,7 @@ ActivationManages =
     (b : BlockId) (w : World) (epoch : ℕ) (index : List (BlockId × Entry)) (beliefs : List (BlockId × ℕ × Mode)) (applied : List ℕ)
     (report : ℕ → packets.Report) (upto : ℕ → ℕ)
     → ((c : ℕ) → c < w.members → (report c).mode ≤ share_of (all_believed [] beliefs) b c) → ((c : ℕ) → 0 < c → upto c ≡ applied_of applied c)
-    → Manages b (started epoch index beliefs applied) (activates w epoch report upto (entry_seen (entry_of (indexed_all nothing_indexed index).rows b)))
+    → Manages b (slot_start epoch index beliefs applied) (activates w epoch report upto (entry_seen (entry_of (merge_all block_index_new index).rows b)))
 
 -- what all clients report, each what it holds
 abbrev pub reported : ℕ → List (BlockId × Mode) → List (BlockId × ℕ × Mode)

@@ -3,12 +3,12 @@ use Rattle.std.specs.Prelude.{◌≡◌, ℕ, ◌-◌, ◌<◌, Bool, List, leng
 use Rattle.xfs_base.specs.declared.block.BlockId.{BlockId}
 use Rattle.xfs_base.specs.declared.entry.Entry.{Entry}
 use Rattle.xfs_base.specs.declared.token.Mode.{Mode}
-use Rattle.slot_beliefs.specs.Index.{indexed_all}
+use Rattle.slot_beliefs.specs.Index.{merge_all}
 use Rattle.token_manager.specs.declared.input.In as inputs
 use Rattle.token_manager.specs.Laws.{OwnsAlone, state_after}
 use Rattle.token_manager.specs.SlotState.{SlotState}
 use Rattle.token_manager.specs.declared.input.In.TheVariants.{Want, Gave, Deltas, Check, Tick}
-use Rattle.token_manager.specs.Transition.{started, transition}
+use Rattle.token_manager.specs.Transition.{slot_start, transition}
 use Rattle.delta_index.specs.Index.{entry_of}
 use Rattle.token_protocol.specs.Premises.{Premise, IndexCovers}
 use Rattle.token_protocol.specs.Basics.{In}
@@ -23,8 +23,8 @@ pub record Reached (s : SlotState) : Type 0 where
   pub beliefs : List (BlockId × ℕ × Mode)
   pub applied : List ℕ
   pub taken : List inputs.In
-  pub alone : OwnsAlone (started epoch index beliefs applied).beliefs
-  pub reached : s ≡ state_after (started epoch index beliefs applied) taken
+  pub alone : OwnsAlone (slot_start epoch index beliefs applied).beliefs
+  pub reached : s ≡ state_after (slot_start epoch index beliefs applied) taken
 
 -- what the world owes each input: that a Want or Gave was sent, and that Deltas tell what their log filed
 abbrev pub Brings : Bool → BlockId → World → SlotState → inputs.In → Type 0
@@ -32,7 +32,7 @@ Brings logs b w s (Want want end) = (0 < want.client) × (want.block ≡ b → I
 Brings logs b w s (Gave client block stamp end) =
     (0 < client) × (block ≡ b → stamp.epoch ≡ w.epoch → In (record { client = client; stamp = stamp.turn; end = end }) w.gaves)
 Brings logs b w s (Deltas log first upto rows) =
-    (log.0 - 1 < length s.applied) × Premise logs (IndexCovers w log.0 upto (entry_seen (entry_of (indexed_all s.index rows).rows b)))
+    (log.0 - 1 < length s.applied) × Premise logs (IndexCovers w log.0 upto (entry_seen (entry_of (merge_all s.index rows).rows b)))
 Brings logs b w s (Check block place) = Unit {0}
 Brings logs b w s Tick = Unit {0}
 

@@ -16,17 +16,17 @@ abbrev pub acts_counted : Counts → ℕ
 acts_counted c = c.wrote + c.read + c.filed + c.dropped + c.lost
 
 -- one act more
-abbrev pub counted : Counts → Act → Counts
-counted c (acts.Wrote client block value) = record c { wrote = c.wrote + 1 }
-counted c (acts.Read client block ver value) = record c { read = c.read + 1 }
-counted c (acts.Filed seg) = record c { filed = c.filed + 1 }
-counted c (acts.Dropped seg) = record c { dropped = c.dropped + 1 }
-counted c (acts.Lost node seg) = record c { lost = c.lost + 1 }
-counted c act = c
+abbrev pub counts_with : Counts → Act → Counts
+counts_with c (acts.Wrote client block value) = record c { wrote = c.wrote + 1 }
+counts_with c (acts.Read client block ver value) = record c { read = c.read + 1 }
+counts_with c (acts.Filed seg) = record c { filed = c.filed + 1 }
+counts_with c (acts.Dropped seg) = record c { dropped = c.dropped + 1 }
+counts_with c (acts.Lost node seg) = record c { lost = c.lost + 1 }
+counts_with c act = c
 
 -- how many acts there are of each kind that is counted
 abbrev pub counts_of : List Act → Counts
-counts_of acts = fold counted no_counts acts
+counts_of acts = fold counts_with no_counts acts
 
 abbrev pub segments_text : Counts → List ℕ
 segments_text c =

@@ -27,8 +27,8 @@ pub record FallsState : Type 0 where
   pub fallen : List (ℕ × List Fallen)
 
 -- before the first act
-abbrev pub started : FallsState
-started = record { versions = []; told = []; fallen = [] }
+abbrev pub falls_start : FallsState
+falls_start = record { versions = []; told = []; fallen = [] }
 
 -- how many versions a block has
 abbrev pub count_of : ByBlock → BlockId → ℕ
@@ -38,8 +38,8 @@ count_of versions block = unwrap_or (lookup (is_at (block_cmp block)) versions) 
 abbrev pub one_more : ℕ → ℕ
 one_more n = min (n + 1) u64_end
 
-abbrev pub with_version : ByBlock → BlockId → ByBlock
-with_version versions block = insert_entry block_cmp versions block (one_more (count_of versions block))
+abbrev pub add_version : ByBlock → BlockId → ByBlock
+add_version versions block = insert_entry block_cmp versions block (one_more (count_of versions block))
 
 -- what a table has of a client
 abbrev pub of_client : {A : Type 0} → List (ℕ × List A) → ℕ → List A
@@ -52,8 +52,8 @@ abbrev pub with_all : {A : Type 0} → List (ℕ × List A) → ℕ → List A �
 with_all table client all = insert_entry nat_cmp table client all
 
 -- a fall of a client waits
-abbrev pub waits : FallsState → ℕ → FallTold → FallsState
-waits s client fall = record s { told = with_all (without s.told client) client (of_client s.told client ++ fall ∷ []) }
+abbrev pub falls_tell : FallsState → ℕ → FallTold → FallsState
+falls_tell s client fall = record s { told = with_all (without s.told client) client (of_client s.told client ++ fall ∷ []) }
 
 -- the blocks while falls are settled: how many versions each has, and which fell
 pub record Settling : Type 0 where
@@ -61,8 +61,8 @@ pub record Settling : Type 0 where
   pub fallen : ByBlock
 
 -- a block falls to a version; it is noted where it had more
-abbrev pub falls_to : BlockId → ℕ → Settling → Settling
-falls_to block ver s =
+abbrev pub settling_fall : BlockId → ℕ → Settling → Settling
+settling_fall block ver s =
     if nat_lt ver (count_of s.versions block)
     then record { versions = insert_entry block_cmp s.versions block ver; fallen = insert_entry block_cmp s.fallen block ver }
     else s
@@ -71,12 +71,12 @@ falls_to block ver s =
 abbrev pub target_of : Fall → Bool → ℕ
 target_of fall held = if held then fall.high else fall.low
 
-abbrev pub settles_fall : Bool → Settling → Fall → Settling
-settles_fall held s fall = falls_to fall.block (target_of fall held) s
+abbrev pub settle_fall : Bool → Settling → Fall → Settling
+settle_fall held s fall = settling_fall fall.block (target_of fall held) s
 
 -- the blocks of one crash fall
-abbrev pub settles : List SegName → Settling → FallTold → Settling
-settles chain s told = fold (settles_fall (holds_flight chain told.flight)) s told.falls
+abbrev pub settling_settle : List SegName → Settling → FallTold → Settling
+settling_settle chain s told = fold (settle_fall (holds_flight chain told.flight)) s told.falls
 
 abbrev pub fallen_at : BlockId × ℕ → Fallen
 fallen_at e = record { block = e.0; ver = e.1 }
@@ -91,11 +91,11 @@ comes_back s client settled = record {
 
 -- all that waits of a client falls
 abbrev pub settled_by : FallsState → ℕ → List SegName → Settling
-settled_by s client chain = fold (settles chain) (record { versions = s.versions; fallen = [] }) (of_client s.told client)
+settled_by s client chain = fold (settling_settle chain) (record { versions = s.versions; fallen = [] }) (of_client s.told client)
 
 -- an act more
-abbrev pub after_act : FallsState → Act → FallsState
-after_act s (acts.Wrote client block value) = record s { versions = with_version s.versions block }
-after_act s (acts.Fell client flight falls) = waits s client (record { flight = flight; falls = falls })
-after_act s (acts.Back client chain) = comes_back s client (settled_by s client chain)
-after_act s act = s
+abbrev pub falls_take : FallsState → Act → FallsState
+falls_take s (acts.Wrote client block value) = record s { versions = add_version s.versions block }
+falls_take s (acts.Fell client flight falls) = falls_tell s client (record { flight = flight; falls = falls })
+falls_take s (acts.Back client chain) = comes_back s client (settled_by s client chain)
+falls_take s act = s

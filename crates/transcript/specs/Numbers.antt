@@ -20,12 +20,12 @@ last_of numbers node = unwrap_or (lookup (is_at (node_cmp node)) numbers) 0
 abbrev pub next_of : Numbers → NodeId → ℕ
 next_of numbers node = number_behind (last_of numbers node)
 
-abbrev pub with_next : Numbers → NodeId → Numbers
-with_next numbers node = insert_entry node_cmp numbers node (next_of numbers node)
+abbrev pub numbers_next : Numbers → NodeId → Numbers
+numbers_next numbers node = insert_entry node_cmp numbers node (next_of numbers node)
 
 abbrev pub behind_item : Numbers → Option NodeId → Numbers
 behind_item numbers None = numbers
-behind_item numbers (Some node) = with_next numbers node
+behind_item numbers (Some node) = numbers_next numbers node
 
 -- a line more
 abbrev pub behind_line : Numbers → Line → Numbers

@@ -17,7 +17,7 @@ use Rattle.xfs_base.specs.Nodes.{node_cmp}
 use Rattle.transcript.specs.declared.falls.Fallen.{Fallen}
 use Rattle.transcript.specs.declared.replies.ItemName.{ItemName}
 use Rattle.transcript.specs.declared.replies.Reply.{Reply}
-use Rattle.transcript.specs.Falls.{FallsState, started, of_client, without, after_act}
+use Rattle.transcript.specs.Falls.{FallsState, falls_start, of_client, without, falls_take}
 
 -- the order of items: by node, then by number
 abbrev pub item_cmp : ItemName → ItemName → Ordering
@@ -43,24 +43,24 @@ pub record RepliesState : Type 0 where
   pub falls : FallsState
 
 -- the act at a place answers an item
-abbrev pub with_answer : RepliesState → ItemName → ℕ → RepliesState
-with_answer r name place = record {
+abbrev pub gathering_answer : RepliesState → ItemName → ℕ → RepliesState
+gathering_answer r name place = record {
   table = insert_entry item_cmp r.table name (record { place = place; fallen = handed_out r.falls name.node });
   falls = handing_out r.falls name.node;
 }
 
 -- the act at a place answers an item, or tells of falls
-abbrev pub with_act : RepliesState → ℕ → Act → RepliesState
-with_act r place (acts.Answered node item answer) = with_answer r (record { node = node; number = item }) place
-with_act r place act = record { table = r.table; falls = after_act r.falls act }
+abbrev pub gathering_take : RepliesState → ℕ → Act → RepliesState
+gathering_take r place (acts.Answered node item answer) = gathering_answer r (record { node = node; number = item }) place
+gathering_take r place act = record { table = r.table; falls = falls_take r.falls act }
 
 abbrev pub with_acts : RepliesState → ℕ → List Act → RepliesState
 with_acts r place [] = r
-with_acts r place (a ∷ rest) = with_acts (with_act r place a) (place + 1) rest
+with_acts r place (a ∷ rest) = with_acts (gathering_take r place a) (place + 1) rest
 
 -- the answers among some acts
 abbrev pub replies_of : List Act → Table
-replies_of acts = (with_acts (record { table = []; falls = started }) 0 acts).table
+replies_of acts = (with_acts (record { table = []; falls = falls_start }) 0 acts).table
 
 abbrev pub reply_of : Table → ItemName → Option Reply
 reply_of table name = lookup (is_at (item_cmp name)) table

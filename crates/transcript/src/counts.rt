@@ -1,6 +1,6 @@
 //! The counts of an estate.
 ghost use Rattle.std.specs.Prelude.{◌≡◌, ◌+◌, ◌<◌, ◌^◌, ◌++◌, IfOk, OnOk};
-ghost use Rattle.transcript.specs.Counts.{counted, counts_of, acts_counted, segments_text, counts_text, brief_of};
+ghost use Rattle.transcript.specs.Counts.{counts_with, counts_of, acts_counted, segments_text, counts_text, brief_of};
 
 use crate::replies::{items_in, open_items};
 use act_text::piece::add_marked;
@@ -28,7 +28,7 @@ impl Counts {
     /// The counts with one act more.
     fn with(self, act: &Act) -> Counts
         requires { acts_counted self + 1 < 2 ^ 64 }
-        ensures { result ≡ counted self act.now }
+        ensures { result ≡ counts_with self act.now }
     {
         let mut counts = self;
         match act {

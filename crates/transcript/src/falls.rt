@@ -2,7 +2,7 @@
 ghost use Rattle.std.specs.Prelude.{◌≡◌, ◌==◌, ◌&&◌, OnOk, IfOk, map};
 ghost use Rattle.std.specs.List.{fold, list_any};
 ghost use Rattle.version_model.specs.Effects.{holds_flight};
-ghost use Rattle.transcript.specs.Falls.{started, count_of, of_client, without, with_version, waits, falls_to, target_of, settles_fall, settles, settled_by, fallen_at, comes_back, after_act};
+ghost use Rattle.transcript.specs.Falls.{falls_start, count_of, of_client, without, add_version, falls_tell, settling_fall, target_of, settle_fall, settling_settle, settled_by, fallen_at, comes_back, falls_take};
 
 use std::alloc::Global;
 use std::collections::BTreeMap;
@@ -74,7 +74,7 @@ fn count_of(versions: &BTreeMap<BlockId, u64>, block: BlockId) -> u64
 
 /// A block has one version more.
 fn add_version(versions: &mut BTreeMap<BlockId, u64>, block: BlockId) -> Mem<()>
-    ensures { OnOk result (versions.new.entries ≡ with_version versions.old.entries block) }
+    ensures { OnOk result (versions.new.entries ≡ add_version versions.old.entries block) }
 {
     let count = count_of(versions, block).saturating_add(1);
     versions.insert(block, count)?;
@@ -121,7 +121,7 @@ impl Model for Settling {
 impl Settling {
     /// A block falls to a version; it is noted where it had more.
     fn fall(&mut self, block: BlockId, ver: u64) -> Mem<()>
-        ensures { OnOk result (self.new ≡ falls_to block ver self.old) }
+        ensures { OnOk result (self.new ≡ settling_fall block ver self.old) }
     {
         if ver < count_of(&self.versions, block) {
             self.versions.insert(block, ver)?;
@@ -132,14 +132,14 @@ impl Settling {
 
     /// A block falls to its high version where the segment in flight was adopted, else to its low one.
     fn settle_fall(&mut self, fall: Fall, held: bool) -> Mem<()>
-        ensures { OnOk result (self.new ≡ settles_fall held self.old fall) }
+        ensures { OnOk result (self.new ≡ settle_fall held self.old fall) }
     {
         self.fall(fall.block, target_of(fall, held))
     }
 
     /// Blocks fall to their high versions where the segment in flight was adopted, else to their low ones.
     fn fall_each(&mut self, falls: &[Fall], held: bool) -> Mem<()>
-        ensures { OnOk result (self.new ≡ fold (settles_fall held) self.old falls.now) }
+        ensures { OnOk result (self.new ≡ fold (settle_fall held) self.old falls.now) }
     {
         for fall in falls {
             self.settle_fall(*fall, held)?;
@@ -149,7 +149,7 @@ impl Settling {
 
     /// The blocks of one crash fall.
     fn settle(&mut self, told: &FallTold, chain: &[SegName]) -> Mem<()>
-        ensures { OnOk result (self.new ≡ settles chain.now self.old told.now) }
+        ensures { OnOk result (self.new ≡ settling_settle chain.now self.old told.now) }
     {
         let held = holds_flight(chain, told.flight);
         self.fall_each(told.falls.as_slice(), held)
@@ -157,7 +157,7 @@ impl Settling {
 
     /// The blocks of all crashes that wait fall.
     fn settle_each(&mut self, waiting: &[FallTold], chain: &[SegName]) -> Mem<()>
-        ensures { OnOk result (self.new ≡ fold (settles chain.now) self.old waiting.now) }
+        ensures { OnOk result (self.new ≡ fold (settling_settle chain.now) self.old waiting.now) }
     {
         for told in waiting {
             self.settle(told, chain)?;
@@ -183,7 +183,7 @@ fn listed(alloc: Global, fallen: &BTreeMap<BlockId, u64>) -> Mem<List<Fallen>>
 impl Falls {
     /// Before the first act. It takes no memory.
     pub fn start(alloc: Global) -> Falls
-        ensures { result ≡ started }
+        ensures { result ≡ falls_start }
     {
         Falls {
             versions: BTreeMap::new(alloc),
@@ -193,7 +193,7 @@ impl Falls {
     }
 
     fn tell(self, alloc: Global, client: u8, fall: FallTold) -> Mem<Falls>
-        ensures { IfOk result (λ falls. falls ≡ waits self client fall) }
+        ensures { IfOk result (λ falls. falls ≡ falls_tell self client fall) }
     {
         let mut told = self.told;
         let mut waiting = take_told(alloc, &mut told, client);
@@ -227,7 +227,7 @@ impl Falls {
     }
 
     fn write(self, block: BlockId) -> Mem<Falls>
-        ensures { IfOk result (λ falls. falls ≡ record self { versions = with_version self.versions block }) }
+        ensures { IfOk result (λ falls. falls ≡ record self { versions = add_version self.versions block }) }
     {
         let mut versions = self.versions;
         add_version(&mut versions, block)?;
@@ -240,7 +240,7 @@ impl Falls {
 
     /// Notes an act.
     pub fn take(self, alloc: Global, act: &Act) -> Mem<Falls>
-        ensures { IfOk result (λ falls. falls ≡ after_act self act.now) }
+        ensures { IfOk result (λ falls. falls ≡ falls_take self act.now) }
     {
         match act {
             Act::Wrote {

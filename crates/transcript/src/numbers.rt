@@ -1,6 +1,6 @@
 //! The numbers of items, as their lines come.
 ghost use Rattle.std.specs.Prelude.{◌≡◌, [], IfOk, OnOk};
-ghost use Rattle.transcript.specs.Numbers.{last_of, next_of, with_next};
+ghost use Rattle.transcript.specs.Numbers.{last_of, next_of, numbers_next};
 
 use crate::replies::ItemName;
 use std::alloc::Global;
@@ -50,7 +50,7 @@ impl Numbers {
     /// The item that the next line of this node is.
     pub fn next(&mut self, node: NodeId) -> Mem<ItemName>
         ensures name { IfOk result (λ name. name ≡ record { node = node; number = next_of self.old node }) }
-        ensures noted { OnOk result (self.new ≡ with_next self.old node) }
+        ensures noted { OnOk result (self.new ≡ numbers_next self.old node) }
     {
         let number = self.last(node).saturating_add(1);
         self.last.insert(node, number)?;

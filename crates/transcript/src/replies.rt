@@ -1,7 +1,7 @@
 //! Which act answers which item.
 ghost use Rattle.std.specs.Prelude.{◌≡◌, IfOk, MatchOption, Some, None};
 ghost use Rattle.std.specs.List.{count_by};
-ghost use Rattle.transcript.specs.Replies.{replies_of, reply_of, with_answer, with_act, handed_out, handing_out, answer_at, is_item, is_answer, items_in, open_items};
+ghost use Rattle.transcript.specs.Replies.{replies_of, reply_of, gathering_answer, gathering_take, handed_out, handing_out, answer_at, is_item, is_answer, items_in, open_items};
 
 use crate::falls::{Fallen, Falls};
 use script_text::Line;
@@ -85,7 +85,7 @@ fn handed_out(alloc: Global, falls: &mut Falls, node: NodeId) -> List<Fallen>
 impl Gathering {
     /// Notes the act at a place.
     fn take(self, alloc: Global, place: usize, act: &Act) -> Mem<Gathering>
-        ensures { IfOk result (λ gathering. gathering ≡ with_act self place act.now) }
+        ensures { IfOk result (λ gathering. gathering ≡ gathering_take self place act.now) }
     {
         match act {
             Act::Answered {
@@ -108,7 +108,7 @@ impl Gathering {
 
     /// Notes that the act at a place answers an item.
     fn answer(self, alloc: Global, place: usize, name: ItemName) -> Mem<Gathering>
-        ensures { IfOk result (λ gathering. gathering ≡ with_answer self name place) }
+        ensures { IfOk result (λ gathering. gathering ≡ gathering_answer self name place) }
     {
         let mut falls = self.falls;
         let fallen = handed_out(alloc, &mut falls, name.node);

@@ -1,6 +1,6 @@
 //! The text of an estate.
 ghost use Rattle.std.specs.Prelude.{◌≡◌, ◌++◌, [], Some, IfOk, OnOk};
-ghost use Rattle.transcript.specs.Numbers.{next_of, with_next, behind_line};
+ghost use Rattle.transcript.specs.Numbers.{next_of, numbers_next, behind_line};
 ghost use Rattle.transcript.specs.Replies.{replies_of, reply_of};
 ghost use Rattle.transcript.specs.Text.{fall_text, fell_text, reply_text, line_text, lines_text, asked_text, end_text, text_of};
 
@@ -57,7 +57,7 @@ fn add_next(
     node: NodeId,
 ) -> Mem<()>
     ensures text { OnOk result (text.new ≡ text.old ++ reply_text acts.now (reply_of replies.now (record { node = node; number = next_of numbers.old node }))) }
-    ensures numbers { OnOk result (numbers.new ≡ with_next numbers.old node) }
+    ensures numbers { OnOk result (numbers.new ≡ numbers_next numbers.old node) }
 {
     let name = numbers.next(node)?;
     match replies.reply(name) {

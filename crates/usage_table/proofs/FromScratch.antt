@@ -3,9 +3,9 @@ use Rattle.std.proofs.Common.{◌≡◌, ℕ, ◌+◌, List, [], ◌∷◌, arit
 use Rattle.std.specs.List.Sorted.{IsStrictlySortedBy}
 use Rattle.std.proofs.lemmas.List.Sums.{sum_by-cons}
 use Rattle.xfs_base.specs.declared.segment.SegName.{SegName}
-use Rattle.usage_table.specs.Counts.{IsTable, count_of, blocks_at, after_shift}
+use Rattle.usage_table.specs.Counts.{IsTable, count_of, blocks_at, usage_shift}
 use Rattle.usage_table.specs.Shifts.{Shift, after_shifts, AreSound, arrivals, departures}
-use Rattle.usage_table.proofs.Table.{table_after_shift, count_of-after_shift}
+use Rattle.usage_table.proofs.Table.{table_after_shift, count_of-usage_shift}
 
 empty_table : IsTable []
 unfolding IsStrictlySortedBy
@@ -16,9 +16,9 @@ counted : (counts : List (SegName × ℕ)) (shifts : List Shift) (seg : SegName)
     → count_of (after_shifts counts shifts) seg + departures seg shifts ≡ count_of counts seg + arrivals seg shifts
 counted counts [] seg table sound = omega arith
 counted counts (shift ∷ shifts) seg table sound =
-    let next = after_shift counts shift.from shift.to in
+    let next = usage_shift counts shift.from shift.to in
     let now : count_of next seg + blocks_at shift.from seg ≡ count_of counts seg + blocks_at shift.to seg =
-    count_of-after_shift counts shift.from shift.to seg table sound.0 in
+    count_of-usage_shift counts shift.from shift.to seg table sound.0 in
     let rest : count_of (after_shifts next shifts) seg + departures seg shifts ≡ count_of next seg + arrivals seg shifts =
     counted next shifts seg (table_after_shift counts shift.from shift.to table) sound.1 in
     let gone : departures seg (shift ∷ shifts) ≡ blocks_at shift.from seg + departures seg shifts =

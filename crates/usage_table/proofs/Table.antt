@@ -17,7 +17,7 @@ use Rattle.std.proofs.lemmas.Map.Views.{All-values-insert_entry, All-values-set_
 use Rattle.xfs_base.specs.declared.segment.SegName.{SegName}
 use Rattle.xfs_base.specs.Segments.{seg_cmp}
 use Rattle.xfs_base.proofs.BlockOrder.{lookup-insert_entry}
-use Rattle.usage_table.specs.Counts.{IsTable, count_of, blocks_at, is_same, with_one_more, with_one_less, after_shift}
+use Rattle.usage_table.specs.Counts.{IsTable, count_of, blocks_at, is_same, usage_give, usage_take, usage_shift}
 use Rattle.xfs_base.proofs.Orders.{seg_cmp_total, seg_cmp_exact}
 use Rattle.xfs_base.proofs.Sorted.{sorted_insert, sorted_remove}
 
@@ -26,14 +26,14 @@ same_laws = eq_by_cmp_equiv seg_cmp_total
 
 -- ---- the counts stay a table
 
-pub table_with_one_more : (counts : List (SegName × ℕ)) (to : Option SegName) → IsTable counts → IsTable (with_one_more counts to)
+pub table_with_one_more : (counts : List (SegName × ℕ)) (to : Option SegName) → IsTable counts → IsTable (usage_give counts to)
 table_with_one_more counts None table = table
 table_with_one_more counts (Some seg) table = record {
   sorted = sorted_insert seg_cmp seg_cmp_total seg _ counts table.sorted;
   above_0 = All-values-insert_entry seg_cmp seg (count_of counts seg + 1) (λ count. 0 < count) counts table.above_0 (omega arith);
 }
 
-pub table_with_one_less : (counts : List (SegName × ℕ)) (from : Option SegName) → IsTable counts → IsTable (with_one_less counts from)
+pub table_with_one_less : (counts : List (SegName × ℕ)) (from : Option SegName) → IsTable counts → IsTable (usage_take counts from)
 table_with_one_less counts None table = table
 table_with_one_less counts (Some seg) table =
     let count = count_of counts seg in
@@ -49,20 +49,20 @@ table_with_one_less counts (Some seg) table =
       }
     ] refl
 
-pub table_after_shift : (counts : List (SegName × ℕ)) (from to : Option SegName) → IsTable counts → IsTable (after_shift counts from to)
-unfolding after_shift
+pub table_after_shift : (counts : List (SegName × ℕ)) (from to : Option SegName) → IsTable counts → IsTable (usage_shift counts from to)
+unfolding usage_shift
 table_after_shift counts from to table =
-    elim (is_same from to) as (λ same. IsTable (cond same counts (with_one_less (with_one_more counts to) from))) [
+    elim (is_same from to) as (λ same. IsTable (cond same counts (usage_take (usage_give counts to) from))) [
       | true ↦ table
-      | false ↦ table_with_one_less (with_one_more counts to) from (table_with_one_more counts to table)
+      | false ↦ table_with_one_less (usage_give counts to) from (table_with_one_more counts to table)
     ]
 
 -- ---- the count of any segment
 
-count_of-with_one_more : (counts : List (SegName × ℕ)) (to : Option SegName) (seg : SegName)
-    → count_of (with_one_more counts to) seg ≡ count_of counts seg + blocks_at to seg
-count_of-with_one_more counts None seg = omega arith
-count_of-with_one_more counts (Some to) seg =
+count_of-usage_give : (counts : List (SegName × ℕ)) (to : Option SegName) (seg : SegName)
+    → count_of (usage_give counts to) seg ≡ count_of counts seg + blocks_at to seg
+count_of-usage_give counts None seg = omega arith
+count_of-usage_give counts (Some to) seg =
     ap (λ o. unwrap_or o 0) (lookup-insert_entry seg_cmp_total seg to (count_of counts to + 1) counts) ∙ at_seg (seg_cmp seg to) refl
   where
     at_seg : (r : Ordering) → seg_cmp seg to ≡ r
@@ -88,10 +88,10 @@ found : (o : Option ℕ) → 0 < unwrap_or o 0 → IsSome o
 found None held = absurd (omega arith)
 found (Some n) held = refl
 
-count_of-with_one_less : (counts : List (SegName × ℕ)) (from : Option SegName) (seg : SegName) → IsTable counts → ForSome from (λ s. 0 < count_of counts s)
-    → count_of (with_one_less counts from) seg + blocks_at from seg ≡ count_of counts seg
-count_of-with_one_less counts None seg table held = omega arith
-count_of-with_one_less counts (Some from) seg table held =
+count_of-usage_take : (counts : List (SegName × ℕ)) (from : Option SegName) (seg : SegName) → IsTable counts → ForSome from (λ s. 0 < count_of counts s)
+    → count_of (usage_take counts from) seg + blocks_at from seg ≡ count_of counts seg
+count_of-usage_take counts None seg table held = omega arith
+count_of-usage_take counts (Some from) seg table held =
     let count = count_of counts from in
     let at = is_at (seg_cmp from) in
     let one : (x y : SegName) → at x ≡ true → at y ≡ eq_by_cmp seg_cmp x y = λ x y same. same_laws.congr from x y same in
@@ -112,28 +112,28 @@ one_segment (Some from) None same = absurd (cc)
 one_segment (Some from) (Some to) same = ap Some (tells_apart seg_cmp_exact from to same)
 
 -- what a segment had and what came is what it has and what went
-pub count_of-after_shift : (counts : List (SegName × ℕ)) (from to : Option SegName) (seg : SegName) → IsTable counts → ForSome from (λ s. 0 < count_of counts s)
-    → count_of (after_shift counts from to) seg + blocks_at from seg ≡ count_of counts seg + blocks_at to seg
-unfolding after_shift
-count_of-after_shift counts from to seg table held =
+pub count_of-usage_shift : (counts : List (SegName × ℕ)) (from to : Option SegName) (seg : SegName) → IsTable counts → ForSome from (λ s. 0 < count_of counts s)
+    → count_of (usage_shift counts from to) seg + blocks_at from seg ≡ count_of counts seg + blocks_at to seg
+unfolding usage_shift
+count_of-usage_shift counts from to seg table held =
     elim (is_same from to) as
     (λ same. is_same from to ≡ same
-    → count_of (cond same counts (with_one_less (with_one_more counts to) from)) seg + blocks_at from seg ≡ count_of counts seg + blocks_at to seg) [
+    → count_of (cond same counts (usage_take (usage_give counts to) from)) seg + blocks_at from seg ≡ count_of counts seg + blocks_at to seg) [
       | true ↦ λ same. ap (λ end. count_of counts seg + blocks_at end seg) (one_segment from to same)
-      | false ↦ λ _. count_of-with_one_less (with_one_more counts to) from seg (table_with_one_more counts to table)
-          (λ s fact. let one = count_of-with_one_more counts to s in let had = held s fact in omega arith) ∙ count_of-with_one_more counts to seg
+      | false ↦ λ _. count_of-usage_take (usage_give counts to) from seg (table_with_one_more counts to table)
+          (λ s fact. let one = count_of-usage_give counts to s in let had = held s fact in omega arith) ∙ count_of-usage_give counts to seg
     ] refl
 
 -- ---- the two ways of the code
 
-pub after_shift_same : (counts : List (SegName × ℕ)) (from to : Option SegName) → is_same from to ≡ true → after_shift counts from to ≡ counts
-unfolding after_shift
-after_shift_same counts from to same = ap (λ b. cond b counts (with_one_less (with_one_more counts to) from)) same
+pub usage_shift_same : (counts : List (SegName × ℕ)) (from to : Option SegName) → is_same from to ≡ true → usage_shift counts from to ≡ counts
+unfolding usage_shift
+usage_shift_same counts from to same = ap (λ b. cond b counts (usage_take (usage_give counts to) from)) same
 
-pub after_shift_apart : (counts : List (SegName × ℕ)) (from to : Option SegName) → is_same from to ≡ false
-    → after_shift counts from to ≡ with_one_less (with_one_more counts to) from
-unfolding after_shift
-after_shift_apart counts from to apart = ap (λ b. cond b counts (with_one_less (with_one_more counts to) from)) apart
+pub usage_shift_apart : (counts : List (SegName × ℕ)) (from to : Option SegName) → is_same from to ≡ false
+    → usage_shift counts from to ≡ usage_take (usage_give counts to) from
+unfolding usage_shift
+usage_shift_apart counts from to apart = ap (λ b. cond b counts (usage_take (usage_give counts to) from)) apart
 
 -- ---- the list of the counts
 

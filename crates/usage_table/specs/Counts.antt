@@ -27,18 +27,18 @@ blocks_at None seg = 0
 blocks_at (Some end) seg = if same_name seg end then 1 else 0
 
 -- the counts with one live block more for this segment, if it is one
-abbrev pub with_one_more : List (SegName × ℕ) → Option SegName → List (SegName × ℕ)
-with_one_more counts None = counts
-with_one_more counts (Some seg) = insert_entry seg_cmp counts seg (count_of counts seg + 1)
+abbrev pub usage_give : List (SegName × ℕ) → Option SegName → List (SegName × ℕ)
+usage_give counts None = counts
+usage_give counts (Some seg) = insert_entry seg_cmp counts seg (count_of counts seg + 1)
 
 -- the counts with one live block less for this segment; one that has none left isn't listed
-abbrev pub with_one_less : List (SegName × ℕ) → Option SegName → List (SegName × ℕ)
-with_one_less counts None = counts
-with_one_less counts (Some seg) =
+abbrev pub usage_take : List (SegName × ℕ) → Option SegName → List (SegName × ℕ)
+usage_take counts None = counts
+usage_take counts (Some seg) =
     if nat_lt 1 (count_of counts seg)
     then set_value (is_at (seg_cmp seg)) counts (count_of counts seg - 1)
     else remove_entry (is_at (seg_cmp seg)) counts
 
 -- the counts once one live block has left one segment and come to the other
-unfoldable pub after_shift : List (SegName × ℕ) → Option SegName → Option SegName → List (SegName × ℕ)
-after_shift counts from to = if is_same from to then counts else with_one_less (with_one_more counts to) from
+unfoldable pub usage_shift : List (SegName × ℕ) → Option SegName → Option SegName → List (SegName × ℕ)
+usage_shift counts from to = if is_same from to then counts else usage_take (usage_give counts to) from

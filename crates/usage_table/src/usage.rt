@@ -6,7 +6,7 @@ ghost use Rattle.std.specs.Map.{keys_of};
 ghost use Rattle.xfs_base.specs.Segments.{seg_cmp};
 ghost use Rattle.xfs_base.specs.declared.segment.SegName.{SegName};
 ghost use Rattle.xfs_base.specs.Limits.{u32_end};
-ghost use Rattle.usage_table.specs.Counts.{count_of, blocks_at, is_same, with_one_more, with_one_less, after_shift};
+ghost use Rattle.usage_table.specs.Counts.{count_of, blocks_at, is_same, usage_give, usage_take, usage_shift};
 
 use std::alloc::Global;
 use std::collections::BTreeMap;
@@ -56,7 +56,7 @@ impl Usage {
     pub fn shift(&mut self, _alloc: Global, from: Option<SegName>, to: Option<SegName>) -> Mem<()>
         requires held { ForSome from (λ seg. 0 < count_of self.old seg) }
         requires room { ForSome to (λ seg. from ≢ Some seg → count_of self.old seg < u32_end) }
-        ensures moved { OnOk result (self.new ≡ after_shift self.old from to) }
+        ensures moved { OnOk result (self.new ≡ usage_shift self.old from to) }
         ensures counted { OnOk result ((seg : SegName)
             → count_of self.new seg + blocks_at from seg ≡ count_of self.old seg + blocks_at to seg) }
         ensures err { OnErr result (self.new ≡ self.old) }
@@ -116,7 +116,7 @@ fn listed(alloc: Global, counts: &BTreeMap<SegName, u32>) -> Mem<List<(SegName, 
 // Memory is taken here, before anything changes, and for a new segment alone.
 fn give(counts: &mut BTreeMap<SegName, u32>, to: Option<SegName>) -> Mem<()>
     requires { ForSome to (λ seg. count_of counts.old.entries seg < u32_end) }
-    ensures ok { OnOk result (counts.new.entries ≡ with_one_more counts.old.entries to) }
+    ensures ok { OnOk result (counts.new.entries ≡ usage_give counts.old.entries to) }
     ensures err { OnErr result (counts.new.entries ≡ counts.old.entries) }
 {
     if let Some(seg) = to {
@@ -127,7 +127,7 @@ fn give(counts: &mut BTreeMap<SegName, u32>, to: Option<SegName>) -> Mem<()>
 }
 
 fn take(counts: &mut BTreeMap<SegName, u32>, from: Option<SegName>)
-    ensures { counts.new.entries ≡ with_one_less counts.old.entries from }
+    ensures { counts.new.entries ≡ usage_take counts.old.entries from }
 {
     if let Some(seg) = from {
         take_one(counts, seg);
@@ -135,7 +135,7 @@ fn take(counts: &mut BTreeMap<SegName, u32>, from: Option<SegName>)
 }
 
 fn take_one(counts: &mut BTreeMap<SegName, u32>, seg: SegName)
-    ensures { counts.new.entries ≡ with_one_less counts.old.entries (Some seg) }
+    ensures { counts.new.entries ≡ usage_take counts.old.entries (Some seg) }
 {
     let count = count_in(counts, seg);
     if count <= 1 {

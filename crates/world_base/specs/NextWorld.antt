@@ -86,17 +86,17 @@ module _ {N : Type 0} (step : N → Do → NodeStep N) where
   turned w place what None = w
   turned w place what (Some clock) = after_turn w place clock (turn_of w.nodes place what)
 
-  unfoldable pub happened_at : World N → ℕ → Do → World N
-  happened_at w place what = turned w place what (clock_at w place what)
+  unfoldable pub happen_at : World N → ℕ → Do → World N
+  happen_at w place what = turned w place what (clock_at w place what)
 
   abbrev pub at_place : World N → Do → Option ℕ → World N
   at_place w what None = w
-  at_place w what (Some place) = happened_at w place what
+  at_place w what (Some place) = happen_at w place what
 
   -- this happens to a node
-  unfoldable pub happened : World N → NodeId → Do → World N
-  happened w node what = at_place w what (place_of w.cluster node)
+  unfoldable pub world_happen : World N → NodeId → Do → World N
+  world_happen w node what = at_place w what (place_of w.cluster node)
 
   -- the next world
   abbrev pub next_world : World N → Event → World N
-  next_world w event = happened w (node_of event) (what_of event)
+  next_world w event = world_happen w (node_of event) (what_of event)

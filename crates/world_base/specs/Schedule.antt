@@ -21,12 +21,12 @@ pub record ScheduleState : Type 0 where
   pub rounds : ℕ
 
 -- before the first line nothing is on its way
-abbrev pub started : ScheduleState
-started = record { queue = []; lose = 0; again = 0; mixer = None; holding = false; deliveries = 0; rounds = 0 }
+abbrev pub schedule_start : ScheduleState
+schedule_start = record { queue = []; lose = 0; again = 0; mixer = None; holding = false; deliveries = 0; rounds = 0 }
 
 -- a packet is sent: it is on its way, or one of those that are lost
-unfoldable pub sent : ScheduleState → ℕ → ScheduleState
-sent s number =
+unfoldable pub schedule_send : ScheduleState → ℕ → ScheduleState
+schedule_send s number =
     if nat_lt 0 s.lose
     then record s { lose = s.lose - 1 }
     else record s { queue = s.queue ++ number ∷ [] }
@@ -39,30 +39,30 @@ repeated s number =
     else s
 
 -- so many deliveries may be made for the line in hand, and so many rounds
-abbrev pub with_room : ℕ → ℕ → ScheduleState → ScheduleState
-with_room deliveries rounds s = record s { deliveries = deliveries; rounds = rounds }
+abbrev pub make_room : ℕ → ℕ → ScheduleState → ScheduleState
+make_room deliveries rounds s = record s { deliveries = deliveries; rounds = rounds }
 
 -- the queue is drained: as many deliveries as a line may have, and rounds by what is lost and unanswered
-abbrev pub drained : ℕ → ScheduleState → ScheduleState
-drained unanswered s = with_room max_deliveries (40 + s.lose + 4 * unanswered) s
+abbrev pub schedule_drain : ℕ → ScheduleState → ScheduleState
+schedule_drain unanswered s = make_room max_deliveries (40 + s.lose + 4 * unanswered) s
 
 -- an item was begun: the queue is drained, unless the packets are held back
 unfoldable pub item_begun : ℕ → ScheduleState → ScheduleState
-item_begun unanswered s = if s.holding then with_room 0 0 s else drained unanswered s
+item_begun unanswered s = if s.holding then make_room 0 0 s else schedule_drain unanswered s
 
 -- the number of which the order is drawn: 0 ends it
 abbrev pub mixer_of : ℕ → Option ℕ
 mixer_of number = if number == 0 then None else Some number
 
 -- a line that is no item
-unfoldable pub told : Work → ℕ → ScheduleState → ScheduleState
-told (works.NetLose count) unanswered s = record (with_room 0 0 s) { lose = count }
-told (works.NetAgain count) unanswered s = record (with_room 0 0 s) { again = count }
-told (works.NetMix number) unanswered s = record (with_room 0 0 s) { mixer = mixer_of number }
-told works.NetHold unanswered s = record (with_room 0 0 s) { holding = true }
-told works.NetGo unanswered s = drained unanswered (record s { holding = false })
-told (works.NetStep count) unanswered s = with_room count 0 s
-told work unanswered s = with_room 0 0 s
+unfoldable pub schedule_take : Work → ℕ → ScheduleState → ScheduleState
+schedule_take (works.NetLose count) unanswered s = record (make_room 0 0 s) { lose = count }
+schedule_take (works.NetAgain count) unanswered s = record (make_room 0 0 s) { again = count }
+schedule_take (works.NetMix number) unanswered s = record (make_room 0 0 s) { mixer = mixer_of number }
+schedule_take works.NetHold unanswered s = record (make_room 0 0 s) { holding = true }
+schedule_take works.NetGo unanswered s = schedule_drain unanswered (record s { holding = false })
+schedule_take (works.NetStep count) unanswered s = make_room count 0 s
+schedule_take work unanswered s = make_room 0 0 s
 
 abbrev pub is_done : Next → Bool
 is_done (Deliver number) = false
@@ -98,15 +98,15 @@ abbrev pub done : ScheduleState → Going
 done s = record { next = Done; state = s }
 
 -- nothing is on its way: time passes where an item is unanswered, as often as it may
-abbrev pub passes : ℕ → ScheduleState → Going
-passes unanswered s =
+abbrev pub schedule_pass : ℕ → ScheduleState → Going
+schedule_pass unanswered s =
     if (unanswered == 0) || (s.rounds == 0) then done s
     else record { next = Round; state = record s { rounds = s.rounds - 1 } }
 
 -- what comes next for the line in hand
-unfoldable pub goes : ℕ → ScheduleState → Going
-goes unanswered s =
-    if length s.queue == 0 then passes unanswered s
+unfoldable pub schedule_next : ℕ → ScheduleState → Going
+schedule_next unanswered s =
+    if length s.queue == 0 then schedule_pass unanswered s
     else if s.deliveries == 0 then done s
     else delivers s.mixer s
 

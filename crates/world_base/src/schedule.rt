@@ -1,7 +1,7 @@
 //! The schedule by which one thread plays a script: which packet comes next, and when time passes. It
 //! knows packets by numbers alone, so that whoever plays may send packets of kinds of its own.
 ghost use Rattle.std.specs.Prelude.{◌≡◌, ◌<◌, length, OnOk, Some, None};
-ghost use Rattle.world_base.specs.Schedule.{started, sent, repeated, with_room, drained, item_begun, mixer_of, told, delivers, passes, goes, is_done};
+ghost use Rattle.world_base.specs.Schedule.{schedule_start, schedule_send, repeated, make_room, schedule_drain, item_begun, mixer_of, schedule_take, delivers, schedule_pass, schedule_next, is_done};
 
 use std::alloc::Global;
 use std::collections::VecDeque;
@@ -98,7 +98,7 @@ impl Model for Schedule {
 impl Schedule {
     /// The schedule before the first line: nothing is on its way. It takes no memory.
     pub fn start(alloc: Global) -> Schedule
-        ensures { result ≡ started }
+        ensures { result ≡ schedule_start }
     {
         Schedule {
             queue: VecDeque::new(alloc),
@@ -112,9 +112,9 @@ impl Schedule {
     }
 
     /// The packet of this number was sent. It is on its way, unless it is one of those that are lost.
-    #[tactic(auto, unfolding(crate::specs::Schedule::sent))]
+    #[tactic(auto, unfolding(crate::specs::Schedule::schedule_send))]
     pub fn send(&mut self, number: usize) -> Mem<()>
-        ensures { OnOk result (self.new ≡ sent self.old number) }
+        ensures { OnOk result (self.new ≡ schedule_send self.old number) }
     {
         if self.lose > 0 {
             self.lose -= 1;
@@ -139,7 +139,7 @@ impl Schedule {
 
     /// So much may happen for the line in hand.
     fn make_room(&mut self, deliveries: u32, rounds: u128)
-        ensures { self.new ≡ with_room deliveries rounds self.old }
+        ensures { self.new ≡ make_room deliveries rounds self.old }
     {
         self.deliveries = deliveries;
         self.rounds = rounds;
@@ -147,7 +147,7 @@ impl Schedule {
 
     /// The queue is drained: deliveries, and as often as the rules allow time may pass.
     fn drain(&mut self, unanswered: u64)
-        ensures { self.new ≡ drained unanswered self.old }
+        ensures { self.new ≡ schedule_drain unanswered self.old }
     {
         let rounds = ROUNDS + u128::from(self.lose) + ROUNDS_AN_ITEM * u128::from(unanswered);
         self.make_room(MAX_DELIVERIES, rounds);
@@ -168,9 +168,9 @@ impl Schedule {
 
     /// A line that is no item; so many items are unanswered. What is no line of the network changes
     /// nothing.
-    #[tactic(auto, unfolding(crate::specs::Schedule::told))]
+    #[tactic(auto, unfolding(crate::specs::Schedule::schedule_take))]
     pub fn take(&mut self, work: &Work, unanswered: u64)
-        ensures { self.new ≡ told work.now unanswered self.old }
+        ensures { self.new ≡ schedule_take work.now unanswered self.old }
     {
         self.make_room(0, 0);
         match work {
@@ -218,8 +218,8 @@ impl Schedule {
 
     /// Whether time passes now that nothing is on its way.
     fn pass(&mut self, unanswered: u64) -> Next
-        ensures next { result ≡ (passes unanswered self.old).next }
-        ensures state { self.new ≡ (passes unanswered self.old).state }
+        ensures next { result ≡ (schedule_pass unanswered self.old).next }
+        ensures state { self.new ≡ (schedule_pass unanswered self.old).state }
     {
         if unanswered == 0 || self.rounds == 0 {
             return Next::Done;
@@ -229,10 +229,10 @@ impl Schedule {
     }
 
     /// What comes next for the line in hand, where so many items are unanswered.
-    #[tactic(auto, unfolding(crate::specs::Schedule::goes))]
+    #[tactic(auto, unfolding(crate::specs::Schedule::schedule_next))]
     pub fn next(&mut self, unanswered: u64) -> Next
-        ensures next { result ≡ (goes unanswered self.old).next }
-        ensures state { self.new ≡ (goes unanswered self.old).state }
+        ensures next { result ≡ (schedule_next unanswered self.old).next }
+        ensures state { self.new ≡ (schedule_next unanswered self.old).state }
     {
         if self.queue.is_empty() {
             return self.pass(unanswered);

@@ -1,7 +1,7 @@
 //! All nodes of a run, what they sent and what they did.
 ghost use Rattle.std.specs.Prelude.{◌≡◌, ◌<◌, length, Some, IfOk, IfSome, OnOk};
 ghost use Rattle.world_base.specs.Cluster.{HasNode, cluster_of};
-ghost use Rattle.world_base.specs.NextWorld.{after_turn, clock_at, first_node, first_nodes, happened, happened_at, start_world, turn_of};
+ghost use Rattle.world_base.specs.NextWorld.{after_turn, clock_at, first_node, first_nodes, world_happen, happen_at, start_world, turn_of};
 ghost use Rattle.node_base.specs.Setups.{IsSetup};
 
 use crate::turn::{clock_after, note_all, send_all, set_clock, turn_of};
@@ -112,9 +112,9 @@ impl<N: Member> World<N> {
     }
 
     /// This happens to the node at a place; nothing does where there is none.
-    #[tactic(auto, unfolding(crate::specs::NextWorld::happened_at))]
+    #[tactic(auto, unfolding(crate::specs::NextWorld::happen_at))]
     pub fn happen_at(&mut self, alloc: Global, place: usize, what: &Do) -> Mem<()>
-        ensures { OnOk result (self.new ≡ happened_at N.transition self.old place what.now) }
+        ensures { OnOk result (self.new ≡ happen_at N.transition self.old place what.now) }
     {
         match self.clock_at(place, what) {
             None => Ok(()),
@@ -124,9 +124,9 @@ impl<N: Member> World<N> {
 
     /// This happens to a node. Nothing changes where the run has no such node, or where the clock of the event
     /// would pass its end. Where memory is wanting the world is given up.
-    #[tactic(auto, unfolding(crate::specs::NextWorld::happened))]
+    #[tactic(auto, unfolding(crate::specs::NextWorld::world_happen))]
     pub fn happen(&mut self, alloc: Global, node: NodeId, what: &Do) -> Mem<()>
-        ensures { OnOk result (self.new ≡ happened N.transition self.old node what.now) }
+        ensures { OnOk result (self.new ≡ world_happen N.transition self.old node what.now) }
     {
         match self.cluster.place(node) {
             None => Ok(()),

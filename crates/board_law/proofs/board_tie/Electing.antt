@@ -15,7 +15,7 @@ use Rattle.board.specs.declared.command.Command.{Command}
 use Rattle.board.specs.declared.packet.BoardBody.TheVariants.{Install}
 use Rattle.board.specs.Ballots.{owner_of}
 use Rattle.board.specs.State.{BoardState}
-use Rattle.board.specs.Transition.{send_others, may_lead, is_better, lead_with, lead, on_promised}
+use Rattle.board.specs.Transition.{send_others, may_lead, is_better, lead_with_own, lead, on_promised}
 use Rattle.board_law.specs.board_tie.Follows.{Follows}
 use Rattle.board_law.specs.board_tie.Shown.{Shows, flag, owner}
 use Rattle.board_law.proofs.board_tie.Beats.{owned, install_is}
@@ -45,11 +45,11 @@ module _ (w : World Command) (place : ℕ) (s : BoardState) (shows : Shows place
       }
 
   -- It leads with a list.
-  leads : (ballot : ℕ) (list : List Command) → Step w (leads_with w place ballot list) → Follows w place (lead_with s ballot list)
+  leads : (ballot : ℕ) (list : List Command) → Step w (leads_with w place ballot list) → Follows w place (lead_with_own s ballot list)
   leads ballot list step =
       let x = w.board place in
       let v = leads_with w place ballot list in
-      changes w place v (record x { ballot = ballot; list = list; leads = 1; known = λ j. 0; done = 0 }) (lead_with s ballot list) step refl
+      changes w place v (record x { ballot = ballot; list = list; leads = 1; known = λ j. 0; done = 0 }) (lead_with_own s ballot list) step refl
       (record {
         number = shows.number;
         up = shows.up;
@@ -68,11 +68,11 @@ module _ (w : World Command) (place : ℕ) (s : BoardState) (shows : Shows place
       (others_sent v place s (Install ballot list) shows.number (inl refl))
 
   -- It led this ballot before, and leads it again.
-  leads_on : (ballot : ℕ) → Step w (leads_again w place) → s.ballot ≡ ballot → Follows w place (lead_with s ballot s.list)
+  leads_on : (ballot : ℕ) → Step w (leads_again w place) → s.ballot ≡ ballot → Follows w place (lead_with_own s ballot s.list)
   leads_on ballot step same =
       let x = w.board place in
       let v = leads_again w place in
-      changes w place v (record x { leads = 1; known = λ j. 0; done = 0 }) (lead_with s ballot s.list) step refl
+      changes w place v (record x { leads = 1; known = λ j. 0; done = 0 }) (lead_with_own s ballot s.list) step refl
       (record {
         number = shows.number;
         up = shows.up;
@@ -91,13 +91,13 @@ module _ (w : World Command) (place : ℕ) (s : BoardState) (shows : Shows place
       (others_sent v place s (Install ballot s.list) shows.number (inl (install_is ballot x.ballot s.list x.list (sym (shows.ballot ∙ same)) (sym shows.list))))
 
   module _ (other ballot last : ℕ) (list : List Command) (among : other < 3) (apart : other ≡ place → ⊥) (sent : In (promise other ballot last list) w.promises) where
-    with_theirs : may_lead s ballot ≡ true → is_better s last list ≡ true → Follows w place (lead_with s ballot list)
+    with_theirs : may_lead s ballot ≡ true → is_better s last list ≡ true → Follows w place (lead_with_own s ballot list)
     with_theirs may_it better =
         let x = w.board place in
         let greater : (x.ballot < last) ⊎ ((x.ballot ≡ last) × (length x.list < length list)) = grind (arith, nat_tests, better, shows.ballot, ap length shows.list) in
         leads ballot list (LeadsWithTheirs place (promise other ballot last list) (record { lead = may other ballot last list among apart sent may_it; greater = greater }))
 
-    with_own : may_lead s ballot ≡ true → is_better s last list ≡ false → Follows w place (lead_with s ballot s.list)
+    with_own : may_lead s ballot ≡ true → is_better s last list ≡ false → Follows w place (lead_with_own s ballot s.list)
     with_own may_it better =
         let x = w.board place in
         let lead = may other ballot last list among apart sent may_it in
@@ -106,9 +106,9 @@ module _ (w : World Command) (place : ℕ) (s : BoardState) (shows : Shows place
         by_order lead low least (compare x.ballot ballot) where
           by_order : MayLead w place (promise other ballot last list) → (w.board place).ballot ≤ (w.board place).promised
               → (last < (w.board place).ballot) ⊎ ((last ≡ (w.board place).ballot) × (length list ≤ length (w.board place).list))
-              → ((w.board place).ballot < ballot) ⊎ (((w.board place).ballot ≡ ballot) ⊎ (ballot < (w.board place).ballot)) → Follows w place (lead_with s ballot s.list)
+              → ((w.board place).ballot < ballot) ⊎ (((w.board place).ballot ≡ ballot) ⊎ (ballot < (w.board place).ballot)) → Follows w place (lead_with_own s ballot s.list)
           by_order lead low least (inl less) =
-              subst (λ all. Follows w place (lead_with s ballot all)) shows.list
+              subst (λ all. Follows w place (lead_with_own s ballot all)) shows.list
               (leads ballot (w.board place).list (LeadsWithOwn place (promise other ballot last list) (record { lead = lead; below = less; least = least })))
           by_order lead low least (inr (inl same)) =
               leads_on ballot (LeadsAgain place (promise other ballot last list) (record { lead = lead; same = same })) (sym shows.ballot ∙ same)
@@ -119,7 +119,7 @@ module _ (w : World Command) (place : ℕ) (s : BoardState) (shows : Shows place
     promise_comes =
         by_test (Follows w place) (may_lead s ballot) _ (still s)
         (λ may_it.
-        by_test (Follows w place) (is_better s last list) (lead_with s ballot list) (lead_with s ballot s.list)
+        by_test (Follows w place) (is_better s last list) (lead_with_own s ballot list) (lead_with_own s ballot s.list)
         (λ better. with_theirs may_it better)
         (λ better. with_own may_it better))
         (λ e. stays w place s shows)

@@ -14,7 +14,7 @@ use Rattle.board_protocol.proofs.Invariant.{always}
 use Rattle.board.specs.declared.command.Command.{Command}
 use Rattle.board.specs.declared.packet.BoardBody.TheVariants.{Promised, Accepted}
 use Rattle.board.specs.State.{BoardState}
-use Rattle.board.specs.Transition.{answer, raised, on_prepare, install, on_install, append, on_append}
+use Rattle.board.specs.Transition.{answer, board_raise, on_prepare, install, on_install, append, on_append}
 use Rattle.board_law.specs.board_tie.Follows.{Follows}
 use Rattle.board_law.specs.board_tie.Shown.{Shows, flag, owner}
 use Rattle.board_law.proofs.board_tie.Growing.{is_up}
@@ -41,7 +41,7 @@ accepted_is : (place b c n m : ℕ) → b ≡ c → n ≡ m → accepted_of plac
 accepted_is place b c n m ballot count = ap (λ a. accepted_of place a n) ballot ∙ ap (λ a. accepted_of place c a) count
 
 module _ (w : World Command) (place : ℕ) (s : BoardState) (shows : Shows place (w.board place) s) where
-  raised_shows : (ballot : ℕ) → Shows place (following.raised (w.board place) ballot) (raised s ballot)
+  raised_shows : (ballot : ℕ) → Shows place (following.raised (w.board place) ballot) (board_raise s ballot)
   raised_shows ballot =
       let x = w.board place in
       record {
@@ -75,12 +75,12 @@ module _ (w : World Command) (place : ℕ) (s : BoardState) (shows : Shows place
 
   -- A list of a later ballot is accepted.
   installs_new : s.up ≡ true → (from ballot : ℕ) (list : List Command) → In (record { ballot = ballot; list = list }) w.installs → (w.board place).promised ≤ ballot → s.ballot < ballot
-      → Follows w place (answer (record (raised s ballot) { ballot = ballot; list = list }) from)
+      → Follows w place (answer (record (board_raise s ballot) { ballot = ballot; list = list }) from)
   installs_new up from ballot list sent kept above =
       let x = w.board place in
       let p : packets.Install Command = record { ballot = ballot; list = list } in
       let v = installs w place p in
-      let now = record (raised s ballot) { ballot = ballot; list = list } in
+      let now = record (board_raise s ballot) { ballot = ballot; list = list } in
       let raise = raised_shows ballot in
       changes w place v (record (following.raised x ballot) { ballot = ballot; list = list }) (answer now from)
       (Installs place p (record { take = record { sent = sent; up = is_up w place s shows up; kept = kept }; above = subst (λ n. n < ballot) (sym shows.ballot) above }))
@@ -104,15 +104,15 @@ module _ (w : World Command) (place : ℕ) (s : BoardState) (shows : Shows place
 
   -- Of the board's own ballot it is answered.
   installs_known : s.up ≡ true → (from ballot : ℕ) (list : List Command) → In (record { ballot = ballot; list = list }) w.installs → (w.board place).promised ≤ ballot → s.ballot ≡ ballot
-      → Follows w place (answer (raised s ballot) from)
+      → Follows w place (answer (board_raise s ballot) from)
   installs_known up from ballot list sent kept same =
       let x = w.board place in
       let p : packets.Install Command = record { ballot = ballot; list = list } in
       let v = installs_again w place p in
-      changes w place v (following.raised x ballot) (answer (raised s ballot) from)
+      changes w place v (following.raised x ballot) (answer (board_raise s ballot) from)
       (InstallsAgain place p (record { take = record { sent = sent; up = is_up w place s shows up; kept = kept }; same = shows.ballot ∙ same }))
       refl (raised_shows ballot) (quiet x.applied [] refl)
-      (one_sent v place (raised s ballot) (Accepted s.ballot (length s.list)) from shows.number
+      (one_sent v place (board_raise s ballot) (Accepted s.ballot (length s.list)) from shows.number
       (inl (accepted_is place s.ballot ballot (length s.list) (length x.list) same (sym (ap length shows.list)))))
 
   pub install_comes : Steps (start owner) w → s.up ≡ true → (from ballot : ℕ) (list : List Command) → In (record { ballot = ballot; list = list }) w.installs
@@ -123,10 +123,10 @@ module _ (w : World Command) (place : ℕ) (s : BoardState) (shows : Shows place
       by_test (Follows w place) (nat_lt ballot s.promised) (still s) _ (λ e. stays w place s shows)
       (λ kept.
       let least : (w.board place).promised ≤ ballot = grind (arith, nat_tests, kept, shows.promised) in
-      by_test (Follows w place) (nat_lt s.ballot ballot) (answer (record (raised s ballot) { ballot = ballot; list = list }) from) _
+      by_test (Follows w place) (nat_lt s.ballot ballot) (answer (record (board_raise s ballot) { ballot = ballot; list = list }) from) _
       (λ e. installs_new up from ballot list sent least (grind (arith, nat_tests, e)))
       (λ e.
-      by_test (Follows w place) (s.ballot == ballot) (answer (raised s ballot) from) (still (raised s ballot))
+      by_test (Follows w place) (s.ballot == ballot) (answer (board_raise s ballot) from) (still (board_raise s ballot))
       (λ same. installs_known up from ballot list sent least ((Decides-eqb s.ballot ballot).0 same))
       (λ other. absurd (grind (arith, nat_tests, e, other, low, least, shows.ballot)))))
 

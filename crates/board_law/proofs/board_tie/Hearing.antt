@@ -15,7 +15,7 @@ use Rattle.board.specs.declared.lengths.Lengths.{Lengths}
 use Rattle.board.specs.declared.output.Out.TheVariants.{Apply}
 use Rattle.board.specs.Lengths.{greater, noted, greatest}
 use Rattle.board.specs.State.{BoardState}
-use Rattle.board.specs.Transition.{extend_waiting, settled, apply_done, heard_of, on_accepted}
+use Rattle.board.specs.Transition.{extend_waiting, board_settle, apply_done, heard_of, on_accepted}
 use Rattle.board.specs.Waiting.{without}
 use Rattle.board_law.specs.board_tie.Follows.{Follows, applied_in}
 use Rattle.board_law.specs.board_tie.Sent.{AllSent}
@@ -75,7 +75,7 @@ module _ (w : World Command) (place : ℕ) (s : BoardState) (shows : Shows place
   -- What is done then is applied, and leaves waiting.
   hears_of : (from other ballot count : ℕ) → from ≡ suc other → other < 3 → (other ≡ place → ⊥) → In (record { from = other; ballot = ballot; length = count }) w.accepts
       → s.leads ≡ true → s.ballot ≡ ballot
-      → Follows w place (told (settled (heard_of s from count)) (map Apply (drop s.applied (take (heard_of s from count).done s.list))))
+      → Follows w place (told (board_settle (heard_of s from count)) (map Apply (drop s.applied (take (heard_of s from count).done s.list))))
   hears_of from other ballot count from_is among apart sent leads same =
       let x = w.board place in
       let p : packets.Accepted = record { from = other; ballot = ballot; length = count } in
@@ -90,7 +90,7 @@ module _ (w : World Command) (place : ℕ) (s : BoardState) (shows : Shows place
       let given : x.applied ++ drop (length x.applied) (done_then x p) ≡ x.applied ++ drop s.applied list =
       ap (λ all. x.applied ++ drop (length x.applied) all) done_is ∙ ap (λ n. x.applied ++ drop n list) shows.applied
       in
-      changes w place v after (told (settled now) (map Apply (drop s.applied list)))
+      changes w place v after (told (board_settle now) (map Apply (drop s.applied list)))
       (Hears place p rest
       (record { sent = sent; up = is_up w place s shows up; leads = is_leader w place s shows leads; ballot = shows.ballot ∙ same; other = among; another = apart })
       (subst (λ all. Without all x.waiting rest) (sym done_is) (subst (λ waiting. Without list waiting rest) (sym shows.waiting) (leaves list s.waiting))))
@@ -120,6 +120,6 @@ module _ (w : World Command) (place : ℕ) (s : BoardState) (shows : Shows place
       (λ here.
       let now = heard_of s from count in
       let heard = hears_of from other ballot count from_is among apart sent (and_first s.leads _ here) ((Decides-eqb s.ballot ballot).0 (and_second s.leads _ here)) in
-      goes_on w place reached (told (settled now) (map Apply (drop s.applied (take now.done s.list)))) (extend_waiting (settled now)) heard
-      (waiting_follows heard.world place (settled now) heard.shows up))
+      goes_on w place reached (told (board_settle now) (map Apply (drop s.applied (take now.done s.list)))) (extend_waiting (board_settle now)) heard
+      (waiting_follows heard.world place (board_settle now) heard.shows up))
       (λ e. stays w place s shows)

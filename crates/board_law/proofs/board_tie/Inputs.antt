@@ -13,7 +13,7 @@ use Rattle.board.specs.declared.input.In.TheVariants.{Offer, Mail, Beat, Stop, S
 use Rattle.board.specs.declared.packet.BoardBody.{BoardBody}
 use Rattle.board.specs.declared.packet.BoardBody.TheVariants.{Prepare, Promised, Install, Append, Accepted}
 use Rattle.board.specs.declared.packet.BoardPacket.{BoardPacket}
-use Rattle.board.specs.State.{BoardState, started}
+use Rattle.board.specs.State.{BoardState, board_start}
 use Rattle.board.specs.Transition.{transition, is_ready, is_for, has_short, hears, on_body, on_mail, on_offer, on_beat, stopped, restarted}
 use Rattle.board_law.specs.board_tie.Follows.{Follows}
 use Rattle.board_law.specs.board_tie.Sent.{Said, Sent, Came}
@@ -26,7 +26,7 @@ use Rattle.board_law.proofs.board_tie.Hearing.{accepted_comes}
 use Rattle.board_law.proofs.board_tie.Moves.{stays, changes, quiet}
 use Rattle.board_law.proofs.board_tie.Showing.{heard_or_not, up_shows}
 
-pub starts_so : (place : ℕ) → place < 3 → Shows place ((start owner).board place) (started (suc place))
+pub starts_so : (place : ℕ) → place < 3 → Shows place ((start owner).board place) (board_start (suc place))
 starts_so zero below = record { number = refl; up = refl; promised = refl; ballot = refl; list = refl; waiting = refl; leads = refl; first = refl; second = refl; third = refl; done = refl; applied = refl }
 starts_so (suc zero) below = record { number = refl; up = refl; promised = refl; ballot = refl; list = refl; waiting = refl; leads = refl; first = refl; second = refl; third = refl; done = refl; applied = refl }
 starts_so (suc (suc zero)) below = record { number = refl; up = refl; promised = refl; ballot = refl; list = refl; waiting = refl; leads = refl; first = refl; second = refl; third = refl; done = refl; applied = refl }

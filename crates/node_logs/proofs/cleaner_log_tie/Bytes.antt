@@ -24,14 +24,14 @@ use Rattle.segment_reading.specs.declared.reading.Next.{Next}
 use Rattle.segment_reading.specs.declared.reading.Next.TheVariants as next
 use Rattle.segment_reading.specs.declared.reading.Stage.{Stage}
 use Rattle.segment_reading.specs.declared.reading.Stage.TheVariants as stage
-use Rattle.segment_reading.specs.Reading.{ReadingState, Step, is_target, segment_found, counts, read_as, judged, on_answer, goes_on, on_confirmed}
+use Rattle.segment_reading.specs.Reading.{ReadingState, Step, is_met_by, segment_found, counts, reading_reads, reading_judge, reading_take, goes_on, on_confirmed}
 use Rattle.stripe_code.specs.declared.round.Answer.{Answer}
 use Rattle.stripe_code.specs.declared.round.RoundState.{RoundState}
 use Rattle.stripe_code.specs.declared.round.RoundState.TheVariants.{Read, Short, Waiting}
 use Rattle.stripe_code.specs.declared.round.Told.{Told}
 use Rattle.stripe_code.specs.declared.round.Told.TheVariants.{Held, Missing}
 use Rattle.stripe_code.specs.Joined.{part_at, rest_onto, one_gone, lower_of, two_gone, recovered_at, recovered, missing_from, filled, joined}
-use Rattle.stripe_code.specs.Round.{RoundSoFar, has_answered, taken, bytes_told, bytes_in, parts_in, missing_in, len_in, is_enough, have_answered, state_of}
+use Rattle.stripe_code.specs.Round.{RoundSoFar, has_answered, round_take, bytes_told, bytes_in, parts_in, missing_in, len_in, is_enough, all_answered, state_of}
 use Rattle.stripe_code.specs.Stripe.{plain, weighted}
 use Rattle.node_logs.specs.cleaner_log_tie.Fitting.{ToldFits, RoundFits}
 use Rattle.node_logs.proofs.cleaner_log_tie.Fitting.{ItemFits, SegmentFits}
@@ -185,15 +185,15 @@ unfolding state_of
 state_bytes r h =
     by_test StateBytes (is_enough r) (Read (joined (parts_in r.n r.answers) r.parity (unwrap_or (len_in r.answers) 0))) _
     (λ t. joined_bytes (parts_in r.n r.answers) r.parity (unwrap_or (len_in r.answers) 0) (parts_bytes r.answers h (range_with_len 0 r.n)))
-    (λ t. by_test StateBytes (have_answered r.answers r.servers) (Short (missing_in r.answers)) Waiting (λ k. tt) (λ k. tt))
+    (λ t. by_test StateBytes (all_answered r.answers r.servers) (Short (missing_in r.answers)) Waiting (λ k. tt) (λ k. tt))
 
 appended : (answers : List Answer) (a : Answer) → AllByRecursion (λ (x : Answer). ToldFits x.told) answers → ToldFits a.told
     → AllByRecursion (λ (x : Answer). ToldFits x.told) (answers ++ a ∷ [])
 appended [] a all h = (h, tt)
 appended (x ∷ answers) a all h = (all.0, appended answers a all.1 h)
 
-pub taken_fits : (r : RoundSoFar) (server : ℕ) (t : Told) → RoundFits r → ToldFits t → RoundFits (taken r server t)
-unfolding taken
+pub taken_fits : (r : RoundSoFar) (server : ℕ) (t : Told) → RoundFits r → ToldFits t → RoundFits (round_take r server t)
+unfolding round_take
 taken_fits r server t h told =
     by_test RoundFits (has_answered r.answers server) r (record r { answers = r.answers ++ record { server = server; told = t } ∷ [] }) (λ e. h)
     (λ e. appended r.answers (record { server = server; told = t }) h told)
@@ -237,25 +237,25 @@ pub record StepFits (s : Step) : Type 0 where
   pub round : RoundFits s.state.round
   pub next : NextFits s.next
 
-judged_fits : (r : ReadingState) (groups : GroupMapState) (x : RoundState) → RoundFits r.round → StateBytes x → StepFits (judged r groups x)
+judged_fits : (r : ReadingState) (groups : GroupMapState) (x : RoundState) → RoundFits r.round → StateBytes x → StepFits (reading_judge r groups x)
 judged_fits r groups (Short pairs) h bytes = record { round = h; next = tt }
 judged_fits r groups Waiting h bytes = record { round = h; next = tt }
 judged_fits r groups (Read text) h bytes = by_answer (answer_of text) refl
   where
-    by_answer : (a : Result Segment SegError) → answer_of text ≡ a → StepFits (read_as r (segment_found r.target groups a))
+    by_answer : (a : Result Segment SegError) → answer_of text ≡ a → StepFits (reading_reads r (segment_found r.target groups a))
     by_answer (Err e) fact = record { round = h; next = tt }
     by_answer (Ok s) fact =
-        by_test (λ (o : Option Segment). StepFits (read_as r o)) (is_target r.target groups s) (Some s) None
+        by_test (λ (o : Option Segment). StepFits (reading_reads r o)) (is_met_by r.target groups s) (Some s) None
         (λ t. record { round = h; next = (segment_fits text s bytes fact, (answer_takes text s (each_below text bytes) fact).1) })
         (λ t. record { round = h; next = tt })
 
 -- an answer that comes to a reading
 pub answered_fits : (r : ReadingState) (groups : GroupMapState) (ask server : ℕ) (t : Told) → RoundFits r.round → ToldFits t
-    → StepFits (on_answer r groups ask server t)
-unfolding on_answer
+    → StepFits (reading_take r groups ask server t)
+unfolding reading_take
 answered_fits r groups ask server t h told =
-    let now : RoundSoFar = taken r.round server t in
-    by_test StepFits (counts r ask server t) (judged (record r { round = now }) groups (state_of now)) (record { state = r; next = next.Wait })
+    let now : RoundSoFar = round_take r.round server t in
+    by_test StepFits (counts r ask server t) (reading_judge (record r { round = now }) groups (state_of now)) (record { state = r; next = next.Wait })
     (λ e. judged_fits (record r { round = now }) groups (state_of now) (taken_fits r.round server t h told)
     (state_bytes now (taken_fits r.round server t h told)))
     (λ e. record { round = h; next = tt })

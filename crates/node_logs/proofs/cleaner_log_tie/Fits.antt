@@ -9,17 +9,17 @@ use Rattle.segment_format.specs.declared.segment.Item.{Item}
 use Rattle.segment_format.specs.declared.segment.Item.TheVariants.{Block, Delta, Part}
 use Rattle.segment_format.specs.Ranges.{FitsRow}
 use Rattle.stripe_cleaner.specs.CleaningState.{CleaningState}
-use Rattle.stripe_cleaner.specs.Checks.{checks_from}
+use Rattle.stripe_cleaner.specs.Checks.{checks_of}
 use Rattle.stripe_cleaner.specs.declared.input.In.{In as Input}
 use Rattle.stripe_cleaner.specs.declared.output.Out.{Out}
 use Rattle.stripe_cleaner.specs.declared.phase.Phase.{Phase}
 use Rattle.stripe_cleaner.specs.declared.phase.Phase.TheVariants.{Greeting, Checking}
-use Rattle.stripe_cleaner.specs.Transition.{Done, awaits, transition}
-use Rattle.node_moves.proofs.cleaner_moves.Jobs.{JobLaw, MoveSo, OutSo, InputSo, DoneSo, PhaseSo, awaits_so, job_so}
+use Rattle.stripe_cleaner.specs.Transition.{Done, phase_asking, transition}
+use Rattle.node_moves.proofs.cleaner_moves.Jobs.{JobLaw, MoveSo, OutSo, InputSo, DoneSo, PhaseSo, phase_asking_so, job_so}
 use Rattle.node_logs.specs.cleaner_log_tie.Fitting.{FateFits, CheckFits, PhaseFits}
 use Rattle.node_logs.proofs.cleaner_log_tie.Fitting.{ItemFits, SegmentFits}
 
-pub asked_of : (number : ℕ) (items : List Item) → AllByRecursion ItemFits items → AllByRecursion CheckFits (checks_from number items)
+pub asked_of : (number : ℕ) (items : List Item) → AllByRecursion ItemFits items → AllByRecursion CheckFits (checks_of number items)
 asked_of number [] all = tt
 asked_of number (Block block value ∷ items) all = (all.0, asked_of (number + 1) items all.1)
 asked_of number (Delta block ver hop item ∷ items) all = asked_of (number + 1) items all.1
@@ -69,5 +69,5 @@ pub cleaning_fits : (s : CleaningState) (i : Input) → PhaseFits s.phase → In
 cleaning_fits s i h fits =
     let d : DoneSo law (transition s i) = job_so law s i (as_known s.phase h) fits in record { phase = as_fits (transition s i).state.phase d.phase; outs = d.outs }
 
-pub awaits_fit : (p : Phase) → (p ≡ Greeting → ⊥) → AllByRecursion OutFits (awaits p)
-awaits_fit p late = awaits_so law p late
+pub awaits_fit : (p : Phase) → (p ≡ Greeting → ⊥) → AllByRecursion OutFits (phase_asking p)
+awaits_fit p late = phase_asking_so law p late

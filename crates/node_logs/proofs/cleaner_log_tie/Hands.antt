@@ -7,10 +7,10 @@ use Rattle.xfs_base.specs.declared.segment.SegRef.{SegRef}
 use Rattle.group_map.specs.declared.group.Group.{Group}
 use Rattle.group_map.specs.GroupMapState.{GroupMapState}
 use Rattle.node_base.specs.declared.questions.Questions.{Questions}
-use Rattle.segment_reading.specs.Reading.{ReadingState, on_answer, on_confirmed}
+use Rattle.segment_reading.specs.Reading.{ReadingState, reading_take, on_confirmed}
 use Rattle.stripe_code.specs.declared.round.Told.{Told}
 use Rattle.cleaner_job.specs.declared.hand.Hand.{Hand}
-use Rattle.cleaner_job.specs.Hands.{Heard, Taken, is_in_hand, known_group, taken_over, takes_in_hand, hears_by, hand_hears, confirmed_by, hand_confirmed, checks_under}
+use Rattle.cleaner_job.specs.Hands.{Heard, Taken, is_in_hand, known_group, take_over, take_in_hand, hears_by, hand_hear, confirmed_by, hand_confirmed, checks_under}
 use Rattle.cleaner_job.specs.Jobs.{hand_moved, dropped, read_over}
 use Rattle.node_logs.specs.cleaner_log_tie.Fitting.{ToldFits, RoundFits, HandFits}
 use Rattle.node_logs.proofs.cleaner_log_tie.Bytes.{NextFits, StepFits, answered_fits, confirmed_fits}
@@ -19,15 +19,15 @@ abbrev pub InHand : Option Hand → Type 0
 InHand hand = IfSome hand HandFits
 
 -- a segment is taken in hand, or is there already
-over_fits : (q : Questions) (seg : SegRef) (group : Option Group) → InHand (taken_over q seg group).hand
+over_fits : (q : Questions) (seg : SegRef) (group : Option Group) → InHand (take_over q seg group).hand
 over_fits q seg None = tt
 over_fits q seg (Some group) = tt
 
 pub taken_fits : (groups : Option GroupMapState) (q : Questions) (hand : Option Hand) (seg : SegRef) → InHand hand
-    → InHand (takes_in_hand groups q hand seg).hand
-unfolding takes_in_hand
+    → InHand (take_in_hand groups q hand seg).hand
+unfolding take_in_hand
 taken_fits groups q hand seg h =
-    by_test (λ (t : Taken). InHand t.hand) (is_in_hand hand seg) (record { hand = hand; questions = q }) (taken_over q seg (known_group groups seg.group))
+    by_test (λ (t : Taken). InHand t.hand) (is_in_hand hand seg) (record { hand = hand; questions = q }) (take_over q seg (known_group groups seg.group))
     (λ t. h) (λ t. over_fits q seg (known_group groups seg.group))
 
 pub checked_fits : (hand : Hand) (q : Questions) (block : BlockId) (ask : Option ℕ) → HandFits hand → HandFits (checks_under hand q block ask).hand
@@ -52,15 +52,15 @@ pub record HeardFits (h : Heard Hand) : Type 0 where
   pub next : NextFits h.next
 
 pub hears_fits : (hand : Hand) (groups : GroupMapState) (ask server : ℕ) (t : Told) → HandFits hand → ToldFits t
-    → HeardFits (hand_hears hand groups ask server t)
-unfolding hand_hears
+    → HeardFits (hand_hear hand groups ask server t)
+unfolding hand_hear
 hears_fits hand groups ask server t h told = by_reading hand.reading h
   where
     by_reading : (reading : Option ReadingState) → IfSome reading (λ (r : ReadingState). RoundFits r.round)
         → HeardFits (hears_by hand reading groups ask server t)
     by_reading None its = record { hand = h; next = tt }
     by_reading (Some r) its =
-        (let s : StepFits (on_answer r groups ask server t) = answered_fits r groups ask server t its told in record { hand = s.round; next = s.next })
+        (let s : StepFits (reading_take r groups ask server t) = answered_fits r groups ask server t its told in record { hand = s.round; next = s.next })
 
 pub confirms_fits : (hand : Hand) (ask : ℕ) → HandFits hand → HeardFits (hand_confirmed hand ask)
 unfolding hand_confirmed

@@ -22,20 +22,20 @@ use Rattle.client_log.specs.declared.output.Out.TheVariants as log_out
 use Rattle.client_log.specs.Transition as log
 use Rattle.log_owner.specs.Opening.{stored}
 use Rattle.log_owner.specs.Sending.{hello, fetch}
-use Rattle.node_base.specs.Asking.{drawn, next_ask}
+use Rattle.node_base.specs.Asking.{draw, next_ask}
 use Rattle.node_base.specs.declared.effects.Effect.TheVariants.{Send}
 use Rattle.node_base.specs.declared.questions.Questions.{Questions}
 use Rattle.node_base.specs.Room.{has_room}
 use Rattle.segment_reading.specs.declared.reading.Next.{Next}
 use Rattle.segment_reading.specs.declared.reading.Next.TheVariants as next
-use Rattle.segment_reading.specs.Reading.{ReadingState, to_ask}
+use Rattle.segment_reading.specs.Reading.{ReadingState, reading_unanswered}
 use Rattle.stripe_cleaner.specs.declared.input.In.{In as Input}
 use Rattle.stripe_cleaner.specs.declared.input.In.TheVariants as input
 use Rattle.stripe_cleaner.specs.declared.output.Out.{Out}
 use Rattle.stripe_cleaner.specs.declared.output.Out.TheVariants as out
 use Rattle.stripe_cleaner.specs.declared.phase.Phase.{Phase}
 use Rattle.stripe_cleaner.specs.declared.phase.Phase.TheVariants.{Greeting, Listing, Counting, Reading, Checking, Deleting, Over}
-use Rattle.stripe_cleaner.specs.Transition.{awaits, transition}
+use Rattle.stripe_cleaner.specs.Transition.{phase_asking, transition}
 use Rattle.stripe_code.specs.declared.round.Told.{Told}
 use Rattle.version_model.specs.declared.answer.Answer.TheVariants.{Count}
 use Rattle.wire_msg.specs.declared.body.Body.TheVariants as body
@@ -45,11 +45,11 @@ use Rattle.wire_msg.specs.declared.cleaning.Usage.{Usage}
 use Rattle.wire_msg.specs.declared.storage.Deleted.{Deleted}
 use Rattle.wire_msg.specs.declared.storage.Listed.{Listed}
 use Rattle.cleaner_serving.specs.declared.emptying.Emptying.{Emptying}
-use Rattle.cleaner_serving.specs.Jobs.{Done, with_questions, with_job, asks_maps, asks_list, asks_usage, checked_in, checks_block, check_sent, asks_check, holds_in, holds, reads, puts, puts_block, moves, deletes, finishes, says, takes_in, job_takes, cleans, on_listed, on_usage, on_live, on_dead, on_deleted, ends_reading, told_in, told_by, confirmed_in, confirmed, after_confirmed, reads_again, after_told, on_told}
+use Rattle.cleaner_serving.specs.Jobs.{Done, with_questions, with_job, ask_maps, ask_list, ask_usage, checked_in, emptying_check, check_sent, ask_check, holds_in, emptying_hold, emptying_read, emptying_put, put_block, move_all, emptying_delete, emptying_finish, says, takes_in, emptying_take, emptying_clean, on_listed, on_usage, on_live, on_dead, on_deleted, end_reading, told_in, emptying_hear, confirmed_in, confirmed, after_confirmed, emptying_read_again, after_told, on_told}
 use Rattle.cleaner_job.specs.declared.hand.Hand.{Hand}
 use Rattle.cleaner_job.specs.declared.job.Job.{Job}
-use Rattle.cleaner_job.specs.Hands.{Heard, Taken, taken_over, takes_in_hand, is_in_hand, known_group, fetches_for, fetches, kept_ask, checks_under, checks, hand_hears, hand_confirmed}
-use Rattle.cleaner_job.specs.Jobs.{ask_of, drawn_unless, job_checks, hand_checks_in, hand_of, is_whole, drops, lists_of, usages_of, check_of, is_out, job_read, hand_hears_in, job_hears, hand_confirmed_in, job_confirmed}
+use Rattle.cleaner_job.specs.Hands.{Heard, Taken, take_over, take_in_hand, is_in_hand, known_group, hand_fetch, fetches, kept_ask, checks_under, hand_check, hand_hear, hand_confirmed}
+use Rattle.cleaner_job.specs.Jobs.{ask_of, drawn_unless, job_check, hand_checks_in, hand_of, is_whole, act_dropped, lists_of, usages_of, check_of, is_out, note_read, hand_hears_in, job_hear, hand_confirmed_in, job_confirmed}
 use Rattle.cleaner_job.specs.Starting.{cleaner_log}
 use Rattle.log_protocol.specs.Tables.{In, put}
 use Rattle.log_tie.specs.Setting.{Setting}
@@ -132,18 +132,18 @@ module _ (g : Setting) (fact : g.log ≡ cleaner_log) where
       }
 
   maps_asked : (w : Scene) (e : Emptying) (job : Option Job) → has_room e.lasting.questions.last ≡ true → Stands g w e → IfSome job (JobStands g w)
-      → Goes w (asks_maps e job)
+      → Goes w (ask_maps e job)
   maps_asked w e None room h its = stays g w e h
   maps_asked w e (Some job) room h its = maps_asked_by w e job job.hello room h its its.hello
 
-  list_asked : (w : Scene) (e : Emptying) (job : Option Job) (server : ℕ) → Stands g w e → IfSome job (JobStands g w) → Goes w (asks_list e job server)
+  list_asked : (w : Scene) (e : Emptying) (job : Option Job) (server : ℕ) → Stands g w e → IfSome job (JobStands g w) → Goes w (ask_list e job server)
   list_asked w e None server h its = stays g w e h
   list_asked w e (Some job) server h its =
       at_once g w _ _
       (with_job_stands w e (drawn_unless job.lists e.lasting.questions) _ (unless_more job.lists e.lasting.questions) h
       (record { seen = its.seen; hello = its.hello; phase = its.phase; hand = its.hand })) (tt, tt)
 
-  usage_asked : (w : Scene) (e : Emptying) (job : Option Job) (slot : ℕ) → Stands g w e → IfSome job (JobStands g w) → Goes w (asks_usage e job slot)
+  usage_asked : (w : Scene) (e : Emptying) (job : Option Job) (slot : ℕ) → Stands g w e → IfSome job (JobStands g w) → Goes w (ask_usage e job slot)
   usage_asked w e None slot h its = stays g w e h
   usage_asked w e (Some job) slot h its =
       at_once g w _ _
@@ -151,9 +151,9 @@ module _ (g : Setting) (fact : g.log ≡ cleaner_log) where
       (record { seen = its.seen; hello = its.hello; phase = its.phase; hand = its.hand }))
       (tt, tt)
 
-  check_asked : (w : Scene) (e : Emptying) (block : BlockId) (place : Place) → Stands g w e → Goes w (asks_check e block place)
-  unfolding asks_check checks_block checks job_checks
-  check_asked w e block place h = check_said (checks_block e block).state (checks_block e block).ask (checked_kept e.job h.job)
+  check_asked : (w : Scene) (e : Emptying) (block : BlockId) (place : Place) → Stands g w e → Goes w (ask_check e block place)
+  unfolding ask_check emptying_check hand_check job_check
+  check_asked w e block place h = check_said (emptying_check e block).state (emptying_check e block).ask (checked_kept e.job h.job)
     where
       under_more : (hand : Hand) (q : Questions) (ask : Option ℕ) → q.last ≤ (checks_under hand q block ask).questions.last
       under_more hand q None = ask_no_lower q
@@ -163,7 +163,7 @@ module _ (g : Setting) (fact : g.log ≡ cleaner_log) where
           → Stands g w (with_job e (hand_checks_in job e.lasting.questions hand block).questions (hand_checks_in job e.lasting.questions hand block).job)
       checks_kept job None its own = with_job_stands w e e.lasting.questions job (omega arith) h its
       checks_kept job (Some hand) its own =
-          with_job_stands w e (checks hand e.lasting.questions block).questions _ (under_more hand e.lasting.questions (kept_ask hand block)) h
+          with_job_stands w e (hand_check hand e.lasting.questions block).questions _ (under_more hand e.lasting.questions (kept_ask hand block)) h
           (record { seen = its.seen; hello = its.hello; phase = its.phase; hand = checked_fits hand e.lasting.questions block (kept_ask hand block) own })
 
       checked_kept : (job : Option Job) → IfSome job (JobStands g w) → Stands g w (checked_in e job block).state
@@ -176,35 +176,35 @@ module _ (g : Setting) (fact : g.log ≡ cleaner_log) where
 
   -- ---- a segment is read
 
-  asked_for : (w : Scene) (name : SegName) (reading : Option ReadingState) → AllDone g w (fetches_for name reading)
+  asked_for : (w : Scene) (name : SegName) (reading : Option ReadingState) → AllDone g w (hand_fetch name reading)
   asked_for w name None = tt
-  asked_for w name (Some r) = all_map (CleanerDoes g w) (fetch name r.ask) (λ server. tt) (to_ask r)
+  asked_for w name (Some r) = all_map (CleanerDoes g w) (fetch name r.ask) (λ server. tt) (reading_unanswered r)
 
   fetched : (w : Scene) (hand : Option Hand) → AllDone g w (fetches hand)
   fetched w None = tt
   fetched w (Some hand) = asked_for w hand.seg.name hand.reading
 
-  over_more : (q : Questions) (seg : SegRef) (group : Option Group) → q.last ≤ (taken_over q seg group).questions.last
+  over_more : (q : Questions) (seg : SegRef) (group : Option Group) → q.last ≤ (take_over q seg group).questions.last
   over_more q seg None = omega arith
   over_more q seg (Some group) = ask_no_lower q
 
-  takes_more : (groups : Option GroupMapState) (q : Questions) (hand : Option Hand) (seg : SegRef) → q.last ≤ (takes_in_hand groups q hand seg).questions.last
-  unfolding takes_in_hand
+  takes_more : (groups : Option GroupMapState) (q : Questions) (hand : Option Hand) (seg : SegRef) → q.last ≤ (take_in_hand groups q hand seg).questions.last
+  unfolding take_in_hand
   takes_more groups q hand seg =
       by_test (λ (t : Taken). q.last ≤ t.questions.last) (is_in_hand hand seg) (record { hand = hand; questions = q })
-      (taken_over q seg (known_group groups seg.group))
+      (take_over q seg (known_group groups seg.group))
       (λ t. omega arith) (λ t. over_more q seg (known_group groups seg.group))
 
   held : (w : Scene) (e : Emptying) (job : Option Job) (seg : SegRef) → Stands g w e → IfSome job (JobStands g w) → Stands g w (holds_in e job seg)
   held w e None seg h its = h
   held w e (Some job) seg h its =
-      with_job_stands w e (takes_in_hand e.maps.groups e.lasting.questions job.hand seg).questions _
+      with_job_stands w e (take_in_hand e.maps.groups e.lasting.questions job.hand seg).questions _
       (takes_more e.maps.groups e.lasting.questions job.hand seg) h
       (record { seen = its.seen; hello = its.hello; phase = its.phase; hand = taken_fits e.maps.groups e.lasting.questions job.hand seg its.hand })
 
-  read_begun : (w : Scene) (e : Emptying) (seg : SegRef) → Stands g w e → Goes w (reads e seg)
-  unfolding reads holds
-  read_begun w e seg h = at_once g w (holds e seg) _ (held w e e.job seg h h.job) (fetched w (hand_of (holds e seg).job))
+  read_begun : (w : Scene) (e : Emptying) (seg : SegRef) → Stands g w e → Goes w (emptying_read e seg)
+  unfolding emptying_read emptying_hold
+  read_begun w e seg h = at_once g w (emptying_hold e seg) _ (held w e e.job seg h h.job) (fetched w (hand_of (emptying_hold e seg).job))
 
   -- ---- what the node does for it
 
@@ -213,8 +213,8 @@ module _ (g : Setting) (fact : g.log ≡ cleaner_log) where
   all_stored w (log_out.Send fragment member ∷ outs) sent = (λ own. sent _ (inl refl), all_stored w outs (λ p among. sent p (inr among)))
   all_stored w (log_out.Settled end rows ∷ outs) sent = all_stored w outs sent
 
-  put_so : (w : Scene) (e : Emptying) (i : LogIn) → Stands g w e → CameToLog w.net i → texts.InputFits i → Goes w (puts e i)
-  unfolding puts
+  put_so : (w : Scene) (e : Emptying) (i : LogIn) → Stands g w e → CameToLog w.net i → texts.InputFits i → Goes w (emptying_put e i)
+  unfolding emptying_put
   put_so w e i h came fits =
       let t : LogTook g fact w e (log.transition e.log i) = log_takes g fact w e i h came fits in
       record {
@@ -226,17 +226,17 @@ module _ (g : Setting) (fact : g.log ≡ cleaner_log) where
         only = λ name fact. inl (subst (In name) t.kept fact);
       }
 
-  block_put : (w : Scene) (e : Emptying) (one : BlockId × Entry × Option (List ℕ)) → Stands g w e → MoveFits one → Goes w (puts_block e one)
-  unfolding puts_block
+  block_put : (w : Scene) (e : Emptying) (one : BlockId × Entry × Option (List ℕ)) → Stands g w e → MoveFits one → Goes w (put_block e one)
+  unfolding put_block
   block_put w e one h fits = put_so w e (log_in.Put one.0 one.1 one.2) h tt fits
 
   blocks_moved : (w : Scene) (e : Emptying) (blocks : List (BlockId × Entry × Option (List ℕ))) → Stands g w e → AllByRecursion MoveFits blocks
-      → Goes w (moves e blocks)
-  unfolding moves
+      → Goes w (move_all e blocks)
+  unfolding move_all
   blocks_moved w e blocks h fits =
-      let d : Done = steps puts_block e blocks in
-      let p : Goes w d = all_steps g puts_block (λ v x. MoveFits x) (λ v k grown x f. f) block_put w e blocks h fits in
-      and_then g w d (puts d.state log_in.Seal) p (put_so p.next d.state log_in.Seal p.stands tt tt)
+      let d : Done = steps put_block e blocks in
+      let p : Goes w d = all_steps g put_block (λ v x. MoveFits x) (λ v k grown x f. f) block_put w e blocks h fits in
+      and_then g w d (emptying_put d.state log_in.Seal) p (put_so p.next d.state log_in.Seal p.stands tt tt)
 
   -- ---- a segment is dropped
 
@@ -296,13 +296,13 @@ module _ (g : Setting) (fact : g.log ≡ cleaner_log) where
     job = job_more g fact w v grown e h;
   }
 
-  drop_acted : (w : Scene) (is_first : Bool) (name : SegName) → (is_of_log g name ≡ true → In name w.net.dropped) → AllDone g w (drops is_first name)
+  drop_acted : (w : Scene) (is_first : Bool) (name : SegName) → (is_of_log g name ≡ true → In name w.net.dropped) → AllDone g w (act_dropped is_first name)
   drop_acted w true name acted = (acted, tt)
   drop_acted w false name acted = tt
 
   segment_deleted : (w : Scene) (e : Emptying) (job : Option Job) (server : ℕ) (name : SegName) → Stands g w e → IfSome job (JobStands g w)
       → DropOfLog g w.net name
-      → Goes w (deletes e job server name)
+      → Goes w (emptying_delete e job server name)
   segment_deleted w e None server name h its may = stays g w e h
   segment_deleted w e (Some job) server name h its may =
       let l : LetGo w name = let_go w name may in
@@ -316,16 +316,16 @@ module _ (g : Setting) (fact : g.log ≡ cleaner_log) where
               written = h.written;
               job = record { seen = its.seen; hello = its.hello; phase = its.phase; hand = dropped_fits job.hand its.hand };
             });
-        does = all_append (CleanerDoes g l.next) (drops (is_whole job.hand) name) _ (drop_acted l.next (is_whole job.hand) name l.acted) (l.said, tt);
+        does = all_append (CleanerDoes g l.next) (act_dropped (is_whole job.hand) name) _ (drop_acted l.next (is_whole job.hand) name l.acted) (l.said, tt);
         boot = l.inc;
         only = λ x fact. ⊎_elim (λ was. inl was)
             (λ same. inr (
               node.Server server,
-              in_after (drops (is_whole job.hand) name) _ _ (inl (ap (λ (z : SegName). Send (node.Server server) (body.Delete (record { name = z }))) same)),
+              in_after (act_dropped (is_whole job.hand) name) _ _ (inl (ap (λ (z : SegName). Send (node.Server server) (body.Delete (record { name = z }))) same)),
             )) (l.only x fact);
       }
 
-  job_over : (w : Scene) (e : Emptying) (count : ℕ) → Stands g w e → Goes w (finishes e count)
+  job_over : (w : Scene) (e : Emptying) (count : ℕ) → Stands g w e → Goes w (emptying_finish e count)
   job_over w e count h =
       at_once g w _ _ (record { lasts = h.lasts; log = h.log; written = h.written; job = tt })
       (answers_send (CleanerDoes g w) (λ item answer. tt) e.lasting.items.unanswered (Count count))
@@ -380,29 +380,29 @@ module _ (g : Setting) (fact : g.log ≡ cleaner_log) where
         fits = f.outs;
       }
 
-  pub job_goes_on : (w : Scene) (e : Emptying) (given : Input) → Stands g w e → CleaningSent g w.net given → InputFits given → Goes w (cleans e given)
-  unfolding cleans job_takes
+  pub job_goes_on : (w : Scene) (e : Emptying) (given : Input) → Stands g w e → CleaningSent g w.net given → InputFits given → Goes w (emptying_clean e given)
+  unfolding emptying_clean emptying_take
   job_goes_on w e given h sent fits =
       let t : Took w (takes_in e e.job given).state (takes_in e e.job given).outs = took w e e.job given h h.job sent fits in
       all_said w (takes_in e e.job given).state (takes_in e e.job given).outs t.stands t.drops t.fits
 
   -- in time
   awaited_said : (w : Scene) (e : Emptying) (p : Phase) → has_room e.lasting.questions.last ≡ true → Stands g w e
-      → AllByRecursion (OutDrops g w.net) (awaits p) → Goes w (steps says e (awaits p))
+      → AllByRecursion (OutDrops g w.net) (phase_asking p) → Goes w (steps says e (phase_asking p))
   unfolding says
   awaited_said w e Greeting room h drop =
-      and_then g w (asks_maps e e.job) (still (asks_maps e e.job).state) (maps_asked w e e.job room h h.job)
+      and_then g w (ask_maps e e.job) (still (ask_maps e e.job).state) (maps_asked w e e.job room h h.job)
       (stays g _ _ (maps_asked w e e.job room h h.job).stands)
-  awaited_said w e (Listing l) room h drop = all_said w e (awaits (Listing l)) h drop (awaits_fit (Listing l) (λ x. absurd cc))
-  awaited_said w e (Counting c) room h drop = all_said w e (awaits (Counting c)) h drop (awaits_fit (Counting c) (λ x. absurd cc))
-  awaited_said w e (Reading j seg) room h drop = all_said w e (awaits (Reading j seg)) h drop (awaits_fit (Reading j seg) (λ x. absurd cc))
-  awaited_said w e (Checking j seg cs) room h drop = all_said w e (awaits (Checking j seg cs)) h drop (awaits_fit (Checking j seg cs) (λ x. absurd cc))
+  awaited_said w e (Listing l) room h drop = all_said w e (phase_asking (Listing l)) h drop (awaits_fit (Listing l) (λ x. absurd cc))
+  awaited_said w e (Counting c) room h drop = all_said w e (phase_asking (Counting c)) h drop (awaits_fit (Counting c) (λ x. absurd cc))
+  awaited_said w e (Reading j seg) room h drop = all_said w e (phase_asking (Reading j seg)) h drop (awaits_fit (Reading j seg) (λ x. absurd cc))
+  awaited_said w e (Checking j seg cs) room h drop = all_said w e (phase_asking (Checking j seg cs)) h drop (awaits_fit (Checking j seg cs) (λ x. absurd cc))
   awaited_said w e (Deleting j seg servers) room h drop =
-      all_said w e (awaits (Deleting j seg servers)) h drop (awaits_fit (Deleting j seg servers) (λ x. absurd cc))
-  awaited_said w e Over room h drop = all_said w e (awaits Over) h drop (awaits_fit Over (λ x. absurd cc))
+      all_said w e (phase_asking (Deleting j seg servers)) h drop (awaits_fit (Deleting j seg servers) (λ x. absurd cc))
+  awaited_said w e Over room h drop = all_said w e (phase_asking Over) h drop (awaits_fit Over (λ x. absurd cc))
 
-  pub job_in_time : (w : Scene) (e : Emptying) → has_room e.lasting.questions.last ≡ true → Stands g w e → Goes w (cleans e input.Tick)
-  unfolding cleans job_takes
+  pub job_in_time : (w : Scene) (e : Emptying) → has_room e.lasting.questions.last ≡ true → Stands g w e → Goes w (emptying_clean e input.Tick)
+  unfolding emptying_clean emptying_take
   job_in_time w e room h = by_job e.job h.job
     where
       by_job : (job : Option Job) → IfSome job (JobStands g w) → Goes w (steps says (takes_in e job input.Tick).state (takes_in e job input.Tick).outs)
@@ -424,26 +424,26 @@ module _ (g : Setting) (fact : g.log ≡ cleaner_log) where
   unfolding on_listed
   list_came w e None m h sent = stays g w e h
   list_came w e (Some server) m h sent =
-      by_test (Goes w) (is_out (lists_of e.job) m.ask) (cleans e (input.Listed server m.held)) (still e)
+      by_test (Goes w) (is_out (lists_of e.job) m.ask) (emptying_clean e (input.Listed server m.held)) (still e)
       (λ t. job_goes_on w e (input.Listed server m.held) h (all_listed g w.net m.held sent) tt) (λ t. stays g w e h)
 
   pub usage_came : (w : Scene) (e : Emptying) (m : Usage) → Stands g w e → Goes w (on_usage e m)
   unfolding on_usage
   usage_came w e m h =
-      by_test (Goes w) (is_out (usages_of e.job) m.ask) (cleans e (input.Usage m.slot m.epoch m.counts)) (still e)
+      by_test (Goes w) (is_out (usages_of e.job) m.ask) (emptying_clean e (input.Usage m.slot m.epoch m.counts)) (still e)
       (λ t. job_goes_on w e (input.Usage m.slot m.epoch m.counts) h tt tt)
       (λ t. stays g w e h)
 
   pub live_came : (w : Scene) (e : Emptying) (m : Live) → Stands g w e → FitsRow (m.block, m.entry) → Goes w (on_live e m)
   unfolding on_live
   live_came w e m h fits =
-      by_test (Goes w) (is_out (check_of (hand_of e.job) m.block) m.ask) (cleans e (input.Live m.block m.epoch m.entry)) (still e)
+      by_test (Goes w) (is_out (check_of (hand_of e.job) m.block) m.ask) (emptying_clean e (input.Live m.block m.epoch m.entry)) (still e)
       (λ t. job_goes_on w e (input.Live m.block m.epoch m.entry) h tt fits) (λ t. stays g w e h)
 
   pub dead_came : (w : Scene) (e : Emptying) (m : Dead) → Stands g w e → Goes w (on_dead e m)
   unfolding on_dead
   dead_came w e m h =
-      by_test (Goes w) (is_out (check_of (hand_of e.job) m.block) m.ask) (cleans e (input.Dead m.block m.epoch)) (still e)
+      by_test (Goes w) (is_out (check_of (hand_of e.job) m.block) m.ask) (emptying_clean e (input.Dead m.block m.epoch)) (still e)
       (λ t. job_goes_on w e (input.Dead m.block m.epoch) h tt tt) (λ t. stays g w e h)
 
   pub deleted_came : (w : Scene) (e : Emptying) (server : Option ℕ) (m : Deleted) → Stands g w e → Goes w (on_deleted e server m)
@@ -453,13 +453,13 @@ module _ (g : Setting) (fact : g.log ≡ cleaner_log) where
 
   -- ---- the reading of the segment in hand
 
-  reading_ended : (w : Scene) (e : Emptying) (read : Option Segment) → Stands g w e → InputFits (input.Read read) → Goes w (ends_reading e read)
-  unfolding ends_reading
+  reading_ended : (w : Scene) (e : Emptying) (read : Option Segment) → Stands g w e → InputFits (input.Read read) → Goes w (end_reading e read)
+  unfolding end_reading
   reading_ended w e read h fits =
-      job_goes_on w (record e { job = job_read e.job }) (input.Read read)
+      job_goes_on w (record e { job = note_read e.job }) (input.Read read)
       (record { lasts = h.lasts; log = h.log; written = h.written; job = read_kept e.job h.job }) tt fits
     where
-      read_kept : (job : Option Job) → IfSome job (JobStands g w) → IfSome (job_read job) (JobStands g w)
+      read_kept : (job : Option Job) → IfSome job (JobStands g w) → IfSome (note_read job) (JobStands g w)
       read_kept None its = tt
       read_kept (Some job) its = record { seen = its.seen; hello = its.hello; phase = its.phase; hand = over_read_fits job.hand }
 
@@ -494,15 +494,15 @@ module _ (g : Setting) (fact : g.log ≡ cleaner_log) where
   confirmed_so w e next.Lost h = reading_ended w e None h tt
   confirmed_so w e _ h = stays g w e h
 
-  read_again : (w : Scene) (e : Emptying) → Stands g w e → Goes w (reads_again e)
-  unfolding reads_again confirmed
+  read_again : (w : Scene) (e : Emptying) → Stands g w e → Goes w (emptying_read_again e)
+  unfolding emptying_read_again confirmed
   read_again w e h =
-      let f : Emptying = with_questions e (drawn e.lasting.questions) in
+      let f : Emptying = with_questions e (draw e.lasting.questions) in
       let c : Heard Emptying = confirmed f (next_ask e.lasting.questions) in
       confirmed_so w c.state c.next
       (confirms w f e.job (next_ask e.lasting.questions)
       (record {
-        lasts = asks_on w e.lasting.inc e.lasting.questions (drawn e.lasting.questions) (ask_no_lower e.lasting.questions) h.lasts;
+        lasts = asks_on w e.lasting.inc e.lasting.questions (draw e.lasting.questions) (ask_no_lower e.lasting.questions) h.lasts;
         log = h.log;
         written = h.written;
         job = h.job;
@@ -518,7 +518,7 @@ module _ (g : Setting) (fact : g.log ≡ cleaner_log) where
   hears_told : (w : Scene) (e : Emptying) (job : Option Job) (groups : Option GroupMapState) (ask server : ℕ) (t : Told) → Stands g w e
       → IfSome job (JobStands g w) → ToldFits t
       → HeardSo w (told_in e job groups ask server t)
-  unfolding job_hears
+  unfolding job_hear
   hears_told w e None groups ask server t h its told = record { stands = h; next = tt }
   hears_told w e (Some job) None ask server t h its told = record { stands = h; next = tt }
   hears_told w e (Some job) (Some groups) ask server t h its told = by_hand job.hand its.hand
@@ -530,7 +530,7 @@ module _ (g : Setting) (fact : g.log ≡ cleaner_log) where
           })
       by_hand None own = record { stands = record { lasts = h.lasts; log = h.log; written = h.written; job = its }; next = tt }
       by_hand (Some hand) own =
-          let f : HeardFits (hand_hears hand groups ask server t) = hears_fits hand groups ask server t own told in
+          let f : HeardFits (hand_hear hand groups ask server t) = hears_fits hand groups ask server t own told in
           record {
             stands =
                 record {
@@ -543,8 +543,8 @@ module _ (g : Setting) (fact : g.log ≡ cleaner_log) where
           }
 
   pub told_came : (w : Scene) (e : Emptying) (server : Option ℕ) (ask : ℕ) (t : Told) → Stands g w e → ToldFits t → Goes w (on_told e server ask t)
-  unfolding on_told told_by
+  unfolding on_told emptying_hear
   told_came w e None ask t h told = stays g w e h
   told_came w e (Some server) ask t h told =
-      let x : HeardSo w (told_by e ask server t) = hears_told w e e.job e.maps.groups ask server t h h.job told in
-      told_so w (told_by e ask server t).state (told_by e ask server t).next x.stands x.next
+      let x : HeardSo w (emptying_hear e ask server t) = hears_told w e e.job e.maps.groups ask server t h h.job told in
+      told_so w (emptying_hear e ask server t).state (emptying_hear e ask server t).next x.stands x.next

@@ -13,12 +13,12 @@ use Rattle.log_owner.specs.declared.opened.Progress.TheVariants as progress
 use Rattle.log_owner.specs.declared.opening.Opening as openings
 use Rattle.log_owner.specs.Opening as opening
 use Rattle.log_owner.specs.Opening.{Went}
-use Rattle.log_owner.specs.Sending.{pushes_all}
+use Rattle.log_owner.specs.Sending.{push_all}
 use Rattle.log_scan.specs.declared.input.In.TheVariants as scan_in
-use Rattle.log_scan.specs.ScanState.{ScanState, started}
+use Rattle.log_scan.specs.ScanState.{ScanState, scan_start}
 use Rattle.log_scan.specs.Transition as scan
 use Rattle.node_base.specs.Asking.{next_ask}
-use Rattle.node_base.specs.Beginning.{next_item, answered, answers_unanswered}
+use Rattle.node_base.specs.Beginning.{next_item, items_answer, answers_unanswered}
 use Rattle.node_base.specs.declared.effects.Effect.{Effect}
 use Rattle.node_base.specs.declared.effects.Effect.TheVariants.{Send, Answer as Answers, Lose, Does}
 use Rattle.node_base.specs.declared.peers.Peers.{Peers}
@@ -34,13 +34,13 @@ use Rattle.wire_msg.specs.declared.packet.Packet as wire
 use Rattle.cleaner_serving.specs.declared.emptying.Emptying.{Emptying}
 use Rattle.cleaner_serving.specs.EmptyingEvents.{on_clean, on_packet, on_tick}
 use Rattle.cleaner_serving.specs.Jobs.{Done}
-use Rattle.cleaner_node.specs.CleanerEvents.{Went_to, serves_on, crashes, next_life, owner_of, after_opening, opened_on, restarts, down_wishes, opening_wishes, serving_wishes, begun_life, wish_at, lasting_of, down_at, opening_at, serving_at, on_begin, hears, on_deliver, on_time, happens, phase_room, takes}
+use Rattle.cleaner_node.specs.CleanerEvents.{Went_to, serves_on, crash, next_life, owner_of, after_opening, opened_on, restart, down_wishes, opening_wishes, serving_wishes, begun_life, wish_at, lasting_of, down_at, opening_at, serving_at, on_begin, cleaner_hear, on_deliver, on_time, happens, phase_has_room, takes}
 use Rattle.cleaner_node.specs.declared.cleaner.Phase.{Phase}
 use Rattle.cleaner_node.specs.declared.cleaner.Phase.TheVariants.{Down, Opening, Serving}
 use Rattle.cleaner_node.specs.declared.cleaner.Wish.{Wish}
 use Rattle.cleaner_node.specs.declared.cleaner.Wish.TheVariants.{Crash, Restart, Clean}
 use Rattle.cleaner_job.specs.declared.lasting.Lasting.{Lasting}
-use Rattle.cleaner_job.specs.Lasting.{lasting_room}
+use Rattle.cleaner_job.specs.Lasting.{lasting_has_room}
 use Rattle.cleaner_job.specs.Starting.{cleaner_log}
 use Rattle.log_protocol.specs.Tables.{In, put}
 use Rattle.log_tie.specs.Setting.{Setting}
@@ -142,12 +142,12 @@ module _ (g : Setting) (fact : g.log ≡ cleaner_log) (w : Scene) where
   fallen_agrees : (v : Scene) (l : Lasting) → LastsAs g v l → CleanerAgrees g (fallen v) (Down l)
   fallen_agrees v l lasts = (record { number = refl; inc = (fall_of g v.net).inc ∙ lasts.inc; fresh = lasts.fresh }, (fall_of g v.net).down)
 
-  crashed : (l : Lasting) (number : ℕ) → LastsAs g w l → Goes (crashes l number)
-  unfolding crashes
+  crashed : (l : Lasting) (number : ℕ) → LastsAs g w l → Goes (crash l number)
+  unfolding crash
   crashed l number lasts = record {
     next = fallen w;
     grown = fallen_grows w;
-    agrees = fallen_agrees w (record l { items = answered l.items }) lasts;
+    agrees = fallen_agrees w (record l { items = items_answer l.items }) lasts;
     does = all_append (CleanerDoes g (fallen w)) (answers_unanswered l.items.unanswered answer.Cut) _ (answers_do (fallen w) l.items.unanswered answer.Cut)
         (tt, tt);
     flies = inr ((fall_of g w.net).flown, (fall_of g w.net).filed);
@@ -158,13 +158,13 @@ module _ (g : Setting) (fact : g.log ≡ cleaner_log) (w : Scene) where
   -- ---- restarts
 
   restarted : (servers : ℕ) (l : Lasting) (number : ℕ) → LastsAs g w l → w.net.owner ≡ owner.Down → has_room l.inc ≡ true → has_room l.questions.last ≡ true
-      → Goes (restarts servers l number)
-  unfolding restarts scan.on_tick
+      → Goes (restart servers l number)
+  unfolding restart scan.on_tick
   restarted servers l number lasts down room asks_room =
       let q : Questions = l.questions in
       let inc : suc w.net.inc ≡ (next_life l number).inc = ap (λ k. suc k) lasts.inc ∙ sym (next_inc l.inc room) in
       let rises : q.last < next_ask q = ask_rises q asks_room in
-      let first : ScanState = started g.log (suc w.net.inc) in
+      let first : ScanState = scan_start g.log (suc w.net.inc) in
       let risen : Net = record w.net { inc = suc w.net.inc; owner = owner.Opening first } in
       let v : Scene = record {
         net = record risen { owner = owner.Opening first; sent = HelloSent (suc w.net.inc) 1 ∷ w.net.sent; picked = 1 };
@@ -185,7 +185,7 @@ module _ (g : Setting) (fact : g.log ≡ cleaner_log) (w : Scene) where
         agrees = record {
           lasts = record { number = refl; inc = inc; fresh = put_fresh w.asked (next_ask q) (OfOpening 1) q.last rises lasts.fresh };
           sees = record {
-            owner = ap (λ z. owner.Opening (started z (suc w.net.inc))) fact ∙ ap (λ k. owner.Opening (started cleaner_log k)) inc;
+            owner = ap (λ z. owner.Opening (scan_start z (suc w.net.inc))) fact ∙ ap (λ k. owner.Opening (scan_start cleaner_log k)) inc;
             log = sym fact;
             inc = sym inc;
             groups = refl;
@@ -237,7 +237,7 @@ module _ (g : Setting) (fact : g.log ≡ cleaner_log) (w : Scene) where
         grown = t.grown;
         agrees = record { lasts = t.lasts; log = shows.0; written = shows.1; job = tt };
         does = all_append (CleanerDoes g t.next) x.effects _ t.does
-            (all_append (CleanerDoes g t.next) (pushes_all o.promised.managers o.feed) (answers_unanswered l.items.unanswered answer.Done)
+            (all_append (CleanerDoes g t.next) (push_all o.promised.managers o.feed) (answers_unanswered l.items.unanswered answer.Done)
             (serving.deltas_pushed g fact t.next o.promised.managers o.feed) (answers_do t.next l.items.unanswered answer.Done));
         flies = in_boot (log_up g its_number t.next o.log shows.0);
         straight = once_straight g w.net t.next.net t.grown.runs t.once;
@@ -246,7 +246,7 @@ module _ (g : Setting) (fact : g.log ≡ cleaner_log) (w : Scene) where
       by_progress (progress.Lost seg) shows asks lost = record {
         next = fallen t.next;
         grown = record (grows_on g w t.next (fallen t.next) t.grown (fallen_grows t.next)) { runs = then_on t.grown.runs (fallen_grows t.next).runs };
-        agrees = fallen_agrees t.next (record l { questions = x.questions; items = answered l.items }) t.lasts;
+        agrees = fallen_agrees t.next (record l { questions = x.questions; items = items_answer l.items }) t.lasts;
         does = all_append (CleanerDoes g (fallen t.next)) x.effects (answers_unanswered l.items.unanswered (answer.Lost seg))
             (all_more g t.next (fallen t.next) (fallen_grows t.next) x.effects t.does) (answers_do (fallen t.next) l.items.unanswered (answer.Lost seg));
         flies = inr ((fall_of g t.next.net).flown ∙ (lost tt).0, (fall_of g t.next.net).filed ∙ (lost tt).1.0);
@@ -259,7 +259,7 @@ module _ (g : Setting) (fact : g.log ≡ cleaner_log) (w : Scene) where
 
   -- ---- items
 
-  down_wish : (servers : ℕ) (l : Lasting) (number : ℕ) (wish : Wish) → CleanerAgrees g w (Down l) → lasting_room l ≡ true
+  down_wish : (servers : ℕ) (l : Lasting) (number : ℕ) (wish : Wish) → CleanerAgrees g w (Down l) → lasting_has_room l ≡ true
       → Goes (down_wishes servers l number wish)
   down_wish servers l number Restart sees room =
       restarted servers l number sees.0 sees.1 (and_first (has_room l.inc) (has_room l.questions.last) room)
@@ -278,7 +278,7 @@ module _ (g : Setting) (fact : g.log ≡ cleaner_log) (w : Scene) where
   serving_wish e number (Clean count) sees room =
       serves (on_clean e number count) e.log sees.log (serving.cleaning_wished g fact w e number count room sees)
 
-  down_item : (servers : ℕ) (l : Lasting) (item : Option ℕ) → CleanerAgrees g w (Down l) → lasting_room l ≡ true → Goes (down_at servers l item)
+  down_item : (servers : ℕ) (l : Lasting) (item : Option ℕ) → CleanerAgrees g w (Down l) → lasting_has_room l ≡ true → Goes (down_at servers l item)
   down_item servers l None sees room = stays (Down l) sees
   down_item servers l (Some number) sees room = down_wish servers l number (wish_at l.items number) sees room
 
@@ -290,7 +290,7 @@ module _ (g : Setting) (fact : g.log ≡ cleaner_log) (w : Scene) where
   serving_item e None sees room = stays (Serving e) sees
   serving_item e (Some number) sees room = serving_wish e number (wish_at e.lasting.items number) sees room
 
-  item_begun : (servers : ℕ) (p : Phase) → CleanerAgrees g w p → lasting_room (lasting_of p) ≡ true → Goes (on_begin servers p)
+  item_begun : (servers : ℕ) (p : Phase) → CleanerAgrees g w p → lasting_has_room (lasting_of p) ≡ true → Goes (on_begin servers p)
   unfolding on_begin
   item_begun servers (Down l) sees room = down_item servers (begun_life l) (next_item l.items) sees room
   item_begun servers (Opening l o) sees room =
@@ -302,17 +302,17 @@ module _ (g : Setting) (fact : g.log ≡ cleaner_log) (w : Scene) where
 
   -- ---- packets and time
 
-  life_room : (l : Lasting) → lasting_room l ≡ true → has_room l.inc ≡ true
+  life_room : (l : Lasting) → lasting_has_room l ≡ true → has_room l.inc ≡ true
   life_room l room = and_first (has_room l.inc) (has_room l.questions.last) room
 
-  asks_room : (l : Lasting) → lasting_room l ≡ true → has_room l.questions.last ≡ true
+  asks_room : (l : Lasting) → lasting_has_room l ≡ true → has_room l.questions.last ≡ true
   asks_room l room = and_second (has_room l.inc) (has_room l.questions.last) room
 
-  heard : (p : Phase) (packet : wire.Packet) → CleanerAgrees g w p → PacketOwed g w p packet → lasting_room (lasting_of p) ≡ true → Goes (hears p packet)
-  unfolding hears
+  heard : (p : Phase) (packet : wire.Packet) → CleanerAgrees g w p → PacketOwed g w p packet → lasting_has_room (lasting_of p) ≡ true → Goes (cleaner_hear p packet)
+  unfolding cleaner_hear
   heard (Down l) packet sees owed room = stays (Down l) sees
   heard (Opening l o) packet sees owed room =
-      opened l (opening.on_packet o l.questions packet) sees.lasts (stage_up g its_number w o.known l.questions.last o.stage sees.sees)
+      opened l (opening.opening_take o l.questions packet) sees.lasts (stage_up g its_number w o.known l.questions.last o.stage sees.sees)
       (stand_in.packet_heard g fact w l.inc l.questions sees.lasts (asks_room l room) (life_room l room) o sees.sees sees.written sees.asks owed.opening packet
       (subst (λ to. BodySeen g (its_asker w) w.net packet.from to packet.body) owed.own owed.seen) owed.fits)
       (packet_few o l.questions packet (asks_room l room) sees.asks)
@@ -322,7 +322,7 @@ module _ (g : Setting) (fact : g.log ≡ cleaner_log) (w : Scene) where
       (subst (λ to. BodySeen g (its_asker w) w.net packet.from to packet.body) owed.own owed.seen)
       owed.fits)
 
-  passed : (p : Phase) → CleanerAgrees g w p → OpeningOwed g w p → lasting_room (lasting_of p) ≡ true → Goes (on_time p)
+  passed : (p : Phase) → CleanerAgrees g w p → OpeningOwed g w p → lasting_has_room (lasting_of p) ≡ true → Goes (on_time p)
   unfolding on_time
   passed (Down l) sees owed room = stays (Down l) sees
   passed (Opening l o) sees owed room =
@@ -331,21 +331,21 @@ module _ (g : Setting) (fact : g.log ≡ cleaner_log) (w : Scene) where
       (tick_few o l.questions (asks_room l room) sees.asks)
   passed (Serving e) sees owed room = serves (on_tick e) e.log sees.log (serving.time_passes g fact w e (asks_room e.lasting room) sees)
 
-  its_room : (p : Phase) → phase_room p ≡ true → lasting_room (lasting_of p) ≡ true
+  its_room : (p : Phase) → phase_has_room p ≡ true → lasting_has_room (lasting_of p) ≡ true
   its_room (Down l) room = room
-  its_room (Opening l o) room = and_first (lasting_room l) (opening.opening_room o) room
-  its_room (Serving e) room = and_first (lasting_room e.lasting) _ room
+  its_room (Opening l o) room = and_first (lasting_has_room l) (opening.opening_has_room o) room
+  its_room (Serving e) room = and_first (lasting_has_room e.lasting) _ room
 
-  all_events : (peers : Peers) (p : Phase) (what : Do) → CleanerAgrees g w p → CleanerOwed g w p what → phase_room p ≡ true → Goes (happens peers p what)
+  all_events : (peers : Peers) (p : Phase) (what : Do) → CleanerAgrees g w p → CleanerOwed g w p what → phase_has_room p ≡ true → Goes (happens peers p what)
   unfolding on_deliver
   all_events peers p Begin sees owed room = item_begun peers.servers p sees (its_room p room)
   all_events peers p (Deliver packet) sees owed room =
-      by_test Goes (is_well_formed peers packet) (hears p packet) (still p) (λ t. heard p packet sees owed (its_room p room)) (λ t. stays p sees)
+      by_test Goes (is_well_formed peers packet) (cleaner_hear p packet) (still p) (λ t. heard p packet sees owed (its_room p room)) (λ t. stays p sees)
   all_events peers p Tick sees owed room = passed p sees owed (its_room p room)
 
   taken_so : (peers : Peers) (p : Phase) (what : Do) → CleanerAgrees g w p → CleanerOwed g w p what → Goes (takes peers p what)
   taken_so peers p what sees owed =
-      by_test Goes (phase_room p) (happens peers p what) (still p) (λ room. all_events peers p what sees owed room) (λ room. stays p sees)
+      by_test Goes (phase_has_room p) (happens peers p what) (still p) (λ room. all_events peers p what sees owed room) (λ room. stays p sees)
 
 -- ---- what it does, as packets and acts
 

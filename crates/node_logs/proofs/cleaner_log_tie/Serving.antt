@@ -22,14 +22,14 @@ use Rattle.client_log.specs.Transition as log
 use Rattle.delta_feed.specs.declared.output.Out.{Out as FeedOut}
 use Rattle.delta_feed.specs.declared.output.Out.TheVariants.{Range}
 use Rattle.delta_feed.specs.FeedState.{FeedState}
-use Rattle.delta_feed.specs.Transition.{ticked}
+use Rattle.delta_feed.specs.Transition.{feed_tick}
 use Rattle.log_owner.specs.declared.promised.Managers.{Managers}
 use Rattle.log_owner.specs.Promised.{epoch_of}
-use Rattle.log_owner.specs.Sending.{name_of, pushes_all, range, server_in}
+use Rattle.log_owner.specs.Sending.{name_of, push_all, range, server_in}
 use Rattle.node_base.specs.Asking.{next_ask}
 use Rattle.node_base.specs.declared.questions.Questions.{Questions}
-use Rattle.node_base.specs.Known.{names_known}
-use Rattle.node_base.specs.Maps.{fits, is_older, taken}
+use Rattle.node_base.specs.Known.{names_known_groups}
+use Rattle.node_base.specs.Maps.{fits, is_older, maps_take}
 use Rattle.node_base.specs.Room.{has_room}
 use Rattle.stripe_cleaner.specs.declared.input.In.TheVariants as input
 use Rattle.stripe_cleaner.specs.declared.phase.Phase.{Phase}
@@ -47,10 +47,10 @@ use Rattle.wire_msg.specs.declared.registry.News.{News}
 use Rattle.wire_msg.specs.declared.registry.Welcome.{Welcome}
 use Rattle.wire_msg.specs.declared.storage.Stored.{Stored}
 use Rattle.cleaner_serving.specs.declared.emptying.Emptying.{Emptying}
-use Rattle.cleaner_serving.specs.EmptyingEvents.{promises_slot, promises_all, with_new_job, begins_job, on_clean, fed, settles, writes_one, writes, on_stored, on_ack, renews, promises, reports, on_poll, hears_slot, hears_slots, job_regrouped, log_regrouped, takes_news, on_news, welcomes_over, welcomes, on_welcome, on_body, asks_for_maps, on_packet, on_tick}
-use Rattle.cleaner_serving.specs.Jobs.{Done, says, takes_in, job_takes, cleans}
+use Rattle.cleaner_serving.specs.EmptyingEvents.{promise_slot, promise_all, with_new_job, begin_job, on_clean, fed, emptying_settle, write_one, emptying_write, on_stored, on_ack, emptying_renew, emptying_promise, emptying_report, on_poll, hear_slot, hear_slots, regroup_job, regroup_log, take_news, on_news, welcome_over, emptying_welcome, on_welcome, on_body, ask_for_maps, on_packet, on_tick}
+use Rattle.cleaner_serving.specs.Jobs.{Done, says, takes_in, emptying_take, emptying_clean}
 use Rattle.cleaner_job.specs.declared.job.Job.{Job}
-use Rattle.cleaner_job.specs.Jobs.{job_moved, hello_of, greeted, is_out}
+use Rattle.cleaner_job.specs.Jobs.{note_moved, hello_of, note_greeted, is_out}
 use Rattle.cleaner_job.specs.Starting.{cleaner_log}
 use Rattle.log_scan.specs.Transition.{least_horizon}
 use Rattle.log_protocol.specs.Tables.{In, put}
@@ -92,8 +92,8 @@ promise_is_quiet s slot epoch at =
     (cleaning.turned (record s { promised = promised_with s.promised slot epoch; phase = Greeting }) (cleaning.forgetting slot Greeting))
     (still (record s { phase = Greeting })) (λ t. record { phase = refl; outs = refl }) (λ t. record { phase = refl; outs = refl }))
 
-promised_new : (q : Questions) (e : Emptying) (slot : ℕ) → IsNew q e → IsNew q (promises_slot e slot).state
-unfolding promises_slot cleans job_takes
+promised_new : (q : Questions) (e : Emptying) (slot : ℕ) → IsNew q e → IsNew q (promise_slot e slot).state
+unfolding promise_slot emptying_clean emptying_take
 promised_new q e slot n =
     let epoch : ℕ = epoch_of e.promised slot in
     let i = input.Promise slot epoch in
@@ -102,13 +102,13 @@ promised_new q e slot n =
     (subst (λ outs. IsNew q (steps says (takes_in e (Some n.job) i).state outs).state) (sym k.outs)
     (record { questions = n.questions; job = record n.job { cleaning = (cleaning.transition n.job.cleaning i).state }; begun = refl; greeting = k.phase }))
 
-all_new : (q : Questions) (e : Emptying) (slots : List ℕ) → IsNew q e → IsNew q (steps promises_slot e slots).state
+all_new : (q : Questions) (e : Emptying) (slots : List ℕ) → IsNew q e → IsNew q (steps promise_slot e slots).state
 all_new q e [] n = n
-all_new q e (slot ∷ slots) n = all_new q (promises_slot e slot).state slots (promised_new q e slot n)
+all_new q e (slot ∷ slots) n = all_new q (promise_slot e slot).state slots (promised_new q e slot n)
 
 room_left : (e : Emptying) (number count : ℕ) → has_room e.lasting.questions.last ≡ true
-    → has_room (promises_all (with_new_job e number count)).state.lasting.questions.last ≡ true
-unfolding promises_all
+    → has_room (promise_all (with_new_job e number count)).state.lasting.questions.last ≡ true
+unfolding promise_all
 room_left e number count room =
     let f : Emptying = with_new_job e number count in
     let n : IsNew e.lasting.questions f = record { questions = refl; job = _; begun = refl; greeting = refl } in
@@ -127,34 +127,34 @@ module _ (g : Setting) (fact : g.log ≡ cleaner_log) where
   range_said : (w : Scene) (managers : Managers) (o : FeedOut) → CleanerDoes g w (range managers o)
   range_said w managers (Range slot first upto rows) = tt
 
-  pub deltas_pushed : (w : Scene) (managers : Managers) (f : FeedState) → AllDone g w (pushes_all managers f)
-  deltas_pushed w managers f = all_map (CleanerDoes g w) (range managers) (range_said w managers) (ticked f)
+  pub deltas_pushed : (w : Scene) (managers : Managers) (f : FeedState) → AllDone g w (push_all managers f)
+  deltas_pushed w managers f = all_map (CleanerDoes g w) (range managers) (range_said w managers) (feed_tick f)
 
   -- ---- a job begins
 
-  slot_promised : (w : Scene) (e : Emptying) (slot : ℕ) → Stands g w e → Unit {0} → Goes w (promises_slot e slot)
-  unfolding promises_slot
+  slot_promised : (w : Scene) (e : Emptying) (slot : ℕ) → Stands g w e → Unit {0} → Goes w (promise_slot e slot)
+  unfolding promise_slot
   slot_promised w e slot h no_more = job_goes_on g fact w e (input.Promise slot (epoch_of e.promised slot)) h tt tt
 
-  all_promised : (w : Scene) (e : Emptying) → Stands g w e → Goes w (promises_all e)
-  unfolding promises_all
+  all_promised : (w : Scene) (e : Emptying) → Stands g w e → Goes w (promise_all e)
+  unfolding promise_all
   all_promised w e h =
-      all_steps g promises_slot (λ v x. Unit {0}) (λ v k grown x o. tt) slot_promised w e (range_with_len 0 slot_count) h (nothing_more (range_with_len 0 slot_count))
+      all_steps g promise_slot (λ v x. Unit {0}) (λ v k grown x o. tt) slot_promised w e (range_with_len 0 slot_count) h (nothing_more (range_with_len 0 slot_count))
 
-  job_begun : (w : Scene) (e : Emptying) (number count : ℕ) → has_room e.lasting.questions.last ≡ true → Stands g w e → Goes w (begins_job e number count)
-  unfolding begins_job
+  job_begun : (w : Scene) (e : Emptying) (number count : ℕ) → has_room e.lasting.questions.last ≡ true → Stands g w e → Goes w (begin_job e number count)
+  unfolding begin_job
   job_begun w e number count room h =
       let f : Emptying = with_new_job e number count in
-      let d : Done = promises_all f in
+      let d : Done = promise_all f in
       let p : Goes w d =
       all_promised w f (record { lasts = h.lasts; log = h.log; written = h.written; job = record { seen = tt; hello = tt; phase = tt; hand = tt } }) in
-      and_then g w d (cleans d.state input.Tick) p (job_in_time g fact p.next d.state (room_left e number count room) p.stands)
+      and_then g w d (emptying_clean d.state input.Tick) p (job_in_time g fact p.next d.state (room_left e number count room) p.stands)
 
   pub cleaning_wished : (w : Scene) (e : Emptying) (number count : ℕ) → has_room e.lasting.questions.last ≡ true → Stands g w e
       → Goes w (on_clean e number count)
   unfolding on_clean
   cleaning_wished w e number count room h =
-      by_test (Goes w) (is_some e.lasting.items.unanswered) (record { state = e; outs = _ ∷ [] }) (begins_job e number count) (λ t. at_once g w e _ h (tt, tt))
+      by_test (Goes w) (is_some e.lasting.items.unanswered) (record { state = e; outs = _ ∷ [] }) (begin_job e number count) (λ t. at_once g w e _ h (tt, tt))
       (λ t. job_begun w e number count room h)
 
   -- ---- the log
@@ -178,28 +178,28 @@ module _ (g : Setting) (fact : g.log ≡ cleaner_log) where
     all_said w outs sent (λ name among. filed name (inr among)),
   )
 
-  moved_kept : (w : Scene) (job : Option Job) → IfSome job (JobStands g w) → IfSome (job_moved job) (JobStands g w)
+  moved_kept : (w : Scene) (job : Option Job) → IfSome job (JobStands g w) → IfSome (note_moved job) (JobStands g w)
   moved_kept w None its = tt
   moved_kept w (Some job) its = record { seen = its.seen; hello = its.hello; phase = its.phase; hand = moved_fits job.hand its.hand }
 
   segment_settled : (w : Scene) (e : Emptying) (end : End) (rows : List (BlockId × Entry)) → Stands g w e → In (name_of cleaner_log end) w.net.filed
-      → Goes w (settles e end rows)
-  unfolding settles
+      → Goes w (emptying_settle e end rows)
+  unfolding emptying_settle
   segment_settled w e end rows h filed =
       let f : Emptying = fed e end rows in
-      after_these g w (_ ∷ pushes_all f.promised.managers f.feed) (cleans f input.Moved) (filed, deltas_pushed w f.promised.managers f.feed)
+      after_these g w (_ ∷ push_all f.promised.managers f.feed) (emptying_clean f input.Moved) (filed, deltas_pushed w f.promised.managers f.feed)
       (job_goes_on g fact w f input.Moved (record { lasts = h.lasts; log = h.log; written = h.written; job = moved_kept w e.job h.job }) tt tt)
 
-  one_written : (w : Scene) (e : Emptying) (o : LogOut) → Stands g w e → LogSaid w o → Goes w (writes_one e o)
-  unfolding writes_one
+  one_written : (w : Scene) (e : Emptying) (o : LogOut) → Stands g w e → LogSaid w o → Goes w (write_one e o)
+  unfolding write_one
   one_written w e (log_out.Send f member) h said = at_once g w e _ h (λ own. said, tt)
   one_written w e (log_out.Settled end rows) h said = segment_settled w e end rows h said
 
-  all_written : (w : Scene) (e : Emptying) (r : log.Done) → LogTook g fact w e r → Goes w (steps writes_one (record e { log = r.state }) r.outs)
+  all_written : (w : Scene) (e : Emptying) (r : log.Done) → LogTook g fact w e r → Goes w (steps write_one (record e { log = r.state }) r.outs)
   all_written w e r t =
       let f : Emptying = record e { log = r.state } in
-      let p : Goes t.next (steps writes_one f r.outs) =
-      all_steps g writes_one LogSaid said_more one_written t.next f r.outs t.stands (all_said t.next r.outs t.sent t.filed) in
+      let p : Goes t.next (steps write_one f r.outs) =
+      all_steps g write_one LogSaid said_more one_written t.next f r.outs t.stands (all_said t.next r.outs t.sent t.filed) in
       record {
         next = p.next;
         grown = grows_on g w t.next p.next t.grown p.grown;
@@ -211,15 +211,15 @@ module _ (g : Setting) (fact : g.log ≡ cleaner_log) where
 
   stored_came : (w : Scene) (e : Emptying) (m : Stored) → Stands g w e → BodySeen g (its_asker w) w.net node.Cleaner node.Cleaner (body.Stored m)
       → Goes w (on_stored e m)
-  unfolding writes
+  unfolding emptying_write
   stored_came w e m h seen = all_written w e (log.on_acked e.log m.name m.index m.generation) (log_takes_stored g fact w e m.name m.index m.generation h seen)
 
-  maps_written : (w : Scene) (e : Emptying) (m : GroupMapState) → Stands g w e → In (MapSent m) w.net.sent → MapFits m → Goes w (writes e (log_in.Maps m))
-  unfolding writes
+  maps_written : (w : Scene) (e : Emptying) (m : GroupMapState) → Stands g w e → In (MapSent m) w.net.sent → MapFits m → Goes w (emptying_write e (log_in.Maps m))
+  unfolding emptying_write
   maps_written w e m h came fit = all_written w e (log.transition e.log (log_in.Maps m)) (log_takes g fact w e (log_in.Maps m) h came fit)
 
-  time_written : (w : Scene) (e : Emptying) → Stands g w e → Goes w (writes e log_in.Tick)
-  unfolding writes
+  time_written : (w : Scene) (e : Emptying) → Stands g w e → Goes w (emptying_write e log_in.Tick)
+  unfolding emptying_write
   time_written w e h = all_written w e (log.transition e.log log_in.Tick) (log_takes g fact w e log_in.Tick h tt tt)
 
   acknowledged : (w : Scene) (e : Emptying) (m : DeltaAck) → Stands g w e → Goes w (on_ack e m)
@@ -230,25 +230,25 @@ module _ (g : Setting) (fact : g.log ≡ cleaner_log) where
 
   -- ---- promises
 
-  renewed : (w : Scene) (e : Emptying) (slot epoch : ℕ) → Stands g w e → Stands g w (renews e slot epoch)
+  renewed : (w : Scene) (e : Emptying) (slot epoch : ℕ) → Stands g w e → Stands g w (emptying_renew e slot epoch)
   renewed w e slot epoch h =
       by_test (Stands g w) (nat_lt (epoch_of e.promised slot) epoch) _ e (λ t. record { lasts = h.lasts; log = h.log; written = h.written; job = h.job })
       (λ t. h)
 
-  promised : (w : Scene) (e : Emptying) (slot epoch manager : ℕ) → Stands g w e → Stands g w (promises e slot epoch manager)
-  unfolding promises
+  promised : (w : Scene) (e : Emptying) (slot epoch manager : ℕ) → Stands g w e → Stands g w (emptying_promise e slot epoch manager)
+  unfolding emptying_promise
   promised w e slot epoch manager h = (let r = renewed w e slot epoch h in record { lasts = r.lasts; log = r.log; written = r.written; job = r.job })
 
-  reported : (w : Scene) (e : Emptying) (manager : ℕ) (m : Poll) → Stands g w e → Goes w (reports e manager m)
+  reported : (w : Scene) (e : Emptying) (manager : ℕ) (m : Poll) → Stands g w e → Goes w (emptying_report e manager m)
   reported w e manager m h =
-      let kept : Emptying = promises e m.slot m.epoch manager in
-      after_these g w (_ ∷ []) (cleans kept (input.Promise m.slot m.epoch)) (tt, tt)
+      let kept : Emptying = emptying_promise e m.slot m.epoch manager in
+      after_these g w (_ ∷ []) (emptying_clean kept (input.Promise m.slot m.epoch)) (tt, tt)
       (job_goes_on g fact w kept (input.Promise m.slot m.epoch) (promised w e m.slot m.epoch manager h) tt tt)
 
   poll_heard : (w : Scene) (e : Emptying) (from : NodeId) (m : Poll) → Stands g w e → Goes w (on_poll e from m)
   unfolding on_poll
   poll_heard w e (node.Manager manager) m h =
-      by_test (Goes w) (nat_lt m.epoch (epoch_of e.promised m.slot)) (still e) (reports e manager m) (λ t. stays g w e h) (λ t. reported w e manager m h)
+      by_test (Goes w) (nat_lt m.epoch (epoch_of e.promised m.slot)) (still e) (emptying_report e manager m) (λ t. stays g w e h) (λ t. reported w e manager m h)
   poll_heard w e (node.Client c) m h = stays g w e h
   poll_heard w e (node.Server v) m h = stays g w e h
   poll_heard w e node.Cleaner m h = stays g w e h
@@ -256,58 +256,58 @@ module _ (g : Setting) (fact : g.log ≡ cleaner_log) where
 
   -- ---- the maps
 
-  slot_heard : (w : Scene) (e : Emptying) (news : SlotNews) → Stands g w e → Unit {0} → Goes w (hears_slot e news)
-  unfolding hears_slot
+  slot_heard : (w : Scene) (e : Emptying) (news : SlotNews) → Stands g w e → Unit {0} → Goes w (hear_slot e news)
+  unfolding hear_slot
   slot_heard w e news h no_more =
       by_test (Goes w) (nat_lt (epoch_of e.promised news.slot) news.epoch)
-      (cleans (promises e news.slot news.epoch news.manager) (input.Promise news.slot news.epoch)) (still e)
-      (λ t. job_goes_on g fact w (promises e news.slot news.epoch news.manager) (input.Promise news.slot news.epoch)
+      (emptying_clean (emptying_promise e news.slot news.epoch news.manager) (input.Promise news.slot news.epoch)) (still e)
+      (λ t. job_goes_on g fact w (emptying_promise e news.slot news.epoch news.manager) (input.Promise news.slot news.epoch)
       (promised w e news.slot news.epoch news.manager h) tt tt)
       (λ t. stays g w e h)
 
-  slots_heard : (w : Scene) (e : Emptying) (slots : List SlotNews) → Stands g w e → Goes w (hears_slots e slots)
-  unfolding hears_slots
-  slots_heard w e slots h = all_steps g hears_slot (λ v x. Unit {0}) (λ v k grown x o. tt) slot_heard w e slots h (nothing_more slots)
+  slots_heard : (w : Scene) (e : Emptying) (slots : List SlotNews) → Stands g w e → Goes w (hear_slots e slots)
+  unfolding hear_slots
+  slots_heard w e slots h = all_steps g hear_slot (λ v x. Unit {0}) (λ v k grown x o. tt) slot_heard w e slots h (nothing_more slots)
 
-  job_hears_groups : (w : Scene) (e : Emptying) (newer : Bool) (m : GroupMapState) → Stands g w e → Goes w (job_regrouped e newer m)
+  job_hears_groups : (w : Scene) (e : Emptying) (newer : Bool) (m : GroupMapState) → Stands g w e → Goes w (regroup_job e newer m)
   job_hears_groups w e true m h = job_goes_on g fact w e (input.Maps m) h tt tt
   job_hears_groups w e false m h = stays g w e h
 
   log_hears_groups : (w : Scene) (e : Emptying) (newer : Bool) (m : GroupMapState) → Stands g w e → In (MapSent m) w.net.sent → MapFits m
-      → Goes w (log_regrouped e newer m)
+      → Goes w (regroup_log e newer m)
   log_hears_groups w e true m h came fit = maps_written w e m h came fit
   log_hears_groups w e false m h came fit = stays g w e h
 
-  news_taken : (w : Scene) (e : Emptying) (news : News) → Stands g w e → In (MapSent news.groups) w.net.sent → MapFits news.groups → Goes w (takes_news e news)
-  unfolding takes_news
+  news_taken : (w : Scene) (e : Emptying) (news : News) → Stands g w e → In (MapSent news.groups) w.net.sent → MapFits news.groups → Goes w (take_news e news)
+  unfolding take_news
   news_taken w e news h came fit =
       let newer : Bool = is_older e.maps news in
-      let with_maps : Emptying = record e { maps = taken e.maps news } in
-      let a : Done = job_regrouped with_maps newer news.groups in
-      let b : Done = hears_slots a.state news.slots in
-      let c : Done = log_regrouped b.state newer news.groups in
+      let with_maps : Emptying = record e { maps = maps_take e.maps news } in
+      let a : Done = regroup_job with_maps newer news.groups in
+      let b : Done = hear_slots a.state news.slots in
+      let c : Done = regroup_log b.state newer news.groups in
       let pa : Goes w a = job_hears_groups w with_maps newer news.groups (record { lasts = h.lasts; log = h.log; written = h.written; job = h.job }) in
       let pb : Goes pa.next b = slots_heard pa.next a.state news.slots pa.stands in
       let pc : Goes pb.next c = log_hears_groups pb.next b.state newer news.groups pb.stands (pb.grown.sent _ (pa.grown.sent _ came)) fit in
       and_then g w a (saying b.outs c) pa (and_then g pa.next b c pb pc)
 
   news_heard : (w : Scene) (e : Emptying) (news : News) → Stands g w e → In (MapSent news.groups) w.net.sent → MapFits news.groups → Goes w (on_news e news)
-  news_heard w e news h came fit = by_test (Goes w) (fits e.maps news) (takes_news e news) (still e) (λ t. news_taken w e news h came fit) (λ t. stays g w e h)
+  news_heard w e news h came fit = by_test (Goes w) (fits e.maps news) (take_news e news) (still e) (λ t. news_taken w e news h came fit) (λ t. stays g w e h)
 
-  greeted_kept : (w : Scene) (job : Option Job) → IfSome job (JobStands g w) → IfSome (greeted job) (JobStands g w)
+  greeted_kept : (w : Scene) (job : Option Job) → IfSome job (JobStands g w) → IfSome (note_greeted job) (JobStands g w)
   greeted_kept w None its = tt
   greeted_kept w (Some job) its = record { seen = its.seen; hello = tt; phase = its.phase; hand = its.hand }
 
   welcomed_over : (w : Scene) (e : Emptying) (slots : List SlotNews) (m : Option GroupMapState) → Stands g w e → least_horizon g.log.0 slots ≤ w.net.low
-      → Goes w (welcomes_over e slots m)
+      → Goes w (welcome_over e slots m)
   welcomed_over w e slots None h low = stays g w e h
   welcomed_over w e slots (Some m) h low = job_goes_on g fact w e (input.Welcome slots m) h low tt
 
-  job_welcomed : (w : Scene) (e : Emptying) (m : Welcome) → Stands g w e → least_horizon g.log.0 m.news.slots ≤ w.net.low → Goes w (welcomes e m)
-  unfolding welcomes
+  job_welcomed : (w : Scene) (e : Emptying) (m : Welcome) → Stands g w e → least_horizon g.log.0 m.news.slots ≤ w.net.low → Goes w (emptying_welcome e m)
+  unfolding emptying_welcome
   job_welcomed w e m h low =
-      by_test (Goes w) (is_out (hello_of e.job) m.ask) (welcomes_over (record e { job = greeted e.job }) m.news.slots e.maps.groups) (still e)
-      (λ t. welcomed_over w (record e { job = greeted e.job }) m.news.slots e.maps.groups
+      by_test (Goes w) (is_out (hello_of e.job) m.ask) (welcome_over (record e { job = note_greeted e.job }) m.news.slots e.maps.groups) (still e)
+      (λ t. welcomed_over w (record e { job = note_greeted e.job }) m.news.slots e.maps.groups
       (record { lasts = h.lasts; log = h.log; written = h.written; job = greeted_kept w e.job h.job }) low)
       (λ t. stays g w e h)
 
@@ -315,14 +315,14 @@ module _ (g : Setting) (fact : g.log ≡ cleaner_log) where
       → Goes w (on_welcome e m)
   unfolding on_welcome
   welcome_heard w e m h seen fit =
-      let d : Done = takes_news e m.news in
-      by_test (Goes w) ((m.inc == e.lasting.inc) && fits e.maps m.news) (saying d.outs (welcomes d.state m)) (still e)
+      let d : Done = take_news e m.news in
+      by_test (Goes w) ((m.inc == e.lasting.inc) && fits e.maps m.news) (saying d.outs (emptying_welcome d.state m)) (still e)
       (λ t. let p : Goes w d = news_taken w e m.news h seen.map fit in
-      and_then g w d (welcomes d.state m) p (job_welcomed p.next d.state m p.stands (let a = seen.low in let b = p.grown.low in omega arith)))
+      and_then g w d (emptying_welcome d.state m) p (job_welcomed p.next d.state m p.stands (let a = seen.low in let b = p.grown.low in omega arith)))
       (λ t. stays g w e h)
 
   -- the maps are asked for, by a number of their own
-  maps_wanted : (w : Scene) (e : Emptying) → has_room e.lasting.questions.last ≡ true → Stands g w e → Goes w (asks_for_maps e)
+  maps_wanted : (w : Scene) (e : Emptying) → has_room e.lasting.questions.last ≡ true → Stands g w e → Goes w (ask_for_maps e)
   maps_wanted w e room h =
       let q : Questions = e.lasting.questions in
       let number : ℕ = next_ask q in
@@ -366,15 +366,15 @@ module _ (g : Setting) (fact : g.log ≡ cleaner_log) where
       → InRange p.body → Goes w (on_packet e p)
   unfolding on_packet
   packet_heard w e p room h seen fit =
-      by_test (Goes w) (names_known e.maps p.body) (on_body e p.from p.body) (asks_for_maps e) (λ t. body_heard w e p.from p.body h seen fit)
+      by_test (Goes w) (names_known_groups e.maps p.body) (on_body e p.from p.body) (ask_for_maps e) (λ t. body_heard w e p.from p.body h seen fit)
       (λ t. maps_wanted w e room h)
 
   pub time_passes : (w : Scene) (e : Emptying) → has_room e.lasting.questions.last ≡ true → Stands g w e → Goes w (on_tick e)
   unfolding on_tick
   time_passes w e room h =
-      let j : Done = cleans e input.Tick in
-      let l : Done = writes j.state log_in.Tick in
-      let r : Done = record { state = l.state; outs = pushes_all l.state.promised.managers l.state.feed } in
+      let j : Done = emptying_clean e input.Tick in
+      let l : Done = emptying_write j.state log_in.Tick in
+      let r : Done = record { state = l.state; outs = push_all l.state.promised.managers l.state.feed } in
       let pj : Goes w j = job_in_time g fact w e room h in
       let pl : Goes pj.next l = time_written pj.next j.state pj.stands in
       and_then g w j (saying l.outs r) pj

@@ -9,14 +9,14 @@ use Rattle.log_owner.specs.Behaves.{MaySay, MayAct, MayDo, Behaves}
 use Rattle.log_owner.specs.declared.ended.Owner.{Owner}
 use Rattle.log_owner.specs.declared.opened.Progress.TheVariants as progress
 use Rattle.log_owner.specs.declared.opening.Opening as openings
-use Rattle.log_owner.specs.Opening.{Went, went, by_server, fenced_by, found_by, missing_by, on_fenced, on_found, on_missing, on_body, on_packet, on_tick}
+use Rattle.log_owner.specs.Opening.{Went, went, by_server, fenced_by, found_by, missing_by, on_fenced, on_found, on_missing, on_body, opening_take, on_tick}
 use Rattle.log_owner.specs.Sending.{hello, server_in}
 use Rattle.log_owner.proofs.Behaving as behaving
-use Rattle.node_base.specs.Asking.{drawn, next_ask}
+use Rattle.node_base.specs.Asking.{draw, next_ask}
 use Rattle.node_base.specs.declared.effects.Effect.{Effect}
 use Rattle.node_base.specs.declared.effects.Effect.TheVariants.{Send, Answer, Lose, Does}
 use Rattle.node_base.specs.declared.questions.Questions.{Questions}
-use Rattle.node_base.specs.Known.{names_known}
+use Rattle.node_base.specs.Known.{names_known_groups}
 use Rattle.node_base.specs.Room.{has_room}
 use Rattle.node_base.specs.Shape.{is_log}
 use Rattle.version_model.specs.declared.act.Act.{Act}
@@ -74,10 +74,10 @@ same_body o q from _ = refl
 abbrev as_to_client : packets.Packet → packets.Packet
 as_to_client p = record p { from = stand_in p.from; to = Client its_number }
 
-same_packet : (o : openings.Opening) (q : Questions) (p : packets.Packet) → on_packet o q (as_to_client p) ≡ on_packet o q p
-unfolding on_packet
+same_packet : (o : openings.Opening) (q : Questions) (p : packets.Packet) → opening_take o q (as_to_client p) ≡ opening_take o q p
+unfolding opening_take
 same_packet o q p =
-    ap (λ x. cond (names_known o.known.maps p.body) x (went (progress.Opening o) (drawn q) (hello o.known.owner.inc (next_ask q) ∷ [])))
+    ap (λ x. cond (names_known_groups o.known.maps p.body) x (went (progress.Opening o) (draw q) (hello o.known.owner.inc (next_ask q) ∷ [])))
     (same_body o q p.from p.body)
 
 ids_fit : (b : Body) → InRange b → BodyFits b
@@ -176,10 +176,10 @@ module _ (g : Setting) where
     owed : StageOwed g w.net o.stage
     owed = owed_so g its_number small w o.known o.stage q.last (let e = lasts.inc in let b = in_range life life_room in omega arith) room sees asks tells
 
-    pub packet_heard : (p : packets.Packet) → BodySeen g (its_asker w) w.net p.from Cleaner p.body → InRange p.body → WentOn w life (on_packet o q p)
+    pub packet_heard : (p : packets.Packet) → BodySeen g (its_asker w) w.net p.from Cleaner p.body → InRange p.body → WentOn w life (opening_take o q p)
     packet_heard p seen fits =
         subst (WentOn w life) (same_packet o q p)
-        (taken_over w life o.known.owner (on_packet o q (as_to_client p)) (behaving.packet_so o q (as_to_client p))
+        (taken_over w life o.known.owner (opening_take o q (as_to_client p)) (behaving.packet_so o q (as_to_client p))
         (events.packet_so g its_number small w its_number life q lasts room o (as_to_client p) refl (comes_so g w p.from p.body seen) (ids_fit p.body fits)
         (record { sees = sees; written = written; owed = owed })))
 

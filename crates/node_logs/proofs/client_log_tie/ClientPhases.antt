@@ -5,15 +5,15 @@ use Rattle.std.proofs.lemmas.List.Elements.{All-nil, All-cons, All-append}
 use Rattle.client_node.specs.declared.client.Client.{Client}
 use Rattle.client_node.specs.declared.phase.Phase.TheVariants.{Down, Opening, Serving as Serves}
 use Rattle.client_node.specs.declared.phase.Phase.{Phase}
-use Rattle.client_node.specs.Phases.{owner_of, takes, Went_to, crashed, restarted, after_opening, opened_on, answers, serves_on, wish_of, down_begins, opening_begins, serving_begins, lasting_of, begins_item, on_begin, on_deliver, on_time, delivers, happens, phase_room, client_room}
+use Rattle.client_node.specs.Phases.{owner_of, takes, Went_to, cut, restart, phase_after, opened_on, answers, serves_on, wish_of, down_begins, opening_begins, serving_begins, lasting_of, begins_item, on_begin, on_deliver, client_tick, client_deliver, happens, phase_has_room, client_has_room}
 use Rattle.client_call.specs.declared.call.Going.{Going}
 use Rattle.client_node.specs.Crash.{falls}
 use Rattle.client_serving.specs.declared.lasting.Lasting.{Lasting}
 use Rattle.client_serving.specs.declared.serving.Serving.{Serving}
-use Rattle.client_running.specs.Opens.{begins_call, call_at, opens}
-use Rattle.client_serving.specs.Lasting.{next_life}
+use Rattle.client_running.specs.Opens.{begin_call, call_at, opens}
+use Rattle.client_serving.specs.Lasting.{live_on}
 use Rattle.client_serving.specs.Packets as packets
-use Rattle.client_running.specs.Running.{goes_on}
+use Rattle.client_running.specs.Running.{running_go_on}
 use Rattle.client_serving.specs.Sends.{Done, gives}
 use Rattle.log_owner.specs.declared.opened.Opened.{Opened}
 use Rattle.log_owner.specs.declared.opened.Progress.{Progress}
@@ -21,12 +21,12 @@ use Rattle.log_owner.specs.declared.opened.Progress.TheVariants as progress
 use Rattle.log_owner.specs.declared.opening.Opening as openings
 use Rattle.log_owner.specs.Opening as opening
 use Rattle.log_owner.specs.Opening.{Went}
-use Rattle.log_owner.specs.Sending.{hello, pushes_all}
+use Rattle.log_owner.specs.Sending.{hello, push_all}
 use Rattle.log_scan.specs.declared.input.In.TheVariants as scan_in
-use Rattle.log_scan.specs.ScanState.{ScanState, started}
+use Rattle.log_scan.specs.ScanState.{ScanState, scan_start}
 use Rattle.log_scan.specs.Transition as scan
 use Rattle.node_base.specs.Asking.{next_ask}
-use Rattle.node_base.specs.Beginning.{next_item, work_at, begun, waiting, answered, answers_unanswered}
+use Rattle.node_base.specs.Beginning.{next_item, work_at, items_begin, items_wait, items_answer, answers_unanswered}
 use Rattle.node_base.specs.declared.effects.Effect.{Effect}
 use Rattle.node_base.specs.declared.effects.Effect.TheVariants.{Answer as Answers, Does}
 use Rattle.node_base.specs.declared.peers.Peers.{Peers}
@@ -143,27 +143,27 @@ module _ (g : Setting) (c : ℕ) (fact : g.log ≡ record { 0 = c }) (small : is
     puts = λ s owns serves. contrary (sym (ap is_serving (fall_of g w.net).down) ∙ serves);
   }
 
-  crash_said : (l : Lasting) (number : ℕ) → frames.Plain g c (crashed l number).outs
+  crash_said : (l : Lasting) (number : ℕ) → frames.Plain g c (cut l number).outs
   crash_said l number v =
       All-append (ClientDoes g c v) (answers_unanswered l.items.unanswered answer.Cut) (Answers number answer.Done ∷ [])
       (tokens.plain_answers g c l.items.unanswered answer.Cut v)
       (tokens.plain_one g c (Answers number answer.Done) (λ u. tt) v)
 
-  crashes_so : (l : Lasting) (number : ℕ) → LastsAs g c w l → Goes (crashed l number)
-  crashes_so l number lasts = falls_so (record l { items = answered l.items }) (crashed l number).outs lasts (crash_said l number)
+  crashes_so : (l : Lasting) (number : ℕ) → LastsAs g c w l → Goes (cut l number)
+  crashes_so l number lasts = falls_so (record l { items = items_answer l.items }) (cut l number).outs lasts (crash_said l number)
 
   -- ---- restarts
 
   restarts_so : (servers number : ℕ) (l : Lasting) → LastsAs g c w l → w.net.owner ≡ owner.Down → has_room l.inc ≡ true → has_room l.questions.last ≡ true
-      → Goes (restarted servers (next_life l number))
+      → Goes (restart servers (live_on l number))
   unfolding scan.on_tick
   restarts_so servers number l lasts down room asks_room =
       let q : Questions = l.questions in
       let up : w.net.inc ≡ l.inc = lasts.inc in
-      let inc : suc w.net.inc ≡ (next_life l number).inc = ap (λ k. suc k) up ∙ sym (next_inc l.inc room) in
+      let inc : suc w.net.inc ≡ (live_on l number).inc = ap (λ k. suc k) up ∙ sym (next_inc l.inc room) in
       let log : g.log ≡ record { 0 = l.number } = fact ∙ ap (λ (k : ℕ). record { 0 = k }) (sym lasts.number) in
       let rises : q.last < next_ask q = ask_rises q asks_room in
-      let first : ScanState = started g.log (suc w.net.inc) in
+      let first : ScanState = scan_start g.log (suc w.net.inc) in
       let risen : Net = record w.net { inc = suc w.net.inc; owner = owner.Opening first } in
       let v : Scene = record {
         net = record risen { owner = owner.Opening first; sent = HelloSent (suc w.net.inc) 1 ∷ w.net.sent; picked = 1 };
@@ -184,7 +184,7 @@ module _ (g : Setting) (c : ℕ) (fact : g.log ≡ record { 0 = c }) (small : is
         agrees = (
           record { number = lasts.number; inc = inc; fresh = put_fresh w.asked (next_ask q) (OfOpening 1) q.last rises lasts.fresh },
           record {
-            owner = ap (λ z. owner.Opening (started z (suc w.net.inc))) log ∙ ap (λ k. owner.Opening (started (record { 0 = l.number }) k)) inc;
+            owner = ap (λ z. owner.Opening (scan_start z (suc w.net.inc))) log ∙ ap (λ k. owner.Opening (scan_start (record { 0 = l.number }) k)) inc;
             log = sym log;
             inc = sym inc;
             groups = refl;
@@ -194,12 +194,12 @@ module _ (g : Setting) (c : ℕ) (fact : g.log ≡ record { 0 = c }) (small : is
             some = omega arith;
             number = omega arith;
           },
-          starts_few (owner_of (next_life l number)) servers q asks_room,
+          starts_few (owner_of (live_on l number)) servers q asks_room,
         );
         written = tt;
-        does = All-cons (ClientDoes g c v) (hello (next_life l number).inc (next_ask q)) []
+        does = All-cons (ClientDoes g c v) (hello (live_on l number).inc (next_ask q)) []
             (record {
-              own = λ e. subst (AskedBy g (asker c v) v.net (next_life l number).inc) (sym (put_here w.asked (next_ask q) (OfOpening 1)))
+              own = λ e. subst (AskedBy g (asker c v) v.net (live_on l number).inc) (sym (put_here w.asked (next_ask q) (OfOpening 1)))
                   (subst (λ k. In (HelloSent k 1) v.net.sent) inc (inl refl));
               reached = tt;
             })
@@ -227,10 +227,10 @@ module _ (g : Setting) (c : ℕ) (fact : g.log ≡ record { 0 = c }) (small : is
 
   module _ (l : Lasting) where
     back_said : (r : Opened)
-        → frames.Plain g c (Does (Back l.number r.chain) ∷ pushes_all r.promised.managers r.feed ++ answers_unanswered l.items.unanswered answer.Done)
+        → frames.Plain g c (Does (Back l.number r.chain) ∷ push_all r.promised.managers r.feed ++ answers_unanswered l.items.unanswered answer.Done)
     back_said r v =
         All-cons (ClientDoes g c v) (Does (Back l.number r.chain)) _ tt
-        (All-append (ClientDoes g c v) (pushes_all r.promised.managers r.feed) (answers_unanswered l.items.unanswered answer.Done)
+        (All-append (ClientDoes g c v) (push_all r.promised.managers r.feed) (answers_unanswered l.items.unanswered answer.Done)
         (tokens.plain_pushes_all g c r.promised.managers r.feed v) (tokens.plain_answers g c l.items.unanswered answer.Done v))
 
     opened_so : (capacity : ℕ) (x : Went) → LastsAs g c w l → is_down w.net.owner ≡ false → is_serving w.net.owner ≡ false
@@ -244,7 +244,7 @@ module _ (g : Setting) (c : ℕ) (fact : g.log ≡ record { 0 = c }) (small : is
         by_progress : (p : Progress) → ProgressSeen g c t.next x.questions.last p
             → (IsLost g c p → (t.next.net.flown ≡ w.net.flown) × ((t.next.net.filed ≡ w.net.filed) × (has_log t.next.net.owner ≡ false)))
             → ProgressAsks p x.questions.last
-            → Goes (saying x.effects (after_opening (record l { questions = x.questions }) capacity p))
+            → Goes (saying x.effects (phase_after (record l { questions = x.questions }) capacity p))
         by_progress (progress.Opening o) shows lost asks = record {
           next = t.next;
           grown = t.grown;
@@ -268,7 +268,7 @@ module _ (g : Setting) (c : ℕ) (fact : g.log ≡ record { 0 = c }) (small : is
         by_progress (progress.Lost seg) shows lost asks = record {
           next = fallen t.next;
           grown = frames.grown_on g w t.next (fallen t.next) t.grown (fallen_grown t.next);
-          agrees = fallen_agrees t.next (record l { questions = x.questions; items = answered l.items }) t.lasts;
+          agrees = fallen_agrees t.next (record l { questions = x.questions; items = items_answer l.items }) t.lasts;
           written = tt;
           does = All-append (ClientDoes g c (fallen t.next)) x.effects (answers_unanswered l.items.unanswered (answer.Lost seg))
               (frames.all_more g c t.next (fallen t.next) (fallen_grown t.next) x.effects t.does)
@@ -304,25 +304,25 @@ module _ (g : Setting) (c : ℕ) (fact : g.log ≡ record { 0 = c }) (small : is
   stands : (s : Serving) → ClientAgrees g c w (Serves s) → StaysWritten s.log → AtServing s
   stands s sees written = record { lasts = sees.0; sees = sees.1; written = written }
 
-  crashes_serving : (s : Serving) (number : ℕ) → ClientAgrees g c w (Serves s) → Goes (saying (falls s ∷ []) (crashed s.lasting number))
+  crashes_serving : (s : Serving) (number : ℕ) → ClientAgrees g c w (Serves s) → Goes (saying (falls s ∷ []) (cut s.lasting number))
   crashes_serving s number sees =
-      falls_so (record s.lasting { items = answered s.lasting.items }) (falls s ∷ (crashed s.lasting number).outs) sees.0
-      (λ v. All-cons (ClientDoes g c v) (falls s) (crashed s.lasting number).outs tt (crash_said s.lasting number v))
+      falls_so (record s.lasting { items = items_answer s.lasting.items }) (falls s ∷ (cut s.lasting number).outs) sees.0
+      (λ v. All-cons (ClientDoes g c v) (falls s) (cut s.lasting number).outs tt (crash_said s.lasting number v))
 
   says_so : (s : Serving) (number : ℕ) (a : Answer) → AtServing s → frames.Goes g c w (gives s (Answers number a ∷ []))
   says_so s number a h = frames.goes_plain g c w s (Answers number a ∷ []) h (tokens.plain_one g c _ (λ v. tt))
 
-  begins_so : (s : Serving) (number : ℕ) (going : Option Going) → AtServing s → frames.Goes g c w (begins_call s number going)
+  begins_so : (s : Serving) (number : ℕ) (going : Option Going) → AtServing s → frames.Goes g c w (begin_call s number going)
   begins_so s number None h = says_so s number answer.Done h
   begins_so s number (Some x) h =
-      let t : Serving = record s { lasting = record s.lasting { items = waiting s.lasting.items number } } in
-      serving.runs_after g c fact w (goes_on t x) (calls.goes_on_so g c fact w t x h)
+      let t : Serving = record s { lasting = record s.lasting { items = items_wait s.lasting.items number } } in
+      serving.runs_after g c fact w (running_go_on t x) (calls.running_go_on_so g c fact w t x h)
 
   opens_so : (s : Serving) (number : ℕ) → AtServing s → frames.Goes g c w (opens s number)
   unfolding opens
   opens_so s number h =
       by_test (λ (d : Done). frames.Goes g c w d) (is_some s.lasting.items.unanswered) (gives s (Answers number answer.Busy ∷ []))
-      (begins_call s number (call_at s number (work_at s.lasting.items number)))
+      (begin_call s number (call_at s number (work_at s.lasting.items number)))
       (λ t. says_so s number answer.Busy h) (λ t. begins_so s number (call_at s number (work_at s.lasting.items number)) h)
 
   serving_begins_so : (s : Serving) (number : ℕ) (wanted : Option Work) → ClientAgrees g c w (Serves s) → StaysWritten s.log
@@ -338,11 +338,11 @@ module _ (g : Setting) (c : ℕ) (fact : g.log ≡ record { 0 = c }) (small : is
       → has_room (lasting_of p).questions.last ≡ true → Goes (begins_item servers p item)
   item_so servers p None sees written room asks_room = still_so p sees written
   item_so servers (Down l) (Some number) sees written room asks_room =
-      down_begins_so servers number (record l { items = begun l.items }) (work_at (begun l.items) number) sees room asks_room
+      down_begins_so servers number (record l { items = items_begin l.items }) (work_at (items_begin l.items) number) sees room asks_room
   item_so servers (Opening l o) (Some number) sees written room asks_room =
-      opening_begins_so (record l { items = begun l.items }) o number (work_at (begun l.items) number) sees written
+      opening_begins_so (record l { items = items_begin l.items }) o number (work_at (items_begin l.items) number) sees written
   item_so servers (Serves s) (Some number) sees written room asks_room =
-      serving_begins_so (record s { lasting = record s.lasting { items = begun s.lasting.items } }) number (work_at (begun s.lasting.items) number) sees written
+      serving_begins_so (record s { lasting = record s.lasting { items = items_begin s.lasting.items } }) number (work_at (items_begin s.lasting.items) number) sees written
 
   on_begin_so : (servers : ℕ) (p : Phase) → ClientAgrees g c w p → PhaseWritten p → has_room (lasting_of p).inc ≡ true
       → has_room (lasting_of p).questions.last ≡ true
@@ -364,56 +364,56 @@ module _ (g : Setting) (c : ℕ) (fact : g.log ≡ record { 0 = c }) (small : is
   unfolding on_deliver
   on_deliver_so capacity (Down l) packet sees written brings life room = still_so (Down l) sees tt
   on_deliver_so capacity (Opening l o) packet sees written brings life room =
-      opened_so l capacity (opening.on_packet o l.questions packet) sees.0 (stage_up g c w o.known l.questions.last o.stage sees.1)
+      opened_so l capacity (opening.opening_take o l.questions packet) sees.0 (stage_up g c w o.known l.questions.last o.stage sees.1)
       (stage_away g c w o.known l.questions.last o.stage sees.1)
       (events.packet_so g c its_log w l.number l.inc l.questions sees.0 room o packet brings.own brings.seen brings.fits
       (record { sees = sees.1; written = written; owed = owed l o sees brings.scans life room }))
       (packet_few o l.questions packet room sees.2)
   on_deliver_so capacity (Serves s) packet sees written brings life room =
-      serves_so (serving.and_runs g c fact (packets.on_packet s packet)) s.log sees.1
+      serves_so (serving.and_runs g c fact (packets.serving_take s packet)) s.log sees.1
       (serving.packet_so g c fact w s packet brings.seen brings.fits room (stands s sees written))
 
-  delivers_so : (peers : Peers) (capacity : ℕ) (p : Phase) (packet : wire.Packet) → ClientAgrees g c w p → PhaseWritten p → PacketOwed g c w p packet
-      → has_room (lasting_of p).inc ≡ true → has_room (lasting_of p).questions.last ≡ true → Goes (delivers peers capacity p packet)
-  delivers_so peers capacity p packet sees written brings life room =
+  client_deliver_so : (peers : Peers) (capacity : ℕ) (p : Phase) (packet : wire.Packet) → ClientAgrees g c w p → PhaseWritten p → PacketOwed g c w p packet
+      → has_room (lasting_of p).inc ≡ true → has_room (lasting_of p).questions.last ≡ true → Goes (client_deliver peers capacity p packet)
+  client_deliver_so peers capacity p packet sees written brings life room =
       by_test (λ (x : Went_to). Goes x) (is_well_formed peers packet) (on_deliver capacity p packet) (still p)
       (λ t. on_deliver_so capacity p packet sees written brings life room) (λ t. still_so p sees written)
 
-  on_time_so : (capacity : ℕ) (p : Phase) → ClientAgrees g c w p → PhaseWritten p → PhaseOwed g w.net p → has_room (lasting_of p).inc ≡ true
+  client_tick_so : (capacity : ℕ) (p : Phase) → ClientAgrees g c w p → PhaseWritten p → PhaseOwed g w.net p → has_room (lasting_of p).inc ≡ true
       → has_room (lasting_of p).questions.last ≡ true
-      → Goes (on_time capacity p)
-  unfolding on_time
-  on_time_so capacity (Down l) sees written tells life room = still_so (Down l) sees tt
-  on_time_so capacity (Opening l o) sees written tells life room =
+      → Goes (client_tick capacity p)
+  unfolding client_tick
+  client_tick_so capacity (Down l) sees written tells life room = still_so (Down l) sees tt
+  client_tick_so capacity (Opening l o) sees written tells life room =
       opened_so l capacity (opening.on_tick o l.questions) sees.0 (stage_up g c w o.known l.questions.last o.stage sees.1)
       (stage_away g c w o.known l.questions.last o.stage sees.1)
       (events.tick_so g c its_log w l.number l.inc l.questions sees.0 room o
       (record { sees = sees.1; written = written; owed = owed l o sees tells life room }))
       (tick_few o l.questions room sees.2)
-  on_time_so capacity (Serves s) sees written tells life room =
+  client_tick_so capacity (Serves s) sees written tells life room =
       serves_so (serving.and_runs g c fact (packets.on_tick s)) s.log sees.1 (serving.time_so g c fact w s (stands s sees written))
 
   happens_so : (client : Client) (what : Do) → ClientAgrees g c w client.phase → PhaseWritten client.phase → ClientOwed g c w client.phase what
-      → client_room client ≡ true
+      → client_has_room client ≡ true
       → Goes (happens client what)
   happens_so client Begin sees written brings room =
       on_begin_so client.peers.servers client.phase sees written (and_first (has_room (lasting_of client.phase).inc) _ room)
-      (and_first (has_room (lasting_of client.phase).questions.last) (phase_room client.phase)
-      (and_second (has_room (lasting_of client.phase).inc) (has_room (lasting_of client.phase).questions.last && phase_room client.phase) room))
+      (and_first (has_room (lasting_of client.phase).questions.last) (phase_has_room client.phase)
+      (and_second (has_room (lasting_of client.phase).inc) (has_room (lasting_of client.phase).questions.last && phase_has_room client.phase) room))
   happens_so client (Deliver packet) sees written brings room =
-      delivers_so client.peers client.cache client.phase packet sees written brings (and_first (has_room (lasting_of client.phase).inc) _ room)
-      (and_first (has_room (lasting_of client.phase).questions.last) (phase_room client.phase)
-      (and_second (has_room (lasting_of client.phase).inc) (has_room (lasting_of client.phase).questions.last && phase_room client.phase) room))
+      client_deliver_so client.peers client.cache client.phase packet sees written brings (and_first (has_room (lasting_of client.phase).inc) _ room)
+      (and_first (has_room (lasting_of client.phase).questions.last) (phase_has_room client.phase)
+      (and_second (has_room (lasting_of client.phase).inc) (has_room (lasting_of client.phase).questions.last && phase_has_room client.phase) room))
   happens_so client Tick sees written brings room =
-      on_time_so client.cache client.phase sees written brings (and_first (has_room (lasting_of client.phase).inc) _ room)
-      (and_first (has_room (lasting_of client.phase).questions.last) (phase_room client.phase)
-      (and_second (has_room (lasting_of client.phase).inc) (has_room (lasting_of client.phase).questions.last && phase_room client.phase) room))
+      client_tick_so client.cache client.phase sees written brings (and_first (has_room (lasting_of client.phase).inc) _ room)
+      (and_first (has_room (lasting_of client.phase).questions.last) (phase_has_room client.phase)
+      (and_second (has_room (lasting_of client.phase).inc) (has_room (lasting_of client.phase).questions.last && phase_has_room client.phase) room))
 
 -- an event is taken where no counter is near its end, and changes nothing else
 pub client_did : (g : Setting) (c : ℕ) → g.log ≡ record { 0 = c } → is_log c ≡ true → (w : Scene) (client : Client) (what : Do)
     → ClientAgrees g c w client.phase
     → PhaseWritten client.phase → ClientOwed g c w client.phase what → ClientDid g c w (takes client what).state (takes client what).outs
 client_did g c fact small w client what sees written owed =
-    by_test (λ (x : Went_to). ClientDid g c w x.state x.outs) (client_room client) (happens client what) (still client.phase)
+    by_test (λ (x : Went_to). ClientDid g c w x.state x.outs) (client_has_room client) (happens client what) (still client.phase)
     (λ room. happens_so g c fact small w client what sees written owed room)
     (λ room. still_so g c fact small w client.phase sees written)

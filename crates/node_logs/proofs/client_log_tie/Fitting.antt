@@ -8,7 +8,7 @@ use Rattle.client_serving.specs.declared.serving.Serving.{Serving}
 use Rattle.client_serving.specs.Flights.{held_at}
 use Rattle.token_client.proofs.Tables.{held_of-put_itself}
 use Rattle.token_client.specs.declared.held.Held.{Held}
-use Rattle.token_client.specs.Held.{may_write, written}
+use Rattle.token_client.specs.Held.{may_write, held_write}
 use Rattle.token_client.specs.State.{held_of, with_held}
 use Rattle.token_client.specs.Transition.{Done, on_wrote}
 use Rattle.xfs_base.proofs.Booleans.{and_first, and_second}
@@ -28,7 +28,7 @@ wrote_next : (s : Serving) (block : BlockId) (value : Option (List ℕ)) → may
     → (held_at (wrote s block value) block).ver ≡ (held_at s block).ver + 1
 unfolding on_wrote
 wrote_next s block value may =
-    let h : Held = written (held_at s block) value in
+    let h : Held = held_write (held_at s block) value in
     let then_is : Bool → Done = λ t. cond t (still (with_held s.tokens block h)) (still s.tokens) in
     ap (λ (t : Bool). (held_of (then_is t).state.blocks block).ver) may ∙ ap (λ h. h.ver) (held_of-put_itself block h s.tokens.blocks)
 

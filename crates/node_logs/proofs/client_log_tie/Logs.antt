@@ -6,7 +6,7 @@ use Rattle.xfs_base.specs.declared.segment.SegName.{SegName}
 use Rattle.xfs_base.specs.Steps.{still}
 use Rattle.xfs_base.proofs.Booleans.{by_test, and_first, contrary, equal_itself}
 use Rattle.xfs_base.proofs.SegmentNames.{one_name}
-use Rattle.log_flight.specs.Flights.{FlightState, is_of, is_member, noting}
+use Rattle.log_flight.specs.Flights.{FlightState, is_of, is_member, flight_note}
 use Rattle.client_log.specs.declared.input.In.{In as Input}
 use Rattle.client_log.specs.declared.input.In.TheVariants.{Acked}
 use Rattle.client_log.specs.LogState.{LogState}
@@ -45,9 +45,9 @@ module _ (g : Setting) where
   foreign_acked s name index generation h other =
       elim s.flight as
       (λ o. IfSome o (λ f. f.segment.name.log ≡ g.log)
-      → elim o [ None ↦ still s | Some f ↦ cond (is_of f name index generation) (looked_at s s (noting f index)) (still s) ] ≡ still s) [
+      → elim o [ None ↦ still s | Some f ↦ cond (is_of f name index generation) (looked_at s s (flight_note f index)) (still s) ] ≡ still s) [
         | None ↦ λ e. refl
-        | Some f ↦ λ e. by_test (λ d. d ≡ still s) (is_of f name index generation) (looked_at s s (noting f index)) (still s)
+        | Some f ↦ λ e. by_test (λ d. d ≡ still s) (is_of f name index generation) (looked_at s s (flight_note f index)) (still s)
             (λ t. contrary (sym other ∙ subst (λ log. (name.log.0 == log.0) ≡ true) e (same_log f t))) (λ t. refl)
       ] h.flight
     where

@@ -13,7 +13,7 @@ use Rattle.segment_reading.specs.declared.reading.Stage as readings
 use Rattle.segment_reading.specs.declared.reading.Stage.TheVariants as reading
 use Rattle.stripe_code.specs.declared.round.Told.TheVariants as round_told
 use Rattle.client_log.specs.declared.input.In.TheVariants as log_in
-use Rattle.client_log.specs.LogState.{started}
+use Rattle.client_log.specs.LogState.{log_start}
 use Rattle.log_scan.specs.declared.input.In.{In as Input}
 use Rattle.log_scan.specs.declared.input.In.TheVariants as input
 use Rattle.log_scan.specs.declared.stage.Stage as scan_stages
@@ -27,15 +27,15 @@ use Rattle.log_owner.specs.declared.opening.Opening.{Opening}
 use Rattle.log_owner.specs.declared.opening.Scanning.{Scanning}
 use Rattle.log_owner.specs.declared.opening.Stage.{Stage}
 use Rattle.log_owner.specs.declared.opening.Stage.TheVariants as stage
-use Rattle.log_owner.specs.Opening.{Went, went, stays, drops, at_scan, at_log, nothing_asked, scans_on, scans_at, welcomed_with, welcomed, welcomed_as, is_meant, welcomed_in, on_welcome, regrouped, on_news, is_fenced, fenced_by, on_fenced, own_in, answers, on_found, on_missing, on_stored, on_tick, on_body, on_packet}
-use Rattle.log_owner.specs.Promised.{promised_in}
+use Rattle.log_owner.specs.Opening.{Went, went, stays, drops, known_scanning, known_settling, nothing_asked, scans_on, scans_at, welcomed_with, welcomed, welcomed_as, is_meant, welcomed_in, on_welcome, regrouped, on_news, is_fenced, fenced_by, on_fenced, own_in, answers, on_found, on_missing, on_stored, on_tick, on_body, opening_take}
+use Rattle.log_owner.specs.Promised.{promised_of}
 use Rattle.log_owner.specs.Sending.{hello}
-use Rattle.node_base.specs.Asking.{next_ask, drawn, own_of}
+use Rattle.node_base.specs.Asking.{next_ask, draw, own_of}
 use Rattle.node_base.specs.declared.maps.Maps.{Maps}
 use Rattle.node_base.specs.declared.questions.Asked.{Asked}
 use Rattle.node_base.specs.declared.questions.Questions.{Questions}
-use Rattle.node_base.specs.Known.{names_known}
-use Rattle.node_base.specs.Maps.{fits, is_older, taken}
+use Rattle.node_base.specs.Known.{names_known_groups}
+use Rattle.node_base.specs.Maps.{fits, is_older, maps_take}
 use Rattle.node_base.specs.Room.{has_room}
 use Rattle.node_base.specs.Shape.{is_log}
 use Rattle.wire_msg.specs.declared.body.Body.{Body}
@@ -74,10 +74,10 @@ use Rattle.node_logs.proofs.client_log_tie.ScanSteps as scanning
 
 -- ---- where a chain can be gone on with, the small world can start the log
 
-starts_with : (g : Setting) (inc : ℕ) (d : scan.Done) (t : Told) (m : Option GroupMapState) → IfSome m (λ x. StaysWritten (started g.log inc t.end x))
+starts_with : (g : Setting) (inc : ℕ) (d : scan.Done) (t : Told) (m : Option GroupMapState) → IfSome m (λ x. StaysWritten (log_start g.log inc t.end x))
     → IfSome m (λ x. WritesText (first_write g inc t.end x))
 starts_with g inc d t None h = tt
-starts_with g inc d t (Some m) h = writes_text (started g.log inc t.end m) (log_in.Parts []) h refl
+starts_with g inc d t (Some m) h = writes_text (log_start g.log inc t.end m) (log_in.Parts []) h refl
 
 can_start : (g : Setting) (n : Net) (d : scan.Done) (x : Option Told) → IfSome x (λ t. StartFits g n.inc d t × ReadsDown n d.state.opening.low t)
     → IfSome x (StartsWith g n.inc d)
@@ -238,7 +238,7 @@ module _ (g : Setting) (c : ℕ) (small : is_log g.log.0 ≡ true) (w : Scene) (
       → Goes (fenced_by (record o { stage = stage.Scanning s }) q f v)
   fenced_scan o s f v h seen =
       let i : Input = input.Fenced v f.generation f.held in
-      by_test (λ (x : Went). Goes x) (is_fenced (record o { stage = stage.Scanning s }) f) (scans_on o.known q s i) (stays (at_scan o.known s) q)
+      by_test (λ (x : Went). Goes x) (is_fenced (record o { stage = stage.Scanning s }) f) (scans_on o.known q s i) (stays (known_scanning o.known s) q)
       (λ t.
       let log : (f.log.0 == o.known.owner.log.0) ≡ true = and_first (f.log.0 == o.known.owner.log.0) _ t in
       let inc : f.pass.inc ≡ w.net.inc = eqb-true f.pass.inc o.known.owner.inc
@@ -256,7 +256,7 @@ module _ (g : Setting) (c : ℕ) (small : is_log g.log.0 ≡ true) (w : Scene) (
       → Goes (fenced_by (record o { stage = at }) q f v)
   fenced_by_so o (stage.Scanning s) f v h seen = fenced_scan o s f v h seen
   fenced_by_so o (stage.Settling s) f v h seen =
-      by_test (λ (x : Went). Goes x) (is_fenced (record o { stage = stage.Settling s }) f) (stays (at_log o.known s) q) (stays (at_log o.known s) q)
+      by_test (λ (x : Went). Goes x) (is_fenced (record o { stage = stage.Settling s }) f) (stays (known_settling o.known s) q) (stays (known_settling o.known s) q)
       (λ t. rests_so o.known (stage.Settling s) h) (λ t. rests_so o.known (stage.Settling s) h)
 
   fenced_so : (o : Opening) (from : NodeId) (f : Fenced) → Sees o.known o.stage → FencedSeen g (asker c w) w.net from f → Goes (on_fenced o q from f)
@@ -324,12 +324,12 @@ module _ (g : Setting) (c : ℕ) (small : is_log g.log.0 ≡ true) (w : Scene) (
   unfolding on_news
   news_so o news h came fits_so =
       by_test (λ (x : Went). Goes x) (fits o.known.maps news && is_older o.known.maps news)
-      (regrouped (record o.known { maps = taken o.known.maps news }) q news.groups o.stage) (drops o q)
-      (λ t. regrouped_so o.known o.stage (taken o.known.maps news) news.groups h
+      (regrouped (record o.known { maps = maps_take o.known.maps news }) q news.groups o.stage) (drops o q)
+      (λ t. regrouped_so o.known o.stage (maps_take o.known.maps news) news.groups h
       (newer (and_second (fits o.known.maps news) (is_older o.known.maps news) t)) came fits_so)
       (λ t. dropped o h)
     where
-      newer : is_older o.known.maps news ≡ true → (taken o.known.maps news).groups ≡ Some news.groups
+      newer : is_older o.known.maps news ≡ true → (maps_take o.known.maps news).groups ≡ Some news.groups
       newer t = ap (λ b. (cond b (record o.known.maps { version = news.version; groups = Some news.groups }) o.known.maps).groups) t
 
   -- ---- a Welcome
@@ -339,10 +339,10 @@ module _ (g : Setting) (c : ℕ) (small : is_log g.log.0 ≡ true) (w : Scene) (
     hears_so : (maps : Maps) (groups : GroupMapState) → maps.groups ≡ Some groups → In (MapSent groups) w.net.sent → m.inc ≡ w.net.inc
         → Awaited w.asked s.asked s.scan.opening.ask s.scan.stage
         → In (WelcomeSent m.inc s.scan.opening.ask m.news.slots m.news.groups) w.net.sent
-        → Goes (scans_on (record k { maps = maps; promised = promised_in m.news.slots }) q (record s { asked = nothing_asked })
+        → Goes (scans_on (record k { maps = maps; promised = promised_of m.news.slots }) q (record s { asked = nothing_asked })
         (input.Welcome s.asked.own m.news.slots groups))
     hears_so maps groups fact came inc awaited sent =
-        let j : Known = record k { maps = maps; promised = promised_in m.news.slots } in
+        let j : Known = record k { maps = maps; promised = promised_of m.news.slots } in
         let r : Scanning = record s { asked = nothing_asked } in
         let i : Opens g c w its life j q r = record {
           lasts = lasts;
@@ -391,7 +391,7 @@ module _ (g : Setting) (c : ℕ) (small : is_log g.log.0 ≡ true) (w : Scene) (
 
     welcome_scan : Goes (welcomed_in k q s m)
     welcome_scan =
-        by_test (λ (x : Went). Goes x) (is_meant k m) (welcomed_as k q s m.news (own_of s.asked m.ask)) (stays (at_scan k s) q)
+        by_test (λ (x : Went). Goes x) (is_meant k m) (welcomed_as k q s m.news (own_of s.asked m.ask)) (stays (known_scanning k s) q)
         (λ t. by_test (λ x. Goes (welcomed_as k q s m.news x)) (not (s.asked.own == 0) && (m.ask == s.asked.ask)) (Some s.asked.own) None
         (λ u. answered_so (eqb-true m.inc k.owner.inc (and_first (m.inc == k.owner.inc) (fits k.maps m.news) t) ∙ h.sees.inc) u)
         (λ u. rests_so k (stage.Scanning s) h))
@@ -419,7 +419,7 @@ module _ (g : Setting) (c : ℕ) (small : is_log g.log.0 ≡ true) (w : Scene) (
   body_so o from to _ own seen fit h = dropped o h
 
   -- the maps are asked for, by a number of their own
-  asks_so : (o : Opening) → Sees o.known o.stage → Goes (went (progress.Opening o) (drawn q) (hello o.known.owner.inc (next_ask q) ∷ []))
+  asks_so : (o : Opening) → Sees o.known o.stage → Goes (went (progress.Opening o) (draw q) (hello o.known.owner.inc (next_ask q) ∷ []))
   asks_so o h =
       let rises : q.last < next_ask q = ask_rises q room in
       let v : Scene = record { net = w.net; asked = put w.asked (next_ask q) OfMaps } in
@@ -467,9 +467,9 @@ module _ (g : Setting) (c : ℕ) (small : is_log g.log.0 ≡ true) (w : Scene) (
           }
 
   pub packet_so : (o : Opening) (p : packets.Packet) → p.to ≡ Client c → BodySeen g (asker c w) w.net p.from p.to p.body → BodyFits p.body
-      → Sees o.known o.stage → Goes (on_packet o q p)
-  unfolding on_packet
+      → Sees o.known o.stage → Goes (opening_take o q p)
+  unfolding opening_take
   packet_so o p own seen fit h =
-      by_test (λ (x : Went). Goes x) (names_known o.known.maps p.body) (on_body o q p.from p.body)
-      (went (progress.Opening o) (drawn q) (hello o.known.owner.inc (next_ask q) ∷ []))
+      by_test (λ (x : Went). Goes x) (names_known_groups o.known.maps p.body) (on_body o q p.from p.body)
+      (went (progress.Opening o) (draw q) (hello o.known.owner.inc (next_ask q) ∷ []))
       (λ t. body_so o p.from p.to p.body own seen fit h) (λ t. asks_so o h)

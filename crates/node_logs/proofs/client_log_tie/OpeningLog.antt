@@ -18,8 +18,8 @@ use Rattle.log_owner.specs.declared.known.Known.{Known}
 use Rattle.log_owner.specs.declared.opened.Progress.{Progress}
 use Rattle.log_owner.specs.declared.opened.Progress.TheVariants as progress
 use Rattle.log_owner.specs.declared.opening.Settling.{Settling}
-use Rattle.log_owner.specs.Opened.{filed, files}
-use Rattle.log_owner.specs.Opening.{Went, asking, wrote_one, written, opens, logged, writes}
+use Rattle.log_owner.specs.Opened.{filed, file_all}
+use Rattle.log_owner.specs.Opening.{Went, asking, send_one, written, known_go_on, logged, known_write}
 use Rattle.log_owner.specs.Sending.{store, name_of}
 use Rattle.node_base.specs.declared.effects.Effect.TheVariants.{Does}
 use Rattle.node_base.specs.declared.questions.Questions.{Questions}
@@ -96,11 +96,11 @@ module _ (g : Setting) (c : ℕ) where
 
   -- what it said is seen
   said_seen : (v : Scene) (before : Option End) (outs : List Out) → ((p : Packet) → In p (log_packets outs) → In p v.net.sent)
-      → AllByRecursion (SendsOwn g.log) outs → All (ClientDoes g c v) (steps wrote_one before outs).outs
-  unfolding wrote_one
+      → AllByRecursion (SendsOwn g.log) outs → All (ClientDoes g c v) (steps send_one before outs).outs
+  unfolding send_one
   said_seen v before [] sent mine = All-nil (ClientDoes g c v)
   said_seen v before (Send fragment member ∷ outs) sent mine =
-      All-cons (ClientDoes g c v) (store fragment member) (steps wrote_one before outs).outs (λ own. sent _ (inl refl), mine.0)
+      All-cons (ClientDoes g c v) (store fragment member) (steps send_one before outs).outs (λ own. sent _ (inl refl), mine.0)
       (said_seen v before outs (λ p fact. sent p (inr fact)) mine.1)
   said_seen v before (Settled end rows ∷ outs) sent mine = said_seen v (Some end) outs sent mine.1
 
@@ -116,7 +116,7 @@ module _ (g : Setting) (c : ℕ) where
 
     went_aloft : (f : Flew w s.chain s.low its life q.last d) → Aloft f.next s.chain s.low d → WentTo w its life (asking q (logged k s d))
     went_aloft f a =
-        subst (λ (o : Option End). WentTo w its life (asking q (saying (written d.outs).outs (opens k then_is o)))) (sym a.flies.quiet)
+        subst (λ (o : Option End). WentTo w its life (asking q (saying (written d.outs).outs (known_go_on k then_is o)))) (sym a.flies.quiet)
         (record {
           next = f.next;
           grown = f.grown;
@@ -141,13 +141,13 @@ module _ (g : Setting) (c : ℕ) where
 
     went_down : (f : Flew w s.chain s.low its life q.last d) → Landed f.next s.chain d → WentTo w its life (asking q (logged k s d))
     went_down f a =
-        subst (λ (o : Option End). WentTo w its life (asking q (saying (written d.outs).outs (opens k then_is o)))) (sym a.lands.told)
+        subst (λ (o : Option End). WentTo w its life (asking q (saying (written d.outs).outs (known_go_on k then_is o)))) (sym a.lands.told)
         (record {
           next = f.next;
           grown = f.grown;
           lasts = f.lasts;
           shows = (record { owner = a.owner; own = f.own }, f.written);
-          does = All-append (ClientDoes g c f.next) (written d.outs).outs (files k.owner.log s.chain a.lands.end) (said_seen f.next None d.outs f.sent f.mine)
+          does = All-append (ClientDoes g c f.next) (written d.outs).outs (file_all k.owner.log s.chain a.lands.end) (said_seen f.next None d.outs f.sent f.mine)
               (All-append (ClientDoes g c f.next) (map filed s.chain) (Does (Filed (name_of k.owner.log a.lands.end)) ∷ []) (chain_seen f.next s.chain a.filed)
               (All-cons (ClientDoes g c f.next) (Does (Filed (name_of k.owner.log a.lands.end))) [] (end_filed f a) (All-nil (ClientDoes g c f.next))));
           lost = λ l. absurd l;
@@ -251,24 +251,24 @@ module _ (g : Setting) (c : ℕ) where
       once = frames.still_once g w;
     }
 
-    writes_so : (i : Input) → Flew w chain s.low its life q.last (log.transition s.log i) → WentTo w its life (asking q (writes k s i))
-    unfolding writes
-    writes_so i f = went_so w its life k q s sees.log (log.transition s.log i) f
+    known_write_so : (i : Input) → Flew w chain s.low its life q.last (log.transition s.log i) → WentTo w its life (asking q (known_write k s i))
+    unfolding known_write
+    known_write_so i f = went_so w its life k q s sees.log (log.transition s.log i) f
 
-    pub maps_so : (m : GroupMapState) → In (MapSent m) w.net.sent → MapFits m → WentTo w its life (asking q (writes k s (log_in.Maps m)))
+    pub maps_so : (m : GroupMapState) → In (MapSent m) w.net.sent → MapFits m → WentTo w its life (asking q (known_write k s (log_in.Maps m)))
     maps_so m came small =
-        writes_so (log_in.Maps m)
+        known_write_so (log_in.Maps m)
         (flew (log_in.Maps m) (Writes chain s.log (log_in.Maps m) sees.owner came (writes_text s.log (log_in.Maps m) fits small)) small
         (maps_turn s.log sees.flight sees.clear sees.empty sees.flies m))
 
-    pub tick_so : WentTo w its life (asking q (writes k s log_in.Tick))
+    pub tick_so : WentTo w its life (asking q (known_write k s log_in.Tick))
     tick_so =
-        writes_so log_in.Tick (flew log_in.Tick (Writes chain s.log log_in.Tick sees.owner tt (writes_text s.log log_in.Tick fits tt)) tt
+        known_write_so log_in.Tick (flew log_in.Tick (Writes chain s.log log_in.Tick sees.owner tt (writes_text s.log log_in.Tick fits tt)) tt
         (tick_turns s.log sees.flight sees.clear sees.empty sees.flies))
 
     pub stored_so : (name : SegName) (index generation : ℕ) → (is_of_log g name ≡ true → In (StoredSent name index generation) w.net.sent)
-        → WentTo w its life (asking q (writes k s (log_in.Acked name index generation)))
-    stored_so name index generation seen = writes_so i (by_log (is_of_log g name) refl)
+        → WentTo w its life (asking q (known_write k s (log_in.Acked name index generation)))
+    stored_so name index generation seen = known_write_so i (by_log (is_of_log g name) refl)
       where
         i : Input
         i = log_in.Acked name index generation

@@ -5,7 +5,7 @@ use Rattle.std.proofs.lemmas.Bool.Decides.{nat_tests}
 use Rattle.xfs_base.specs.declared.segment.End.{End}
 use Rattle.segment_format.specs.Format.{IsLog}
 use Rattle.group_map.specs.GroupMapState.{GroupMapState}
-use Rattle.client_log.specs.LogState.{started}
+use Rattle.client_log.specs.LogState.{log_start}
 use Rattle.log_owner.specs.declared.known.Known.{Known}
 use Rattle.log_owner.specs.declared.opening.Scanning.{Scanning}
 use Rattle.log_owner.specs.declared.opening.Stage.{Stage}
@@ -70,7 +70,7 @@ module _ (g : Setting) (c : ℕ) (small : is_log g.log.0 ≡ true) (w : Scene) w
     then_fit (input.Missing ask server generation) came groups e = subst AllFit (sym e) had
     then_fit input.Tick came groups e = subst AllFit (sym e) had
 
-    starts_so : (end : End) → GoesOn end → (groups : Option GroupMapState) → AllFit groups → IfSome groups (λ m. StaysWritten (started g.log w.net.inc end m))
+    starts_so : (end : End) → GoesOn end → (groups : Option GroupMapState) → AllFit groups → IfSome groups (λ m. StaysWritten (log_start g.log w.net.inc end m))
     starts_so end on None fit = tt
     starts_so end on (Some m) fit = what_fits_stays_written g.log w.net.inc end m its_log inc on.1 fit
 

@@ -14,7 +14,7 @@ use Rattle.xfs_base.specs.Steps.{still, saying}
 use Rattle.segment_format.specs.declared.segment.Segment.{Segment}
 use Rattle.group_map.specs.GroupMapState.{GroupMapState}
 use Rattle.client_log.specs.declared.input.In.TheVariants as log_in
-use Rattle.client_log.specs.LogState.{started}
+use Rattle.client_log.specs.LogState.{log_start}
 use Rattle.client_log.specs.Transition as log
 use Rattle.log_scan.specs.declared.opening.Opening.{Opening}
 use Rattle.log_scan.specs.declared.output.Out.{Out}
@@ -25,9 +25,9 @@ use Rattle.log_scan.specs.Transition as scan
 use Rattle.log_owner.specs.declared.known.Known.{Known}
 use Rattle.log_owner.specs.declared.opening.Scanning.{Scanning}
 use Rattle.log_owner.specs.declared.opening.Settling.{Settling}
-use Rattle.log_owner.specs.Opening.{asking, at_scan, said, scanned, logged, writes, behind, starts_log, settles_over, follows, stepped}
+use Rattle.log_owner.specs.Opening.{asking, known_scanning, sent_send, scanned, logged, known_write, behind, start_log, settles_over, known_follow, stepped}
 use Rattle.log_owner.specs.Sending.{hello, fence}
-use Rattle.node_base.specs.Asking.{next_ask, drawn, asked_as, drawn_for}
+use Rattle.node_base.specs.Asking.{next_ask, draw, asked_as, drawn_for}
 use Rattle.node_base.specs.declared.questions.Asked.{Asked}
 use Rattle.node_base.specs.declared.questions.Questions.{Questions}
 use Rattle.node_base.specs.Room.{has_room}
@@ -112,7 +112,7 @@ module _ (g : Setting) (c : ℕ) where
 
     pub quiet_goes : (o : Opening) (st : Stage) → k.maps.groups ≡ o.groups → AsksAt w.asked s.asked o.ask st → s.asked.own ≤ o.ask → 0 < o.ask
         → Takes (scan.goes o st [])
-    unfolding follows
+    unfolding known_follow
     quiet_goes o st groups asks past some fits happens = record {
       next = on (scan.goes o st []) w.asked;
       grown = on_grown (scan.goes o st []) w.asked (λ j some. refl) happens;
@@ -159,7 +159,7 @@ module _ (g : Setting) (c : ℕ) where
 
     numbered_rests : (limit : ℕ) (a : Asked) (p : Questions) (own : ℕ) → own ≤ limit → Rests limit a p → Rests limit (asked_as a p own) (drawn_for a p own)
     numbered_rests limit a p own small r =
-        by_outcome (λ b. Rests limit (record { own = own; ask = cond b a.ask (next_ask p) }) (cond b p (drawn p)))
+        by_outcome (λ b. Rests limit (record { own = own; ask = cond b a.ask (next_ask p) }) (cond b p (draw p)))
         (own == a.own)
         (λ t. record {
           asks = ⊎_elim (λ e. inl (eqb-true own a.own t ∙ e)) (λ e. inr e) r.asks;
@@ -181,7 +181,7 @@ module _ (g : Setting) (c : ℕ) where
 
     said_rests : (limit low : ℕ) (a : Asked) (p : Questions) (outs : List Out) → AllByRecursion (IsRest limit) outs → Rests limit a p
         → Rested limit low a p outs
-    unfolding said
+    unfolding sent_send
     said_rests limit low a p [] all r = record { none = refl; rests = r }
     said_rests limit low a p (Hello own ∷ outs) all r = absurd all.0
     said_rests limit low a p (Fence server ∷ outs) all r = (let i = said_rests limit low a p outs all.1 r in record { none = i.none; rests = i.rests })
@@ -193,7 +193,7 @@ module _ (g : Setting) (c : ℕ) where
 
     rest_seen : (v : Scene) (limit low : ℕ) (a : Asked) (p : Questions) (outs : List Out) → AllByRecursion (IsRest limit) outs
         → ((x : Packet) → In x (scan_packets w.net.inc outs) → In x v.net.sent) → All (ClientDoes g c v) (scanned k.owner low a p outs).outs
-    unfolding said
+    unfolding sent_send
     rest_seen v limit low a p [] all sent = All-nil (ClientDoes g c v)
     rest_seen v limit low a p (Hello own ∷ outs) all sent = absurd all.0
     rest_seen v limit low a p (Fence server ∷ outs) all sent =
@@ -209,14 +209,14 @@ module _ (g : Setting) (c : ℕ) where
     pub rest_goes : (o : Opening) (st : Stage) (outs : List Out) → AllByRecursion (IsRest o.ask) outs → k.maps.groups ≡ o.groups
         → AsksServers w.asked s.asked o.ask
         → ((a : Asked) → AsksServers w.asked a o.ask → AsksAt w.asked a o.ask st) → s.asked.own ≤ o.ask → 0 < o.ask → Takes (scan.goes o st outs)
-    unfolding follows
+    unfolding known_follow
     rest_goes o st outs rest groups asks servers past some fits happens =
         let d : scan.Done = scan.goes o st outs in
         let r = scanned k.owner o.low s.asked q outs in
         let x : Rested o.ask o.low s.asked q outs =
         said_rests o.ask o.low s.asked q outs rest (record { asks = asks; past = past; number = h.number; more = omega arith }) in
         let v : Scene = on d w.asked in
-        subst (λ e. WentTo g c w its life (asking r.state.questions (saying r.outs (follows k (record { scan = d.state; asked = r.state.asked }) e))))
+        subst (λ e. WentTo g c w its life (asking r.state.questions (saying r.outs (known_follow k (record { scan = d.state; asked = r.state.asked }) e))))
         (sym x.none)
         (record {
           next = v;
@@ -253,7 +253,7 @@ module _ (g : Setting) (c : ℕ) where
         → ((j : ℕ) → next.last < j → t j ≡ Unasked) → number ≤ next.last → Happens g w.net (scans_on w.net s.scan (scan.goes o st (Hello o.ask ∷ [])))
         → WentTo g c w its life
         (asking next (saying (hello k.owner.inc number ∷ [])
-        (still (at_scan k (record { scan = record { opening = o; stage = st }; asked = record { own = o.ask; ask = number } })))))
+        (still (known_scanning k (record { scan = record { opening = o; stage = st }; asked = record { own = o.ask; ask = number } })))))
     greets o st number next t groups some asks keeps here fresh low happens =
         let d : scan.Done = scan.goes o st (Hello o.ask ∷ []) in
         let v : Scene = on d t in
@@ -288,13 +288,13 @@ module _ (g : Setting) (c : ℕ) where
 
     pub hello_goes : (o : Opening) (st : Stage) → k.maps.groups ≡ o.groups → 0 < o.ask → ((o.ask == s.asked.own) ≡ true → w.asked s.asked.ask ≡ OfOpening o.ask)
         → ((t : ℕ → Question) (a : Asked) → AsksRegistry t a o.ask → AsksAt t a o.ask st) → Takes (scan.goes o st (Hello o.ask ∷ []))
-    unfolding follows said
+    unfolding known_follow sent_send
     hello_goes o st groups some again registry fits happens =
         by_outcome
         (λ b. WentTo g c w its life
-        (asking (cond b q (drawn q))
+        (asking (cond b q (draw q))
         (saying (hello k.owner.inc (cond b s.asked.ask (next_ask q)) ∷ [])
-        (still (at_scan k (record { scan = record { opening = o; stage = st }; asked = record { own = o.ask; ask = cond b s.asked.ask (next_ask q) } }))))))
+        (still (known_scanning k (record { scan = record { opening = o; stage = st }; asked = record { own = o.ask; ask = cond b s.asked.ask (next_ask q) } }))))))
         (o.ask == s.asked.own)
         (λ t. greets o st s.asked.ask q w.asked groups some
         (registry w.asked (record { own = o.ask; ask = s.asked.ask }) (record { own = refl; number = again t })) (λ j some. refl) (again t) h.lasts.fresh
@@ -302,7 +302,7 @@ module _ (g : Setting) (c : ℕ) where
         (λ t.
         let rises : q.last < next_ask q = ask_rises q h.room in
         let table : ℕ → Question = put w.asked (next_ask q) (OfOpening o.ask) in
-        greets o st (next_ask q) (drawn q) table groups some
+        greets o st (next_ask q) (draw q) table groups some
         (registry table (record { own = o.ask; ask = next_ask q }) (record { own = refl; number = put_here w.asked (next_ask q) (OfOpening o.ask) }))
         (put_keeps w.asked (next_ask q) (OfOpening o.ask) (h.lasts.fresh (next_ask q) rises)) (put_here w.asked (next_ask q) (OfOpening o.ask))
         (put_fresh w.asked (next_ask q) (OfOpening o.ask) q.last rises h.lasts.fresh) (omega arith) happens)
@@ -310,7 +310,7 @@ module _ (g : Setting) (c : ℕ) where
     -- ---- the scan ends
 
     pub lost_goes : (o : Opening) (name : SegName) → Takes (scan.goes o Over (Lost name ∷ []))
-    unfolding follows said
+    unfolding known_follow sent_send
     lost_goes o name fits happens =
         let d : scan.Done = scan.goes o Over (Lost name ∷ []) in
         record {
@@ -331,7 +331,7 @@ module _ (g : Setting) (c : ℕ) where
       told = record { segments = segments; end = end }
 
       -- the log starts behind it
-      module _ (m : GroupMapState) (next : log.has_next end.seq ≡ true) (written : StaysWritten (started g.log w.net.inc end m))
+      module _ (m : GroupMapState) (next : log.has_next end.seq ≡ true) (written : StaysWritten (log_start g.log w.net.inc end m))
           (reads : ReadsDown w.net o.low told)
           (happens : Happens g w.net (after_told g w.net s.scan d (Some told) (Some m))) where
         abbrev first : log.Done
@@ -353,39 +353,39 @@ module _ (g : Setting) (c : ℕ) where
           lasts = record { number = h.lasts.number; inc = h.lasts.inc; fresh = h.lasts.fresh };
           sent = λ p among. in_before (log_packets first.outs) w.net.sent p among;
           filed = λ name among. in_before (log_filed g.log first.outs) w.net.filed name among;
-          mine = (own_log g.log (started g.log w.net.inc end m) (log_in.Parts []) (record { log = refl; flight = tt })).outs;
-          own = own_after g (started g.log w.net.inc end m) (log_in.Parts []) (record { log = refl; flight = tt });
-          written = written_after (started g.log w.net.inc end m) (log_in.Parts []) written refl;
+          mine = (own_log g.log (log_start g.log w.net.inc end m) (log_in.Parts []) (record { log = refl; flight = tt })).outs;
+          own = own_after g (log_start g.log w.net.inc end m) (log_in.Parts []) (record { log = refl; flight = tt });
+          written = written_after (log_start g.log w.net.inc end m) (log_in.Parts []) written refl;
           shows = inl (record {
             owner = refl;
             end = end;
-            flies = begins (started g.log w.net.inc end m) refl refl next;
+            flies = begins (log_start g.log w.net.inc end m) refl refl next;
             reads = record { some = reads.some; past = reads.past; numbers = reads.numbers; down = reads.down };
           });
           once = tt;
         }
 
         abbrev begun : LogId → ℕ → Settling
-        begun id inc = record { log = started id inc end m; chain = segments; low = o.low }
+        begun id inc = record { log = log_start id inc end m; chain = segments; low = o.low }
 
         abbrev Went_from : LogId → ℕ → Type 0
-        Went_from id inc = WentTo g c w its life (asking q (logged k (begun id inc) (log.transition (started id inc end m) (log_in.Parts []))))
+        Went_from id inc = WentTo g c w its life (asking q (logged k (begun id inc) (log.transition (log_start id inc end m) (log_in.Parts []))))
 
-        starts : WentTo g c w its life (asking q (writes k (behind k (record { segments = segments; end = end; low = o.low }) m) (log_in.Parts [])))
-        unfolding writes
+        starts : WentTo g c w its life (asking q (known_write k (behind k (record { segments = segments; end = end; low = o.low }) m) (log_in.Parts [])))
+        unfolding known_write
         starts = subst (λ inc. Went_from k.owner.log inc) (sym h.inc)
             (subst (λ id. Went_from id w.net.inc) (sym h.log) (went_so g c w its life k q (begun g.log w.net.inc) h.log first flew))
 
-        goes_behind : (x : Scanning) → WentTo g c w its life (asking q (starts_log k x (record { segments = segments; end = end; low = o.low }) m))
+        goes_behind : (x : Scanning) → WentTo g c w its life (asking q (start_log k x (record { segments = segments; end = end; low = o.low }) m))
         goes_behind x =
             subst (λ b. WentTo g c w its life
-            (asking q (cond b (writes k (behind k (record { segments = segments; end = end; low = o.low }) m) (log_in.Parts [])) (still (at_scan k x)))))
+            (asking q (cond b (known_write k (behind k (record { segments = segments; end = end; low = o.low }) m) (log_in.Parts [])) (still (known_scanning k x)))))
             (sym h.small) starts
 
       -- no groups are known: the scan stands still
       rests_over : (x : Option GroupMapState) → k.maps.groups ≡ o.groups → AsksServers w.asked s.asked o.ask → s.asked.own ≤ o.ask → 0 < o.ask
           → Happens g w.net (scans_on w.net s.scan d)
-          → WentTo g c w its life (asking q (still (at_scan k (record { scan = d.state; asked = s.asked }))))
+          → WentTo g c w its life (asking q (still (known_scanning k (record { scan = d.state; asked = s.asked }))))
       rests_over x groups asks past some happens = record {
         next = on d w.asked;
         grown = on_grown d w.asked (λ j some. refl) happens;
@@ -410,10 +410,10 @@ module _ (g : Setting) (c : ℕ) where
       }
 
       pub chain_goes : k.maps.groups ≡ o.groups → AsksServers w.asked s.asked o.ask → s.asked.own ≤ o.ask → 0 < o.ask → Takes d
-      unfolding follows said
+      unfolding known_follow sent_send
       chain_goes groups asks past some fits happens = by_groups o.groups refl fits.0.1 happens
         where
-          by_groups : (mo : Option GroupMapState) → o.groups ≡ mo → IfSome mo (λ m. StaysWritten (started g.log w.net.inc end m))
+          by_groups : (mo : Option GroupMapState) → o.groups ≡ mo → IfSome mo (λ m. StaysWritten (log_start g.log w.net.inc end m))
               → Happens g w.net (after_told g w.net s.scan d (Some told) mo)
               → WentTo g c w its life
               (asking q (settles_over k (record { scan = d.state; asked = s.asked }) (record { segments = segments; end = end; low = o.low }) k.maps.groups))

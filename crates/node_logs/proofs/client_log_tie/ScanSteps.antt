@@ -12,14 +12,14 @@ use Rattle.group_map.specs.GroupMapState.{GroupMapState}
 use Rattle.segment_reading.specs.declared.reading.Next.TheVariants as next
 use Rattle.segment_reading.specs.declared.reading.Stage as readings
 use Rattle.segment_reading.specs.declared.reading.Stage.TheVariants as reading
-use Rattle.segment_reading.specs.Reading.{ReadingState, Step, begun, is_asking, to_ask, segment_found, counts, name_fits, ends, read_as, judged, on_answer}
+use Rattle.segment_reading.specs.Reading.{ReadingState, Step, reading_start, is_asking, reading_unanswered, segment_found, counts, name_fits, ends, reading_reads, reading_judge, reading_take}
 use Rattle.segment_reading.specs.Lost.{are_gone}
 use Rattle.segment_reading.specs.Reading as rounds
 use Rattle.stripe_code.specs.declared.round.RoundState.{RoundState}
 use Rattle.stripe_code.specs.declared.round.RoundState.TheVariants as round
 use Rattle.stripe_code.specs.declared.round.Told.{Told}
 use Rattle.segment_format.specs.ReadingItems.{answer_of}
-use Rattle.stripe_code.specs.Round.{asks as round_asks, taken, told_fits, state_of}
+use Rattle.stripe_code.specs.Round.{asks as round_asks, round_take, told_fits, state_of}
 use Rattle.log_scan.specs.declared.listing.Listing.{Listing}
 use Rattle.log_scan.specs.declared.opening.Opening.{Opening}
 use Rattle.log_scan.specs.declared.output.Out.TheVariants.{Hello, Fetch}
@@ -63,7 +63,7 @@ module _ (g : Setting) (c : ℕ) (w : Scene) (its life : ℕ) (k : Known) (q : Q
   anew : (o : Opening) (st : Stage) → Stood o → ((t : ℕ → Question) (a : Asked) → AsksRegistry t a (o.ask + 1) → AsksAt t a (o.ask + 1) st)
       → Takes (scan.asks_anew o st)
   anew o st at registry =
-      says.hello_goes g c w its life k q s h (scan.drawn o) st at.groups (omega arith) (λ t. absurd (not_above s.asked.own o.ask t at.past)) registry
+      says.hello_goes g c w its life k q s h (scan.opening_ask_anew o) st at.groups (omega arith) (λ t. absurd (not_above s.asked.own o.ask t at.past)) registry
 
   -- ---- the chain is read
 
@@ -74,29 +74,29 @@ module _ (g : Setting) (c : ℕ) (w : Scene) (its life : ℕ) (k : Known) (q : Q
 
   -- a round is on
   fetches_go : (o : Opening) (b : Backward) (r : ReadingState) → Stood o → Servers o.ask → r.stage ≡ reading.Asking → r.ask ≤ o.ask
-      → Takes (scan.goes o (Reads b (Some r)) (scan.fetches r))
+      → Takes (scan.goes o (Reads b (Some r)) (scan.backward_fetch r))
   fetches_go o b r at asks asking small =
-      says.rest_goes g c w its life k q s h o (Reads b (Some r)) (scan.fetches r) (all_fetch r o.ask (to_ask r) small) at.groups asks
+      says.rest_goes g c w its life k q s h o (Reads b (Some r)) (scan.backward_fetch r) (all_fetch r o.ask (reading_unanswered r) small) at.groups asks
       (λ a servers. record { stage = subst (AsksIn w.asked a o.ask) (sym asking) servers; past = small }) at.past at.some
 
   begins_in_so : (o : Opening) (b : Backward) (group : Option Group) → Stood o → Servers o.ask → Takes (scan.begins_in o b group)
   begins_in_so o b None at asks = anew o (Reads b None) at (λ t a registry. registry)
   begins_in_so o b (Some group) at asks =
-      fetches_go (scan.drawn o) b (begun (scan.target_at o.log b.next) group (o.ask + 1))
+      fetches_go (scan.opening_ask_anew o) b (reading_start (scan.target_at o.log b.next) group (o.ask + 1))
       (record { groups = at.groups; past = (let e = at.past in omega arith); some = omega arith }) asks refl (omega arith)
 
-  begins_round_so : (o : Opening) (b : Backward) → Stood o → Servers o.ask → Takes (scan.begins_round o b)
-  unfolding scan.begins_round
-  begins_round_so o b at asks = begins_in_so o b (known_group o.groups b.next.group) at asks
+  opening_begin_round_so : (o : Opening) (b : Backward) → Stood o → Servers o.ask → Takes (scan.opening_begin_round o b)
+  unfolding scan.opening_begin_round
+  opening_begin_round_so o b at asks = begins_in_so o b (known_group o.groups b.next.group) at asks
 
-  chain_so : (o : Opening) (b : Backward) → Stood o → Servers o.ask → Takes (scan.goes o Over (scan.chain_of b ∷ []))
+  chain_so : (o : Opening) (b : Backward) → Stood o → Servers o.ask → Takes (scan.goes o Over (scan.backward_told b ∷ []))
   chain_so o b at asks = says.chain_goes g c w its life k q s h o _ b.start _ at.groups asks at.past at.some
 
-  follows_so : (o : Opening) (b : Backward) → Stood o → Servers o.ask → Takes (scan.follows o b)
-  unfolding scan.follows
-  follows_so o b at asks =
-      by_test (λ (d : scan.Done). Takes d) (scan.is_bottom o.low b.next) (scan.goes o Over (scan.chain_of b ∷ [])) (scan.begins_round o b)
-      (λ t. chain_so o b at asks) (λ t. begins_round_so o b at asks)
+  opening_follow_so : (o : Opening) (b : Backward) → Stood o → Servers o.ask → Takes (scan.opening_follow o b)
+  unfolding scan.opening_follow
+  opening_follow_so o b at asks =
+      by_test (λ (d : scan.Done). Takes d) (scan.is_bottom o.low b.next) (scan.goes o Over (scan.backward_told b ∷ [])) (scan.opening_begin_round o b)
+      (λ t. chain_so o b at asks) (λ t. opening_begin_round_so o b at asks)
 
   -- ---- an answer
 
@@ -105,8 +105,8 @@ module _ (g : Setting) (c : ℕ) (w : Scene) (its life : ℕ) (k : Known) (q : Q
 
   -- a round that ended: the registry is asked
   ends_so : (o : Opening) (b : Backward) (r : ReadingState) (pairs : List (ℕ × ℕ)) → Stood o → r.ask ≤ o.ask
-      → Takes (scan.goes_on o b (ends r pairs).state next.Again)
-  unfolding scan.goes_on
+      → Takes (scan.opening_go_on o b (ends r pairs).state next.Again)
+  unfolding scan.opening_go_on
   ends_so o b r pairs at small =
       anew o (Reads b (Some (ends r pairs).state)) at
       (λ t a registry. record {
@@ -116,18 +116,18 @@ module _ (g : Setting) (c : ℕ) (w : Scene) (its life : ℕ) (k : Known) (q : Q
       })
 
   read_so : (o : Opening) (b : Backward) (r : ReadingState) (found : Option Segment) → Stood o → Servers o.ask → r.ask ≤ o.ask
-      → Takes (scan.goes_on o b (read_as r found).state (read_as r found).next)
-  unfolding scan.goes_on
-  read_so o b r (Some segment) at asks small = follows_so o (scan.with_segment b segment) at asks
+      → Takes (scan.opening_go_on o b (reading_reads r found).state (reading_reads r found).next)
+  unfolding scan.opening_go_on
+  read_so o b r (Some segment) at asks small = opening_follow_so o (scan.backward_with b segment) at asks
   read_so o b r None at asks small = ends_so o b r [] at small
 
-  judged_so : (o : Opening) (b : Backward) (r : ReadingState) (groups : GroupMapState) (x : RoundState) → Stood o → Servers o.ask → r.stage ≡ reading.Asking
+  reading_judge_so : (o : Opening) (b : Backward) (r : ReadingState) (groups : GroupMapState) (x : RoundState) → Stood o → Servers o.ask → r.stage ≡ reading.Asking
       → r.ask ≤ o.ask
-      → Takes (scan.goes_on o b (judged r groups x).state (judged r groups x).next)
-  unfolding scan.goes_on
-  judged_so o b r groups (round.Read bytes) at asks asking small = read_so o b r (segment_found r.target groups (answer_of bytes)) at asks small
-  judged_so o b r groups (round.Short pairs) at asks asking small = ends_so o b r pairs at small
-  judged_so o b r groups round.Waiting at asks asking small =
+      → Takes (scan.opening_go_on o b (reading_judge r groups x).state (reading_judge r groups x).next)
+  unfolding scan.opening_go_on
+  reading_judge_so o b r groups (round.Read bytes) at asks asking small = read_so o b r (segment_found r.target groups (answer_of bytes)) at asks small
+  reading_judge_so o b r groups (round.Short pairs) at asks asking small = ends_so o b r pairs at small
+  reading_judge_so o b r groups round.Waiting at asks asking small =
       stays_so o (Reads b (Some r)) at (record { stage = subst (AsksIn w.asked s.asked o.ask) (sym asking) asks; past = small })
 
   -- where a round is on, servers are asked
@@ -136,27 +136,27 @@ module _ (g : Setting) (c : ℕ) (w : Scene) (its life : ℕ) (k : Known) (q : Q
   is_on ask _ t asks = contrary t
 
   answer_so : (o : Opening) (b : Backward) (r : ReadingState) (groups : GroupMapState) (ask server : ℕ) (t : Told) → Stood o → AsksOf w.asked s.asked o.ask r
-      → Takes (scan.heard_with o b r (Some groups) ask server t)
-  unfolding on_answer scan.goes_on
+      → Takes (scan.opening_read o b r (Some groups) ask server t)
+  unfolding reading_take scan.opening_go_on
   answer_so o b r groups ask server t at asks =
-      let now : ReadingState = record r { round = taken r.round server t } in
-      by_test (λ (x : Step). Takes (scan.goes_on o b x.state x.next)) (counts r ask server t) (judged now groups (state_of now.round))
+      let now : ReadingState = record r { round = round_take r.round server t } in
+      by_test (λ (x : Step). Takes (scan.opening_go_on o b x.state x.next)) (counts r ask server t) (reading_judge now groups (state_of now.round))
       (record { state = r; next = next.Wait })
       (λ e.
       let on : (r.stage ≡ reading.Asking) × Servers o.ask =
       is_on o.ask r.stage
       (first_of_four (is_asking r.stage) (ask == r.ask) (round_asks r.round server) (name_fits r.target t && told_fits r.round t) e) asks.stage in
-      judged_so o b now groups (state_of now.round) at on.1 on.0 asks.past)
+      reading_judge_so o b now groups (state_of now.round) at on.1 on.0 asks.past)
       (λ e. stays_so o (Reads b (Some r)) at asks)
 
-  heard_so : (o : Opening) (b : Backward) (r : Option ReadingState) (ask server : ℕ) (t : Told) → Stood o → AsksReading w.asked s.asked o.ask r
-      → Takes (scan.heard o b r ask server t)
-  heard_so o b None ask server t at asks = stays_so o (Reads b None) at asks
-  heard_so o b (Some r) ask server t at asks =
-      by_test (λ (d : scan.Done). Takes d) (scan.can_ask o) (scan.heard_with o b r o.groups ask server t) (scan.stays o (Reads b (Some r)))
+  opening_hear_so : (o : Opening) (b : Backward) (r : Option ReadingState) (ask server : ℕ) (t : Told) → Stood o → AsksReading w.asked s.asked o.ask r
+      → Takes (scan.opening_hear o b r ask server t)
+  opening_hear_so o b None ask server t at asks = stays_so o (Reads b None) at asks
+  opening_hear_so o b (Some r) ask server t at asks =
+      by_test (λ (d : scan.Done). Takes d) (scan.can_ask o) (scan.opening_read o b r o.groups ask server t) (scan.stays o (Reads b (Some r)))
       (λ e. by_groups o.groups) (λ e. stays_so o (Reads b (Some r)) at asks)
     where
-      by_groups : (m : Option GroupMapState) → Takes (scan.heard_with o b r m ask server t)
+      by_groups : (m : Option GroupMapState) → Takes (scan.opening_read o b r m ask server t)
       by_groups None = stays_so o (Reads b (Some r)) at asks
       by_groups (Some groups) = answer_so o b r groups ask server t at asks
 
@@ -165,7 +165,7 @@ module _ (g : Setting) (c : ℕ) (w : Scene) (its life : ℕ) (k : Known) (q : Q
   told_so o Hails ask server t at asks = stays_so o Hails at asks
   told_so o (Gathers lists) ask server t at asks = stays_so o (Gathers lists) at asks
   told_so o (Asks lists) ask server t at asks = stays_so o (Asks lists) at asks
-  told_so o (Reads b r) ask server t at asks = heard_so o b r ask server t at asks
+  told_so o (Reads b r) ask server t at asks = opening_hear_so o b r ask server t at asks
   told_so o Over ask server t at asks = stays_so o Over at asks
 
   -- ---- a list
@@ -207,7 +207,7 @@ module _ (g : Setting) (c : ℕ) (w : Scene) (its life : ℕ) (k : Known) (q : Q
 
   reading_again : (o : Opening) (b : Backward) (r : ReadingState) → Stood o → r.ask ≤ o.ask → (x : readings.Stage) → r.stage ≡ x
       → AsksIn w.asked s.asked o.ask x
-      → Takes (scan.goes o (Reads b (Some r)) (cond (is_asking x) (scan.fetches r) (Hello o.ask ∷ [])))
+      → Takes (scan.goes o (Reads b (Some r)) (cond (is_asking x) (scan.backward_fetch r) (Hello o.ask ∷ [])))
   reading_again o b r at small reading.Asking e asks = fetches_go o b r at asks e small
   reading_again o b r at small reading.Between e asks =
       hails_again o (Reads b (Some r)) at asks (λ t a registry. record { stage = subst (AsksIn t a o.ask) (sym e) registry; past = small })
@@ -229,8 +229,8 @@ module _ (g : Setting) (c : ℕ) (w : Scene) (its life : ℕ) (k : Known) (q : Q
   module _ (none : s.asked.own ≡ 0) where
     confirmed_so : (o : Opening) (b : Backward) (r : ReadingState) (table : ℕ → Question) (a : Asked) → Stood o → (x : readings.Stage) → is_asking x ≡ false
         → AsksIn table a o.ask x
-        → Takes (scan.goes_on o b (rounds.goes_on r (o.ask + 1) x).state (rounds.goes_on r (o.ask + 1) x).next)
-    unfolding scan.goes_on
+        → Takes (scan.opening_go_on o b (rounds.goes_on r (o.ask + 1) x).state (rounds.goes_on r (o.ask + 1) x).next)
+    unfolding scan.opening_go_on
     confirmed_so o b r table a at reading.Asking t asks = contrary (sym t)
     confirmed_so o b r table a at reading.Between t asks =
         fetches_go (record o { ask = o.ask + 1 }) b (rounds.goes_on r (o.ask + 1) reading.Between).state
@@ -242,7 +242,7 @@ module _ (g : Setting) (c : ℕ) (w : Scene) (its life : ℕ) (k : Known) (q : Q
         → AsksReading table a o.ask r
         → Takes (scan.confirms_by o b r)
     unfolding rounds.on_confirmed
-    confirms_by_so o b None table a at t asks = begins_round_so o b at (inl none)
+    confirms_by_so o b None table a at t asks = opening_begin_round_so o b at (inl none)
     confirms_by_so o b (Some r) table a at t asks = confirmed_so o b r table a at r.stage (is_not (is_asking r.stage) t) asks.stage
       where
         is_not : (x : Bool) → not x ≡ true → x ≡ false
@@ -251,21 +251,21 @@ module _ (g : Setting) (c : ℕ) (w : Scene) (its life : ℕ) (k : Known) (q : Q
 
     picks_so : (o : Opening) (lists : List Listing) (start : Option End) → Stood o → Takes (scan.picks_at o lists start)
     picks_so o lists None at = anew o (Asks lists) at (λ t a registry. registry)
-    picks_so o lists (Some start) at = follows_so o (scan.read_from start) at (inl none)
+    picks_so o lists (Some start) at = opening_follow_so o (scan.backward_from start) at (inl none)
 
-    welcomed_so : (o : Opening) (st : Stage) (least : ℕ) (table : ℕ → Question) (a : Asked) → Stood o → scan.awaits_welcome st ≡ true → AsksAt table a o.ask st
-        → Takes (scan.welcomed o st least)
-    unfolding scan.picks scan.confirms
-    welcomed_so o Hails least table a at t asks = fences_go o [] (scan.awaited o.groups []) at (inl none)
-    welcomed_so o (Gathers lists) least table a at t asks = contrary t
-    welcomed_so o (Asks lists) least table a at t asks =
-        picks_so (scan.rises o least) lists (start_of o.groups lists (scan.rises o least).low) (record { groups = at.groups; past = at.past; some = at.some })
-    welcomed_so o (Reads b r) least table a at t asks =
-        let p : Opening = scan.rises o least in
+    opening_welcome_so : (o : Opening) (st : Stage) (least : ℕ) (table : ℕ → Question) (a : Asked) → Stood o → scan.awaits_welcome st ≡ true → AsksAt table a o.ask st
+        → Takes (scan.opening_welcome o st least)
+    unfolding scan.opening_pick scan.opening_confirm
+    opening_welcome_so o Hails least table a at t asks = fences_go o [] (scan.awaited o.groups []) at (inl none)
+    opening_welcome_so o (Gathers lists) least table a at t asks = contrary t
+    opening_welcome_so o (Asks lists) least table a at t asks =
+        picks_so (scan.opening_rise o least) lists (start_of o.groups lists (scan.opening_rise o least).low) (record { groups = at.groups; past = at.past; some = at.some })
+    opening_welcome_so o (Reads b r) least table a at t asks =
+        let p : Opening = scan.opening_rise o least in
         let there : Stood p = record { groups = at.groups; past = at.past; some = at.some } in
-        by_test (λ (d : scan.Done). Takes d) (scan.is_bottom p.low b.next) (scan.goes p Over (scan.chain_of b ∷ [])) (scan.confirms_by p b r)
+        by_test (λ (d : scan.Done). Takes d) (scan.is_bottom p.low b.next) (scan.goes p Over (scan.backward_told b ∷ [])) (scan.confirms_by p b r)
         (λ e. chain_so p b there (inl none)) (λ e. confirms_by_so p b r table a there t asks)
-    welcomed_so o Over least table a at t asks = contrary t
+    opening_welcome_so o Over least table a at t asks = contrary t
 
     -- the answer that was awaited, by a scan that can ask further
     pub welcome_so : (o : Opening) (st : Stage) (ask : ℕ) (news : List SlotNews) (groups : GroupMapState) (table : ℕ → Question) (a : Asked)
@@ -274,8 +274,8 @@ module _ (g : Setting) (c : ℕ) (w : Scene) (its life : ℕ) (k : Known) (q : Q
     unfolding scan.on_welcome
     welcome_so o st ask news groups table a known some fact can awaits asks =
         by_test (λ (d : scan.Done). Takes d) ((ask == o.ask) && (scan.can_ask o && scan.awaits_welcome st))
-        (scan.welcomed (record o { groups = Some groups }) st (scan.least_horizon o.log.0 news)) (scan.stays o st)
-        (λ t. welcomed_so (record o { groups = Some groups }) st (scan.least_horizon o.log.0 news) table a
+        (scan.opening_welcome (record o { groups = Some groups }) st (scan.least_horizon o.log.0 news)) (scan.stays o st)
+        (λ t. opening_welcome_so (record o { groups = Some groups }) st (scan.least_horizon o.log.0 news) table a
         (record { groups = known; past = (let e = none in omega arith); some = some }) awaits asks)
         (λ t. absurd (taken_so (ask == o.ask) (scan.can_ask o) (scan.awaits_welcome st) (eq-eqb ask o.ask fact) can awaits t))
       where

@@ -3,22 +3,22 @@ use Rattle.std.proofs.Common.{◌≡◌, ◌<◌, ℕ, ◌==◌, Bool, true, Lis
 use Rattle.std.specs.List.{flat_map}
 use Rattle.std.proofs.lemmas.List.Elements.{All-nil, All-cons}
 use Rattle.client_log.specs.declared.input.In.TheVariants as log_in
-use Rattle.client_call.specs.Reads.{block_read, Heard, heard, fetches_again, reading_in, value_at}
+use Rattle.client_call.specs.Reads.{block_read, Heard, hear_reading, fetch_again, reading_in, value_at}
 use Rattle.client_serving.specs.declared.serving.Serving.{Serving}
-use Rattle.client_serving.specs.Flights.{held_at, writes}
-use Rattle.client_serving.specs.Follow.{hands, takes_back, follows}
-use Rattle.client_serving.specs.Grants.{supplies, is_stamp}
-use Rattle.client_serving.specs.Packets.{on_grant, on_supply, on_forward, again, says_again, on_recall, is_gone, on_gone, is_acked, on_ack, ends_fetch, told_at, told_by, on_told, asks_for_maps, renews, promises, reports, may_report, polled, on_poll, promised_in, is_news, hears, regroups, takes_news, on_news, on_welcome, on_body, on_packet, on_tick}
+use Rattle.client_serving.specs.Flights.{held_at, serving_write}
+use Rattle.client_serving.specs.Follow.{hand, take_back, serving_follow}
+use Rattle.client_serving.specs.Grants.{send_supply, is_stamp}
+use Rattle.client_serving.specs.Packets.{on_grant, on_supply, on_forward, again, says_again, on_recall, is_gone, on_gone, is_acked, on_ack, end_fetch, told_at, told_by, on_told, asks_for_maps, serving_renew, serving_promise, reports, may_report, polled, on_poll, promised_in, is_news, serving_hear, regroups, takes_news, on_news, on_welcome, take_body, serving_take, on_tick}
 use Rattle.client_serving.specs.Reads.{loses, with_reading}
-use Rattle.client_running.specs.Running.{runs}
+use Rattle.client_running.specs.Running.{run}
 use Rattle.client_serving.specs.Sends.{Done, gives, report}
 use Rattle.delta_feed.specs.Transition.{acknowledged, new_epoch}
 use Rattle.group_map.specs.GroupMapState.{GroupMapState}
-use Rattle.log_owner.specs.Sending.{hello, pushes_all}
+use Rattle.log_owner.specs.Sending.{hello, push_all}
 use Rattle.node_base.specs.Asking.{next_ask}
 use Rattle.node_base.specs.declared.effects.Effect.{Effect}
-use Rattle.node_base.specs.Known.{names_known}
-use Rattle.node_base.specs.Maps.{fits, is_older, taken}
+use Rattle.node_base.specs.Known.{names_known_groups}
+use Rattle.node_base.specs.Maps.{fits, is_older, maps_take}
 use Rattle.node_base.specs.Room.{has_room, has_long_room}
 use Rattle.segment_reading.specs.declared.reading.Next.{Next}
 use Rattle.segment_reading.specs.declared.reading.Next.TheVariants as next
@@ -81,16 +81,16 @@ module _ (g : Setting) (c : ℕ) (fact : g.log ≡ record { 0 = c }) where
   unfolding on_grant
   on_grant_so w s m h =
       by_test (λ (d : Done). Goes w d) (is_own m.mode && not (has_long_room m.entry.ver)) (still s)
-      (hands s (input.Granted m.block m.stamp m.inc m.req m.mode m.entry))
-      (λ t. still_so w s h) (λ t. tokens.hands_so g c w s (input.Granted m.block m.stamp m.inc m.req m.mode m.entry) h)
+      (hand s (input.Granted m.block m.stamp m.inc m.req m.mode m.entry))
+      (λ t. still_so w s h) (λ t. tokens.hand_so g c w s (input.Granted m.block m.stamp m.inc m.req m.mode m.entry) h)
 
   on_supply_so : (w : Scene) (s : Serving) (m : Supply) → At w s → Goes w (on_supply s m)
   unfolding on_supply
-  on_supply_so w s m h = tokens.hands_so g c w s (input.Supplied m.block m.stamp m.inc m.req m.ver m.value) h
+  on_supply_so w s m h = tokens.hand_so g c w s (input.Supplied m.block m.stamp m.inc m.req m.ver m.value) h
 
-  plain_supplies : (f : Forward) (outs : List outputs.Out) → frames.Plain g c (flat_map (supplies f) outs)
+  plain_supplies : (f : Forward) (outs : List outputs.Out) → frames.Plain g c (flat_map (send_supply f) outs)
   plain_supplies f [] = tokens.plain_nothing g c
-  plain_supplies f (output.Supply block ver value ∷ outs) = λ w. All-cons (ClientDoes g c w) _ (flat_map (supplies f) outs) tt (plain_supplies f outs w)
+  plain_supplies f (output.Supply block ver value ∷ outs) = λ w. All-cons (ClientDoes g c w) _ (flat_map (send_supply f) outs) tt (plain_supplies f outs w)
   plain_supplies f (output.Want block req again mode ∷ outs) = plain_supplies f outs
   plain_supplies f (output.Gave block stamp ∷ outs) = plain_supplies f outs
   plain_supplies f (output.Flush block ∷ outs) = plain_supplies f outs
@@ -101,7 +101,7 @@ module _ (g : Setting) (c : ℕ) (fact : g.log ≡ record { 0 = c }) where
   unfolding on_forward
   on_forward_so w s f h =
       let taken : client.Done = client.on_forwarded s.tokens f.block f.stamp f.ver in
-      frames.goes_plain g c w (record s { tokens = taken.state }) (flat_map (supplies f) taken.outs) h (plain_supplies f taken.outs)
+      frames.goes_plain g c w (record s { tokens = taken.state }) (flat_map (send_supply f) taken.outs) h (plain_supplies f taken.outs)
 
   plain_again : (s : Serving) (r : Recall) (outs : List outputs.Out) → frames.Plain g c (again s r outs)
   plain_again s r [] = tokens.plain_nothing g c
@@ -112,8 +112,8 @@ module _ (g : Setting) (c : ℕ) (fact : g.log ≡ record { 0 = c }) where
   on_recall_so w s r h =
       let d : client.Done = client.on_recalled s.tokens r.block r.stamp r.keep in
       let t : Serving = record s { tokens = d.state } in
-      by_test (λ (x : Done). Goes w x) (is_stamp (held_at s r.block).stamp r.stamp) (says_again s r d) (takes_back s r.block r.stamp r.keep)
-      (λ e. frames.goes_plain g c w t (again t r d.outs) h (plain_again t r d.outs)) (λ e. tokens.takes_back_so g c w s r.block r.stamp r.keep h)
+      by_test (λ (x : Done). Goes w x) (is_stamp (held_at s r.block).stamp r.stamp) (says_again s r d) (take_back s r.block r.stamp r.keep)
+      (λ e. frames.goes_plain g c w t (again t r d.outs) h (plain_again t r d.outs)) (λ e. tokens.take_back_so g c w s r.block r.stamp r.keep h)
 
   on_gone_so : (w : Scene) (s : Serving) (m : Gone) → At w s → Goes w (on_gone s m)
   unfolding on_gone
@@ -127,18 +127,18 @@ module _ (g : Setting) (c : ℕ) (fact : g.log ≡ record { 0 = c }) where
 
   -- ---- fragments
 
-  ends_fetch_so : (w : Scene) (s : Serving) (at : BlockAt) (x : Next) → At w s → Goes w (ends_fetch s at x)
-  ends_fetch_so w s at next.Again h = tokens.hands_so g c w s (input.Reask at.block) h
-  ends_fetch_so w s at (next.Read segment) h = tokens.hands_so g c w s (input.Fetched at.block (value_at segment at.item)) h
-  ends_fetch_so w s at _ h = still_so w s h
+  end_fetch_so : (w : Scene) (s : Serving) (at : BlockAt) (x : Next) → At w s → Goes w (end_fetch s at x)
+  end_fetch_so w s at next.Again h = tokens.hand_so g c w s (input.Reask at.block) h
+  end_fetch_so w s at (next.Read segment) h = tokens.hand_so g c w s (input.Fetched at.block (value_at segment at.item)) h
+  end_fetch_so w s at _ h = still_so w s h
 
   told_at_so : (w : Scene) (s : Serving) (at : Option BlockAt) (x : Heard) → At w s → Goes w (told_at s at x)
   told_at_so w s None x h = still_so w s h
-  told_at_so w s (Some at) x h = ends_fetch_so w (with_reading s x.reading) at x.next h
+  told_at_so w s (Some at) x h = end_fetch_so w (with_reading s x.reading) at x.next h
 
   told_by_so : (w : Scene) (s : Serving) (server ask : ℕ) (t : Told) → At w s → Goes w (told_by s server ask t)
   unfolding told_by
-  told_by_so w s server ask t h = told_at_so w s (block_read (reading_in s.call)) (heard (reading_in s.call) s.maps.groups ask server t) h
+  told_by_so w s server ask t h = told_at_so w s (block_read (reading_in s.call)) (hear_reading (reading_in s.call) s.maps.groups ask server t) h
 
   on_told_so : (w : Scene) (s : Serving) (from : NodeId) (ask : ℕ) (t : Told) → At w s → Goes w (on_told s from ask t)
   on_told_so w s (node.Server server) ask t h = told_by_so w s server ask t h
@@ -146,29 +146,29 @@ module _ (g : Setting) (c : ℕ) (fact : g.log ≡ record { 0 = c }) where
 
   -- ---- promises
 
-  renews_so : (w : Scene) (s : Serving) (slot epoch : ℕ) → At w s → At w (renews s slot epoch)
-  unfolding renews
-  renews_so w s slot epoch h = by_test (λ (t : Serving). At w t) (nat_lt _ epoch) (record s { feed = new_epoch s.feed slot }) s (λ t. h) (λ t. h)
+  serving_renew_so : (w : Scene) (s : Serving) (slot epoch : ℕ) → At w s → At w (serving_renew s slot epoch)
+  unfolding serving_renew
+  serving_renew_so w s slot epoch h = by_test (λ (t : Serving). At w t) (nat_lt _ epoch) (record s { feed = new_epoch s.feed slot }) s (λ t. h) (λ t. h)
 
-  promises_so : (w : Scene) (s : Serving) (slot epoch manager : ℕ) → At w s → At w (promises s slot epoch manager).state
-  unfolding promises
-  promises_so w s slot epoch manager h = renews_so w s slot epoch h
+  serving_promise_so : (w : Scene) (s : Serving) (slot epoch manager : ℕ) → At w s → At w (serving_promise s slot epoch manager).state
+  unfolding serving_promise
+  serving_promise_so w s slot epoch manager h = serving_renew_so w s slot epoch h
 
   promised_in_so : (w : Scene) (s : Serving) (news : SlotNews) → At w s → Goes w (promised_in s news)
   promised_in_so w s news h =
-      let p : Stepped Serving outputs.Out = promises s news.slot news.epoch news.manager in
-      tokens.follows_so g c w p.state p.outs (promises_so w s news.slot news.epoch news.manager h)
+      let p : Stepped Serving outputs.Out = serving_promise s news.slot news.epoch news.manager in
+      tokens.serving_follow_so g c w p.state p.outs (serving_promise_so w s news.slot news.epoch news.manager h)
 
   reports_so : (w : Scene) (slot epoch : ℕ) (p : Stepped Serving outputs.Out) → At w p.state → Goes w (reports slot epoch p)
   reports_so w slot epoch p h =
-      frames.goes_after g c w (report p.state slot epoch ∷ []) (follows p.state p.outs) (tokens.plain_one g c _ (λ v. tt))
-      (tokens.follows_so g c w p.state p.outs h)
+      frames.goes_after g c w (report p.state slot epoch ∷ []) (serving_follow p.state p.outs) (tokens.plain_one g c _ (λ v. tt))
+      (tokens.serving_follow_so g c w p.state p.outs h)
 
   polled_so : (w : Scene) (s : Serving) (manager : ℕ) (p : Poll) → At w s → Goes w (polled s manager p)
   unfolding polled
   polled_so w s manager p h =
-      by_test (λ (d : Done). Goes w d) (may_report s p) (reports p.slot p.epoch (promises s p.slot p.epoch manager)) (still s)
-      (λ t. reports_so w p.slot p.epoch (promises s p.slot p.epoch manager) (promises_so w s p.slot p.epoch manager h)) (λ t. still_so w s h)
+      by_test (λ (d : Done). Goes w d) (may_report s p) (reports p.slot p.epoch (serving_promise s p.slot p.epoch manager)) (still s)
+      (λ t. reports_so w p.slot p.epoch (serving_promise s p.slot p.epoch manager) (serving_promise_so w s p.slot p.epoch manager h)) (λ t. still_so w s h)
 
   on_poll_so : (w : Scene) (s : Serving) (from : NodeId) (p : Poll) → At w s → Goes w (on_poll s from p)
   on_poll_so w s (node.Manager manager) p h = polled_so w s manager p h
@@ -176,20 +176,20 @@ module _ (g : Setting) (c : ℕ) (fact : g.log ≡ record { 0 = c }) where
 
   -- ---- maps
 
-  hears_so : (w : Scene) (s : Serving) (news : SlotNews) → At w s → Goes w (hears s news)
-  unfolding hears
-  hears_so w s news h = by_test (λ (d : Done). Goes w d) (is_news s news) (promised_in s news) (still s) (λ t. promised_in_so w s news h) (λ t. still_so w s h)
+  serving_hear_so : (w : Scene) (s : Serving) (news : SlotNews) → At w s → Goes w (serving_hear s news)
+  unfolding serving_hear
+  serving_hear_so w s news h = by_test (λ (d : Done). Goes w d) (is_news s news) (promised_in s news) (still s) (λ t. promised_in_so w s news h) (λ t. still_so w s h)
 
   regroups_so : (w : Scene) (s : Serving) (newer : Bool) (m : GroupMapState) → At w s → In (MapSent m) w.net.sent → MapFits m → Goes w (regroups s newer m)
   regroups_so w s newer m h came small =
-      by_test (λ (d : Done). Goes w d) newer (writes s (log_in.Maps m)) (still s) (λ t. flights.maps_so g c fact w s m h came small) (λ t. still_so w s h)
+      by_test (λ (d : Done). Goes w d) newer (serving_write s (log_in.Maps m)) (still s) (λ t. flights.maps_so g c fact w s m h came small) (λ t. still_so w s h)
 
   takes_news_so : (w : Scene) (s : Serving) (news : News) → At w s → In (MapSent news.groups) w.net.sent → MapFits news.groups → Goes w (takes_news s news)
   unfolding takes_news
   takes_news_so w s news h came small =
-      let t : Serving = record s { maps = taken s.maps news } in
-      let d : Done = steps hears t news.slots in
-      frames.goes_on_in g c w d (regroups d.state (is_older s.maps news) news.groups) (frames.goes_steps g c hears hears_so w t news.slots h)
+      let t : Serving = record s { maps = maps_take s.maps news } in
+      let d : Done = steps serving_hear t news.slots in
+      frames.goes_on_in g c w d (regroups d.state (is_older s.maps news) news.groups) (frames.goes_steps g c serving_hear serving_hear_so w t news.slots h)
       (λ v grown k. regroups_so v d.state (is_older s.maps news) news.groups k (grown.sent _ came) small)
 
   on_news_so : (w : Scene) (s : Serving) (news : News) → At w s → In (MapSent news.groups) w.net.sent → MapFits news.groups → Goes w (on_news s news)
@@ -229,7 +229,7 @@ module _ (g : Setting) (c : ℕ) (fact : g.log ≡ record { 0 = c }) where
 
   -- ---- a packet
 
-  body_so : (w : Scene) (s : Serving) (from to : NodeId) (b : Body) → BodySeen g (asker c w) w.net from to b → BodyFits b → At w s → Goes w (on_body s from b)
+  body_so : (w : Scene) (s : Serving) (from to : NodeId) (b : Body) → BodySeen g (asker c w) w.net from to b → BodyFits b → At w s → Goes w (take_body s from b)
   body_so w s from to (body.Grant m) seen small h = on_grant_so w s m h
   body_so w s from to (body.Supply m) seen small h = on_supply_so w s m h
   body_so w s from to (body.Forward m) seen small h = on_forward_so w s m h
@@ -246,38 +246,38 @@ module _ (g : Setting) (c : ℕ) (fact : g.log ≡ record { 0 = c }) where
 
   packet_goes : (w : Scene) (s : Serving) (p : Packet) → BodySeen g (asker c w) w.net p.from p.to p.body → BodyFits p.body
       → has_room s.lasting.questions.last ≡ true → At w s
-      → Goes w (on_packet s p)
-  unfolding on_packet
+      → Goes w (serving_take s p)
+  unfolding serving_take
   packet_goes w s p seen small room h =
-      by_test (λ (d : Done). Goes w d) (names_known s.maps p.body) (on_body s p.from p.body) (asks_for_maps s)
+      by_test (λ (d : Done). Goes w d) (names_known_groups s.maps p.body) (take_body s p.from p.body) (asks_for_maps s)
       (λ t. body_so w s p.from p.to p.body seen small h) (λ t. asks_for_maps_so w s h room)
 
   -- what is done, and then the open call runs
   abbrev pub and_runs : Done → Done
-  and_runs d = saying d.outs (runs d.state)
+  and_runs d = saying d.outs (run d.state)
 
   pub runs_after : (w : Scene) (d : Done) → Goes w d → Goes w (and_runs d)
-  runs_after w d p = frames.goes_on g c w d (runs d.state) p (λ v h. calls.runs_so g c fact v d.state h)
+  runs_after w d p = frames.goes_on g c w d (run d.state) p (λ v h. calls.run_so g c fact v d.state h)
 
   pub packet_so : (w : Scene) (s : Serving) (p : Packet) → BodySeen g (asker c w) w.net p.from p.to p.body → BodyFits p.body
-      → has_room s.lasting.questions.last ≡ true → At w s → Goes w (and_runs (on_packet s p))
-  packet_so w s p seen small room h = runs_after w (on_packet s p) (packet_goes w s p seen small room h)
+      → has_room s.lasting.questions.last ≡ true → At w s → Goes w (and_runs (serving_take s p))
+  packet_so w s p seen small room h = runs_after w (serving_take s p) (packet_goes w s p seen small room h)
 
   -- ---- time
 
-  plain_fetched : (r : Option ReadingState) → frames.Plain g c (fetches_again r)
+  plain_fetched : (r : Option ReadingState) → frames.Plain g c (fetch_again r)
   plain_fetched None = tokens.plain_nothing g c
   plain_fetched (Some r) = tokens.plain_fetches g c r
 
   tick_goes : (w : Scene) (s : Serving) → At w s → Goes w (on_tick s)
   unfolding on_tick
   tick_goes w s h =
-      let a : Done = hands s input.Tick in
-      let l : Done = writes a.state log_in.Tick in
-      let fetched : List Effect = fetches_again (reading_in a.state.call) in
-      frames.goes_on g c w a (gives l.state (fetched ++ (l.outs ++ pushes_all l.state.managers l.state.feed))) (tokens.hands_so g c w s input.Tick h)
-      (λ v k. frames.goes_after g c v fetched (gives l.state (l.outs ++ pushes_all l.state.managers l.state.feed)) (plain_fetched (reading_in a.state.call))
-      (frames.goes_and_gives g c v l l.state (pushes_all l.state.managers l.state.feed) (flights.ticks_so g c fact v a.state k) (λ u i. i)
+      let a : Done = hand s input.Tick in
+      let l : Done = serving_write a.state log_in.Tick in
+      let fetched : List Effect = fetch_again (reading_in a.state.call) in
+      frames.goes_on g c w a (gives l.state (fetched ++ (l.outs ++ push_all l.state.managers l.state.feed))) (tokens.hand_so g c w s input.Tick h)
+      (λ v k. frames.goes_after g c v fetched (gives l.state (l.outs ++ push_all l.state.managers l.state.feed)) (plain_fetched (reading_in a.state.call))
+      (frames.goes_and_gives g c v l l.state (push_all l.state.managers l.state.feed) (flights.ticks_so g c fact v a.state k) (λ u i. i)
       (tokens.plain_pushes_all g c l.state.managers l.state.feed)))
 
   pub time_so : (w : Scene) (s : Serving) → At w s → Goes w (and_runs (on_tick s))

@@ -9,21 +9,21 @@ use Rattle.client_log.specs.declared.output.Out.TheVariants as log_out
 use Rattle.client_log.specs.Transition as log
 use Rattle.client_call.specs.Reads.{reading_in, fetches, target_of, same_target}
 use Rattle.client_serving.specs.declared.serving.Serving.{Serving}
-use Rattle.client_serving.specs.Follow.{evicts, notes_clean, notes_gone, notes_copy, seals, follows_one, follows, hands, takes_back}
-use Rattle.client_serving.specs.Reads.{ends_reading, with_reading, draws, loses, loses_at, group_in, begins_over, begins, confirmed_next, ask_after, drawn_after, confirms, reads_over, reads}
+use Rattle.client_serving.specs.Follow.{evicts, note_clean, note_gone, note_copy, serving_seal, follow_one, serving_follow, hand, take_back}
+use Rattle.client_serving.specs.Reads.{ends_reading, with_reading, draws, loses, lose_at, group_in, begins_over, begin_reading, go_on_reading, ask_after, drawn_after, serving_confirm, reads_over, serving_read}
 use Rattle.client_serving.specs.Sends.{Done, gives, deltas, want, before_want, gave}
 use Rattle.coop_cache.specs.declared.output.Out as cache_out
 use Rattle.coop_cache.specs.declared.output.Out.TheVariants.{Victim}
-use Rattle.coop_cache.specs.Transition.{cleaned, left}
+use Rattle.coop_cache.specs.Transition.{cache_clean, cache_leave}
 use Rattle.delta_feed.specs.declared.output.Out as feed_out
 use Rattle.delta_feed.specs.declared.output.Out.TheVariants.{Range}
 use Rattle.delta_feed.specs.FeedState.{FeedState}
 use Rattle.group_map.specs.declared.group.Group.{Group}
 use Rattle.log_owner.specs.declared.promised.Managers.{Managers}
 use Rattle.log_owner.specs.Opening.{stored}
-use Rattle.log_owner.specs.Sending.{store, fetch, range, pushes, pushes_all}
+use Rattle.log_owner.specs.Sending.{store, fetch, range, sending_push, push_all}
 use Rattle.node_base.specs.Asking.{next_ask}
-use Rattle.node_base.specs.Beginning.{answered, answers_unanswered}
+use Rattle.node_base.specs.Beginning.{items_answer, answers_unanswered}
 use Rattle.node_base.specs.declared.effects.Effect.{Effect}
 use Rattle.node_base.specs.declared.effects.Effect.TheVariants.{Lose}
 use Rattle.segment_reading.specs.declared.reading.Next.{Next}
@@ -32,7 +32,7 @@ use Rattle.segment_reading.specs.declared.reading.Stage.{Stage}
 use Rattle.segment_reading.specs.declared.reading.Stage.TheVariants.{Asking, Between, Doubted, Over}
 use Rattle.segment_reading.specs.declared.target.BlockAt.{BlockAt}
 use Rattle.segment_reading.specs.declared.target.Target.{Target}
-use Rattle.segment_reading.specs.Reading.{ReadingState, Step, begun, to_ask, on_confirmed}
+use Rattle.segment_reading.specs.Reading.{ReadingState, Step, reading_start, reading_unanswered, on_confirmed}
 use Rattle.token_client.specs.declared.input.In as inputs
 use Rattle.token_client.specs.declared.input.In.TheVariants as input
 use Rattle.token_client.specs.declared.output.Out as outputs
@@ -84,14 +84,14 @@ module _ (g : Setting) (c : ℕ) where
   pub plain_range : (managers : Managers) (w : Scene) (o : feed_out.Out) → ClientDoes g c w (range managers o)
   plain_range managers w (Range slot first upto rows) = tt
 
-  pub plain_pushes : (managers : Managers) (feed : FeedState) (slot : ℕ) → Plain (pushes managers feed slot)
+  pub plain_pushes : (managers : Managers) (feed : FeedState) (slot : ℕ) → Plain (sending_push managers feed slot)
   plain_pushes managers feed slot = plain_map (range managers) (plain_range managers) _
 
-  pub plain_pushes_all : (managers : Managers) (feed : FeedState) → Plain (pushes_all managers feed)
+  pub plain_pushes_all : (managers : Managers) (feed : FeedState) → Plain (push_all managers feed)
   plain_pushes_all managers feed = plain_map (range managers) (plain_range managers) _
 
   pub plain_fetches : (r : ReadingState) → Plain (fetches r)
-  plain_fetches r = plain_map (fetch r.target.seg.name r.ask) (λ w server. tt) (to_ask r)
+  plain_fetches r = plain_map (fetch r.target.seg.name r.ask) (λ w server. tt) (reading_unanswered r)
 
   pub plain_answers : (unanswered : Option ℕ) (answer : Answer) → Plain (answers_unanswered unanswered answer)
   plain_answers None answer = plain_nothing
@@ -121,25 +121,25 @@ module _ (g : Setting) (c : ℕ) where
   unfolding evicts
   evicts_so w s (Victim block) h = h
 
-  pub notes_clean_so : (w : Scene) (s : Serving) (block : BlockId) → At w s → At w (notes_clean s block)
-  unfolding notes_clean
-  notes_clean_so w s block h = frames.stands_fold g c w evicts (evicts_so w) (record s { cache = (cleaned s.cache block).state }) (cleaned s.cache block).outs h
+  pub note_clean_so : (w : Scene) (s : Serving) (block : BlockId) → At w s → At w (note_clean s block)
+  unfolding note_clean
+  note_clean_so w s block h = frames.stands_fold g c w evicts (evicts_so w) (record s { cache = (cache_clean s.cache block).state }) (cache_clean s.cache block).outs h
 
-  pub notes_gone_so : (w : Scene) (s : Serving) (block : BlockId) → At w s → At w (notes_gone s block)
-  unfolding notes_gone
-  notes_gone_so w s block h =
-      by_test (λ (t : Serving). At w t) (is_nothing (held_of s.tokens.blocks block).mode) (record s { cache = left s.cache block }) s (λ t. h) (λ t. h)
+  pub note_gone_so : (w : Scene) (s : Serving) (block : BlockId) → At w s → At w (note_gone s block)
+  unfolding note_gone
+  note_gone_so w s block h =
+      by_test (λ (t : Serving). At w t) (is_nothing (held_of s.tokens.blocks block).mode) (record s { cache = cache_leave s.cache block }) s (λ t. h) (λ t. h)
 
-  notes_copy_so : (w : Scene) (s : Serving) (block : BlockId) → At w s → At w (notes_copy s block)
-  unfolding notes_copy
-  notes_copy_so w s block h =
-      by_test (λ (t : Serving). At w t) (same_mode (held_of s.tokens.blocks block).mode Copy) (notes_clean s block) s (λ t. notes_clean_so w s block h) (λ t. h)
+  note_copy_so : (w : Scene) (s : Serving) (block : BlockId) → At w s → At w (note_copy s block)
+  unfolding note_copy
+  note_copy_so w s block h =
+      by_test (λ (t : Serving). At w t) (same_mode (held_of s.tokens.blocks block).mode Copy) (note_clean s block) s (λ t. note_clean_so w s block h) (λ t. h)
 
   -- ---- the log
 
-  pub seals_so : (w : Scene) (s : Serving) → At w s → Goes w (seals s)
-  unfolding seals
-  seals_so w s h =
+  pub serving_seal_so : (w : Scene) (s : Serving) → At w s → Goes w (serving_seal s)
+  unfolding serving_seal
+  serving_seal_so w s h =
       let k : logs.Took g c w s.lasting.number s.lasting.inc s.lasting.questions.last log_in.Seal (log.on_seal s.log) =
       logs.takes g c w s.log s.lasting.number s.lasting.inc s.lasting.questions.last log_in.Seal h tt tt in
       record {
@@ -164,48 +164,48 @@ module _ (g : Setting) (c : ℕ) where
   unfolding loses
   loses_so w s block seg h =
       frames.goes_plain g c w
-      (record s { lasting = record s.lasting { items = answered s.lasting.items }; call = None; tokens = (client.on_quit s.tokens block).state })
+      (record s { lasting = record s.lasting { items = items_answer s.lasting.items }; call = None; tokens = (client.on_quit s.tokens block).state })
       (Lose seg ∷ answers_unanswered s.lasting.items.unanswered (Lost seg)) h
       (λ v. All-cons (ClientDoes g c v) (Lose seg) (answers_unanswered s.lasting.items.unanswered (Lost seg)) tt
       (plain_answers s.lasting.items.unanswered (Lost seg) v))
 
-  loses_at_so : (w : Scene) (s : Serving) (at : Option BlockAt) (seg : SegName) → At w s → Goes w (loses_at s at seg)
-  loses_at_so w s None seg h = still_so w s h
-  loses_at_so w s (Some at) seg h = loses_so w s at.block seg h
+  lose_at_so : (w : Scene) (s : Serving) (at : Option BlockAt) (seg : SegName) → At w s → Goes w (lose_at s at seg)
+  lose_at_so w s None seg h = still_so w s h
+  lose_at_so w s (Some at) seg h = loses_so w s at.block seg h
 
   begins_over_so : (w : Scene) (s : Serving) (target : Target) (group : Option Group) → At w s → Goes w (begins_over s target group)
   begins_over_so w s target None h = still_so w s h
   begins_over_so w s target (Some group) h =
-      let r : ReadingState = begun target group (next_ask s.lasting.questions) in
+      let r : ReadingState = reading_start target group (next_ask s.lasting.questions) in
       frames.goes_plain g c w (with_reading (draws s) (Some r)) (fetches r) (draws_so w s h) (plain_fetches r)
 
-  begins_so : (w : Scene) (s : Serving) (target : Target) → At w s → Goes w (begins s target)
-  unfolding begins
-  begins_so w s target h = begins_over_so w s target (group_in s.maps.groups target.seg.group) h
+  begin_reading_so : (w : Scene) (s : Serving) (target : Target) → At w s → Goes w (begin_reading s target)
+  unfolding begin_reading
+  begin_reading_so w s target h = begins_over_so w s target (group_in s.maps.groups target.seg.group) h
 
-  confirmed_next_so : (w : Scene) (s : Serving) (r : ReadingState) (x : Next) → At w s → Goes w (confirmed_next s r x)
-  confirmed_next_so w s r next.Lost h = loses_at_so w s r.target.block r.target.seg.name h
-  confirmed_next_so w s r next.Ask h = frames.goes_plain g c w (with_reading s (Some r)) (fetches r) h (plain_fetches r)
-  confirmed_next_so w s r _ h = still_so w (with_reading s (Some r)) h
+  go_on_reading_so : (w : Scene) (s : Serving) (r : ReadingState) (x : Next) → At w s → Goes w (go_on_reading s r x)
+  go_on_reading_so w s r next.Lost h = lose_at_so w s r.target.block r.target.seg.name h
+  go_on_reading_so w s r next.Ask h = frames.goes_plain g c w (with_reading s (Some r)) (fetches r) h (plain_fetches r)
+  go_on_reading_so w s r _ h = still_so w (with_reading s (Some r)) h
 
-  drawn_after_so : (w : Scene) (s : Serving) (r : ReadingState) (x : Next) (stage : Stage) → At w s → Goes w (confirmed_next (drawn_after s stage) r x)
-  drawn_after_so w s r x Between h = confirmed_next_so w (draws s) r x (draws_so w s h)
-  drawn_after_so w s r x _ h = confirmed_next_so w s r x h
+  drawn_after_so : (w : Scene) (s : Serving) (r : ReadingState) (x : Next) (stage : Stage) → At w s → Goes w (go_on_reading (drawn_after s stage) r x)
+  drawn_after_so w s r x Between h = go_on_reading_so w (draws s) r x (draws_so w s h)
+  drawn_after_so w s r x _ h = go_on_reading_so w s r x h
 
-  confirms_so : (w : Scene) (s : Serving) (r : ReadingState) → At w s → Goes w (confirms s r)
-  unfolding confirms
-  confirms_so w s r h =
+  serving_confirm_so : (w : Scene) (s : Serving) (r : ReadingState) → At w s → Goes w (serving_confirm s r)
+  unfolding serving_confirm
+  serving_confirm_so w s r h =
       let step : Step = on_confirmed r (ask_after s r.ask r.stage) in
       drawn_after_so w s step.state step.next r.stage h
 
   reads_over_so : (w : Scene) (s : Serving) (target : Target) (reading : Option ReadingState) → At w s → Goes w (reads_over s target reading)
-  reads_over_so w s target None h = begins_so w s target h
+  reads_over_so w s target None h = begin_reading_so w s target h
   reads_over_so w s target (Some r) h =
-      by_test (λ (d : Done). Goes w d) (same_target r.target target) (confirms s r) (begins s target) (λ t. confirms_so w s r h) (λ t. begins_so w s target h)
+      by_test (λ (d : Done). Goes w d) (same_target r.target target) (serving_confirm s r) (begin_reading s target) (λ t. serving_confirm_so w s r h) (λ t. begin_reading_so w s target h)
 
-  reads_so : (w : Scene) (s : Serving) (block : BlockId) (place : Place) → At w s → Goes w (reads s block place)
-  unfolding reads
-  reads_so w s block place h =
+  serving_read_so : (w : Scene) (s : Serving) (block : BlockId) (place : Place) → At w s → Goes w (serving_read s block place)
+  unfolding serving_read
+  serving_read_so w s block place h =
       by_test (λ (d : Done). Goes w d) (is_none s.call) (still s) (reads_over (with_reading s None) (target_of block place) (reading_in s.call))
       (λ t. still_so w s h) (λ t. reads_over_so w (with_reading s None) (target_of block place) (reading_in s.call) h)
 
@@ -215,32 +215,32 @@ module _ (g : Setting) (c : ℕ) where
   plain_before s block again =
       by_test (λ (es : List Effect). Plain es) (again == 0) (deltas s block) [] (λ t. plain_pushes s.managers s.feed _) (λ t. plain_nothing)
 
-  follows_one_so : (w : Scene) (s : Serving) (o : outputs.Out) → At w s → Goes w (follows_one s o)
-  unfolding follows_one
-  follows_one_so w s (output.Want block req again mode) h =
+  follow_one_so : (w : Scene) (s : Serving) (o : outputs.Out) → At w s → Goes w (follow_one s o)
+  unfolding follow_one
+  follow_one_so w s (output.Want block req again mode) h =
       frames.goes_after g c w (before_want s block again) (gives s (want s block req again mode ∷ [])) (plain_before s block again)
       (frames.goes_plain g c w s (want s block req again mode ∷ []) h (plain_one _ (λ v. tt)))
-  follows_one_so w s (output.Gave block stamp) h =
+  follow_one_so w s (output.Gave block stamp) h =
       frames.goes_after g c w (deltas s block) (gives s (gave s block stamp ∷ [])) (plain_pushes s.managers s.feed _)
       (frames.goes_plain g c w s (gave s block stamp ∷ []) h (plain_one _ (λ v. tt)))
-  follows_one_so w s (output.Flush block) h = seals_so w s h
-  follows_one_so w s (output.Read block place) h = reads_so w s block place h
-  follows_one_so w s (output.Ready block) h = still_so w (notes_copy s block) (notes_copy_so w s block h)
-  follows_one_so w s (output.Supply block ver value) h = still_so w s h
+  follow_one_so w s (output.Flush block) h = serving_seal_so w s h
+  follow_one_so w s (output.Read block place) h = serving_read_so w s block place h
+  follow_one_so w s (output.Ready block) h = still_so w (note_copy s block) (note_copy_so w s block h)
+  follow_one_so w s (output.Supply block ver value) h = still_so w s h
 
-  pub follows_so : (w : Scene) (s : Serving) (outs : List outputs.Out) → At w s → Goes w (follows s outs)
-  unfolding follows
-  follows_so w s outs h = frames.goes_steps g c follows_one follows_one_so w s outs h
+  pub serving_follow_so : (w : Scene) (s : Serving) (outs : List outputs.Out) → At w s → Goes w (serving_follow s outs)
+  unfolding serving_follow
+  serving_follow_so w s outs h = frames.goes_steps g c follow_one follow_one_so w s outs h
 
-  pub hands_so : (w : Scene) (s : Serving) (i : inputs.In) → At w s → Goes w (hands s i)
-  unfolding hands
-  hands_so w s i h =
+  pub hand_so : (w : Scene) (s : Serving) (i : inputs.In) → At w s → Goes w (hand s i)
+  unfolding hand
+  hand_so w s i h =
       let r : client.Done = client.transition s.tokens i in
-      follows_so w (ends_reading (record s { tokens = r.state })) r.outs h
+      serving_follow_so w (ends_reading (record s { tokens = r.state })) r.outs h
 
-  pub takes_back_so : (w : Scene) (s : Serving) (block : BlockId) (stamp : Stamp) (keep : Bool) → At w s → Goes w (takes_back s block stamp keep)
-  unfolding takes_back
-  takes_back_so w s block stamp keep h =
-      let d : Done = hands s (input.Recalled block stamp keep) in
-      let p : Goes w d = hands_so w s (input.Recalled block stamp keep) h in
-      record { next = p.next; grown = p.grown; stands = notes_gone_so p.next d.state block p.stands; does = p.does; boot = p.boot; puts = p.puts }
+  pub take_back_so : (w : Scene) (s : Serving) (block : BlockId) (stamp : Stamp) (keep : Bool) → At w s → Goes w (take_back s block stamp keep)
+  unfolding take_back
+  take_back_so w s block stamp keep h =
+      let d : Done = hand s (input.Recalled block stamp keep) in
+      let p : Goes w d = hand_so w s (input.Recalled block stamp keep) h in
+      record { next = p.next; grown = p.grown; stands = note_gone_so p.next d.state block p.stands; does = p.does; boot = p.boot; puts = p.puts }

@@ -2,7 +2,7 @@
 use Rattle.std.proofs.Common.{◌≡◌, ◌≤◌, ℕ, true, refl, sym, ap, arith}
 use Rattle.std.proofs.lemmas.Bool.Decides.{nat_tests}
 use Rattle.xfs_base.specs.Limits.{log_count}
-use Rattle.client_log.specs.LogState.{started}
+use Rattle.client_log.specs.LogState.{log_start}
 use Rattle.client_node.specs.Serving.{empty_end}
 use Rattle.group_map.specs.Groups as groups
 use Rattle.node_base.specs.Shape.{is_log}
@@ -26,10 +26,10 @@ client_starts g c fact small setup works = record {
   agrees = (
     record { number = refl; inc = refl; fresh = λ k later. refl },
     record {
-      owner = ap (λ log. owner.Serving (started log 1 no_end (groups.started setup.servers setup.groups))) fact;
+      owner = ap (λ log. owner.Serving (log_start log 1 no_end (groups.group_map_start setup.servers setup.groups))) fact;
       own = record { log = sym fact; flight = tt };
     },
   );
-  written = λ ids. what_fits_stays_written (record { 0 = c }) 1 empty_end (groups.started setup.servers setup.groups) (log_in_range c small) (omega arith)
+  written = λ ids. what_fits_stays_written (record { 0 = c }) 1 empty_end (groups.group_map_start setup.servers setup.groups) (log_in_range c small) (omega arith)
       (omega arith, (omega arith, omega arith), omega arith) ids;
 }

@@ -19,14 +19,14 @@ use Rattle.log_flight.specs.declared.dirty.Change.{Change}
 use Rattle.log_flight.specs.declared.flight.Fate.{Fate}
 use Rattle.log_flight.specs.declared.flight.Fate.TheVariants.{Restripe, Settle, Wait}
 use Rattle.log_flight.specs.Fate.{fate_of}
-use Rattle.log_flight.specs.Flights.{FlightState, is_of, noting}
+use Rattle.log_flight.specs.Flights.{FlightState, is_of, flight_note}
 use Rattle.log_flight.specs.Items.{items_of}
 use Rattle.log_flight.specs.Texts.{has_text}
 use Rattle.client_log.specs.declared.input.In.{In as Input}
 use Rattle.client_log.specs.declared.input.In.TheVariants.{Put, Parts, Seal, Acked, Maps, Tick}
 use Rattle.client_log.specs.History.{state_after}
-use Rattle.client_log.specs.LogState.{LogState, started}
-use Rattle.client_log.specs.Transition.{Done, all_sends, launched, next_name, prior_from, writes, has_next, is_idle, is_full, can_go_on, sealed, if_full, waits, on_put, on_seal, on_parts, next_attempt, restriped, landed, settled, can_follow, followed, looked_at, on_acked, on_maps, on_tick, transition}
+use Rattle.client_log.specs.LogState.{LogState, log_start}
+use Rattle.client_log.specs.Transition.{Done, sending_send, log_launch, next_name, prior_from, log_write, has_next, is_idle, is_full, can_go_on, log_seal, log_go_on, waits, on_put, on_seal, on_parts, next_attempt, restriped, landed, settled, can_follow, followed, looked_at, on_acked, on_maps, on_tick, transition}
 use Rattle.log_law.specs.Events.{IsWritten}
 use Rattle.log_law.specs.Openings.{EndFits}
 use Rattle.node_logs.specs.client_log_tie.Texts.{PutFits, MapFits}
@@ -68,8 +68,8 @@ below : (n : ℕ) → has_next n ≡ true → n + 1 < 2 ^ 32
 below n t = grind (arith, nat_tests)
 
 fit_launched : (s : LogState) (name : SegName) (prior : Prior) (items : List Item) → LogFits s → IsLog name.log.0 → FitsName name → FitsPrior prior
-    → ItemsFit items → FitAfter (launched s name prior items)
-unfolding launched FitAfter
+    → ItemsFit items → FitAfter (log_launch s name prior items)
+unfolding log_launch FitAfter
 fit_launched s name prior items h log named before fit = record {
   log = h.log;
   inc = h.inc;
@@ -79,12 +79,12 @@ fit_launched s name prior items h log named before fit = record {
   flight = record { log = log; name = named; prior = before; group = h.groups s.log.0 name.seq; items = fit };
 }
 
-fit_writes : (s : LogState) (items : List Item) → LogFits s → has_next s.end.seq ≡ true → ItemsFit items → FitAfter (writes s items)
+fit_writes : (s : LogState) (items : List Item) → LogFits s → has_next s.end.seq ≡ true → ItemsFit items → FitAfter (log_write s items)
 fit_writes s items h next fit =
     fit_launched s (next_name s) (prior_from s.end) items h h.log (below s.end.seq next, (h.inc, omega arith)) (h.end.1, h.end.2) fit
 
-fit_sealed : (s : LogState) → LogFits s → has_next s.end.seq ≡ true → FitAfter (sealed s)
-unfolding sealed
+fit_sealed : (s : LogState) → LogFits s → has_next s.end.seq ≡ true → FitAfter (log_seal s)
+unfolding log_seal
 fit_sealed s h next =
     fit_writes (record s { dirty = drop segment_blocks s.dirty }) (items_of 0 (take segment_blocks s.dirty))
     (record { log = h.log; inc = h.inc; end = h.end; groups = h.groups; dirty = dropped_fit segment_blocks s.dirty h.dirty; flight = h.flight }) next
@@ -98,16 +98,16 @@ or_next : (full next : Bool) → (not full || next) ≡ true → full ≡ true �
 or_next true next can t = can
 or_next false next can t = contrary t
 
-fit_if_full : (s : LogState) → LogFits s → can_go_on s ≡ true → FitAfter (if_full s)
-unfolding if_full
+fit_if_full : (s : LogState) → LogFits s → can_go_on s ≡ true → FitAfter (log_go_on s)
+unfolding log_go_on
 fit_if_full s h can =
-    by_test FitAfter (is_full s) (sealed s) (still s) (λ t. fit_sealed s h (or_next (is_full s) (has_next s.end.seq) can t)) (λ t. fit_still s h)
+    by_test FitAfter (is_full s) (log_seal s) (still s) (λ t. fit_sealed s h (or_next (is_full s) (has_next s.end.seq) can t)) (λ t. fit_still s h)
 
 fit_put : (s : LogState) (block : BlockId) (change : Change) → LogFits s → ChangeFits (block, change) → FitAfter (on_put s block change)
 unfolding on_put
 fit_put s block change h new =
     let t : LogState = waits s block change in
-    by_test FitAfter (can_go_on t) (if_full t) (still s)
+    by_test FitAfter (can_go_on t) (log_go_on t) (still s)
     (λ e. fit_if_full t
     (record { log = h.log; inc = h.inc; end = h.end; groups = h.groups; dirty = inserted_fit block change s.dirty new h.dirty; flight = h.flight }) e)
     (λ e. fit_still s h)
@@ -125,13 +125,13 @@ middle false b x e = contrary e
 fit_seal : (s : LogState) → LogFits s → FitAfter (on_seal s)
 unfolding on_seal
 fit_seal s h =
-    by_test FitAfter (is_idle s && nat_lt 0 (length s.dirty) && has_next s.end.seq) (sealed s) (still s)
+    by_test FitAfter (is_idle s && nat_lt 0 (length s.dirty) && has_next s.end.seq) (log_seal s) (still s)
     (λ e. fit_sealed s h (third (is_idle s) (nat_lt 0 (length s.dirty)) (has_next s.end.seq) e)) (λ e. fit_still s h)
 
 fit_parts : (s : LogState) (items : List Item) → LogFits s → (has_text items ≡ true → ItemsFit items) → FitAfter (on_parts s items)
 unfolding on_parts
 fit_parts s items h fit =
-    by_test FitAfter (is_idle s && has_next s.end.seq && has_text items) (writes s items) (still s)
+    by_test FitAfter (is_idle s && has_next s.end.seq && has_text items) (log_write s items) (still s)
     (λ e. fit_writes s items h (middle (is_idle s) (has_next s.end.seq) (has_text items) e) (fit (third (is_idle s) (has_next s.end.seq) (has_text items) e)))
     (λ e. fit_still s h)
 
@@ -156,10 +156,10 @@ unfolding on_acked
 fit_acked s name index generation h =
     elim s.flight as
     (λ o. IfSome o (λ f. SegmentFits f.segment)
-    → FitAfter (elim o [ None ↦ still s | Some f ↦ cond (is_of f name index generation) (looked_at s s (noting f index)) (still s) ])) [
+    → FitAfter (elim o [ None ↦ still s | Some f ↦ cond (is_of f name index generation) (looked_at s s (flight_note f index)) (still s) ])) [
       | None ↦ λ e. fit_still s h
-      | Some f ↦ λ e. by_test FitAfter (is_of f name index generation) (looked_at s s (noting f index)) (still s)
-          (λ t. fit_looked s s (noting f index) h h (record { log = e.log; name = e.name; prior = e.prior; group = e.group; items = e.items }))
+      | Some f ↦ λ e. by_test FitAfter (is_of f name index generation) (looked_at s s (flight_note f index)) (still s)
+          (λ t. fit_looked s s (flight_note f index) h h (record { log = e.log; name = e.name; prior = e.prior; group = e.group; items = e.items }))
           (λ t. fit_still s h)
     ] h.flight
 
@@ -175,7 +175,7 @@ fit_maps s m h small =
 
 fit_tick : (s : LogState) → LogFits s → FitAfter (on_tick s)
 unfolding on_tick FitAfter
-fit_tick s h = elim s.flight as (λ o. FitAfter (elim o [ None ↦ still s | Some f ↦ record { state = s; outs = all_sends f } ])) [ None ↦ h | Some f ↦ h ]
+fit_tick s h = elim s.flight as (λ o. FitAfter (elim o [ None ↦ still s | Some f ↦ record { state = s; outs = sending_send f } ])) [ None ↦ h | Some f ↦ h ]
 
 -- ---- what it takes
 
@@ -206,7 +206,7 @@ in_flight (Some f) h = segment_written f.segment h
 
 -- so it is of a log that starts behind an end that fits, over groups whose ids fit
 pub flies_written : (log : LogId) (inc : ℕ) (end : End) (m : GroupMapState) → IsLog log.0 → inc < 2 ^ 32 → EndFits end → MapFits m → (later : List Input)
-    → AllByRecursion Takes later → IfSome (state_after (started log inc end m) later).flight (λ f. IsWritten f.segment)
+    → AllByRecursion Takes later → IfSome (state_after (log_start log inc end m) later).flight (λ f. IsWritten f.segment)
 flies_written log inc end m fact small fits ids later all =
-    in_flight (state_after (started log inc end m) later).flight
-    (fit_all (started log inc end m) later (record { log = fact; inc = small; end = fits; groups = ids; dirty = tt; flight = tt }) all).flight
+    in_flight (state_after (log_start log inc end m) later).flight
+    (fit_all (log_start log inc end m) later (record { log = fact; inc = small; end = fits; groups = ids; dirty = tt; flight = tt }) all).flight

@@ -17,8 +17,8 @@ use Rattle.group_map.specs.GroupMapState.{GroupMapState}
 use Rattle.log_owner.specs.Sending.{name_of}
 use Rattle.manager_slots.specs.Lasting.{log_of}
 use Rattle.manager_slots.specs.Numbers.{slot_after}
-use Rattle.manager_slots.specs.SlotTable.{next_active, begin_at, cleaned_at}
-use Rattle.manager_serving.specs.Checkpoints.{Done, gives, stored, gives_parts, registers, asked, says, says_each, writer_takes, filed, on_settled, log_says, log_says_each, writes, writes_slot, begins_slot, next_from, next_for, next_slot, waits, on_checkpoint, awaits, counted, answered_by, on_ckpt_ack, done_again, told_again, tells_again}
+use Rattle.manager_slots.specs.SlotTable.{next_active, begin_at, slot_table_clean}
+use Rattle.manager_serving.specs.Checkpoints.{Done, gives, checkpointing_store, give_parts, register, asked, writer_says, writer_says_each, writer_takes, filed, on_settled, log_says, log_says_each, serving_write, writes_slot, begin_slot, next_from, next_for, next_slot, waits, on_checkpoint, awaits, checkpointing_count, answered_by, on_ckpt_ack, send_done, checkpointing_tell_again, serving_tell_again}
 use Rattle.manager_serving.specs.declared.checkpointing.Checkpointing.{Checkpointing}
 use Rattle.manager_serving.specs.declared.serving.Serving.{Serving}
 use Rattle.segment_format.specs.declared.segment.Item.{Item}
@@ -95,23 +95,23 @@ module _ (g : Setting) (j : ℕ) (fact : g.log ≡ log_of j) where
 
   -- what the log sends was sent
   log_sends : (w : Scene) (outs : List LogOut) → ((p : Packet) → In p (log_packets outs) → In p w.net.sent) → AllByRecursion (SendsOwn g.log) outs
-      → AllDone g j w (flat_map stored outs)
-  unfolding stored
+      → AllDone g j w (flat_map checkpointing_store outs)
+  unfolding checkpointing_store
   log_sends w [] sent mine = tt
   log_sends w (log_out.Send f m ∷ outs) sent mine = ((λ own. sent _ (inl refl), mine.0), log_sends w outs (λ p among. sent p (inr among)) mine.1)
   log_sends w (log_out.Settled end rows ∷ outs) sent mine = log_sends w outs sent mine.1
 
-  parts_so : (w : Scene) (s : Serving) (items : List Item) → Stands g j w s → AllByRecursion PartFits items → Goes g j w (gives_parts s items)
-  unfolding gives_parts
+  parts_so : (w : Scene) (s : Serving) (items : List Item) → Stands g j w s → AllByRecursion PartFits items → Goes g j w (give_parts s items)
+  unfolding give_parts
   parts_so w s items h fits =
       let t : logs.Took g j w s (log.transition s.log (log_in.Parts items)) = logs.takes g j w s (log_in.Parts items) h tt fits in
       record { next = t.next; grown = t.grown; stands = t.stands; does = log_sends t.next (log.transition s.log (log_in.Parts items)).outs t.sent t.mine }
 
   -- ---- what the writer says
 
-  registers_so : (w : Scene) (s : Serving) (done : CkptDone) → Stands g j w s → Goes g j w (registers s done)
-  unfolding registers
-  registers_so w s done h =
+  register_so : (w : Scene) (s : Serving) (done : CkptDone) → Stands g j w s → Goes g j w (register s done)
+  unfolding register
+  register_so w s done h =
       at_once g j w _ _ (record {
         lasts = h.lasts;
         inc = h.inc;
@@ -131,21 +131,21 @@ module _ (g : Setting) (j : ℕ) (fact : g.log ≡ log_of j) where
     index = h.index;
   }
 
-  says_so : (w : Scene) (s : Serving) (o : Out) → Stands g j w s → OutSo law o → Goes g j w (says s o)
-  unfolding says
-  says_so w s (out.Parts items) h fits = parts_so w s items h fits
-  says_so w s (out.Done slot epoch parts horizon) h fits = registers_so w (asked s) _ (asked_so w s h)
-  says_so w s out.Kept h fits = stays g j w s h
-  says_so w s (out.Stale epoch) h fits = stays g j w s h
+  writer_says_so : (w : Scene) (s : Serving) (o : Out) → Stands g j w s → OutSo law o → Goes g j w (writer_says s o)
+  unfolding writer_says
+  writer_says_so w s (out.Parts items) h fits = parts_so w s items h fits
+  writer_says_so w s (out.Done slot epoch parts horizon) h fits = register_so w (asked s) _ (asked_so w s h)
+  writer_says_so w s out.Kept h fits = stays g j w s h
+  writer_says_so w s (out.Stale epoch) h fits = stays g j w s h
 
   with_writer : (w : Scene) (s : Serving) (t : WriterState) → Stands g j w s → WriterFits t → Stands g j w (record s { writer = t })
   with_writer w s t h fits = record { lasts = h.lasts; inc = h.inc; log = h.log; written = h.written; writer = fits; index = h.index }
 
   writer_so : (w : Scene) (s : Serving) (given : WriterIn) → Stands g j w s → WriterInFits given → Goes g j w (writer_takes s given)
-  unfolding writer_takes says_each
+  unfolding writer_takes writer_says_each
   writer_so w s given h fits =
       let d = writer_fits s.writer given h.writer fits in
-      goes_each g j (OutSo law) says says_so w (record s { writer = (writer.transition s.writer given).state }) (writer.transition s.writer given).outs
+      goes_each g j (OutSo law) writer_says writer_says_so w (record s { writer = (writer.transition s.writer given).state }) (writer.transition s.writer given).outs
       (with_writer w s (writer.transition s.writer given).state h d.state) d.outs
 
   -- ---- the log took an input
@@ -175,20 +175,20 @@ module _ (g : Setting) (j : ℕ) (fact : g.log ≡ log_of j) where
       (all_written p.next (on_settled s end).state outs p.stands (λ q among. p.grown.sent q (sent q among))
       (λ name among. p.grown.filed name (told name (inr among))) mine.1)
 
-  writes_from : (w : Scene) (s : Serving) (i : LogIn) → logs.Took g j w s (log.transition s.log i) → Goes g j w (writes s i)
-  unfolding writes log_says_each
+  writes_from : (w : Scene) (s : Serving) (i : LogIn) → logs.Took g j w s (log.transition s.log i) → Goes g j w (serving_write s i)
+  unfolding serving_write log_says_each
   writes_from w s i t =
-      goes_from g j w t.next (writes s i) t.grown
+      goes_from g j w t.next (serving_write s i) t.grown
       (all_written t.next (record s { log = (log.transition s.log i).state }) (log.transition s.log i).outs t.stands t.sent t.filed t.mine)
 
-  pub maps_so : (w : Scene) (s : Serving) (m : GroupMapState) → Stands g j w s → In (MapSent m) w.net.sent → MapFits m → Goes g j w (writes s (log_in.Maps m))
+  pub maps_so : (w : Scene) (s : Serving) (m : GroupMapState) → Stands g j w s → In (MapSent m) w.net.sent → MapFits m → Goes g j w (serving_write s (log_in.Maps m))
   maps_so w s m h came fits = writes_from w s (log_in.Maps m) (logs.takes g j w s (log_in.Maps m) h came fits)
 
-  pub ticks_so : (w : Scene) (s : Serving) → Stands g j w s → Goes g j w (writes s log_in.Tick)
+  pub ticks_so : (w : Scene) (s : Serving) → Stands g j w s → Goes g j w (serving_write s log_in.Tick)
   ticks_so w s h = writes_from w s log_in.Tick (logs.takes g j w s log_in.Tick h tt tt)
 
   pub stored_so : (w : Scene) (s : Serving) (m : Stored) → Stands g j w s → (is_of_log g m.name ≡ true → In (StoredSent m.name m.index m.generation) w.net.sent)
-      → Goes g j w (writes s (log_in.Acked m.name m.index m.generation))
+      → Goes g j w (serving_write s (log_in.Acked m.name m.index m.generation))
   stored_so w s m h seen = writes_from w s (log_in.Acked m.name m.index m.generation) (logs.takes_stored g j w s m.name m.index m.generation h seen)
 
   -- ---- one slot after the other
@@ -197,10 +197,10 @@ module _ (g : Setting) (j : ℕ) (fact : g.log ≡ log_of j) where
   slot_so w s None h fits = stays g j w s h
   slot_so w s (Some given) h fits = writer_so w s given h fits
 
-  begins_so : (w : Scene) (s : Serving) (slot : ℕ) → Stands g j w s → Goes g j w (begins_slot s slot)
-  unfolding begins_slot
+  begins_so : (w : Scene) (s : Serving) (slot : ℕ) → Stands g j w s → Goes g j w (begin_slot s slot)
+  unfolding begin_slot
   begins_so w s slot h =
-      slot_so w (record s { slots = cleaned_at s.slots slot }) (begin_at s.slots slot)
+      slot_so w (record s { slots = slot_table_clean s.slots slot }) (begin_at s.slots slot)
       (record { lasts = h.lasts; inc = h.inc; log = h.log; written = h.written; writer = h.writer; index = table_cleaned s.slots slot h.index })
       (begin_fits s.slots slot h.index)
 
@@ -249,20 +249,20 @@ module _ (g : Setting) (j : ℕ) (fact : g.log ≡ log_of j) where
       let d = writer_fits s.writer (writer_in.Ack ack.epoch s.dones) h.writer tt in
       by_test (λ (d : Done). Goes g j w d) (awaits s.checkpoint ack.ask) (answered_by s r) (still s)
       (λ t. by_test (λ (d : Done). Goes g j w d) (length r.outs == 0) (still (record s { writer = r.state }))
-      (next_slot (record s { writer = r.state; checkpoint = fold counted s.checkpoint r.outs }))
+      (next_slot (record s { writer = r.state; checkpoint = fold checkpointing_count s.checkpoint r.outs }))
       (λ u. stays g j w (record s { writer = r.state }) (with_writer w s r.state h d.state))
-      (λ u. next_so w (record s { writer = r.state; checkpoint = fold counted s.checkpoint r.outs })
-      (with_job w (record s { writer = r.state }) (fold counted s.checkpoint r.outs) (with_writer w s r.state h d.state))))
+      (λ u. next_so w (record s { writer = r.state; checkpoint = fold checkpointing_count s.checkpoint r.outs })
+      (with_job w (record s { writer = r.state }) (fold checkpointing_count s.checkpoint r.outs) (with_writer w s r.state h d.state))))
       (λ t. stays g j w s h)
 
-  pub tells_so : (w : Scene) (s : Serving) → Stands g j w s → Goes g j w (tells_again s)
-  unfolding tells_again
+  pub tells_so : (w : Scene) (s : Serving) → Stands g j w s → Goes g j w (serving_tell_again s)
+  unfolding serving_tell_again
   tells_so w s h = at_once g j w s _ h (by s.checkpoint)
     where
-      by_done : (done : Option CkptDone) → AllDone g j w (done_again done)
+      by_done : (done : Option CkptDone) → AllDone g j w (send_done done)
       by_done None = tt
       by_done (Some done) = (tt, tt)
 
-      by : (job : Option Checkpointing) → AllDone g j w (told_again job)
+      by : (job : Option Checkpointing) → AllDone g j w (checkpointing_tell_again job)
       by None = tt
       by (Some job) = by_done job.done

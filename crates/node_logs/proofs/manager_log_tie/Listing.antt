@@ -16,7 +16,7 @@ use Rattle.xfs_base.specs.Stamps.{is_greater}
 use Rattle.xfs_base.specs.Steps.{Stepped, still}
 use Rattle.xfs_base.proofs.Alls.{all_filter, all_map}
 use Rattle.xfs_base.proofs.Leaving.{Leaves, goes_after, stays}
-use Rattle.fragment_store.specs.Calls.{kept, on_fence as fenced_at, on_fill, with_fragment}
+use Rattle.fragment_store.specs.Calls.{shelf_store, on_fence as fenced_at, on_fill, with_fragment}
 use Rattle.fragment_store.specs.ShelfState.{ShelfState, fence_of, is_held, is_marked, same_name}
 use Rattle.group_map.specs.GroupMapState.{GroupMapState}
 use Rattle.group_map.specs.Groups.{group_of}
@@ -27,10 +27,10 @@ use Rattle.group_rebuild.specs.declared.output.Out.TheVariants as out
 use Rattle.group_rebuild.specs.declared.reads.Present.{Present}
 use Rattle.group_rebuild.specs.declared.wanted.Wanted.{Wanted}
 use Rattle.group_rebuild.specs.Reads as reads
-use Rattle.group_rebuild.specs.Reads.{ReadsState, at_first, answered, asked_again, counts, fetches, go_on, judged, one_more}
+use Rattle.group_rebuild.specs.Reads.{ReadsState, reads_of, answered, asked_again, counts, fetches, go_on, reads_judge, one_more}
 use Rattle.group_rebuild.specs.RebuildState.{RebuildState}
 use Rattle.group_rebuild.specs.Transition as rebuild
-use Rattle.group_rebuild.specs.Transition.{awaited, awaits, begun as begun_rebuild, begun_if_all, heard_from, listed_with, told_by, repeated, transition, without}
+use Rattle.group_rebuild.specs.Transition.{awaited, awaits, rebuild_begin as begun_rebuild, begun_if_all, heard_from, listed_with, told_by, repeated, transition, remove_names}
 use Rattle.group_rebuild.specs.Wanted.{in_group, of_group, refilled, wanted_in, wanted_of}
 use Rattle.std.specs.Map.{remove_entry, values_of}
 use Rattle.std.specs.BTreeMap.{insert_entry, is_at}
@@ -42,7 +42,7 @@ use Rattle.stripe_code.specs.declared.round.RoundState.{RoundState}
 use Rattle.stripe_code.specs.declared.round.RoundState.TheVariants.{Read, Short, Waiting}
 use Rattle.stripe_code.specs.declared.round.Told.{Told}
 use Rattle.stripe_code.specs.declared.round.Told.TheVariants.{Held, Missing}
-use Rattle.stripe_code.specs.Round.{RoundSoFar, state_of, taken}
+use Rattle.stripe_code.specs.Round.{RoundSoFar, state_of, round_take}
 use Rattle.version_model.specs.declared.work.Work.{Work}
 use Rattle.wire_msg.specs.declared.body.Body.{Body}
 use Rattle.wire_msg.specs.declared.packet.Do.{Do}
@@ -78,14 +78,14 @@ module _ (test : LogId → Bool) where
   abbrev Shelf : ShelfState → Type 0
   Shelf s = Fragments s.held
 
-  kept_so : (s : ShelfState) (f : Fragment) → Shelf s → FragmentOf test f → Shelf (kept s f)
-  kept_so s f h new = by_test Shelf (is_held s f.meta.name) s _ (λ t. h) (λ t. with_one f s.held new h)
+  shelf_store_so : (s : ShelfState) (f : Fragment) → Shelf s → FragmentOf test f → Shelf (shelf_store s f)
+  shelf_store_so s f h new = by_test Shelf (is_held s f.meta.name) s _ (λ t. h) (λ t. with_one f s.held new h)
 
   fenced_so : (s : ShelfState) (log : LogId) (pass : Pass) → Shelf s → Shelf (fenced_at s log pass)
   fenced_so s log pass h = by_test Shelf (is_greater (pass_cmp pass (fence_of s.fences log))) _ s (λ t. h) (λ t. h)
 
   filled_so : (s : ShelfState) (f : Fragment) → Shelf s → FragmentOf test f → Shelf (on_fill s f)
-  filled_so s f h new = by_test Shelf (is_marked s.marks f.meta.name) s (kept s f) (λ t. h) (λ t. kept_so s f h new)
+  filled_so s f h new = by_test Shelf (is_marked s.marks f.meta.name) s (shelf_store s f) (λ t. h) (λ t. shelf_store_so s f h new)
 
   listed_so : (held : List Fragment) → Fragments held → MetasOf test (map (λ (f : Fragment). f.meta) held)
   listed_so [] all = tt
@@ -115,7 +115,7 @@ module _ (test : LogId → Bool) where
   one_without name (e ∷ es) all =
       by_test Entries (is_at (seg_cmp name) e.0) es (e ∷ remove_entry (is_at (seg_cmp name)) es) (λ t. all.1) (λ t. (all.0, one_without name es all.1))
 
-  all_without : (names : List SegName) (es : List (SegName × FragMeta)) → Entries es → Entries (without names es)
+  all_without : (names : List SegName) (es : List (SegName × FragMeta)) → Entries es → Entries (remove_names names es)
   all_without [] es all = all
   all_without (name ∷ names) es all = all_without names (remove_entry (is_at (seg_cmp name)) es) (one_without name es all)
 
@@ -156,23 +156,23 @@ module _ (test : LogId → Bool) where
   unfolding refilled
   refilled_so w text h = h
 
-  judged_so : (r : ReadsState) (w : Wanted) (round : RoundSoFar) (st : RoundState) → ReadsOf test r → WantedOf test w → ReadsGo (judged r w round st)
-  judged_so r w round (Read text) h its =
+  reads_judge_so : (r : ReadsState) (w : Wanted) (round : RoundSoFar) (st : RoundState) → ReadsOf test r → WantedOf test w → ReadsGo (reads_judge r w round st)
+  reads_judge_so r w round (Read text) h its =
       goes_after (ReadsOf test) OutOf (out.Fill (refilled w text) ∷ []) (go_on r.left (record r { filled = one_more r.filled })) (refilled_so w text its, tt)
       (goes_on_so r.left (record r { filled = one_more r.filled }) h.left)
-  judged_so r w round (Short pairs) h its = goes_on_so r.left (record r { gone = one_more r.gone }) h.left
-  judged_so r w round Waiting h its = record { state = record { left = h.left; present = its }; outs = tt }
+  reads_judge_so r w round (Short pairs) h its = goes_on_so r.left (record r { gone = one_more r.gone }) h.left
+  reads_judge_so r w round Waiting h its = record { state = record { left = h.left; present = its }; outs = tt }
 
   answered_so : (r : ReadsState) (present : Option Present) (ask server : ℕ) (told : Told) → ReadsOf test r → IfSome present (PresentOf test)
       → ReadsGo (answered r present ask server told)
   answered_so r None ask server told h here = stays (ReadsOf test) OutOf r h
   answered_so r (Some p) ask server told h here =
-      let now : RoundSoFar = taken p.round server told in
-      by_test ReadsGo ((ask == r.ask) && counts p server told) (judged r p.wanted now (state_of now)) (still r)
-      (λ t. judged_so r p.wanted now (state_of now) h here) (λ t. stays (ReadsOf test) OutOf r h)
+      let now : RoundSoFar = round_take p.round server told in
+      by_test ReadsGo ((ask == r.ask) && counts p server told) (reads_judge r p.wanted now (state_of now)) (still r)
+      (λ t. reads_judge_so r p.wanted now (state_of now) h here) (λ t. stays (ReadsOf test) OutOf r h)
 
-  answer_so : (r : ReadsState) (ask server : ℕ) (told : Told) → ReadsOf test r → ReadsGo (reads.on_answer r ask server told)
-  unfolding reads.on_answer
+  answer_so : (r : ReadsState) (ask server : ℕ) (told : Told) → ReadsOf test r → ReadsGo (reads.reads_take r ask server told)
+  unfolding reads.reads_take
   answer_so r ask server told h = answered_so r r.present ask server told h h.present
 
   again_so : (ask : ℕ) (p : Option Present) → AllByRecursion OutOf (asked_again ask p)
@@ -182,12 +182,12 @@ module _ (test : LogId → Bool) where
   abbrev StateGoes : Stepped RebuildState Out → Type 0
   StateGoes d = Leaves (RebuildOf test) OutOf d
 
-  begun_so : (s : RebuildState) (names : List SegName) → RebuildOf test s → StateGoes (begun_rebuild s names)
-  begun_so s names h =
+  rebuild_begin_so : (s : RebuildState) (names : List SegName) → RebuildOf test s → StateGoes (begun_rebuild s names)
+  rebuild_begin_so s names h =
       (let listed = all_without names s.listed h.listed in
-      let wanted : List Wanted = wanted_in s.server s.groups (values_of (without names s.listed)) in
-      let d = goes_on_so wanted (at_first wanted)
-      (wanted_so s.server s.groups (values_of (without names s.listed)) (values_so (without names s.listed) listed)) in
+      let wanted : List Wanted = wanted_in s.server s.groups (values_of (remove_names names s.listed)) in
+      let d = goes_on_so wanted (reads_of wanted)
+      (wanted_so s.server s.groups (values_of (remove_names names s.listed)) (values_so (remove_names names s.listed) listed)) in
       record { state = record { listed = listed; reads = d.state }; outs = d.outs })
 
   heard_so : (s : RebuildState) (server : ℕ) (metas : List FragMeta) → RebuildOf test s → MetasOf test metas → RebuildOf test (heard_from s server metas)
@@ -202,7 +202,7 @@ module _ (test : LogId → Bool) where
       (λ t. stays (RebuildOf test) OutOf s h)
       (λ t. by_test StateGoes (length (awaited (heard_from s server metas)) == 0) (begun_rebuild (heard_from s server metas) names)
       (still (heard_from s server metas))
-      (λ u. begun_so (heard_from s server metas) names now) (λ u. stays (RebuildOf test) OutOf (heard_from s server metas) now))
+      (λ u. rebuild_begin_so (heard_from s server metas) names now) (λ u. stays (RebuildOf test) OutOf (heard_from s server metas) now))
 
   told_so : (s : RebuildState) (r : Option ReadsState) (ask server : ℕ) (told : Told) → RebuildOf test s → IfSome r (ReadsOf test)
       → StateGoes (told_by s r ask server told)
@@ -241,7 +241,7 @@ module _ (test : LogId → Bool) where
 
   keeps : (first : ShelfState) (what : Do) → ComesOf test what → Keeps first what Shelf (RebuildOf test) (λ (works : List Work). Unit {0}) OutOf SendsOf
   keeps first what new = record {
-    stores = λ packet m came s h. kept_so s m.fragment h (subst (CarriesOf test) came.says (subst (ComesOf test) came.event new));
+    stores = λ packet m came s h. shelf_store_so s m.fragment h (subst (CarriesOf test) came.says (subst (ComesOf test) came.event new));
     fences = λ log pass s h. fenced_so s log pass h;
     deletes = λ packet m came s h. all_filter (FragmentOf test) (λ (f : Fragment). not (same_name m.name f.meta.name)) s.held h;
     fills = λ f so s h. filled_so s f h so;

@@ -3,19 +3,19 @@ use Rattle.std.proofs.Common.{◌≡◌, ◌<◌, ◌≤◌, ℕ, ◌+◌, ◌^�
 use Rattle.std.specs.Prelude.{All, min}
 use Rattle.std.proofs.lemmas.Bool.Decides.{nat_tests}
 use Rattle.std.proofs.lemmas.List.Elements.{All-nil, All-cons, All-append}
-use Rattle.client_log.specs.LogState.{started}
+use Rattle.client_log.specs.LogState.{log_start}
 use Rattle.group_map.specs.GroupMapState.{GroupMapState}
 use Rattle.manager_node.specs.declared.manager.Manager.{Manager}
 use Rattle.manager_node.specs.declared.phase.Phase.{Phase}
 use Rattle.manager_node.specs.declared.phase.Phase.TheVariants.{Down, Waiting, Serving as Serves}
-use Rattle.manager_node.specs.Events.{takes_welcome, on_welcome, on_waiting, on_packet, on_deliver, on_time, on_event, happens}
-use Rattle.manager_node.specs.Phases.{Went_to, lasting_of, phase_has_room, serves, crashes, restarts, wish_at, answers, down_wish, waiting_wish, serving_wish, with_begun, down_item, waiting_item, serving_item, begin_down, begin_waiting, begin_serving, on_begin}
+use Rattle.manager_node.specs.Events.{takes_welcome, on_welcome, on_waiting, on_packet, manager_deliver, on_time, on_event, happens}
+use Rattle.manager_node.specs.Phases.{Went_to, lasting_of, phase_has_room, serves, crash, restart, wish_at, manager_answer, down_wish, waiting_wish, serving_wish, with_begun, down_item, waiting_item, serving_item, begin_down, begin_waiting, begin_serving, on_begin}
 use Rattle.manager_slots.specs.declared.lasting.Lasting.{Lasting as Kept}
-use Rattle.manager_slots.specs.Lasting.{log_of, kept_has_room}
+use Rattle.manager_slots.specs.Lasting.{log_of, lasting_has_room}
 use Rattle.manager_slots.specs.Numbers.{risen}
 use Rattle.manager_serving.specs.Checkpoints.{Done, on_checkpoint}
 use Rattle.manager_serving.specs.declared.serving.Serving.{Serving}
-use Rattle.manager_serving.specs.Serving.{again, on_news, hears, on_tick}
+use Rattle.manager_serving.specs.Serving.{again, on_news, serving_hear, on_tick}
 use Rattle.node_base.specs.Beginning.{next_item, work_at, answers_unanswered}
 use Rattle.node_base.specs.declared.effects.Effect.{Effect}
 use Rattle.node_base.specs.declared.effects.Effect.TheVariants.{Send, Answer as Answers, Lose, Does}
@@ -103,8 +103,8 @@ module _ (g : Setting) (j : ℕ) (fact : g.log ≡ log_of j) where
   still_so : (w : Scene) (p : Phase) → ManagerAgrees g j w p → Went w (still p)
   still_so w p sees = plain_so w p [] sees tt
 
-  answers_so : (w : Scene) (p : Phase) (number : ℕ) (a : Answer) → ManagerAgrees g j w p → Went w (answers p number a)
-  answers_so w p number a sees = plain_so w p (Answers number a ∷ []) sees (tt, tt)
+  manager_answer_so : (w : Scene) (p : Phase) (number : ℕ) (a : Answer) → ManagerAgrees g j w p → Went w (manager_answer p number a)
+  manager_answer_so w p number a sees = plain_so w p (Answers number a ∷ []) sees (tt, tt)
 
   serves_so : (w : Scene) (d : Done) → Goes g j w d → Went w (serves d)
   serves_so w d p = record { next = p.next; grown = p.grown; agrees = p.stands; does = p.does }
@@ -129,8 +129,8 @@ module _ (g : Setting) (j : ℕ) (fact : g.log ≡ log_of j) where
       (all_aside g j w _ (answers_aside kept.items.unanswered answer.Cut)) (tt, tt)
 
   -- one that serves takes the owner with it
-  falls_so : (w : Scene) (s : Serving) (number : ℕ) → Stands g j w s → Went w (crashes s.lasting number)
-  unfolding crashes
+  falls_so : (w : Scene) (s : Serving) (number : ℕ) → Stands g j w s → Went w (crash s.lasting number)
+  unfolding crash
   falls_so w s number h =
       let f : Fall g w.net = fall_of g w.net in
       let v : Scene = record w { net = f.net } in
@@ -146,8 +146,8 @@ module _ (g : Setting) (j : ℕ) (fact : g.log ≡ log_of j) where
       }
 
   -- the owner of one that awaits its Welcome is down already
-  gives_up_so : (w : Scene) (kept : Kept) (number : ℕ) → Awaits g j w kept → Went w (crashes kept number)
-  unfolding crashes
+  gives_up_so : (w : Scene) (kept : Kept) (number : ℕ) → Awaits g j w kept → Went w (crash kept number)
+  unfolding crash
   gives_up_so w kept number h =
       plain_so w _ _
       (record {
@@ -159,9 +159,9 @@ module _ (g : Setting) (j : ℕ) (fact : g.log ≡ log_of j) where
 
   -- ---- restarts
 
-  restarts_so : (w : Scene) (kept : Kept) (number : ℕ) → IsDown g j w kept → has_room kept.inc ≡ true → Went w (restarts kept number)
-  unfolding restarts
-  restarts_so w kept number h room =
+  restart_so : (w : Scene) (kept : Kept) (number : ℕ) → IsDown g j w kept → has_room kept.inc ≡ true → Went w (restart kept number)
+  unfolding restart
+  restart_so w kept number h room =
       plain_so w _ _
       (record {
         lasts = record { number = h.lasts.number; small = risen_small kept.inc; asks = h.lasts.asks };
@@ -190,23 +190,23 @@ module _ (g : Setting) (j : ℕ) (fact : g.log ≡ log_of j) where
 
   down_so : (w : Scene) (kept : Kept) (number : ℕ) (asked : Option Work) → IsDown g j w kept → has_room kept.inc ≡ true
       → Went w (down_wish kept number (wish_at asked))
-  down_so w kept number (Some (work.Restart node)) h room = restarts_so w kept number h room
-  down_so w kept number (Some (work.Crash node)) h room = answers_so w (Down kept) number answer.Down h
-  down_so w kept number (Some _) h room = answers_so w (Down kept) number answer.Down h
-  down_so w kept number None h room = answers_so w (Down kept) number answer.Down h
+  down_so w kept number (Some (work.Restart node)) h room = restart_so w kept number h room
+  down_so w kept number (Some (work.Crash node)) h room = manager_answer_so w (Down kept) number answer.Down h
+  down_so w kept number (Some _) h room = manager_answer_so w (Down kept) number answer.Down h
+  down_so w kept number None h room = manager_answer_so w (Down kept) number answer.Down h
 
   waiting_so : (w : Scene) (kept : Kept) (hello number : ℕ) (asked : Option Work) → Awaits g j w kept → Went w (waiting_wish kept hello number (wish_at asked))
   waiting_so w kept hello number (Some (work.Crash node)) h = gives_up_so w kept number h
-  waiting_so w kept hello number (Some (work.Restart node)) h = answers_so w (Waiting kept hello) number answer.Up h
-  waiting_so w kept hello number (Some _) h = answers_so w (Waiting kept hello) number (answer.Count 0) h
-  waiting_so w kept hello number None h = answers_so w (Waiting kept hello) number (answer.Count 0) h
+  waiting_so w kept hello number (Some (work.Restart node)) h = manager_answer_so w (Waiting kept hello) number answer.Up h
+  waiting_so w kept hello number (Some _) h = manager_answer_so w (Waiting kept hello) number (answer.Count 0) h
+  waiting_so w kept hello number None h = manager_answer_so w (Waiting kept hello) number (answer.Count 0) h
 
   checkpoints_so : (w : Scene) (s : Serving) (number : ℕ) → Stands g j w s → Went w (serves (on_checkpoint s number))
   checkpoints_so w s number h = serves_so w (on_checkpoint s number) (checkpoint_so g j fact w s number h)
 
   serving_so : (w : Scene) (s : Serving) (number : ℕ) (asked : Option Work) → Stands g j w s → Went w (serving_wish s number (wish_at asked))
   serving_so w s number (Some (work.Crash node)) h = falls_so w s number h
-  serving_so w s number (Some (work.Restart node)) h = answers_so w (Serves s) number answer.Up h
+  serving_so w s number (Some (work.Restart node)) h = manager_answer_so w (Serves s) number answer.Up h
   serving_so w s number (Some _) h = checkpoints_so w s number h
   serving_so w s number None h = checkpoints_so w s number h
 
@@ -244,7 +244,7 @@ module _ (g : Setting) (j : ℕ) (fact : g.log ≡ log_of j) where
       lasts = record { number = lasts.number; small = lasts.small; asks = lasts.asks };
       inc = r.inc;
       log = record {
-        owner = r.owner ∙ ap (λ (l : LogId). owner.Serving (started l kept.inc no_end m)) its_log;
+        owner = r.owner ∙ ap (λ (l : LogId). owner.Serving (log_start l kept.inc no_end m)) its_log;
         own = record { log = sym its_log; flight = tt };
       };
       written = anew_written (log_of kept.number) kept.inc m (its_number_is_log kept.number) lasts.small fit;
@@ -281,7 +281,7 @@ module _ (g : Setting) (j : ℕ) (fact : g.log ≡ log_of j) where
         → Went w (on_packet peers p packet)
     heard_so w peers (Down kept) packet h seen fit = still_so w (Down kept) h
     heard_so w peers (Waiting kept hello) packet h seen fit = waits_so w peers kept hello packet.from packet.body h seen fit
-    heard_so w peers (Serves s) packet h seen fit = serves_so w (hears s peers.clients packet) (packet_so g j fact w s peers.clients packet h seen fit)
+    heard_so w peers (Serves s) packet h seen fit = serves_so w (serving_hear s peers.clients packet) (packet_so g j fact w s peers.clients packet h seen fit)
 
     -- ---- all events
 
@@ -293,7 +293,7 @@ module _ (g : Setting) (j : ℕ) (fact : g.log ≡ log_of j) where
 
     event_so : (w : Scene) (peers : Peers) (p : Phase) (what : Do) → ManagerAgrees g j w p → ManagerOwed g j w what → has_room (lasting_of p).inc ≡ true
         → Went w (on_event peers p what)
-    unfolding on_deliver
+    unfolding manager_deliver
     event_so w peers p Begin h owed room = begins_so w p h room
     event_so w peers p (Deliver packet) h owed room =
         by_test (Went w) (is_well_formed peers packet) (on_packet peers p packet) (still p)
@@ -304,7 +304,7 @@ module _ (g : Setting) (j : ℕ) (fact : g.log ≡ log_of j) where
     inc_room : (p : Phase) → phase_has_room p ≡ true → has_room (lasting_of p).inc ≡ true
     inc_room (Down kept) t = and_first (has_room kept.inc) (has_room kept.questions.last) t
     inc_room (Waiting kept hello) t = and_first (has_room kept.inc) (has_room kept.questions.last) t
-    inc_room (Serves s) t = and_first (has_room s.lasting.inc) (has_room s.lasting.questions.last) (and_first (kept_has_room s.lasting) _ t)
+    inc_room (Serves s) t = and_first (has_room s.lasting.inc) (has_room s.lasting.questions.last) (and_first (lasting_has_room s.lasting) _ t)
 
     happens_so : (w : Scene) (m : Manager) (what : Do) → ManagerAgrees g j w m.phase → ManagerOwed g j w what → Went w (happens m what)
     unfolding happens

@@ -2,7 +2,7 @@
 use Rattle.std.proofs.Common.{◌≡◌, ◌<◌, ℕ, zero, suc, ◌+◌, ◌-◌, true, refl, sym, ap, subst, ◌∙◌, arith}
 use Rattle.xfs_base.specs.Limits.{block_logs}
 use Rattle.group_map.specs.GroupMapState.{GroupMapState}
-use Rattle.client_log.specs.LogState.{started}
+use Rattle.client_log.specs.LogState.{log_start}
 use Rattle.log_protocol.specs.Tables.{In}
 use Rattle.log_tie.specs.Setting.{Setting}
 use Rattle.log_law.specs.Net.{Net, no_end}
@@ -57,7 +57,7 @@ module _ (g : Setting) where
     record Renewal (n : Net) : Type 0 where
       net : Net
       happens : Happens g n net
-      owner : net.owner ≡ owner.Serving (started g.log (suc n.inc) no_end m)
+      owner : net.owner ≡ owner.Serving (log_start g.log (suc n.inc) no_end m)
       inc : net.inc ≡ suc n.inc
       same : SameElse n net
 
@@ -74,7 +74,7 @@ module _ (g : Setting) where
     pub record Renewed (n : Net) (life : ℕ) : Type 0 where
       pub net : Net
       pub runs : Runs g n net
-      pub owner : net.owner ≡ owner.Serving (started g.log life no_end m)
+      pub owner : net.owner ≡ owner.Serving (log_start g.log life no_end m)
       pub inc : net.inc ≡ life
       pub same : SameElse n net
 
@@ -86,7 +86,7 @@ module _ (g : Setting) where
         record {
           net = r.net;
           runs = On Begun r.happens;
-          owner = r.owner ∙ ap (λ k. owner.Serving (started g.log k no_end m)) e;
+          owner = r.owner ∙ ap (λ k. owner.Serving (log_start g.log k no_end m)) e;
           inc = r.inc ∙ e;
           same = r.same;
         }
@@ -99,7 +99,7 @@ module _ (g : Setting) where
         record {
           net = q.net;
           runs = runs_on g n f.net q.net (On (On Begun r.happens) f.happens) q.runs;
-          owner = q.owner ∙ ap (λ k. owner.Serving (started g.log k no_end m)) e;
+          owner = q.owner ∙ ap (λ k. owner.Serving (log_start g.log k no_end m)) e;
           inc = q.inc ∙ e;
           same = same_on n f.net q.net same q.same;
         }

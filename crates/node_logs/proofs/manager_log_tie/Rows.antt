@@ -32,7 +32,7 @@ use Rattle.index_pages.specs.Pages.{PagesState, held, rows_on, all_rows, changed
 use Rattle.checkpoint.specs.declared.plan.Plan.{Plan}
 use Rattle.checkpoint.specs.Plan.{writes_all, plan_of}
 use Rattle.checkpoint.specs.WriterState.{Rows}
-use Rattle.slot_beliefs.specs.Index.{Indexed, indexed, indexed_all}
+use Rattle.slot_beliefs.specs.Index.{Indexed, block_index_merge, merge_all}
 use Rattle.takeover.specs.Rows.{is_of, part_rows, told_of}
 use Rattle.token_manager.specs.declared.output.Out.{Out}
 use Rattle.token_manager.specs.declared.output.Out.TheVariants.{Live, Dead}
@@ -77,13 +77,13 @@ merged_in_range rows block entry all (inr none) =
     subst (λ (e : Entry). RowsFit (merged rows block e)) (sym none)
     (subst (λ b. RowsFit (if b then insert_entry block_cmp rows block no_entry else rows)) (sym (nothing_newer (entry_of rows block))) all)
 
-indexed_fit : (i : Indexed) (m : BlockId × Entry) → RowsFit i.rows → IsRowInRange m → RowsFit (indexed i m).rows
-unfolding indexed
+indexed_fit : (i : Indexed) (m : BlockId × Entry) → RowsFit i.rows → IsRowInRange m → RowsFit (block_index_merge i m).rows
+unfolding block_index_merge
 indexed_fit i m all new = merged_in_range i.rows m.0 m.1 all new
 
-pub all_indexed_fit : (i : Indexed) (more : Rows) → RowsFit i.rows → RowsInRange more → RowsFit (indexed_all i more).rows
+pub all_indexed_fit : (i : Indexed) (more : Rows) → RowsFit i.rows → RowsInRange more → RowsFit (merge_all i more).rows
 all_indexed_fit i [] all new = all
-all_indexed_fit i (m ∷ more) all new = all_indexed_fit (indexed i m) more (indexed_fit i m all new.0) new.1
+all_indexed_fit i (m ∷ more) all new = all_indexed_fit (block_index_merge i m) more (indexed_fit i m all new.0) new.1
 
 -- ---- what is held of a block
 

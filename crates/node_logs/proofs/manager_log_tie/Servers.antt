@@ -16,7 +16,7 @@ use Rattle.xfs_base.specs.Stamps.{is_greater}
 use Rattle.xfs_base.specs.Steps.{Stepped, still}
 use Rattle.xfs_base.proofs.Alls.{all_filter, all_map}
 use Rattle.xfs_base.proofs.Leaving.{Leaves, goes_after, stays}
-use Rattle.fragment_store.specs.Calls.{kept, on_fence as fenced_at, on_fill, with_fragment}
+use Rattle.fragment_store.specs.Calls.{shelf_store, on_fence as fenced_at, on_fill, with_fragment}
 use Rattle.fragment_store.specs.ShelfState.{ShelfState, fence_of, held_at, is_held, is_marked, same_name}
 use Rattle.group_rebuild.specs.declared.input.In.{In as Input}
 use Rattle.group_rebuild.specs.declared.input.In.TheVariants as input
@@ -25,10 +25,10 @@ use Rattle.group_rebuild.specs.declared.output.Out.TheVariants as out
 use Rattle.group_rebuild.specs.declared.reads.Present.{Present}
 use Rattle.group_rebuild.specs.declared.wanted.Wanted.{Wanted}
 use Rattle.group_rebuild.specs.Reads as reads
-use Rattle.group_rebuild.specs.Reads.{ReadsState, at_first, answered, asked_again, counts, fetches, go_on, judged, one_more}
+use Rattle.group_rebuild.specs.Reads.{ReadsState, reads_of, answered, asked_again, counts, fetches, go_on, reads_judge, one_more}
 use Rattle.group_rebuild.specs.RebuildState.{RebuildState}
 use Rattle.group_rebuild.specs.Transition as rebuild
-use Rattle.group_rebuild.specs.Transition.{awaited, awaits, begun as begun_rebuild, begun_if_all, heard_from, told_by, repeated, transition, without}
+use Rattle.group_rebuild.specs.Transition.{awaited, awaits, rebuild_begin as begun_rebuild, begun_if_all, heard_from, told_by, repeated, transition, remove_names}
 use Rattle.group_rebuild.specs.Wanted.{refilled, wanted_in}
 use Rattle.std.specs.Map.{values_of}
 use Rattle.store_nodes.specs.ServerEvents.{takes}
@@ -36,7 +36,7 @@ use Rattle.stripe_code.specs.declared.round.RoundState.{RoundState}
 use Rattle.stripe_code.specs.declared.round.RoundState.TheVariants.{Read, Short, Waiting}
 use Rattle.stripe_code.specs.declared.round.Told.{Told}
 use Rattle.stripe_code.specs.declared.round.Told.TheVariants.{Held, Missing}
-use Rattle.stripe_code.specs.Round.{RoundSoFar, state_of, taken}
+use Rattle.stripe_code.specs.Round.{RoundSoFar, state_of, round_take}
 use Rattle.stripe_code.specs.Stripe.{stripe_of}
 use Rattle.version_model.specs.declared.work.Work.{Work}
 use Rattle.wire_msg.specs.declared.body.Body.{Body}
@@ -60,14 +60,14 @@ with_bytes f (h ∷ held) new all =
     by_test (AllByRecursion FragmentFits) (is_greater (seg_cmp f.meta.name h.meta.name)) (h ∷ with_fragment f held) (f ∷ h ∷ held)
     (λ t. (all.0, with_bytes f held new all.1)) (λ t. (new, all))
 
-kept_bytes : (s : ShelfState) (f : Fragment) → ShelfFits s → FragmentFits f → ShelfFits (kept s f)
+kept_bytes : (s : ShelfState) (f : Fragment) → ShelfFits s → FragmentFits f → ShelfFits (shelf_store s f)
 kept_bytes s f h new = by_test ShelfFits (is_held s f.meta.name) s _ (λ t. h) (λ t. with_bytes f s.held new h)
 
 fenced_bytes : (s : ShelfState) (log : LogId) (pass : Pass) → ShelfFits s → ShelfFits (fenced_at s log pass)
 fenced_bytes s log pass h = by_test ShelfFits (is_greater (pass_cmp pass (fence_of s.fences log))) _ s (λ t. h) (λ t. h)
 
 filled_bytes : (s : ShelfState) (f : Fragment) → ShelfFits s → FragmentFits f → ShelfFits (on_fill s f)
-filled_bytes s f h new = by_test ShelfFits (is_marked s.marks f.meta.name) s (kept s f) (λ t. h) (λ t. kept_bytes s f h new)
+filled_bytes s f h new = by_test ShelfFits (is_marked s.marks f.meta.name) s (shelf_store s f) (λ t. h) (λ t. kept_bytes s f h new)
 
 found_bytes : (held : List Fragment) (name : SegName) → AllByRecursion FragmentFits held → IfSome (held_at held name) FragmentFits
 found_bytes [] name all = tt
@@ -103,7 +103,7 @@ refilled_bytes w text bytes =
     All-from_recursion (λ (byte : ℕ). byte < 256) _
     (at_bytes (stripe_of text w.n w.parity) w.place (stripe_bytes text w.n w.parity (All-from_recursion (λ (byte : ℕ). byte < 256) text bytes)))
 
-judged_fits : (r : ReadsState) (w : Wanted) (round : RoundSoFar) (st : RoundState) → RoundFits round → StateBytes st → ReadsGo (judged r w round st)
+judged_fits : (r : ReadsState) (w : Wanted) (round : RoundSoFar) (st : RoundState) → RoundFits round → StateBytes st → ReadsGo (reads_judge r w round st)
 judged_fits r w round (Read text) h bytes =
     goes_after ReadsFit OutFits (out.Fill (refilled w text) ∷ []) (go_on r.left (record r { filled = one_more r.filled })) (refilled_bytes w text bytes, tt)
     (goes_on_fits r.left (record r { filled = one_more r.filled }))
@@ -114,13 +114,13 @@ answered_fits : (r : ReadsState) (present : Option Present) (ask server : ℕ) (
     → ReadsGo (answered r present ask server told)
 answered_fits r None ask server told h here new = stays ReadsFit OutFits r h
 answered_fits r (Some p) ask server told h here new =
-    let now : RoundSoFar = taken p.round server told in
+    let now : RoundSoFar = round_take p.round server told in
     let fit : RoundFits now = taken_fits p.round server told here new in
-    by_test ReadsGo ((ask == r.ask) && counts p server told) (judged r p.wanted now (state_of now)) (still r)
+    by_test ReadsGo ((ask == r.ask) && counts p server told) (reads_judge r p.wanted now (state_of now)) (still r)
     (λ t. judged_fits r p.wanted now (state_of now) fit (state_bytes now fit)) (λ t. stays ReadsFit OutFits r h)
 
-answer_fits : (r : ReadsState) (ask server : ℕ) (told : Told) → ReadsFit r → ToldFits told → ReadsGo (reads.on_answer r ask server told)
-unfolding reads.on_answer
+answer_fits : (r : ReadsState) (ask server : ℕ) (told : Told) → ReadsFit r → ToldFits told → ReadsGo (reads.reads_take r ask server told)
+unfolding reads.reads_take
 answer_fits r ask server told h new = answered_fits r r.present ask server told h h new
 
 again_fits : (ask : ℕ) (p : Option Present) → AllByRecursion OutFits (asked_again ask p)
@@ -135,8 +135,8 @@ StateGoes d = Leaves StateFits OutFits d
 
 begun_fits : (s : RebuildState) (names : List SegName) → StateGoes (begun_rebuild s names)
 begun_fits s names =
-    (let wanted : List Wanted = wanted_in s.server s.groups (values_of (without names s.listed)) in
-    let d = goes_on_fits wanted (at_first wanted) in
+    (let wanted : List Wanted = wanted_in s.server s.groups (values_of (remove_names names s.listed)) in
+    let d = goes_on_fits wanted (reads_of wanted) in
     record { state = d.state; outs = d.outs })
 
 listed_fits : (s : RebuildState) (server : ℕ) (metas : List FragMeta) (names : List SegName) → StateFits s → StateGoes (rebuild.on_listed s server metas names)

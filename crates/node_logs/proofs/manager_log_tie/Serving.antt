@@ -5,11 +5,11 @@ use Rattle.group_map.specs.GroupMapState.{GroupMapState}
 use Rattle.log_owner.specs.Sending.{server_in}
 use Rattle.manager_slots.specs.Lasting.{log_of}
 use Rattle.manager_slots.specs.SlotTable as table
-use Rattle.manager_serving.specs.Checkpoints.{Done, writes, tells_again}
+use Rattle.manager_serving.specs.Checkpoints.{Done, serving_write, serving_tell_again}
 use Rattle.manager_serving.specs.declared.serving.Serving.{Serving}
-use Rattle.manager_serving.specs.Serving.{asker_of, with_slots, with_asker, client_in, fed_log, on_want, on_gave, on_deltas, on_check, on_usage_ask, takes, on_report, answered_by, fetch_of, on_found, on_missing, regroups, hearer_of, hears_with, hears_slots, on_newer, on_news, on_fitting_news, asks_for_maps, on_body, hears, recalls_again, asks_again, on_tick, and_then}
-use Rattle.node_base.specs.Known.{names_known}
-use Rattle.node_base.specs.Maps.{fits, is_older, taken}
+use Rattle.manager_serving.specs.Serving.{asker_of, with_slots, with_asker, client_in, fed_log, on_want, on_gave, on_deltas, on_check, on_usage_ask, serving_take, on_report, answered_by, fetch_of, on_found, on_missing, regroups, hearer_of, hears_with, hear_slots, on_newer, on_news, on_fitting_news, ask_for_maps, on_body, serving_hear, recalls_again, serving_ask_again, on_tick, and_then}
+use Rattle.node_base.specs.Known.{names_known_groups}
+use Rattle.node_base.specs.Maps.{fits, is_older, maps_take}
 use Rattle.takeover.specs.declared.input.In.{In as TakeIn}
 use Rattle.takeover.specs.declared.input.In.TheVariants as take_in
 use Rattle.wire_msg.specs.declared.body.Body.{Body}
@@ -96,9 +96,9 @@ module _ (g : Setting) (j : ℕ) (fact : g.log ≡ log_of j) where
 
   -- ---- takeovers
 
-  take_so : (w : Scene) (s : Serving) (k : ℕ) (given : TakeIn) → Stands g j w s → TakeInFits given → Goes w (takes s k given)
-  unfolding takes
-  take_so w s k given h fit = by_asker w s (table.takes (asker_of s) k given) h (table_takes (asker_of s) k given h.index fit)
+  take_so : (w : Scene) (s : Serving) (k : ℕ) (given : TakeIn) → Stands g j w s → TakeInFits given → Goes w (serving_take s k given)
+  unfolding serving_take
+  take_so w s k given h fit = by_asker w s (table.slot_table_take (asker_of s) k given) h (table_takes (asker_of s) k given h.index fit)
 
   report_so : (w : Scene) (s : Serving) (from : NodeId) (report : Report) → Stands g j w s → Goes w (on_report s from report)
   unfolding on_report
@@ -124,33 +124,33 @@ module _ (g : Setting) (j : ℕ) (fact : g.log ≡ log_of j) where
 
   regroups_so : (w : Scene) (s : Serving) (groups : GroupMapState) → Stands g j w s → Goes w (regroups s groups)
   unfolding regroups
-  regroups_so w s groups h = by_asker w s (table.regroups_all groups (asker_of s)) h (table_regroups groups (asker_of s) h.index)
+  regroups_so w s groups h = by_asker w s (table.slot_table_regroup groups (asker_of s)) h (table_regroups groups (asker_of s) h.index)
 
-  slots_so : (w : Scene) (s : Serving) (clients : ℕ) (slots : List SlotNews) → Stands g j w s → Goes w (hears_slots s clients slots)
-  unfolding hears_slots
+  slots_so : (w : Scene) (s : Serving) (clients : ℕ) (slots : List SlotNews) → Stands g j w s → Goes w (hear_slots s clients slots)
+  unfolding hear_slots
   slots_so w s clients slots h = by s.maps.groups
     where
       by : (groups : Option GroupMapState) → Goes w (hears_with s clients slots groups)
       by None = stays g j w s h
       by (Some groups) =
-          by_asker w s (table.hears_all (hearer_of s clients groups) (asker_of s) slots) h (table_hears (hearer_of s clients groups) (asker_of s) slots h.index)
+          by_asker w s (table.hear_each (hearer_of s clients groups) (asker_of s) slots) h (table_hears (hearer_of s clients groups) (asker_of s) slots h.index)
 
   newer_so : (w : Scene) (s : Serving) (clients : ℕ) (news : News) → Stands g j w s → In (MapSent news.groups) w.net.sent → MapFits news.groups
       → Goes w (on_newer s clients news)
   unfolding on_newer
   newer_so w s clients news h came fit =
       let a : Done = regroups s news.groups in
-      let b : Done = and_then a (λ t. hears_slots t clients news.slots) in
+      let b : Done = and_then a (λ t. hear_slots t clients news.slots) in
       let pa : Goes w a = regroups_so w s news.groups h in
-      let pb : Goes w b = then_goes w a (λ t. hears_slots t clients news.slots) pa (slots_so pa.next a.state clients news.slots pa.stands) in
-      then_goes w b (λ t. writes t (log_in.Maps news.groups)) pb (maps_so g j fact pb.next b.state news.groups pb.stands (pb.grown.sent _ came) fit)
+      let pb : Goes w b = then_goes w a (λ t. hear_slots t clients news.slots) pa (slots_so pa.next a.state clients news.slots pa.stands) in
+      then_goes w b (λ t. serving_write t (log_in.Maps news.groups)) pb (maps_so g j fact pb.next b.state news.groups pb.stands (pb.grown.sent _ came) fit)
 
   pub news_so : (w : Scene) (s : Serving) (clients : ℕ) (news : News) → Stands g j w s → In (MapSent news.groups) w.net.sent → MapFits news.groups
       → frames.Goes g j w (on_news s clients news)
   unfolding on_news
   news_so w s clients news h came fit =
-      by_test (Goes w) (is_older s.maps news) (on_newer (record s { maps = taken s.maps news }) clients news) (hears_slots s clients news.slots)
-      (λ t. newer_so w (record s { maps = taken s.maps news }) clients news
+      by_test (Goes w) (is_older s.maps news) (on_newer (record s { maps = maps_take s.maps news }) clients news) (hear_slots s clients news.slots)
+      (λ t. newer_so w (record s { maps = maps_take s.maps news }) clients news
       (record { lasts = h.lasts; inc = h.inc; log = h.log; written = h.written; writer = h.writer; index = h.index }) came fit)
       (λ t. slots_so w s clients news.slots h)
 
@@ -182,10 +182,10 @@ module _ (g : Setting) (j : ℕ) (fact : g.log ≡ log_of j) where
 
   pub packet_so : (w : Scene) (s : Serving) (clients : ℕ) (packet : Packet) → Stands g j w s
       → BodySeen g (its_asker j w) w.net packet.from (nodes.Manager j) packet.body → InRange packet.body
-      → frames.Goes g j w (hears s clients packet)
-  unfolding hears asks_for_maps
+      → frames.Goes g j w (serving_hear s clients packet)
+  unfolding serving_hear ask_for_maps
   packet_so w s clients packet h seen fit =
-      by_test (Goes w) (names_known s.maps packet.body) (on_body s clients packet.from packet.body) (asks_for_maps s)
+      by_test (Goes w) (names_known_groups s.maps packet.body) (on_body s clients packet.from packet.body) (ask_for_maps s)
       (λ t. body_so w s clients packet.from packet.body h seen fit)
       (λ t. at_once g j w _ _ (record {
         lasts = record { number = h.lasts.number; small = h.lasts.small; asks = h.lasts.asks };
@@ -200,21 +200,21 @@ module _ (g : Setting) (j : ℕ) (fact : g.log ≡ log_of j) where
 
   recalls_so : (w : Scene) (s : Serving) → Stands g j w s → Goes w (recalls_again s)
   unfolding recalls_again
-  recalls_so w s h = by_table w s (table.recalls_all s.slots) h (table_recalls s.slots h.index)
+  recalls_so w s h = by_table w s (table.recall_again s.slots) h (table_recalls s.slots h.index)
 
-  asks_so : (w : Scene) (s : Serving) (polls : Bool) → Stands g j w s → Goes w (asks_again s polls)
-  unfolding asks_again
-  asks_so w s polls h = by_asker w s (table.asks_all polls (asker_of s)) h (table_asks polls (asker_of s) h.index)
+  asks_so : (w : Scene) (s : Serving) (polls : Bool) → Stands g j w s → Goes w (serving_ask_again s polls)
+  unfolding serving_ask_again
+  asks_so w s polls h = by_asker w s (table.slot_table_ask_again polls (asker_of s)) h (table_asks polls (asker_of s) h.index)
 
   pub time_so : (w : Scene) (s : Serving) → Stands g j w s → frames.Goes g j w (on_tick s)
   unfolding on_tick
   time_so w s h =
       let a : Done = recalls_again s in
-      let b : Done = and_then a (λ t. asks_again t true) in
-      let c : Done = and_then b (λ t. asks_again t false) in
-      let d : Done = and_then c (λ t. writes t log_in.Tick) in
+      let b : Done = and_then a (λ t. serving_ask_again t true) in
+      let c : Done = and_then b (λ t. serving_ask_again t false) in
+      let d : Done = and_then c (λ t. serving_write t log_in.Tick) in
       let pa : Goes w a = recalls_so w s h in
-      let pb : Goes w b = then_goes w a (λ t. asks_again t true) pa (asks_so pa.next a.state true pa.stands) in
-      let pc : Goes w c = then_goes w b (λ t. asks_again t false) pb (asks_so pb.next b.state false pb.stands) in
-      let pd : Goes w d = then_goes w c (λ t. writes t log_in.Tick) pc (ticks_so g j fact pc.next c.state pc.stands) in
-      then_goes w d tells_again pd (tells_so g j fact pd.next d.state pd.stands)
+      let pb : Goes w b = then_goes w a (λ t. serving_ask_again t true) pa (asks_so pa.next a.state true pa.stands) in
+      let pc : Goes w c = then_goes w b (λ t. serving_ask_again t false) pb (asks_so pb.next b.state false pb.stands) in
+      let pd : Goes w d = then_goes w c (λ t. serving_write t log_in.Tick) pc (ticks_so g j fact pc.next c.state pc.stands) in
+      then_goes w d serving_tell_again pd (tells_so g j fact pd.next d.state pd.stands)

@@ -1,5 +1,5 @@
 -- The rows of the index of a slot fit, whatever its manager is told of it, and what each grant tells is in range.
-use Rattle.slot_beliefs.specs.Index.{nothing_indexed, indexed_all}
+use Rattle.slot_beliefs.specs.Index.{block_index_new, merge_all}
 use Rattle.token_manager.specs.declared.input.In.{In as Input}
 use Rattle.token_manager.specs.declared.output.Out.{Out}
 use Rattle.token_manager.specs.SlotState.{SlotState}
@@ -34,5 +34,5 @@ pub slot_goes : (s : SlotState) (told : Input) → SlotInFits told → IndexFits
 slot_goes s told fit h = slot_so law s told fit h
 
 -- so do those of a slot that starts with rows that fit
-pub slot_starts : (rows : Rows) → RowsFit rows → RowsFit (indexed_all nothing_indexed rows).rows
-slot_starts rows fit = all_indexed_fit nothing_indexed rows tt (rows_in_range rows fit)
+pub slot_starts : (rows : Rows) → RowsFit rows → RowsFit (merge_all block_index_new rows).rows
+slot_starts rows fit = all_indexed_fit block_index_new rows tt (rows_in_range rows fit)

@@ -7,7 +7,7 @@ use Rattle.checkpoint.specs.declared.input.In.TheVariants as writer_in
 use Rattle.group_map.specs.GroupMapState.{GroupMapState}
 use Rattle.manager_slots.specs.declared.slot_phase.SlotPhase.{SlotPhase}
 use Rattle.manager_slots.specs.declared.slot_phase.SlotPhase.TheVariants as phase
-use Rattle.manager_slots.specs.SlotTable.{Table, Done, TableAsker, Asks, Hearer, all_slots, in_slot, at_slot, on_want, on_gave, on_deltas, on_check, usage_in, on_usage_ask, recalls, recalls_all, in_taken, at_taken, takes, on_report, asks, asks_all, regroups, regroups_all, hears_of, hears, hears_all, begin_one, begin_at, cleaned_phase, named_phase, changed_in, cleaned_at, named_at}
+use Rattle.manager_slots.specs.SlotTable.{Table, Done, TableAsker, Asks, Hearer, all_slots, in_slot, at_slot, on_want, on_gave, on_deltas, on_check, usage_in, on_usage_ask, slot_table_recall, recall_again, in_taken, at_taken, slot_table_take, on_report, slot_table_ask, slot_table_ask_again, regroup_one, slot_table_regroup, hear_of, slot_table_hear, hear_each, begin_one, begin_at, phase_clean, phase_name, changed_in, slot_table_clean, slot_table_name}
 use Rattle.manager_slots.specs.Takeovers as takeovers
 use Rattle.manager_slots.specs.Takeovers.{Asker, asker}
 use Rattle.manager_slots.specs.Tokens as tokens
@@ -74,8 +74,8 @@ table_tells_usage t asked = by (slice_get t asked.slot)
     by None = tt
     by (Some p) = phase_tells_usage p asked
 
-one_recalls : (t : Table) (k : ℕ) → TableFits t → Unit {0} → TableGoes (recalls t k)
-unfolding recalls
+one_recalls : (t : Table) (k : ℕ) → TableFits t → Unit {0} → TableGoes (slot_table_recall t k)
+unfolding slot_table_recall
 one_recalls t k h any = at_slot-goes t k (λ p. tokens.on_tick p k) (λ p here. phase_takes p k slot_in.Tick tt here) h
 
 abbrev Any : {X : Type 0} → X → Type 0
@@ -84,8 +84,8 @@ Any x = Unit {0}
 any_slots : AllByRecursion Any all_slots
 any_slots = all_each Any (λ k. tt) all_slots
 
-pub table_recalls : (t : Table) → TableFits t → TableGoes (recalls_all t)
-table_recalls t h = leaves_each TableFits IsAside Any recalls one_recalls t all_slots h any_slots
+pub table_recalls : (t : Table) → TableFits t → TableGoes (recall_again t)
+table_recalls t h = leaves_each TableFits IsAside Any slot_table_recall one_recalls t all_slots h any_slots
 
 -- ---- takeovers
 
@@ -105,34 +105,34 @@ at_taken-goes a k event one h = by (slice_get a.table k) (all_read SlotFits a.ta
         let d = one (asker p a.questions) here in
         record { state = all_put SlotFits a.table k (event (asker p a.questions)).state.phase d.state h; outs = d.outs }
 
-pub table_takes : (a : TableAsker) (k : ℕ) (given : TakeIn) → TableAskerFits a → TakeInFits given → TableAsks (takes a k given)
-unfolding takes
-table_takes a k given h told = at_taken-goes a k (λ one. takeovers.takes one k given) (λ one here. asker_takes one k given here told) h
+pub table_takes : (a : TableAsker) (k : ℕ) (given : TakeIn) → TableAskerFits a → TakeInFits given → TableAsks (slot_table_take a k given)
+unfolding slot_table_take
+table_takes a k given h told = at_taken-goes a k (λ one. takeovers.takeovers_take one k given) (λ one here. asker_takes one k given here told) h
 
 pub table_reports : (a : TableAsker) (from : NodeId) (report : Report) → TableAskerFits a → TableAsks (on_report a from report)
 unfolding on_report
 table_reports a from report h =
     at_taken-goes a report.slot (λ one. takeovers.on_report one from report) (λ one here. asker_reports one from report here) h
 
-one_asks : (polls : Bool) (a : TableAsker) (k : ℕ) → TableAskerFits a → Any k → TableAsks (asks polls a k)
-unfolding asks
-one_asks polls a k h any = at_taken-goes a k (λ one. takeovers.asks_again one k polls) (λ one here. asker_asks one k polls here) h
+one_asks : (polls : Bool) (a : TableAsker) (k : ℕ) → TableAskerFits a → Any k → TableAsks (slot_table_ask polls a k)
+unfolding slot_table_ask
+one_asks polls a k h any = at_taken-goes a k (λ one. takeovers.takeovers_ask_again one k polls) (λ one here. asker_asks one k polls here) h
 
-pub table_asks : (polls : Bool) (a : TableAsker) → TableAskerFits a → TableAsks (asks_all polls a)
-table_asks polls a h = leaves_each TableAskerFits IsAside Any (asks polls) (one_asks polls) a all_slots h any_slots
+pub table_asks : (polls : Bool) (a : TableAsker) → TableAskerFits a → TableAsks (slot_table_ask_again polls a)
+table_asks polls a h = leaves_each TableAskerFits IsAside Any (slot_table_ask polls) (one_asks polls) a all_slots h any_slots
 
-one_regroups : (groups : GroupMapState) (a : TableAsker) (k : ℕ) → TableAskerFits a → Any k → TableAsks (regroups groups a k)
+one_regroups : (groups : GroupMapState) (a : TableAsker) (k : ℕ) → TableAskerFits a → Any k → TableAsks (regroup_one groups a k)
 one_regroups groups a k h any = table_takes a k (take_in.Maps groups) h tt
 
-pub table_regroups : (groups : GroupMapState) (a : TableAsker) → TableAskerFits a → TableAsks (regroups_all groups a)
-table_regroups groups a h = leaves_each TableAskerFits IsAside Any (regroups groups) (one_regroups groups) a all_slots h any_slots
+pub table_regroups : (groups : GroupMapState) (a : TableAsker) → TableAskerFits a → TableAsks (slot_table_regroup groups a)
+table_regroups groups a h = leaves_each TableAskerFits IsAside Any (regroup_one groups) (one_regroups groups) a all_slots h any_slots
 
-one_hears : (h : Hearer) (a : TableAsker) (news : SlotNews) → TableAskerFits a → Any news → TableAsks (hears h a news)
-unfolding hears
-one_hears h a news before any = at_taken-goes a news.slot (hears_of h news) (λ one here. asker_hears h news one here) before
+one_hears : (h : Hearer) (a : TableAsker) (news : SlotNews) → TableAskerFits a → Any news → TableAsks (slot_table_hear h a news)
+unfolding slot_table_hear
+one_hears h a news before any = at_taken-goes a news.slot (hear_of h news) (λ one here. asker_hears h news one here) before
 
-pub table_hears : (h : Hearer) (a : TableAsker) (slots : List SlotNews) → TableAskerFits a → TableAsks (hears_all h a slots)
-table_hears h a slots before = leaves_each TableAskerFits IsAside Any (hears h) (one_hears h) a slots before (all_each Any (λ news. tt) slots)
+pub table_hears : (h : Hearer) (a : TableAsker) (slots : List SlotNews) → TableAskerFits a → TableAsks (hear_each h a slots)
+table_hears h a slots before = leaves_each TableAskerFits IsAside Any (slot_table_hear h) (one_hears h) a slots before (all_each Any (λ news. tt) slots)
 
 -- ---- checkpoints
 
@@ -144,13 +144,13 @@ changes t k change one h = by (slice_get t k) (all_read SlotFits t k h)
     by None here = h
     by (Some p) here = all_put SlotFits t k (change p) (one p here) h
 
-pub table_cleaned : (t : Table) (k : ℕ) → TableFits t → TableFits (cleaned_at t k)
-unfolding cleaned_at
-table_cleaned t k h = changes t k cleaned_phase cleaned_fits h
+pub table_cleaned : (t : Table) (k : ℕ) → TableFits t → TableFits (slot_table_clean t k)
+unfolding slot_table_clean
+table_cleaned t k h = changes t k phase_clean cleaned_fits h
 
-pub table_named : (t : Table) (k epoch : ℕ) (parts : List SegRef) → TableFits t → TableFits (named_at t k epoch parts)
-unfolding named_at
-table_named t k epoch parts h = changes t k (named_phase epoch parts) (named_fits epoch parts) h
+pub table_named : (t : Table) (k epoch : ℕ) (parts : List SegRef) → TableFits t → TableFits (slot_table_name t k epoch parts)
+unfolding slot_table_name
+table_named t k epoch parts h = changes t k (phase_name epoch parts) (named_fits epoch parts) h
 
 abbrev pub WriterInFits : WriterIn → Type 0
 WriterInFits (writer_in.Begin slot epoch pages parts horizon) = PagesFit pages

@@ -11,7 +11,7 @@ use Rattle.segment_format.specs.Text.{text_of}
 use Rattle.group_map.specs.GroupMapState.{GroupMapState}
 use Rattle.stripe_code.proofs.Pieces.{pieces_bytes}
 use Rattle.stripe_code.specs.Fragments.{fragment_at}
-use Rattle.stripe_code.specs.Stripe.{IsBytes, part_of, zeros, pieces, plain, weighted, sum_onto, parities, stripe_of}
+use Rattle.stripe_code.specs.Stripe.{IsBytes, part_len, zeros, cut_pieces, plain, weighted, sum_onto, parities, stripe_of}
 use Rattle.parity_kernel.specs.Bytewise.{xor_of}
 use Rattle.log_flight.specs.Flights.{FlightState}
 use Rattle.client_log.specs.Transition as log
@@ -91,8 +91,8 @@ each_bytes (f ∷ fs) all = (recursion_from_All (λ (byte : ℕ). byte < 256) f 
 pub stripe_bytes : (text : List ℕ) (n parity : ℕ) → IsBytes text → AllByRecursion Bytes (stripe_of text n parity)
 unfolding stripe_of
 stripe_bytes text n parity bytes =
-    let part : ℕ = part_of (length text) (n - parity) in
-    let fs : List (List ℕ) = pieces (n - parity) part text in
+    let part : ℕ = part_len (length text) (n - parity) in
+    let fs : List (List ℕ) = cut_pieces (n - parity) part text in
     let all : AllByRecursion Bytes fs = each_bytes fs (recursion_from_All IsBytes fs (pieces_bytes (n - parity) part text bytes)) in
     all_append Bytes fs (parities parity part fs) all (parities_bytes parity part fs all)
 

@@ -13,7 +13,7 @@ use Rattle.log_flight.specs.Texts.{HasText}
 use Rattle.log_flight.proofs.ItemTexts.{tested_have_text}
 use Rattle.client_log.specs.declared.input.In.{In as Input}
 use Rattle.client_log.specs.declared.input.In.TheVariants.{Put, Parts, Maps}
-use Rattle.client_log.specs.LogState.{LogState, started}
+use Rattle.client_log.specs.LogState.{LogState, log_start}
 use Rattle.client_log.specs.Transition.{transition}
 use Rattle.log_law.specs.Net.{no_end}
 use Rattle.log_law.specs.Events.{WritesText}
@@ -45,7 +45,7 @@ takes (Maps m) fits = fits
 takes _ fits = tt
 
 -- a log that begins anew
-pub anew_written : (log : LogId) (inc : ℕ) (m : GroupMapState) → IsLog log.0 → inc < 2 ^ 32 → MapFits m → StaysWritten (started log inc no_end m)
+pub anew_written : (log : LogId) (inc : ℕ) (m : GroupMapState) → IsLog log.0 → inc < 2 ^ 32 → MapFits m → StaysWritten (log_start log inc no_end m)
 anew_written log inc m fact small ids later all =
     flies_written log inc no_end m fact small (omega arith, (omega arith, omega arith), omega arith) ids later (all_weaker InputFits Takes takes later all)
 

@@ -8,7 +8,7 @@ use Rattle.xfs_base.proofs.Booleans.{by_test, and_second}
 use Rattle.xfs_base.specs.declared.segment.SegName.{SegName}
 use Rattle.xfs_base.specs.Limits.{block_logs}
 use Rattle.group_map.specs.GroupMapState.{GroupMapState}
-use Rattle.group_map.specs.Groups.{generation_at, generations_after, lost}
+use Rattle.group_map.specs.Groups.{generation_at, generations_after, after_loss}
 use Rattle.group_map.specs.WellFormed.{IsGroupMap}
 use Rattle.log_flight.specs.Fate.{has_server}
 use Rattle.registry.specs.Board.{hears_server}
@@ -104,7 +104,7 @@ module _ (g : Setting) (owner : Asker) (n : Net) (r : RegistryNode) (before : Re
         ∙ sym (get_or-set_other b.groups.generations (v - 1) (u - 1) generation 0
         (λ e. let first : 1 ≤ u = grind (arith, nat_tests) in let k = exists.0 in let apart : u ≢ v = grind (arith, nat_tests) in apart (omega arith))))
 
-    heard : Known (lost b.groups v generation) b.checkpoints
+    heard : Known (after_loss b.groups v generation) b.checkpoints
     heard = record {
       next = record n { registry = put n.registry v generation };
       runs = On Begun (HearsLoss v generation up reached);

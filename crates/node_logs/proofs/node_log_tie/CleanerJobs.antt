@@ -21,13 +21,13 @@ use Rattle.client_log.specs.declared.output.Out.TheVariants as log_out
 use Rattle.client_log.specs.Transition as log
 use Rattle.log_owner.specs.Opening.{stored}
 use Rattle.log_owner.specs.Sending.{fetch}
-use Rattle.node_base.specs.Asking.{drawn, next_ask}
+use Rattle.node_base.specs.Asking.{draw, next_ask}
 use Rattle.wire_msg.specs.declared.body.Body.TheVariants as body
 use Rattle.node_base.specs.declared.effects.Effect.{Effect}
 use Rattle.node_base.specs.declared.effects.Effect.TheVariants.{Send}
 use Rattle.segment_reading.specs.declared.reading.Next.{Next}
 use Rattle.segment_reading.specs.declared.reading.Next.TheVariants as next
-use Rattle.segment_reading.specs.Reading.{ReadingState, to_ask}
+use Rattle.segment_reading.specs.Reading.{ReadingState, reading_unanswered}
 use Rattle.stripe_cleaner.specs.declared.input.In.{In as Input}
 use Rattle.stripe_cleaner.specs.declared.input.In.TheVariants as input
 use Rattle.stripe_cleaner.specs.declared.output.Out.{Out}
@@ -41,11 +41,11 @@ use Rattle.wire_msg.specs.declared.cleaning.Usage.{Usage}
 use Rattle.wire_msg.specs.declared.storage.Deleted.{Deleted}
 use Rattle.wire_msg.specs.declared.storage.Listed.{Listed}
 use Rattle.cleaner_serving.specs.declared.emptying.Emptying.{Emptying}
-use Rattle.cleaner_serving.specs.Jobs.{Done, with_questions, asks_maps, asks_list, asks_usage, checked_in, checks_block, check_sent, asks_check, holds_in, holds, reads, puts, puts_block, moves, deletes, finishes, says, takes_in, job_takes, cleans, on_listed, on_usage, on_live, on_dead, on_deleted, ends_reading, told_in, told_by, confirmed_in, confirmed, after_confirmed, reads_again, after_told, on_told}
+use Rattle.cleaner_serving.specs.Jobs.{Done, with_questions, ask_maps, ask_list, ask_usage, checked_in, emptying_check, check_sent, ask_check, holds_in, emptying_hold, emptying_read, emptying_put, put_block, move_all, emptying_delete, emptying_finish, says, takes_in, emptying_take, emptying_clean, on_listed, on_usage, on_live, on_dead, on_deleted, end_reading, told_in, emptying_hear, confirmed_in, confirmed, after_confirmed, emptying_read_again, after_told, on_told}
 use Rattle.cleaner_job.specs.declared.hand.Hand.{Hand}
 use Rattle.cleaner_job.specs.declared.job.Job.{Job}
-use Rattle.cleaner_job.specs.Hands.{Heard, fetches_for, fetches}
-use Rattle.cleaner_job.specs.Jobs.{job_checks, hand_checks_in, hand_of, is_whole, drops, lists_of, usages_of, check_of, is_out, job_read, hand_hears_in, job_hears, hand_confirmed_in, job_confirmed}
+use Rattle.cleaner_job.specs.Hands.{Heard, hand_fetch, fetches}
+use Rattle.cleaner_job.specs.Jobs.{job_check, hand_checks_in, hand_of, is_whole, act_dropped, lists_of, usages_of, check_of, is_out, note_read, hand_hears_in, job_hear, hand_confirmed_in, job_confirmed}
 use Rattle.cleaner_job.specs.Starting.{cleaner_log}
 use Rattle.log_protocol.specs.Tables.{In}
 use Rattle.log_tie.specs.Setting.{Setting}
@@ -72,16 +72,16 @@ module _ (g : Setting) (owner : Asker) (other : g.log ≡ cleaner_log → ⊥) (
 
   -- ---- what the job asks
 
-  maps_asked : (n : Net) (e : Emptying) (job : Option Job) → EmptyingSeen g n e → IfSome job (JobSeen g n) → Goes n (asks_maps e job)
+  maps_asked : (n : Net) (e : Emptying) (job : Option Job) → EmptyingSeen g n e → IfSome job (JobSeen g n) → Goes n (ask_maps e job)
   maps_asked n e None seen its = stays g owner n e seen
   maps_asked n e (Some job) seen its =
       at_once g owner n _ _ (record { log = seen.log; job = its }) (record { own = λ fact. absurd (away (sym fact)); reached = tt }, tt)
 
-  list_asked : (n : Net) (e : Emptying) (job : Option Job) (server : ℕ) → EmptyingSeen g n e → IfSome job (JobSeen g n) → Goes n (asks_list e job server)
+  list_asked : (n : Net) (e : Emptying) (job : Option Job) (server : ℕ) → EmptyingSeen g n e → IfSome job (JobSeen g n) → Goes n (ask_list e job server)
   list_asked n e None server seen its = stays g owner n e seen
   list_asked n e (Some job) server seen its = at_once g owner n _ _ (record { log = seen.log; job = its }) (tt, tt)
 
-  usage_asked : (n : Net) (e : Emptying) (job : Option Job) (slot : ℕ) → EmptyingSeen g n e → IfSome job (JobSeen g n) → Goes n (asks_usage e job slot)
+  usage_asked : (n : Net) (e : Emptying) (job : Option Job) (slot : ℕ) → EmptyingSeen g n e → IfSome job (JobSeen g n) → Goes n (ask_usage e job slot)
   usage_asked n e None slot seen its = stays g owner n e seen
   usage_asked n e (Some job) slot seen its = at_once g owner n _ _ (record { log = seen.log; job = its }) (tt, tt)
 
@@ -92,7 +92,7 @@ module _ (g : Setting) (owner : Asker) (other : g.log ≡ cleaner_log → ⊥) (
 
   checked_kept : (n : Net) (e : Emptying) (job : Option Job) (block : BlockId) → EmptyingSeen g n e → IfSome job (JobSeen g n)
       → EmptyingSeen g n (checked_in e job block).state
-  unfolding job_checks
+  unfolding job_check
   checked_kept n e None block seen its = seen
   checked_kept n e (Some job) block seen its = record { log = seen.log; job = checks_kept n job e.lasting.questions job.hand block its }
 
@@ -100,16 +100,16 @@ module _ (g : Setting) (owner : Asker) (other : g.log ≡ cleaner_log → ⊥) (
   check_said n e block place None seen = stays g owner n e seen
   check_said n e block place (Some ask) seen = at_once g owner n e _ seen (tt, tt)
 
-  check_asked : (n : Net) (e : Emptying) (block : BlockId) (place : Place) → EmptyingSeen g n e → Goes n (asks_check e block place)
-  unfolding asks_check checks_block
+  check_asked : (n : Net) (e : Emptying) (block : BlockId) (place : Place) → EmptyingSeen g n e → Goes n (ask_check e block place)
+  unfolding ask_check emptying_check
   check_asked n e block place seen =
-      check_said n (checks_block e block).state block place (checks_block e block).ask (checked_kept n e e.job block seen seen.job)
+      check_said n (emptying_check e block).state block place (emptying_check e block).ask (checked_kept n e e.job block seen seen.job)
 
   -- ---- a segment is read
 
-  asked_for : (n : Net) (name : SegName) (reading : Option ReadingState) → Does_all n (fetches_for name reading)
+  asked_for : (n : Net) (name : SegName) (reading : Option ReadingState) → Does_all n (hand_fetch name reading)
   asked_for n name None = tt
-  asked_for n name (Some r) = all_map (CleanerDoes g owner n) (fetch name r.ask) (λ server. tt) (to_ask r)
+  asked_for n name (Some r) = all_map (CleanerDoes g owner n) (fetch name r.ask) (λ server. tt) (reading_unanswered r)
 
   fetched : (n : Net) (hand : Option Hand) → Does_all n (fetches hand)
   fetched n None = tt
@@ -119,9 +119,9 @@ module _ (g : Setting) (owner : Asker) (other : g.log ≡ cleaner_log → ⊥) (
   held n e None seg seen its = seen
   held n e (Some job) seg seen its = record { log = seen.log; job = its }
 
-  read_begun : (n : Net) (e : Emptying) (seg : SegRef) → EmptyingSeen g n e → Goes n (reads e seg)
-  unfolding reads holds
-  read_begun n e seg seen = at_once g owner n (holds e seg) _ (held n e e.job seg seen seen.job) (fetched n (hand_of (holds e seg).job))
+  read_begun : (n : Net) (e : Emptying) (seg : SegRef) → EmptyingSeen g n e → Goes n (emptying_read e seg)
+  unfolding emptying_read emptying_hold
+  read_begun n e seg seen = at_once g owner n (emptying_hold e seg) _ (held n e e.job seg seen seen.job) (fetched n (hand_of (emptying_hold e seg).job))
 
   -- ---- what the node does for it
 
@@ -133,27 +133,27 @@ module _ (g : Setting) (owner : Asker) (other : g.log ≡ cleaner_log → ⊥) (
   all_stored n [] all = tt
   all_stored n (o ∷ outs) all = all_append (CleanerDoes g owner n) (stored o) (flat_map stored outs) (fragment_stored n o all.0) (all_stored n outs all.1)
 
-  put_so : (n : Net) (e : Emptying) (i : LogIn) → EmptyingSeen g n e → Goes n (puts e i)
-  unfolding puts
+  put_so : (n : Net) (e : Emptying) (i : LogIn) → EmptyingSeen g n e → Goes n (emptying_put e i)
+  unfolding emptying_put
   put_so n e i seen =
       let d : OwnDone cleaner_log (log.transition e.log i) = own_log cleaner_log e.log i seen.log in
       at_once g owner n (record e { log = (log.transition e.log i).state }) _ (record { log = d.state; job = seen.job })
       (all_stored n (log.transition e.log i).outs d.outs)
 
-  block_put : (n : Net) (e : Emptying) (one : BlockId × Entry × Option (List ℕ)) → EmptyingSeen g n e → Unit {0} → Goes n (puts_block e one)
-  unfolding puts_block
+  block_put : (n : Net) (e : Emptying) (one : BlockId × Entry × Option (List ℕ)) → EmptyingSeen g n e → Unit {0} → Goes n (put_block e one)
+  unfolding put_block
   block_put n e one seen no_more = put_so n e (log_in.Put one.0 one.1 one.2) seen
 
   nothing_more : {X : Type 0} (xs : List X) → AllByRecursion (λ (x : X). Unit {0}) xs
   nothing_more [] = tt
   nothing_more (x ∷ xs) = (tt, nothing_more xs)
 
-  blocks_moved : (n : Net) (e : Emptying) (blocks : List (BlockId × Entry × Option (List ℕ))) → EmptyingSeen g n e → Goes n (moves e blocks)
-  unfolding moves
+  blocks_moved : (n : Net) (e : Emptying) (blocks : List (BlockId × Entry × Option (List ℕ))) → EmptyingSeen g n e → Goes n (move_all e blocks)
+  unfolding move_all
   blocks_moved n e blocks seen =
-      let d : Done = steps puts_block e blocks in
-      let w : Goes n d = all_steps g owner puts_block (λ m x. Unit {0}) (λ m k later x h. tt) block_put n e blocks seen (nothing_more blocks) in
-      and_then g owner n d (puts d.state log_in.Seal) w (put_so w.next d.state log_in.Seal w.seen)
+      let d : Done = steps put_block e blocks in
+      let w : Goes n d = all_steps g owner put_block (λ m x. Unit {0}) (λ m k later x h. tt) block_put n e blocks seen (nothing_more blocks) in
+      and_then g owner n d (emptying_put d.state log_in.Seal) w (put_so w.next d.state log_in.Seal w.seen)
 
   -- ---- a segment is dropped
 
@@ -192,12 +192,12 @@ module _ (g : Setting) (owner : Asker) (other : g.log ≡ cleaner_log → ⊥) (
             only = λ x fact. inl fact;
           }
 
-  drop_acted : (n : Net) (is_first : Bool) (name : SegName) → (is_of_log g name ≡ true → In name n.dropped) → Does_all n (drops is_first name)
+  drop_acted : (n : Net) (is_first : Bool) (name : SegName) → (is_of_log g name ≡ true → In name n.dropped) → Does_all n (act_dropped is_first name)
   drop_acted n true name acted = (acted, tt)
   drop_acted n false name acted = tt
 
   segment_deleted : (n : Net) (e : Emptying) (job : Option Job) (server : ℕ) (name : SegName) → EmptyingSeen g n e → IfSome job (JobSeen g n)
-      → DropOfLog g n name → Goes n (deletes e job server name)
+      → DropOfLog g n name → Goes n (emptying_delete e job server name)
   segment_deleted n e None server name seen its may = stays g owner n e seen
   segment_deleted n e (Some job) server name seen its may =
       let l : LetGo n name = let_go n name may in
@@ -206,15 +206,15 @@ module _ (g : Setting) (owner : Asker) (other : g.log ≡ cleaner_log → ⊥) (
         drop = l.drop;
         seen = emptying_later g n l.next (run_later g n l.next l.drop.runs) (record e { job = Some (record job { hand = _ }) })
             (record { log = seen.log; job = its });
-        does = all_append (CleanerDoes g owner l.next) (drops (is_whole job.hand) name) _ (drop_acted l.next (is_whole job.hand) name l.acted) (l.said, tt);
+        does = all_append (CleanerDoes g owner l.next) (act_dropped (is_whole job.hand) name) _ (drop_acted l.next (is_whole job.hand) name l.acted) (l.said, tt);
         only = λ x fact. ⊎_elim (λ was. inl was)
             (λ same. inr (
               Server server,
-              in_after (drops (is_whole job.hand) name) _ _ (inl (ap (λ (z : SegName). Send (Server server) (body.Delete (record { name = z }))) same)),
+              in_after (act_dropped (is_whole job.hand) name) _ _ (inl (ap (λ (z : SegName). Send (Server server) (body.Delete (record { name = z }))) same)),
             )) (l.only x fact);
       }
 
-  job_over : (n : Net) (e : Emptying) (count : ℕ) → EmptyingSeen g n e → Goes n (finishes e count)
+  job_over : (n : Net) (e : Emptying) (count : ℕ) → EmptyingSeen g n e → Goes n (emptying_finish e count)
   job_over n e count seen =
       at_once g owner n _ _ (record { log = seen.log; job = tt })
       (answers_send (CleanerDoes g owner n) (λ item answer. tt) e.lasting.items.unanswered (Count count))
@@ -243,8 +243,8 @@ module _ (g : Setting) (owner : Asker) (other : g.log ≡ cleaner_log → ⊥) (
       let on : CleanOn g n (transition job.cleaning given) = cleaning_takes g n job.cleaning given its sent in
       record { seen = record { log = seen.log; job = on.phase }; said = on.outs }
 
-  pub job_goes_on : (n : Net) (e : Emptying) (given : Input) → EmptyingSeen g n e → CleaningSent g n given → Goes n (cleans e given)
-  unfolding cleans job_takes
+  pub job_goes_on : (n : Net) (e : Emptying) (given : Input) → EmptyingSeen g n e → CleaningSent g n given → Goes n (emptying_clean e given)
+  unfolding emptying_clean emptying_take
   job_goes_on n e given seen sent =
       let t : Took n (takes_in e e.job given).state (takes_in e e.job given).outs = took n e e.job given seen seen.job sent in
       all_steps g owner says (OutDrops g) (λ m k later o h. out_later g m k later o h) job_says n (takes_in e e.job given).state
@@ -256,26 +256,26 @@ module _ (g : Setting) (owner : Asker) (other : g.log ≡ cleaner_log → ⊥) (
   unfolding on_listed
   list_came n e None m seen sent = stays g owner n e seen
   list_came n e (Some server) m seen sent =
-      by_test (Goes n) (is_out (lists_of e.job) m.ask) (cleans e (input.Listed server m.held)) (still e)
+      by_test (Goes n) (is_out (lists_of e.job) m.ask) (emptying_clean e (input.Listed server m.held)) (still e)
       (λ t. job_goes_on n e (input.Listed server m.held) seen (all_listed g n m.held sent)) (λ t. stays g owner n e seen)
 
   pub usage_came : (n : Net) (e : Emptying) (m : Usage) → EmptyingSeen g n e → Goes n (on_usage e m)
   unfolding on_usage
   usage_came n e m seen =
-      by_test (Goes n) (is_out (usages_of e.job) m.ask) (cleans e (input.Usage m.slot m.epoch m.counts)) (still e)
+      by_test (Goes n) (is_out (usages_of e.job) m.ask) (emptying_clean e (input.Usage m.slot m.epoch m.counts)) (still e)
       (λ t. job_goes_on n e (input.Usage m.slot m.epoch m.counts) seen tt)
       (λ t. stays g owner n e seen)
 
   pub live_came : (n : Net) (e : Emptying) (m : Live) → EmptyingSeen g n e → Goes n (on_live e m)
   unfolding on_live
   live_came n e m seen =
-      by_test (Goes n) (is_out (check_of (hand_of e.job) m.block) m.ask) (cleans e (input.Live m.block m.epoch m.entry)) (still e)
+      by_test (Goes n) (is_out (check_of (hand_of e.job) m.block) m.ask) (emptying_clean e (input.Live m.block m.epoch m.entry)) (still e)
       (λ t. job_goes_on n e (input.Live m.block m.epoch m.entry) seen tt) (λ t. stays g owner n e seen)
 
   pub dead_came : (n : Net) (e : Emptying) (m : Dead) → EmptyingSeen g n e → Goes n (on_dead e m)
   unfolding on_dead
   dead_came n e m seen =
-      by_test (Goes n) (is_out (check_of (hand_of e.job) m.block) m.ask) (cleans e (input.Dead m.block m.epoch)) (still e)
+      by_test (Goes n) (is_out (check_of (hand_of e.job) m.block) m.ask) (emptying_clean e (input.Dead m.block m.epoch)) (still e)
       (λ t. job_goes_on n e (input.Dead m.block m.epoch) seen tt) (λ t. stays g owner n e seen)
 
   pub deleted_came : (n : Net) (e : Emptying) (server : Option ℕ) (m : Deleted) → EmptyingSeen g n e → Goes n (on_deleted e server m)
@@ -285,14 +285,14 @@ module _ (g : Setting) (owner : Asker) (other : g.log ≡ cleaner_log → ⊥) (
 
   -- ---- the reading of the segment in hand
 
-  read_kept : (n : Net) (job : Option Job) → IfSome job (JobSeen g n) → IfSome (job_read job) (JobSeen g n)
+  read_kept : (n : Net) (job : Option Job) → IfSome job (JobSeen g n) → IfSome (note_read job) (JobSeen g n)
   read_kept n None its = tt
   read_kept n (Some job) its = its
 
-  reading_ended : (n : Net) (e : Emptying) (read : Option Segment) → EmptyingSeen g n e → Goes n (ends_reading e read)
-  unfolding ends_reading
+  reading_ended : (n : Net) (e : Emptying) (read : Option Segment) → EmptyingSeen g n e → Goes n (end_reading e read)
+  unfolding end_reading
   reading_ended n e read seen =
-      job_goes_on n (record e { job = job_read e.job }) (input.Read read) (record { log = seen.log; job = read_kept n e.job seen.job }) tt
+      job_goes_on n (record e { job = note_read e.job }) (input.Read read) (record { log = seen.log; job = read_kept n e.job seen.job }) tt
 
   confirms_hand : (n : Net) (job : Job) (hand : Option Hand) (ask : ℕ) → JobSeen g n job → JobSeen g n (hand_confirmed_in job hand ask).state
   confirms_hand n job None ask its = its
@@ -309,12 +309,12 @@ module _ (g : Setting) (owner : Asker) (other : g.log ≡ cleaner_log → ⊥) (
   confirmed_so n e next.Lost seen = reading_ended n e None seen
   confirmed_so n e _ seen = stays g owner n e seen
 
-  read_again : (n : Net) (e : Emptying) → EmptyingSeen g n e → Goes n (reads_again e)
-  unfolding reads_again confirmed
+  read_again : (n : Net) (e : Emptying) → EmptyingSeen g n e → Goes n (emptying_read_again e)
+  unfolding emptying_read_again confirmed
   read_again n e seen =
-      let h : Heard Emptying = confirmed (with_questions e (drawn e.lasting.questions)) (next_ask e.lasting.questions) in
+      let h : Heard Emptying = confirmed (with_questions e (draw e.lasting.questions)) (next_ask e.lasting.questions) in
       confirmed_so n h.state h.next
-      (confirms n (with_questions e (drawn e.lasting.questions)) e.job (next_ask e.lasting.questions) (record { log = seen.log; job = seen.job }) seen.job)
+      (confirms n (with_questions e (draw e.lasting.questions)) e.job (next_ask e.lasting.questions) (record { log = seen.log; job = seen.job }) seen.job)
 
   told_so : (n : Net) (e : Emptying) (x : Next) → EmptyingSeen g n e → Goes n (after_told e x)
   told_so n e next.Wait seen = stays g owner n e seen
@@ -331,13 +331,13 @@ module _ (g : Setting) (owner : Asker) (other : g.log ≡ cleaner_log → ⊥) (
   hears_told : (n : Net) (e : Emptying) (job : Option Job) (groups : Option GroupMapState) (ask server : ℕ) (t : Told) → EmptyingSeen g n e
       → IfSome job (JobSeen g n)
       → EmptyingSeen g n (told_in e job groups ask server t).state
-  unfolding job_hears
+  unfolding job_hear
   hears_told n e None groups ask server t seen its = seen
   hears_told n e (Some job) None ask server t seen its = seen
   hears_told n e (Some job) (Some groups) ask server t seen its = record { log = seen.log; job = hears_hand n job job.hand groups ask server t its }
 
   pub told_came : (n : Net) (e : Emptying) (server : Option ℕ) (ask : ℕ) (t : Told) → EmptyingSeen g n e → Goes n (on_told e server ask t)
-  unfolding on_told told_by
+  unfolding on_told emptying_hear
   told_came n e None ask t seen = stays g owner n e seen
   told_came n e (Some server) ask t seen =
-      told_so n (told_by e ask server t).state (told_by e ask server t).next (hears_told n e e.job e.maps.groups ask server t seen seen.job)
+      told_so n (emptying_hear e ask server t).state (emptying_hear e ask server t).next (hears_told n e e.job e.maps.groups ask server t seen seen.job)

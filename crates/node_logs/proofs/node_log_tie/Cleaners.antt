@@ -12,7 +12,7 @@ use Rattle.log_owner.specs.declared.opened.Progress.TheVariants as progress
 use Rattle.log_owner.specs.declared.opening.Opening as openings
 use Rattle.log_owner.specs.Opening as opening
 use Rattle.log_owner.specs.Opening.{Went}
-use Rattle.log_owner.specs.Sending.{pushes_all}
+use Rattle.log_owner.specs.Sending.{push_all}
 use Rattle.node_base.specs.Beginning.{next_item, answers_unanswered}
 use Rattle.node_base.specs.declared.effects.Effect.{Effect}
 use Rattle.node_base.specs.Shape.{is_well_formed}
@@ -25,7 +25,7 @@ use Rattle.wire_msg.specs.declared.packet.Packet.{Packet}
 use Rattle.cleaner_serving.specs.declared.emptying.Emptying.{Emptying}
 use Rattle.cleaner_serving.specs.EmptyingEvents.{on_clean, on_packet, on_tick}
 use Rattle.cleaner_serving.specs.Jobs.{Done}
-use Rattle.cleaner_node.specs.CleanerEvents.{Went_to, serves_on, cleaner_start, cleaner_step, crashes, next_life, owner_of, after_opening, opened_on, restarts, down_wishes, opening_wishes, serving_wishes, begun_life, wish_at, down_at, opening_at, serving_at, on_begin, hears, on_deliver, on_time, happens, phase_room, takes}
+use Rattle.cleaner_node.specs.CleanerEvents.{Went_to, serves_on, cleaner_start, cleaner_step, crash, next_life, owner_of, after_opening, opened_on, restart, down_wishes, opening_wishes, serving_wishes, begun_life, wish_at, down_at, opening_at, serving_at, on_begin, cleaner_hear, on_deliver, on_time, happens, phase_has_room, takes}
 use Rattle.cleaner_node.specs.declared.cleaner.Cleaner as cleaners
 use Rattle.cleaner_node.specs.declared.cleaner.Phase.{Phase}
 use Rattle.cleaner_node.specs.declared.cleaner.Phase.TheVariants.{Down, Opening, Serving}
@@ -67,8 +67,8 @@ module _ (g : Setting) (owner : Asker) (other : g.log ≡ cleaner_log → ⊥) (
 
   -- ---- crash and restart
 
-  crashed : (l : Lasting) (number : ℕ) → Goes (crashes l number)
-  unfolding crashes
+  crashed : (l : Lasting) (number : ℕ) → Goes (crash l number)
+  unfolding crash
   crashed l number =
       at_once (Down _) _ tt
       (all_append (CleanerDoes g owner n) (answers_unanswered l.items.unanswered answer.Cut) _ (answers_do l.items.unanswered answer.Cut) (tt, tt))
@@ -78,7 +78,7 @@ module _ (g : Setting) (owner : Asker) (other : g.log ≡ cleaner_log → ⊥) (
   progressed l (progress.Opening o) seen = stays (Opening l o) seen
   progressed l (progress.Opened o) seen =
       at_once (Serving _) _ (record { log = seen; job = tt })
-      (all_append (CleanerDoes g owner n) (pushes_all o.promised.managers o.feed) (answers_unanswered l.items.unanswered answer.Done)
+      (all_append (CleanerDoes g owner n) (push_all o.promised.managers o.feed) (answers_unanswered l.items.unanswered answer.Done)
       (deltas_pushed g owner other away n o.promised.managers o.feed) (answers_do l.items.unanswered answer.Done))
   progressed l (progress.Lost seg) seen = at_once (Down _) _ tt (answers_do l.items.unanswered (answer.Lost seg))
 
@@ -94,8 +94,8 @@ module _ (g : Setting) (owner : Asker) (other : g.log ≡ cleaner_log → ⊥) (
         only = ordered_then g owner n n p.next w.effects (after_opening (record l { questions = w.questions }) w.progress).outs (λ name fact. inl fact) p.only;
       }
 
-  restarted : (servers : ℕ) (l : Lasting) (number : ℕ) → Goes (restarts servers l number)
-  unfolding restarts
+  restarted : (servers : ℕ) (l : Lasting) (number : ℕ) → Goes (restart servers l number)
+  unfolding restart
   restarted servers l number =
       let life : Lasting = next_life l number in
       let w : WentOn g owner other away n (opening.on_start (owner_of life) servers life.questions) =
@@ -140,10 +140,10 @@ module _ (g : Setting) (owner : Asker) (other : g.log ≡ cleaner_log → ⊥) (
 
   -- ---- packets and time
 
-  heard : (p : Phase) (packet : Packet) → CleanerSeen g n p → BodySeen g owner n packet.from TheCleaner packet.body → Goes (hears p packet)
-  unfolding hears
+  heard : (p : Phase) (packet : Packet) → CleanerSeen g n p → BodySeen g owner n packet.from TheCleaner packet.body → Goes (cleaner_hear p packet)
+  unfolding cleaner_hear
   heard (Down l) packet seen sent = stays (Down l) tt
-  heard (Opening l o) packet seen sent = opened l (opening.on_packet o l.questions packet) (opening_hears g owner other away n o l.questions packet seen)
+  heard (Opening l o) packet seen sent = opened l (opening.opening_take o l.questions packet) (opening_hears g owner other away n o l.questions packet seen)
   heard (Serving e) packet seen sent = serves (on_packet e packet) (packet_heard g owner other away n e packet seen sent)
 
   passed : (p : Phase) → CleanerSeen g n p → Goes (on_time p)
@@ -156,12 +156,12 @@ module _ (g : Setting) (owner : Asker) (other : g.log ≡ cleaner_log → ⊥) (
   unfolding on_deliver
   all_events peers p Begin seen owed = item_begun peers.servers p seen
   all_events peers p (Deliver packet) seen owed =
-      by_test Goes (is_well_formed peers packet) (hears p packet) (still p)
+      by_test Goes (is_well_formed peers packet) (cleaner_hear p packet) (still p)
       (λ t. heard p packet seen (subst (λ to. BodySeen g owner n packet.from to packet.body) owed.0 owed.1)) (λ t. stays p seen)
   all_events peers p Tick seen owed = passed p seen
 
   taken_so : (peers : _) (p : Phase) (what : Do) → CleanerSeen g n p → CleanerOwed g owner n what → Goes (takes peers p what)
-  taken_so peers p what seen owed = by_test Goes (phase_room p) (happens peers p what) (still p) (λ t. all_events peers p what seen owed) (λ t. stays p seen)
+  taken_so peers p what seen owed = by_test Goes (phase_has_room p) (happens peers p what) (still p) (λ t. all_events peers p what seen owed) (λ t. stays p seen)
 
   pub cleaner_goes : (cleaner : cleaners.Cleaner) (what : Do) → CleanerSeen g n cleaner.phase → CleanerOwed g owner n what → CleanerGoes g owner n cleaner what
   cleaner_goes cleaner what seen owed =

@@ -10,7 +10,7 @@ use Rattle.xfs_base.specs.declared.fragment.FragMeta.{FragMeta}
 use Rattle.xfs_base.specs.declared.news.SlotNews.{SlotNews}
 use Rattle.xfs_base.specs.Limits.{u32_end}
 use Rattle.stripe_cleaner.specs.Candidates.{horizon_at, least_horizon, is_cleaned, is_candidate}
-use Rattle.stripe_cleaner.specs.Checks.{checks_from}
+use Rattle.stripe_cleaner.specs.Checks.{checks_of}
 use Rattle.stripe_cleaner.specs.CleaningState.{CleaningState}
 use Rattle.stripe_cleaner.specs.declared.checks.Check.{Check}
 use Rattle.stripe_cleaner.specs.declared.input.In.{In as Input}
@@ -88,7 +88,7 @@ module _ (g : Setting) (n : Net) where
     SegmentSo = λ name group. DropOfLog g n name;
     moved = λ block. tt;
     dead = λ block. tt;
-    reads = λ s known. all_each (λ (c : Check). Unit {0}) (λ c. tt) (checks_from 0 s.items);
+    reads = λ s known. all_each (λ (c : Check). Unit {0}) (λ c. tt) (checks_of 0 s.items);
     lives = λ block told entry value same live may h. tt;
     chooses = λ slots meta judges held fact. candidate_seen slots judges meta held fact;
   }

@@ -10,7 +10,7 @@ use Rattle.xfs_base.specs.Segments.{pass_cmp}
 use Rattle.xfs_base.specs.Stamps.{is_greater}
 use Rattle.segment_format.specs.declared.segment.Segment.{Segment}
 use Rattle.group_map.specs.GroupMapState.{GroupMapState}
-use Rattle.fragment_store.specs.Calls.{kept, on_fence}
+use Rattle.fragment_store.specs.Calls.{shelf_store, on_fence}
 use Rattle.fragment_store.specs.ShelfState.{ShelfState, fence_of, is_held, is_marked}
 use Rattle.log_flight.specs.Flights.{FlightState}
 use Rattle.client_log.specs.Transition as log
@@ -52,7 +52,7 @@ module _ (s : ShelfState) where
   unfolding NoLower
   itself_no_lower = omega arith
 
-  kept_no_lower : (f : Fragment) → NoLower s (kept s f)
+  kept_no_lower : (f : Fragment) → NoLower s (shelf_store s f)
   unfolding NoLower
   kept_no_lower f = by_test (NoLower s) (is_held s f.meta.name) s _ (λ t. omega arith) (λ t. omega arith)
 
@@ -62,11 +62,11 @@ module _ (s : ShelfState) where
 
   deed_no_lower : (g : Setting) (n : Net) (v : ℕ) (deed : Deed) → (n.shelves v ≡ s) → CameToServer g n v deed → NoLower s (shelf_after g s deed)
   unfolding NoLower
-  deed_no_lower g n v (Stores f generation) fact came = by_test (NoLower s) (is_stored s f generation) (kept s f) s (λ t. kept_no_lower f) (λ t. omega arith)
+  deed_no_lower g n v (Stores f generation) fact came = by_test (NoLower s) (is_stored s f generation) (shelf_store s f) s (λ t. kept_no_lower f) (λ t. omega arith)
   deed_no_lower g n v (Fetches name) fact came = omega arith
   deed_no_lower g n v (Fences inc) fact came = fence_no_lower g.log (record { inc = inc; att = 0 })
   deed_no_lower g n v (Deletes name) fact came = omega arith
-  deed_no_lower g n v (Fills f) fact came = by_test (NoLower s) (is_marked s.marks f.meta.name) s (kept s f) (λ t. omega arith) (λ t. kept_no_lower f)
+  deed_no_lower g n v (Fills f) fact came = by_test (NoLower s) (is_marked s.marks f.meta.name) s (shelf_store s f) (λ t. omega arith) (λ t. kept_no_lower f)
   deed_no_lower g n v Loses fact came = (let e = ap (λ (t : ShelfState). t.generation) fact in let c : (n.shelves v).generation < u32_end = came in omega arith)
 
 -- ---- what happens

@@ -4,7 +4,7 @@ use Rattle.std.specs.List.{AllByRecursion}
 use Rattle.xfs_base.specs.declared.segment.LogId.{LogId}
 use Rattle.group_map.specs.declared.group.Member.{Member}
 use Rattle.log_flight.specs.Flights.{FlightState}
-use Rattle.log_flight.specs.Fragments.{piece}
+use Rattle.log_flight.specs.Fragments.{flight_fragment}
 use Rattle.client_log.specs.declared.input.In.{In as Input}
 use Rattle.client_log.specs.declared.input.In.TheVariants.{Put, Parts}
 use Rattle.client_log.specs.declared.output.Out.{Out}
@@ -25,8 +25,8 @@ module _ (log : LogId) where
     pub state : IsOfLog log d.state
     pub outs : AllByRecursion SendsOwn d.outs
 
-  sends_own : (f : FlightState) (place : ℕ) (member : Member) → f.segment.name.log ≡ log → SendsOwn (Send (piece f.segment f.group place) member)
-  unfolding piece
+  sends_own : (f : FlightState) (place : ℕ) (member : Member) → f.segment.name.log ≡ log → SendsOwn (Send (flight_fragment f.segment f.group place) member)
+  unfolding flight_fragment
   sends_own f place member named = named
 
   abbrev walk : Walk

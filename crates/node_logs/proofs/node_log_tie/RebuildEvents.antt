@@ -19,9 +19,9 @@ use Rattle.group_rebuild.specs.declared.input.In.TheVariants as input
 use Rattle.group_rebuild.specs.declared.output.Out.{Out}
 use Rattle.group_rebuild.specs.declared.output.Out.TheVariants as out
 use Rattle.group_rebuild.specs.declared.reads.Present.{Present}
-use Rattle.group_rebuild.specs.Reads.{ReadsState, at_first, go_on, asked_again, on_answer}
+use Rattle.group_rebuild.specs.Reads.{ReadsState, reads_of, go_on, asked_again, reads_take}
 use Rattle.group_rebuild.specs.RebuildState.{RebuildState}
-use Rattle.group_rebuild.specs.Transition.{awaits, awaited, listed_with, without, heard_from, begun, begun_if_all, on_listed, told_by, repeated, transition}
+use Rattle.group_rebuild.specs.Transition.{awaits, awaited, listed_with, remove_names, heard_from, rebuild_begin, begun_if_all, on_listed, told_by, repeated, transition}
 use Rattle.group_rebuild.specs.Wanted.{wanted_in}
 use Rattle.log_protocol.specs.Tables.{In}
 use Rattle.log_tie.specs.Setting.{Setting}
@@ -73,7 +73,7 @@ module _ (g : Setting) (n : Net) where
   with_listed [] es metas all = all
   with_listed (m ∷ ms) es metas all = with_listed ms (insert_entry seg_cmp es m.name m) metas.1 (all_insert EntryListed seg_cmp es m.name m (λ q. metas.0) all)
 
-  without_barred : (names : List SegName) (es : List Entry) → AllByRecursion EntryListed es → AllByRecursion EntryListed (without names es)
+  without_barred : (names : List SegName) (es : List Entry) → AllByRecursion EntryListed es → AllByRecursion EntryListed (remove_names names es)
   without_barred [] es all = all
   without_barred (name ∷ names) es all = without_barred names (remove_entry (is_at (seg_cmp name)) es) (all_remove EntryListed (is_at (seg_cmp name)) es all)
 
@@ -87,14 +87,14 @@ module _ (g : Setting) (n : Net) where
       pub rebuild : RebuildSeen g n v s.state
       pub outs : AllByRecursion (OutSeen g n v) s.outs
 
-    begun_seen : (s : RebuildState) (barred : List SegName) → RebuildSeen g n v s → RebuildOn (begun s barred)
+    begun_seen : (s : RebuildState) (barred : List SegName) → RebuildSeen g n v s → RebuildOn (rebuild_begin s barred)
     begun_seen s barred seen =
         let table = without_barred barred s.listed seen.listed in
-        let metas = values_of (without barred s.listed) in
+        let metas = values_of (remove_names barred s.listed) in
         let wanted = subst (λ (server : ℕ). AllByRecursion (WantedSeen g n v) (wanted_in server s.groups metas)) (sym seen.server)
-        (all_wanted g n v s.groups metas seen.groups (values_listed (without barred s.listed) table)) in
-        let on : ReadOn g n v (go_on (wanted_in s.server s.groups metas) (at_first (wanted_in s.server s.groups metas))) =
-        goes_on_seen g n v (wanted_in s.server s.groups metas) (at_first (wanted_in s.server s.groups metas)) wanted in
+        (all_wanted g n v s.groups metas seen.groups (values_listed (remove_names barred s.listed) table)) in
+        let on : ReadOn g n v (go_on (wanted_in s.server s.groups metas) (reads_of (wanted_in s.server s.groups metas))) =
+        goes_on_seen g n v (wanted_in s.server s.groups metas) (reads_of (wanted_in s.server s.groups metas)) wanted in
         record { rebuild = record { server = seen.server; groups = seen.groups; listed = table; reads = on.reads }; outs = on.outs }
 
     listed_seen : (s : RebuildState) (server : ℕ) (metas : List FragMeta) (barred : List SegName) → RebuildSeen g n v s → AllByRecursion (ListedOfLog g n) metas
@@ -107,7 +107,7 @@ module _ (g : Setting) (n : Net) where
       where
         heard : RebuildSeen g n v (heard_from s server metas) → RebuildOn (begun_if_all (heard_from s server metas) barred)
         heard next =
-            by_test RebuildOn (length (awaited (heard_from s server metas)) == 0) (begun (heard_from s server metas) barred) (still (heard_from s server metas))
+            by_test RebuildOn (length (awaited (heard_from s server metas)) == 0) (rebuild_begin (heard_from s server metas) barred) (still (heard_from s server metas))
             (λ t. begun_seen (heard_from s server metas) barred next) (λ t. record { rebuild = next; outs = tt })
 
     told_seen : (s : RebuildState) (r : Option ReadsState) (ask server : ℕ) (told : Told) → RebuildSeen g n v s → IfSome r (ReadsSeen g n v)
@@ -115,7 +115,7 @@ module _ (g : Setting) (n : Net) where
         → RebuildOn (told_by s r ask server told)
     told_seen s None ask server told seen reads sent = record { rebuild = seen; outs = tt }
     told_seen s (Some r) ask server told seen reads sent =
-        let on : ReadOn g n v (on_answer r ask server told) = answer_seen g n v r ask server told reads sent in
+        let on : ReadOn g n v (reads_take r ask server told) = answer_seen g n v r ask server told reads sent in
         record { rebuild = record { server = seen.server; groups = seen.groups; listed = seen.listed; reads = on.reads }; outs = on.outs }
 
     again_seen : (ask : ℕ) (p : Option Present) → AllByRecursion (OutSeen g n v) (asked_again ask p)

@@ -24,14 +24,14 @@ use Rattle.stripe_code.specs.declared.round.RoundState.TheVariants.{Read, Short,
 use Rattle.stripe_code.specs.declared.round.Told.{Told}
 use Rattle.stripe_code.specs.declared.round.Told.TheVariants.{Held, Missing}
 use Rattle.stripe_code.specs.Fragments.{fragment_at}
-use Rattle.stripe_code.specs.Round.{RoundSoFar, asks, has_answered, told_fits, taken, state_of}
+use Rattle.stripe_code.specs.Round.{RoundSoFar, asks, has_answered, told_fits, round_take, state_of}
 use Rattle.stripe_code.specs.Stripe.{IsCut, stripe_of}
 use Rattle.log_flight.specs.Flights.{no_member, server_of}
 use Rattle.group_rebuild.specs.declared.output.Out.{Out}
 use Rattle.group_rebuild.specs.declared.output.Out.TheVariants as out
 use Rattle.group_rebuild.specs.declared.reads.Present.{Present}
 use Rattle.group_rebuild.specs.declared.wanted.Wanted.{Wanted}
-use Rattle.group_rebuild.specs.Reads.{ReadsState, one_more, fetches, go_on, is_of, counts, judged, answered, on_answer}
+use Rattle.group_rebuild.specs.Reads.{ReadsState, one_more, fetches, go_on, is_of, counts, reads_judge, answered, reads_take}
 use Rattle.group_rebuild.specs.Wanted.{in_group, of_group, wanted_of, wanted_in, refilled}
 use Rattle.log_protocol.specs.Tables.{In}
 use Rattle.log_tie.specs.Setting.{Setting, Stripe, stripe_of_group}
@@ -211,7 +211,7 @@ module _ (g : Setting) (n : Net) (v : ℕ) where
 
   judged_seen : (r : ReadsState) (w : Wanted) (round : RoundSoFar) (st : RoundState) → ReadsSeen g n v r → WantedSeen g n v w → RoundSeen g n v w round
       → state_of round ≡ st
-      → ReadOn (judged r w round st)
+      → ReadOn (reads_judge r w round st)
   judged_seen r w round (Read text) seen wanted rounds fact =
       let more = goes_on_seen r.left (record r { filled = one_more r.filled }) seen.left in
       record { reads = more.reads; outs = (filling w round text wanted rounds fact, more.outs) }
@@ -235,8 +235,8 @@ module _ (g : Setting) (n : Net) (v : ℕ) where
   came_too name (b ∷ rest) a all came = (all.0, came_too name rest a all.1 came)
 
   taken_seen : (w : Wanted) (r : RoundSoFar) (server : ℕ) (told : Told) → RoundSeen g n v w r → is_of w told ≡ true → told_fits r told ≡ true → TellsSent told
-      → RoundSeen g n v w (taken r server told)
-  unfolding taken
+      → RoundSeen g n v w (round_take r server told)
+  unfolding round_take
   taken_seen w r server told seen fact fits sent =
       by_test (RoundSeen g n v w) (has_answered r.answers server) r (record r { answers = r.answers ++ record { server = server; told = told } ∷ [] })
       (λ t. seen)
@@ -252,15 +252,15 @@ module _ (g : Setting) (n : Net) (v : ℕ) where
       → ReadOn (answered r present ask server told)
   answered_seen r None ask server told seen present sent = record { reads = seen; outs = tt }
   answered_seen r (Some p) ask server told seen present sent =
-      by_test ReadOn ((ask == r.ask) && counts p server told) (judged r p.wanted (taken p.round server told) (state_of (taken p.round server told))) (still r)
+      by_test ReadOn ((ask == r.ask) && counts p server told) (reads_judge r p.wanted (round_take p.round server told) (state_of (round_take p.round server told))) (still r)
       (λ t.
       let fit = and_second (asks p.round server) (is_of p.wanted told && told_fits p.round told) (and_second (ask == r.ask) (counts p server told) t) in
       let fact = and_first (is_of p.wanted told) (told_fits p.round told) fit in
       let fits = and_second (is_of p.wanted told) (told_fits p.round told) fit in
-      judged_seen r p.wanted (taken p.round server told) (state_of (taken p.round server told)) seen present.wanted
+      judged_seen r p.wanted (round_take p.round server told) (state_of (round_take p.round server told)) seen present.wanted
       (taken_seen p.wanted p.round server told present.round fact fits sent) refl)
       (λ t. record { reads = seen; outs = tt })
 
-  pub answer_seen : (r : ReadsState) (ask server : ℕ) (told : Told) → ReadsSeen g n v r → TellsSent told → ReadOn (on_answer r ask server told)
-  unfolding on_answer
+  pub answer_seen : (r : ReadsState) (ask server : ℕ) (told : Told) → ReadsSeen g n v r → TellsSent told → ReadOn (reads_take r ask server told)
+  unfolding reads_take
   answer_seen r ask server told seen sent = answered_seen r r.present ask server told seen seen.present sent

@@ -7,8 +7,8 @@ use Rattle.xfs_base.specs.declared.node.NodeId.TheVariants.{Registry}
 use Rattle.xfs_base.specs.declared.setup.Setup.{Setup}
 use Rattle.xfs_base.specs.Limits.{u32_end}
 use Rattle.xfs_base.proofs.Alls.{all_map}
-use Rattle.group_map.proofs.WellFormedMaps.{IsGroupMap-started}
-use Rattle.registry.specs.Board.{all_news}
+use Rattle.group_map.proofs.WellFormedMaps.{IsGroupMap-group_map_start}
+use Rattle.registry.specs.Board.{board_slots}
 use Rattle.registry.specs.BoardState.{BoardState}
 use Rattle.registry.specs.Checkpoints.{first_checkpoint, horizon_at}
 use Rattle.registry.specs.declared.checkpoint.Checkpoint.{Checkpoint}
@@ -98,12 +98,12 @@ module _ (g : Setting) (owner : Asker) where
           -- one that answers a question of an opening
           told_opening : (own : ℕ) → owner.asked m.ask ≡ OfOpening own → In (HelloSent m.inc own) n.sent → Welcomed
           told_opening own fact said =
-              let p : Sent = WelcomeSent m.inc own (all_news now) now.groups in
+              let p : Sent = WelcomeSent m.inc own (board_slots now) now.groups in
               let next : Net = record n { sent = p ∷ n.sent } in
               record {
                 next = next;
                 runs = On Begun
-                    (Welcomes m.inc own (all_news now) now.groups said (sym seen.low)
+                    (Welcomes m.inc own (board_slots now) now.groups said (sym seen.low)
                     (whole_map now.groups seen.map g seen.size seen.named n.registry seen.known));
                 seen = resent n now (p ∷ n.sent) seen;
                 does = (
@@ -204,7 +204,7 @@ pub registry_begins : (g : Setting) (n : Net) (setup : Setup) (items : List Work
     → NamesGroups g (registry_start setup items).board.groups
     → ((v : ℕ) → n.registry v ≡ 1) → n.low ≡ 1 → RegistrySeen g n (registry_start setup items).board
 registry_begins g n setup items ok size named registry low = record {
-  map = IsGroupMap-started setup.servers setup.groups ok.count.0 (let c = ok.count.1 in omega arith) ok.sizes ok.exist ok.differ ok.parity;
+  map = IsGroupMap-group_map_start setup.servers setup.groups ok.count.0 (let c = ok.count.1 in omega arith) ok.sizes ok.exist ok.differ ok.parity;
   size = size;
   named = named;
   known = λ v has. registry v

@@ -19,7 +19,7 @@ use Rattle.group_rebuild.specs.Transition.{transition}
 use Rattle.node_base.specs.declared.items.Items.{Items}
 use Rattle.node_base.specs.declared.maps.Maps.{Maps}
 use Rattle.node_base.specs.declared.questions.Questions.{Questions}
-use Rattle.node_base.specs.Maps.{is_older, taken}
+use Rattle.node_base.specs.Maps.{is_older, maps_take}
 use Rattle.node_base.specs.Room.{has_room}
 use Rattle.version_model.specs.declared.answer.Answer.TheVariants as answers
 use Rattle.version_model.specs.declared.work.Work.{Work}
@@ -30,7 +30,7 @@ use Rattle.wire_msg.specs.declared.packet.Packet.{Packet}
 use Rattle.wire_msg.specs.declared.registry.News.{News}
 use Rattle.store_nodes.specs.declared.server.Rebuilding.{Rebuilding}
 use Rattle.store_nodes.specs.declared.server.Server as nodes
-use Rattle.store_nodes.specs.Rebuilds.{Done, lists_asked, fetch_asked, says, goes_on, rebuilds}
+use Rattle.store_nodes.specs.Rebuilds.{Done, ask_list, ask_fragment, says, goes_on, rebuilds}
 use Rattle.store_nodes.specs.ServerEvents.{server_start, hello_of, takes}
 use Rattle.node_moves.proofs.server_moves.Events.{server_events_are_moves}
 use Rattle.node_moves.specs.server_moves.Moves.{Brought, Came, Given, Move, Moves, news_in}
@@ -66,12 +66,12 @@ module _ (g : Setting) (owner : Asker) (v : ℕ) (some : 0 < v) (other : owner.n
 
   -- ---- what a rebuild says
 
-  asked_seen : (n : Net) (r : Option Rebuilding) (server : ℕ) → AllByRecursion (EffectSeen g owner n (Server v)) (lists_asked r server)
+  asked_seen : (n : Net) (r : Option Rebuilding) (server : ℕ) → AllByRecursion (EffectSeen g owner n (Server v)) (ask_list r server)
   asked_seen n None server = tt
   asked_seen n (Some r) server = (tt, tt)
 
   fetch_went : (n : Net) (node : nodes.Server) (r : Option Rebuilding) (server : ℕ) (name : SegName) (own : ℕ) → ServerSeen g n v node
-      → IfSome r (λ (z : Rebuilding). RebuildSeen g n v z.rebuild) → Goes n (fetch_asked node r server name own)
+      → IfSome r (λ (z : Rebuilding). RebuildSeen g n v z.rebuild) → Goes n (ask_fragment node r server name own)
   fetch_went n node None server name own seen rebuild = stays g owner v n node seen
   fetch_went n node (Some r) server name own seen rebuild =
       went_still g owner v n _ _ (record { number = seen.number; shelf = seen.shelf; maps = seen.maps; rebuild = rebuild }) (tt, tt)
@@ -112,7 +112,7 @@ module _ (g : Setting) (owner : Asker) (v : ℕ) (some : 0 < v) (other : owner.n
       record { own = λ same. absurd (other (sym same)); reached = (let e = ap (λ (t : ShelfState). t.generation) fact in omega arith) }
 
   -- maps of which it is known that they name stripes, or none
-  taken_name : (maps : Maps) (news : News) → IfSome maps.groups (NamesStripes g) → NamesStripes g news.groups → IfSome (taken maps news).groups (NamesStripes g)
+  taken_name : (maps : Maps) (news : News) → IfSome maps.groups (NamesStripes g) → NamesStripes g news.groups → IfSome (maps_take maps news).groups (NamesStripes g)
   taken_name maps news old new = by_test (λ (m : Maps). IfSome m.groups (NamesStripes g)) (is_older maps news) _ maps (λ t. new) (λ t. old)
 
   -- a server with other fields, where those that are seen are the same
@@ -162,8 +162,8 @@ module _ (g : Setting) (owner : Asker) (v : ℕ) (some : 0 < v) (other : owner.n
     move_went node d (Deletes packet m came) n later seen =
         deletes_went g owner v some n first seen packet.from m (body_came n later packet (body.Delete m) came)
     move_went node d (TakesMaps packet news brought) n later seen =
-        went_still g owner v n (record node { maps = taken node.maps news }) []
-        (with_maps g n v node seen (taken node.maps news) (taken_name node.maps news seen.maps (maps_came packet news brought))) tt
+        went_still g owner v n (record node { maps = maps_take node.maps news }) []
+        (with_maps g n v node seen (maps_take node.maps news) (taken_name node.maps news seen.maps (maps_came packet news brought))) tt
     move_went node d (BeginsRebuild lists groups fact) n later seen =
         went_still g owner v n _ []
         (record {

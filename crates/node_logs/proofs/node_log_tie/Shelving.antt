@@ -18,7 +18,7 @@ use Rattle.xfs_base.specs.Stamps.{is_greater}
 use Rattle.xfs_base.specs.Steps.{still, saying}
 use Rattle.xfs_base.proofs.Alls.{all_append, all_weaker}
 use Rattle.xfs_base.proofs.SegmentNames.{one_name}
-use Rattle.fragment_store.specs.Calls.{store_refused, kept, on_fence as fenced_at, on_delete as without, on_fill, on_lose as lost, on_list as listed_on}
+use Rattle.fragment_store.specs.Calls.{refusal, shelf_store, on_fence as fenced_at, on_delete as without, on_fill, on_lose as lost, on_list as listed_on}
 use Rattle.fragment_store.specs.declared.store_error.StoreError.{StoreError}
 use Rattle.fragment_store.specs.ShelfState.{ShelfState, same_name, held_at, fence_of}
 use Rattle.node_base.specs.declared.effects.Effect.{Effect}
@@ -149,11 +149,11 @@ module _ (g : Setting) (owner : Asker) (v : ℕ) where
     abbrev store_done : NodeId → Store → Option StoreError → Done
     store_done from m o =
         cond (is_some o) (still node) (record {
-          state = record node { shelf = kept node.shelf m.fragment };
+          state = record node { shelf = shelf_store node.shelf m.fragment };
           outs = Send from (body.Stored (record { name = m.fragment.meta.name; index = m.fragment.meta.index; generation = m.generation })) ∷ [];
         })
 
-    is_kept : (m : Store) → store_refused node.shelf m.fragment.meta.name m.generation ≡ None → is_stored (n.shelves v) m.fragment m.generation ≡ true
+    is_kept : (m : Store) → refusal node.shelf m.fragment.meta.name m.generation ≡ None → is_stored (n.shelves v) m.fragment m.generation ≡ true
     is_kept m fact = ap (λ t. is_stored t m.fragment m.generation) seen.shelf ∙ ap (λ o. is_none o) fact
 
     stored_said : (m : Store) → is_stored (n.shelves v) m.fragment m.generation ≡ true → is_of_log g m.fragment.meta.name ≡ true
@@ -164,15 +164,15 @@ module _ (g : Setting) (owner : Asker) (v : ℕ) where
         (subst (λ t. In p (cond (true && t) (p ∷ []) [] ++ n.sent)) (sym kept_it) (inl refl))
 
     store_went : (from : NodeId) (m : Store) (o : Option StoreError) → CameToServer g n v (Stores m.fragment m.generation)
-        → store_refused node.shelf m.fragment.meta.name m.generation ≡ o → Went n (store_done from m o)
+        → refusal node.shelf m.fragment.meta.name m.generation ≡ o → Went n (store_done from m o)
     store_went from m (Some e) came fact = stays n node seen
     store_went from m None came fact =
-        deed_went (Stores m.fragment m.generation) (kept node.shelf m.fragment) _ came (ap (λ o. cond (is_none o) (kept node.shelf m.fragment) node.shelf) fact)
+        deed_went (Stores m.fragment m.generation) (shelf_store node.shelf m.fragment) _ came (ap (λ o. cond (is_none o) (shelf_store node.shelf m.fragment) node.shelf) fact)
         (stored_said m (is_kept m fact), tt)
 
     pub stores_went : (from : NodeId) (m : Store) → CameToServer g n v (Stores m.fragment m.generation) → Went n (on_store node from m)
     unfolding on_store
-    stores_went from m came = store_went from m (store_refused node.shelf m.fragment.meta.name m.generation) came refl
+    stores_went from m came = store_went from m (refusal node.shelf m.fragment.meta.name m.generation) came refl
 
     -- ---- a Fetch
 

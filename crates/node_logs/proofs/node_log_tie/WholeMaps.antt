@@ -10,7 +10,7 @@ use Rattle.xfs_base.proofs.Booleans.{by_test}
 use Rattle.group_map.specs.declared.group.Group.{Group}
 use Rattle.group_map.specs.declared.group.Member.{Member}
 use Rattle.group_map.specs.GroupMapState.{GroupMapState}
-use Rattle.group_map.specs.Groups.{group_of, generation_at, current_ids, chosen}
+use Rattle.group_map.specs.Groups.{group_of, generation_at, current_ids, group_map_choose}
 use Rattle.group_map.specs.Sizes.{is_group_size}
 use Rattle.group_map.specs.WellFormed.{IsServer, IsGroupMap}
 use Rattle.group_map.specs.WellFormed as stripes
@@ -61,21 +61,21 @@ module _ (m : GroupMapState) (ok : IsGroupMap m) where
   among : (log seq : ℕ) → (log + seq) % length (current_ids m.groups) < length (current_ids m.groups)
   among log seq = mod-lt (log + seq) (some_current m.groups ok.current)
 
-  choice : (log seq : ℕ) → IsSomeAnd (group_of m (chosen m.groups log seq)) (λ (x : Group). IsTrue x.current)
+  choice : (log seq : ℕ) → IsSomeAnd (group_of m (group_map_choose m.groups log seq)) (λ (x : Group). IsTrue x.current)
   choice log seq = IsCurrent-chosen 1 m.groups ((log + seq) % length (current_ids m.groups)) ok.by_id (among log seq)
 
-  chosen_at : (log seq : ℕ) (o : Option Group) → group_of m (chosen m.groups log seq) ≡ o → IsSomeAnd o (λ (x : Group). IsTrue x.current) → Chosen log seq
+  chosen_at : (log seq : ℕ) (o : Option Group) → group_of m (group_map_choose m.groups log seq) ≡ o → IsSomeAnd o (λ (x : Group). IsTrue x.current) → Chosen log seq
   unfolding group_for
   chosen_at log seq None fact some = absurd some
   chosen_at log seq (Some group) fact current = record {
     group = group;
     picked = ap (λ o. unwrap_or o no_group) fact;
-    found = subst (λ id. group_of m id ≡ Some group) (sym (has_its_id m (chosen m.groups log seq) group fact)) fact;
+    found = subst (λ id. group_of m id ≡ Some group) (sym (has_its_id m (group_map_choose m.groups log seq) group fact)) fact;
     current = current;
   }
 
   pub the_chosen : (log seq : ℕ) → Chosen log seq
-  the_chosen log seq = chosen_at log seq (group_of m (chosen m.groups log seq)) refl (choice log seq)
+  the_chosen log seq = chosen_at log seq (group_of m (group_map_choose m.groups log seq)) refl (choice log seq)
 
   -- ---- its members
 

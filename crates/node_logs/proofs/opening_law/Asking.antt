@@ -19,8 +19,8 @@ use Rattle.log_owner.specs.declared.opening.Scanning.{Scanning}
 use Rattle.log_owner.specs.declared.opening.Settling.{Settling}
 use Rattle.log_owner.specs.declared.opening.Stage.{Stage}
 use Rattle.log_owner.specs.declared.opening.Stage.TheVariants as stage
-use Rattle.log_owner.specs.Opening.{Went, Moved, went, stays, drops, at_scan, nothing_asked, said, scanned, written, opens, writes, behind, settles_over, follows, scans_on, scans_at, scans, welcomed_with, welcomed, welcomed_as, is_meant, on_welcome, regrouped, on_news, is_fenced, fenced_by, by_server, on_fenced, own_in, answers, found_by, missing_by, on_found, on_missing, on_stored, on_tick, on_body, on_packet}
-use Rattle.log_owner.specs.Promised.{promised_in}
+use Rattle.log_owner.specs.Opening.{Went, Moved, went, stays, drops, known_scanning, nothing_asked, sent_send, scanned, written, known_go_on, known_write, behind, settles_over, known_follow, scans_on, scans_at, scans, welcomed_with, welcomed, welcomed_as, is_meant, on_welcome, regrouped, on_news, is_fenced, fenced_by, by_server, on_fenced, own_in, answers, found_by, missing_by, on_found, on_missing, on_stored, on_tick, on_body, opening_take}
+use Rattle.log_owner.specs.Promised.{promised_of}
 use Rattle.log_owner.specs.Sending.{server_in}
 use Rattle.log_scan.specs.declared.input.In.{In}
 use Rattle.log_scan.specs.declared.input.In.TheVariants as input
@@ -28,11 +28,11 @@ use Rattle.log_scan.specs.declared.output.Out.{Out}
 use Rattle.log_scan.specs.declared.output.Out.TheVariants.{Hello, Fence, Fetch, Chain, Lost}
 use Rattle.log_scan.specs.declared.stage.Stage.TheVariants.{Reads}
 use Rattle.log_scan.specs.Transition as scan
-use Rattle.node_base.specs.Asking.{drawn, drawn_for, asked_as, own_of}
+use Rattle.node_base.specs.Asking.{draw, drawn_for, asked_as, own_of}
 use Rattle.node_base.specs.declared.questions.Asked.{Asked}
 use Rattle.node_base.specs.declared.questions.Questions.{Questions}
-use Rattle.node_base.specs.Known.{names_known}
-use Rattle.node_base.specs.Maps.{fits, is_older, taken}
+use Rattle.node_base.specs.Known.{names_known_groups}
+use Rattle.node_base.specs.Maps.{fits, is_older, maps_take}
 use Rattle.node_base.specs.Room.{has_room}
 use Rattle.node_base.specs.Shape.{is_log}
 use Rattle.wire_msg.specs.declared.body.Body.{Body}
@@ -53,7 +53,7 @@ last_drawn : (k : ℕ) → has_room k ≡ true → k + 1 ≤ cond (nat_lt k u32_
 last_drawn k room = grind (arith, nat_tests)
 
 for_more : (a : Asked) (q : Questions) (own : ℕ) → q.last ≤ (drawn_for a q own).last
-for_more a q own = by_test (λ (p : Questions). q.last ≤ p.last) (own == a.own) q (drawn q) (λ t. omega arith) (λ t. last_rises q.last)
+for_more a q own = by_test (λ (p : Questions). q.last ≤ p.last) (own == a.own) q (draw q) (λ t. omega arith) (λ t. last_rises q.last)
 
 -- a number that is above another isn't the same
 apart : (n m : ℕ) → m < n → (n == m) ≡ true → ⊥
@@ -61,7 +61,7 @@ apart n m less t = grind (arith, nat_tests)
 
 for_new : (a : Asked) (q : Questions) (own : ℕ) → a.own < own → has_room q.last ≡ true → q.last + 1 ≤ (drawn_for a q own).last
 for_new a q own less room =
-    by_test (λ (p : Questions). q.last + 1 ≤ p.last) (own == a.own) q (drawn q) (λ t. absurd (apart own a.own less t)) (λ t. last_drawn q.last room)
+    by_test (λ (p : Questions). q.last + 1 ≤ p.last) (own == a.own) q (draw q) (λ t. absurd (apart own a.own less t)) (λ t. last_drawn q.last room)
 
 -- what is left where a scan said so much: it asked by no later number, and none of the node's is lost
 record Left (limit : ℕ) (q : Questions) (a : Asked) (p : Questions) : Type 0 where
@@ -70,9 +70,9 @@ record Left (limit : ℕ) (q : Questions) (a : Asked) (p : Questions) : Type 0 w
 
 said_left : (owner : Owner) (low limit : ℕ) (a : Asked) (q : Questions) (e : _) (outs : List Out) → AllByRecursion (UpTo limit) outs → a.own ≤ limit
     → (start : Questions) → start.last ≤ q.last
-    → Left limit start (steps (said owner low) (record { asked = a; questions = q; ended = e }) outs).state.asked
-    (steps (said owner low) (record { asked = a; questions = q; ended = e }) outs).state.questions
-unfolding said
+    → Left limit start (steps (sent_send owner low) (record { asked = a; questions = q; ended = e }) outs).state.asked
+    (steps (sent_send owner low) (record { asked = a; questions = q; ended = e }) outs).state.questions
+unfolding sent_send
 said_left owner low limit a q e [] up past start more = record { past = past; more = more }
 said_left owner low limit a q e (Hello own ∷ outs) up past start more =
     said_left owner low limit (asked_as a q own) (drawn_for a q own) e outs up.1 up.0 start (let m = for_more a q own in omega arith)
@@ -85,8 +85,8 @@ said_left owner low limit a q e (Lost name ∷ outs) up past start more = said_l
 -- where the first thing is asked by a new question, one more of the node's is drawn
 said_draws : (owner : Owner) (low limit : ℕ) (a : Asked) (q : Questions) (e : _) (outs : List Out) → AllByRecursion (UpTo limit) outs → AsksBy limit outs
     → a.own < limit
-    → has_room q.last ≡ true → q.last + 1 ≤ (steps (said owner low) (record { asked = a; questions = q; ended = e }) outs).state.questions.last
-unfolding said
+    → has_room q.last ≡ true → q.last + 1 ≤ (steps (sent_send owner low) (record { asked = a; questions = q; ended = e }) outs).state.questions.last
+unfolding sent_send
 said_draws owner low limit a q e [] up asks less room = absurd asks
 said_draws owner low limit a q e (Hello own ∷ outs) up asks less room =
     let l = said_left owner low limit (asked_as a q own) (drawn_for a q own) e outs up.1 up.0 (drawn_for a q own) (omega arith) in
@@ -156,32 +156,32 @@ module _ (owner : Owner) (q : Questions) (s : Scanning) (room : has_room q.last 
   step_few i =
       ⊎_elim (says_few i (says_so s.scan.opening s.scan.stage i h.reads))
       (λ v. vain_few (scan.transition s.scan i) v.0 v.1
-      (subst (λ st. Still s.scan.opening (Reads v.0.back (Some v.0.round)) (scan.takes s.scan.opening st i)) (sym v.0.reads)
+      (subst (λ st. Still s.scan.opening (Reads v.0.back (Some v.0.round)) (scan.opening_take s.scan.opening st i)) (sym v.0.reads)
       (still_so s.scan.opening v.0.back v.0.round v.0.asking v.0.nobody i)))
       h.few
 
 -- ---- what is next
 
-opens_few : (k : Known) (s : Settling) (e : Option End) (last : ℕ) → ProgressAsks (opens k s e).state last
+opens_few : (k : Known) (s : Settling) (e : Option End) (last : ℕ) → ProgressAsks (known_go_on k s e).state last
 opens_few k s None last = tt
 opens_few k s (Some end) last = tt
 
-writes_few : (k : Known) (s : Settling) (i : LogIn) (last : ℕ) → ProgressAsks (writes k s i).state last
-unfolding writes
+writes_few : (k : Known) (s : Settling) (i : LogIn) (last : ℕ) → ProgressAsks (known_write k s i).state last
+unfolding known_write
 writes_few k s i last = opens_few k (record s { log = (log.transition s.log i).state }) (written (log.transition s.log i).outs).state last
 
 starts_few_log : (k : Known) (s : Scanning) (chain : _) (m : Option GroupMapState) (last : ℕ) → ScanAsks s last
     → ProgressAsks (settles_over k s chain m).state last
 starts_few_log k s chain None last h = h
 starts_few_log k s chain (Some groups) last h =
-    by_test (λ (x : Moved). ProgressAsks x.state last) (is_log k.owner.log.0) (writes k (behind k chain groups) (log_in.Parts [])) (still (at_scan k s))
+    by_test (λ (x : Moved). ProgressAsks x.state last) (is_log k.owner.log.0) (known_write k (behind k chain groups) (log_in.Parts [])) (still (known_scanning k s))
     (λ t. writes_few k (behind k chain groups) (log_in.Parts []) last) (λ t. h)
 
 ends_few : (its : Owner) (low : ℕ) (a : Asked) (q : Questions) (e : _) (outs : List Out)
-    → ((k : Known) (s : Scanning) (last : ℕ) → ScanAsks s last → ProgressAsks (follows k s e).state last)
+    → ((k : Known) (s : Scanning) (last : ℕ) → ScanAsks s last → ProgressAsks (known_follow k s e).state last)
     → (k : Known) (s : Scanning) (last : ℕ) → ScanAsks s last
-    → ProgressAsks (follows k s (steps (said its low) (record { asked = a; questions = q; ended = e }) outs).state.ended).state last
-unfolding follows said
+    → ProgressAsks (known_follow k s (steps (sent_send its low) (record { asked = a; questions = q; ended = e }) outs).state.ended).state last
+unfolding known_follow sent_send
 ends_few its low a q e [] ends = ends
 ends_few its low a q e (Hello own ∷ outs) ends = ends_few its low (asked_as a q own) (drawn_for a q own) e outs ends
 ends_few its low a q e (Fence server ∷ outs) ends = ends_few its low a q e outs ends
@@ -189,8 +189,8 @@ ends_few its low a q e (Fetch server name own ∷ outs) ends = ends_few its low 
 ends_few its low a q e (Chain segments end prior ∷ outs) ends = ends_few its low a q _ outs (λ k s last h. starts_few_log k s _ k.maps.groups last h)
 ends_few its low a q e (Lost name ∷ outs) ends = ends_few its low a q _ outs (λ k s last h. tt)
 
-none_ends : (k : Known) (s : Scanning) (last : ℕ) → ScanAsks s last → ProgressAsks (follows k s None).state last
-unfolding follows
+none_ends : (k : Known) (s : Scanning) (last : ℕ) → ScanAsks s last → ProgressAsks (known_follow k s None).state last
+unfolding known_follow
 none_ends k s last h = h
 
 -- ---- the events
@@ -213,13 +213,13 @@ module _ (q : Questions) (room : has_room q.last ≡ true) where
       → AsksOn (welcomed_with k q s news own groups)
   welcome_with k s news own None h = h
   welcome_with k s news own (Some groups) h =
-      scan_few (record k { promised = promised_in news.slots }) (record s { asked = nothing_asked }) (input.Welcome own news.slots groups)
+      scan_few (record k { promised = promised_of news.slots }) (record s { asked = nothing_asked }) (input.Welcome own news.slots groups)
       (record { few = h.few; past = omega arith; reads = h.reads })
 
   welcome_as : (k : Known) (s : Scanning) (news : News) (own : Option ℕ) → ScanAsks s q.last → AsksOn (welcomed_as k q s news own)
   unfolding welcomed
   welcome_as k s news None h = h
-  welcome_as k s news (Some own) h = welcome_with (record k { maps = taken k.maps news }) s news own (taken k.maps news).groups h
+  welcome_as k s news (Some own) h = welcome_with (record k { maps = maps_take k.maps news }) s news own (maps_take k.maps news).groups h
 
   welcome_few : (o : Opening) (m : Welcome) → StageAsks o.stage q.last → AsksOn (on_welcome o q m)
   unfolding on_welcome
@@ -227,7 +227,7 @@ module _ (q : Questions) (room : has_room q.last ≡ true) where
     where
       by_stage : (at : Stage) → StageAsks at q.last → AsksOn (on_welcome (record o { stage = at }) q m)
       by_stage (stage.Scanning s) h =
-          by_test AsksOn (is_meant o.known m) (welcomed_as o.known q s m.news (own_of s.asked m.ask)) (stays (at_scan o.known s) q)
+          by_test AsksOn (is_meant o.known m) (welcomed_as o.known q s m.news (own_of s.asked m.ask)) (stays (known_scanning o.known s) q)
           (λ t. welcome_as o.known s m.news (own_of s.asked m.ask) h)
           (λ t. h)
       by_stage (stage.Settling s) h = tt
@@ -240,8 +240,8 @@ module _ (q : Questions) (room : has_room q.last ≡ true) where
   unfolding on_news
   news_few o news h =
       by_test AsksOn (fits o.known.maps news && is_older o.known.maps news)
-      (regrouped (record o.known { maps = taken o.known.maps news }) q news.groups o.stage) (drops o q)
-      (λ t. regroup_few (record o.known { maps = taken o.known.maps news }) news.groups o.stage h) (λ t. h)
+      (regrouped (record o.known { maps = maps_take o.known.maps news }) q news.groups o.stage) (drops o q)
+      (λ t. regroup_few (record o.known { maps = maps_take o.known.maps news }) news.groups o.stage h) (λ t. h)
 
   server_few : (o : Opening) (f : ℕ → Went) (server : Option ℕ) → StageAsks o.stage q.last → ((v : ℕ) → AsksOn (f v)) → AsksOn (by_server o q f server)
   server_few o f None h each = h
@@ -279,16 +279,16 @@ module _ (q : Questions) (room : has_room q.last ≡ true) where
   body_few o from _ h = h
 
 -- more questions of the node do no harm
-drawn_few : (at : Stage) (q : Questions) → StageAsks at q.last → StageAsks at (drawn q).last
+drawn_few : (at : Stage) (q : Questions) → StageAsks at q.last → StageAsks at (draw q).last
 drawn_few (stage.Scanning s) q h =
     let m = last_rises q.last in
     record { few = ⊎_elim (λ small. inl (omega arith)) (λ v. inr (v.0, (let b = v.1 in omega arith))) h.few; past = h.past; reads = h.reads }
 drawn_few (stage.Settling s) q h = tt
 
 pub packet_few : PacketAsksFew
-unfolding on_packet
+unfolding opening_take
 packet_few o q packet room h =
-    by_test AsksOn (names_known o.known.maps packet.body) (on_body o q packet.from packet.body) (went _ (drawn q) _)
+    by_test AsksOn (names_known_groups o.known.maps packet.body) (on_body o q packet.from packet.body) (went _ (draw q) _)
     (λ t. body_few q room o packet.from packet.body h)
     (λ t. drawn_few o.stage q h)
 

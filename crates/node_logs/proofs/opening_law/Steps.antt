@@ -12,13 +12,13 @@ use Rattle.segment_reading.specs.declared.reading.Next.TheVariants as next
 use Rattle.segment_reading.specs.declared.reading.Stage as readings
 use Rattle.segment_reading.specs.declared.reading.Stage.TheVariants as reading
 use Rattle.segment_reading.specs.declared.target.Target.{Target}
-use Rattle.segment_reading.specs.Reading.{ReadingState, Step, is_asking, to_ask, name_fits, segment_found, counts, ends, read_as, judged, on_answer, on_confirmed}
+use Rattle.segment_reading.specs.Reading.{ReadingState, Step, is_asking, reading_unanswered, name_fits, segment_found, counts, ends, reading_reads, reading_judge, reading_take, on_confirmed}
 use Rattle.segment_reading.specs.Reading as rounds
 use Rattle.stripe_code.specs.declared.round.RoundState.{RoundState}
 use Rattle.stripe_code.specs.declared.round.RoundState.TheVariants as round
 use Rattle.stripe_code.specs.declared.round.Told.{Told}
 use Rattle.stripe_code.specs.declared.round.Told.TheVariants as told
-use Rattle.stripe_code.specs.Round.{asks as round_asks, taken, state_of, told_fits, unanswered}
+use Rattle.stripe_code.specs.Round.{asks as round_asks, round_take, state_of, told_fits, unanswered}
 use Rattle.log_scan.specs.declared.input.In.{In}
 use Rattle.log_scan.specs.declared.input.In.TheVariants as input
 use Rattle.log_scan.specs.declared.listing.Listing.{Listing}
@@ -74,12 +74,12 @@ all_up : {X : Type 0} (limit : ℕ) (f : X → Out) → ((x : X) → UpTo limit 
 all_up limit f each [] = tt
 all_up limit f each (x ∷ xs) = (each x, all_up limit f each xs)
 
-fetches_up : (limit : ℕ) (r : ReadingState) → r.ask ≤ limit → AllByRecursion (UpTo limit) (scan.fetches r)
-fetches_up limit r small = all_up limit (λ server. Fetch server r.target.seg.name r.ask) (λ server. small) (to_ask r)
+fetches_up : (limit : ℕ) (r : ReadingState) → r.ask ≤ limit → AllByRecursion (UpTo limit) (scan.backward_fetch r)
+fetches_up limit r small = all_up limit (λ server. Fetch server r.target.seg.name r.ask) (λ server. small) (reading_unanswered r)
 
 -- a round that begins asks its servers
 begins_asking : (target : Target) (ask : ℕ) (kept : List (ℕ × ℕ)) (n parity : ℕ) (servers : List ℕ)
-    → AsksBy ask (scan.fetches
+    → AsksBy ask (scan.backward_fetch
     (record { target = target; ask = ask; kept = kept; round = record { n = n; parity = parity; servers = servers; answers = [] }; stage = reading.Asking }))
     ⊎ (servers ≡ [])
 begins_asking target ask kept n parity [] = inr refl
@@ -90,7 +90,7 @@ round_begins : (o : Opening) (b : Backward) (target : Target) (kept : List (ℕ 
     → let r : ReadingState =
     record { target = target; ask = o.ask + 1; kept = kept; round = record { n = n; parity = parity; servers = servers; answers = [] }; stage = reading.Asking }
     in
-    Says o.ask o.groups (goes (record o { ask = o.ask + 1 }) (Reads b (Some r)) (scan.fetches r))
+    Says o.ask o.groups (goes (record o { ask = o.ask + 1 }) (Reads b (Some r)) (scan.backward_fetch r))
 round_begins o b target kept n parity servers =
     let r : ReadingState =
     record { target = target; ask = o.ask + 1; kept = kept; round = record { n = n; parity = parity; servers = servers; answers = [] }; stage = reading.Asking }
@@ -115,47 +115,47 @@ begins_in_so : (o : Opening) (b : Backward) (group : Option Group) → Says o.as
 begins_in_so o b None = anew o (Reads b None) tt
 begins_in_so o b (Some group) = round_begins o b (scan.target_at o.log b.next) [] (length group.members) group.parity (rounds.servers_of group)
 
-follows_so : (o : Opening) (b : Backward) → Says o.ask o.groups (scan.follows o b)
-unfolding scan.follows scan.begins_round
-follows_so o b =
-    by_test (Says o.ask o.groups) (scan.is_bottom o.low b.next) (goes o Over (scan.chain_of b ∷ [])) (scan.begins_in o b (known_group o.groups b.next.group))
+opening_follow_so : (o : Opening) (b : Backward) → Says o.ask o.groups (scan.opening_follow o b)
+unfolding scan.opening_follow scan.opening_begin_round
+opening_follow_so o b =
+    by_test (Says o.ask o.groups) (scan.is_bottom o.low b.next) (goes o Over (scan.backward_told b ∷ [])) (scan.begins_in o b (known_group o.groups b.next.group))
     (λ t. inl (record { last = refl; same = refl; outs = (tt, tt); reads = tt })) (λ t. begins_in_so o b (known_group o.groups b.next.group))
 
 -- ---- an answer
 
 ends_so : (o : Opening) (b : Backward) (r : ReadingState) (pairs : List (ℕ × ℕ)) → r.ask ≤ o.ask
-    → Says o.ask o.groups (scan.goes_on o b (ends r pairs).state next.Again)
-unfolding scan.goes_on
+    → Says o.ask o.groups (scan.opening_go_on o b (ends r pairs).state next.Again)
+unfolding scan.opening_go_on
 ends_so o b r pairs small = anew o (Reads b (Some (ends r pairs).state)) (omega arith)
 
 read_so : (o : Opening) (b : Backward) (r : ReadingState) (found : Option Segment) → r.ask ≤ o.ask
-    → Says o.ask o.groups (scan.goes_on o b (read_as r found).state (read_as r found).next)
-unfolding scan.goes_on
-read_so o b r (Some segment) small = follows_so o (scan.with_segment b segment)
+    → Says o.ask o.groups (scan.opening_go_on o b (reading_reads r found).state (reading_reads r found).next)
+unfolding scan.opening_go_on
+read_so o b r (Some segment) small = opening_follow_so o (scan.backward_with b segment)
 read_so o b r None small = ends_so o b r [] small
 
-judged_so : (o : Opening) (b : Backward) (r : ReadingState) (groups : GroupMapState) (x : RoundState) → r.ask ≤ o.ask
-    → Says o.ask o.groups (scan.goes_on o b (judged r groups x).state (judged r groups x).next)
-unfolding scan.goes_on
-judged_so o b r groups (round.Read bytes) small = read_so o b r (segment_found r.target groups (answer_of bytes)) small
-judged_so o b r groups (round.Short pairs) small = ends_so o b r pairs small
-judged_so o b r groups round.Waiting small = rests o (Reads b (Some r)) small
+reading_judge_so : (o : Opening) (b : Backward) (r : ReadingState) (groups : GroupMapState) (x : RoundState) → r.ask ≤ o.ask
+    → Says o.ask o.groups (scan.opening_go_on o b (reading_judge r groups x).state (reading_judge r groups x).next)
+unfolding scan.opening_go_on
+reading_judge_so o b r groups (round.Read bytes) small = read_so o b r (segment_found r.target groups (answer_of bytes)) small
+reading_judge_so o b r groups (round.Short pairs) small = ends_so o b r pairs small
+reading_judge_so o b r groups round.Waiting small = rests o (Reads b (Some r)) small
 
 answer_so : (o : Opening) (b : Backward) (r : ReadingState) (m : Option GroupMapState) (ask server : ℕ) (t : Told) → r.ask ≤ o.ask
-    → Says o.ask o.groups (scan.heard_with o b r m ask server t)
-unfolding on_answer scan.goes_on
+    → Says o.ask o.groups (scan.opening_read o b r m ask server t)
+unfolding reading_take scan.opening_go_on
 answer_so o b r None ask server t small = rests o (Reads b (Some r)) small
 answer_so o b r (Some groups) ask server t small =
-    let now : ReadingState = record r { round = taken r.round server t } in
-    by_test (λ (x : Step). Says o.ask o.groups (scan.goes_on o b x.state x.next)) (counts r ask server t) (judged now groups (state_of now.round))
+    let now : ReadingState = record r { round = round_take r.round server t } in
+    by_test (λ (x : Step). Says o.ask o.groups (scan.opening_go_on o b x.state x.next)) (counts r ask server t) (reading_judge now groups (state_of now.round))
     (record { state = r; next = next.Wait })
-    (λ e. judged_so o b now groups (state_of now.round) small) (λ e. rests o (Reads b (Some r)) small)
+    (λ e. reading_judge_so o b now groups (state_of now.round) small) (λ e. rests o (Reads b (Some r)) small)
 
-heard_so : (o : Opening) (b : Backward) (r : Option ReadingState) (ask server : ℕ) (t : Told) → PastReading o.ask r
-    → Says o.ask o.groups (scan.heard o b r ask server t)
-heard_so o b None ask server t small = rests o (Reads b None) tt
-heard_so o b (Some r) ask server t small =
-    by_test (Says o.ask o.groups) (can_ask o) (scan.heard_with o b r o.groups ask server t) (stays o (Reads b (Some r)))
+opening_hear_so : (o : Opening) (b : Backward) (r : Option ReadingState) (ask server : ℕ) (t : Told) → PastReading o.ask r
+    → Says o.ask o.groups (scan.opening_hear o b r ask server t)
+opening_hear_so o b None ask server t small = rests o (Reads b None) tt
+opening_hear_so o b (Some r) ask server t small =
+    by_test (Says o.ask o.groups) (can_ask o) (scan.opening_read o b r o.groups ask server t) (stays o (Reads b (Some r)))
     (λ e. answer_so o b r o.groups ask server t small) (λ e. rests o (Reads b (Some r)) small)
 
 told_so : (o : Opening) (st : Stage) (ask server : ℕ) (t : Told) → PastStage o.ask st → Says o.ask o.groups (scan.on_told o st ask server t)
@@ -163,7 +163,7 @@ unfolding scan.on_told
 told_so o Hails ask server t past = rests o Hails tt
 told_so o (Gathers lists) ask server t past = rests o (Gathers lists) tt
 told_so o (Asks lists) ask server t past = rests o (Asks lists) tt
-told_so o (Reads b r) ask server t past = heard_so o b r ask server t past
+told_so o (Reads b r) ask server t past = opening_hear_so o b r ask server t past
 told_so o Over ask server t past = rests o Over tt
 
 -- ---- a list
@@ -187,10 +187,10 @@ fenced_so o Over l past = rests o Over tt
 fences_up : (limit : ℕ) (servers : List ℕ) → AllByRecursion (UpTo limit) (scan.fences servers)
 fences_up limit servers = all_up limit (λ server. Fence server) (λ server. tt) servers
 
-again_up : (o : Opening) (r : Option ReadingState) → PastReading o.ask r → AllByRecursion (UpTo o.ask) (scan.asked_again o r)
+again_up : (o : Opening) (r : Option ReadingState) → PastReading o.ask r → AllByRecursion (UpTo o.ask) (scan.opening_read_again o r)
 again_up o None past = (omega arith, tt)
 again_up o (Some r) past =
-    by_test (AllByRecursion (UpTo o.ask)) (is_asking r.stage) (scan.fetches r) (Hello o.ask ∷ []) (λ t. fetches_up o.ask r past) (λ t. (omega arith, tt))
+    by_test (AllByRecursion (UpTo o.ask)) (is_asking r.stage) (scan.backward_fetch r) (Hello o.ask ∷ []) (λ t. fetches_up o.ask r past) (λ t. (omega arith, tt))
 
 tick_up : (o : Opening) (st : Stage) → PastStage o.ask st → AllByRecursion (UpTo o.ask) (scan.on_tick o st)
 unfolding scan.on_tick
@@ -203,32 +203,32 @@ tick_up o Over past = tt
 -- ---- a Welcome
 
 confirmed_so : (o : Opening) (b : Backward) (r : ReadingState) (at : readings.Stage) → r.ask ≤ o.ask
-    → Says o.ask o.groups (scan.goes_on o b (rounds.goes_on r (o.ask + 1) at).state (rounds.goes_on r (o.ask + 1) at).next)
-unfolding scan.goes_on
+    → Says o.ask o.groups (scan.opening_go_on o b (rounds.goes_on r (o.ask + 1) at).state (rounds.goes_on r (o.ask + 1) at).next)
+unfolding scan.opening_go_on
 confirmed_so o b r reading.Asking small = rests o (Reads b (Some r)) small
 confirmed_so o b r reading.Between small = round_begins o b r.target r.kept r.round.n r.round.parity r.round.servers
 confirmed_so o b r reading.Doubted small = inl (record { last = refl; same = refl; outs = (tt, tt); reads = tt })
 confirmed_so o b r reading.Over small = rests o (Reads b (Some r)) small
 
 confirms_so : (o : Opening) (b : Backward) (r : Option ReadingState) → PastReading o.ask r → Says o.ask o.groups (scan.confirms_by o b r)
-unfolding on_confirmed scan.begins_round
+unfolding on_confirmed scan.opening_begin_round
 confirms_so o b None small = begins_in_so o b (known_group o.groups b.next.group)
 confirms_so o b (Some r) small = confirmed_so o b r r.stage small
 
 picks_so : (o : Opening) (lists : List Listing) (start : Option End) → Says o.ask o.groups (scan.picks_at o lists start)
 picks_so o lists None = anew o (Asks lists) tt
-picks_so o lists (Some start) = follows_so o (scan.read_from start)
+picks_so o lists (Some start) = opening_follow_so o (scan.backward_from start)
 
-welcomed_so : (o : Opening) (st : Stage) (least : ℕ) → PastStage o.ask st → Says o.ask o.groups (scan.welcomed o st least)
-unfolding scan.picks scan.confirms
-welcomed_so o Hails least past = inl (record { last = refl; same = refl; outs = fences_up o.ask (scan.awaited o.groups []); reads = tt })
-welcomed_so o (Gathers lists) least past = rests o (Gathers lists) tt
-welcomed_so o (Asks lists) least past = picks_so (scan.rises o least) lists (start_of o.groups lists (scan.rises o least).low)
-welcomed_so o (Reads b r) least past =
-    let p : Opening = scan.rises o least in
-    by_test (Says o.ask o.groups) (scan.is_bottom p.low b.next) (goes p Over (scan.chain_of b ∷ [])) (scan.confirms_by p b r)
+opening_welcome_so : (o : Opening) (st : Stage) (least : ℕ) → PastStage o.ask st → Says o.ask o.groups (scan.opening_welcome o st least)
+unfolding scan.opening_pick scan.opening_confirm
+opening_welcome_so o Hails least past = inl (record { last = refl; same = refl; outs = fences_up o.ask (scan.awaited o.groups []); reads = tt })
+opening_welcome_so o (Gathers lists) least past = rests o (Gathers lists) tt
+opening_welcome_so o (Asks lists) least past = picks_so (scan.opening_rise o least) lists (start_of o.groups lists (scan.opening_rise o least).low)
+opening_welcome_so o (Reads b r) least past =
+    let p : Opening = scan.opening_rise o least in
+    by_test (Says o.ask o.groups) (scan.is_bottom p.low b.next) (goes p Over (scan.backward_told b ∷ [])) (scan.confirms_by p b r)
     (λ e. inl (record { last = refl; same = refl; outs = (tt, tt); reads = tt })) (λ e. confirms_so p b r past)
-welcomed_so o Over least past = rests o Over tt
+opening_welcome_so o Over least past = rests o Over tt
 
 -- what it says at an input, with the groups that it has then
 pub record Steps (o : Opening) (i : In) (d : Done) : Type 0 where
@@ -241,13 +241,13 @@ welcome_so : (o : Opening) (st : Stage) (ask : ℕ) (news : List SlotNews) (m : 
 unfolding scan.on_welcome
 welcome_so o st ask news m past =
     by_test (Steps o (input.Welcome ask news m)) ((ask == o.ask) && (can_ask o && scan.awaits_welcome st))
-    (scan.welcomed (record o { groups = Some m }) st (scan.least_horizon o.log.0 news)) (stays o st)
-    (λ t. record { groups = Some m; says = welcomed_so (record o { groups = Some m }) st (scan.least_horizon o.log.0 news) past; from = inr refl })
+    (scan.opening_welcome (record o { groups = Some m }) st (scan.least_horizon o.log.0 news)) (stays o st)
+    (λ t. record { groups = Some m; says = opening_welcome_so (record o { groups = Some m }) st (scan.least_horizon o.log.0 news) past; from = inr refl })
     (λ t. record { groups = o.groups; says = rests o st past; from = inl refl })
 
 -- ---- all inputs
 
-pub says_so : (o : Opening) (st : Stage) (i : In) → PastStage o.ask st → Steps o i (scan.takes o st i)
+pub says_so : (o : Opening) (st : Stage) (i : In) → PastStage o.ask st → Steps o i (scan.opening_take o st i)
 says_so o st (input.Welcome ask news groups) past = welcome_so o st ask news groups past
 says_so o st (input.Fenced server generation held) past =
     record { groups = o.groups; says = fenced_so o st (record { server = server; generation = generation; held = held }) past; from = refl }
@@ -278,12 +278,12 @@ module _ (o : Opening) (b : Backward) (r : ReadingState) (asking : r.stage ≡ r
   it_stays : Still o at (stays o at)
   it_stays = record { stage = refl; last = refl; outs = refl }
 
-  no_answer : (m : Option GroupMapState) (ask server : ℕ) (t : Told) → Still o at (scan.heard_with o b r m ask server t)
-  unfolding on_answer scan.goes_on
+  no_answer : (m : Option GroupMapState) (ask server : ℕ) (t : Told) → Still o at (scan.opening_read o b r m ask server t)
+  unfolding reading_take scan.opening_go_on
   no_answer None ask server t = it_stays
   no_answer (Some groups) ask server t =
-      let now : ReadingState = record r { round = taken r.round server t } in
-      by_test (λ (x : Step). Still o at (scan.goes_on o b x.state x.next)) (counts r ask server t) (judged now groups (state_of now.round))
+      let now : ReadingState = record r { round = round_take r.round server t } in
+      by_test (λ (x : Step). Still o at (scan.opening_go_on o b x.state x.next)) (counts r ask server t) (reading_judge now groups (state_of now.round))
       (record { state = r; next = next.Wait })
       (λ e. contrary (subst (λ servers. list_any (λ s. s == server) servers ≡ true) nobody
       (third_of_four (is_asking r.stage) (ask == r.ask) (round_asks r.round server) (name_fits r.target t && told_fits r.round t) e)))
@@ -292,13 +292,13 @@ module _ (o : Opening) (b : Backward) (r : ReadingState) (asking : r.stage ≡ r
   not_told : (ask server : ℕ) (t : Told) → Still o at (scan.on_told o at ask server t)
   unfolding scan.on_told
   not_told ask server t =
-      by_test (Still o at) (can_ask o) (scan.heard_with o b r o.groups ask server t) (stays o at) (λ e. no_answer o.groups ask server t) (λ e. it_stays)
+      by_test (Still o at) (can_ask o) (scan.opening_read o b r o.groups ask server t) (stays o at) (λ e. no_answer o.groups ask server t) (λ e. it_stays)
 
   not_welcomed : (ask : ℕ) (news : List SlotNews) (groups : GroupMapState) → Still o at (scan.on_welcome o at ask news groups)
   unfolding scan.on_welcome
   not_welcomed ask news groups =
       by_test (Still o at) ((ask == o.ask) && (can_ask o && scan.awaits_welcome at))
-      (scan.welcomed (record o { groups = Some groups }) at (scan.least_horizon o.log.0 news)) (stays o at)
+      (scan.opening_welcome (record o { groups = Some groups }) at (scan.least_horizon o.log.0 news)) (stays o at)
       (λ t. contrary (subst (λ (s : readings.Stage). not (is_asking s) ≡ true) asking
       (and_second (can_ask o) (scan.awaits_welcome at) (and_second (ask == o.ask) (can_ask o && scan.awaits_welcome at) t))))
       (λ t. it_stays)
@@ -310,7 +310,7 @@ module _ (o : Opening) (b : Backward) (r : ReadingState) (asking : r.stage ≡ r
       (Hello o.ask ∷ [])) asking
       ∙ ap (λ servers. map (λ server. Fetch server r.target.seg.name r.ask) (unanswered (record r.round { servers = servers }))) nobody
 
-  pub still_so : (i : In) → Still o at (scan.takes o at i)
+  pub still_so : (i : In) → Still o at (scan.opening_take o at i)
   unfolding scan.on_fenced
   still_so (input.Welcome ask news groups) = not_welcomed ask news groups
   still_so (input.Fenced server generation held) = it_stays

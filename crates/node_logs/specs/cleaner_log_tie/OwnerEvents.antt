@@ -91,5 +91,5 @@ OwnerTakes =
 -- At the start it is seen in the opening of the small world, and asked nothing, where the ids of the setup's groups fit.
 abbrev pub OwnerStarts : Type 0
 OwnerStarts =
-    (g : Setting) → g.log ≡ cleaner_log → (setup : Setup) (works : List Work) → MapFits (groups.started setup.servers setup.groups)
-    → CleanerAgrees g (record { net = at_first g (groups.started setup.servers setup.groups); asked = λ k. Unasked }) (cleaner_start setup works).phase
+    (g : Setting) → g.log ≡ cleaner_log → (setup : Setup) (works : List Work) → MapFits (groups.group_map_start setup.servers setup.groups)
+    → CleanerAgrees g (record { net = at_first g (groups.group_map_start setup.servers setup.groups); asked = λ k. Unasked }) (cleaner_start setup works).phase

@@ -4,7 +4,7 @@ use Rattle.client_node.specs.declared.client.Client as clients
 use Rattle.client_node.specs.declared.phase.Phase.{Phase}
 use Rattle.client_node.specs.declared.phase.Phase.TheVariants.{Down, Opening, Serving as Serves}
 use Rattle.client_node.specs.Phases.{client_step}
-use Rattle.client_node.specs.Starting.{first_client}
+use Rattle.client_node.specs.Starting.{client_start}
 use Rattle.group_map.specs.GroupMapState.{GroupMapState}
 use Rattle.group_map.specs.Groups as groups
 use Rattle.log_owner.specs.declared.opening.Stage as stages
@@ -178,9 +178,9 @@ ClientTakes =
 
 -- At the start it is seen in the opening of the small world, and asked nothing; its log stays written where the ids of the setup's groups fit.
 pub record ClientBegins (g : Setting) (c : ℕ) (setup : Setup) (works : List Work) : Type 0 where
-  pub agrees : ClientAgrees g c (record { net = opening g (groups.started setup.servers setup.groups); asked = λ k. Unasked })
-      (first_client c setup works).phase
-  pub written : MapFits (groups.started setup.servers setup.groups) → PhaseWritten (first_client c setup works).phase
+  pub agrees : ClientAgrees g c (record { net = opening g (groups.group_map_start setup.servers setup.groups); asked = λ k. Unasked })
+      (client_start c setup works).phase
+  pub written : MapFits (groups.group_map_start setup.servers setup.groups) → PhaseWritten (client_start c setup works).phase
 
 abbrev pub ClientStarts : Type 0
 ClientStarts = (g : Setting) (c : ℕ) → g.log ≡ record { 0 = c } → is_log c ≡ true → (setup : Setup) (works : List Work) → ClientBegins g c setup works

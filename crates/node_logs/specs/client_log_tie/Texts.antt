@@ -13,7 +13,7 @@ use Rattle.log_flight.specs.Flights.{group_for}
 use Rattle.client_log.specs.declared.input.In.{In as Input}
 use Rattle.client_log.specs.declared.input.In.TheVariants.{Put, Parts, Maps}
 use Rattle.client_log.specs.History.{state_after}
-use Rattle.client_log.specs.LogState.{LogState, started}
+use Rattle.client_log.specs.LogState.{LogState, log_start}
 use Rattle.log_law.specs.Events.{IsWritten}
 pub use Rattle.log_law.specs.Openings.{EndFits}
 
@@ -44,4 +44,4 @@ StaysWritten s = (later : List Input) → AllByRecursion InputFits later → IfS
 -- a log that starts behind an end that fits, over groups whose ids fit, stays written
 abbrev pub WhatFitsStaysWritten : Type 0
 WhatFitsStaysWritten =
-    (log : LogId) (inc : ℕ) (end : End) (m : GroupMapState) → IsLog log.0 → inc < 2 ^ 32 → EndFits end → MapFits m → StaysWritten (started log inc end m)
+    (log : LogId) (inc : ℕ) (end : End) (m : GroupMapState) → IsLog log.0 → inc < 2 ^ 32 → EndFits end → MapFits m → StaysWritten (log_start log inc end m)

@@ -9,7 +9,7 @@ use Rattle.wire_msg.specs.NodeStep.{NodeStep}
 use Rattle.xfs_base.specs.declared.node.NodeId.TheVariants.{Manager}
 use Rattle.xfs_base.specs.declared.setup.Setup.{Setup}
 use Rattle.manager_node.specs.declared.manager.Manager as managers
-use Rattle.manager_node.specs.Events.{first_manager, manager_step}
+use Rattle.manager_node.specs.Events.{manager_start, manager_step}
 use Rattle.manager_slots.specs.Lasting.{log_of}
 use Rattle.log_tie.specs.Setting.{Setting}
 use Rattle.log_law.specs.Net.{opening}
@@ -57,5 +57,5 @@ ManagerTakes =
 -- At the start it is seen in the opening of the small world, where the ids of the setup's groups fit.
 abbrev pub ManagerStarts : Type 0
 ManagerStarts =
-    (g : Setting) (j : ℕ) → g.log ≡ log_of j → (setup : Setup) (works : List Work) → MapFits (groups.started setup.servers setup.groups)
-    → ManagerAgrees g j (record { net = opening g (groups.started setup.servers setup.groups); asked = λ k. OfMaps }) (first_manager j setup works).phase
+    (g : Setting) (j : ℕ) → g.log ≡ log_of j → (setup : Setup) (works : List Work) → MapFits (groups.group_map_start setup.servers setup.groups)
+    → ManagerAgrees g j (record { net = opening g (groups.group_map_start setup.servers setup.groups); asked = λ k. OfMaps }) (manager_start j setup works).phase

@@ -8,7 +8,7 @@ use Rattle.group_map.specs.GroupMapState.{GroupMapState}
 use Rattle.group_map.specs.Groups.{group_of, generation_at}
 use Rattle.group_map.specs.WellFormed.{IsGroupMap}
 use Rattle.log_flight.specs.Fate.{has_server}
-use Rattle.registry.specs.Board.{all_news}
+use Rattle.registry.specs.Board.{board_slots}
 use Rattle.registry.specs.BoardState.{BoardState}
 use Rattle.registry.specs.Checkpoints.{horizon_at}
 use Rattle.version_model.specs.declared.work.Work.{Work}
@@ -30,7 +30,7 @@ NamesGroups g m = (id : ℕ) (group : Group) → group_of m id ≡ Some group �
 
 -- the least horizon of the log, by all slots' newest checkpoints
 abbrev pub low_of : Setting → BoardState → ℕ
-low_of g b = least_horizon g.log.0 (all_news b)
+low_of g b = least_horizon g.log.0 (board_slots b)
 
 -- ---- how the registry is seen
 

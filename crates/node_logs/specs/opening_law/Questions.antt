@@ -7,7 +7,7 @@ use Rattle.log_owner.specs.declared.opening.Opening as openings
 use Rattle.log_owner.specs.declared.opening.Scanning.{Scanning}
 use Rattle.log_owner.specs.declared.opening.Stage as stages
 use Rattle.log_owner.specs.declared.opening.Stage.TheVariants as stage
-use Rattle.log_owner.specs.Opening.{Went, on_start, on_packet, on_tick}
+use Rattle.log_owner.specs.Opening.{Went, on_start, opening_take, on_tick}
 use Rattle.group_map.specs.GroupMapState.{GroupMapState}
 use Rattle.log_scan.specs.declared.input.In.{In}
 use Rattle.log_scan.specs.declared.input.In.TheVariants as input
@@ -67,7 +67,7 @@ StartAsksFew = (owner : Owner) (servers : ℕ) (q : Questions) → has_room q.la
 
 abbrev pub PacketAsksFew : Type 0
 PacketAsksFew =
-    (o : openings.Opening) (q : Questions) (packet : Packet) → has_room q.last ≡ true → StageAsks o.stage q.last → AsksOn (on_packet o q packet)
+    (o : openings.Opening) (q : Questions) (packet : Packet) → has_room q.last ≡ true → StageAsks o.stage q.last → AsksOn (opening_take o q packet)
 
 abbrev pub TickAsksFew : Type 0
 TickAsksFew = (o : openings.Opening) (q : Questions) → has_room q.last ≡ true → StageAsks o.stage q.last → AsksOn (on_tick o q)

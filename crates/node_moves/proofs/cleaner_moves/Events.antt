@@ -8,16 +8,16 @@ use Rattle.std.specs.Prelude.{Contains, fold, slice_set}
 use Rattle.cleaner_job.specs.declared.job.Job.{Job}
 use Rattle.cleaner_job.specs.declared.lasting.Lasting.{Lasting}
 use Rattle.cleaner_job.specs.Hands.{Heard}
-use Rattle.cleaner_job.specs.Jobs.{check_of, greeted, hand_of, hello_of, is_out, lists_of, new_job, usages_of}
-use Rattle.cleaner_node.specs.CleanerEvents.{Went_to, after_opening, begun_life, crashes, down_at, down_wishes, happens, hears, lasting_of, on_begin, on_deliver, on_time, opened_on, opening_at, opening_wishes, phase_room, serves_on, serving_at, serving_wishes, wish_at}
+use Rattle.cleaner_job.specs.Jobs.{check_of, note_greeted, hand_of, hello_of, is_out, lists_of, job_start, usages_of}
+use Rattle.cleaner_node.specs.CleanerEvents.{Went_to, after_opening, begun_life, crash, down_at, down_wishes, happens, cleaner_hear, lasting_of, on_begin, on_deliver, on_time, opened_on, opening_at, opening_wishes, phase_has_room, serves_on, serving_at, serving_wishes, wish_at}
 use Rattle.cleaner_node.specs.declared.cleaner.Cleaner.{Cleaner}
 use Rattle.cleaner_node.specs.declared.cleaner.Phase.{Phase}
 use Rattle.cleaner_node.specs.declared.cleaner.Phase.TheVariants.{Down, Opening, Serving}
 use Rattle.cleaner_node.specs.declared.cleaner.Wish.{Wish}
 use Rattle.cleaner_node.specs.declared.cleaner.Wish.TheVariants.{Clean, Crash, Restart}
 use Rattle.cleaner_serving.specs.declared.emptying.Emptying.{Emptying}
-use Rattle.cleaner_serving.specs.EmptyingEvents.{asks_for_maps, begins_job, hears_slot, hears_slots, job_regrouped, log_regrouped, on_ack, on_body, on_clean, on_news, on_packet, on_poll, on_tick, on_welcome, promises, promises_all, promises_slot, reports, served, takes_news, welcomes, welcomes_over, with_new_job, writes}
-use Rattle.cleaner_serving.specs.Jobs.{Done, after_confirmed, after_told, asks_usage, cleans, confirmed, ends_reading, job_takes, on_dead, on_deleted, on_listed, on_live, on_told, on_usage, reads_again, says, takes_in, told_by, with_questions}
+use Rattle.cleaner_serving.specs.EmptyingEvents.{ask_for_maps, begin_job, hear_slot, hear_slots, regroup_job, regroup_log, on_ack, on_body, on_clean, on_news, on_packet, on_poll, on_tick, on_welcome, emptying_promise, promise_all, promise_slot, emptying_report, emptying_back, take_news, emptying_welcome, welcome_over, with_new_job, emptying_write}
+use Rattle.cleaner_serving.specs.Jobs.{Done, after_confirmed, after_told, ask_usage, emptying_clean, confirmed, end_reading, emptying_take, on_dead, on_deleted, on_listed, on_live, on_told, on_usage, emptying_read_again, says, takes_in, emptying_hear, with_questions}
 use Rattle.client_log.specs.declared.input.In.TheVariants as log_in
 use Rattle.delta_feed.specs.Transition.{acknowledged, new_epoch}
 use Rattle.group_map.specs.GroupMapState.{GroupMapState}
@@ -27,18 +27,18 @@ use Rattle.log_owner.specs.declared.opening.Opening as openings
 use Rattle.log_owner.specs.Opening as opening
 use Rattle.log_owner.specs.Opening.{Went}
 use Rattle.log_owner.specs.Promised.{epoch_of}
-use Rattle.log_owner.specs.Sending.{pushes_all, server_in}
-use Rattle.node_base.specs.Asking.{drawn, next_ask}
-use Rattle.node_base.specs.Beginning.{answered, answers_unanswered, begun, next_item, waiting}
+use Rattle.log_owner.specs.Sending.{push_all, server_in}
+use Rattle.node_base.specs.Asking.{draw, next_ask}
+use Rattle.node_base.specs.Beginning.{items_answer, answers_unanswered, items_begin, next_item, items_wait}
 use Rattle.node_base.specs.declared.effects.Effect.TheVariants.{Answer as Answers, Send}
 use Rattle.node_base.specs.declared.items.Items.{Items}
-use Rattle.node_base.specs.Known.{names_known}
-use Rattle.node_base.specs.Maps.{fits, is_older, taken}
+use Rattle.node_base.specs.Known.{names_known_groups}
+use Rattle.node_base.specs.Maps.{fits, is_older, maps_take}
 use Rattle.node_base.specs.Shape.{is_well_formed}
 use Rattle.segment_format.specs.declared.segment.Segment.{Segment}
 use Rattle.segment_reading.specs.declared.reading.Next.{Next}
 use Rattle.segment_reading.specs.declared.reading.Next.TheVariants as next
-use Rattle.stripe_cleaner.specs.CleaningState.{CleaningState, started}
+use Rattle.stripe_cleaner.specs.CleaningState.{CleaningState, cleaning_start}
 use Rattle.stripe_cleaner.specs.Counting.{has_usage}
 use Rattle.stripe_cleaner.specs.declared.input.In.{In}
 use Rattle.stripe_cleaner.specs.declared.input.In.TheVariants as input
@@ -92,14 +92,14 @@ abbrev IsUsageAsk : Out → Type 0
 IsUsageAsk (out.UsageAsk slot) = Unit {0}
 IsUsageAsk _ = ⊥
 
-usage_log : (e : Emptying) (o : Option Job) (slot : ℕ) → (asks_usage e o slot).state.log ≡ e.log
+usage_log : (e : Emptying) (o : Option Job) (slot : ℕ) → (ask_usage e o slot).state.log ≡ e.log
 usage_log e None slot = refl
 usage_log e (Some job) slot = refl
 
 said_log : (e : Emptying) (outs : List Out) → AllByRecursion IsUsageAsk outs → (steps says e outs).state.log ≡ e.log
 unfolding says
 said_log e [] all = refl
-said_log e (out.UsageAsk slot ∷ outs) all = said_log (asks_usage e e.job slot).state outs all.1 ∙ usage_log e e.job slot
+said_log e (out.UsageAsk slot ∷ outs) all = said_log (ask_usage e e.job slot).state outs all.1 ∙ usage_log e e.job slot
 said_log e (o ∷ outs) all = absurd all.0
 
 forgetting_asks : (slot : ℕ) (p : job_phases.Phase) → AllByRecursion IsUsageAsk (job.forgetting slot p).outs
@@ -119,67 +119,67 @@ promised_log e (Some j) slot epoch =
     let d : job.Done = job.on_promise j.cleaning slot epoch in
     said_log (record e { job = Some (record j { cleaning = d.state }) }) d.outs (promise_asks j.cleaning slot epoch)
 
-pub promises_log : (e : Emptying) (slot epoch manager : ℕ) → (promises e slot epoch manager).log ≡ e.log
-unfolding promises
+pub promises_log : (e : Emptying) (slot epoch manager : ℕ) → (emptying_promise e slot epoch manager).log ≡ e.log
+unfolding emptying_promise
 promises_log e slot epoch manager =
     by_test (λ (r : Emptying). r.log ≡ e.log) (nat_lt (epoch_of e.promised slot) epoch) (record e { feed = new_epoch e.feed slot }) e (λ _. refl) (λ _. refl)
 
-slot_log : (e : Emptying) (news : SlotNews) → (hears_slot e news).state.log ≡ e.log
-unfolding hears_slot cleans job_takes
+slot_log : (e : Emptying) (news : SlotNews) → (hear_slot e news).state.log ≡ e.log
+unfolding hear_slot emptying_clean emptying_take
 slot_log e news =
-    let kept : Emptying = promises e news.slot news.epoch news.manager in
-    by_test (λ (d : Done). d.state.log ≡ e.log) (nat_lt (epoch_of e.promised news.slot) news.epoch) (cleans kept (input.Promise news.slot news.epoch)) (still e)
+    let kept : Emptying = emptying_promise e news.slot news.epoch news.manager in
+    by_test (λ (d : Done). d.state.log ≡ e.log) (nat_lt (epoch_of e.promised news.slot) news.epoch) (emptying_clean kept (input.Promise news.slot news.epoch)) (still e)
     (λ _. promised_log kept kept.job news.slot news.epoch ∙ promises_log e news.slot news.epoch news.manager) (λ _. refl)
 
-pub slots_log : (e : Emptying) (slots : List SlotNews) → (steps hears_slot e slots).state.log ≡ e.log
+pub slots_log : (e : Emptying) (slots : List SlotNews) → (steps hear_slot e slots).state.log ≡ e.log
 slots_log e [] = refl
-slots_log e (news ∷ slots) = slots_log (hears_slot e news).state slots ∙ slot_log e news
+slots_log e (news ∷ slots) = slots_log (hear_slot e news).state slots ∙ slot_log e news
 
 mapped_log : (e : Emptying) (o : Option Job) (groups : GroupMapState)
     → (steps says (takes_in e o (input.Maps groups)).state (takes_in e o (input.Maps groups)).outs).state.log ≡ e.log
 mapped_log e None groups = refl
 mapped_log e (Some j) groups = refl
 
-pub regrouped_log : (e : Emptying) (newer : Bool) (groups : GroupMapState) → (job_regrouped e newer groups).state.log ≡ e.log
-unfolding cleans job_takes
+pub regrouped_log : (e : Emptying) (newer : Bool) (groups : GroupMapState) → (regroup_job e newer groups).state.log ≡ e.log
+unfolding emptying_clean emptying_take
 regrouped_log e true groups = mapped_log e e.job groups
 regrouped_log e false groups = refl
 
 -- ---- a job that begins says nothing when it is told what slots are promised to
 
 abbrev with_told : Emptying → ℕ → List ℕ → Emptying
-with_told e count known = record e { job = Some (record (new_job count) { cleaning = record (started count) { promised = known } }) }
+with_told e count known = record e { job = Some (record (job_start count) { cleaning = record (cleaning_start count) { promised = known } }) }
 
 -- one slot is told, or not, as it is above what was promised
 told_if : (e : Emptying) (count : ℕ) (known later : List ℕ) (slot : ℕ) (above : Bool)
-    → (let d : job.Done = cond above (job.turned (record (started count) { promised = cond above later known }) (job.forgetting slot Greeting))
-    (still (record (started count) { promised = known })) in
-    steps says (record e { job = Some (record (new_job count) { cleaning = d.state }) }) d.outs)
+    → (let d : job.Done = cond above (job.turned (record (cleaning_start count) { promised = cond above later known }) (job.forgetting slot Greeting))
+    (still (record (cleaning_start count) { promised = known })) in
+    steps says (record e { job = Some (record (job_start count) { cleaning = d.state }) }) d.outs)
     ≡ still (with_told e count (cond above later known))
 told_if e count known later slot true = refl
 told_if e count known later slot false = refl
 
 one_told : (e : Emptying) (count : ℕ) (known : List ℕ) (slot : ℕ)
-    → promises_slot (with_told e count known) slot ≡ still (with_told e count (promised_with known slot (epoch_of e.promised slot)))
-unfolding promises_slot cleans job_takes job.on_promise
+    → promise_slot (with_told e count known) slot ≡ still (with_told e count (promised_with known slot (epoch_of e.promised slot)))
+unfolding promise_slot emptying_clean emptying_take job.on_promise
 one_told e count known slot =
     told_if e count known (slice_set known slot (epoch_of e.promised slot)) slot (is_above known slot (epoch_of e.promised slot))
 
 each_told : (e : Emptying) (count : ℕ) (known slots : List ℕ)
-    → steps promises_slot (with_told e count known) slots
+    → steps promise_slot (with_told e count known) slots
     ≡ still (with_told e count (fold (λ known slot. promised_with known slot (epoch_of e.promised slot)) known slots))
 each_told e count known [] = refl
 each_told e count known (slot ∷ slots) =
-    ap (λ (d : Done). saying d.outs (steps promises_slot d.state slots)) (one_told e count known slot)
+    ap (λ (d : Done). saying d.outs (steps promise_slot d.state slots)) (one_told e count known slot)
     ∙ each_told e count (promised_with known slot (epoch_of e.promised slot)) slots
 
 begins_so : (e : Emptying) (number count : ℕ)
-    → begins_job e number count
-    ≡ cleans
-    (record e { lasting = record e.lasting { items = waiting e.lasting.items number }; job = Some (begun_job e.promised count) }) input.Tick
-unfolding begins_job promises_all
+    → begin_job e number count
+    ≡ emptying_clean
+    (record e { lasting = record e.lasting { items = items_wait e.lasting.items number }; job = Some (begun_job e.promised count) }) input.Tick
+unfolding begin_job promise_all
 begins_so e number count =
-    ap (λ (d : Done). saying d.outs (cleans d.state input.Tick)) (each_told (with_new_job e number count) count none_promised (range_with_len 0 8))
+    ap (λ (d : Done). saying d.outs (emptying_clean d.state input.Tick)) (each_told (with_new_job e number count) count none_promised (range_with_len 0 8))
 
 less : (k n : ℕ) → nat_lt k n ≡ true → k ≤ n
 less k n t = grind (arith, nat_tests)
@@ -207,7 +207,7 @@ module _ (first : Cleaner) (what : Do) (its : IsTaken first what) where
   becomes : (e f : Emptying) (d : Done) → Move first what (Serving e) (serves_on (still f)) → Serves f d → Serves e d
   becomes e f d move rest = Then (serves_on (still f)) (serves_on d) move rest
 
-  cleaned : (e : Emptying) (given : In) → Given first what e given → Serves e (cleans e given)
+  cleaned : (e : Emptying) (given : In) → Given first what e given → Serves e (emptying_clean e given)
   cleaned e given came = Last (Cleans given came)
 
   notes : (p : Phase) (items : Items) (d : Went_to) → Noted first what (items_in p) items → Goes (noted p items) d → Goes p d
@@ -224,14 +224,14 @@ module _ (first : Cleaner) (what : Do) (its : IsTaken first what) where
 
   -- ---- a fall
 
-  crashed : (p : Phase) (number : ℕ) → Goes p (crashes (lasting_of p) number)
-  unfolding crashes
+  crashed : (p : Phase) (number : ℕ) → Goes p (crash (lasting_of p) number)
+  unfolding crash
   crashed p number =
       let l : Lasting = lasting_of p in
-      let last : Went_to = record { state = Down (record l { items = answered l.items }); outs = Answers number answer.Done ∷ [] } in
+      let last : Went_to = record { state = Down (record l { items = items_answer l.items }); outs = Answers number answer.Done ∷ [] } in
       answers_open p l.items.unanswered answer.Cut last refl
       (Then (still (Down l)) last Falls
-      (notes (Down l) (answered l.items) last ItemAnswered (Last (AnswersItem number answer.Done (OtherDue refl)))))
+      (notes (Down l) (items_answer l.items) last ItemAnswered (Last (AnswersItem number answer.Done (OtherDue refl)))))
 
   -- ---- an opening
 
@@ -243,15 +243,15 @@ module _ (first : Cleaner) (what : Do) (its : IsTaken first what) where
     unfolding after_opening
     ended (progress.Opening x) fact = Rests
     ended (progress.Opened r) fact =
-        let e : Emptying = served drawing r in
-        let last : Phase = noted (Serving e) (answered e.lasting.items) in
+        let e : Emptying = emptying_back drawing r in
+        let last : Phase = noted (Serving e) (items_answer e.lasting.items) in
         let said : Went_to = record { state = last; outs = answers_unanswered l.items.unanswered answer.Done } in
-        Then (record { state = Serving e; outs = pushes_all e.promised.managers e.feed }) said TellsDeltas
-        (notes (Serving e) (answered e.lasting.items) said ItemAnswered
+        Then (record { state = Serving e; outs = push_all e.promised.managers e.feed }) said TellsDeltas
+        (notes (Serving e) (items_answer e.lasting.items) said ItemAnswered
         (answers_last last l.items.unanswered answer.Done (λ number waits. OtherDue refl)))
     ended (progress.Lost seg) fact =
-        let last : Phase = noted (Down drawing) (answered l.items) in
-        notes (Down drawing) (answered l.items) (record { state = last; outs = answers_unanswered l.items.unanswered (answer.Lost seg) }) ItemAnswered
+        let last : Phase = noted (Down drawing) (items_answer l.items) in
+        notes (Down drawing) (items_answer l.items) (record { state = last; outs = answers_unanswered l.items.unanswered (answer.Lost seg) }) ItemAnswered
         (answers_last last l.items.unanswered (answer.Lost seg) (λ number waits. LossDue l o w number seg same by fact waits))
 
     opened : Goes (Opening l o) (opened_on l w)
@@ -265,18 +265,18 @@ module _ (first : Cleaner) (what : Do) (its : IsTaken first what) where
     abbrev Follows : Option ℕ → Type 0
     Follows item = next_item (items_in first.phase) ≡ item
 
-    job_begun : (e : Emptying) (number count : ℕ) → Follows (Some number) → Serves e (begins_job e number count)
+    job_begun : (e : Emptying) (number count : ℕ) → Follows (Some number) → Serves e (begin_job e number count)
     job_begun e number count following =
-        let f : Emptying = record e { lasting = record e.lasting { items = waiting e.lasting.items number } } in
+        let f : Emptying = record e { lasting = record e.lasting { items = items_wait e.lasting.items number } } in
         let g : Emptying = record f { job = Some (begun_job e.promised count) } in
         subst (Serves e) (sym (begins_so e number count))
-        (notes (Serving e) (waiting e.lasting.items number) (serves_on (cleans g input.Tick)) (ItemWaits number event following)
-        (becomes f g (cleans g input.Tick) (BeginsJob count event) (cleaned g input.Tick TimePassed)))
+        (notes (Serving e) (items_wait e.lasting.items number) (serves_on (emptying_clean g input.Tick)) (ItemWaits number event following)
+        (becomes f g (emptying_clean g input.Tick) (BeginsJob count event) (cleaned g input.Tick TimePassed)))
 
     cleaning_wished : (e : Emptying) (number count : ℕ) → Follows (Some number) → Serves e (on_clean e number count)
     unfolding on_clean
     cleaning_wished e number count following =
-        by_test (Serves e) (is_some e.lasting.items.unanswered) (record { state = e; outs = Answers number answer.Busy ∷ [] }) (begins_job e number count)
+        by_test (Serves e) (is_some e.lasting.items.unanswered) (record { state = e; outs = Answers number answer.Busy ∷ [] }) (begin_job e number count)
         (λ _. Last (AnswersItem number answer.Busy (OtherDue refl))) (λ _. job_begun e number count following)
 
     down_wish : (l : Lasting) (number : ℕ) (wish : Wish) → Follows (Some number) → Goes (Down l) (down_wishes first.peers.servers l number wish)
@@ -306,8 +306,8 @@ module _ (first : Cleaner) (what : Do) (its : IsTaken first what) where
     serving_item e None following = Rests
     serving_item e (Some number) following = serving_wish e number (wish_at e.lasting.items number) following
 
-    begun_items : (p : Phase) → first.phase ≡ p → Noted first what (items_in p) (begun (items_in p))
-    begun_items p same = subst (λ q. Noted first what (items_in q) (begun (items_in q))) same (ItemBegun event)
+    begun_items : (p : Phase) → first.phase ≡ p → Noted first what (items_in p) (items_begin (items_in p))
+    begun_items p same = subst (λ q. Noted first what (items_in q) (items_begin (items_in q))) same (ItemBegun event)
 
     following_in : (p : Phase) → first.phase ≡ p → Follows (next_item (items_in p))
     following_in p same = ap (λ q. next_item (items_in q)) same
@@ -315,31 +315,31 @@ module _ (first : Cleaner) (what : Do) (its : IsTaken first what) where
     item_begun : (p : Phase) → first.phase ≡ p → Goes p (on_begin first.peers.servers p)
     unfolding on_begin
     item_begun (Down l) same =
-        notes (Down l) (begun l.items) (down_at first.peers.servers (begun_life l) (next_item l.items)) (begun_items (Down l) same)
+        notes (Down l) (items_begin l.items) (down_at first.peers.servers (begun_life l) (next_item l.items)) (begun_items (Down l) same)
         (down_item (begun_life l) (next_item l.items) (following_in (Down l) same))
     item_begun (Opening l o) same =
-        notes (Opening l o) (begun l.items) (opening_at (begun_life l) o (next_item l.items)) (begun_items (Opening l o) same)
+        notes (Opening l o) (items_begin l.items) (opening_at (begun_life l) o (next_item l.items)) (begun_items (Opening l o) same)
         (opening_item (begun_life l) o (next_item l.items))
     item_begun (Serving e) same =
         let f : Emptying = record e { lasting = begun_life e.lasting } in
-        notes (Serving e) (begun e.lasting.items) (serving_at f (next_item e.lasting.items)) (begun_items (Serving e) same)
+        notes (Serving e) (items_begin e.lasting.items) (serving_at f (next_item e.lasting.items)) (begun_items (Serving e) same)
         (serving_item f (next_item e.lasting.items) (following_in (Serving e) same))
 
   -- ---- the reading of the segment in hand
 
-  read_over : (e : Emptying) (read : Option Segment) → Given first what (left_reading e) (input.Read read) → Serves e (ends_reading e read)
-  unfolding ends_reading
-  read_over e read came = becomes e (left_reading e) (cleans (left_reading e) (input.Read read)) LeavesReading (cleaned (left_reading e) (input.Read read) came)
+  read_over : (e : Emptying) (read : Option Segment) → Given first what (left_reading e) (input.Read read) → Serves e (end_reading e read)
+  unfolding end_reading
+  read_over e read came = becomes e (left_reading e) (emptying_clean (left_reading e) (input.Read read)) LeavesReading (cleaned (left_reading e) (input.Read read) came)
 
   confirmed_then : (e : Emptying) (x : Next) → Serves e (after_confirmed e x)
   confirmed_then e next.Ask = Last Fetches
   confirmed_then e next.Lost = read_over e None SegmentLost
   confirmed_then e _ = Rests
 
-  read_again : (e : Emptying) → Serves e (reads_again e)
-  unfolding reads_again
+  read_again : (e : Emptying) → Serves e (emptying_read_again e)
+  unfolding emptying_read_again
   read_again e =
-      let h : Heard Emptying = confirmed (with_questions e (drawn e.lasting.questions)) (next_ask e.lasting.questions) in
+      let h : Heard Emptying = confirmed (with_questions e (draw e.lasting.questions)) (next_ask e.lasting.questions) in
       becomes e h.state (after_confirmed h.state h.next) ReadsOn (confirmed_then h.state h.next)
 
   -- ---- packets, of one that serves
@@ -348,45 +348,45 @@ module _ (first : Cleaner) (what : Do) (its : IsTaken first what) where
     came : (said : Body) → packet.body ≡ said → Came what packet said
     came said says = record { event = event; says = says }
 
-    told_then : (ask server : ℕ) (t : Told) → Tells first what e ask server t → (x : Next) → (told_by e ask server t).next ≡ x
-        → Serves (told_by e ask server t).state (after_told (told_by e ask server t).state x)
+    told_then : (ask server : ℕ) (t : Told) → Tells first what e ask server t → (x : Next) → (emptying_hear e ask server t).next ≡ x
+        → Serves (emptying_hear e ask server t).state (after_told (emptying_hear e ask server t).state x)
     told_then ask server t tells next.Wait fact = Rests
     told_then ask server t tells next.Ask fact = Rests
-    told_then ask server t tells next.Again fact = read_again (told_by e ask server t).state
+    told_then ask server t tells next.Again fact = read_again (emptying_hear e ask server t).state
     told_then ask server t tells (next.Read segment) fact =
-        read_over (told_by e ask server t).state (Some segment) (SegmentRead ask server t segment tells fact)
-    told_then ask server t tells next.Lost fact = read_over (told_by e ask server t).state None SegmentLost
+        read_over (emptying_hear e ask server t).state (Some segment) (SegmentRead ask server t segment tells fact)
+    told_then ask server t tells next.Lost fact = read_over (emptying_hear e ask server t).state None SegmentLost
 
     told_came : (server : Option ℕ) (ask : ℕ) (t : Told) → ((v : ℕ) → server ≡ Some v → Tells first what e ask v t) → Serves e (on_told e server ask t)
     unfolding on_told
     told_came None ask t tells = Rests
     told_came (Some server) ask t tells =
-        let h : Heard Emptying = told_by e ask server t in
+        let h : Heard Emptying = emptying_hear e ask server t in
         becomes e h.state (after_told h.state h.next) (HearsServer ask server t (tells server refl)) (told_then ask server t (tells server refl) h.next refl)
 
     list_came : (server : Option ℕ) (m : Listed) → server_in packet.from ≡ server → packet.body ≡ body.Listed m → Serves e (on_listed e server m)
     unfolding on_listed
     list_came None m from says = Rests
     list_came (Some server) m from says =
-        by_test (Serves e) (is_out (lists_of e.job) m.ask) (cleans e (input.Listed server m.held)) (still e)
+        by_test (Serves e) (is_out (lists_of e.job) m.ask) (emptying_clean e (input.Listed server m.held)) (still e)
         (λ _. cleaned e (input.Listed server m.held) (ListCame packet server m same (came (body.Listed m) says) from)) (λ _. Rests)
 
     usage_came : (m : Usage) → packet.body ≡ body.Usage m → Serves e (on_usage e m)
     unfolding on_usage
     usage_came m says =
-        by_test (Serves e) (is_out (usages_of e.job) m.ask) (cleans e (input.Usage m.slot m.epoch m.counts)) (still e)
+        by_test (Serves e) (is_out (usages_of e.job) m.ask) (emptying_clean e (input.Usage m.slot m.epoch m.counts)) (still e)
         (λ _. cleaned e (input.Usage m.slot m.epoch m.counts) (UsageCame packet m same (came (body.Usage m) says))) (λ _. Rests)
 
     live_came : (m : Live) → packet.body ≡ body.Live m → Serves e (on_live e m)
     unfolding on_live
     live_came m says =
-        by_test (Serves e) (is_out (check_of (hand_of e.job) m.block) m.ask) (cleans e (input.Live m.block m.epoch m.entry)) (still e)
+        by_test (Serves e) (is_out (check_of (hand_of e.job) m.block) m.ask) (emptying_clean e (input.Live m.block m.epoch m.entry)) (still e)
         (λ asked. cleaned e (input.Live m.block m.epoch m.entry) (LiveCame packet m same (came (body.Live m) says) asked)) (λ _. Rests)
 
     dead_came : (m : Dead) → packet.body ≡ body.Dead m → Serves e (on_dead e m)
     unfolding on_dead
     dead_came m says =
-        by_test (Serves e) (is_out (check_of (hand_of e.job) m.block) m.ask) (cleans e (input.Dead m.block m.epoch)) (still e)
+        by_test (Serves e) (is_out (check_of (hand_of e.job) m.block) m.ask) (emptying_clean e (input.Dead m.block m.epoch)) (still e)
         (λ asked. cleaned e (input.Dead m.block m.epoch) (DeadCame packet m same (came (body.Dead m) says) asked)) (λ _. Rests)
 
     deleted_came : (server : Option ℕ) (m : Deleted) → server_in packet.from ≡ server → packet.body ≡ body.Deleted m → Serves e (on_deleted e server m)
@@ -404,21 +404,21 @@ module _ (first : Cleaner) (what : Do) (its : IsTaken first what) where
     -- ---- promises
 
     reported : (manager : ℕ) (m : Poll) → packet.from ≡ node.Manager manager → packet.body ≡ body.Poll m → epoch_of e.promised m.slot ≤ m.epoch
-        → Serves e (reports e manager m)
+        → Serves e (emptying_report e manager m)
     reported manager m from says low =
-        let kept : Emptying = promises e m.slot m.epoch manager in
+        let kept : Emptying = emptying_promise e m.slot m.epoch manager in
         let said : Went_to = record {
           state = Serving kept;
           outs = Send (node.Manager manager) (body.Report (record { slot = m.slot; epoch = m.epoch; held = []; end = kept.log.end })) ∷ [];
         } in
-        becomes e kept (reports e manager m) (Promises m.slot m.epoch manager (PollCame packet manager m (came (body.Poll m) says) from) low)
-        (Then said (serves_on (cleans kept (input.Promise m.slot m.epoch))) (Reports packet manager m same (came (body.Poll m) says) from low)
+        becomes e kept (emptying_report e manager m) (Promises m.slot m.epoch manager (PollCame packet manager m (came (body.Poll m) says) from) low)
+        (Then said (serves_on (emptying_clean kept (input.Promise m.slot m.epoch))) (Reports packet manager m same (came (body.Poll m) says) from low)
         (cleaned kept (input.Promise m.slot m.epoch) (SlotPromised m.slot m.epoch)))
 
     poll_came : (from : NodeId) (m : Poll) → packet.from ≡ from → packet.body ≡ body.Poll m → Serves e (on_poll e from m)
     unfolding on_poll
     poll_came (node.Manager manager) m from says =
-        by_test (Serves e) (nat_lt m.epoch (epoch_of e.promised m.slot)) (still e) (reports e manager m) (λ _. Rests)
+        by_test (Serves e) (nat_lt m.epoch (epoch_of e.promised m.slot)) (still e) (emptying_report e manager m) (λ _. Rests)
         (λ t. reported manager m from says (ltb-false m.epoch (epoch_of e.promised m.slot) t))
     poll_came (node.Client n) m from says = Rests
     poll_came (node.Server n) m from says = Rests
@@ -428,38 +428,38 @@ module _ (first : Cleaner) (what : Do) (its : IsTaken first what) where
     -- ---- the maps
 
     module _ (news : News) (brought : Brought what packet news) where
-      slot_heard : (f : Emptying) (s : SlotNews) → Contains news.slots s → Serves f (hears_slot f s)
-      unfolding hears_slot
+      slot_heard : (f : Emptying) (s : SlotNews) → Contains news.slots s → Serves f (hear_slot f s)
+      unfolding hear_slot
       slot_heard f s among =
-          let kept : Emptying = promises f s.slot s.epoch s.manager in
-          by_test (Serves f) (nat_lt (epoch_of f.promised s.slot) s.epoch) (cleans kept (input.Promise s.slot s.epoch)) (still f)
-          (λ t. becomes f kept (cleans kept (input.Promise s.slot s.epoch))
+          let kept : Emptying = emptying_promise f s.slot s.epoch s.manager in
+          by_test (Serves f) (nat_lt (epoch_of f.promised s.slot) s.epoch) (emptying_clean kept (input.Promise s.slot s.epoch)) (still f)
+          (λ t. becomes f kept (emptying_clean kept (input.Promise s.slot s.epoch))
           (Promises s.slot s.epoch s.manager (NewsCame packet news s brought among) (less (epoch_of f.promised s.slot) s.epoch t))
           (cleaned kept (input.Promise s.slot s.epoch) (SlotPromised s.slot s.epoch)))
           (λ _. Rests)
 
-      slots_heard : (f : Emptying) (slots : List SlotNews) → ((s : SlotNews) → Contains slots s → Contains news.slots s) → Serves f (steps hears_slot f slots)
+      slots_heard : (f : Emptying) (slots : List SlotNews) → ((s : SlotNews) → Contains slots s → Contains news.slots s) → Serves f (steps hear_slot f slots)
       slots_heard f [] among = Rests
       slots_heard f (s ∷ slots) among =
-          in_turn f (hears_slot f s) (steps hears_slot (hears_slot f s).state slots) (slot_heard f s (among s (contains_first s slots)))
-          (slots_heard (hears_slot f s).state slots (λ x more. among x (contains_rest s x slots more)))
+          in_turn f (hear_slot f s) (steps hear_slot (hear_slot f s).state slots) (slot_heard f s (among s (contains_first s slots)))
+          (slots_heard (hear_slot f s).state slots (λ x more. among x (contains_rest s x slots more)))
 
-      groups_heard : (f : Emptying) (newer : Bool) → Serves f (job_regrouped f newer news.groups)
+      groups_heard : (f : Emptying) (newer : Bool) → Serves f (regroup_job f newer news.groups)
       groups_heard f true = cleaned f (input.Maps news.groups) (MapsCame packet news brought)
       groups_heard f false = Rests
 
-      log_heard : (f : Emptying) (newer : Bool) → f.log ≡ e.log → Serves f (log_regrouped f newer news.groups)
+      log_heard : (f : Emptying) (newer : Bool) → f.log ≡ e.log → Serves f (regroup_log f newer news.groups)
       log_heard f true as_was = Last (LogTakes (log_in.Maps news.groups) (GroupsCame e packet news same as_was brought))
       log_heard f false as_was = Rests
 
-      news_taken : Serves e (takes_news e news)
-      unfolding takes_news hears_slots
+      news_taken : Serves e (take_news e news)
+      unfolding take_news hear_slots
       news_taken =
           let newer : Bool = is_older e.maps news in
-          let t : Emptying = record e { maps = taken e.maps news } in
-          let a : Done = job_regrouped t newer news.groups in
-          let b : Done = steps hears_slot a.state news.slots in
-          let c : Done = log_regrouped b.state newer news.groups in
+          let t : Emptying = record e { maps = maps_take e.maps news } in
+          let a : Done = regroup_job t newer news.groups in
+          let b : Done = steps hear_slot a.state news.slots in
+          let c : Done = regroup_log b.state newer news.groups in
           becomes e t (saying a.outs (saying b.outs c)) (TakesMaps packet news brought)
           (in_turn t a (saying b.outs c) (groups_heard t newer)
           (in_turn a.state b c (slots_heard a.state news.slots (λ s among. among))
@@ -467,27 +467,27 @@ module _ (first : Cleaner) (what : Do) (its : IsTaken first what) where
 
     news_heard : (m : News) → packet.body ≡ body.MapNews m → Serves e (on_news e m)
     news_heard m says =
-        by_test (Serves e) (fits e.maps m) (takes_news e m) (still e) (λ _. news_taken m (record { event = event; brings = ap news_in says })) (λ _. Rests)
+        by_test (Serves e) (fits e.maps m) (take_news e m) (still e) (λ _. news_taken m (record { event = event; brings = ap news_in says })) (λ _. Rests)
 
     welcomed_over : (f : Emptying) (m : Welcome) (groups : Option GroupMapState) → packet.body ≡ body.Welcome m → f.maps.groups ≡ groups
-        → Serves f (welcomes_over f m.news.slots groups)
+        → Serves f (welcome_over f m.news.slots groups)
     welcomed_over f m None says fact = Rests
     welcomed_over f m (Some groups) says fact =
         cleaned f (input.Welcome m.news.slots groups) (WelcomeCame packet m groups (came (body.Welcome m) says) fact)
 
-    welcomed : (f : Emptying) (m : Welcome) → packet.body ≡ body.Welcome m → Serves f (welcomes f m)
-    unfolding welcomes
+    welcomed : (f : Emptying) (m : Welcome) → packet.body ≡ body.Welcome m → Serves f (emptying_welcome f m)
+    unfolding emptying_welcome
     welcomed f m says =
-        let t : Emptying = record f { job = greeted f.job } in
-        by_test (Serves f) (is_out (hello_of f.job) m.ask) (welcomes_over t m.news.slots f.maps.groups) (still f)
-        (λ _. becomes f t (welcomes_over t m.news.slots f.maps.groups) IsGreeted (welcomed_over t m f.maps.groups says refl)) (λ _. Rests)
+        let t : Emptying = record f { job = note_greeted f.job } in
+        by_test (Serves f) (is_out (hello_of f.job) m.ask) (welcome_over t m.news.slots f.maps.groups) (still f)
+        (λ _. becomes f t (welcome_over t m.news.slots f.maps.groups) IsGreeted (welcomed_over t m f.maps.groups says refl)) (λ _. Rests)
 
     welcome_heard : (m : Welcome) → packet.body ≡ body.Welcome m → Serves e (on_welcome e m)
     unfolding on_welcome
     welcome_heard m says =
-        let d : Done = takes_news e m.news in
-        by_test (Serves e) ((m.inc == e.lasting.inc) && fits e.maps m.news) (saying d.outs (welcomes d.state m)) (still e)
-        (λ _. in_turn e d (welcomes d.state m) (news_taken m.news (record { event = event; brings = ap news_in says })) (welcomed d.state m says)) (λ _. Rests)
+        let d : Done = take_news e m.news in
+        by_test (Serves e) ((m.inc == e.lasting.inc) && fits e.maps m.news) (saying d.outs (emptying_welcome d.state m)) (still e)
+        (λ _. in_turn e d (emptying_welcome d.state m) (news_taken m.news (record { event = event; brings = ap news_in says })) (welcomed d.state m says)) (λ _. Rests)
 
     -- ---- all packets
 
@@ -512,13 +512,13 @@ module _ (first : Cleaner) (what : Do) (its : IsTaken first what) where
     packet_heard : Serves e (on_packet e packet)
     unfolding on_packet
     packet_heard =
-        by_test (Serves e) (names_known e.maps packet.body) (on_body e packet.from packet.body) (asks_for_maps e) (λ _. body_heard packet.body refl)
+        by_test (Serves e) (names_known_groups e.maps packet.body) (on_body e packet.from packet.body) (ask_for_maps e) (λ _. body_heard packet.body refl)
         (λ _. Last (AsksForMaps its same))
 
-  heard : (p : Phase) (packet : Packet) → first.phase ≡ p → what ≡ Deliver packet → Goes p (hears p packet)
-  unfolding hears
+  heard : (p : Phase) (packet : Packet) → first.phase ≡ p → what ≡ Deliver packet → Goes p (cleaner_hear p packet)
+  unfolding cleaner_hear
   heard (Down l) packet same event = Rests
-  heard (Opening l o) packet same event = opened l o (opening.on_packet o l.questions packet) same (PacketCame packet event)
+  heard (Opening l o) packet same event = opened l o (opening.opening_take o l.questions packet) same (PacketCame packet event)
   heard (Serving e) packet same event = packet_heard e same packet event
 
   -- ---- time
@@ -526,9 +526,9 @@ module _ (first : Cleaner) (what : Do) (its : IsTaken first what) where
   time_passes : (e : Emptying) → Serves e (on_tick e)
   unfolding on_tick
   time_passes e =
-      let j : Done = cleans e input.Tick in
-      let l : Done = writes j.state log_in.Tick in
-      let p : Done = record { state = l.state; outs = pushes_all l.state.promised.managers l.state.feed } in
+      let j : Done = emptying_clean e input.Tick in
+      let l : Done = emptying_write j.state log_in.Tick in
+      let p : Done = record { state = l.state; outs = push_all l.state.promised.managers l.state.feed } in
       in_turn e j (saying l.outs p) (cleaned e input.Tick TimePassed)
       (in_turn j.state l p (Last (LogTakes log_in.Tick LogTicks)) (Last TellsDeltas))
 
@@ -541,11 +541,11 @@ module _ (first : Cleaner) (what : Do) (its : IsTaken first what) where
 one_packet : (a b : Packet) → Deliver a ≡ Deliver b → a ≡ b
 one_packet a b same = cc
 
-happened : (first : Cleaner) (what : Do) → phase_room first.phase ≡ true → Moves first what first.phase (happens first.peers first.phase what)
+happened : (first : Cleaner) (what : Do) → phase_has_room first.phase ≡ true → Moves first what first.phase (happens first.peers first.phase what)
 unfolding on_deliver
 happened first Begin room = item_begun first Begin (record { room = room; formed = λ q clash. absurd cc }) refl first.phase refl
 happened first (Deliver packet) room =
-    by_test (Moves first (Deliver packet) first.phase) (is_well_formed first.peers packet) (hears first.phase packet) (still first.phase)
+    by_test (Moves first (Deliver packet) first.phase) (is_well_formed first.peers packet) (cleaner_hear first.phase packet) (still first.phase)
     (λ t. heard first (Deliver packet)
     (record { room = room; formed = λ q same. subst (λ (x : Packet). is_well_formed first.peers x ≡ true) (one_packet packet q same) t })
     first.phase packet refl refl) (λ _. Rests)
@@ -553,5 +553,5 @@ happened first Tick room = passed first Tick (record { room = room; formed = λ 
 
 pub cleaner_events_are_moves : CleanerEventsAreMoves
 cleaner_events_are_moves first what =
-    by_test (Moves first what first.phase) (phase_room first.phase) (happens first.peers first.phase what) (still first.phase) (λ room. happened first what room)
+    by_test (Moves first what first.phase) (phase_has_room first.phase) (happens first.peers first.phase what) (still first.phase) (λ room. happened first what room)
     (λ _. Rests)

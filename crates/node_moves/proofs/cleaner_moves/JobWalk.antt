@@ -24,7 +24,7 @@ use Rattle.xfs_base.specs.Steps.{still}
 use Rattle.segment_format.specs.declared.segment.Segment.{Segment}
 use Rattle.group_map.specs.GroupMapState.{GroupMapState}
 use Rattle.stripe_cleaner.specs.Candidates.{is_candidate, candidates_with_one, candidates_with}
-use Rattle.stripe_cleaner.specs.Checks.{moved_once, all_dead, any_asked, checks_from, after_live, after_dead, after_moved, is_awaited, live_at, dead_at, moved_at, move_from, moves, place_in, questions}
+use Rattle.stripe_cleaner.specs.Checks.{moved_once, all_dead, any_asked, checks_of, after_live, after_dead, after_moved, is_awaited, live_at, dead_at, moved_at, move_of, moves, place_in, questions}
 use Rattle.stripe_cleaner.specs.CleaningState.{CleaningState}
 use Rattle.stripe_cleaner.specs.Counting.{CountingState, all_slots, has_usage, is_counted, awaited_slots, fullness_cmp, fullness_of, by_fullness_with_one, by_fullness, segment_at, chosen}
 use Rattle.stripe_cleaner.specs.declared.checks.Check.{Check}
@@ -37,12 +37,12 @@ use Rattle.stripe_cleaner.specs.declared.output.Out.{Out}
 use Rattle.stripe_cleaner.specs.declared.output.Out.TheVariants as out
 use Rattle.stripe_cleaner.specs.declared.phase.Phase.{Phase}
 use Rattle.stripe_cleaner.specs.declared.phase.Phase.TheVariants.{Greeting, Listing, Counting, Reading, Checking, Deleting, Over}
-use Rattle.stripe_cleaner.specs.Job.{Turn, next_of, next, servers_of, deletes, deleting, counted, left_to_delete, same_name, on_deleted, checking, on_read, looked_at, is_moving, on_moved}
+use Rattle.stripe_cleaner.specs.Job.{Turn, next_of, next, servers_of, deletes, job_delete, counted, job_go_on, same_name, on_deleted, job_check, on_read, job_look, is_moving, on_moved}
 use Rattle.stripe_cleaner.specs.JobState.{JobState}
-use Rattle.stripe_cleaner.specs.Listing.{ListingState, begun, is_among, without}
+use Rattle.stripe_cleaner.specs.Listing.{ListingState, listing_begin, is_among, without}
 use Rattle.stripe_cleaner.specs.Promises.{is_promised, is_above, promised_with}
 use Rattle.stripe_cleaner.specs.Transition as cleaning
-use Rattle.stripe_cleaner.specs.Transition.{Done, turned, lists, usage_asks, is_greeting, welcomed, on_welcome, forgotten, forgetting, on_promise, mapped, listed, heard, on_list, usage_with, listed_in, counted_in, read_in, answered_in, moved_in, deleted_in, awaits, on_usage, is_heard, may_move, on_live, on_dead, transition}
+use Rattle.stripe_cleaner.specs.Transition.{Done, turned, lists, usage_asks, is_greeting, welcomed, on_welcome, forgotten, forgetting, on_promise, mapped, listing_go_on, listing_hear, on_list, counting_hear, listed_in, counted_in, read_in, answered_in, moved_in, deleted_in, phase_asking, on_usage, cleaning_hears, may_move, on_live, on_dead, transition}
 
 pub record WalkLaw : Type 1 where
   -- what is known of a block by its fate, what a Live tells of a block of this fate, what is known of a segment that is read, and where the maps are asked for
@@ -57,7 +57,7 @@ pub record WalkLaw : Type 1 where
   -- nothing of a block that was moved, or is dead
   pub moved : (block : BlockId) → FateSo block Moved
   pub dead : (block : BlockId) → FateSo block Dead
-  pub reads : (s : Segment) → ReadSo s → AllByRecursion (λ (c : Check). FateSo c.block c.fate) (checks_from 0 s.items)
+  pub reads : (s : Segment) → ReadSo s → AllByRecursion (λ (c : Check). FateSo c.block c.fate) (checks_of 0 s.items)
   -- what is live is to be moved once
   pub lives : (block told : BlockId) (entry : Entry) (value : Option (List ℕ)) → same_block block told ≡ true → LiveSo told entry (Asked value)
       → may_move entry ≡ true → FateSo block (Asked value) → FateSo block (Live (moved_once entry) value)
@@ -207,7 +207,7 @@ module _ (w : WalkLaw) where
   answers_so answer each (c ∷ checks) all = (each c all.0, answers_so answer each checks all.1)
 
   one_move : (block : BlockId) (fate : Fate) (others : List (BlockId × Entry × Option (List ℕ))) → w.FateSo block fate → AllByRecursion MoveSo others
-      → AllByRecursion MoveSo (cons_option (move_from block fate) others)
+      → AllByRecursion MoveSo (cons_option (move_of block fate) others)
   one_move block (Live e value) others h rest = (h, rest)
   one_move block _ others h rest = rest
 
@@ -230,28 +230,28 @@ module _ (w : WalkLaw) where
   deletes_so : (seg : SegRef) (servers : List ℕ) → RefSo seg → AllByRecursion OutSo (deletes seg.name servers)
   deletes_so seg servers h = all_map OutSo (λ (server : ℕ). out.Delete server seg.name) (λ server. (seg.group, h)) servers
 
-  deleting_so : (j : JobState) (seg : SegRef) → ChosenSo j.left seg → TurnSo (deleting j seg)
-  deleting_so j seg h = record { phase = record { segments = h; checks = tt }; outs = deletes_so seg (servers_of j.groups seg) h.here }
+  job_delete_so : (j : JobState) (seg : SegRef) → ChosenSo j.left seg → TurnSo (job_delete j seg)
+  job_delete_so j seg h = record { phase = record { segments = h; checks = tt }; outs = deletes_so seg (servers_of j.groups seg) h.here }
 
-  checking_so : (j : JobState) (seg : SegRef) (checks : List Check) → ChosenSo j.left seg → AllByRecursion CheckSo checks → TurnSo (checking j seg checks)
-  unfolding checking
-  checking_so j seg checks h all =
-      by_test TurnSo (all_dead checks) (deleting j seg) (record { state = Checking j seg checks; outs = questions seg checks })
-      (λ _. deleting_so j seg h) (λ _. record { phase = record { segments = h; checks = all }; outs = asks_so seg checks })
+  job_check_so : (j : JobState) (seg : SegRef) (checks : List Check) → ChosenSo j.left seg → AllByRecursion CheckSo checks → TurnSo (job_check j seg checks)
+  unfolding job_check
+  job_check_so j seg checks h all =
+      by_test TurnSo (all_dead checks) (job_delete j seg) (record { state = Checking j seg checks; outs = questions seg checks })
+      (λ _. job_delete_so j seg h) (λ _. record { phase = record { segments = h; checks = all }; outs = asks_so seg checks })
 
   read_so : (read : Option Segment) (j : JobState) (seg : SegRef) → ChosenSo j.left seg → InputSo (Reading j seg) (input.Read read)
       → TurnSo (on_read read j seg)
   read_so None j seg h fits = next_so j.left j h.behind
   read_so (Some read) j seg h fits =
-      by_test TurnSo (same_name read.name seg.name) (checking j seg (checks_from 0 read.items)) (still (Reading j seg))
-      (λ _. checking_so j seg (checks_from 0 read.items) h (w.reads read fits)) (λ _. stands (Reading j seg) (record { segments = h; checks = tt }))
+      by_test TurnSo (same_name read.name seg.name) (job_check j seg (checks_of 0 read.items)) (still (Reading j seg))
+      (λ _. job_check_so j seg (checks_of 0 read.items) h (w.reads read fits)) (λ _. stands (Reading j seg) (record { segments = h; checks = tt }))
 
   looked_so : (j : JobState) (seg : SegRef) (was_asked : Bool) (checks : List Check) → ChosenSo j.left seg → AllByRecursion CheckSo checks
-      → TurnSo (looked_at j seg was_asked checks)
-  unfolding looked_at
+      → TurnSo (job_look j seg was_asked checks)
+  unfolding job_look
   looked_so j seg was_asked checks h all =
       let on : PhaseSo (Checking j seg checks) = record { segments = h; checks = all } in
-      by_test TurnSo (all_dead checks) (deleting j seg) _ (λ _. deleting_so j seg h)
+      by_test TurnSo (all_dead checks) (job_delete j seg) _ (λ _. job_delete_so j seg h)
       (λ _. by_test TurnSo (was_asked && not (any_asked checks)) (record { state = Checking j seg checks; outs = out.Move (moves checks) ∷ [] })
       (still (Checking j seg checks)) (λ _. record { phase = on; outs = (moves_so checks all, tt) }) (λ _. stands (Checking j seg checks) on))
 
@@ -268,7 +268,7 @@ module _ (w : WalkLaw) where
   deleted_so : (server : ℕ) (name : SegName) (j : JobState) (seg : SegRef) (servers : List ℕ) → ChosenSo j.left seg
       → TurnSo (on_deleted server name j seg servers)
   deleted_so server name j seg servers h =
-      by_test TurnSo (same_name name seg.name && is_among servers server) (left_to_delete j seg (without servers server)) (still (Deleting j seg servers))
+      by_test TurnSo (same_name name seg.name && is_among servers server) (job_go_on j seg (without servers server)) (still (Deleting j seg servers))
       (λ _. by_test TurnSo (length (without servers server) == 0) (next (counted j)) (still (Deleting j seg (without servers server)))
       (λ _. next_so j.left (counted j) h.behind) (λ _. stands (Deleting j seg (without servers server)) (record { segments = h; checks = tt })))
       (λ _. stands (Deleting j seg servers) (record { segments = h; checks = tt }))
@@ -310,7 +310,7 @@ module _ (w : WalkLaw) where
   all_chosen count c all =
       all_segments (take count (by_fullness c)) (all_take FullnessSo count (by_fullness c) (all_by_fullness c.usages c.candidates [] all tt))
 
-  counts_so : (count : ℕ) (c : CountingState) → AllByRecursion CandidateSo c.candidates → TurnSo (cleaning.counted count c)
+  counts_so : (count : ℕ) (c : CountingState) → AllByRecursion CandidateSo c.candidates → TurnSo (cleaning.counting_go_on count c)
   counts_so count c all =
       by_test TurnSo (is_counted c.usages) (next (record { groups = c.groups; left = chosen count c; deleted = 0 })) (still (Counting c))
       (λ _. next_so (chosen count c) (record { groups = c.groups; left = chosen count c; deleted = 0 }) (all_chosen count c all))
@@ -322,8 +322,8 @@ module _ (w : WalkLaw) where
   asked_lists : (servers : List ℕ) → AllByRecursion OutSo (lists servers)
   asked_lists servers = all_map OutSo (λ (server : ℕ). out.List server) (λ server. tt) servers
 
-  listed_so : (l : ListingState) → SegmentsSo (Listing l) → TurnSo (listed l)
-  listed_so l h =
+  listing_go_on_so : (l : ListingState) → SegmentsSo (Listing l) → TurnSo (listing_go_on l)
+  listing_go_on_so l h =
       by_test TurnSo (length l.awaited == 0)
       (record { state = Counting (record { groups = l.groups; candidates = l.candidates; usages = [] }); outs = usage_asks all_slots }) (still (Listing l))
       (λ _. record { phase = record { segments = h.1; checks = tt }; outs = asked_usages all_slots })
@@ -331,8 +331,8 @@ module _ (w : WalkLaw) where
 
   list_so : (server : ℕ) (held : List FragMeta) (l : ListingState) → AllByRecursion w.HeldSo held → SegmentsSo (Listing l) → TurnSo (on_list server held l)
   list_so server held l so h =
-      by_test TurnSo (is_among l.awaited server) (listed (heard l server held)) (still (Listing l))
-      (λ _. listed_so (heard l server held) (h.0, with_candidates l.slots h.0 held l.candidates so h.1))
+      by_test TurnSo (is_among l.awaited server) (listing_go_on (listing_hear l server held)) (still (Listing l))
+      (λ _. listing_go_on_so (listing_hear l server held) (h.0, with_candidates l.slots h.0 held l.candidates so h.1))
       (λ _. stands (Listing l) (record { segments = h; checks = tt }))
 
   -- ---- each input, by the phase
@@ -343,8 +343,8 @@ module _ (w : WalkLaw) where
 
   counted_phase : (count slot : ℕ) (counts : List (SegName × ℕ)) (p : Phase) → PhaseSo p → TurnSo (counted_in count slot counts p)
   counted_phase count slot counts (Counting c) h =
-      by_test TurnSo (has_usage c.usages slot) (still (Counting c)) (cleaning.counted count (usage_with slot counts c)) (λ _. stands (Counting c) h)
-      (λ _. counts_so count (usage_with slot counts c) h.segments)
+      by_test TurnSo (has_usage c.usages slot) (still (Counting c)) (cleaning.counting_go_on count (counting_hear slot counts c)) (λ _. stands (Counting c) h)
+      (λ _. counts_so count (counting_hear slot counts c) h.segments)
   counted_phase count slot counts p h = stands p h
 
   read_phase : (read : Option Segment) (p : Phase) → InputSo p (input.Read read) → PhaseSo p → TurnSo (read_in read p)
@@ -394,14 +394,14 @@ module _ (w : WalkLaw) where
 
   -- ---- time: the maps are asked for by a job that has just begun, and by it alone
 
-  pub awaits_so : (p : Phase) → SegmentsSo p → (p ≡ Greeting → w.Greets) → AllByRecursion OutSo (awaits p)
-  awaits_so Greeting h first = (first refl, tt)
-  awaits_so (Listing l) h first = asked_lists l.awaited
-  awaits_so (Counting c) h first = asked_usages (awaited_slots c.usages)
-  awaits_so (Reading j seg) h first = (h.here, tt)
-  awaits_so (Checking j seg checks) h first = asks_so seg checks
-  awaits_so (Deleting j seg servers) h first = deletes_so seg servers h.here
-  awaits_so Over h first = tt
+  pub phase_asking_so : (p : Phase) → SegmentsSo p → (p ≡ Greeting → w.Greets) → AllByRecursion OutSo (phase_asking p)
+  phase_asking_so Greeting h first = (first refl, tt)
+  phase_asking_so (Listing l) h first = asked_lists l.awaited
+  phase_asking_so (Counting c) h first = asked_usages (awaited_slots c.usages)
+  phase_asking_so (Reading j seg) h first = (h.here, tt)
+  phase_asking_so (Checking j seg checks) h first = asks_so seg checks
+  phase_asking_so (Deleting j seg servers) h first = deletes_so seg servers h.here
+  phase_asking_so Over h first = tt
 
   -- ---- all inputs
 
@@ -419,7 +419,7 @@ module _ (w : WalkLaw) where
   unfolding on_welcome
   welcome_so s slots groups judges h =
       by_test DoneSo (is_greeting s.phase && (length slots == slot_count)) (welcomed s slots groups) (still s)
-      (λ _. record { phase = record { segments = (judges, tt); checks = tt }; outs = asked_lists (begun slots groups).awaited }) (λ _. as_was s h)
+      (λ _. record { phase = record { segments = (judges, tt); checks = tt }; outs = asked_lists (listing_begin slots groups).awaited }) (λ _. as_was s h)
 
   pub walk_so : (s : CleaningState) (i : Input) → PhaseSo s.phase → InputSo s.phase i → DoneSo (transition s i)
   unfolding on_promise on_usage on_live on_dead
@@ -434,13 +434,13 @@ module _ (w : WalkLaw) where
       (λ _. on_turn s (counted_in s.count slot counts s.phase) (counted_phase s.count slot counts s.phase h)) (λ _. as_was s h)
   walk_so s (input.Read read) h so = on_turn s (read_in read s.phase) (read_phase read s.phase so h)
   walk_so s (input.Live block epoch entry) h so =
-      by_test DoneSo (is_heard s.promised block epoch && may_move entry) (turned s (answered_in (live_at block entry) s.phase)) (still s)
+      by_test DoneSo (cleaning_hears s.promised block epoch && may_move entry) (turned s (answered_in (live_at block entry) s.phase)) (still s)
       (λ fact. on_turn s (answered_in (live_at block entry) s.phase)
-      (live_phase block entry s.phase (and_second (is_heard s.promised block epoch) (may_move entry) fact) so h))
+      (live_phase block entry s.phase (and_second (cleaning_hears s.promised block epoch) (may_move entry) fact) so h))
       (λ _. as_was s h)
   walk_so s (input.Dead block epoch) h so =
-      by_test DoneSo (is_heard s.promised block epoch) (turned s (answered_in (dead_at block) s.phase)) (still s)
+      by_test DoneSo (cleaning_hears s.promised block epoch) (turned s (answered_in (dead_at block) s.phase)) (still s)
       (λ _. on_turn s (answered_in (dead_at block) s.phase) (dead_phase block s.phase h)) (λ _. as_was s h)
   walk_so s input.Moved h so = on_turn s (moved_in s.phase) (moved_phase s.phase h)
   walk_so s (input.Deleted server name) h so = on_turn s (deleted_in server name s.phase) (deleted_phase server name s.phase h)
-  walk_so s input.Tick h so = record { phase = h; outs = awaits_so s.phase h.segments (λ _. so) }
+  walk_so s input.Tick h so = record { phase = h; outs = phase_asking_so s.phase h.segments (λ _. so) }

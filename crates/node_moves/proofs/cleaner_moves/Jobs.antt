@@ -7,7 +7,7 @@ use Rattle.xfs_base.specs.Blocks.{same_block}
 use Rattle.xfs_base.specs.declared.block.BlockId.{BlockId}
 use Rattle.xfs_base.specs.declared.entry.Entry.{Entry}
 use Rattle.segment_format.specs.declared.segment.Segment.{Segment}
-use Rattle.stripe_cleaner.specs.Checks.{moved_once, checks_from}
+use Rattle.stripe_cleaner.specs.Checks.{moved_once, checks_of}
 use Rattle.stripe_cleaner.specs.CleaningState.{CleaningState}
 use Rattle.stripe_cleaner.specs.declared.checks.Check.{Check}
 use Rattle.stripe_cleaner.specs.declared.checks.Fate.{Fate}
@@ -18,7 +18,7 @@ use Rattle.stripe_cleaner.specs.declared.output.Out.{Out}
 use Rattle.stripe_cleaner.specs.declared.output.Out.TheVariants as out
 use Rattle.stripe_cleaner.specs.declared.phase.Phase.{Phase}
 use Rattle.stripe_cleaner.specs.declared.phase.Phase.TheVariants.{Greeting}
-use Rattle.stripe_cleaner.specs.Transition.{Done, awaits, may_move, transition}
+use Rattle.stripe_cleaner.specs.Transition.{Done, phase_asking, may_move, transition}
 use Rattle.node_moves.proofs.cleaner_moves.JobWalk.{WalkLaw, SegmentsSo, ChecksSo, any_segments, any_live, walk_so}
 use Rattle.node_moves.proofs.cleaner_moves.JobWalk as walk
 
@@ -31,7 +31,7 @@ pub record JobLaw : Type 1 where
   -- nothing of a block that was moved, or is dead
   pub moved : (block : BlockId) → FateSo block Moved
   pub dead : (block : BlockId) → FateSo block Dead
-  pub reads : (s : Segment) → ReadSo s → AllByRecursion (λ (c : Check). FateSo c.block c.fate) (checks_from 0 s.items)
+  pub reads : (s : Segment) → ReadSo s → AllByRecursion (λ (c : Check). FateSo c.block c.fate) (checks_of 0 s.items)
   -- what is live is to be moved once
   pub lives : (block told : BlockId) (entry : Entry) (value : Option (List ℕ)) → same_block block told ≡ true → LiveSo told entry → may_move entry ≡ true
       → FateSo block (Asked value) → FateSo block (Live (moved_once entry) value)
@@ -93,8 +93,8 @@ module _ (w : JobLaw) where
   out_so (out.Move blocks) so = so
   out_so _ so = tt
 
-  pub awaits_so : (p : Phase) → (p ≡ Greeting → w.Greets) → AllByRecursion OutSo (awaits p)
-  awaits_so p first = all_weaker (walk.OutSo as_walk) OutSo out_so (awaits p) (walk.awaits_so as_walk p (none_of p) first)
+  pub phase_asking_so : (p : Phase) → (p ≡ Greeting → w.Greets) → AllByRecursion OutSo (phase_asking p)
+  phase_asking_so p first = all_weaker (walk.OutSo as_walk) OutSo out_so (phase_asking p) (walk.phase_asking_so as_walk p (none_of p) first)
 
   pub job_so : (s : CleaningState) (i : Input) → PhaseSo s.phase → InputSo i → DoneSo (transition s i)
   job_so s i h so =

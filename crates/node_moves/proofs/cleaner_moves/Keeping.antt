@@ -4,16 +4,16 @@ use Rattle.std.specs.List.{AllByRecursion}
 use Rattle.cleaner_job.specs.declared.hand.Hand.{Hand}
 use Rattle.cleaner_job.specs.declared.job.Job.{Job}
 use Rattle.cleaner_job.specs.declared.lasting.Lasting.{Lasting}
-use Rattle.cleaner_job.specs.Hands.{checks, fetches, fetches_for, hand_confirmed, hand_hears, takes_in_hand}
-use Rattle.cleaner_job.specs.Jobs.{ask_of, drawn_unless, dropped, drops, greeted, hand_checks_in, hand_confirmed_in, hand_hears_in, hand_moved, hand_of, is_whole, job_checks, job_confirmed, job_hears, job_moved, job_read, read_over}
+use Rattle.cleaner_job.specs.Hands.{hand_check, fetches, hand_fetch, hand_confirmed, hand_hear, take_in_hand}
+use Rattle.cleaner_job.specs.Jobs.{ask_of, drawn_unless, dropped, act_dropped, note_greeted, hand_checks_in, hand_confirmed_in, hand_hears_in, hand_moved, hand_of, is_whole, job_check, job_confirmed, job_hear, note_moved, note_read, read_over}
 use Rattle.cleaner_job.specs.Starting.{cleaner_log}
-use Rattle.cleaner_node.specs.CleanerEvents.{Went_to, lasting_of, next_life, restarts, serves_on, takes}
+use Rattle.cleaner_node.specs.CleanerEvents.{Went_to, lasting_of, next_life, restart, serves_on, takes}
 use Rattle.cleaner_node.specs.declared.cleaner.Cleaner.{Cleaner}
 use Rattle.cleaner_node.specs.declared.cleaner.Phase.{Phase}
 use Rattle.cleaner_node.specs.declared.cleaner.Phase.TheVariants.{Down, Opening, Serving}
 use Rattle.cleaner_serving.specs.declared.emptying.Emptying.{Emptying}
-use Rattle.cleaner_serving.specs.EmptyingEvents.{fed, promises, settles, writes, writes_one}
-use Rattle.cleaner_serving.specs.Jobs.{Done, asks_check, asks_list, asks_maps, asks_usage, check_sent, checked_in, checks_block, cleans, confirmed, confirmed_in, deletes, finishes, holds, holds_in, job_takes, moves, puts, puts_block, reads, says, takes_in, told_by, told_in, with_questions}
+use Rattle.cleaner_serving.specs.EmptyingEvents.{fed, emptying_promise, emptying_settle, emptying_write, write_one}
+use Rattle.cleaner_serving.specs.Jobs.{Done, ask_check, ask_list, ask_maps, ask_usage, check_sent, checked_in, emptying_check, emptying_clean, confirmed, confirmed_in, emptying_delete, emptying_finish, emptying_hold, holds_in, emptying_take, move_all, emptying_put, put_block, emptying_read, says, takes_in, emptying_hear, told_in, with_questions}
 use Rattle.client_log.specs.declared.input.In.{In as LogIn}
 use Rattle.client_log.specs.declared.input.In.TheVariants as log_in
 use Rattle.client_log.specs.declared.output.Out.{Out as LogOut}
@@ -24,16 +24,16 @@ use Rattle.group_map.specs.declared.group.Member.{Member}
 use Rattle.group_map.specs.GroupMapState.{GroupMapState}
 use Rattle.log_owner.specs.declared.opening.Opening as openings
 use Rattle.log_owner.specs.Opening.{Went, stored}
-use Rattle.log_owner.specs.Promised.{epoch_of, manager_of, promised_to}
-use Rattle.log_owner.specs.Sending.{fetch, hello, name_of, pushes_all, store}
-use Rattle.node_base.specs.Asking.{drawn, next_ask}
-use Rattle.node_base.specs.Beginning.{answered, answers_unanswered, next_item}
+use Rattle.log_owner.specs.Promised.{epoch_of, manager_of, promise_to}
+use Rattle.log_owner.specs.Sending.{fetch, hello, name_of, push_all, store}
+use Rattle.node_base.specs.Asking.{draw, next_ask}
+use Rattle.node_base.specs.Beginning.{items_answer, answers_unanswered, next_item}
 use Rattle.node_base.specs.declared.effects.Effect.{Effect}
 use Rattle.node_base.specs.declared.effects.Effect.TheVariants.{Answer as Answers, Does, Send}
 use Rattle.node_base.specs.declared.items.Items.{Items}
 use Rattle.node_base.specs.declared.questions.Questions.{Questions}
-use Rattle.node_base.specs.Maps.{taken}
-use Rattle.segment_reading.specs.Reading.{ReadingState, to_ask}
+use Rattle.node_base.specs.Maps.{maps_take}
+use Rattle.segment_reading.specs.Reading.{ReadingState, reading_unanswered}
 use Rattle.stripe_cleaner.specs.declared.input.In.{In}
 use Rattle.stripe_cleaner.specs.declared.input.In.TheVariants as input
 use Rattle.stripe_cleaner.specs.declared.output.Out.{Out}
@@ -76,7 +76,7 @@ its e job = record e { job = Some job }
 
 -- with one more question drawn
 abbrev drawing : Emptying → Emptying
-drawing e = with_questions e (drawn e.lasting.questions)
+drawing e = with_questions e (draw e.lasting.questions)
 
 -- because of what a job has other questions out
 pub data Asks (job : Job) (q : Questions) : Option ℕ → Option ℕ → Option ℕ → Questions → Type 0 where
@@ -89,25 +89,25 @@ pub data Asks (job : Job) (q : Questions) : Option ℕ → Option ℕ → Option
 pub data Rehands (first : Cleaner) (what : Do) (O : Out → Type 0) (groups : Option GroupMapState) : Option Hand → Questions → Option Hand → Questions → Type 0
   where
     TakenUp : {hand : Option Hand} {q : Questions} (seg : SegRef) → O (out.Fetch seg)
-        → Rehands first what O groups hand q (takes_in_hand groups q hand seg).hand (takes_in_hand groups q hand seg).questions
+        → Rehands first what O groups hand q (take_in_hand groups q hand seg).hand (take_in_hand groups q hand seg).questions
     Checked : {hand : Hand} {q : Questions} (block : BlockId)
-        → Rehands first what O groups (Some hand) q (Some (checks hand q block).hand) (checks hand q block).questions
+        → Rehands first what O groups (Some hand) q (Some (hand_check hand q block).hand) (hand_check hand q block).questions
     LetGo : {hand : Option Hand} {q : Questions} → Rehands first what O groups hand q (dropped hand) q
     ReadOver : {hand : Option Hand} {q : Questions} → Rehands first what O groups hand q (read_over hand) q
     MovedOver : {hand : Option Hand} {q : Questions} → Rehands first what O groups hand q (hand_moved hand) q
     Heard : {hand : Hand} {q : Questions} (before : Emptying) (known : GroupMapState) (ask server : ℕ) (t : Told) → Tells first what before ask server t
-        → groups ≡ Some known → Rehands first what O groups (Some hand) q (Some (hand_hears hand known ask server t).state) q
+        → groups ≡ Some known → Rehands first what O groups (Some hand) q (Some (hand_hear hand known ask server t).state) q
     Confirmed : {hand : Hand} {q : Questions} → Rehands first what O groups (Some hand) q (Some (hand_confirmed hand q.last).state) q
 
 pub data Changes (first : Cleaner) (what : Do) (O : Out → Type 0) : Emptying → Emptying → Type 0 where
-  QuestionDrawn : {e : Emptying} → Changes first what O e (with_questions e (drawn e.lasting.questions))
-  MapsTaken : {e : Emptying} (packet : Packet) (news : News) → Brought what packet news → Changes first what O e (record e { maps = taken e.maps news })
+  QuestionDrawn : {e : Emptying} → Changes first what O e (with_questions e (draw e.lasting.questions))
+  MapsTaken : {e : Emptying} (packet : Packet) (news : News) → Brought what packet news → Changes first what O e (record e { maps = maps_take e.maps news })
   FeedRenewed : {e : Emptying} (slot : ℕ) → Changes first what O e (record e { feed = new_epoch e.feed slot })
   AckTaken : {e : Emptying} (slot applied : ℕ) → Changes first what O e (record e { feed = acknowledged e.feed slot applied })
   SlotKept : {e : Emptying} (slot epoch manager : ℕ) → PromisedBy what slot epoch manager → epoch_of e.promised slot ≤ epoch
-      → Changes first what O e (record e { promised = promised_to e.promised slot epoch manager })
+      → Changes first what O e (record e { promised = promise_to e.promised slot epoch manager })
   JobBegun : {e : Emptying} (count : ℕ) → Changes first what O e (record e { job = Some (begun_job e.promised count) })
-  JobEnded : {e : Emptying} → Changes first what O e (record e { lasting = record e.lasting { items = answered e.lasting.items }; job = None })
+  JobEnded : {e : Emptying} → Changes first what O e (record e { lasting = record e.lasting { items = items_answer e.lasting.items }; job = None })
   JobAsked : (e : Emptying) (job : Job) (hello lists usages : Option ℕ) (q : Questions) → Asks job e.lasting.questions hello lists usages q
       → Changes first what O (its e job) (its (with_questions e q) (record job { hello = hello; lists = lists; usages = usages }))
   HandChanged : (e : Emptying) (job : Job) (hand : Option Hand) (q : Questions)
@@ -131,9 +131,9 @@ pub data Gives (first : Cleaner) (what : Do) (O : Out → Type 0) : Emptying →
   JobAnswered : {e : Emptying} (number count : ℕ) → Gives first what O e (Answers number (Count count))
   EndReported : {before : Emptying} (packet : Packet) (manager : ℕ) (m : Poll) → first.phase ≡ Serving before → Came what packet (body.Poll m)
       → packet.from ≡ Manager manager → epoch_of before.promised m.slot ≤ m.epoch
-      → Gives first what O (promises before m.slot m.epoch manager)
+      → Gives first what O (emptying_promise before m.slot m.epoch manager)
       (Send (Manager manager)
-      (body.Report (record { slot = m.slot; epoch = m.epoch; held = []; end = (promises before m.slot m.epoch manager).log.end })))
+      (body.Report (record { slot = m.slot; epoch = m.epoch; held = []; end = (emptying_promise before m.slot m.epoch manager).log.end })))
 
 -- what is put into the log for a job
 pub data Put (O : Out → Type 0) : LogIn → Type 0 where
@@ -164,7 +164,7 @@ module _ (first : Cleaner) (what : Do) (W : Type 0) (Later : W → W → Type 0)
     pub takes : (w : W) (e : Emptying) (job : Job) (given : In) → Later start w → Given first what (its e job) given → P w (Serving (its e job)) → (d : Went_to)
         → ((v : W) → Later w v → P v (Serving (its e (record job { cleaning = (transition job.cleaning given).state })))
         → AllByRecursion (O v) (transition job.cleaning given).outs → Goes v d) → Goes w d
-    pub puts : (w : W) (e : Emptying) (i : LogIn) → Put (O w) i → P w (Serving e) → Goes w (serves_on (puts e i))
+    pub puts : (w : W) (e : Emptying) (i : LogIn) → Put (O w) i → P w (Serving e) → Goes w (serves_on (emptying_put e i))
 
   -- of the log, where `L` is so of what it says
   pub record LogKeeps (L : W → LogOut → Type 0) : Type 0 where
@@ -177,7 +177,7 @@ module _ (first : Cleaner) (what : Do) (W : Type 0) (Later : W → W → Type 0)
         → Goes w
         (record {
           state = Serving (fed e end rows);
-          outs = Does (Filed (name_of cleaner_log end)) ∷ pushes_all e.promised.managers (fed e end rows).feed;
+          outs = Does (Filed (name_of cleaner_log end)) ∷ push_all e.promised.managers (fed e end rows).feed;
         })
 
   -- of any event
@@ -186,12 +186,12 @@ module _ (first : Cleaner) (what : Do) (W : Type 0) (Later : W → W → Type 0)
     pub answers : (w : W) (number : ℕ) (a : Answer) → Due first what number a → Q w (Answers number a)
     pub falls : (w : W) (p : Phase) → P w p → Goes w (still (Down (lasting_of p)))
     pub restarts : (w : W) (l : Lasting) (number : ℕ) → IsTaken first what → what ≡ Begin → next_item (items_in first.phase) ≡ Some number → P w (Down l)
-        → Goes w (restarts first.peers.servers l number)
+        → Goes w (restart first.peers.servers l number)
     pub opens : (w : W) (l : Lasting) (o : openings.Opening) (x : Went) → Later start w → IsTaken first what → first.phase ≡ Opening l o
         → OpenedBy what l o x
         → P w (Opening l o) → Goes w (record { state = came_to (record l { questions = x.questions }) x.progress; outs = x.effects })
-    pub writes : (w : W) (e : Emptying) (i : LogIn) → Later start w → Written first what e i → P w (Serving e) → Goes w (serves_on (writes e i))
-    pub pushes : (w : W) (e : Emptying) → P w (Serving e) → AllByRecursion (Q w) (pushes_all e.promised.managers e.feed)
+    pub writes : (w : W) (e : Emptying) (i : LogIn) → Later start w → Written first what e i → P w (Serving e) → Goes w (serves_on (emptying_write e i))
+    pub pushes : (w : W) (e : Emptying) → P w (Serving e) → AllByRecursion (Q w) (push_all e.promised.managers e.feed)
 
   -- ---- what goes on so
 
@@ -228,32 +228,32 @@ module _ (first : Cleaner) (what : Do) (W : Type 0) (Later : W → W → Type 0)
 
     -- ---- what the job asks
 
-    maps_asked : (w : W) (e : Emptying) (job : Option Job) → e.job ≡ job → At w e → GoesOn w (asks_maps e job)
+    maps_asked : (w : W) (e : Emptying) (job : Option Job) → e.job ≡ job → At w e → GoesOn w (ask_maps e job)
     maps_asked w e None same h = stays w e h
     maps_asked w e (Some job) same h =
         let q : Questions = e.lasting.questions in
-        turns w (its e job) (asks_maps e (Some job)).state (asks_maps e (Some job)).outs
+        turns w (its e job) (ask_maps e (Some job)).state (ask_maps e (Some job)).outs
         (JobAsked e job (Some (ask_of job.hello q)) job.lists job.usages (drawn_unless job.hello q) MapsAsked) (known w e (Some job) same h)
-        (λ v later k. (keeps.gives v (asks_maps e (Some job)).state _ (HelloSaid (ask_of job.hello q)) k, tt))
+        (λ v later k. (keeps.gives v (ask_maps e (Some job)).state _ (HelloSaid (ask_of job.hello q)) k, tt))
 
-    list_asked : (w : W) (e : Emptying) (job : Option Job) (server : ℕ) → e.job ≡ job → At w e → GoesOn w (asks_list e job server)
+    list_asked : (w : W) (e : Emptying) (job : Option Job) (server : ℕ) → e.job ≡ job → At w e → GoesOn w (ask_list e job server)
     list_asked w e None server same h = stays w e h
     list_asked w e (Some job) server same h =
         let q : Questions = e.lasting.questions in
-        turns w (its e job) (asks_list e (Some job) server).state (asks_list e (Some job) server).outs
+        turns w (its e job) (ask_list e (Some job) server).state (ask_list e (Some job) server).outs
         (JobAsked e job job.hello (Some (ask_of job.lists q)) job.usages (drawn_unless job.lists q) ListsAsked) (known w e (Some job) same h)
-        (λ v later k. (keeps.gives v (asks_list e (Some job) server).state _ (ListAsked server (ask_of job.lists q)) k, tt))
+        (λ v later k. (keeps.gives v (ask_list e (Some job) server).state _ (ListAsked server (ask_of job.lists q)) k, tt))
 
-    usage_asked : (w : W) (e : Emptying) (job : Option Job) (slot : ℕ) → e.job ≡ job → At w e → GoesOn w (asks_usage e job slot)
+    usage_asked : (w : W) (e : Emptying) (job : Option Job) (slot : ℕ) → e.job ≡ job → At w e → GoesOn w (ask_usage e job slot)
     usage_asked w e None slot same h = stays w e h
     usage_asked w e (Some job) slot same h =
         let q : Questions = e.lasting.questions in
-        turns w (its e job) (asks_usage e (Some job) slot).state (asks_usage e (Some job) slot).outs
+        turns w (its e job) (ask_usage e (Some job) slot).state (ask_usage e (Some job) slot).outs
         (JobAsked e job job.hello job.lists (Some (ask_of job.usages q)) (drawn_unless job.usages q) UsagesAsked) (known w e (Some job) same h)
-        (λ v later k. (keeps.gives v (asks_usage e (Some job) slot).state _ (UsageAsked slot (ask_of job.usages q)) k, tt))
+        (λ v later k. (keeps.gives v (ask_usage e (Some job) slot).state _ (UsageAsked slot (ask_of job.usages q)) k, tt))
 
-    check_asked : (w : W) (e : Emptying) (block : BlockId) (place : Place) → O w (out.Check block place) → At w e → GoesOn w (asks_check e block place)
-    unfolding asks_check checks_block job_checks
+    check_asked : (w : W) (e : Emptying) (block : BlockId) (place : Place) → O w (out.Check block place) → At w e → GoesOn w (ask_check e block place)
+    unfolding ask_check emptying_check job_check
     check_asked w e block place due h = by_job e.job refl
       where
         by_hand : (job : Job) (hand : Option Hand) → job.hand ≡ hand → At w (its e job)
@@ -261,7 +261,7 @@ module _ (first : Cleaner) (what : Do) (W : Type 0) (Later : W → W → Type 0)
             GoesOn w (check_sent (its (with_questions e c.questions) c.job) block place c.ask))
         by_hand job None same k = stays w (its e job) k
         by_hand job (Some hand) same k =
-            let c = checks hand e.lasting.questions block in
+            let c = hand_check hand e.lasting.questions block in
             let f : Emptying = its (with_questions e c.questions) (record job { hand = Some c.hand }) in
             turns w (its e job) f (check_sent f block place (Some c.ask)).outs
             (HandChanged e job (Some c.hand) c.questions
@@ -277,10 +277,10 @@ module _ (first : Cleaner) (what : Do) (W : Type 0) (Later : W → W → Type 0)
     fetched : (w : W) (e : Emptying) → At w e → Plain w (fetches (hand_of e.job))
     fetched w e h = by_hand (hand_of e.job) refl
       where
-        by_reading : (hand : Hand) → hand_of e.job ≡ Some hand → (r : Option ReadingState) → hand.reading ≡ r → Plain w (fetches_for hand.seg.name r)
+        by_reading : (hand : Hand) → hand_of e.job ≡ Some hand → (r : Option ReadingState) → hand.reading ≡ r → Plain w (hand_fetch hand.seg.name r)
         by_reading hand same None reads = tt
         by_reading hand same (Some r) reads =
-            all_map (Q w) (fetch hand.seg.name r.ask) (λ server. keeps.gives w e _ (FragmentAsked hand r server same reads) h) (to_ask r)
+            all_map (Q w) (fetch hand.seg.name r.ask) (λ server. keeps.gives w e _ (FragmentAsked hand r server same reads) h) (reading_unanswered r)
 
         by_hand : (hand : Option Hand) → hand_of e.job ≡ hand → Plain w (fetches hand)
         by_hand None same = tt
@@ -289,11 +289,11 @@ module _ (first : Cleaner) (what : Do) (W : Type 0) (Later : W → W → Type 0)
     held : (w : W) (e : Emptying) (job : Option Job) (seg : SegRef) → e.job ≡ job → O w (out.Fetch seg) → At w e → GoesOn w (still (holds_in e job seg))
     held w e None seg same due h = stays w e h
     held w e (Some job) seg same due h =
-        let taken_up = takes_in_hand e.maps.groups e.lasting.questions job.hand seg in
+        let taken_up = take_in_hand e.maps.groups e.lasting.questions job.hand seg in
         keeps.changes w (its e job) (holds_in e (Some job) seg) (HandChanged e job taken_up.hand taken_up.questions (TakenUp seg due)) (known w e (Some job) same h)
 
-    read_begun : (w : W) (e : Emptying) (seg : SegRef) → O w (out.Fetch seg) → At w e → GoesOn w (reads e seg)
-    unfolding reads holds
+    read_begun : (w : W) (e : Emptying) (seg : SegRef) → O w (out.Fetch seg) → At w e → GoesOn w (emptying_read e seg)
+    unfolding emptying_read emptying_hold
     read_begun w e seg due h =
         let f : Emptying = holds_in e e.job seg in
         let said : Done = record { state = f; outs = fetches (hand_of f.job) } in
@@ -302,39 +302,39 @@ module _ (first : Cleaner) (what : Do) (W : Type 0) (Later : W → W → Type 0)
     -- ---- what the node does for it
 
     blocks_put : (w : W) (e : Emptying) (blocks : List (BlockId × Entry × Option (List ℕ))) → O w (out.Move blocks) → At w e
-        → GoesOn w (steps puts_block e blocks)
-    unfolding puts_block
+        → GoesOn w (steps put_block e blocks)
+    unfolding put_block
     blocks_put w e [] due h = stays w e h
     blocks_put w e (one ∷ blocks) due h =
         let parts = keeps.apart w one blocks due in
-        and_then w (puts e (log_in.Put one.0 one.1 one.2)) (steps puts_block (puts e (log_in.Put one.0 one.1 one.2)).state blocks)
+        and_then w (emptying_put e (log_in.Put one.0 one.1 one.2)) (steps put_block (emptying_put e (log_in.Put one.0 one.1 one.2)).state blocks)
         (keeps.puts w e (log_in.Put one.0 one.1 one.2) (BlockPut one.0 one.1 one.2 parts.0) h)
-        (λ v later k. blocks_put v (puts e (log_in.Put one.0 one.1 one.2)).state blocks (keeps.due w v later (out.Move blocks) parts.1) k)
+        (λ v later k. blocks_put v (emptying_put e (log_in.Put one.0 one.1 one.2)).state blocks (keeps.due w v later (out.Move blocks) parts.1) k)
 
-    blocks_moved : (w : W) (e : Emptying) (blocks : List (BlockId × Entry × Option (List ℕ))) → O w (out.Move blocks) → At w e → GoesOn w (moves e blocks)
-    unfolding moves
+    blocks_moved : (w : W) (e : Emptying) (blocks : List (BlockId × Entry × Option (List ℕ))) → O w (out.Move blocks) → At w e → GoesOn w (move_all e blocks)
+    unfolding move_all
     blocks_moved w e blocks due h =
-        let d : Done = steps puts_block e blocks in
-        and_then w d (puts d.state log_in.Seal) (blocks_put w e blocks due h) (λ v later k. keeps.puts v d.state log_in.Seal AllPut k)
+        let d : Done = steps put_block e blocks in
+        and_then w d (emptying_put d.state log_in.Seal) (blocks_put w e blocks due h) (λ v later k. keeps.puts v d.state log_in.Seal AllPut k)
 
     segment_deleted : (w : W) (e : Emptying) (job : Option Job) (server : ℕ) (name : SegName) → e.job ≡ job → O w (out.Delete server name) → At w e
-        → GoesOn w (deletes e job server name)
+        → GoesOn w (emptying_delete e job server name)
     segment_deleted w e None server name same due h = stays w e h
     segment_deleted w e (Some job) server name same due h =
-        let f : Emptying = (deletes e (Some job) server name).state in
-        turns w (its e job) f (deletes e (Some job) server name).outs (HandChanged e job (dropped job.hand) e.lasting.questions LetGo) (known w e (Some job) same h)
+        let f : Emptying = (emptying_delete e (Some job) server name).state in
+        turns w (its e job) f (emptying_delete e (Some job) server name).outs (HandChanged e job (dropped job.hand) e.lasting.questions LetGo) (known w e (Some job) same h)
         (λ v later k. let still_due = keeps.due w v later (out.Delete server name) due in
-        all_append (Q v) (drops (is_whole job.hand) name) (Send (Server server) (body.Delete (record { name = name })) ∷ [])
+        all_append (Q v) (act_dropped (is_whole job.hand) name) (Send (Server server) (body.Delete (record { name = name })) ∷ [])
         (by_test (Plain v) (is_whole job.hand) (Does (Dropped name) ∷ []) [] (λ _. (keeps.gives v f _ (SegmentDropped server name still_due) k, tt)) (λ _. tt))
         (keeps.gives v f _ (DeleteSaid server name still_due) k, tt))
 
-    job_over : (w : W) (e : Emptying) (count : ℕ) → At w e → GoesOn w (finishes e count)
+    job_over : (w : W) (e : Emptying) (count : ℕ) → At w e → GoesOn w (emptying_finish e count)
     job_over w e count h =
-        turns w e (finishes e count).state (finishes e count).outs JobEnded h (λ v later k. by_item v e.lasting.items.unanswered k)
+        turns w e (emptying_finish e count).state (emptying_finish e count).outs JobEnded h (λ v later k. by_item v e.lasting.items.unanswered k)
       where
-        by_item : (v : W) (item : Option ℕ) → At v (finishes e count).state → Plain v (answers_unanswered item (Count count))
+        by_item : (v : W) (item : Option ℕ) → At v (emptying_finish e count).state → Plain v (answers_unanswered item (Count count))
         by_item v None k = tt
-        by_item v (Some number) k = (keeps.gives v (finishes e count).state _ (JobAnswered number count) k, tt)
+        by_item v (Some number) k = (keeps.gives v (emptying_finish e count).state _ (JobAnswered number count) k, tt)
 
     -- ---- the job takes an input
 
@@ -355,8 +355,8 @@ module _ (first : Cleaner) (what : Do) (W : Type 0) (Later : W → W → Type 0)
         and_then w (says e o) (steps says (says e o).state outs) (one_said w e o all.0 h)
         (λ v later k. all_said v (says e o).state outs (all_weaker (O w) (O v) (keeps.due w v later) outs all.1) k)
 
-    pub cleaned : (w : W) (e : Emptying) (given : In) → Later start w → Given first what e given → P w (Serving e) → Goes w (serves_on (cleans e given))
-    unfolding cleans job_takes
+    pub cleaned : (w : W) (e : Emptying) (given : In) → Later start w → Given first what e given → P w (Serving e) → Goes w (serves_on (emptying_clean e given))
+    unfolding emptying_clean emptying_take
     cleaned w e given later came h = by e.job refl
       where
         by : (job : Option Job) → e.job ≡ job → GoesOn w (steps says (takes_in e job given).state (takes_in e job given).outs)
@@ -374,15 +374,15 @@ module _ (first : Cleaner) (what : Do) (W : Type 0) (Later : W → W → Type 0)
         → At w (its e job) → Stays w (its e (record job { hand = hand }))
     hand_kept w e job hand becomes h = keeps.changes w (its e job) (its e (record job { hand = hand })) (HandChanged e job hand e.lasting.questions becomes) h
 
-    told_kept : (w : W) (e : Emptying) (ask server : ℕ) (t : Told) → Tells first what e ask server t → At w e → Stays w (told_by e ask server t).state
-    unfolding told_by job_hears
+    told_kept : (w : W) (e : Emptying) (ask server : ℕ) (t : Told) → Tells first what e ask server t → At w e → Stays w (emptying_hear e ask server t).state
+    unfolding emptying_hear job_hear
     told_kept w e ask server t tells h = by e.job e.maps.groups refl refl
       where
         by_hand : (job : Job) (groups : GroupMapState) (hand : Option Hand) → e.maps.groups ≡ Some groups → job.hand ≡ hand → At w (its e job)
             → Stays w (its e (hand_hears_in job hand groups ask server t).state)
         by_hand job groups None knows same k = stays w (its e job) k
         by_hand job groups (Some hand) knows same k =
-            let next : Option Hand = Some (hand_hears hand groups ask server t).state in
+            let next : Option Hand = Some (hand_hear hand groups ask server t).state in
             hand_kept w e job next
             (subst (λ o. Rehands first what (O w) e.maps.groups o e.lasting.questions next e.lasting.questions) (sym same)
             (Heard e groups ask server t tells knows)) k
@@ -402,7 +402,7 @@ module _ (first : Cleaner) (what : Do) (W : Type 0) (Later : W → W → Type 0)
         by_hand v job None same k = stays v (its (drawing e) job) k
         by_hand v job (Some hand) same k =
             let next : Option Hand = Some (hand_confirmed hand (next_ask e.lasting.questions)).state in
-            hand_kept v (drawing e) job next (subst (λ o. Rehands first what (O v) e.maps.groups o (drawn e.lasting.questions) next (drawn e.lasting.questions)) (sym same) Confirmed) k
+            hand_kept v (drawing e) job next (subst (λ o. Rehands first what (O v) e.maps.groups o (draw e.lasting.questions) next (draw e.lasting.questions)) (sym same) Confirmed) k
 
         by : (job : Option Job) → e.job ≡ job → Stays w (confirmed_in (drawing e) job (next_ask e.lasting.questions)).state
         by None same = keeps.changes w e (drawing e) QuestionDrawn h
@@ -410,65 +410,65 @@ module _ (first : Cleaner) (what : Do) (W : Type 0) (Later : W → W → Type 0)
             and_then w (still (drawing e)) (still (its (drawing e) (hand_confirmed_in job job.hand (next_ask e.lasting.questions)).state)) (keeps.changes w e (drawing e) QuestionDrawn h)
             (λ v later k. by_hand v job job.hand refl (known v (drawing e) (Some job) same k))
 
-    pub moved_kept : (w : W) (e : Emptying) → P w (Serving e) → Goes w (serves_on (still (record e { job = job_moved e.job })))
+    pub moved_kept : (w : W) (e : Emptying) → P w (Serving e) → Goes w (serves_on (still (record e { job = note_moved e.job })))
     moved_kept w e h = by e.job refl
       where
-        by : (job : Option Job) → e.job ≡ job → Stays w (record e { job = job_moved job })
+        by : (job : Option Job) → e.job ≡ job → Stays w (record e { job = note_moved job })
         by None same = stays w (record e { job = None }) (known w e None same h)
         by (Some job) same = hand_kept w e job (hand_moved job.hand) MovedOver (known w e (Some job) same h)
 
     reading_left : (w : W) (e : Emptying) → At w e → Stays w (left_reading e)
     reading_left w e h = by e.job refl
       where
-        by : (job : Option Job) → e.job ≡ job → Stays w (record e { job = job_read job })
+        by : (job : Option Job) → e.job ≡ job → Stays w (record e { job = note_read job })
         by None same = stays w (record e { job = None }) (known w e None same h)
         by (Some job) same = hand_kept w e job (read_over job.hand) ReadOver (known w e (Some job) same h)
 
-    greeted_kept : (w : W) (e : Emptying) → At w e → Stays w (record e { job = greeted e.job })
+    greeted_kept : (w : W) (e : Emptying) → At w e → Stays w (record e { job = note_greeted e.job })
     greeted_kept w e h = by e.job refl
       where
-        by : (job : Option Job) → e.job ≡ job → Stays w (record e { job = greeted job })
+        by : (job : Option Job) → e.job ≡ job → Stays w (record e { job = note_greeted job })
         by None same = stays w (record e { job = None }) (known w e None same h)
         by (Some job) same =
             keeps.changes w (its e job) (its e (record job { hello = None })) (JobAsked e job None job.lists job.usages e.lasting.questions MapsTold)
             (known w e (Some job) same h)
 
     promised_kept : (w : W) (e : Emptying) (slot epoch manager : ℕ) → PromisedBy what slot epoch manager → epoch_of e.promised slot ≤ epoch → At w e
-        → Stays w (promises e slot epoch manager)
-    unfolding promises
+        → Stays w (emptying_promise e slot epoch manager)
+    unfolding emptying_promise
     promised_kept w e slot epoch manager by low h =
-        by_test (λ (r : Emptying). Stays w (record r { promised = promised_to r.promised slot epoch manager })) (nat_lt (epoch_of e.promised slot) epoch)
+        by_test (λ (r : Emptying). Stays w (record r { promised = promise_to r.promised slot epoch manager })) (nat_lt (epoch_of e.promised slot) epoch)
         (record e { feed = new_epoch e.feed slot }) e
         (λ _. let f : Emptying = record e { feed = new_epoch e.feed slot } in
-        let g : Emptying = record f { promised = promised_to f.promised slot epoch manager } in
+        let g : Emptying = record f { promised = promise_to f.promised slot epoch manager } in
         and_then w (still f) (still g) (keeps.changes w e f (FeedRenewed slot) h)
         (λ v later k. keeps.changes v f g (SlotKept slot epoch manager by low) k))
-        (λ _. keeps.changes w e (record e { promised = promised_to e.promised slot epoch manager }) (SlotKept slot epoch manager by low) h)
+        (λ _. keeps.changes w e (record e { promised = promise_to e.promised slot epoch manager }) (SlotKept slot epoch manager by low) h)
 
     -- ---- the log takes an input
 
     module _ (L : W → LogOut → Type 0) (logs : LogKeeps L) where
-      one_written : (w : W) (e : Emptying) (o : LogOut) → Later start w → L w o → At w e → GoesOn w (writes_one e o)
-      unfolding writes_one settles
+      one_written : (w : W) (e : Emptying) (o : LogOut) → Later start w → L w o → At w e → GoesOn w (write_one e o)
+      unfolding write_one emptying_settle
       one_written w e (log_out.Send f m) later due h = at_once w e (store f m ∷ []) h (logs.sends w e f m due h, tt)
       one_written w e (log_out.Settled end rows) later due h =
           let f : Emptying = fed e end rows in
-          let said : Done = record { state = f; outs = Does (Filed (name_of cleaner_log end)) ∷ pushes_all f.promised.managers f.feed } in
-          and_then w said (cleans f input.Moved) (logs.files w e end rows due h)
+          let said : Done = record { state = f; outs = Does (Filed (name_of cleaner_log end)) ∷ push_all f.promised.managers f.feed } in
+          and_then w said (emptying_clean f input.Moved) (logs.files w e end rows due h)
           (λ v more k. cleaned v f input.Moved (follows.on start w v later more) MovesSettled k)
 
-      all_written : (w : W) (e : Emptying) (outs : List LogOut) → Later start w → AllByRecursion (L w) outs → At w e → GoesOn w (steps writes_one e outs)
+      all_written : (w : W) (e : Emptying) (outs : List LogOut) → Later start w → AllByRecursion (L w) outs → At w e → GoesOn w (steps write_one e outs)
       all_written w e [] later all h = stays w e h
       all_written w e (o ∷ outs) later all h =
-          and_then w (writes_one e o) (steps writes_one (writes_one e o).state outs) (one_written w e o later all.0 h)
-          (λ v more k. all_written v (writes_one e o).state outs (follows.on start w v later more) (all_weaker (L w) (L v) (logs.due w v more) outs all.1) k)
+          and_then w (write_one e o) (steps write_one (write_one e o).state outs) (one_written w e o later all.0 h)
+          (λ v more k. all_written v (write_one e o).state outs (follows.on start w v later more) (all_weaker (L w) (L v) (logs.due w v more) outs all.1) k)
 
-      pub written : (w : W) (e : Emptying) (i : LogIn) → Later start w → Written first what e i → P w (Serving e) → Goes w (serves_on (writes e i))
-      unfolding writes
+      pub written : (w : W) (e : Emptying) (i : LogIn) → Later start w → Written first what e i → P w (Serving e) → Goes w (serves_on (emptying_write e i))
+      unfolding emptying_write
       written w e i later came h =
           let d = log.transition e.log i in
           let f : Emptying = record e { log = d.state } in
-          logs.takes w e i later came h (serves_on (steps writes_one f d.outs))
+          logs.takes w e i later came h (serves_on (steps write_one f d.outs))
           (λ v more k all. all_written v f d.outs (follows.on start w v later more) all k)
 
     -- ---- all moves
@@ -485,20 +485,20 @@ module _ (first : Cleaner) (what : Do) (W : Type 0) (Later : W → W → Type 0)
       move_goes p d (Cleans {e = e} given came) w later h = cleaned w e given later came h
       move_goes p d (LogTakes {e = e} i came) w later h = events.writes w e i later came h
       move_goes p d (TakesMaps {e = e} packet news brought) w later h =
-          keeps.changes w e (record e { maps = taken e.maps news }) (MapsTaken packet news brought) h
+          keeps.changes w e (record e { maps = maps_take e.maps news }) (MapsTaken packet news brought) h
       move_goes p d (Promises {e = e} slot epoch manager by low) w later h =
           promised_kept w e slot epoch manager by low h
       move_goes p d (Reports {before = e} packet manager m same came from low) w later h =
-          let f : Emptying = promises e m.slot m.epoch manager in
+          let f : Emptying = emptying_promise e m.slot m.epoch manager in
           at_once w f _ h (keeps.gives w f _ (EndReported packet manager m same came from low) h, tt)
       move_goes p d (Acknowledges {e = e} packet m came) w later h =
           keeps.changes w e (record e { feed = acknowledged e.feed m.slot m.applied }) (AckTaken m.slot m.applied) h
       move_goes p d (IsGreeted {e = e}) w later h = greeted_kept w e h
       move_goes p d (AsksForMaps {e = e} taken_so same) w later h =
-          let f : Emptying = with_questions e (drawn e.lasting.questions) in
+          let f : Emptying = with_questions e (draw e.lasting.questions) in
           turns w e f (hello e.lasting.inc (next_ask e.lasting.questions) ∷ []) QuestionDrawn h
           (λ v more k. (keeps.gives v f _ (HelloSaid (next_ask e.lasting.questions)) k, tt))
-      move_goes p d (TellsDeltas {e = e}) w later h = at_once w e (pushes_all e.promised.managers e.feed) h (events.pushes w e h)
+      move_goes p d (TellsDeltas {e = e}) w later h = at_once w e (push_all e.promised.managers e.feed) h (events.pushes w e h)
       move_goes p d (HearsServer {e = e} ask server t tells) w later h =
           told_kept w e ask server t tells h
       move_goes p d (LeavesReading {e = e}) w later h = reading_left w e h
@@ -530,7 +530,7 @@ pub record StateKeeps (first : Cleaner) (what : Do) (P : Phase → Type 0) (O : 
   pub items : (p : Phase) (items : Items) → Noted first what (items_in p) items → P p → P (noted p items)
   pub falls : (p : Phase) → P p → P (Down (lasting_of p))
   pub restarts : (l : Lasting) (number : ℕ) → what ≡ Begin → next_item (items_in first.phase) ≡ Some number → P (Down l)
-      → P (restarts first.peers.servers l number).state
+      → P (restart first.peers.servers l number).state
   pub opens : (l : Lasting) (o : openings.Opening) (x : Went) → OpenedBy what l o x → P (Opening l o)
       → P (came_to (record l { questions = x.questions }) x.progress)
 
@@ -539,7 +539,7 @@ pub record EffectKeeps (first : Cleaner) (what : Do) (P : Phase → Type 0) (O :
   pub gives : (e : Emptying) (effect : Effect) → Gives first what O e effect → P (Serving e) → Q effect
   pub sends : (f : Fragment) (m : Member) → Q (store f m)
   pub files : (name : SegName) → Q (Does (Filed name))
-  pub pushes : (e : Emptying) → P (Serving e) → AllByRecursion Q (pushes_all e.promised.managers e.feed)
+  pub pushes : (e : Emptying) → P (Serving e) → AllByRecursion Q (push_all e.promised.managers e.feed)
   pub answers : (number : ℕ) (a : Answer) → Due first what number a → Q (Answers number a)
   pub greets : (inc ask : ℕ) → Q (hello inc ask)
   pub opens : (l : Lasting) (o : openings.Opening) (x : Went) → first.phase ≡ Opening l o → OpenedBy what l o x → AllByRecursion Q x.effects
@@ -582,12 +582,12 @@ module _ (first : Cleaner) (what : Do) (P : Phase → Type 0) (O : Out → Type 
   one_stored (log_out.Send f m) = (told.sends f m, tt)
   one_stored (log_out.Settled end rows) = tt
 
-  put_so : (e : Emptying) (i : LogIn) → Put O i → P (Serving e) → Comes tt (serves_on (puts e i))
-  unfolding puts
+  put_so : (e : Emptying) (i : LogIn) → Put O i → P (Serving e) → Comes tt (serves_on (emptying_put e i))
+  unfolding emptying_put
   put_so e i put h = (asked.puts e i put h, all_flat_map Q stored one_stored (log.transition e.log i).outs)
 
-  restarted : (l : Lasting) (number : ℕ) → AllByRecursion Q (restarts first.peers.servers l number).outs
-  unfolding restarts
+  restarted : (l : Lasting) (number : ℕ) → AllByRecursion Q (restart first.peers.servers l number).outs
+  unfolding restart
   restarted l number = (told.greets (next_life l number).inc (next_ask l.questions), tt)
 
   job_so : JobKeeps first what (Unit {0}) NoLater (λ w. P) (λ w. Q) Comes tt (λ w. O)
@@ -638,7 +638,7 @@ state_goes first what P O asked h =
       gives = λ e effect given k. tt;
       sends = λ f m. tt;
       files = λ name. tt;
-      pushes = λ e k. all_each (λ effect. Unit {0}) (λ effect. tt) (pushes_all e.promised.managers e.feed);
+      pushes = λ e k. all_each (λ effect. Unit {0}) (λ effect. tt) (push_all e.promised.managers e.feed);
       answers = λ number a due. tt;
       greets = λ inc ask. tt;
       opens = λ l o x same by. all_each (λ effect. Unit {0}) (λ effect. tt) x.effects;

@@ -8,11 +8,11 @@ use Rattle.client_call.specs.Reads.{reading_in, target_of}
 use Rattle.client_log.specs.declared.input.In.{In as LogIn}
 use Rattle.client_log.specs.LogState.{LogState}
 use Rattle.client_log.specs.Transition as log
-use Rattle.client_log.specs.Transition.{end_from}
+use Rattle.client_log.specs.Transition.{end_of}
 use Rattle.client_serving.specs.declared.lasting.Lasting.{Lasting}
 use Rattle.client_serving.specs.declared.serving.Serving.{Serving}
 use Rattle.client_serving.specs.Flights.{feeds}
-use Rattle.client_serving.specs.Grants.{supplies}
+use Rattle.client_serving.specs.Grants.{send_supply}
 use Rattle.client_serving.specs.Lasting.{log_of}
 use Rattle.client_serving.specs.Reads.{group_in}
 use Rattle.client_serving.specs.Sends.{want, gave, report}
@@ -23,14 +23,14 @@ use Rattle.group_map.specs.declared.group.Member.{Member}
 use Rattle.group_map.specs.GroupMapState.{GroupMapState}
 use Rattle.log_flight.specs.Flights.{FlightState}
 use Rattle.log_owner.specs.declared.promised.Managers.{Managers}
-use Rattle.log_owner.specs.Sending.{fetch, hello, name_of, pushes, pushes_all, store}
+use Rattle.log_owner.specs.Sending.{fetch, hello, name_of, sending_push, push_all, store}
 use Rattle.node_base.specs.declared.effects.Effect.{Effect}
 use Rattle.node_base.specs.declared.effects.Effect.TheVariants.{Answer as Answers, Lose, Does}
 use Rattle.node_base.specs.Asking.{next_ask}
-use Rattle.node_base.specs.Maps.{taken}
+use Rattle.node_base.specs.Maps.{maps_take}
 use Rattle.segment_format.specs.Rows.{rows_of}
 use Rattle.segment_reading.specs.declared.target.Target.{Target}
-use Rattle.segment_reading.specs.Reading.{ReadingState, begun, on_answer, on_confirmed}
+use Rattle.segment_reading.specs.Reading.{ReadingState, reading_start, reading_take, on_confirmed}
 use Rattle.stripe_code.specs.declared.round.Told.{Told}
 use Rattle.stripe_code.specs.declared.round.Told.TheVariants as told
 use Rattle.token_client.specs.declared.input.In.{In}
@@ -103,22 +103,22 @@ pub record Walk : Type 1 where
   pub tokens : (s : Serving) (i : In) → Takes Granted i → Stands s → Stands (record s { tokens = (client.transition s.tokens i).state })
   pub tells : (its : TokensState) (i : In) → Takes Granted i → AllByRecursion (Tells Lies) (client.transition its i).outs
   pub caches : (s : Serving) (cache : CacheState) → Stands s → Stands (record s { cache = cache })
-  pub maps : (s : Serving) (news : News) → Mapped news.groups → Stands s → Stands (record s { maps = taken s.maps news })
+  pub maps : (s : Serving) (news : News) → Mapped news.groups → Stands s → Stands (record s { maps = maps_take s.maps news })
   pub managed : (s : Serving) (managers : Managers) → Stands s → Stands (record s { managers = managers })
   pub lasts : (s : Serving) (l : Lasting) → l.number ≡ s.lasting.number → Stands s → Stands (record s { lasting = l })
   pub calls : (s : Serving) (call : Option Call) → IfSome (reading_in call) Reading → Stands s → Stands (record s { call = call })
   pub reads : (s : Serving) → Stands s → IfSome (reading_in s.call) Reading
   pub begun : (s : Serving) (target : Target) (group : Group) → group_in s.maps.groups target.seg.group ≡ Some group → Lies target → Stands s
-      → Reading (begun target group (next_ask s.lasting.questions))
+      → Reading (reading_start target group (next_ask s.lasting.questions))
   pub confirmed : (r : ReadingState) (ask : ℕ) → Reading r → Reading (on_confirmed r ask).state
   pub answered : (r : ReadingState) (groups : GroupMapState) (ask server : ℕ) (t : Told) → Came ask server t → Reading r
-      → Reading (on_answer r groups ask server t).state
+      → Reading (reading_take r groups ask server t).state
   pub acked : (s : Serving) (slot applied : ℕ) → Stands s → Stands (record s { feed = acknowledged s.feed slot applied })
   pub renewed : (s : Serving) (slot : ℕ) → Stands s → Stands (record s { feed = new_epoch s.feed slot })
   -- ---- its log: the end stays, or the segment in flight is settled, which is acted to be filed
   pub rests : (s : Serving) (i : LogIn) → (log.transition s.log i).state.end ≡ s.log.end → Stands s → Stands (record s { log = (log.transition s.log i).state })
   pub landed : (s : Serving) (f : FlightState) → s.log.flight ≡ Some f → Owed s.lasting s.log
-      → Acted (Does (Filed (name_of (log_of s.lasting) (end_from f.segment)))) → Stands s → Landed (end_from f.segment) (rows_of f.segment)
+      → Acted (Does (Filed (name_of (log_of s.lasting) (end_of f.segment)))) → Stands s → Landed (end_of f.segment) (rows_of f.segment)
   pub lands : (s : Serving) (l : LogState) (rows : List (BlockId × Entry)) → Landed l.end rows → Stands s → Stands (record s { log = l })
   pub fed : (s : Serving) (end : End) (rows : List (BlockId × Entry)) → Landed end rows → Stands s → Stands (feeds s end rows)
   -- ---- what it says
@@ -126,11 +126,11 @@ pub record Walk : Type 1 where
   pub fetched : (name : SegName) (ask server : ℕ) → Says (fetch name ask server)
   pub wants : (s : Serving) (block : BlockId) (req again : ℕ) (mode : Mode) → Stands s → Says (want s block req again mode)
   pub gaves : (s : Serving) (block : BlockId) (stamp : Stamp) → Stands s → Says (gave s block stamp)
-  pub supplied : (f : Forward) (block : BlockId) (ver : ℕ) (value : Option (List ℕ)) → AllByRecursion Says (supplies f (output.Supply block ver value))
+  pub supplied : (f : Forward) (block : BlockId) (ver : ℕ) (value : Option (List ℕ)) → AllByRecursion Says (send_supply f (output.Supply block ver value))
   pub asks : (inc ask : ℕ) → Says (hello inc ask)
   pub reports : (s : Serving) (slot epoch : ℕ) → Owed s.lasting s.log → Stands s → Says (report s slot epoch)
-  pub pushed : (s : Serving) (slot : ℕ) → Stands s → AllByRecursion Says (pushes s.managers s.feed slot)
-  pub all_pushed : (s : Serving) → Stands s → AllByRecursion Says (pushes_all s.managers s.feed)
+  pub pushed : (s : Serving) (slot : ℕ) → Stands s → AllByRecursion Says (sending_push s.managers s.feed slot)
+  pub all_pushed : (s : Serving) → Stands s → AllByRecursion Says (push_all s.managers s.feed)
   pub answers : (item : ℕ) (a : Answer) → Says (Answers item a)
   pub loses : (name : SegName) → Says (Lose name)
   pub has_read : (node : ℕ) (block : BlockId) (ver : ℕ) (value : Option (List ℕ)) → Says (Does (Read node block ver value))

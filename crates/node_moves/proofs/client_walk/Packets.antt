@@ -3,22 +3,22 @@ use Rattle.std.proofs.Common.{refl, ℕ, ◌==◌, Bool, List, [], ◌∷◌, �
 use Rattle.std.specs.Prelude.{IfSome}
 use Rattle.std.specs.List.{AllByRecursion, flat_map}
 use Rattle.client_log.specs.declared.input.In.TheVariants as log_in
-use Rattle.client_call.specs.Reads.{block_read, Heard, heard, fetches_again, reading_in, value_at}
+use Rattle.client_call.specs.Reads.{block_read, Heard, hear_reading, fetch_again, reading_in, value_at}
 use Rattle.client_serving.specs.declared.serving.Serving.{Serving}
-use Rattle.client_serving.specs.Flights.{held_at, writes}
-use Rattle.client_serving.specs.Follow.{hands, takes_back, follows}
-use Rattle.client_serving.specs.Grants.{supplies, is_stamp}
-use Rattle.client_serving.specs.Packets.{on_grant, on_supply, on_forward, again, says_again, on_recall, is_gone, on_gone, is_acked, on_ack, ends_fetch, told_at, told_by, on_told, asks_for_maps, renews, promises, reports, may_report, polled, on_poll, promised_in, is_news, hears, regroups, takes_news, on_news, on_welcome, on_body, on_packet, on_tick}
+use Rattle.client_serving.specs.Flights.{held_at, serving_write}
+use Rattle.client_serving.specs.Follow.{hand, take_back, serving_follow}
+use Rattle.client_serving.specs.Grants.{send_supply, is_stamp}
+use Rattle.client_serving.specs.Packets.{on_grant, on_supply, on_forward, again, says_again, on_recall, is_gone, on_gone, is_acked, on_ack, end_fetch, told_at, told_by, on_told, asks_for_maps, serving_renew, serving_promise, reports, may_report, polled, on_poll, promised_in, is_news, serving_hear, regroups, takes_news, on_news, on_welcome, take_body, serving_take, on_tick}
 use Rattle.client_serving.specs.Reads.{loses, with_reading}
-use Rattle.client_running.specs.Running.{runs}
+use Rattle.client_running.specs.Running.{run}
 use Rattle.client_serving.specs.Sends.{Done, gives, report}
 use Rattle.delta_feed.specs.Transition.{acknowledged, new_epoch}
 use Rattle.group_map.specs.GroupMapState.{GroupMapState}
-use Rattle.log_owner.specs.Promised.{manager_set}
-use Rattle.log_owner.specs.Sending.{pushes_all}
+use Rattle.log_owner.specs.Promised.{managers_set}
+use Rattle.log_owner.specs.Sending.{push_all}
 use Rattle.node_base.specs.declared.effects.Effect.{Effect}
-use Rattle.node_base.specs.Known.{names_known}
-use Rattle.node_base.specs.Maps.{fits, is_older, taken}
+use Rattle.node_base.specs.Known.{names_known_groups}
+use Rattle.node_base.specs.Maps.{fits, is_older, maps_take}
 use Rattle.node_base.specs.Room.{has_long_room}
 use Rattle.segment_reading.specs.declared.reading.Next.{Next}
 use Rattle.segment_reading.specs.declared.reading.Next.TheVariants as next
@@ -75,17 +75,17 @@ module _ (w : Walk) where
   unfolding on_grant
   on_grant_so s m fact h =
       by_test (λ (d : Done). Goes d) (is_own m.mode && not (has_long_room m.entry.ver)) (still s)
-      (hands s (input.Granted m.block m.stamp m.inc m.req m.mode m.entry))
-      (λ t. still_so s h) (λ t. serving.hands_so w s (input.Granted m.block m.stamp m.inc m.req m.mode m.entry) fact h)
+      (hand s (input.Granted m.block m.stamp m.inc m.req m.mode m.entry))
+      (λ t. still_so s h) (λ t. serving.hand_so w s (input.Granted m.block m.stamp m.inc m.req m.mode m.entry) fact h)
 
   pub on_supply_so : (s : Serving) (m : Supply) → At s → Goes (on_supply s m)
   unfolding on_supply
-  on_supply_so s m h = serving.hands_so w s (input.Supplied m.block m.stamp m.inc m.req m.ver m.value) tt h
+  on_supply_so s m h = serving.hand_so w s (input.Supplied m.block m.stamp m.inc m.req m.ver m.value) tt h
 
-  supplies_say : (f : Forward) (outs : List outputs.Out) → AllByRecursion w.Says (flat_map (supplies f) outs)
+  supplies_say : (f : Forward) (outs : List outputs.Out) → AllByRecursion w.Says (flat_map (send_supply f) outs)
   supplies_say f [] = tt
   supplies_say f (output.Supply block ver value ∷ outs) =
-      all_append w.Says (supplies f (output.Supply block ver value)) (flat_map (supplies f) outs) (w.supplied f block ver value) (supplies_say f outs)
+      all_append w.Says (send_supply f (output.Supply block ver value)) (flat_map (send_supply f) outs) (w.supplied f block ver value) (supplies_say f outs)
   supplies_say f (output.Want block req again mode ∷ outs) = supplies_say f outs
   supplies_say f (output.Gave block stamp ∷ outs) = supplies_say f outs
   supplies_say f (output.Flush block ∷ outs) = supplies_say f outs
@@ -96,7 +96,7 @@ module _ (w : Walk) where
   unfolding on_forward
   on_forward_so s f h =
       let taken : client.Done = client.on_forwarded s.tokens f.block f.stamp f.ver in
-      serving.plain_so w (record s { tokens = taken.state }) (flat_map (supplies f) taken.outs)
+      serving.plain_so w (record s { tokens = taken.state }) (flat_map (send_supply f) taken.outs)
       (w.tokens s (input.Forwarded f.block f.stamp f.ver) tt h) (supplies_say f taken.outs)
 
   again_says : (s : Serving) (r : Recall) (outs : List outputs.Out) → At s → AllByRecursion w.Says (again s r outs)
@@ -108,11 +108,11 @@ module _ (w : Walk) where
   on_recall_so s r h =
       let d : client.Done = client.on_recalled s.tokens r.block r.stamp r.keep in
       let t : Serving = record s { tokens = d.state } in
-      by_test (λ (x : Done). Goes x) (is_stamp (held_at s r.block).stamp r.stamp) (says_again s r d) (takes_back s r.block r.stamp r.keep)
+      by_test (λ (x : Done). Goes x) (is_stamp (held_at s r.block).stamp r.stamp) (says_again s r d) (take_back s r.block r.stamp r.keep)
       (λ e. serving.plain_so w t (again t r d.outs)
       (w.tokens s (input.Recalled r.block r.stamp r.keep) tt h)
       (again_says t r d.outs (w.tokens s (input.Recalled r.block r.stamp r.keep) tt h)))
-      (λ e. serving.takes_back_so w s r.block r.stamp r.keep h)
+      (λ e. serving.take_back_so w s r.block r.stamp r.keep h)
 
   pub on_gone_so : (s : Serving) (m : Gone) → At s → Goes (on_gone s m)
   unfolding on_gone
@@ -128,20 +128,20 @@ module _ (w : Walk) where
 
   -- ---- fragments
 
-  ends_fetch_so : (s : Serving) (at : BlockAt) (x : Next) → At s → Goes (ends_fetch s at x)
-  ends_fetch_so s at next.Again h = serving.hands_so w s (input.Reask at.block) tt h
-  ends_fetch_so s at (next.Read segment) h = serving.hands_so w s (input.Fetched at.block (value_at segment at.item)) tt h
-  ends_fetch_so s at _ h = still_so s h
+  end_fetch_so : (s : Serving) (at : BlockAt) (x : Next) → At s → Goes (end_fetch s at x)
+  end_fetch_so s at next.Again h = serving.hand_so w s (input.Reask at.block) tt h
+  end_fetch_so s at (next.Read segment) h = serving.hand_so w s (input.Fetched at.block (value_at segment at.item)) tt h
+  end_fetch_so s at _ h = still_so s h
 
   told_at_so : (s : Serving) (at : Option BlockAt) (x : Heard) → IfSome x.reading w.Reading → At s → Goes (told_at s at x)
   told_at_so s None x fact h = still_so s h
-  told_at_so s (Some at) x fact h = ends_fetch_so (with_reading s x.reading) at x.next (serving.read_so w s x.reading fact h)
+  told_at_so s (Some at) x fact h = end_fetch_so (with_reading s x.reading) at x.next (serving.read_so w s x.reading fact h)
 
   told_by_so : (s : Serving) (server ask : ℕ) (t : Answered) → w.Came ask server t → At s → Goes (told_by s server ask t)
   unfolding told_by
   told_by_so s server ask t fact h =
-      told_at_so s (block_read (reading_in s.call)) (heard (reading_in s.call) s.maps.groups ask server t)
-      (readings.heard_so w.Reading (reading_in s.call) s.maps.groups ask server t (λ r groups known. w.answered r groups ask server t fact known)
+      told_at_so s (block_read (reading_in s.call)) (hear_reading (reading_in s.call) s.maps.groups ask server t)
+      (readings.hear_reading_so w.Reading (reading_in s.call) s.maps.groups ask server t (λ r groups known. w.answered r groups ask server t fact known)
       (w.reads s h)) h
 
   pub on_told_so : (s : Serving) (from : NodeId) (ask : ℕ) (t : Answered) → OfServer (λ server. w.Came ask server t) from → At s → Goes (on_told s from ask t)
@@ -154,43 +154,43 @@ module _ (w : Walk) where
   abbrev Owed : Serving → Type 0
   Owed s = w.Owed s.lasting s.log
 
-  renews_so : (s : Serving) (slot epoch : ℕ) → At s → At (renews s slot epoch)
-  unfolding renews
-  renews_so s slot epoch h =
+  serving_renew_so : (s : Serving) (slot epoch : ℕ) → At s → At (serving_renew s slot epoch)
+  unfolding serving_renew
+  serving_renew_so s slot epoch h =
       by_test (λ (t : Serving). At t) (nat_lt _ epoch) (record s { feed = new_epoch s.feed slot }) s
       (λ t. w.renewed s slot h) (λ t. h)
 
-  pub promises_so : (s : Serving) (slot epoch manager : ℕ) → At s → At (promises s slot epoch manager).state
-  unfolding promises
-  promises_so s slot epoch manager h =
-      let t : Serving = renews s slot epoch in
-      let k : At t = renews_so s slot epoch h in
-      let u : Serving = record t { managers = manager_set t.managers slot manager; tokens = (client.on_promise t.tokens slot epoch).state } in
+  pub serving_promise_so : (s : Serving) (slot epoch manager : ℕ) → At s → At (serving_promise s slot epoch manager).state
+  unfolding serving_promise
+  serving_promise_so s slot epoch manager h =
+      let t : Serving = serving_renew s slot epoch in
+      let k : At t = serving_renew_so s slot epoch h in
+      let u : Serving = record t { managers = managers_set t.managers slot manager; tokens = (client.on_promise t.tokens slot epoch).state } in
       serving.ends_so w u
-      (w.tokens (record t { managers = manager_set t.managers slot manager }) (input.Promise slot epoch) tt (w.managed t (manager_set t.managers slot manager) k))
+      (w.tokens (record t { managers = managers_set t.managers slot manager }) (input.Promise slot epoch) tt (w.managed t (managers_set t.managers slot manager) k))
 
-  pub promises_told : (s : Serving) (slot epoch manager : ℕ) → AllByRecursion (Tells w.Lies) (promises s slot epoch manager).outs
-  unfolding promises
+  pub promises_told : (s : Serving) (slot epoch manager : ℕ) → AllByRecursion (Tells w.Lies) (serving_promise s slot epoch manager).outs
+  unfolding serving_promise
   promises_told s slot epoch manager =
-      w.tells (renews s slot epoch).tokens (input.Promise slot epoch) tt
+      w.tells (serving_renew s slot epoch).tokens (input.Promise slot epoch) tt
 
   promised_in_so : (s : Serving) (news : SlotNews) → At s → Goes (promised_in s news)
   promised_in_so s news h =
-      let p : Stepped Serving outputs.Out = promises s news.slot news.epoch news.manager in
-      serving.follows_so w p.state p.outs (promises_told s news.slot news.epoch news.manager) (promises_so s news.slot news.epoch news.manager h)
+      let p : Stepped Serving outputs.Out = serving_promise s news.slot news.epoch news.manager in
+      serving.serving_follow_so w p.state p.outs (promises_told s news.slot news.epoch news.manager) (serving_promise_so s news.slot news.epoch news.manager h)
 
   reports_so : (slot epoch : ℕ) (p : Stepped Serving outputs.Out) → AllByRecursion (Tells w.Lies) p.outs → Owed p.state → At p.state
       → Goes (reports slot epoch p)
   reports_so slot epoch p all owed h =
-      frames.goes_after w.Says w.Acted w.Stands (report p.state slot epoch ∷ []) (follows p.state p.outs)
-      (w.reports p.state slot epoch owed h, tt) (serving.follows_so w p.state p.outs all h)
+      frames.goes_after w.Says w.Acted w.Stands (report p.state slot epoch ∷ []) (serving_follow p.state p.outs)
+      (w.reports p.state slot epoch owed h, tt) (serving.serving_follow_so w p.state p.outs all h)
 
   polled_so : (s : Serving) (manager : ℕ) (p : Poll) → Owed s → At s → Goes (polled s manager p)
   unfolding polled
   polled_so s manager p owed h =
-      by_test (λ (d : Done). Goes d) (may_report s p) (reports p.slot p.epoch (promises s p.slot p.epoch manager)) (still s)
-      (λ t. reports_so p.slot p.epoch (promises s p.slot p.epoch manager) (promises_told s p.slot p.epoch manager)
-      (leaves_so w.Owed s (promises s p.slot p.epoch manager).state (promises_left s p.slot p.epoch manager) owed) (promises_so s p.slot p.epoch manager h)) (λ t. still_so s h)
+      by_test (λ (d : Done). Goes d) (may_report s p) (reports p.slot p.epoch (serving_promise s p.slot p.epoch manager)) (still s)
+      (λ t. reports_so p.slot p.epoch (serving_promise s p.slot p.epoch manager) (promises_told s p.slot p.epoch manager)
+      (leaves_so w.Owed s (serving_promise s p.slot p.epoch manager).state (promises_left s p.slot p.epoch manager) owed) (serving_promise_so s p.slot p.epoch manager h)) (λ t. still_so s h)
 
   on_poll_so : (s : Serving) (from : NodeId) (p : Poll) → Owed s → At s → Goes (on_poll s from p)
   on_poll_so s (node.Manager manager) p owed h = polled_so s manager p owed h
@@ -198,22 +198,22 @@ module _ (w : Walk) where
 
   -- ---- maps
 
-  pub hears_so : (s : Serving) (news : SlotNews) → At s → Goes (hears s news)
-  unfolding hears
-  hears_so s news h = by_test (λ (d : Done). Goes d) (is_news s news) (promised_in s news) (still s) (λ t. promised_in_so s news h) (λ t. still_so s h)
+  pub serving_hear_so : (s : Serving) (news : SlotNews) → At s → Goes (serving_hear s news)
+  unfolding serving_hear
+  serving_hear_so s news h = by_test (λ (d : Done). Goes d) (is_news s news) (promised_in s news) (still s) (λ t. promised_in_so s news h) (λ t. still_so s h)
 
-  pub all_hear_so : (s : Serving) (slots : List SlotNews) → At s → Goes (steps hears s slots)
-  all_hear_so s slots h = frames.goes_steps w.Says w.Acted w.Stands hears hears_so s slots h
+  pub all_hear_so : (s : Serving) (slots : List SlotNews) → At s → Goes (steps serving_hear s slots)
+  all_hear_so s slots h = frames.goes_steps w.Says w.Acted w.Stands serving_hear serving_hear_so s slots h
 
   regroups_so : (s : Serving) (newer : Bool) (m : GroupMapState) → At s → Owed s → Goes (regroups s newer m)
   regroups_so s newer m h owed =
-      by_test (λ (d : Done). Goes d) newer (writes s (log_in.Maps m)) (still s) (λ t. flights.writes_so w s (log_in.Maps m) h owed) (λ t. still_so s h)
+      by_test (λ (d : Done). Goes d) newer (serving_write s (log_in.Maps m)) (still s) (λ t. flights.serving_write_so w s (log_in.Maps m) h owed) (λ t. still_so s h)
 
   takes_news_so : (s : Serving) (news : News) → w.Mapped news.groups → At s → Owed s → Goes (takes_news s news)
   unfolding takes_news
   takes_news_so s news fact h owed =
-      let t : Serving = record s { maps = taken s.maps news } in
-      let d : Done = steps hears t news.slots in
+      let t : Serving = record s { maps = maps_take s.maps news } in
+      let d : Done = steps serving_hear t news.slots in
       frames.goes_on w.Says w.Acted w.Stands d (regroups d.state (is_older s.maps news) news.groups) (all_hear_so t news.slots (w.maps s news fact h))
       (λ k. regroups_so d.state (is_older s.maps news) news.groups k (leaves_so w.Owed t d.state (all_hear_left t news.slots) owed))
 
@@ -233,7 +233,7 @@ module _ (w : Walk) where
 
   -- ---- a packet
 
-  body_so : (s : Serving) (from : NodeId) (b : Body) → Hears w from b → At s → Owed s → Goes (on_body s from b)
+  body_so : (s : Serving) (from : NodeId) (b : Body) → Hears w from b → At s → Owed s → Goes (take_body s from b)
   body_so s from (body.Grant m) fact h owed = on_grant_so s m fact h
   body_so s from (body.Supply m) fact h owed = on_supply_so s m h
   body_so s from (body.Forward m) fact h owed = on_forward_so s m h
@@ -241,43 +241,43 @@ module _ (w : Walk) where
   body_so s from (body.Gone m) fact h owed = on_gone_so s m h
   body_so s from (body.DeltaAck m) fact h owed = on_ack_so s m h
   body_so s from (body.Poll m) fact h owed = on_poll_so s from m owed h
-  body_so s from (body.Stored m) fact h owed = flights.writes_so w s (log_in.Acked m.name m.index m.generation) h owed
+  body_so s from (body.Stored m) fact h owed = flights.serving_write_so w s (log_in.Acked m.name m.index m.generation) h owed
   body_so s from (body.Fragment m) fact h owed = on_told_so s from m.ask (answered.Held m.fragment) fact h
   body_so s from (body.Missing m) fact h owed = on_told_so s from m.ask (answered.Missing m.generation) fact h
   body_so s from (body.MapNews m) fact h owed = on_news_so s m fact h owed
   body_so s from (body.Welcome m) fact h owed = on_welcome_so s m fact h owed
   body_so s from _ fact h owed = still_so s h
 
-  packet_goes : (s : Serving) (p : Packet) → Hears w p.from p.body → At s → Owed s → Goes (on_packet s p)
-  unfolding on_packet
+  packet_goes : (s : Serving) (p : Packet) → Hears w p.from p.body → At s → Owed s → Goes (serving_take s p)
+  unfolding serving_take
   packet_goes s p fact h owed =
-      by_test (λ (d : Done). Goes d) (names_known s.maps p.body) (on_body s p.from p.body) (asks_for_maps s) (λ t. body_so s p.from p.body fact h owed)
+      by_test (λ (d : Done). Goes d) (names_known_groups s.maps p.body) (take_body s p.from p.body) (asks_for_maps s) (λ t. body_so s p.from p.body fact h owed)
       (λ t. asks_for_maps_so s h)
 
   -- what is done, and then the open call runs
   abbrev pub and_runs : Done → Done
-  and_runs d = saying d.outs (runs d.state)
+  and_runs d = saying d.outs (run d.state)
 
   pub runs_after : (d : Done) → Goes d → Goes (and_runs d)
-  runs_after d p = frames.goes_on w.Says w.Acted w.Stands d (runs d.state) p (λ h. calls.runs_so w d.state h)
+  runs_after d p = frames.goes_on w.Says w.Acted w.Stands d (run d.state) p (λ h. calls.run_so w d.state h)
 
-  pub packet_so : (s : Serving) (p : Packet) → Hears w p.from p.body → At s → Owed s → Goes (and_runs (on_packet s p))
-  packet_so s p fact h owed = runs_after (on_packet s p) (packet_goes s p fact h owed)
+  pub packet_so : (s : Serving) (p : Packet) → Hears w p.from p.body → At s → Owed s → Goes (and_runs (serving_take s p))
+  packet_so s p fact h owed = runs_after (serving_take s p) (packet_goes s p fact h owed)
 
   -- ---- time
 
-  fetched_says : (r : Option ReadingState) → AllByRecursion w.Says (fetches_again r)
+  fetched_says : (r : Option ReadingState) → AllByRecursion w.Says (fetch_again r)
   fetched_says None = tt
   fetched_says (Some r) = serving.fetches_say w r
 
   pub tick_goes : (s : Serving) → At s → Goes (on_tick s)
   unfolding on_tick
   tick_goes s h =
-      let a : Done = hands s input.Tick in
-      let l : Done = writes a.state log_in.Tick in
-      let fetched : List Effect = fetches_again (reading_in a.state.call) in
-      let pushed : List Effect = pushes_all l.state.managers l.state.feed in
-      frames.goes_on w.Says w.Acted w.Stands a (gives l.state (fetched ++ (l.outs ++ pushed))) (serving.hands_so w s input.Tick tt h)
+      let a : Done = hand s input.Tick in
+      let l : Done = serving_write a.state log_in.Tick in
+      let fetched : List Effect = fetch_again (reading_in a.state.call) in
+      let pushed : List Effect = push_all l.state.managers l.state.feed in
+      frames.goes_on w.Says w.Acted w.Stands a (gives l.state (fetched ++ (l.outs ++ pushed))) (serving.hand_so w s input.Tick tt h)
       (λ k. frames.goes_after w.Says w.Acted w.Stands fetched (gives l.state (l.outs ++ pushed)) (fetched_says (reading_in a.state.call))
       (frames.goes_and_gives w.Says w.Acted w.Stands l l.state pushed (flights.rests_so w a.state log_in.Tick k (tick_rests a.state.log)) (λ i. i)
       (λ i. w.all_pushed l.state i)))

@@ -1,13 +1,13 @@
 -- The reading of the open call, and what is known of it as it goes on; a reading is of one place all the while.
 use Rattle.std.proofs.Common.{ℕ, Option, Some, None}
 use Rattle.std.specs.Prelude.{IfSome}
-use Rattle.client_call.specs.Calls.{going_by, after_answer, may_make, file_call, call_of}
+use Rattle.client_call.specs.Calls.{going_by, plan_answered, may_make, file_call, call_of}
 use Rattle.client_call.specs.declared.call.Call.{Call}
 use Rattle.client_call.specs.declared.call.Going.TheVariants.{On, Ends}
 use Rattle.client_call.specs.declared.call.Going.{Going}
 use Rattle.client_call.specs.declared.call.Plan.TheVariants.{One, File}
 use Rattle.client_call.specs.declared.call.Plan.{Plan}
-use Rattle.client_call.specs.Reads.{heard, reading_in, call_with, is_fetched, kept_while}
+use Rattle.client_call.specs.Reads.{hear_reading, reading_in, set_reading, is_fetched, kept_while}
 use Rattle.file_plan.specs.declared.block_call.BlockAnswer.{BlockAnswer}
 use Rattle.file_plan.specs.declared.block_call.Next.{Next as Planned}
 use Rattle.file_plan.specs.declared.block_call.Next.TheVariants.{Step as Steps, Reply}
@@ -19,11 +19,11 @@ use Rattle.segment_reading.specs.declared.reading.Next.TheVariants as next
 use Rattle.segment_reading.specs.declared.reading.Stage.{Stage}
 use Rattle.segment_reading.specs.declared.reading.Stage.TheVariants.{Asking, Between, Doubted, Over}
 use Rattle.segment_reading.specs.declared.target.Target.{Target}
-use Rattle.segment_reading.specs.Reading.{ReadingState, Step, counts, read_as, judged, on_answer, goes_on, on_confirmed}
+use Rattle.segment_reading.specs.Reading.{ReadingState, Step, counts, reading_reads, reading_judge, reading_take, goes_on, on_confirmed}
 use Rattle.stripe_code.specs.declared.round.RoundState.{RoundState}
 use Rattle.stripe_code.specs.declared.round.RoundState.TheVariants as rounds
 use Rattle.stripe_code.specs.declared.round.Told.{Told}
-use Rattle.stripe_code.specs.Round.{taken, state_of}
+use Rattle.stripe_code.specs.Round.{round_take, state_of}
 use Rattle.token_client.specs.State.{TokensState}
 use Rattle.version_model.specs.declared.file_call.FileCall.{FileCall}
 use Rattle.version_model.specs.declared.work.Work.{Work}
@@ -37,21 +37,21 @@ module _ (lies : Target → Type 0) where
   abbrev Lies : ReadingState → Type 0
   Lies r = lies r.target
 
-  read_as_so : (r : ReadingState) (found : Option Segment) → Lies r → Lies (read_as r found).state
-  read_as_so r None fact = fact
-  read_as_so r (Some s) fact = fact
+  reading_reads_so : (r : ReadingState) (found : Option Segment) → Lies r → Lies (reading_reads r found).state
+  reading_reads_so r None fact = fact
+  reading_reads_so r (Some s) fact = fact
 
-  judged_so : (r : ReadingState) (groups : GroupMapState) (now : RoundState) → Lies r → Lies (judged r groups now).state
-  judged_so r groups (rounds.Read bytes) fact = read_as_so r _ fact
-  judged_so r groups (rounds.Short pairs) fact = fact
-  judged_so r groups rounds.Waiting fact = fact
+  reading_judge_so : (r : ReadingState) (groups : GroupMapState) (now : RoundState) → Lies r → Lies (reading_judge r groups now).state
+  reading_judge_so r groups (rounds.Read bytes) fact = reading_reads_so r _ fact
+  reading_judge_so r groups (rounds.Short pairs) fact = fact
+  reading_judge_so r groups rounds.Waiting fact = fact
 
-  pub answered_so : (r : ReadingState) (groups : GroupMapState) (ask server : ℕ) (t : Told) → Lies r → Lies (on_answer r groups ask server t).state
-  unfolding on_answer
+  pub answered_so : (r : ReadingState) (groups : GroupMapState) (ask server : ℕ) (t : Told) → Lies r → Lies (reading_take r groups ask server t).state
+  unfolding reading_take
   answered_so r groups ask server t fact =
       by_test (λ (x : Step). Lies x.state) (counts r ask server t)
-      (judged (record r { round = taken r.round server t }) groups (state_of (taken r.round server t))) (record { state = r; next = next.Wait })
-      (λ _. judged_so (record r { round = taken r.round server t }) groups (state_of (taken r.round server t)) fact) (λ _. fact)
+      (reading_judge (record r { round = round_take r.round server t }) groups (state_of (round_take r.round server t))) (record { state = r; next = next.Wait })
+      (λ _. reading_judge_so (record r { round = round_take r.round server t }) groups (state_of (round_take r.round server t)) fact) (λ _. fact)
 
   goes_on_so : (r : ReadingState) (ask : ℕ) (stage : Stage) → Lies r → Lies (goes_on r ask stage).state
   goes_on_so r ask Asking fact = fact
@@ -66,7 +66,7 @@ module _ (lies : Target → Type 0) where
 -- ---- the reading of the open call
 
 module _ (reading : ReadingState → Type 0) where
-  pub call_so : (call : Option Call) (r : Option ReadingState) → IfSome r reading → IfSome (reading_in (call_with call r)) reading
+  pub call_so : (call : Option Call) (r : Option ReadingState) → IfSome r reading → IfSome (reading_in (set_reading call r)) reading
   call_so None r fact = tt
   call_so (Some call) r fact = fact
 
@@ -74,12 +74,12 @@ module _ (reading : ReadingState → Type 0) where
   kept_so tokens None fact = tt
   kept_so tokens (Some r) fact = by_test (λ o. IfSome o reading) (is_fetched tokens r.target.block) (Some r) None (λ _. fact) (λ _. tt)
 
-  pub heard_so : (r : Option ReadingState) (groups : Option GroupMapState) (ask server : ℕ) (t : Told)
-      → ((r : ReadingState) (groups : GroupMapState) → reading r → reading (on_answer r groups ask server t).state) → IfSome r reading
-      → IfSome (heard r groups ask server t).reading reading
-  heard_so None groups ask server t answered fact = tt
-  heard_so (Some r) None ask server t answered fact = fact
-  heard_so (Some r) (Some groups) ask server t answered fact = answered r groups fact
+  pub hear_reading_so : (r : Option ReadingState) (groups : Option GroupMapState) (ask server : ℕ) (t : Told)
+      → ((r : ReadingState) (groups : GroupMapState) → reading r → reading (reading_take r groups ask server t).state) → IfSome r reading
+      → IfSome (hear_reading r groups ask server t).reading reading
+  hear_reading_so None groups ask server t answered fact = tt
+  hear_reading_so (Some r) None ask server t answered fact = fact
+  hear_reading_so (Some r) (Some groups) ask server t answered fact = answered r groups fact
 
   -- a call that goes on, and what it reads
   abbrev pub GoingSo : Going → Type 0
@@ -98,13 +98,13 @@ module _ (reading : ReadingState → Type 0) where
   going_so p (Steps step) = tt
   going_so p (Reply answer) = tt
 
-  pub next_so : (plan : Plan) (a : BlockAnswer) → GoingSo (after_answer plan a)
+  pub next_so : (plan : Plan) (a : BlockAnswer) → GoingSo (plan_answered plan a)
   next_so One a = tt
-  next_so (File p) a = going_so (plans.after_answer p a) (plans.next_call (plans.after_answer p a))
+  next_so (File p) a = going_so (plans.file_plan_answered p a) (plans.file_plan_next (plans.file_plan_answered p a))
 
   file_so : (call : FileCall) (number self : ℕ) → CallSo (file_call call number self)
   file_so call number self =
-      by_test CallSo (may_make number self) _ None (λ _. going_so _ (plans.next_call (plans.start call (plans.made_by number self)))) (λ _. tt)
+      by_test CallSo (may_make number self) _ None (λ _. going_so _ (plans.file_plan_next (plans.start call (plans.made_by number self)))) (λ _. tt)
 
   -- one that begins reads nothing yet
   pub begun_so : (w : Work) (number self : ℕ) → CallSo (call_of w number self)

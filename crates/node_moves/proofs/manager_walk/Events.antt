@@ -4,8 +4,8 @@ use Rattle.std.specs.List.{AllByRecursion}
 use Rattle.manager_node.specs.declared.manager.Manager.{Manager}
 use Rattle.manager_node.specs.declared.phase.Phase.{Phase}
 use Rattle.manager_node.specs.declared.phase.Phase.TheVariants.{Down, Waiting, Serving as Serves}
-use Rattle.manager_node.specs.Events.{takes_welcome, on_welcome, on_waiting, on_packet, on_deliver, on_time, on_event, happens}
-use Rattle.manager_node.specs.Phases.{Went_to, phase_has_room, serves, restarts, with_begun, begin_serving, on_begin}
+use Rattle.manager_node.specs.Events.{takes_welcome, on_welcome, on_waiting, on_packet, manager_deliver, on_time, on_event, happens}
+use Rattle.manager_node.specs.Phases.{Went_to, phase_has_room, serves, restart, with_begun, begin_serving, on_begin}
 use Rattle.manager_slots.specs.declared.lasting.Lasting.{Lasting as Life}
 use Rattle.manager_serving.specs.declared.serving.Serving.{Serving}
 use Rattle.manager_serving.specs.Serving.{again, on_news}
@@ -68,8 +68,8 @@ module _ (w : Walk) where
 
   -- ---- the next item
 
-  greets : (life : Life) (number : ℕ) → AllByRecursion (Says w) (restarts life number).outs
-  unfolding restarts
+  greets : (life : Life) (number : ℕ) → AllByRecursion (Says w) (restart life number).outs
+  unfolding restart
   greets life number = (tt, (w.plain _ tt, tt))
 
   serving_on : (s : Serving) → ServingSo w s → Goes (begin_serving s)
@@ -119,8 +119,8 @@ module _ (w : Walk) where
       let d = packet_on w s peers.clients packet (record { so = h; flies = flies }) told in record { state = d.state; outs = d.outs }
 
   deliver_goes : (peers : Peers) (p : Phase) (packet : Packet) → PhaseSo p → PhaseFlies p → PacketSo p packet
-      → Goes (on_deliver peers p packet)
-  unfolding on_deliver
+      → Goes (manager_deliver peers p packet)
+  unfolding manager_deliver
   deliver_goes peers p packet h flies told =
       by_test Goes (is_well_formed peers packet) (on_packet peers p packet) (still p) (λ _. packet_goes peers p packet h flies told) (λ _. unmoved p h)
 

@@ -3,7 +3,7 @@ use Rattle.std.proofs.Common.{ℕ, [], ◌∷◌, Option, Some, None}
 use Rattle.std.specs.List.{AllByRecursion}
 use Rattle.manager_node.specs.declared.phase.Phase.{Phase}
 use Rattle.manager_node.specs.declared.phase.Phase.TheVariants.{Down, Waiting, Serving as Serves}
-use Rattle.manager_node.specs.Phases.{Went_to, serves, crashes, restarts, wish_at, down_wish, waiting_wish, serving_wish, with_begun, down_item, waiting_item, serving_item, begin_down, begin_waiting, begin_serving}
+use Rattle.manager_node.specs.Phases.{Went_to, serves, crash, restart, wish_at, down_wish, waiting_wish, serving_wish, with_begun, down_item, waiting_item, serving_item, begin_down, begin_waiting, begin_serving}
 use Rattle.manager_slots.specs.declared.lasting.Lasting.{Lasting as Life}
 use Rattle.manager_serving.specs.Checkpoints.{on_checkpoint}
 use Rattle.manager_serving.specs.declared.serving.Serving.{Serving}
@@ -19,7 +19,7 @@ use Rattle.xfs_base.proofs.Leaving.{Leaves}
 
 module _ (PhaseSo : Phase → Type 0) (Says : Effect → Type 0) (down : (life : Life) → PhaseSo (Down life))
     (waiting : (life : Life) (hello : ℕ) → PhaseSo (Waiting life hello)) (answers : (number : ℕ) (a : Answer) → Says (Answers number a))
-    (greets : (life : Life) (number : ℕ) → AllByRecursion Says (restarts life number).outs) where
+    (greets : (life : Life) (number : ℕ) → AllByRecursion Says (restart life number).outs) where
   abbrev Goes : Went_to → Type 0
   Goes d = Leaves PhaseSo Says d
 
@@ -30,16 +30,16 @@ module _ (PhaseSo : Phase → Type 0) (Says : Effect → Type 0) (down : (life :
   unanswered_said None a = tt
   unanswered_said (Some number) a = one_said number a
 
-  crashes_on : (life : Life) (number : ℕ) → Goes (crashes life number)
-  unfolding crashes
+  crashes_on : (life : Life) (number : ℕ) → Goes (crash life number)
+  unfolding crash
   crashes_on life number = record {
     state = down _;
     outs = all_append Says (answers_unanswered life.items.unanswered answer.Cut) (Answers number answer.Done ∷ [])
         (unanswered_said life.items.unanswered answer.Cut) (one_said number answer.Done);
   }
 
-  restarts_on : (life : Life) (number : ℕ) → Goes (restarts life number)
-  unfolding restarts
+  restarts_on : (life : Life) (number : ℕ) → Goes (restart life number)
+  unfolding restart
   restarts_on life number = record { state = waiting _ _; outs = greets life number }
 
   pub down_on : (life : Life) → Goes (begin_down life)

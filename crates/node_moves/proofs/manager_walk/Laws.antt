@@ -10,7 +10,7 @@ use Rattle.checkpoint.specs.WriterState.{WorkState, items_of}
 use Rattle.client_log.specs.declared.input.In.{In as LogIn}
 use Rattle.client_log.specs.LogState.{LogState}
 use Rattle.client_log.specs.Transition as log
-use Rattle.client_log.specs.Transition.{end_from}
+use Rattle.client_log.specs.Transition.{end_of}
 use Rattle.log_flight.specs.Flights.{FlightState}
 use Rattle.manager_serving.specs.declared.checkpointing.Checkpointing.{Checkpointing}
 use Rattle.manager_serving.specs.declared.serving.Serving.{Serving}
@@ -21,13 +21,13 @@ use Rattle.manager_slots.specs.SlotTable.{begin_one}
 use Rattle.node_base.specs.declared.effects.Effect.{Effect}
 use Rattle.segment_format.specs.declared.segment.Item.{Item}
 use Rattle.segment_format.specs.declared.segment.Segment.{Segment}
-use Rattle.segment_reading.specs.Reading.{ReadingState, on_answer}
+use Rattle.segment_reading.specs.Reading.{ReadingState, reading_take}
 use Rattle.stripe_code.specs.declared.round.Told.{Told as Answered}
 use Rattle.takeover.specs.Course.{segment_of}
 use Rattle.takeover.specs.declared.report.Report.{Report}
 use Rattle.takeover.specs.declared.source.Present.{Present}
 use Rattle.takeover.specs.Rows.{told_of}
-use Rattle.takeover.specs.Transition.{joined}
+use Rattle.takeover.specs.Transition.{rows_join}
 use Rattle.takeover.specs.TakeState.{TakeState}
 use Rattle.takeover.specs.Reports.{applied_of}
 use Rattle.token_manager.specs.declared.input.In.{In as SlotIn}
@@ -121,27 +121,27 @@ pub record Walk : Type 1 where
   pub finds : (k : ℕ) (a : Active) (block : BlockId) → Managed k a → Granted block (slot.entry_at a.slot block)
   pub named : (k : ℕ) (a : Active) (epoch : ℕ) (parts : List SegRef) (horizon : List ℕ) → Done k epoch parts horizon → Managed k a
       → Managed k (record a { parts = parts })
-  pub clears : (k : ℕ) (a : Active) → Managed k a → Managed k (record a { slot = slot.cleaned a.slot })
+  pub clears : (k : ℕ) (a : Active) → Managed k a → Managed k (record a { slot = slot.slot_clean a.slot })
   pub begins : (k : ℕ) (a : Active) → Managed k a → IfSome (begin_one k (Some (phase.Active a))) (Begins Work)
   -- ---- a slot that is taken over
   pub starts : (news : SlotNews) → News news → Taken news.slot news [] [] []
   pub heard : (k : ℕ) (news : SlotNews) (index : Rows) (chain : List Rows) (reports : List Report) (report : Report) → Reported report.from report.end
       → Taken k news index chain reports → Taken k news index chain (reports ++ report ∷ [])
   pub reads : (s : TakeState) (ask server : ℕ) (t : Answered) (p : Present) (r : ReadingState) (segment : Segment) → Completes s ask server t
-      → s.present ≡ Some p → p.reading ≡ Some r → segment_of (on_answer r s.groups ask server t).next ≡ Some segment → Read (told_of s.news.slot segment)
+      → s.present ≡ Some p → p.reading ≡ Some r → segment_of (reading_take r s.groups ask server t).next ≡ Some segment → Read (told_of s.news.slot segment)
   pub chained : (k : ℕ) (news : SlotNews) (index : Rows) (chain : List Rows) (reports : List Report) (rows : Rows) → Read rows
       → Taken k news index chain reports → Taken k news index (rows ∷ chain) reports
   pub joins : (k : ℕ) (news : SlotNews) (index : Rows) (chain : List Rows) (reports : List Report) → Taken k news index chain reports
-      → Taken k news (joined index chain) [] reports
+      → Taken k news (rows_join index chain) [] reports
   pub hands : (k : ℕ) (s : TakeState) → Taken k s.news s.index s.chain s.reports → Handed k s.news.epoch s.index (applied_of s.news.horizon s.reports)
   pub managed : (k epoch : ℕ) (index : Rows) (beliefs : List (BlockId × ℕ × Mode)) (applied : List ℕ) → Handed k epoch index applied
-      → Managed k (record { slot = slot.started epoch index beliefs applied; parts = [] })
+      → Managed k (record { slot = slot.slot_start epoch index beliefs applied; parts = [] })
   -- ---- checkpoints
   pub gives : (w : WorkState) → Work w → Items (items_of w.slot (take 24 w.left))
   pub left : (w : WorkState) → Work w → Work (record w { left = drop 24 w.left })
   pub done : (w : WorkState) → Work w → Done w.slot w.epoch w.parts w.horizon
   pub parted : (l : LogId) (w : WorkState) (end : End) → Settles l end → Work w → Work (record w { parts = w.parts ++ writer.part_at l end ∷ [] })
-  pub settles : (l : LogId) (f : FlightState) → Flies l (Some f) → Settles l (end_from f.segment)
+  pub settles : (l : LogId) (f : FlightState) → Flies l (Some f) → Settles l (end_of f.segment)
   pub writes : (s : LogState) (items : List Item) → Items items → Log s → Log (log.on_parts s items).state
   pub hears : (s : LogState) (given : LogIn) → IsHeard given → Log s → Log (log.transition s given).state
   pub fresh : (s : LogState) → s.dirty ≡ [] → s.flight ≡ None → Log s

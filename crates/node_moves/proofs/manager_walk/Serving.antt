@@ -6,11 +6,11 @@ use Rattle.client_log.specs.declared.input.In.TheVariants as log_input
 use Rattle.group_map.specs.GroupMapState.{GroupMapState}
 use Rattle.log_owner.specs.Sending.{server_in}
 use Rattle.manager_slots.specs.SlotTable as table
-use Rattle.manager_serving.specs.Checkpoints.{Done, writes, tells_again}
+use Rattle.manager_serving.specs.Checkpoints.{Done, serving_write, serving_tell_again}
 use Rattle.manager_serving.specs.declared.serving.Serving.{Serving}
-use Rattle.manager_serving.specs.Serving.{and_then, asker_of, with_slots, with_asker, client_in, fed_log, on_want, on_gave, on_deltas, on_check, on_usage_ask, takes, on_report, answered_by, on_found, on_missing, regroups, hearer_of, hears_with, hears_slots, on_newer, on_news, on_fitting_news, asks_for_maps, on_body, hears, recalls_again, asks_again, on_tick}
-use Rattle.node_base.specs.Known.{names_known}
-use Rattle.node_base.specs.Maps.{fits, is_older, taken}
+use Rattle.manager_serving.specs.Serving.{and_then, asker_of, with_slots, with_asker, client_in, fed_log, on_want, on_gave, on_deltas, on_check, on_usage_ask, serving_take, on_report, answered_by, on_found, on_missing, regroups, hearer_of, hears_with, hear_slots, on_newer, on_news, on_fitting_news, ask_for_maps, on_body, serving_hear, recalls_again, serving_ask_again, on_tick}
+use Rattle.node_base.specs.Known.{names_known_groups}
+use Rattle.node_base.specs.Maps.{fits, is_older, maps_take}
 use Rattle.takeover.specs.declared.input.In.{In as TakeIn}
 use Rattle.takeover.specs.declared.input.In.TheVariants as take_in
 use Rattle.wire_msg.specs.declared.body.Body.{Body}
@@ -35,7 +35,7 @@ use Rattle.std.proofs.Common.{◌≡◌, ℕ, zero, suc, ◌==◌, Bool, true, f
 use Rattle.std.specs.Prelude.{Option, Some, None, IfSome, slice_get}
 use Rattle.manager_slots.specs.declared.slot_phase.SlotPhase.{SlotPhase}
 use Rattle.manager_slots.specs.Slots.{fetch_of as fetch_in}
-use Rattle.manager_serving.specs.Serving.{and_then, asker_of, with_slots, with_asker, client_in, fed_log, on_want, on_gave, on_deltas, on_check, on_usage_ask, takes, on_report, answered_by, on_found, on_missing, regroups, hearer_of, hears_with, hears_slots, on_newer, on_news, on_fitting_news, asks_for_maps, on_body, hears, recalls_again, asks_again, on_tick}
+use Rattle.manager_serving.specs.Serving.{and_then, asker_of, with_slots, with_asker, client_in, fed_log, on_want, on_gave, on_deltas, on_check, on_usage_ask, serving_take, on_report, answered_by, on_found, on_missing, regroups, hearer_of, hears_with, hear_slots, on_newer, on_news, on_fitting_news, ask_for_maps, on_body, serving_hear, recalls_again, serving_ask_again, on_tick}
 use Rattle.stripe_code.specs.declared.round.Told.TheVariants as answered
 use Rattle.xfs_base.proofs.Leaving.{goes_after}
 use Rattle.manager_slots.specs.declared.slot_phase.SlotPhase.TheVariants as phase
@@ -110,9 +110,9 @@ module _ (w : Walk) where
 
   -- ---- takeovers
 
-  take_on : (s : Serving) (k : ℕ) (given : TakeIn) → Ready s → ((p : SlotPhase) → slice_get s.slots k ≡ Some p → HeardSo w k p given) → Does (takes s k given)
-  unfolding takes
-  take_on s k given h told = by_asker s (table.takes (asker_of s) k given) h (table_takes w (asker_of s) k given h.so.slots told)
+  take_on : (s : Serving) (k : ℕ) (given : TakeIn) → Ready s → ((p : SlotPhase) → slice_get s.slots k ≡ Some p → HeardSo w k p given) → Does (serving_take s k given)
+  unfolding serving_take
+  take_on s k given h told = by_asker s (table.slot_table_take (asker_of s) k given) h (table_takes w (asker_of s) k given h.so.slots told)
 
   report_on : (s : Serving) (from : NodeId) (report : Report) → Ready s → w.Reported from report.end → Does (on_report s from report)
   unfolding on_report
@@ -201,33 +201,33 @@ module _ (w : Walk) where
 
   regroups_on : (s : Serving) (groups : GroupMapState) → Ready s → Does (regroups s groups)
   unfolding regroups
-  regroups_on s groups h = by_asker s (table.regroups_all groups (asker_of s)) h (table_regroups w groups (asker_of s) h.so.slots)
+  regroups_on s groups h = by_asker s (table.slot_table_regroup groups (asker_of s)) h (table_regroups w groups (asker_of s) h.so.slots)
 
   slots_on : (s : Serving) (clients : ℕ) (slots : List SlotNews) → Ready s → AllByRecursion w.News slots
-      → Does (hears_slots s clients slots)
-  unfolding hears_slots
+      → Does (hear_slots s clients slots)
+  unfolding hear_slots
   slots_on s clients slots h told = by s.maps.groups
     where
       by : (groups : Option GroupMapState) → Does (hears_with s clients slots groups)
       by None = unmoved s h
       by (Some groups) =
-          by_asker s (table.hears_all (hearer_of s clients groups) (asker_of s) slots) h
+          by_asker s (table.hear_each (hearer_of s clients groups) (asker_of s) slots) h
           (table_hears w (hearer_of s clients groups) (asker_of s) slots told h.so.slots)
 
   newer_on : (s : Serving) (clients : ℕ) (news : News) → Ready s → AllByRecursion w.News news.slots → Goes w (on_newer s clients news)
   unfolding on_newer
   newer_on s clients news h told =
-      then_ends (and_then (regroups s news.groups) (λ t. hears_slots t clients news.slots)) (λ t. writes t (log_input.Maps news.groups))
-      (then_goes (regroups s news.groups) (λ t. hears_slots t clients news.slots) (regroups_on s news.groups h) (λ t k. slots_on t clients news.slots k told))
+      then_ends (and_then (regroups s news.groups) (λ t. hear_slots t clients news.slots)) (λ t. serving_write t (log_input.Maps news.groups))
+      (then_goes (regroups s news.groups) (λ t. hear_slots t clients news.slots) (regroups_on s news.groups h) (λ t k. slots_on t clients news.slots k told))
       (λ t k. writes_on w t (log_input.Maps news.groups) tt k.so k.flies)
 
   pub news_on : (s : Serving) (clients : ℕ) (news : News) → Ready s → AllByRecursion w.News news.slots → Goes w (on_news s clients news)
   unfolding on_news
   news_on s clients news h told =
-      by_test (Goes w) (is_older s.maps news) (on_newer (record s { maps = taken s.maps news }) clients news) (hears_slots s clients news.slots)
-      (λ _. newer_on (record s { maps = taken s.maps news }) clients news
+      by_test (Goes w) (is_older s.maps news) (on_newer (record s { maps = maps_take s.maps news }) clients news) (hear_slots s clients news.slots)
+      (λ _. newer_on (record s { maps = maps_take s.maps news }) clients news
       (record { so = record { slots = h.so.slots; work = h.so.work; job = h.so.job; log = h.so.log }; flies = h.flies }) told)
-      (λ _. ends_so (hears_slots s clients news.slots) (slots_on s clients news.slots h told))
+      (λ _. ends_so (hear_slots s clients news.slots) (slots_on s clients news.slots h told))
 
   fitting_on : (s : Serving) (clients : ℕ) (news : News) → Ready s → AllByRecursion w.News news.slots
       → Goes w (on_fitting_news s clients news)
@@ -263,10 +263,10 @@ module _ (w : Walk) where
   body_on s clients from (body.CkptAck ack) h told = acks_on w s ack h.so
   body_on s clients from _ h told = ends_so (still s) (unmoved s h)
 
-  pub packet_on : (s : Serving) (clients : ℕ) (packet : Packet) → Ready s → Hears s packet.from packet.body → Goes w (hears s clients packet)
-  unfolding hears asks_for_maps
+  pub packet_on : (s : Serving) (clients : ℕ) (packet : Packet) → Ready s → Hears s packet.from packet.body → Goes w (serving_hear s clients packet)
+  unfolding serving_hear ask_for_maps
   packet_on s clients packet h told =
-      by_test (Goes w) (names_known s.maps packet.body) (on_body s clients packet.from packet.body) (asks_for_maps s)
+      by_test (Goes w) (names_known_groups s.maps packet.body) (on_body s clients packet.from packet.body) (ask_for_maps s)
       (λ _. body_on s clients packet.from packet.body h told)
       (λ _. record { state = record { slots = h.so.slots; work = h.so.work; job = h.so.job; log = h.so.log }; outs = (w.plain _ tt, tt) })
 
@@ -274,24 +274,24 @@ module _ (w : Walk) where
 
   recalls_on : (s : Serving) → Ready s → Does (recalls_again s)
   unfolding recalls_again
-  recalls_on s h = by_table s (table.recalls_all s.slots) h (table_recalls w s.slots h.so.slots)
+  recalls_on s h = by_table s (table.recall_again s.slots) h (table_recalls w s.slots h.so.slots)
 
-  asks_on : (s : Serving) (polls : Bool) → Ready s → Does (asks_again s polls)
-  unfolding asks_again
-  asks_on s polls h = by_asker s (table.asks_all polls (asker_of s)) h (table_asks w polls (asker_of s) h.so.slots)
+  asks_on : (s : Serving) (polls : Bool) → Ready s → Does (serving_ask_again s polls)
+  unfolding serving_ask_again
+  asks_on s polls h = by_asker s (table.slot_table_ask_again polls (asker_of s)) h (table_asks w polls (asker_of s) h.so.slots)
 
   pub tick_on : (s : Serving) → Ready s → Goes w (on_tick s)
   unfolding on_tick
   tick_on s h =
-      let wrote : Done = and_then (and_then (and_then (recalls_again s) (λ t. asks_again t true)) (λ t. asks_again t false)) (λ t. writes t log_input.Tick) in
-      goes_after (ServingSo w) (Says w) wrote.outs (tells_again wrote.state) written.outs (tells_on w wrote.state written.state)
+      let wrote : Done = and_then (and_then (and_then (recalls_again s) (λ t. serving_ask_again t true)) (λ t. serving_ask_again t false)) (λ t. serving_write t log_input.Tick) in
+      goes_after (ServingSo w) (Says w) wrote.outs (serving_tell_again wrote.state) written.outs (tells_on w wrote.state written.state)
     where
-      asked_so : Does (and_then (and_then (recalls_again s) (λ t. asks_again t true)) (λ t. asks_again t false))
+      asked_so : Does (and_then (and_then (recalls_again s) (λ t. serving_ask_again t true)) (λ t. serving_ask_again t false))
       asked_so =
-          then_goes (and_then (recalls_again s) (λ t. asks_again t true)) (λ t. asks_again t false)
-          (then_goes (recalls_again s) (λ t. asks_again t true) (recalls_on s h) (λ t k. asks_on t true k)) (λ t k. asks_on t false k)
+          then_goes (and_then (recalls_again s) (λ t. serving_ask_again t true)) (λ t. serving_ask_again t false)
+          (then_goes (recalls_again s) (λ t. serving_ask_again t true) (recalls_on s h) (λ t k. asks_on t true k)) (λ t k. asks_on t false k)
 
       written : Goes w
-          (and_then (and_then (and_then (recalls_again s) (λ t. asks_again t true)) (λ t. asks_again t false)) (λ t. writes t log_input.Tick))
-      written = then_ends (and_then (and_then (recalls_again s) (λ t. asks_again t true)) (λ t. asks_again t false)) (λ t. writes t log_input.Tick) asked_so
+          (and_then (and_then (and_then (recalls_again s) (λ t. serving_ask_again t true)) (λ t. serving_ask_again t false)) (λ t. serving_write t log_input.Tick))
+      written = then_ends (and_then (and_then (recalls_again s) (λ t. serving_ask_again t true)) (λ t. serving_ask_again t false)) (λ t. serving_write t log_input.Tick) asked_so
           (λ t k. writes_on w t log_input.Tick tt k.so k.flies)

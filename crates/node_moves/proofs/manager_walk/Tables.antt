@@ -5,7 +5,7 @@ use Rattle.std.specs.List.{AllByRecursion}
 use Rattle.group_map.specs.GroupMapState.{GroupMapState}
 use Rattle.manager_slots.specs.declared.slot_phase.SlotPhase.{SlotPhase}
 use Rattle.manager_slots.specs.declared.slot_phase.SlotPhase.TheVariants as phase
-use Rattle.manager_slots.specs.SlotTable.{Table, Done, TableAsker, Asks, Hearer, all_slots, in_slot, at_slot, on_want, on_gave, on_deltas, on_check, usage_in, on_usage_ask, recalls, recalls_all, in_taken, at_taken, takes, on_report, asks, asks_all, regroups, regroups_all, hears_of, hears, hears_all, begin_one, begin_at, cleaned_phase, named_phase, changed_in, cleaned_at, named_at}
+use Rattle.manager_slots.specs.SlotTable.{Table, Done, TableAsker, Asks, Hearer, all_slots, in_slot, at_slot, on_want, on_gave, on_deltas, on_check, usage_in, on_usage_ask, slot_table_recall, recall_again, in_taken, at_taken, slot_table_take, on_report, slot_table_ask, slot_table_ask_again, regroup_one, slot_table_regroup, hear_of, slot_table_hear, hear_each, begin_one, begin_at, phase_clean, phase_name, changed_in, slot_table_clean, slot_table_name}
 use Rattle.manager_slots.specs.Takeovers as takeovers
 use Rattle.manager_slots.specs.Takeovers.{Asker, asker}
 use Rattle.manager_slots.specs.Tokens as tokens
@@ -93,8 +93,8 @@ module _ (w : Walk) where
       by None = tt
       by (Some p) = phase_tells_usage w asked.slot p asked
 
-  one_recalls : (t : Table) (k : ℕ) → TableSo t → Unit {0} → TableGoes (recalls t k)
-  unfolding recalls
+  one_recalls : (t : Table) (k : ℕ) → TableSo t → Unit {0} → TableGoes (slot_table_recall t k)
+  unfolding slot_table_recall
   one_recalls t k h any = at_slot-goes t k (λ p. tokens.on_tick p k) (λ p here. phase_takes w k p k slot_in.Tick tt here) h
 
   abbrev Any : ℕ → Type 0
@@ -103,8 +103,8 @@ module _ (w : Walk) where
   any_slots : AllByRecursion Any all_slots
   any_slots = all_each Any (λ k. tt) all_slots
 
-  pub table_recalls : (t : Table) → TableSo t → TableGoes (recalls_all t)
-  table_recalls t h = leaves_each TableSo (Says w) Any recalls one_recalls t all_slots h any_slots
+  pub table_recalls : (t : Table) → TableSo t → TableGoes (recall_again t)
+  table_recalls t h = leaves_each TableSo (Says w) Any slot_table_recall one_recalls t all_slots h any_slots
 
   -- ---- takeovers
 
@@ -126,9 +126,9 @@ module _ (w : Walk) where
           record { state = slot_put w 0 a.table k k (event (asker p a.questions)).state.phase (omega arith) d.state h; outs = d.outs }
 
   pub table_takes : (a : TableAsker) (k : ℕ) (given : TakeIn) → TableAskerSo a
-      → ((p : SlotPhase) → slice_get a.table k ≡ Some p → HeardSo w k p given) → TableAsks (takes a k given)
-  unfolding takes
-  table_takes a k given h told = at_taken-goes a k (λ one. takeovers.takes one k given)
+      → ((p : SlotPhase) → slice_get a.table k ≡ Some p → HeardSo w k p given) → TableAsks (slot_table_take a k given)
+  unfolding slot_table_take
+  table_takes a k given h told = at_taken-goes a k (λ one. takeovers.takeovers_take one k given)
       (λ p at here. asker_takes w k (asker p a.questions) k given here (told p at)) h
 
   pub table_reports : (a : TableAsker) (from : NodeId) (report : Report) → w.Reported from report.end → TableAskerSo a
@@ -138,27 +138,27 @@ module _ (w : Walk) where
       at_taken-goes a report.slot (λ one. takeovers.on_report one from report)
       (λ p at here. asker_reports w report.slot (asker p a.questions) from report here told) h
 
-  one_asks : (polls : Bool) (a : TableAsker) (k : ℕ) → TableAskerSo a → Any k → TableAsks (asks polls a k)
-  unfolding asks
-  one_asks polls a k h any = at_taken-goes a k (λ one. takeovers.asks_again one k polls) (λ p at here. asker_asks w k (asker p a.questions) k polls here) h
+  one_asks : (polls : Bool) (a : TableAsker) (k : ℕ) → TableAskerSo a → Any k → TableAsks (slot_table_ask polls a k)
+  unfolding slot_table_ask
+  one_asks polls a k h any = at_taken-goes a k (λ one. takeovers.takeovers_ask_again one k polls) (λ p at here. asker_asks w k (asker p a.questions) k polls here) h
 
-  pub table_asks : (polls : Bool) (a : TableAsker) → TableAskerSo a → TableAsks (asks_all polls a)
-  table_asks polls a h = leaves_each TableAskerSo (Says w) Any (asks polls) (one_asks polls) a all_slots h any_slots
+  pub table_asks : (polls : Bool) (a : TableAsker) → TableAskerSo a → TableAsks (slot_table_ask_again polls a)
+  table_asks polls a h = leaves_each TableAskerSo (Says w) Any (slot_table_ask polls) (one_asks polls) a all_slots h any_slots
 
-  one_regroups : (groups : GroupMapState) (a : TableAsker) (k : ℕ) → TableAskerSo a → Any k → TableAsks (regroups groups a k)
+  one_regroups : (groups : GroupMapState) (a : TableAsker) (k : ℕ) → TableAskerSo a → Any k → TableAsks (regroup_one groups a k)
   one_regroups groups a k h any = table_takes a k (take_in.Maps groups) h (λ p at. heard_any w k p (take_in.Maps groups) (λ s. tt))
 
-  pub table_regroups : (groups : GroupMapState) (a : TableAsker) → TableAskerSo a → TableAsks (regroups_all groups a)
-  table_regroups groups a h = leaves_each TableAskerSo (Says w) Any (regroups groups) (one_regroups groups) a all_slots h any_slots
+  pub table_regroups : (groups : GroupMapState) (a : TableAsker) → TableAskerSo a → TableAsks (slot_table_regroup groups a)
+  table_regroups groups a h = leaves_each TableAskerSo (Says w) Any (regroup_one groups) (one_regroups groups) a all_slots h any_slots
 
-  one_hears : (h : Hearer) (a : TableAsker) (news : SlotNews) → TableAskerSo a → w.News news → TableAsks (hears h a news)
-  unfolding hears
-  one_hears h a news before told = at_taken-goes a news.slot (hears_of h news)
+  one_hears : (h : Hearer) (a : TableAsker) (news : SlotNews) → TableAskerSo a → w.News news → TableAsks (slot_table_hear h a news)
+  unfolding slot_table_hear
+  one_hears h a news before told = at_taken-goes a news.slot (hear_of h news)
       (λ p at here. asker_hears w news.slot h news (asker p a.questions) refl here told) before
 
   pub table_hears : (h : Hearer) (a : TableAsker) (slots : List SlotNews) → AllByRecursion w.News slots → TableAskerSo a
-      → TableAsks (hears_all h a slots)
-  table_hears h a slots told before = leaves_each TableAskerSo (Says w) w.News (hears h) (one_hears h) a slots before told
+      → TableAsks (hear_each h a slots)
+  table_hears h a slots told before = leaves_each TableAskerSo (Says w) w.News (slot_table_hear h) (one_hears h) a slots before told
 
   -- ---- checkpoints
 
@@ -170,13 +170,13 @@ module _ (w : Walk) where
       by None here = h
       by (Some p) here = slot_put w 0 t k k (change p) (omega arith) (one p here) h
 
-  pub table_cleaned : (t : Table) (k : ℕ) → TableSo t → TableSo (cleaned_at t k)
-  unfolding cleaned_at
-  table_cleaned t k h = changes t k cleaned_phase (cleaned_so w k) h
+  pub table_cleaned : (t : Table) (k : ℕ) → TableSo t → TableSo (slot_table_clean t k)
+  unfolding slot_table_clean
+  table_cleaned t k h = changes t k phase_clean (cleaned_so w k) h
 
-  pub table_named : (t : Table) (k epoch : ℕ) (parts : List SegRef) (horizon : List ℕ) → w.Done k epoch parts horizon → TableSo t → TableSo (named_at t k epoch parts)
-  unfolding named_at
-  table_named t k epoch parts horizon told h = changes t k (named_phase epoch parts) (named_so w k epoch parts horizon told) h
+  pub table_named : (t : Table) (k epoch : ℕ) (parts : List SegRef) (horizon : List ℕ) → w.Done k epoch parts horizon → TableSo t → TableSo (slot_table_name t k epoch parts)
+  unfolding slot_table_name
+  table_named t k epoch parts horizon told h = changes t k (phase_name epoch parts) (named_so w k epoch parts horizon told) h
 
   -- a checkpoint that is begun is as it should be
   pub begin_so : (t : Table) (k : ℕ) → TableSo t → IfSome (begin_at t k) (Begins w.Work)

@@ -53,10 +53,10 @@ module _ (w : WriterLaw) (l : LogId) where
 
   goes_on : (s : WriterState) (it : WorkState) → s.log ≡ l → w.Work it → Writes (writer.go_on s it)
   goes_on s it at h =
-      by_test Writes (length it.left == 0) (writer.finished s it) (writer.gives s it) (λ _. record { state = (tt, at); outs = (w.done it h, tt) })
+      by_test Writes (length it.left == 0) (writer.writer_finish s it) (writer.gives s it) (λ _. record { state = (tt, at); outs = (w.done it h, tt) })
       (λ _. record { state = (w.left it h, at); outs = (w.gives it h, tt) })
 
-  begun_on : (s : WriterState) (it : WorkState) → WriterStands s → w.Work it → Writes (writer.begun s it)
+  begun_on : (s : WriterState) (it : WorkState) → WriterStands s → w.Work it → Writes (writer.on_begin s it)
   begun_on s it before h =
       by_test Writes (writer.is_idle s) (writer.go_on (record s { number = s.number + 1 }) it) (still s)
       (λ _. goes_on (record s { number = s.number + 1 }) it before.1 h)

@@ -16,8 +16,8 @@ use Rattle.client_log.specs.declared.output.Out.TheVariants as log_out
 use Rattle.client_log.specs.History.{TellsWhatIsDue}
 use Rattle.client_log.specs.Transition as log
 use Rattle.manager_slots.specs.Numbers.{slot_after}
-use Rattle.manager_slots.specs.SlotTable.{next_active, begin_at, cleaned_at}
-use Rattle.manager_serving.specs.Checkpoints.{Done, gives, stored, gives_parts, registers, awaiting, asked, says, says_each, writer_takes, filed, on_settled, log_says, log_says_each, writes, on_stored, no_more, writes_slot, begins_slot, next_from, next_for, next_slot, waits, on_checkpoint, awaits, counted, answered_by, on_ckpt_ack, done_again, told_again, tells_again}
+use Rattle.manager_slots.specs.SlotTable.{next_active, begin_at, slot_table_clean}
+use Rattle.manager_serving.specs.Checkpoints.{Done, gives, checkpointing_store, give_parts, register, await_answer, asked, writer_says, writer_says_each, writer_takes, filed, on_settled, log_says, log_says_each, serving_write, on_stored, no_more, writes_slot, begin_slot, next_from, next_for, next_slot, waits, on_checkpoint, awaits, checkpointing_count, answered_by, on_ckpt_ack, send_done, checkpointing_tell_again, serving_tell_again}
 use Rattle.manager_serving.specs.declared.checkpointing.Checkpointing.{Checkpointing}
 use Rattle.manager_serving.specs.declared.serving.Serving.{Serving}
 use Rattle.node_base.specs.declared.effects.Effect.TheVariants.{Answer as Answers}
@@ -66,23 +66,23 @@ module _ (w : Walk) (l : LogId) where
   abbrev Works : Done → Type 0
   Works d = Leaves AtDesk (Says w) d
 
-  one_stored : (o : LogOut) → AllSay w (stored o)
-  unfolding stored
+  one_stored : (o : LogOut) → AllSay w (checkpointing_store o)
+  unfolding checkpointing_store
   one_stored (log_out.Send fragment member) = (w.plain _ tt, tt)
   one_stored (log_out.Settled end rows) = tt
 
-  parts_on : (s : Serving) (items : List Item) → w.Items items → AtDesk s → Works (gives_parts s items)
-  unfolding gives_parts
+  parts_on : (s : Serving) (items : List Item) → w.Items items → AtDesk s → Works (give_parts s items)
+  unfolding give_parts
   parts_on s items told h = record {
     state = record {
       so = record { slots = h.so.slots; work = h.so.work; job = h.so.job; log = w.writes s.log items told h.so.log };
       writer_log = h.writer_log;
     };
-    outs = all_flat_map (Says w) stored one_stored (log.transition s.log (log_input.Parts items)).outs;
+    outs = all_flat_map (Says w) checkpointing_store one_stored (log.transition s.log (log_input.Parts items)).outs;
   }
 
-  registers_on : (s : Serving) (done : CkptDone) → AtDesk s → DoneSo w done → Works (registers s done)
-  unfolding registers
+  registers_on : (s : Serving) (done : CkptDone) → AtDesk s → DoneSo w done → Works (register s done)
+  unfolding register
   registers_on s done h told = record {
     state = record {
       so = record {
@@ -96,12 +96,12 @@ module _ (w : Walk) (l : LogId) where
     outs = (w.tells_done done told, tt);
   }
     where
-      by : (checkpoint : Option Checkpointing) → JobSo w (awaiting done checkpoint)
+      by : (checkpoint : Option Checkpointing) → JobSo w (await_answer done checkpoint)
       by None = tt
       by (Some job) = told
 
-  says_on : (s : Serving) (o : Out) → AtDesk s → OutSo (law w) o → Works (says s o)
-  unfolding says
+  says_on : (s : Serving) (o : Out) → AtDesk s → OutSo (law w) o → Works (writer_says s o)
+  unfolding writer_says
   says_on s (out.Parts items) h told = parts_on s items told h
   says_on s (out.Done slot epoch parts horizon) h told =
       registers_on (asked s) _
@@ -110,10 +110,10 @@ module _ (w : Walk) (l : LogId) where
   says_on s (out.Stale epoch) h told = record { state = h; outs = tt }
 
   pub writer_on : (s : Serving) (given : WriterIn) → AtDesk s → GivenSo (law w) l given → Works (writer_takes s given)
-  unfolding writer_takes says_each
+  unfolding writer_takes writer_says_each
   writer_on s given h told =
       let d = writer_goes (law w) l s.writer given (h.so.work, h.writer_log) told in
-      leaves_each AtDesk (Says w) (OutSo (law w)) says says_on (record s { writer = (writer.transition s.writer given).state })
+      leaves_each AtDesk (Says w) (OutSo (law w)) writer_says says_on (record s { writer = (writer.transition s.writer given).state })
       (writer.transition s.writer given).outs
       (record { so = record { slots = h.so.slots; work = d.state.0; job = h.so.job; log = h.so.log }; writer_log = d.state.1 }) d.outs
 
@@ -168,10 +168,10 @@ module _ (w : Walk) where
       let flew = w.settles s.writer.log _ (subst (λ o. w.Flies s.writer.log o) all.0.was flies) in
       (subst (λ x. w.Settles s.writer.log x) (sym all.0.is_end) flew, due_said s given flies outs all.1)
 
-  pub writes_on : (s : Serving) (given : LogIn) → IsHeard given → ServingSo w s → w.Flies s.writer.log s.log.flight → Goes (writes s given)
-  unfolding writes
+  pub writes_on : (s : Serving) (given : LogIn) → IsHeard given → ServingSo w s → w.Flies s.writer.log s.log.flight → Goes (serving_write s given)
+  unfolding serving_write
   writes_on s given is h flies =
-      from_desk s.writer.log (writes s given)
+      from_desk s.writer.log (serving_write s given)
       (log_on w s.writer.log (record s { log = (log.transition s.log given).state }) (log.transition s.log given).outs
       (record { so = record { slots = h.slots; work = h.work; job = h.job; log = w.hears s.log given is h.log }; writer_log = refl })
       (due_said s given flies (log.transition s.log given).outs (tells_due s.log given)))
@@ -198,10 +198,10 @@ module _ (w : Walk) where
   writes_slot-on s None h told = record { state = h; outs = tt }
   writes_slot-on s (Some given) h told = writer_so s given h told
 
-  begins_on : (s : Serving) (slot : ℕ) → ServingSo w s → Goes (begins_slot s slot)
-  unfolding begins_slot
+  begins_on : (s : Serving) (slot : ℕ) → ServingSo w s → Goes (begin_slot s slot)
+  unfolding begin_slot
   begins_on s slot h =
-      writes_slot-on (record s { slots = cleaned_at s.slots slot }) (begin_at s.slots slot)
+      writes_slot-on (record s { slots = slot_table_clean s.slots slot }) (begin_at s.slots slot)
       (record { slots = table_cleaned w s.slots slot h.slots; work = h.work; job = h.job; log = h.log })
       (given_so s.writer.log (begin_at s.slots slot) (begin_so w s.slots slot h.slots))
 
@@ -228,27 +228,27 @@ module _ (w : Walk) where
       (λ _. record { state = h; outs = (tt, tt) })
       (λ _. next_on (waits s number) (record { slots = h.slots; work = h.work; job = tt; log = h.log }))
 
-  counted_so : (checkpoint : Option Checkpointing) (o : Out) → JobSo w checkpoint → JobSo w (counted checkpoint o)
-  unfolding counted
-  counted_so None (out.Parts items) h = tt
-  counted_so None (out.Done slot epoch parts horizon) h = tt
-  counted_so None out.Kept h = tt
-  counted_so None (out.Stale epoch) h = tt
-  counted_so (Some job) (out.Parts items) h = h
-  counted_so (Some job) (out.Done slot epoch parts horizon) h = h
-  counted_so (Some job) out.Kept h = tt
-  counted_so (Some job) (out.Stale epoch) h = tt
+  checkpointing_count_so : (checkpoint : Option Checkpointing) (o : Out) → JobSo w checkpoint → JobSo w (checkpointing_count checkpoint o)
+  unfolding checkpointing_count
+  checkpointing_count_so None (out.Parts items) h = tt
+  checkpointing_count_so None (out.Done slot epoch parts horizon) h = tt
+  checkpointing_count_so None out.Kept h = tt
+  checkpointing_count_so None (out.Stale epoch) h = tt
+  checkpointing_count_so (Some job) (out.Parts items) h = h
+  checkpointing_count_so (Some job) (out.Done slot epoch parts horizon) h = h
+  checkpointing_count_so (Some job) out.Kept h = tt
+  checkpointing_count_so (Some job) (out.Stale epoch) h = tt
 
-  all_counted : (checkpoint : Option Checkpointing) (outs : List Out) → JobSo w checkpoint → JobSo w (fold counted checkpoint outs)
+  all_counted : (checkpoint : Option Checkpointing) (outs : List Out) → JobSo w checkpoint → JobSo w (fold checkpointing_count checkpoint outs)
   all_counted checkpoint [] h = h
-  all_counted checkpoint (o ∷ outs) h = all_counted (counted checkpoint o) outs (counted_so checkpoint o h)
+  all_counted checkpoint (o ∷ outs) h = all_counted (checkpointing_count checkpoint o) outs (checkpointing_count_so checkpoint o h)
 
   answered_on : (s : Serving) (r : Stepped WriterState Out) → ServingSo w s → IfSome r.state.work w.Work → Goes (answered_by s r)
   answered_on s r h left =
       by_test Goes (length r.outs == 0) (still (record s { writer = r.state }))
-      (next_slot (record s { writer = r.state; checkpoint = fold counted s.checkpoint r.outs }))
+      (next_slot (record s { writer = r.state; checkpoint = fold checkpointing_count s.checkpoint r.outs }))
       (λ _. record { state = record { slots = h.slots; work = left; job = h.job; log = h.log }; outs = tt })
-      (λ _. next_on (record s { writer = r.state; checkpoint = fold counted s.checkpoint r.outs })
+      (λ _. next_on (record s { writer = r.state; checkpoint = fold checkpointing_count s.checkpoint r.outs })
       (record { slots = h.slots; work = left; job = all_counted s.checkpoint r.outs h.job; log = h.log }))
 
   pub acks_on : (s : Serving) (ack : CkptAck) → ServingSo w s → Goes (on_ckpt_ack s ack)
@@ -259,14 +259,14 @@ module _ (w : Walk) where
       (acks_so w s.writer.log s.writer ack.epoch s.dones h.work refl))
       (λ _. record { state = h; outs = tt })
 
-  pub tells_on : (s : Serving) → ServingSo w s → Goes (tells_again s)
-  unfolding tells_again
+  pub tells_on : (s : Serving) → ServingSo w s → Goes (serving_tell_again s)
+  unfolding serving_tell_again
   tells_on s h = record { state = h; outs = by s.checkpoint h.job }
     where
-      by_done : (done : Option CkptDone) → IfSome done (DoneSo w) → AllSay w (done_again done)
+      by_done : (done : Option CkptDone) → IfSome done (DoneSo w) → AllSay w (send_done done)
       by_done None told = tt
       by_done (Some done) told = (w.tells_done done told, tt)
 
-      by : (checkpoint : Option Checkpointing) → JobSo w checkpoint → AllSay w (told_again checkpoint)
+      by : (checkpoint : Option Checkpointing) → JobSo w checkpoint → AllSay w (checkpointing_tell_again checkpoint)
       by None told = tt
       by (Some job) told = by_done job.done told

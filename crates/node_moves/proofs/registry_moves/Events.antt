@@ -1,7 +1,7 @@
 -- Each event of the registry is made of moves: the one walk through all that can happen to it.
 use Rattle.std.proofs.Common.{◌≡◌, ℕ, true, List, [], ◌∷◌, Option, Some, None, refl}
 use Rattle.std.specs.List.{AllByRecursion, flat_map}
-use Rattle.node_base.specs.Beginning.{begun, is_left, next_item, work_at}
+use Rattle.node_base.specs.Beginning.{items_begin, is_left, next_item, work_at}
 use Rattle.node_base.specs.declared.effects.Effect.{Effect}
 use Rattle.node_base.specs.declared.effects.Effect.TheVariants.{Send}
 use Rattle.node_base.specs.declared.items.Items.{Items}
@@ -14,7 +14,7 @@ use Rattle.registry.specs.declared.input.In.TheVariants as input
 use Rattle.registry.specs.declared.output.Out.{Out}
 use Rattle.registry.specs.declared.output.Out.TheVariants.{Changed, Epoch, Kept}
 use Rattle.registry_node.specs.declared.node.RegistryNode.{RegistryNode}
-use Rattle.registry_node.specs.Events.{Done, at_item, changed, hears, kept, move_of, moved, news_of, on_begin, on_done, on_event, on_hello, on_item, on_move, on_packet, tells_all, welcome_of}
+use Rattle.registry_node.specs.Events.{Done, at_item, say_one_changed, hears, say_one_kept, move_of, say_one_moved, news_of, on_begin, on_done, on_event, on_hello, on_item, on_move, on_packet, tell_all, welcome_of}
 use Rattle.version_model.specs.declared.work.Work.{Work}
 use Rattle.version_model.specs.declared.work.Work.TheVariants as work
 use Rattle.wire_msg.specs.declared.body.Body.{Body}
@@ -46,20 +46,20 @@ module _ (first : RegistryNode) (what : Do) where
   rests = record { peers = refl; works = refl; board = Rests; says = tt }
 
   -- the maps go to all
-  all_told : (node : RegistryNode) → AllSaid node (tells_all node)
+  all_told : (node : RegistryNode) → AllSaid node (tell_all node)
   all_told node =
       all_map (Said first what node.board) (λ (to : NodeId). Send to (body.MapNews (news_of node.board))) (λ to. TellsMaps to) (others node.peers Registry)
 
-  ticks : Goes (record { state = first; outs = tells_all first })
+  ticks : Goes (record { state = first; outs = tell_all first })
   ticks = record { peers = refl; works = refl; board = Rests; says = all_told first }
 
   -- ---- items
 
   abbrev noted : RegistryNode
-  noted = record first { items = begun first.items }
+  noted = record first { items = items_begin first.items }
 
   -- what items ask for stays
-  same_works : (begun first.items).works ≡ first.items.works
+  same_works : (items_begin first.items).works ≡ first.items.works
   same_works = by_test (λ (x : Items). x.works ≡ first.items.works) (is_left first.items) _ first.items (λ t. refl) (λ t. refl)
 
   same_work : (number : ℕ) → work_at first.items number ≡ work_at noted.items number
@@ -69,7 +69,7 @@ module _ (first : RegistryNode) (what : Do) where
   notes : Goes (still noted)
   notes = record { peers = refl; works = same_works; board = Rests; says = tt }
 
-  moved_said : (node : RegistryNode) (number : ℕ) (o : Out) → AllSaid node (moved node number o)
+  moved_said : (node : RegistryNode) (number : ℕ) (o : Out) → AllSaid node (say_one_moved node number o)
   moved_said node number Changed = all_told node
   moved_said node number (Epoch epoch) = (AnswersItem number epoch, tt)
   moved_said node number (Kept epoch) = tt
@@ -84,7 +84,7 @@ module _ (first : RegistryNode) (what : Do) where
         peers = refl;
         works = same_works;
         board = Takes (input.Reassign slot manager) (MoveAsked number slot manager begins asked);
-        says = all_flat_map (Said first what made.state) (moved to number) (moved_said to number) made.outs;
+        says = all_flat_map (Said first what made.state) (say_one_moved to number) (moved_said to number) made.outs;
       }
 
   wished : (number : ℕ) (asked : Option Work) → what ≡ Begin → work_at first.items number ≡ asked → Goes (on_item noted number (move_of asked))
@@ -101,7 +101,7 @@ module _ (first : RegistryNode) (what : Do) where
 
   -- ---- packets
 
-  changed_said : (node : RegistryNode) (o : Out) → AllSaid node (changed node o)
+  changed_said : (node : RegistryNode) (o : Out) → AllSaid node (say_one_changed node o)
   changed_said node Changed = all_told node
   changed_said node (Epoch epoch) = tt
   changed_said node (Kept epoch) = tt
@@ -118,12 +118,12 @@ module _ (first : RegistryNode) (what : Do) where
           works = refl;
           board = Takes (input.Hello packet.from m.inc) (HelloCame packet m came);
           says =
-              all_append (Said first what made.state) (flat_map (changed to) made.outs) (Send packet.from (body.Welcome (welcome_of to m)) ∷ [])
-              (all_flat_map (Said first what made.state) (changed to) (changed_said to) made.outs) (Welcomes packet m came room refl, tt);
+              all_append (Said first what made.state) (flat_map (say_one_changed to) made.outs) (Send packet.from (body.Welcome (welcome_of to m)) ∷ [])
+              (all_flat_map (Said first what made.state) (say_one_changed to) (changed_said to) made.outs) (Welcomes packet m came room refl, tt);
         }
 
     kept_said : (now : BoardState) (m : CkptDone) → Came what packet (body.CkptDone m) → (o : Out)
-        → AllByRecursion (Said first what now) (kept packet.from m o)
+        → AllByRecursion (Said first what now) (say_one_kept packet.from m o)
     kept_said now m came Changed = tt
     kept_said now m came (Epoch epoch) = tt
     kept_said now m came (Kept epoch) = (Acknowledges packet m epoch came, tt)
@@ -137,7 +137,7 @@ module _ (first : RegistryNode) (what : Do) where
           peers = refl;
           works = refl;
           board = Takes (input.Done m.slot m.epoch m.parts m.horizon) (CheckpointCame packet m came);
-          says = all_flat_map (Said first what made.state) (kept packet.from m) (kept_said made.state m came) made.outs;
+          says = all_flat_map (Said first what made.state) (say_one_kept packet.from m) (kept_said made.state m came) made.outs;
         }
 
     heard : (said : Body) → packet.body ≡ said → Goes (hears first packet.from said)

@@ -4,14 +4,14 @@ use Rattle.std.specs.Option.{is_some}
 use Rattle.fragment_store.specs.Calls.{barred, on_lose as lost}
 use Rattle.group_map.specs.GroupMapState.{GroupMapState}
 use Rattle.group_rebuild.specs.declared.input.In.TheVariants as input
-use Rattle.group_rebuild.specs.RebuildState.{started}
-use Rattle.node_base.specs.Asking.{drawn, next_ask}
-use Rattle.node_base.specs.Beginning.{answered, answers_unanswered, begun, is_left, next_item, waiting, work_at}
+use Rattle.group_rebuild.specs.RebuildState.{rebuild_start}
+use Rattle.node_base.specs.Asking.{draw, next_ask}
+use Rattle.node_base.specs.Beginning.{items_answer, answers_unanswered, items_begin, is_left, next_item, items_wait, work_at}
 use Rattle.node_base.specs.declared.effects.Effect.TheVariants.{Answer as Answers}
 use Rattle.node_base.specs.declared.items.Items.{Items}
 use Rattle.node_base.specs.declared.questions.Questions.{Questions}
-use Rattle.node_base.specs.Known.{names_known}
-use Rattle.node_base.specs.Maps.{fits, is_older, taken}
+use Rattle.node_base.specs.Known.{names_known_groups}
+use Rattle.node_base.specs.Maps.{fits, is_older, maps_take}
 use Rattle.node_base.specs.Room.{has_room}
 use Rattle.node_base.specs.Shape.{is_well_formed}
 use Rattle.store_nodes.specs.declared.server.Server.{Server as Node}
@@ -95,7 +95,7 @@ module _ (first : Node) (what : Do) where
     news_taken : (node : Node) (news : News) → news_in packet.body ≡ Some news → Goes node (takes_news node news)
     unfolding takes_news
     news_taken node news brings =
-        let next : Node = record node { maps = taken node.maps news } in
+        let next : Node = record node { maps = maps_take node.maps news } in
         let brought : Brought what packet news = record { event = event; brings = brings } in
         by_test (Goes node) (is_older node.maps news) (rebuilds next (input.Maps news.groups)) (still node)
         (λ t. Then (still next) (rebuilds next (input.Maps news.groups)) (TakesMaps packet news brought)
@@ -116,7 +116,7 @@ module _ (first : Node) (what : Do) where
 
     maps_asked : (node : Node) → Goes node (asks_for_maps node)
     unfolding asks_for_maps
-    maps_asked node = notes node node.items (drawn node.questions) node.hello _ refl (Last (Greets (next_ask node.questions)))
+    maps_asked node = notes node node.items (draw node.questions) node.hello _ refl (Last (Greets (next_ask node.questions)))
 
     -- ---- packets
 
@@ -133,7 +133,7 @@ module _ (first : Node) (what : Do) where
 
     heard_known : (said : Body) → packet.body ≡ said → Goes first (hears_known first packet.from said)
     heard_known said says =
-        by_test (Goes first) (names_known first.maps said) (hears first packet.from said) (asks_for_maps first) (λ t. heard said says)
+        by_test (Goes first) (names_known_groups first.maps said) (hears first packet.from said) (asks_for_maps first) (λ t. heard said says)
         (λ t. maps_asked first)
 
     body_heard : (said : Body) → packet.body ≡ said → Goes first (on_body first packet.from said)
@@ -155,24 +155,24 @@ module _ (first : Node) (what : Do) where
   disk_lost node number server asked room =
       let cut : Node = record node { rebuilding = None } in
       let bare : Node = record cut { shelf = lost node.shelf } in
-      let last : Node = noted bare (answered node.items) (drawn node.questions) (Some (next_ask node.questions)) in
+      let last : Node = noted bare (items_answer node.items) (draw node.questions) (Some (next_ask node.questions)) in
       let greets : Done = tells last (hello_of last.shelf (next_ask node.questions) ∷ []) in
       let says : Done = saying (Answers number answers.Done ∷ []) greets in
       answers_open node node.items.unanswered answers.Cut says tt
       (Then (still cut) says CutsRebuild
       (Then (still bare) says (Loses number server asked room)
-      (notes bare (answered node.items) (drawn node.questions) (Some (next_ask node.questions)) says refl
+      (notes bare (items_answer node.items) (draw node.questions) (Some (next_ask node.questions)) says refl
       (Then (tells last (Answers number answers.Done ∷ [])) greets (AnswersItem number answers.Done tt) (Last (Greets (next_ask node.questions)))))))
 
   rebuild_begun : (node : Node) (number : ℕ) (groups : Option GroupMapState) → node.maps.groups ≡ groups → Goes node (begins_rebuild node number groups)
   rebuild_begun node number None fact = Rests
   rebuild_begun node number (Some groups) fact =
-      let waits : Node = noted node (waiting node.items number) (drawn node.questions) node.hello in
+      let waits : Node = noted node (items_wait node.items number) (draw node.questions) node.hello in
       let begins : Node =
       record waits {
-        rebuilding = Some (record { rebuild = started node.number groups; lists = next_ask node.questions; fetches = record { own = 0; ask = 0 } });
+        rebuilding = Some (record { rebuild = rebuild_start node.number groups; lists = next_ask node.questions; fetches = record { own = 0; ask = 0 } });
       } in
-      notes node (waiting node.items number) (drawn node.questions) node.hello (rebuilds begins input.Tick) refl
+      notes node (items_wait node.items number) (draw node.questions) node.hello (rebuilds begins input.Tick) refl
       (Then (still begins) (rebuilds begins input.Tick) (BeginsRebuild (next_ask node.questions) groups fact) (Last (Rebuilds input.Tick TimePassed)))
 
   rebuild_wished : (node : Node) (number : ℕ) → Goes node (on_rebuild node number)
@@ -191,14 +191,14 @@ module _ (first : Node) (what : Do) where
   item_begun node None room = Rests
   item_begun node (Some number) room = wished node number (work_at node.items number) refl room
 
-  same_works : (items : Items) → (begun items).works ≡ items.works
+  same_works : (items : Items) → (items_begin items).works ≡ items.works
   same_works items = by_test (λ (x : Items). x.works ≡ items.works) (is_left items) _ items (λ t. refl) (λ t. refl)
 
   begins : (node : Node) → has_room node.shelf.generation ≡ true → Goes node (on_begin node)
   unfolding on_begin
   begins node room =
-      notes node (begun node.items) node.questions node.hello (at_item (record node { items = begun node.items }) (next_item node.items))
-      (same_works node.items) (item_begun (record node { items = begun node.items }) (next_item node.items) room)
+      notes node (items_begin node.items) node.questions node.hello (at_item (record node { items = items_begin node.items }) (next_item node.items))
+      (same_works node.items) (item_begun (record node { items = items_begin node.items }) (next_item node.items) room)
 
   -- ---- all events
 

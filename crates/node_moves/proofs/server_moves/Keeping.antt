@@ -4,13 +4,13 @@ use Rattle.std.specs.List.{AllByRecursion}
 use Rattle.std.specs.Option.{is_some}
 use Rattle.std.specs.Ordering.{is_eq}
 use Rattle.std.specs.Prelude.{IfSome}
-use Rattle.fragment_store.specs.Calls.{kept, on_delete as without, on_fence as fenced_at, on_fill, on_lose as lost, store_refused}
+use Rattle.fragment_store.specs.Calls.{shelf_store, on_delete as without, on_fence as fenced_at, on_fill, on_lose as lost, refusal}
 use Rattle.fragment_store.specs.ShelfState.{ShelfState, fence_of, held_at}
 use Rattle.group_map.specs.GroupMapState.{GroupMapState}
 use Rattle.group_rebuild.specs.declared.input.In.{In}
 use Rattle.group_rebuild.specs.declared.output.Out.{Out}
 use Rattle.group_rebuild.specs.declared.output.Out.TheVariants as out
-use Rattle.group_rebuild.specs.RebuildState.{RebuildState, started}
+use Rattle.group_rebuild.specs.RebuildState.{RebuildState, rebuild_start}
 use Rattle.group_rebuild.specs.Transition.{transition}
 use Rattle.node_base.specs.Asking.{number_for}
 use Rattle.node_base.specs.Beginning.{answers_unanswered, work_at}
@@ -21,7 +21,7 @@ use Rattle.node_base.specs.Effects.{packets_of}
 use Rattle.node_base.specs.Room.{has_room}
 use Rattle.store_nodes.specs.declared.server.Rebuilding.{Rebuilding}
 use Rattle.store_nodes.specs.declared.server.Server.{Server as Node}
-use Rattle.store_nodes.specs.Rebuilds.{Done, fetch_asked, goes_on, lists_asked, rebuilds, says}
+use Rattle.store_nodes.specs.Rebuilds.{Done, ask_fragment, goes_on, ask_list, rebuilds, says}
 use Rattle.store_nodes.specs.ServerEvents.{fence_told, found_or_missing, on_delete, on_fence, on_store, server_step, takes}
 use Rattle.version_model.specs.declared.answer.Answer.{Answer}
 use Rattle.version_model.specs.declared.answer.Answer.TheVariants as answers
@@ -62,13 +62,13 @@ pub record Holds (S : ShelfState → Type 0) (R : RebuildState → Type 0) (W : 
 -- An event that begins with this shelf keeps the fact. What the rebuild says is `O`, and what is sent `Sends`.
 pub record Keeps (first : ShelfState) (what : Do) (S : ShelfState → Type 0) (R : RebuildState → Type 0) (W : List Work → Type 0) (O : Out → Type 0)
     (Sends : NodeId → Body → Type 0) : Type 0 where
-  pub stores : (packet : Packet) (m : Store) → Came what packet (body.Store m) → (s : ShelfState) → S s → S (kept s m.fragment)
+  pub stores : (packet : Packet) (m : Store) → Came what packet (body.Store m) → (s : ShelfState) → S s → S (shelf_store s m.fragment)
   pub fences : (log : LogId) (pass : Pass) (s : ShelfState) → S s → S (fenced_at s log pass)
   pub deletes : (packet : Packet) (m : Delete) → Came what packet (body.Delete m) → (s : ShelfState) → S s → S (without s m.name)
   pub fills : (f : Fragment) → O (out.Fill f) → (s : ShelfState) → S s → S (on_fill s f)
   pub loses : (items : Items) (number server : ℕ) → work_at items number ≡ Some (work.Lose server) → W items.works → (s : ShelfState)
       → has_room s.generation ≡ true → S s → S (lost s)
-  pub begins : (server : ℕ) (groups : GroupMapState) → R (started server groups)
+  pub begins : (server : ℕ) (groups : GroupMapState) → R (rebuild_start server groups)
   pub takes : (s : ShelfState) (r : RebuildState) (given : In) → Given what s given → R r → Leaves R O (transition r given)
   pub sends : (s : ShelfState) (to : NodeId) (said : Body) → S s → Sent first what s to said → Sends to said
 
@@ -96,12 +96,12 @@ module _ (first : Node) (what : Do) (S : ShelfState → Type 0) (R : RebuildStat
 
   -- ---- the rebuild
 
-  lists_say : (s : ShelfState) (r : Option Rebuilding) (server : ℕ) → S s → AllByRecursion (Says Sends) (lists_asked r server)
+  lists_say : (s : ShelfState) (r : Option Rebuilding) (server : ℕ) → S s → AllByRecursion (Says Sends) (ask_list r server)
   lists_say s None server h = tt
   lists_say s (Some r) server h = (keeps.sends s _ _ h (ListAsked server r.lists), tt)
 
   fetch_goes : (node : Node) (r : Option Rebuilding) (server : ℕ) (name : SegName) (own : ℕ) → Kept node → RebuildKept r
-      → Goes (fetch_asked node r server name own)
+      → Goes (ask_fragment node r server name own)
   fetch_goes node None server name own h here = stays Kept (Says Sends) node h
   fetch_goes node (Some r) server name own h here = record {
     state = record { shelf = h.shelf; rebuild = here; works = h.works };
@@ -138,7 +138,7 @@ module _ (first : Node) (what : Do) (S : ShelfState → Type 0) (R : RebuildStat
   stores_goes : (packet : Packet) (m : Store) → Came what packet (body.Store m) → Kept first → Goes (on_store first packet.from m)
   unfolding on_store
   stores_goes packet m came h =
-      by_test Goes (is_some (store_refused first.shelf m.fragment.meta.name m.generation)) (still first) _ (λ t. stays Kept (Says Sends) first h)
+      by_test Goes (is_some (refusal first.shelf m.fragment.meta.name m.generation)) (still first) _ (λ t. stays Kept (Says Sends) first h)
       (λ t. with_shelf _ _ h (keeps.stores packet m came first.shelf h.shelf) (keeps.sends first.shelf _ _ h.shelf (Stored packet m came), tt))
 
   fetched : (packet : Packet) (m : Fetch) (found : Option Fragment) → Came what packet (body.Fetch m) → held_at first.shelf.held m.name ≡ found → Kept first

@@ -3,15 +3,15 @@ use Rattle.std.specs.List.{range_with_len}
 use Rattle.std.specs.Prelude.{◌≡◌, ◌≤◌, ℕ, true, List, [], ◌∷◌, Option, Some, None, Contains, fold}
 use Rattle.cleaner_job.specs.declared.job.Job.{Job}
 use Rattle.cleaner_job.specs.declared.lasting.Lasting.{Lasting}
-use Rattle.cleaner_job.specs.Jobs.{check_of, greeted, hand_of, is_out, job_read, new_job}
+use Rattle.cleaner_job.specs.Jobs.{check_of, note_greeted, hand_of, is_out, note_read, job_start}
 use Rattle.cleaner_job.specs.Hands.{fetches}
-use Rattle.cleaner_node.specs.CleanerEvents.{Went_to, answers, lasting_of, phase_room, restarts, serves_on, takes}
+use Rattle.cleaner_node.specs.CleanerEvents.{Went_to, cleaner_answer, lasting_of, phase_has_room, restart, serves_on, takes}
 use Rattle.cleaner_node.specs.declared.cleaner.Cleaner.{Cleaner}
 use Rattle.cleaner_node.specs.declared.cleaner.Phase.{Phase}
 use Rattle.cleaner_node.specs.declared.cleaner.Phase.TheVariants.{Down, Opening, Serving}
 use Rattle.cleaner_serving.specs.declared.emptying.Emptying.{Emptying}
-use Rattle.cleaner_serving.specs.EmptyingEvents.{asks_for_maps, promises, served, writes}
-use Rattle.cleaner_serving.specs.Jobs.{cleans, confirmed, told_by, with_questions}
+use Rattle.cleaner_serving.specs.EmptyingEvents.{ask_for_maps, emptying_promise, emptying_back, emptying_write}
+use Rattle.cleaner_serving.specs.Jobs.{emptying_clean, confirmed, emptying_hear, with_questions}
 use Rattle.client_log.specs.declared.input.In.{In as LogIn}
 use Rattle.client_log.specs.declared.input.In.TheVariants as log_in
 use Rattle.delta_feed.specs.Transition.{acknowledged}
@@ -23,16 +23,16 @@ use Rattle.log_owner.specs.declared.promised.Promised.{Promised}
 use Rattle.log_owner.specs.Opening as opening
 use Rattle.log_owner.specs.Opening.{Went}
 use Rattle.log_owner.specs.Promised.{epoch_of}
-use Rattle.log_owner.specs.Sending.{pushes_all, server_in}
-use Rattle.node_base.specs.Asking.{drawn, next_ask}
-use Rattle.node_base.specs.Beginning.{answered, begun, next_item, waiting}
+use Rattle.log_owner.specs.Sending.{push_all, server_in}
+use Rattle.node_base.specs.Asking.{draw, next_ask}
+use Rattle.node_base.specs.Beginning.{items_answer, items_begin, next_item, items_wait}
 use Rattle.node_base.specs.declared.effects.Effect.TheVariants.{Send}
 use Rattle.node_base.specs.declared.items.Items.{Items}
-use Rattle.node_base.specs.Maps.{taken}
+use Rattle.node_base.specs.Maps.{maps_take}
 use Rattle.node_base.specs.Shape.{is_well_formed}
 use Rattle.segment_format.specs.declared.segment.Segment.{Segment}
 use Rattle.segment_reading.specs.declared.reading.Next.TheVariants as next
-use Rattle.stripe_cleaner.specs.CleaningState.{started}
+use Rattle.stripe_cleaner.specs.CleaningState.{cleaning_start}
 use Rattle.stripe_cleaner.specs.declared.input.In.{In}
 use Rattle.stripe_cleaner.specs.declared.input.In.TheVariants as input
 use Rattle.stripe_cleaner.specs.Promises.{none_promised, promised_with}
@@ -64,7 +64,7 @@ use Rattle.node_moves.specs.server_moves.Moves.{Brought, Came}
 
 -- The event is taken: no counter of the cleaner is near its end, and a packet that comes is well formed.
 pub record IsTaken (first : Cleaner) (what : Do) : Type 0 where
-  pub room : phase_room first.phase ≡ true
+  pub room : phase_has_room first.phase ≡ true
   pub formed : (packet : Packet) → what ≡ Deliver packet → is_well_formed first.peers packet ≡ true
 
 -- ---- what it has
@@ -81,7 +81,7 @@ noted (Serving e) items = Serving (record e { lasting = record e.lasting { items
 -- where it stands once its opening has come so far
 abbrev pub came_to : Lasting → Progress → Phase
 came_to l (progress.Opening o) = Opening l o
-came_to l (progress.Opened o) = Serving (served l o)
+came_to l (progress.Opened o) = Serving (emptying_back l o)
 came_to l (progress.Lost seg) = Down l
 
 -- what a job is told when it begins: what each slot is promised to
@@ -90,11 +90,11 @@ told_all p = fold (λ known slot. promised_with known slot (epoch_of p slot)) no
 
 -- a job that was told so, and has asked nothing
 abbrev pub begun_job : Promised → ℕ → Job
-begun_job p count = record (new_job count) { cleaning = record (started count) { promised = told_all p } }
+begun_job p count = record (job_start count) { cleaning = record (cleaning_start count) { promised = told_all p } }
 
 -- the segment in hand is read no more
 abbrev pub left_reading : Emptying → Emptying
-left_reading e = record e { job = job_read e.job }
+left_reading e = record e { job = note_read e.job }
 
 -- the segment that an answer says is lost
 abbrev pub loss_in : Answer → Option SegName
@@ -104,13 +104,13 @@ loss_in _ = None
 -- ---- because of what it notes items, and answers them
 
 pub data Noted (first : Cleaner) (what : Do) : Items → Items → Type 0 where
-  ItemBegun : what ≡ Begin → Noted first what (items_in first.phase) (begun (items_in first.phase))
-  ItemWaits : {items : Items} (number : ℕ) → what ≡ Begin → next_item (items_in first.phase) ≡ Some number → Noted first what items (waiting items number)
-  ItemAnswered : {items : Items} → Noted first what items (answered items)
+  ItemBegun : what ≡ Begin → Noted first what (items_in first.phase) (items_begin (items_in first.phase))
+  ItemWaits : {items : Items} (number : ℕ) → what ≡ Begin → next_item (items_in first.phase) ≡ Some number → Noted first what items (items_wait items number)
+  ItemAnswered : {items : Items} → Noted first what items (items_answer items)
 
 -- because of what an opening goes on
 pub data OpenedBy (what : Do) (l : Lasting) (o : openings.Opening) : Went → Type 0 where
-  PacketCame : (packet : Packet) → what ≡ Deliver packet → OpenedBy what l o (opening.on_packet o l.questions packet)
+  PacketCame : (packet : Packet) → what ≡ Deliver packet → OpenedBy what l o (opening.opening_take o l.questions packet)
   TimeWent : what ≡ Tick → OpenedBy what l o (opening.on_tick o l.questions)
 
 pub data Due (first : Cleaner) (what : Do) : ℕ → Answer → Type 0 where
@@ -138,8 +138,8 @@ pub data Given (first : Cleaner) (what : Do) : Emptying → In → Type 0 where
   UsageCame : {e : Emptying} (packet : Packet) (m : Usage) → first.phase ≡ Serving e → Came what packet (body.Usage m)
       → Given first what e (input.Usage m.slot m.epoch m.counts)
   SegmentRead : {before : Emptying} (ask server : ℕ) (t : Told) (segment : Segment) → Tells first what before ask server t
-      → (told_by before ask server t).next ≡ next.Read segment
-      → Given first what (left_reading (told_by before ask server t).state) (input.Read (Some segment))
+      → (emptying_hear before ask server t).next ≡ next.Read segment
+      → Given first what (left_reading (emptying_hear before ask server t).state) (input.Read (Some segment))
   SegmentLost : {e : Emptying} → Given first what e (input.Read None)
   LiveCame : {e : Emptying} (packet : Packet) (m : Live) → first.phase ≡ Serving e → Came what packet (body.Live m)
       → is_out (check_of (hand_of e.job) m.block) m.ask ≡ true → Given first what e (input.Live m.block m.epoch m.entry)
@@ -170,12 +170,12 @@ pub data PromisedBy (what : Do) : ℕ → ℕ → ℕ → Type 0 where
 pub data Move (first : Cleaner) (what : Do) : Phase → Went_to → Type 0 where
   -- It notes which items are begun, open and answered, and answers one.
   NotesItems : {phase : Phase} (items : Items) → Noted first what (items_in phase) items → Move first what phase (still (noted phase items))
-  AnswersItem : {phase : Phase} (number : ℕ) (a : Answer) → Due first what number a → Move first what phase (answers phase number a)
+  AnswersItem : {phase : Phase} (number : ℕ) (a : Answer) → Due first what number a → Move first what phase (cleaner_answer phase number a)
   -- It falls.
   Falls : {phase : Phase} → Move first what phase (still (Down (lasting_of phase)))
   -- It starts again, as an item says, and its log is opened.
   Restarts : {l : Lasting} (number : ℕ) → IsTaken first what → what ≡ Begin → next_item (items_in first.phase) ≡ Some number
-      → Move first what (Down l) (restarts first.peers.servers l number)
+      → Move first what (Down l) (restart first.peers.servers l number)
   -- The opening of its log goes on.
   Opens : {l : Lasting} {o : openings.Opening} (w : Went) → IsTaken first what → first.phase ≡ Opening l o → OpenedBy what l o w
       → Move first what (Opening l o) (record { state = came_to (record l { questions = w.questions }) w.progress; outs = w.effects })
@@ -183,36 +183,36 @@ pub data Move (first : Cleaner) (what : Do) : Phase → Went_to → Type 0 where
   BeginsJob : {e : Emptying} (count : ℕ) → what ≡ Begin
       → Move first what (Serving e) (serves_on (still (record e { job = Some (begun_job e.promised count) })))
   -- The job takes an input, and what it says is done; the log takes one, and what it says is done.
-  Cleans : {e : Emptying} (given : In) → Given first what e given → Move first what (Serving e) (serves_on (cleans e given))
-  LogTakes : {e : Emptying} (i : LogIn) → Written first what e i → Move first what (Serving e) (serves_on (writes e i))
+  Cleans : {e : Emptying} (given : In) → Given first what e given → Move first what (Serving e) (serves_on (emptying_clean e given))
+  LogTakes : {e : Emptying} (i : LogIn) → Written first what e i → Move first what (Serving e) (serves_on (emptying_write e i))
   -- It takes the maps that came.
   TakesMaps : {e : Emptying} (packet : Packet) (news : News) → Brought what packet news
-      → Move first what (Serving e) (serves_on (still (record e { maps = taken e.maps news })))
+      → Move first what (Serving e) (serves_on (still (record e { maps = maps_take e.maps news })))
   -- A slot is promised to an epoch of a manager, and the end of the log is reported to one that asked for it.
   Promises : {e : Emptying} (slot epoch manager : ℕ) → PromisedBy what slot epoch manager → epoch_of e.promised slot ≤ epoch
-      → Move first what (Serving e) (serves_on (still (promises e slot epoch manager)))
+      → Move first what (Serving e) (serves_on (still (emptying_promise e slot epoch manager)))
   Reports : {before : Emptying} (packet : Packet) (manager : ℕ) (m : Poll) → first.phase ≡ Serving before → Came what packet (body.Poll m)
       → packet.from ≡ Manager manager → epoch_of before.promised m.slot ≤ m.epoch
-      → Move first what (Serving (promises before m.slot m.epoch manager))
+      → Move first what (Serving (emptying_promise before m.slot m.epoch manager))
       (record {
-        state = Serving (promises before m.slot m.epoch manager);
+        state = Serving (emptying_promise before m.slot m.epoch manager);
         outs = Send (Manager manager)
-            (body.Report (record { slot = m.slot; epoch = m.epoch; held = []; end = (promises before m.slot m.epoch manager).log.end })) ∷ [];
+            (body.Report (record { slot = m.slot; epoch = m.epoch; held = []; end = (emptying_promise before m.slot m.epoch manager).log.end })) ∷ [];
       })
   -- A manager has applied its log so far.
   Acknowledges : {e : Emptying} (packet : Packet) (m : DeltaAck) → Came what packet (body.DeltaAck m)
       → Move first what (Serving e) (serves_on (still (record e { feed = acknowledged e.feed m.slot m.applied })))
   -- The question for the maps is answered, or a new one is asked.
-  IsGreeted : {e : Emptying} → Move first what (Serving e) (serves_on (still (record e { job = greeted e.job })))
-  AsksForMaps : {e : Emptying} → IsTaken first what → first.phase ≡ Serving e → Move first what (Serving e) (serves_on (asks_for_maps e))
+  IsGreeted : {e : Emptying} → Move first what (Serving e) (serves_on (still (record e { job = note_greeted e.job })))
+  AsksForMaps : {e : Emptying} → IsTaken first what → first.phase ≡ Serving e → Move first what (Serving e) (serves_on (ask_for_maps e))
   -- It tells managers what its log says.
-  TellsDeltas : {e : Emptying} → Move first what (Serving e) (record { state = Serving e; outs = pushes_all e.promised.managers e.feed })
+  TellsDeltas : {e : Emptying} → Move first what (Serving e) (record { state = Serving e; outs = push_all e.promised.managers e.feed })
   -- The reading of the segment in hand hears a server, or ends, or begins a further round.
   HearsServer : {e : Emptying} (ask server : ℕ) (t : Told) → Tells first what e ask server t
-      → Move first what (Serving e) (serves_on (still (told_by e ask server t).state))
+      → Move first what (Serving e) (serves_on (still (emptying_hear e ask server t).state))
   LeavesReading : {e : Emptying} → Move first what (Serving e) (serves_on (still (left_reading e)))
   ReadsOn : {e : Emptying}
-      → Move first what (Serving e) (serves_on (still (confirmed (with_questions e (drawn e.lasting.questions)) (next_ask e.lasting.questions)).state))
+      → Move first what (Serving e) (serves_on (still (confirmed (with_questions e (draw e.lasting.questions)) (next_ask e.lasting.questions)).state))
   Fetches : {e : Emptying} → Move first what (Serving e) (record { state = Serving e; outs = fetches (hand_of e.job) })
 
 -- Any list of moves, oldest first.

@@ -5,12 +5,12 @@ use Rattle.fragment_store.specs.ShelfState.{ShelfState}
 use Rattle.group_map.specs.GroupMapState.{GroupMapState}
 use Rattle.group_rebuild.specs.declared.input.In.{In}
 use Rattle.group_rebuild.specs.declared.input.In.TheVariants as input
-use Rattle.group_rebuild.specs.RebuildState.{started}
+use Rattle.group_rebuild.specs.RebuildState.{rebuild_start}
 use Rattle.node_base.specs.Beginning.{work_at}
 use Rattle.node_base.specs.declared.effects.Effect.TheVariants.{Answer as Answers}
 use Rattle.node_base.specs.declared.items.Items.{Items}
 use Rattle.node_base.specs.declared.questions.Questions.{Questions}
-use Rattle.node_base.specs.Maps.{taken}
+use Rattle.node_base.specs.Maps.{maps_take}
 use Rattle.node_base.specs.Room.{has_room}
 use Rattle.store_nodes.specs.declared.server.Server.{Server as Node}
 use Rattle.store_nodes.specs.Rebuilds.{Done, rebuilds}
@@ -81,12 +81,12 @@ pub data Move (first : Node) (what : Do) : Node → Done → Type 0 where
   Deletes : (packet : Packet) (m : Delete) → Came what packet (body.Delete m) → Move first what first (on_delete first packet.from m)
   -- It takes the maps that came.
   TakesMaps : {node : Node} (packet : Packet) (news : News) → Brought what packet news
-      → Move first what node (still (record node { maps = taken node.maps news }))
+      → Move first what node (still (record node { maps = maps_take node.maps news }))
   -- A rebuild begins, over the groups that are known.
   BeginsRebuild : {node : Node} (lists : ℕ) (groups : GroupMapState) → node.maps.groups ≡ Some groups
       → Move first what node
       (still
-      (record node { rebuilding = Some (record { rebuild = started node.number groups; lists = lists; fetches = record { own = 0; ask = 0 } }) }))
+      (record node { rebuilding = Some (record { rebuild = rebuild_start node.number groups; lists = lists; fetches = record { own = 0; ask = 0 } }) }))
   -- The rebuild takes an input, and what it says is done.
   Rebuilds : {node : Node} (given : In) → Given what node.shelf given → Move first what node (rebuilds node given)
   -- The rebuild is cut.

@@ -4,8 +4,8 @@ use Rattle.std.proofs.lemmas.Bool.Decides.{nat_tests}
 use Rattle.client_call.specs.Reads.{kept_while, reading_in, same_target, target_of}
 use Rattle.client_serving.specs.declared.serving.Serving.{Serving}
 use Rattle.client_serving.specs.Flights.{held_at}
-use Rattle.client_serving.specs.Follow.{follows, follows_one, notes_clean, notes_copy}
-use Rattle.client_serving.specs.Reads.{ask_after, begins, begins_over, confirmed_next, confirms, drawn_after, ends_reading, group_in, loses, loses_at, reads, reads_over, with_reading}
+use Rattle.client_serving.specs.Follow.{serving_follow, follow_one, note_clean, note_copy}
+use Rattle.client_serving.specs.Reads.{ask_after, begin_reading, begins_over, go_on_reading, serving_confirm, drawn_after, ends_reading, group_in, loses, lose_at, serving_read, reads_over, with_reading}
 use Rattle.client_serving.specs.Sends as client
 use Rattle.group_map.specs.declared.group.Group.{Group}
 use Rattle.group_map.specs.GroupMapState.{GroupMapState}
@@ -21,7 +21,7 @@ use Rattle.token_client.specs.declared.held.Fetch.{Fetch}
 use Rattle.token_client.specs.declared.held.Held.{Held}
 use Rattle.token_client.specs.declared.held.Wanted.{Wanted}
 use Rattle.token_client.specs.declared.output.Out.TheVariants.{Ready}
-use Rattle.token_client.specs.Held.{copied, copy_granted, fetch_ended, fetched_from, is_answer, is_asking, is_wanted, may_end_fetch, may_write, owned}
+use Rattle.token_client.specs.Held.{copy_of, take_copy, end_fetch, fetch_from, is_answer, is_asking, is_wanted, may_end_fetch, may_write, held_own}
 use Rattle.token_client.specs.State.{TokensState, held_of, with_held}
 use Rattle.token_client.specs.Transition.{Done, accepts, copy_next, is_promised, on_fetched, on_granted, on_supplied, on_quit}
 use Rattle.token_client.proofs.SoundBlocks.{asks_by_fetch, asks_by_want}
@@ -41,7 +41,7 @@ use Rattle.xfs_base.proofs.Orders.{not_later_back, not_later_itself}
 use Rattle.xfs_base.specs.Limits.{u64_end}
 use Rattle.node_slots.specs.node_tie.Asks.{AsksForCall, needed}
 use Rattle.node_slots.proofs.node_tie.AsksBlock.{Need, WantSuits}
-use Rattle.node_slots.proofs.node_tie.AsksFollow.{call_with-step}
+use Rattle.node_slots.proofs.node_tie.AsksFollow.{set_reading-step}
 use Rattle.node_slots.proofs.node_tie.AsksFrames.{asks_as, needed_same}
 use Rattle.node_slots.proofs.node_tie.AsksInputs.{AsksAs}
 use Rattle.node_slots.proofs.node_tie.AsksTokens.{answers_want}
@@ -102,13 +102,13 @@ module _ (A : BlockId → Type 0) (M : GroupMapState → Type 0) (B : Fact) (P :
   loses-keeps n s block seg p = (k.takes n).quiet s.tokens (on_quit s.tokens block).state s.log s.cache (on_quit-quiet s.tokens block).quiet p
 
   module _ (n : ℕ) where
-    loses_at-keeps : (s : Serving) (at : Option BlockAt) (seg : SegName) → At (P n) s → At (P n) (loses_at s at seg).state
-    loses_at-keeps s None seg p = p
-    loses_at-keeps s (Some at) seg p = loses-keeps n s at.block seg p
+    lose_at-keeps : (s : Serving) (at : Option BlockAt) (seg : SegName) → At (P n) s → At (P n) (lose_at s at seg).state
+    lose_at-keeps s None seg p = p
+    lose_at-keeps s (Some at) seg p = loses-keeps n s at.block seg p
 
-    confirmed_next-keeps : (s : Serving) (r : ReadingState) (m : Next) → At (P n) s → At (P n) (confirmed_next s r m).state
-    confirmed_next-keeps s r next.Lost p = loses_at-keeps s r.target.block r.target.seg.name p
-    confirmed_next-keeps s r _ p = p
+    go_on_reading-keeps : (s : Serving) (r : ReadingState) (m : Next) → At (P n) s → At (P n) (go_on_reading s r m).state
+    go_on_reading-keeps s r next.Lost p = lose_at-keeps s r.target.block r.target.seg.name p
+    go_on_reading-keeps s r _ p = p
 
     drawn_after-keeps : (s : Serving) (stage : Stage) → At (P n) s → At (P n) (drawn_after s stage)
     drawn_after-keeps s Between p = p
@@ -116,29 +116,29 @@ module _ (A : BlockId → Type 0) (M : GroupMapState → Type 0) (B : Fact) (P :
     drawn_after-keeps s Doubted p = p
     drawn_after-keeps s Over p = p
 
-    confirms-keeps : (s : Serving) (r : ReadingState) → At (P n) s → At (P n) (confirms s r).state
-    unfolding confirms
-    confirms-keeps s r p =
+    serving_confirm-keeps : (s : Serving) (r : ReadingState) → At (P n) s → At (P n) (serving_confirm s r).state
+    unfolding serving_confirm
+    serving_confirm-keeps s r p =
         let asked = on_confirmed r (ask_after s r.ask r.stage) in
-        confirmed_next-keeps (drawn_after s r.stage) asked.state asked.next (drawn_after-keeps s r.stage p)
+        go_on_reading-keeps (drawn_after s r.stage) asked.state asked.next (drawn_after-keeps s r.stage p)
 
     begins_over-keeps : (s : Serving) (target : Target) (group : Option Group) → At (P n) s → At (P n) (begins_over s target group).state
     begins_over-keeps s target None p = p
     begins_over-keeps s target (Some group) p = p
 
-    begins-keeps : (s : Serving) (target : Target) → At (P n) s → At (P n) (begins s target).state
-    unfolding begins
-    begins-keeps s target p = begins_over-keeps s target (group_in s.maps.groups target.seg.group) p
+    begin_reading-keeps : (s : Serving) (target : Target) → At (P n) s → At (P n) (begin_reading s target).state
+    unfolding begin_reading
+    begin_reading-keeps s target p = begins_over-keeps s target (group_in s.maps.groups target.seg.group) p
 
     reads_over-keeps : (s : Serving) (target : Target) (r : Option ReadingState) → At (P n) s → At (P n) (reads_over s target r).state
-    reads_over-keeps s target None p = begins-keeps s target p
+    reads_over-keeps s target None p = begin_reading-keeps s target p
     reads_over-keeps s target (Some r) p =
-        by_test (λ (d : client.Done). At (P n) d.state) (same_target r.target target) (confirms s r) (begins s target) (λ t. confirms-keeps s r p)
-        (λ t. begins-keeps s target p)
+        by_test (λ (d : client.Done). At (P n) d.state) (same_target r.target target) (serving_confirm s r) (begin_reading s target) (λ t. serving_confirm-keeps s r p)
+        (λ t. begin_reading-keeps s target p)
 
-    pub reads-keeps : (s : Serving) (block : BlockId) (place : Place) → At (P n) s → At (P n) (reads s block place).state
-    unfolding reads
-    reads-keeps s block place p =
+    pub serving_read-keeps : (s : Serving) (block : BlockId) (place : Place) → At (P n) s → At (P n) (serving_read s block place).state
+    unfolding serving_read
+    serving_read-keeps s block place p =
         by_test (λ (d : client.Done). At (P n) d.state) (is_none s.call) (still s)
         (reads_over (with_reading s None) (target_of block place) (reading_in s.call)) (λ t. p)
         (λ t. reads_over-keeps (with_reading s None) (target_of block place) (reading_in s.call) p)
@@ -157,15 +157,15 @@ module _ (A : BlockId → Type 0) (M : GroupMapState → Type 0) (B : Fact) (P :
     with_block g = ends_reading (record s { tokens = with_held s.tokens block g })
 
     stays : At (P 1) (told s (still s.tokens)).state
-    unfolding follows
+    unfolding serving_follow
     stays = p
 
     copy-arrives : (g : Held) → A block → IsCopied h g → At (P 1) (told s (record { state = with_held s.tokens block g; outs = Ready block ∷ [] })).state
-    unfolding follows follows_one notes_copy
+    unfolding serving_follow follow_one note_copy
     copy-arrives g may premise =
         let t : TokensState = with_held s.tokens block g in
         let u : Serving = with_block g in
-        by_test (At (P 1)) (same_mode (held_of t.blocks block).mode Copy) (notes_clean u block) u
+        by_test (At (P 1)) (same_mode (held_of t.blocks block).mode Copy) (note_clean u block) u
         (λ x. k.copies (with_reading s (kept_while t (reading_in s.call))) block g may asks.sound premise p)
         (λ x. contrary (sym x ∙ ap (λ (f : Held). same_mode f.mode Copy) (held_of-put_itself block g s.tokens.blocks)
         ∙ ap (λ m. same_mode m Copy) premise.mode))
@@ -193,56 +193,56 @@ module _ (A : BlockId → Type 0) (M : GroupMapState → Type 0) (B : Fact) (P :
       unfolding on_supplied
       supplied-keeps may ver value =
           by_test (λ (d : Done). At (P 1) (told s d).state) (accepts s.tokens block stamp inc req Copy)
-          (record { state = with_held s.tokens block (copied h stamp ver value); outs = Ready block ∷ [] }) (still s.tokens)
-          (λ t. copy-arrives (copied h stamp ver value) may
+          (record { state = with_held s.tokens block (copy_of h stamp ver value); outs = Ready block ∷ [] }) (still s.tokens)
+          (λ t. copy-arrives (copy_of h stamp ver value) may
           (record { asks = asked Copy t; unheld = unheld t; mode = refl; clean = refl; stamp = rises Copy t; giving = refl }))
           (λ t. stays)
 
       -- ---- a grant
 
-      fetched-same : (ver : ℕ) (place : Place) → h.mode ≡ Nothing → is_later h.stamp stamp ≡ false → At (P 1) (with_block (fetched_from h stamp ver place))
+      fetched-same : (ver : ℕ) (place : Place) → h.mode ≡ Nothing → is_later h.stamp stamp ≡ false → At (P 1) (with_block (fetch_from h stamp ver place))
       fetched-same ver place nothing above =
-          let g : Held = fetched_from h stamp ver place in
+          let g : Held = fetch_from h stamp ver place in
           (k.takes 1).quiet s.tokens (with_held s.tokens block g) s.log s.cache
           (quiet_put s.tokens block g (record { mode = sym nothing; ver = refl; settled = refl; stamp = above; giving = λ x. x })) p
 
       granted_copy : A block → (entry : Entry) → At (P 1) (told s (on_granted s.tokens block stamp inc req Copy entry)).state
-      unfolding on_granted follows follows_one
+      unfolding on_granted serving_follow follow_one
       granted_copy arrives entry =
           by_test (λ (d : Done). At (P 1) (told s d).state) (accepts s.tokens block stamp inc req Copy) _ (still s.tokens) (λ t. placed t entry.place)
           (λ t. stays)
         where
           placed : accepts s.tokens block stamp inc req Copy ≡ true → (place : Option Place)
-              → At (P 1) (told s (record { state = with_held s.tokens block (copy_granted h stamp entry.ver place); outs = copy_next block place ∷ [] })).state
+              → At (P 1) (told s (record { state = with_held s.tokens block (take_copy h stamp entry.ver place); outs = copy_next block place ∷ [] })).state
           placed t None =
-              copy-arrives (copied h stamp entry.ver None) arrives
+              copy-arrives (copy_of h stamp entry.ver None) arrives
               (record { asks = asked Copy t; unheld = unheld t; mode = refl; clean = refl; stamp = rises Copy t; giving = refl })
-          placed t (Some place) = reads-keeps 1 (with_block (fetched_from h stamp entry.ver place)) block place
+          placed t (Some place) = serving_read-keeps 1 (with_block (fetch_from h stamp entry.ver place)) block place
               (fetched-same entry.ver place (unheld t) (rises Copy t))
 
       granted_own : A block → (entry : Entry) → has_long_room entry.ver ≡ true → KeptOrFresh (told s (on_granted s.tokens block stamp inc req Own entry)).state
-      unfolding on_granted follows follows_one notes_copy
+      unfolding on_granted serving_follow follow_one note_copy
       granted_own arrives entry room =
-          let g : Held = owned h stamp entry.ver in
+          let g : Held = held_own h stamp entry.ver in
           by_test (λ (d : Done). KeptOrFresh (told s d).state) (accepts s.tokens block stamp inc req Own)
           (record { state = with_held s.tokens block g; outs = Ready block ∷ [] }) (still s.tokens) (λ t. owned_now t)
           (λ t. inl (lessens (told s (still s.tokens)).state stays))
         where
           owned_now : accepts s.tokens block stamp inc req Own ≡ true
-              → KeptOrFresh (told s (record { state = with_held s.tokens block (owned h stamp entry.ver); outs = Ready block ∷ [] })).state
+              → KeptOrFresh (told s (record { state = with_held s.tokens block (held_own h stamp entry.ver); outs = Ready block ∷ [] })).state
           owned_now t =
-              let g : Held = owned h stamp entry.ver in
+              let g : Held = held_own h stamp entry.ver in
               let u : TokensState = with_held s.tokens block g in
               let now : held_of u.blocks block ≡ g = held_of-put_itself block g s.tokens.blocks in
               let ungiven : is_none h.giving ≡ true = (asks.sound.each block).asks_ungiven (asked Own t) in
               let below : nat_lt entry.ver u64_end ≡ true = grind (arith, nat_tests) in
-              by_test KeptOrFresh (same_mode (held_of u.blocks block).mode Copy) (notes_clean (with_block g) block) (with_block g)
+              by_test KeptOrFresh (same_mode (held_of u.blocks block).mode Copy) (note_clean (with_block g) block) (with_block g)
               (λ x. contrary (sym (ap (λ (f : Held). same_mode f.mode Copy) now) ∙ x))
               (λ x. inr (record {
                 block = block;
                 fact = k.owns s.tokens s.log s.cache block g arrives asks.sound
                     (record { asks = asked Own t; mode = refl; clean = refl; stamp = rises Own t; giving = refl }) p;
-                needs = needed_same (with_block g).call s.call (call_with-step s.call (kept_while u (reading_in s.call))) ∙ (needs_it Own t).0;
+                needs = needed_same (with_block g).call s.call (set_reading-step s.call (kept_while u (reading_in s.call))) ∙ (needs_it Own t).0;
                 may = ap may_write now ∙ ap (λ b. b && nat_lt entry.ver u64_end) ungiven ∙ below;
                 empty = ap (λ (f : Held). is_none f.value) now;
               }))
@@ -265,7 +265,7 @@ module _ (A : BlockId → Type 0) (M : GroupMapState → Type 0) (B : Fact) (P :
 
     -- ---- what was read
 
-    ended-copied : (f : Option Fetch) (value : Option (List ℕ)) → is_some f ≡ true → is_asking h ≡ true → h.mode ≡ Nothing → IsCopied h (fetch_ended h f value)
+    ended-copied : (f : Option Fetch) (value : Option (List ℕ)) → is_some f ≡ true → is_asking h ≡ true → h.mode ≡ Nothing → IsCopied h (end_fetch h f value)
     ended-copied None value some asking nothing = contrary some
     ended-copied (Some f) value some asking nothing =
         record { asks = asking; unheld = nothing; mode = refl; clean = refl; stamp = not_later_itself h.stamp; giving = refl }
@@ -275,7 +275,7 @@ module _ (A : BlockId → Type 0) (M : GroupMapState → Type 0) (B : Fact) (P :
     fetched-keeps may value =
         let fetching : may_end_fetch h ≡ true → is_some h.fetch ≡ true = and_first (is_some h.fetch) (is_none h.want) in
         by_test (λ (d : Done). At (P 1) (told s d).state) (may_end_fetch h)
-        (record { state = with_held s.tokens block (fetch_ended h h.fetch value); outs = Ready block ∷ [] }) (still s.tokens)
-        (λ t. copy-arrives (fetch_ended h h.fetch value) (may t)
+        (record { state = with_held s.tokens block (end_fetch h h.fetch value); outs = Ready block ∷ [] }) (still s.tokens)
+        (λ t. copy-arrives (end_fetch h h.fetch value) (may t)
         (ended-copied h.fetch value (fetching t) (asks_by_fetch h (fetching t)) (unheld_is_nothing h.mode ((asks.sound.each block).fetch_unheld (fetching t)))))
         (λ t. stays)

@@ -4,7 +4,7 @@ use Rattle.client_node.specs.declared.client.Client.{Client}
 use Rattle.client_node.specs.declared.phase.Phase.TheVariants.{Down, Opening, Serving as Serves}
 use Rattle.client_node.specs.declared.phase.Phase.{Phase}
 use Rattle.client_node.specs.Phases.{client_step}
-use Rattle.client_node.specs.Starting.{first_client}
+use Rattle.client_node.specs.Starting.{client_start}
 use Rattle.client_call.specs.declared.call.Call.{Call}
 use Rattle.client_serving.specs.declared.serving.Serving.{Serving}
 use Rattle.client_serving.specs.Flights.{held_at}
@@ -37,8 +37,8 @@ where_asks (Serves s) p = p
 
 pub asks_always : HoldsAfterAnyEvents AsksForCall
 asks_always number setup works events =
-    where_asks (after_events (first_client number setup works) events).phase
-    (after-asks (first_client number setup works) events (first_asks number setup works))
+    where_asks (after_events (client_start number setup works) events).phase
+    (after-asks (client_start number setup works) events (first_asks number setup works))
 
 -- ---- what a call on blocks needs
 

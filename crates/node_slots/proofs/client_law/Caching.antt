@@ -6,10 +6,10 @@ use Rattle.std.specs.List.{AllByRecursion}
 use Rattle.std.proofs.lemmas.Bool.Decides.{nat_tests}
 use Rattle.client_serving.specs.declared.serving.Serving.{Serving}
 use Rattle.client_serving.specs.Flights.{held_at}
-use Rattle.client_serving.specs.Follow.{evicts, notes_clean}
+use Rattle.client_serving.specs.Follow.{evicts, note_clean}
 use Rattle.coop_cache.specs.CacheState.{CacheState}
 use Rattle.coop_cache.specs.declared.output.Out.TheVariants.{Victim}
-use Rattle.coop_cache.specs.Transition.{cleaned, excess, is_clean, left, used_last}
+use Rattle.coop_cache.specs.Transition.{cache_clean, excess, is_clean, cache_leave, used_last}
 use Rattle.token_client.specs.declared.held.Held.{Held}
 use Rattle.token_client.specs.Held.{is_dirty, let_go, may_evict}
 use Rattle.token_client.specs.State.{TokensState, held_of, put_held, with_held}
@@ -95,33 +95,33 @@ module _ (X : BlockId → Type 0) where
 
   -- a block is put that isn't held and clean, and leaves
   pub gone-caches : (t : TokensState) (c : CacheState) → CachesBut X t c → (block : BlockId) (g : Held) → may_evict g ≡ false
-      → CachesBut X (with_held t block g) (left c block)
+      → CachesBut X (with_held t block g) (cache_leave c block)
   gone-caches t c p block g gone = record {
     once = once_without block c.blocks p.once;
     cached =
-        put_cases (λ b h. is_clean (left c block) b ≡ true → may_evict h ≡ true) block g t.blocks
+        put_cases (λ b h. is_clean (cache_leave c block) b ≡ true → may_evict h ≡ true) block g t.blocks
         (λ inside. contrary (sym (in_without block block c.blocks inside).1 ∙ same_block_itself block))
         (λ b other inside. p.cached b (in_without block b c.blocks inside).0);
     caches =
-        put_cases (λ b h. may_evict h ≡ true → (is_clean (left c block) b ≡ true) ⊎ X b) block g t.blocks (λ clean. contrary (sym gone ∙ clean))
+        put_cases (λ b h. may_evict h ≡ true → (is_clean (cache_leave c block) b ≡ true) ⊎ X b) block g t.blocks (λ clean. contrary (sym gone ∙ clean))
         (λ b other clean. others b other (p.caches b clean));
   }
     where
-      others : (b : BlockId) → same_block block b ≡ false → (is_clean c b ≡ true) ⊎ X b → (is_clean (left c block) b ≡ true) ⊎ X b
+      others : (b : BlockId) → same_block block b ≡ false → (is_clean c b ≡ true) ⊎ X b → (is_clean (cache_leave c block) b ≡ true) ⊎ X b
       others b other (inl inside) = inl (to_without block b c.blocks inside other)
       others b other (inr x) = inr x
 
   -- a block leaves that isn't held and clean
-  pub left-caches : (t : TokensState) (c : CacheState) → CachesBut X t c → (block : BlockId) → may_evict (held_of t.blocks block) ≡ false
-      → CachesBut X t (left c block)
-  left-caches t c p block gone = record {
+  pub cache_leave-caches : (t : TokensState) (c : CacheState) → CachesBut X t c → (block : BlockId) → may_evict (held_of t.blocks block) ≡ false
+      → CachesBut X t (cache_leave c block)
+  cache_leave-caches t c p block gone = record {
     once = once_without block c.blocks p.once;
     cached = λ b inside. p.cached b (in_without block b c.blocks inside).0;
     caches = λ b clean. others b clean (either (same_block block b)) (p.caches b clean);
   }
     where
       others : (b : BlockId) → may_evict (held_of t.blocks b) ≡ true → (same_block block b ≡ true) ⊎ (same_block block b ≡ false) → (is_clean c b ≡ true) ⊎ X b
-          → (is_clean (left c block) b ≡ true) ⊎ X b
+          → (is_clean (cache_leave c block) b ≡ true) ⊎ X b
       others b clean (inl same) x =
           contrary (sym gone ∙ ap (λ a. may_evict (held_of t.blocks a)) (sym (same_block_exact block b same)) ∙ clean)
       others b clean (inr other) (inl inside) = inl (to_without block b c.blocks inside other)
@@ -149,7 +149,7 @@ module _ (X : BlockId → Type 0) where
         same-caches t c p block g
         (clean_evicts g (ap is_held fact.mode) (dirty_same (held_of t.blocks block) g fact.ver fact.settled ∙ clean)
         ∙ sym (clean_evicts (held_of t.blocks block) fact.held clean));
-    leaves = λ t l c block nothing p. left-caches t c p block (nothing_stays (held_of t.blocks block) (nothing_is (held_of t.blocks block).mode nothing));
+    leaves = λ t l c block nothing p. cache_leave-caches t c p block (nothing_stays (held_of t.blocks block) (nothing_is (held_of t.blocks block).mode nothing));
     seals = λ t l c p. p;
   }
 
@@ -244,10 +244,10 @@ module _ (X : BlockId → Type 0) where
         by_block (inl same) = placed b (taken_or_left over b order (to_used block b s.cache.blocks (inl same)))
         by_block (inr x) = inr (inr x)
 
-    pub clean-caches : At (C X) (notes_clean s block)
-    unfolding notes_clean
+    pub clean-caches : At (C X) (note_clean s block)
+    unfolding note_clean
     clean-caches =
-        all_evicted (record s { cache = (cleaned s.cache block).state }) (take over order)
+        all_evicted (record s { cache = (cache_clean s.cache block).state }) (take over order)
         (λ b out. not_both_parts over b order (once_used block s.cache.blocks p.once) out)
         (record {
           once = once_drop over order (once_used block s.cache.blocks p.once);

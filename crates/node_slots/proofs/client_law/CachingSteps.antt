@@ -11,15 +11,15 @@ use Rattle.client_log.specs.declared.output.Out.TheVariants.{Send, Settled}
 use Rattle.client_log.specs.Transition as log
 use Rattle.client_running.specs.Blocks.{changes, wrote}
 use Rattle.client_serving.specs.declared.serving.Serving.{Serving}
-use Rattle.client_serving.specs.Flights.{feeds, gives_if_clean, gives_up, held_at, keeps_clean, notes_settled, settled_rows, settles, writes, writes_one}
-use Rattle.client_serving.specs.Follow.{notes_clean, notes_gone, seals}
+use Rattle.client_serving.specs.Flights.{feeds, give_if_clean, gives_up, held_at, keep_row, notes_settled, settle_rows, serving_settle, serving_write, write_one}
+use Rattle.client_serving.specs.Follow.{note_clean, note_gone, serving_seal}
 use Rattle.client_serving.specs.Sends as client
 use Rattle.coop_cache.specs.CacheState.{CacheState}
-use Rattle.coop_cache.specs.Transition.{excess, is_clean, left, touched, used_last}
+use Rattle.coop_cache.specs.Transition.{excess, is_clean, cache_leave, touch, used_last}
 use Rattle.log_owner.specs.Sealing.{is_settling}
 use Rattle.token_client.specs.declared.held.Giving.{Giving}
 use Rattle.token_client.specs.declared.held.Held.{Held}
-use Rattle.token_client.specs.Held.{is_dirty, is_settled_by, let_go, may_evict, may_write, version_settled, written}
+use Rattle.token_client.specs.Held.{is_dirty, is_settled_by, let_go, may_evict, may_write, version_settled, held_write}
 use Rattle.token_client.specs.Laws.{IsSound}
 use Rattle.token_client.specs.Settling.{is_giving}
 use Rattle.token_client.specs.State.{TokensState, dirty_in, held_of, with_held}
@@ -37,7 +37,7 @@ use Rattle.node_slots.specs.client_law.Caching.{CachesJustWhatIsClean, CachesOnl
 use Rattle.node_slots.proofs.client_law.Giving.{any_reopens, AnyLog, AnyOpening}
 use Rattle.node_slots.proofs.client_law.Happening.{AnyBlock, AnyMap, after_weaker, always, Starts}
 use Rattle.node_slots.proofs.client_law.Caching.{C, CachesBut, clean-caches, clean_evicts, clean_victims, dirty_stays, gone-caches, settled_clean, takes-cache}
-use Rattle.node_slots.proofs.client_law.Keeping.{At, IsCopied, Keeps, Sound, notes_gone-keeps, takes_back-keeps}
+use Rattle.node_slots.proofs.client_law.Keeping.{At, IsCopied, Keeps, Sound, note_gone-keeps, take_back-keeps}
 use Rattle.node_slots.proofs.client_law.Orders.{has, in_take, in_used, once_used, to_used}
 
 -- ---- a segment is settled
@@ -100,11 +100,11 @@ module _ (row : BlockId × Entry) (rows : List (BlockId × Entry)) (s : Serving)
       less b clean (inl inside) = inl inside
       less b clean (inr x) = by_row b clean (but_row b x)
 
-  keeps_clean-caches : At (C (InRows rows)) (keeps_clean s row)
-  unfolding keeps_clean
-  keeps_clean-caches =
+  keep_row-caches : At (C (InRows rows)) (keep_row s row)
+  unfolding keep_row
+  keep_row-caches =
       let h : Held = held_at s row.0 in
-      by_test (At (C (InRows rows))) (not (is_dirty h) && is_held h.mode) (notes_clean s row.0) s
+      by_test (At (C (InRows rows))) (not (is_dirty h) && is_held h.mode) (note_clean s row.0) s
       (λ x. clean-caches (InRows rows) (InRows (row ∷ rows)) s row.0 (turned (not (is_dirty h)) (is_held h.mode) true x) p but_row)
       (λ x. unkept (turned (not (is_dirty h)) (is_held h.mode) false x))
     where
@@ -114,13 +114,13 @@ module _ (row : BlockId × Entry) (rows : List (BlockId × Entry)) (s : Serving)
       turned false true r h = h
       turned false false r h = h
 
-rows_clean : (s : Serving) (rows : List (BlockId × Entry)) → At (C (InRows rows)) s → At (C none) (fold keeps_clean s rows)
+rows_clean : (s : Serving) (rows : List (BlockId × Entry)) → At (C (InRows rows)) s → At (C none) (fold keep_row s rows)
 rows_clean s [] p = record { once = p.once; cached = p.cached; caches = λ b clean. less b (p.caches b clean) }
   where
     less : (b : BlockId) → (is_clean s.cache b ≡ true) ⊎ InRows [] b → (is_clean s.cache b ≡ true) ⊎ ⊥
     less b (inl inside) = inl inside
     less b (inr x) = inr (contains_nothing b x)
-rows_clean s (row ∷ rows) p = rows_clean (keeps_clean s row) rows (keeps_clean-caches row rows s p)
+rows_clean s (row ∷ rows) p = rows_clean (keep_row s row) rows (keep_row-caches row rows s p)
 
 -- what is excepted by none is by any
 more : (X : BlockId → Type 0) (s : Serving) → At (C none) s → At (C X) s
@@ -130,43 +130,43 @@ more X s p = record { once = p.once; cached = p.cached; caches = λ b clean. wid
     wider (inl a) = inl a
     wider (inr x) = absurd x
 
-settled_rows-caches : (s : Serving) (rows : List (BlockId × Entry)) → At (C none) s → At (C none) (settled_rows s rows)
-settled_rows-caches s rows p = rows_clean (fold notes_settled s rows) rows (rows_settled (InRows rows) s rows (rows_in rows) (more (InRows rows) s p))
+settle_rows-caches : (s : Serving) (rows : List (BlockId × Entry)) → At (C none) s → At (C none) (settle_rows s rows)
+settle_rows-caches s rows p = rows_clean (fold notes_settled s rows) rows (rows_settled (InRows rows) s rows (rows_in rows) (more (InRows rows) s p))
 
 gives_up-caches : (s : Serving) (block : BlockId) (g : Option Giving) → At (C none) s → At (C none) (gives_up s block g).state
 gives_up-caches s block None p = p
-gives_up-caches s block (Some g) p = takes_back-keeps (C none) (takes-cache none) s p block g.stamp g.keep
+gives_up-caches s block (Some g) p = take_back-keeps (C none) (takes-cache none) s p block g.stamp g.keep
 
-gives_if_clean-caches : (s : Serving) (block : BlockId) → At (C none) s → At (C none) (gives_if_clean s block).state
-unfolding gives_if_clean
-gives_if_clean-caches s block p =
+give_if_clean-caches : (s : Serving) (block : BlockId) → At (C none) s → At (C none) (give_if_clean s block).state
+unfolding give_if_clean
+give_if_clean-caches s block p =
     by_test (λ (d : client.Done). At (C none) d.state) (is_dirty (held_at s block)) (still s) (gives_up s block (held_at s block).giving) (λ x. p)
     (λ x. gives_up-caches s block (held_at s block).giving p)
 
-all_given : (s : Serving) (xs : List BlockId) → At (C none) s → At (C none) (steps gives_if_clean s xs).state
+all_given : (s : Serving) (xs : List BlockId) → At (C none) s → At (C none) (steps give_if_clean s xs).state
 all_given s [] p = p
-all_given s (x ∷ xs) p = all_given (gives_if_clean s x).state xs (gives_if_clean-caches s x p)
+all_given s (x ∷ xs) p = all_given (give_if_clean s x).state xs (give_if_clean-caches s x p)
 
-settles-caches : (s : Serving) (end : End) (rows : List (BlockId × Entry)) → At (C none) s → At (C none) (settles s end rows).state
-unfolding settles
-settles-caches s end rows p = all_given (feeds (settled_rows s rows) end rows) (dirty_in s.tokens.blocks) (settled_rows-caches s rows p)
+serving_settle-caches : (s : Serving) (end : End) (rows : List (BlockId × Entry)) → At (C none) s → At (C none) (serving_settle s end rows).state
+unfolding serving_settle
+serving_settle-caches s end rows p = all_given (feeds (settle_rows s rows) end rows) (dirty_in s.tokens.blocks) (settle_rows-caches s rows p)
 
 -- ---- the log
 
-pub all_written : (s : Serving) (outs : List log_out.Out) → At (C none) s → At (C none) (steps writes_one s outs).state
-unfolding writes_one
+pub all_written : (s : Serving) (outs : List log_out.Out) → At (C none) s → At (C none) (steps write_one s outs).state
+unfolding write_one
 all_written s [] p = p
 all_written s (Send fragment member ∷ outs) p = all_written s outs p
-all_written s (Settled end rows ∷ outs) p = all_written (settles s end rows).state outs (settles-caches s end rows p)
+all_written s (Settled end rows ∷ outs) p = all_written (serving_settle s end rows).state outs (serving_settle-caches s end rows p)
 
-logs-caches : (s : Serving) (i : log_in.In) → At (C none) s → At (C none) (writes s i).state
-unfolding writes seals
+logs-caches : (s : Serving) (i : log_in.In) → At (C none) s → At (C none) (serving_write s i).state
+unfolding serving_write serving_seal
 logs-caches s i p =
     let t : Serving = record s { log = (log.transition s.log i).state } in
     let outs : List log_out.Out = (log.transition s.log i).outs in
-    let u : Serving = (steps writes_one t outs).state in
+    let u : Serving = (steps write_one t outs).state in
     let q : At (C none) u = all_written t outs p in
-    by_test (λ (d : client.Done). At (C none) d.state) (list_any is_settling outs && is_giving u.tokens) (seals u) (still u) (λ x. q) (λ x. q)
+    by_test (λ (d : client.Done). At (C none) d.state) (list_any is_settling outs && is_giving u.tokens) (serving_seal u) (still u) (λ x. q) (λ x. q)
 
 -- ---- what arrives, and what is written
 
@@ -183,7 +183,7 @@ arrived t c block g clean p = record {
     wider (inr x) = absurd x
 
 copies-caches : (s : Serving) (block : BlockId) (g : Held) → IsCopied (held_at s block) g → At (C none) s
-    → At (C none) (notes_clean (record s { tokens = with_held s.tokens block g }) block)
+    → At (C none) (note_clean (record s { tokens = with_held s.tokens block g }) block)
 copies-caches s block g fact p =
     let t : TokensState = with_held s.tokens block g in
     let clean : may_evict g ≡ true = clean_evicts g (ap is_held fact.mode) (settled_clean g fact.clean) in
@@ -203,14 +203,14 @@ written_dirty : (settled ver : ℕ) → settled ≤ ver → nat_lt settled (ver 
 written_dirty settled ver below = grind (arith, nat_tests)
 
 wrote-caches : (t : TokensState) (c : CacheState) (block : BlockId) (value : Option (List ℕ)) → IsSound t → may_write (held_of t.blocks block) ≡ true
-    → CachesBut (λ b. b ≡ block) t c → CachesBut none (on_wrote t block value).state (left c block)
+    → CachesBut (λ b. b ≡ block) t c → CachesBut none (on_wrote t block value).state (cache_leave c block)
 unfolding on_wrote
 wrote-caches t c block value sound may p =
     let h : Held = held_of t.blocks block in
-    let g : Held = written h value in
+    let g : Held = held_write h value in
     let gone : may_evict g ≡ false = dirty_stays g (written_dirty h.settled h.ver (sound.each block).settled_below) in
-    by_test (λ (d : Done). CachesBut none d.state (left c block)) (may_write h) (still (with_held t block g)) (still t)
-    (λ x. unexcepted (with_held t block g) (left c block) block (ap may_evict (held_of-put_itself block g t.blocks) ∙ gone)
+    by_test (λ (d : Done). CachesBut none d.state (cache_leave c block)) (may_write h) (still (with_held t block g)) (still t)
+    (λ x. unexcepted (with_held t block g) (cache_leave c block) block (ap may_evict (held_of-put_itself block g t.blocks) ∙ gone)
     (gone-caches (λ b. b ≡ block) t c p block g gone)) (λ x. contrary (sym x ∙ may))
 
 changes-caches : (s : Serving) (block : BlockId) (value : Option (List ℕ)) → Sound s → may_write (held_at s block) ≡ true → At (C (λ b. b ≡ block)) s
@@ -222,22 +222,22 @@ changes-caches s block value sound may p =
     (wrote-caches s.tokens s.cache block value sound may p)
 
 lets_owned-caches : (s : Serving) (block : BlockId) → At (C (λ b. b ≡ block)) s
-    → At (C none) (notes_gone (record s { tokens = (on_evict s.tokens block).state }) block)
-unfolding on_evict notes_gone
+    → At (C none) (note_gone (record s { tokens = (on_evict s.tokens block).state }) block)
+unfolding on_evict note_gone
 lets_owned-caches s block p =
     let h : Held = held_at s block in
     let g : Held = let_go h in
     let t : TokensState = with_held s.tokens block g in
     let now : held_of t.blocks block ≡ g = held_of-put_itself block g s.tokens.blocks in
-    by_test (λ (d : Done). At (C none) (notes_gone (record s { tokens = d.state }) block)) (may_evict h) (still t) (still s.tokens)
-    (λ x. by_test (At (C none)) (is_nothing (held_of t.blocks block).mode) (record s { tokens = t; cache = left s.cache block }) (record s { tokens = t })
-    (λ y. unexcepted t (left s.cache block) block (ap may_evict now) (gone-caches (λ b. b ≡ block) s.tokens s.cache p block g refl))
+    by_test (λ (d : Done). At (C none) (note_gone (record s { tokens = d.state }) block)) (may_evict h) (still t) (still s.tokens)
+    (λ x. by_test (At (C none)) (is_nothing (held_of t.blocks block).mode) (record s { tokens = t; cache = cache_leave s.cache block }) (record s { tokens = t })
+    (λ y. unexcepted t (cache_leave s.cache block) block (ap may_evict now) (gone-caches (λ b. b ≡ block) s.tokens s.cache p block g refl))
     (λ y. contrary (sym y ∙ ap (λ (f : Held). is_nothing f.mode) now)))
-    (λ x. notes_gone-keeps (C none) (takes-cache none) s block (unexcepted s.tokens s.cache block x p))
+    (λ x. note_gone-keeps (C none) (takes-cache none) s block (unexcepted s.tokens s.cache block x p))
 
 -- a block that is used keeps its place among what is cached
-touched-caches : (t : TokensState) (c : CacheState) (block : BlockId) → CachesBut none t c → CachesBut none t (touched c block)
-touched-caches t c block p =
+touch-caches : (t : TokensState) (c : CacheState) (block : BlockId) → CachesBut none t c → CachesBut none t (touch c block)
+touch-caches t c block p =
     by_test (CachesBut none t) (is_clean c block) (record { blocks = used_last block c.blocks; capacity = c.capacity }) c (λ x. used x) (λ x. p)
   where
     there : (b : BlockId) → is_clean c block ≡ true → (b ≡ block) ⊎ (has b c.blocks ≡ true) → is_clean c b ≡ true
@@ -261,7 +261,7 @@ keeps-caching = record {
   less = λ t l c p. p;
   ends = λ t l c p. p;
   takes = λ n. takes-cache none;
-  touches = λ t l c block p. touched-caches t c block p;
+  touches = λ t l c block p. touch-caches t c block p;
   copies = λ s block g may sound fact p. copies-caches s block g fact p;
   owns = λ t l c block g may sound fact p. arrived t c block g (clean_evicts g (ap is_held fact.mode) (settled_clean g fact.clean)) p;
   logs = λ s i outer sound p. logs-caches s i p;
@@ -324,16 +324,16 @@ evicts_only_clean s block p clean =
     let order : List BlockId = used_last block s.cache.blocks in
     let n : ℕ = excess s.cache.capacity order in (
       clean_victims anything anything s block clean q (λ b x. inr x) (take n order) (λ b inside. in_take n b order inside),
-      only_clean anything (notes_clean s block) (clean-caches anything anything s block clean q (λ b x. inr x)),
+      only_clean anything (note_clean s block) (clean-caches anything anything s block clean q (λ b x. inr x)),
     )
 
 pub copies_only_clean : CopiesOnlyClean
 copies_only_clean s block copy p clean =
     only_clean (λ b. b ≡ block) (record s { tokens = with_held s.tokens block copy }) (arrived s.tokens s.cache block copy clean (is_exact s p))
 
-noted_clean : (s : Serving) (noted rest : List (BlockId × Entry)) → At (C (InRows (noted ++ rest))) s → CachesOnlyClean (fold keeps_clean s noted)
+noted_clean : (s : Serving) (noted rest : List (BlockId × Entry)) → At (C (InRows (noted ++ rest))) s → CachesOnlyClean (fold keep_row s noted)
 noted_clean s [] rest p = only_clean (InRows rest) s p
-noted_clean s (row ∷ noted) rest p = noted_clean (keeps_clean s row) noted rest (keeps_clean-caches row (noted ++ rest) s p)
+noted_clean s (row ∷ noted) rest p = noted_clean (keep_row s row) noted rest (keep_row-caches row (noted ++ rest) s p)
 
 pub settles_only_clean : SettlesOnlyClean
 settles_only_clean s noted rest p =

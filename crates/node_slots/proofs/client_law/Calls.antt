@@ -1,16 +1,16 @@
 -- The open call runs: that keeps a fact of a client that serves; and it writes at once, or lets go, what was just granted to be written.
 use Rattle.std.proofs.Common.{◌≡◌, inl, inr, ℕ, zero, suc, ◌+◌, ◌<◌, Bool, true, false, ◌==◌, List, Option, Some, None, is_some, is_none, refl, sym, ap, subst, ◌∙◌, arith}
 use Rattle.client_log.specs.declared.input.In.TheVariants as log_in
-use Rattle.client_call.specs.Calls.{after_answer}
+use Rattle.client_call.specs.Calls.{plan_answered}
 use Rattle.client_call.specs.declared.call.Call.{Call}
 use Rattle.client_call.specs.declared.call.Going.TheVariants.{On, Ends}
 use Rattle.client_call.specs.declared.call.Going.{Going}
 use Rattle.client_call.specs.Fitting.{put_fits}
-use Rattle.client_running.specs.Blocks.{Made, changed, changes, changes_if_fits, got, gets, held_back, lets_go, makes, needs, puts, puts_again, puts_at, syncs, wrote}
+use Rattle.client_running.specs.Blocks.{Made, changed, changes, blocks_change, got, blocks_get, held_back, blocks_let_go, blocks_make, blocks_need, blocks_put, puts_again, blocks_put_at, blocks_sync, wrote}
 use Rattle.client_serving.specs.declared.serving.Serving.{Serving}
 use Rattle.client_serving.specs.Flights.{held_at}
-use Rattle.client_serving.specs.Follow.{hands, notes_gone}
-use Rattle.client_running.specs.Running.{Ran, answers_call, goes_on, most_steps, runs, runs_call, runs_once, runs_upto}
+use Rattle.client_serving.specs.Follow.{hand, note_gone}
+use Rattle.client_running.specs.Running.{Ran, take_answer, running_go_on, most_steps, run, runs_call, run_once, run_upto}
 use Rattle.client_serving.specs.Sends as client
 use Rattle.file_plan.specs.declared.block_call.BlockAnswer.{BlockAnswer}
 use Rattle.file_plan.specs.declared.block_call.BlockCall.{BlockCall}
@@ -31,9 +31,9 @@ use Rattle.xfs_base.proofs.Booleans.{and_second, by_test, contrary, not_true}
 use Rattle.xfs_base.proofs.Orders.{not_later_itself}
 use Rattle.node_slots.specs.node_tie.Asks.{needed, needed_by}
 use Rattle.node_slots.proofs.client_law.Arriving.{IsFresh, KeptOrFresh}
-use Rattle.node_slots.proofs.client_law.Keeping.{At, Fact, Keeps, Sound, TakesKeep, notes_gone-keeps, quiet-keeps, seals-keeps}
+use Rattle.node_slots.proofs.client_law.Keeping.{At, Fact, Keeps, Sound, TakesKeep, note_gone-keeps, quiet-keeps, serving_seal-keeps}
 use Rattle.node_slots.proofs.client_law.Quiet.{on_need-quiet}
-use Rattle.node_slots.proofs.client_law.Sounding.{hands-sound, notes_gone-sound, seals-sound, transition-sound, writes-sound}
+use Rattle.node_slots.proofs.client_law.Sounding.{hand-sound, note_gone-sound, serving_seal-sound, transition-sound, serving_write-sound}
 
 -- ---- a block without a value is let go
 
@@ -44,74 +44,74 @@ module _ (P : Fact) (k : TakesKeep P) (s : Serving) (block : BlockId) (p : At P 
   abbrev without : Serving
   without = record s { tokens = with_held s.tokens block (let_go now) }
 
-  let_go-keeps : is_dirty now ≡ false → At P (notes_gone without block)
-  unfolding notes_gone
+  let_go-keeps : is_dirty now ≡ false → At P (note_gone without block)
+  unfolding note_gone
   let_go-keeps clean =
       by_test (At P) (is_nothing (held_of without.tokens.blocks block).mode) _ without
       (λ x. k.lets s.tokens s.log s.cache block (let_go now) clean
       (record { mode = refl; ver = refl; settled = refl; stamp = not_later_itself now.stamp; giving = λ g. g }) p)
       (λ x. contrary (sym x ∙ ap (λ (h : Held). is_nothing h.mode) (held_of-put_itself block (let_go now) s.tokens.blocks)))
 
-  evicted-keeps : At P (notes_gone (record s { tokens = (on_evict s.tokens block).state }) block)
+  evicted-keeps : At P (note_gone (record s { tokens = (on_evict s.tokens block).state }) block)
   unfolding on_evict
   evicted-keeps =
-      by_test (λ (d : Done). At P (notes_gone (record s { tokens = d.state }) block)) (may_evict now) (still (with_held s.tokens block (let_go now)))
+      by_test (λ (d : Done). At P (note_gone (record s { tokens = d.state }) block)) (may_evict now) (still (with_held s.tokens block (let_go now)))
       (still s.tokens)
-      (λ x. let_go-keeps (not_true (is_dirty now) (and_second (is_held now.mode) _ x))) (λ x. notes_gone-keeps P k s block p)
+      (λ x. let_go-keeps (not_true (is_dirty now) (and_second (is_held now.mode) _ x))) (λ x. note_gone-keeps P k s block p)
 
-  lets_go-keeps : At P (lets_go s block)
-  lets_go-keeps = by_test (At P) (is_none now.value) (notes_gone (record s { tokens = (on_evict s.tokens block).state }) block) s (λ x. evicted-keeps) (λ x. p)
+  blocks_let_go-keeps : At P (blocks_let_go s block)
+  blocks_let_go-keeps = by_test (At P) (is_none now.value) (note_gone (record s { tokens = (on_evict s.tokens block).state }) block) s (λ x. evicted-keeps) (λ x. p)
 
 -- ---- soundness
 
 module _ (s : Serving) (p : Sound s) (block : BlockId) where
-  needs-sound : (mode : Mode) → Sound (needs s block mode).done.state
-  needs-sound mode = hands-sound s (input.Need block mode) p
+  blocks_need-sound : (mode : Mode) → Sound (blocks_need s block mode).done.state
+  blocks_need-sound mode = hand-sound s (input.Need block mode) p
 
-  gets-sound : Sound (gets s block).done.state
-  unfolding gets
-  gets-sound = by_test (λ (m : Made). Sound m.done.state) (is_nothing (held_at s block).mode) (needs s block Copy) (got s block (held_at s block))
-      (λ x. needs-sound Copy) (λ x. p)
+  blocks_get-sound : Sound (blocks_get s block).done.state
+  unfolding blocks_get
+  blocks_get-sound = by_test (λ (m : Made). Sound m.done.state) (is_nothing (held_at s block).mode) (blocks_need s block Copy) (got s block (held_at s block))
+      (λ x. blocks_need-sound Copy) (λ x. p)
 
   module _ (value : Option (List ℕ)) where
     changes-sound : Sound (changes s block value).done.state
     unfolding changes
     changes-sound =
         let w : Serving = wrote s block value in
-        writes-sound w (log_in.Put block (record { ver = (held_at w block).ver; hop = 0; place = None }) value)
+        serving_write-sound w (log_in.Put block (record { ver = (held_at w block).ver; hop = 0; place = None }) value)
         (transition-sound s.tokens (input.Wrote block value) p)
 
-    lets_go-sound : Sound (lets_go s block)
-    lets_go-sound =
-        by_test Sound (is_none (held_at s block).value) (notes_gone (record s { tokens = (on_evict s.tokens block).state }) block) s
-        (λ x. notes_gone-sound (record s { tokens = (on_evict s.tokens block).state }) block (transition-sound s.tokens (input.Evict block) p)) (λ x. p)
+    blocks_let_go-sound : Sound (blocks_let_go s block)
+    blocks_let_go-sound =
+        by_test Sound (is_none (held_at s block).value) (note_gone (record s { tokens = (on_evict s.tokens block).state }) block) s
+        (λ x. note_gone-sound (record s { tokens = (on_evict s.tokens block).state }) block (transition-sound s.tokens (input.Evict block) p)) (λ x. p)
 
-    changes_if_fits-sound : Sound (changes_if_fits s block value).done.state
-    unfolding changes_if_fits
-    changes_if_fits-sound =
+    blocks_change-sound : Sound (blocks_change s block value).done.state
+    unfolding blocks_change
+    blocks_change-sound =
         by_test (λ (m : Made). Sound m.done.state) (put_fits block ((held_at s block).ver + 1) value) (changes s block value) (held_back s block)
-        (λ x. changes-sound) (λ x. lets_go-sound)
+        (λ x. changes-sound) (λ x. blocks_let_go-sound)
 
-    puts-sound : Sound (puts s block value).done.state
-    unfolding puts
-    puts-sound =
-        by_test (λ (m : Made). Sound m.done.state) (may_write (held_at s block)) (changes_if_fits s block value) (needs s block Own)
-        (λ x. changes_if_fits-sound) (λ x. needs-sound Own)
+    blocks_put-sound : Sound (blocks_put s block value).done.state
+    unfolding blocks_put
+    blocks_put-sound =
+        by_test (λ (m : Made). Sound m.done.state) (may_write (held_at s block)) (blocks_change s block value) (blocks_need s block Own)
+        (λ x. blocks_change-sound) (λ x. blocks_need-sound Own)
 
-    puts_at-sound : (ver : ℕ) → Sound (puts_at s block ver value).done.state
-    unfolding puts_at
-    puts_at-sound ver =
-        by_test (λ (m : Made). Sound m.done.state) (may_write (held_at s block)) (puts_again s block ver value) (needs s block Own)
-        (λ x. by_test (λ (m : Made). Sound m.done.state) ((held_at s block).ver == ver) (changes_if_fits s block value) (changed s block)
-        (λ y. changes_if_fits-sound) (λ y. lets_go-sound))
-        (λ x. needs-sound Own)
+    blocks_put_at-sound : (ver : ℕ) → Sound (blocks_put_at s block ver value).done.state
+    unfolding blocks_put_at
+    blocks_put_at-sound ver =
+        by_test (λ (m : Made). Sound m.done.state) (may_write (held_at s block)) (puts_again s block ver value) (blocks_need s block Own)
+        (λ x. by_test (λ (m : Made). Sound m.done.state) ((held_at s block).ver == ver) (blocks_change s block value) (changed s block)
+        (λ y. blocks_change-sound) (λ y. blocks_let_go-sound))
+        (λ x. blocks_need-sound Own)
 
-makes-sound : (s : Serving) (b : BlockCall) → Sound s → Sound (makes s b).done.state
-unfolding makes syncs
-makes-sound s (Get block) p = gets-sound s p block
-makes-sound s (Put block value) p = puts-sound s p block value
-makes-sound s (PutAt block ver value) p = puts_at-sound s p block value ver
-makes-sound s Sync p = seals-sound s p
+blocks_make-sound : (s : Serving) (b : BlockCall) → Sound s → Sound (blocks_make s b).done.state
+unfolding blocks_make blocks_sync
+blocks_make-sound s (Get block) p = blocks_get-sound s p block
+blocks_make-sound s (Put block value) p = blocks_put-sound s p block value
+blocks_make-sound s (PutAt block ver value) p = blocks_put_at-sound s p block value ver
+blocks_make-sound s Sync p = serving_seal-sound s p
 
 -- ---- the fact
 
@@ -123,67 +123,67 @@ module _ (A : BlockId → Type 0) (M : GroupMapState → Type 0) (B : Fact) (P :
   MadeSo m = At (P 0) m.done.state
 
   module _ (s : Serving) (sound : Sound s) (p : At (P 0) s) (block : BlockId) where
-    needs-keeps : (mode : Mode) → MadeSo (needs s block mode)
-    unfolding hands
-    needs-keeps mode = quiet-keeps (P 0) T s (on_need s.tokens block mode) (on_need-quiet s.tokens block mode) p
+    blocks_need-keeps : (mode : Mode) → MadeSo (blocks_need s block mode)
+    unfolding hand
+    blocks_need-keeps mode = quiet-keeps (P 0) T s (on_need s.tokens block mode) (on_need-quiet s.tokens block mode) p
 
-    gets-keeps : MadeSo (gets s block)
-    unfolding gets
-    gets-keeps =
-        by_test MadeSo (is_nothing (held_at s block).mode) (needs s block Copy) (got s block (held_at s block)) (λ x. needs-keeps Copy)
+    blocks_get-keeps : MadeSo (blocks_get s block)
+    unfolding blocks_get
+    blocks_get-keeps =
+        by_test MadeSo (is_nothing (held_at s block).mode) (blocks_need s block Copy) (got s block (held_at s block)) (λ x. blocks_need-keeps Copy)
         (λ x. k.touches s.tokens s.log s.cache block p)
 
-    changes_if_fits-keeps : (value : Option (List ℕ)) → may_write (held_at s block) ≡ true → MadeSo (changes_if_fits s block value)
-    unfolding changes_if_fits
-    changes_if_fits-keeps value may =
+    blocks_change-keeps : (value : Option (List ℕ)) → may_write (held_at s block) ≡ true → MadeSo (blocks_change s block value)
+    unfolding blocks_change
+    blocks_change-keeps value may =
         by_test MadeSo (put_fits block ((held_at s block).ver + 1) value) (changes s block value) (held_back s block)
-        (λ x. k.puts s block value sound may p) (λ x. lets_go-keeps (P 0) T s block p)
+        (λ x. k.puts s block value sound may p) (λ x. blocks_let_go-keeps (P 0) T s block p)
 
-    puts-keeps : (value : Option (List ℕ)) → MadeSo (puts s block value)
-    unfolding puts
-    puts-keeps value =
-        by_test MadeSo (may_write (held_at s block)) (changes_if_fits s block value) (needs s block Own) (λ x. changes_if_fits-keeps value x)
-        (λ x. needs-keeps Own)
+    blocks_put-keeps : (value : Option (List ℕ)) → MadeSo (blocks_put s block value)
+    unfolding blocks_put
+    blocks_put-keeps value =
+        by_test MadeSo (may_write (held_at s block)) (blocks_change s block value) (blocks_need s block Own) (λ x. blocks_change-keeps value x)
+        (λ x. blocks_need-keeps Own)
 
-    puts_at-keeps : (ver : ℕ) (value : Option (List ℕ)) → MadeSo (puts_at s block ver value)
-    unfolding puts_at
-    puts_at-keeps ver value =
-        by_test MadeSo (may_write (held_at s block)) (puts_again s block ver value) (needs s block Own)
-        (λ x. by_test MadeSo ((held_at s block).ver == ver) (changes_if_fits s block value) (changed s block) (λ y. changes_if_fits-keeps value x)
-        (λ y. lets_go-keeps (P 0) T s block p)) (λ x. needs-keeps Own)
+    blocks_put_at-keeps : (ver : ℕ) (value : Option (List ℕ)) → MadeSo (blocks_put_at s block ver value)
+    unfolding blocks_put_at
+    blocks_put_at-keeps ver value =
+        by_test MadeSo (may_write (held_at s block)) (puts_again s block ver value) (blocks_need s block Own)
+        (λ x. by_test MadeSo ((held_at s block).ver == ver) (blocks_change s block value) (changed s block) (λ y. blocks_change-keeps value x)
+        (λ y. blocks_let_go-keeps (P 0) T s block p)) (λ x. blocks_need-keeps Own)
 
-  makes-keeps : (s : Serving) (b : BlockCall) → Sound s → At (P 0) s → MadeSo (makes s b)
-  unfolding makes syncs
-  makes-keeps s (Get block) sound p = gets-keeps s sound p block
-  makes-keeps s (Put block value) sound p = puts-keeps s sound p block value
-  makes-keeps s (PutAt block ver value) sound p = puts_at-keeps s sound p block ver value
-  makes-keeps s Sync sound p = seals-keeps (P 0) T s p
+  blocks_make-keeps : (s : Serving) (b : BlockCall) → Sound s → At (P 0) s → MadeSo (blocks_make s b)
+  unfolding blocks_make blocks_sync
+  blocks_make-keeps s (Get block) sound p = blocks_get-keeps s sound p block
+  blocks_make-keeps s (Put block value) sound p = blocks_put-keeps s sound p block value
+  blocks_make-keeps s (PutAt block ver value) sound p = blocks_put_at-keeps s sound p block ver value
+  blocks_make-keeps s Sync sound p = serving_seal-keeps (P 0) T s p
 
   -- what was just granted is written, or let go
   module _ (s : Serving) (block : BlockId) (sound : Sound s) (may : may_write (held_at s block) ≡ true) (empty : is_none (held_at s block).value ≡ true)
       (q : At (Q block) s) where
-    lets-fresh : At (P 0) (lets_go s block)
+    lets-fresh : At (P 0) (blocks_let_go s block)
     lets-fresh =
-        by_test (At (P 0)) (is_none (held_at s block).value) (notes_gone (record s { tokens = (on_evict s.tokens block).state }) block) s
+        by_test (At (P 0)) (is_none (held_at s block).value) (note_gone (record s { tokens = (on_evict s.tokens block).state }) block) s
         (λ z. k.lets_owned s block sound q) (λ z. contrary (sym z ∙ empty))
 
-    fresh-change : (value : Option (List ℕ)) → MadeSo (changes_if_fits s block value)
-    unfolding changes_if_fits
+    fresh-change : (value : Option (List ℕ)) → MadeSo (blocks_change s block value)
+    unfolding blocks_change
     fresh-change value =
         by_test MadeSo (put_fits block ((held_at s block).ver + 1) value) (changes s block value) (held_back s block)
         (λ x. k.puts_owned s block value sound may q) (λ x. lets-fresh)
 
-    fresh-put : (value : Option (List ℕ)) → MadeSo (puts s block value)
-    unfolding puts
+    fresh-put : (value : Option (List ℕ)) → MadeSo (blocks_put s block value)
+    unfolding blocks_put
     fresh-put value =
-        by_test MadeSo (may_write (held_at s block)) (changes_if_fits s block value) (needs s block Own) (λ x. fresh-change value)
+        by_test MadeSo (may_write (held_at s block)) (blocks_change s block value) (blocks_need s block Own) (λ x. fresh-change value)
         (λ x. contrary (sym x ∙ may))
 
-    fresh-put_at : (ver : ℕ) (value : Option (List ℕ)) → MadeSo (puts_at s block ver value)
-    unfolding puts_at
+    fresh-put_at : (ver : ℕ) (value : Option (List ℕ)) → MadeSo (blocks_put_at s block ver value)
+    unfolding blocks_put_at
     fresh-put_at ver value =
-        by_test MadeSo (may_write (held_at s block)) (puts_again s block ver value) (needs s block Own)
-        (λ x. by_test MadeSo ((held_at s block).ver == ver) (changes_if_fits s block value) (changed s block) (λ y. fresh-change value) (λ y. lets-fresh))
+        by_test MadeSo (may_write (held_at s block)) (puts_again s block ver value) (blocks_need s block Own)
+        (λ x. by_test MadeSo ((held_at s block).ver == ver) (blocks_change s block value) (changed s block) (λ y. fresh-change value) (λ y. lets-fresh))
         (λ x. contrary (sym x ∙ may))
 
   abbrev block_in : BlockId → Option (BlockId × Mode) → BlockId
@@ -197,19 +197,19 @@ module _ (A : BlockId → Type 0) (M : GroupMapState → Type 0) (B : Fact) (P :
   is_to_write (Some (b, Own)) = true
 
   -- a call that needs to write the block is a Put or a PutAt of it
-  fresh-makes : (s : Serving) (block : BlockId) (b : BlockCall) → needed_by b ≡ Some (block, Own) → Sound s → may_write (held_at s block) ≡ true
-      → is_none (held_at s block).value ≡ true → At (Q block) s → MadeSo (makes s b)
-  unfolding makes
-  fresh-makes s block (Get other) premise sound may empty q = contrary (ap is_to_write premise)
-  fresh-makes s block (Put other value) premise sound may empty q =
+  fresh-blocks_make : (s : Serving) (block : BlockId) (b : BlockCall) → needed_by b ≡ Some (block, Own) → Sound s → may_write (held_at s block) ≡ true
+      → is_none (held_at s block).value ≡ true → At (Q block) s → MadeSo (blocks_make s b)
+  unfolding blocks_make
+  fresh-blocks_make s block (Get other) premise sound may empty q = contrary (ap is_to_write premise)
+  fresh-blocks_make s block (Put other value) premise sound may empty q =
       let same : block ≡ other = sym (ap (block_in block) premise) in
       fresh-put s other sound (subst (λ c. may_write (held_at s c) ≡ true) same may) (subst (λ c. is_none (held_at s c).value ≡ true) same empty)
       (subst (λ c. At (Q c) s) same q) value
-  fresh-makes s block (PutAt other ver value) premise sound may empty q =
+  fresh-blocks_make s block (PutAt other ver value) premise sound may empty q =
       let same : block ≡ other = sym (ap (block_in block) premise) in
       fresh-put_at s other sound (subst (λ c. may_write (held_at s c) ≡ true) same may) (subst (λ c. is_none (held_at s c).value ≡ true) same empty)
       (subst (λ c. At (Q c) s) same q) ver value
-  fresh-makes s block Sync premise sound may empty q = contrary (ap is_to_write premise)
+  fresh-blocks_make s block Sync premise sound may empty q = contrary (ap is_to_write premise)
 
   -- ---- the open call
 
@@ -217,63 +217,63 @@ module _ (A : BlockId → Type 0) (M : GroupMapState → Type 0) (B : Fact) (P :
     pub sound : Sound s
     pub fact : At (P 0) s
 
-  pub goes_on-same : (s : Serving) (g : Going) → At (P 0) s → At (P 0) (goes_on s g).state
-  unfolding goes_on
-  goes_on-same s (On call) p = p
-  goes_on-same s (Ends answer) p = p
+  pub running_go_on-same : (s : Serving) (g : Going) → At (P 0) s → At (P 0) (running_go_on s g).state
+  unfolding running_go_on
+  running_go_on-same s (On call) p = p
+  running_go_on-same s (Ends answer) p = p
 
-  pub goes_on-sound : (s : Serving) (g : Going) → Sound s → Sound (goes_on s g).state
-  unfolding goes_on
-  goes_on-sound s (On call) p = p
-  goes_on-sound s (Ends answer) p = p
+  pub running_go_on-sound : (s : Serving) (g : Going) → Sound s → Sound (running_go_on s g).state
+  unfolding running_go_on
+  running_go_on-sound s (On call) p = p
+  running_go_on-sound s (Ends answer) p = p
 
-  answers_call-both : (s : Serving) (call : Call) (a : Option BlockAnswer) → Both s → Both (answers_call s call a).done.state
-  answers_call-both s call None p = record { sound = p.sound; fact = p.fact }
-  answers_call-both s call (Some answer) p =
-      record { sound = goes_on-sound s (after_answer call.plan answer) p.sound; fact = goes_on-same s (after_answer call.plan answer) p.fact }
+  take_answer-both : (s : Serving) (call : Call) (a : Option BlockAnswer) → Both s → Both (take_answer s call a).done.state
+  take_answer-both s call None p = record { sound = p.sound; fact = p.fact }
+  take_answer-both s call (Some answer) p =
+      record { sound = running_go_on-sound s (plan_answered call.plan answer) p.sound; fact = running_go_on-same s (plan_answered call.plan answer) p.fact }
 
   runs_call-both : (s : Serving) (c : Option Call) → Both s → Both (runs_call s c).done.state
   runs_call-both s None p = p
   runs_call-both s (Some call) p =
       let u : Serving = record s { call = None } in
-      let m : Made = makes u call.step in
-      answers_call-both m.done.state call m.answer (record { sound = makes-sound u call.step p.sound; fact = makes-keeps u call.step p.sound p.fact })
+      let m : Made = blocks_make u call.step in
+      take_answer-both m.done.state call m.answer (record { sound = blocks_make-sound u call.step p.sound; fact = blocks_make-keeps u call.step p.sound p.fact })
 
-  runs_once-both : (s : Serving) → Both s → Both (runs_once s).done.state
-  unfolding runs_once
-  runs_once-both s p = runs_call-both s s.call p
+  run_once-both : (s : Serving) → Both s → Both (run_once s).done.state
+  unfolding run_once
+  run_once-both s p = runs_call-both s s.call p
 
   -- the first call that is made uses what was just granted
   runs_call-fresh : (s : Serving) (c : Option Call) → needed c ≡ needed s.call → Sound s → IsFresh Q s → Both (runs_call s c).done.state
   runs_call-fresh s None premise sound f = contrary (ap is_some (premise ∙ f.needs))
   runs_call-fresh s (Some call) premise sound f =
       let u : Serving = record s { call = None } in
-      let m : Made = makes u call.step in
-      answers_call-both m.done.state call m.answer
-      (record { sound = makes-sound u call.step sound; fact = fresh-makes u f.block call.step (premise ∙ f.needs) sound f.may f.empty f.fact })
+      let m : Made = blocks_make u call.step in
+      take_answer-both m.done.state call m.answer
+      (record { sound = blocks_make-sound u call.step sound; fact = fresh-blocks_make u f.block call.step (premise ∙ f.needs) sound f.may f.empty f.fact })
 
-  runs_once-fresh : (s : Serving) → Sound s → IsFresh Q s → Both (runs_once s).done.state
-  unfolding runs_once
-  runs_once-fresh s sound f = runs_call-fresh s s.call refl sound f
+  run_once-fresh : (s : Serving) → Sound s → IsFresh Q s → Both (run_once s).done.state
+  unfolding run_once
+  run_once-fresh s sound f = runs_call-fresh s s.call refl sound f
 
-  pub runs_upto-both : (n : ℕ) (s : Serving) → Both s → Both (runs_upto n s).state
-  unfolding runs_upto
-  runs_upto-both zero s p = p
-  runs_upto-both (suc n) s p =
-      let r : Ran = runs_once s in
-      let q : Both r.done.state = runs_once-both s p in
-      by_test (λ (d : client.Done). Both d.state) r.goes (saying r.done.outs (runs_upto n r.done.state)) r.done (λ t. runs_upto-both n r.done.state q) (λ t. q)
+  pub run_upto-both : (n : ℕ) (s : Serving) → Both s → Both (run_upto n s).state
+  unfolding run_upto
+  run_upto-both zero s p = p
+  run_upto-both (suc n) s p =
+      let r : Ran = run_once s in
+      let q : Both r.done.state = run_once-both s p in
+      by_test (λ (d : client.Done). Both d.state) r.goes (saying r.done.outs (run_upto n r.done.state)) r.done (λ t. run_upto-both n r.done.state q) (λ t. q)
 
-  pub runs_upto-fresh : (n : ℕ) (s : Serving) → 0 < n → Sound s → IsFresh Q s → Both (runs_upto n s).state
-  unfolding runs_upto
-  runs_upto-fresh zero s some sound f = absurd (omega (arith, some))
-  runs_upto-fresh (suc n) s some sound f =
-      let r : Ran = runs_once s in
-      let q : Both r.done.state = runs_once-fresh s sound f in
-      by_test (λ (d : client.Done). Both d.state) r.goes (saying r.done.outs (runs_upto n r.done.state)) r.done (λ t. runs_upto-both n r.done.state q) (λ t. q)
+  pub run_upto-fresh : (n : ℕ) (s : Serving) → 0 < n → Sound s → IsFresh Q s → Both (run_upto n s).state
+  unfolding run_upto
+  run_upto-fresh zero s some sound f = absurd (omega (arith, some))
+  run_upto-fresh (suc n) s some sound f =
+      let r : Ran = run_once s in
+      let q : Both r.done.state = run_once-fresh s sound f in
+      by_test (λ (d : client.Done). Both d.state) r.goes (saying r.done.outs (run_upto n r.done.state)) r.done (λ t. run_upto-both n r.done.state q) (λ t. q)
 
   -- the open call runs
-  pub runs-keeps : (s : Serving) → Sound s → KeptOrFresh A M B P Q k s → At (P 0) (runs s).state
-  unfolding runs
-  runs-keeps s sound (inl p) = (runs_upto-both most_steps s (record { sound = sound; fact = p })).fact
-  runs-keeps s sound (inr f) = (runs_upto-fresh most_steps s (omega arith) sound f).fact
+  pub run-keeps : (s : Serving) → Sound s → KeptOrFresh A M B P Q k s → At (P 0) (run s).state
+  unfolding run
+  run-keeps s sound (inl p) = (run_upto-both most_steps s (record { sound = sound; fact = p })).fact
+  run-keeps s sound (inr f) = (run_upto-fresh most_steps s (omega arith) sound f).fact

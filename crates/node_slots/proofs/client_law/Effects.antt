@@ -5,9 +5,9 @@ use Rattle.std.proofs.lemmas.List.Elements.{All-nil, All-cons, All-append}
 use Rattle.delta_feed.specs.declared.output.Out as feed_out
 use Rattle.delta_feed.specs.declared.output.Out.TheVariants.{Range}
 use Rattle.delta_feed.specs.FeedState.{FeedState}
-use Rattle.delta_feed.specs.Transition.{ticked}
+use Rattle.delta_feed.specs.Transition.{feed_tick}
 use Rattle.log_owner.specs.declared.promised.Managers.{Managers}
-use Rattle.log_owner.specs.Sending.{range, pushes_all}
+use Rattle.log_owner.specs.Sending.{range, push_all}
 use Rattle.node_base.specs.Beginning.{answers_unanswered}
 use Rattle.node_base.specs.declared.effects.Effect.{Effect}
 use Rattle.node_base.specs.declared.effects.Effect.TheVariants.{Send, Answer, Lose, Does}
@@ -37,8 +37,8 @@ module _ (P : Body → Type 0) where
   answers_say (Some number) answer = (tt, tt)
 
   -- what goes to all slots of a log are Deltas
-  pub pushes_say : ((m : _) → P (body.Deltas m)) → (managers : Managers) (feed : FeedState) → AllSay P (pushes_all managers feed)
-  pushes_say may managers feed = all_map (Says P) (range managers) one (ticked feed)
+  pub pushes_say : ((m : _) → P (body.Deltas m)) → (managers : Managers) (feed : FeedState) → AllSay P (push_all managers feed)
+  pushes_say may managers feed = all_map (Says P) (range managers) one (feed_tick feed)
     where
       one : (out : feed_out.Out) → Says P (range managers out)
       one (Range slot first upto rows) = may _

@@ -5,12 +5,12 @@ use Rattle.client_node.specs.declared.client.Client.{Client}
 use Rattle.client_node.specs.declared.phase.Phase.TheVariants.{Serving as Serves}
 use Rattle.client_node.specs.declared.phase.Phase.{Phase}
 use Rattle.client_node.specs.Phases.{takes}
-use Rattle.client_node.specs.Starting.{first_client}
+use Rattle.client_node.specs.Starting.{client_start}
 use Rattle.client_serving.specs.declared.serving.Serving.{Serving}
-use Rattle.client_serving.specs.Flights.{held_at, settles, writes}
+use Rattle.client_serving.specs.Flights.{held_at, serving_settle, serving_write}
 use Rattle.client_serving.specs.Sends as client
 use Rattle.token_client.specs.declared.held.Held.{Held}
-use Rattle.token_client.specs.Held.{let_go, may_end_fetch, version_settled, written}
+use Rattle.token_client.specs.Held.{let_go, may_end_fetch, version_settled, held_write}
 use Rattle.token_client.specs.State.{TokensState, held_of, with_held}
 use Rattle.wire_msg.specs.declared.body.Body.{Body}
 use Rattle.wire_msg.specs.declared.body.Body.TheVariants as body
@@ -73,7 +73,7 @@ module _ (block : BlockId) where
     takes = takes-unheld;
     lets_go = λ t b p. unheld_put t p b (let_go (held_of t.blocks b)) (λ fact. refl);
     settles = λ t b ver p. unheld_same t p b (version_settled (held_of t.blocks b) ver) refl;
-    writes = λ t b value p. unheld_same t p b (written (held_of t.blocks b) value) refl;
+    writes = λ t b value p. unheld_same t p b (held_write (held_of t.blocks b) value) refl;
   }
 
   -- where another block arrives, if any, this one isn't held still
@@ -150,5 +150,5 @@ by_an_answer_alone client what asks s t block fact becomes wants unheld held =
 
 pub wants_end_by_an_answer : WantsEndByAnAnswer
 wants_end_by_an_answer number setup works events what =
-    by_an_answer_alone (after_events (first_client number setup works) events) what
-    (after-asks (first_client number setup works) events (first_asks number setup works))
+    by_an_answer_alone (after_events (client_start number setup works) events) what
+    (after-asks (client_start number setup works) events (first_asks number setup works))

@@ -13,8 +13,8 @@ use Rattle.client_log.specs.declared.input.In.TheVariants as log_ins
 use Rattle.client_log.specs.LogState.{LogState}
 use Rattle.client_running.specs.Blocks.{changes, wrote}
 use Rattle.client_serving.specs.declared.serving.Serving.{Serving}
-use Rattle.client_serving.specs.Flights.{feeds, gives_if_clean, gives_up, held_at, keeps_clean, notes_settled, settled_rows, settles, writes}
-use Rattle.client_serving.specs.Follow.{follows, follows_one, hands, notes_clean, takes_back}
+use Rattle.client_serving.specs.Flights.{feeds, give_if_clean, gives_up, held_at, keep_row, notes_settled, settle_rows, serving_settle, serving_write}
+use Rattle.client_serving.specs.Follow.{serving_follow, follow_one, hand, note_clean, take_back}
 use Rattle.client_serving.specs.Sends as client
 use Rattle.log_owner.specs.declared.opening.Opening as openings
 use Rattle.log_owner.specs.declared.opened.Progress.{Progress}
@@ -24,7 +24,7 @@ use Rattle.token_client.specs.declared.held.Giving.{Giving}
 use Rattle.token_client.specs.declared.held.Held.{Held}
 use Rattle.token_client.specs.declared.input.In.TheVariants as input
 use Rattle.token_client.specs.declared.output.Out.TheVariants.{Gave, Flush}
-use Rattle.token_client.specs.Held.{given_up, is_dirty, is_settled_by, let_go, may_evict, may_write, put_off, unknown, version_settled, written}
+use Rattle.token_client.specs.Held.{give_up, is_dirty, is_settled_by, let_go, may_evict, may_write, put_off, held_new, version_settled, held_write}
 use Rattle.token_client.specs.Laws.{IsGivingAbove, IsSound}
 use Rattle.token_client.specs.State.{TokensState, dirty_in, epoch_of, held_of, with_held}
 use Rattle.token_client.specs.Transition.{Done, can_refetch, give, is_promised, on_evict, on_recalled, on_settled, on_wrote, recalled, recalled_above, recalled_again, refetch}
@@ -42,10 +42,10 @@ use Rattle.xfs_base.proofs.Booleans.{and_first, and_second, by_test, contrary, o
 use Rattle.xfs_base.proofs.Members.{contains_cases, contains_first, contains_nothing, contains_rest}
 use Rattle.node_slots.specs.client_law.Giving.{GivesOnlyDirty, PutsOffWhatIsDirty}
 use Rattle.node_slots.proofs.client_law.Happening.{AnyBlock, AnyMap, OpensSo, Reopens, after_weaker, always, Starts}
-use Rattle.node_slots.proofs.client_law.Keeping.{At, Fact, IsCopied, Keeps, Sound, TakesKeep, follows-silent, takes_back-keeps, told}
+use Rattle.node_slots.proofs.client_law.Keeping.{At, Fact, IsCopied, Keeps, Sound, TakesKeep, serving_follow-silent, take_back-keeps, told}
 use Rattle.node_slots.proofs.client_law.Quiet.{IsQuiet, refetch-quiet}
-use Rattle.node_slots.proofs.client_law.Sounding.{gives_if_clean-sound, settled_rows-sound, settles-sound, transition-sound}
-use Rattle.node_slots.proofs.client_law.Writing.{notes_clean-tokens, notes_gone-tokens, writes-tokens}
+use Rattle.node_slots.proofs.client_law.Sounding.{give_if_clean-sound, settle_rows-sound, serving_settle-sound, transition-sound}
+use Rattle.node_slots.proofs.client_law.Writing.{note_clean-tokens, note_gone-tokens, serving_write-tokens}
 
 -- a put-off recall is of a dirty block, or of one of these
 abbrev pub GivesBut : (BlockId → Type 0) → TokensState → Type 0
@@ -116,7 +116,7 @@ module _ (e : BlockId × Held) (es : List (BlockId × Held)) (b : BlockId) where
       (λ t. contains_rest e.0 b (dirty_in es) inside) (λ t. inside)
 
   dirty-by : (t : Bool) → eq_by_cmp block_cmp b e.0 ≡ t → (is_dirty (held_of es b) ≡ true → Contains (dirty_in es) b)
-      → is_dirty (unwrap_or (cond t (Some e.1) (lookup (is_at (block_cmp b)) es)) unknown) ≡ true → Contains (dirty_in (e ∷ es)) b
+      → is_dirty (unwrap_or (cond t (Some e.1) (lookup (is_at (block_cmp b)) es)) held_new) ≡ true → Contains (dirty_in (e ∷ es)) b
   dirty-by true same rest d = dirty-here (tells_apart block_cmp_exact b e.0 same) d
   dirty-by false other rest d = dirty-there (rest d)
 
@@ -154,15 +154,15 @@ module _ (among : List BlockId) where
   rows-among s [] p = p
   rows-among s (row ∷ rows) p = rows-among (notes_settled s row) rows (settled-among s.tokens row.0 row.1.ver p)
 
-  clean-among : (s : Serving) (rows : List (BlockId × Entry)) → GivesAmong among s.tokens → GivesAmong among (fold keeps_clean s rows).tokens
-  unfolding keeps_clean
+  clean-among : (s : Serving) (rows : List (BlockId × Entry)) → GivesAmong among s.tokens → GivesAmong among (fold keep_row s rows).tokens
+  unfolding keep_row
   clean-among s [] p = p
-  clean-among s (row ∷ rows) p = clean-among (keeps_clean s row) rows (one s row p)
+  clean-among s (row ∷ rows) p = clean-among (keep_row s row) rows (one s row p)
     where
-      one : (s : Serving) (row : BlockId × Entry) → GivesAmong among s.tokens → GivesAmong among (keeps_clean s row).tokens
+      one : (s : Serving) (row : BlockId × Entry) → GivesAmong among s.tokens → GivesAmong among (keep_row s row).tokens
       one s row p =
-          by_test (λ (t : Serving). GivesAmong among t.tokens) (not (is_dirty (held_at s row.0)) && is_held (held_at s row.0).mode) (notes_clean s row.0) s
-          (λ x. notes_clean-tokens (GivesAmong among) evict-among s row.0 p) (λ x. p)
+          by_test (λ (t : Serving). GivesAmong among t.tokens) (not (is_dirty (held_at s row.0)) && is_held (held_at s row.0).mode) (note_clean s row.0) s
+          (λ x. note_clean-tokens (GivesAmong among) evict-among s row.0 p) (λ x. p)
 
 -- ---- a clean block is given up
 
@@ -200,16 +200,16 @@ module _ (s : Serving) (sound : Sound s) (block : BlockId) (g : Giving) (fact : 
   now_clean : is_dirty now ≡ false
   now_clean = dirty_same h now ((refetch-quiet s.tokens block).quiet block).ver ((refetch-quiet s.tokens block).quiet block).settled ∙ clean
 
-  given-ungiven : is_none (given_up now g.stamp g.keep).giving ≡ true
+  given-ungiven : is_none (give_up now g.stamp g.keep).giving ≡ true
   given-ungiven = by_test (λ (f : Held). is_none f.giving ≡ true) (g.keep && is_held now.mode) _ _ (λ x. refl) (λ x. refl)
 
   gave-ungiven : IsUngiven
-      (saying asked_for.outs (record { state = with_held asked_for.state block (given_up now g.stamp g.keep); outs = Gave block g.stamp ∷ [] }))
-  unfolding follows follows_one
+      (saying asked_for.outs (record { state = with_held asked_for.state block (give_up now g.stamp g.keep); outs = Gave block g.stamp ∷ [] }))
+  unfolding serving_follow follow_one
   gave-ungiven =
       subst (λ (v : Serving). is_none (held_at v block).giving ≡ true)
-      (sym (follows-silent _ asked_for.outs (Gave block g.stamp ∷ []) (refetch-quiet s.tokens block).silent))
-      (ap (λ (f : Held). is_none f.giving) (held_of-put_itself block (given_up now g.stamp g.keep) asked_for.state.blocks) ∙ given-ungiven)
+      (sym (serving_follow-silent _ asked_for.outs (Gave block g.stamp ∷ []) (refetch-quiet s.tokens block).silent))
+      (ap (λ (f : Held). is_none f.giving) (held_of-put_itself block (give_up now g.stamp g.keep) asked_for.state.blocks) ∙ given-ungiven)
 
   recalled-ungiven : IsUngiven (on_recalled s.tokens block g.stamp g.keep)
   unfolding on_recalled recalled recalled_above give
@@ -219,15 +219,15 @@ module _ (s : Serving) (sound : Sound s) (block : BlockId) (g : Giving) (fact : 
       (λ y. by_test IsUngiven (can_refetch s.tokens block) (saying asked_for.outs (give asked_for.state block g.stamp g.keep)) (still s.tokens)
       (λ z. by_test (λ (d : Done). IsUngiven (saying asked_for.outs d)) (is_dirty now)
       (record { state = with_held asked_for.state block (put_off now g.stamp g.keep); outs = Flush block ∷ [] })
-      (record { state = with_held asked_for.state block (given_up now g.stamp g.keep); outs = Gave block g.stamp ∷ [] })
+      (record { state = with_held asked_for.state block (give_up now g.stamp g.keep); outs = Gave block g.stamp ∷ [] })
       (λ w. contrary (sym now_clean ∙ w)) (λ w. gave-ungiven))
       (λ z. contrary (sym z ∙ or_first (is_none h.fetch) _ unfetched)))
       (λ y. contrary (sym y ∙ above.1))) (λ x. contrary (sym x ∙ promised))
 
-  taken_back-ungiven : is_none (held_at (takes_back s block g.stamp g.keep).state block).giving ≡ true
-  unfolding takes_back hands
+  taken_back-ungiven : is_none (held_at (take_back s block g.stamp g.keep).state block).giving ≡ true
+  unfolding take_back hand
   taken_back-ungiven =
-      notes_gone-tokens (λ (t : TokensState). is_none (held_of t.blocks block).giving ≡ true)
+      note_gone-tokens (λ (t : TokensState). is_none (held_of t.blocks block).giving ≡ true)
       (told s (on_recalled s.tokens block g.stamp g.keep)).state block recalled-ungiven
 
 none_is : {A : Type 0} (o : Option A) → is_none o ≡ true → is_some o ≡ true → false ≡ true
@@ -255,13 +255,13 @@ module _ (x : BlockId) (xs : List BlockId) where
       → (held_at s x).giving ≡ o → GivesBut (Contains xs) (gives_up s x o).state.tokens
   gives_up-done s sound clean p None fact = first-done s.tokens (λ some. contrary (ap is_some (sym fact) ∙ some)) p
   gives_up-done s sound clean p (Some g) fact =
-      let t : Serving = (takes_back s x g.stamp g.keep).state in
+      let t : Serving = (take_back s x g.stamp g.keep).state in
       first-done t.tokens (λ some. contrary (none_is (held_at t x).giving (taken_back-ungiven s sound x g fact clean) some))
-      (takes_back-keeps (G (Contains (x ∷ xs))) (takes-give (Contains (x ∷ xs))) s p x g.stamp g.keep)
+      (take_back-keeps (G (Contains (x ∷ xs))) (takes-give (Contains (x ∷ xs))) s p x g.stamp g.keep)
 
-  gives_if_clean-done : (s : Serving) → Sound s → GivesBut (Contains (x ∷ xs)) s.tokens → GivesBut (Contains xs) (gives_if_clean s x).state.tokens
-  unfolding gives_if_clean
-  gives_if_clean-done s sound p =
+  give_if_clean-done : (s : Serving) → Sound s → GivesBut (Contains (x ∷ xs)) s.tokens → GivesBut (Contains xs) (give_if_clean s x).state.tokens
+  unfolding give_if_clean
+  give_if_clean-done s sound p =
       by_test (λ (d : client.Done). GivesBut (Contains xs) d.state.tokens) (is_dirty (held_at s x)) (still s) (gives_up s x (held_at s x).giving)
       (λ d. first-done s.tokens (λ some. d) p) (λ c. gives_up-done s sound c p (held_at s x).giving refl)
 
@@ -272,9 +272,9 @@ nothing-left t p b some = none_left (p b some)
     none_left (inl d) = inl d
     none_left (inr c) = inr (contains_nothing b c)
 
-all-done : (s : Serving) (xs : List BlockId) → Sound s → GivesBut (Contains xs) s.tokens → GivesBut (λ b. ⊥) (steps gives_if_clean s xs).state.tokens
+all-done : (s : Serving) (xs : List BlockId) → Sound s → GivesBut (Contains xs) s.tokens → GivesBut (λ b. ⊥) (steps give_if_clean s xs).state.tokens
 all-done s [] sound p = nothing-left s.tokens p
-all-done s (x ∷ xs) sound p = all-done (gives_if_clean s x).state xs (gives_if_clean-sound s x sound) (gives_if_clean-done x xs s sound p)
+all-done s (x ∷ xs) sound p = all-done (give_if_clean s x).state xs (give_if_clean-sound s x sound) (give_if_clean-done x xs s sound p)
 
 abbrev OnlyDirty : TokensState → Type 0
 OnlyDirty t = GivesBut (λ b. ⊥) t
@@ -283,13 +283,13 @@ dirty_only : (X : Type 0) → X ⊎ ⊥ → X
 dirty_only X (inl x) = x
 dirty_only X (inr x) = absurd x
 
-settles-gives : (s : Serving) (end : End) (rows : List (BlockId × Entry)) → Sound s → OnlyDirty s.tokens → OnlyDirty (settles s end rows).state.tokens
-unfolding settles
-settles-gives s end rows sound p =
+serving_settle-gives : (s : Serving) (end : End) (rows : List (BlockId × Entry)) → Sound s → OnlyDirty s.tokens → OnlyDirty (serving_settle s end rows).state.tokens
+unfolding serving_settle
+serving_settle-gives s end rows sound p =
     let dirty : List BlockId = dirty_in s.tokens.blocks in
     let before : GivesAmong dirty s.tokens = λ b some. dirty-among s.tokens.blocks b (dirty_only _ (p b some)) in
-    let among : GivesAmong dirty (settled_rows s rows).tokens = clean-among dirty (fold notes_settled s rows) rows (rows-among dirty s rows before) in
-    all-done (feeds (settled_rows s rows) end rows) dirty (settled_rows-sound s rows sound) (λ b some. inr (among b some))
+    let among : GivesAmong dirty (settle_rows s rows).tokens = clean-among dirty (fold notes_settled s rows) rows (rows-among dirty s rows before) in
+    all-done (feeds (settle_rows s rows) end rows) dirty (settle_rows-sound s rows sound) (λ b some. inr (among b some))
 
 -- ---- all that a client does
 
@@ -301,9 +301,9 @@ record SoundGiving (t : TokensState) : Type 0 where
   sound : IsSound t
   only : OnlyDirty t
 
-logs-give : (s : Serving) (i : log_in.In) → Sound s → OnlyDirty s.tokens → OnlyDirty (writes s i).state.tokens
+logs-give : (s : Serving) (i : log_in.In) → Sound s → OnlyDirty s.tokens → OnlyDirty (serving_write s i).state.tokens
 logs-give s i sound p =
-    (writes-tokens SoundGiving (λ u end rows q. record { sound = settles-sound u end rows q.sound; only = settles-gives u end rows q.sound q.only }) s i
+    (serving_write-tokens SoundGiving (λ u end rows q. record { sound = serving_settle-sound u end rows q.sound; only = serving_settle-gives u end rows q.sound q.only }) s i
     (record { sound = sound; only = p })).only
 
 -- a block of which none is put off
@@ -311,17 +311,17 @@ ungiven-put : (t : TokensState) → OnlyDirty t → (block : BlockId) (g : Held)
 ungiven-put t p block g ungiven = gives_put none t p block g (λ some. contrary (none_is g.giving ungiven some))
 
 copies-give : (s : Serving) (block : BlockId) (g : Held) → Sound s → IsCopied (held_at s block) g → OnlyDirty s.tokens
-    → OnlyDirty (notes_clean (record s { tokens = with_held s.tokens block g }) block).tokens
+    → OnlyDirty (note_clean (record s { tokens = with_held s.tokens block g }) block).tokens
 copies-give s block g sound fact p =
-    notes_clean-tokens OnlyDirty (evict-gives none) (record s { tokens = with_held s.tokens block g }) block
+    note_clean-tokens OnlyDirty (evict-gives none) (record s { tokens = with_held s.tokens block g }) block
     (ungiven-put s.tokens p block g (ap is_none fact.giving ∙ (sound.each block).asks_ungiven fact.asks))
 
 wrote-gives : (t : TokensState) (block : BlockId) (value : Option (List ℕ)) → OnlyDirty t → OnlyDirty (on_wrote t block value).state
 unfolding on_wrote
 wrote-gives t block value p =
     let h : Held = held_of t.blocks block in
-    by_test (λ (d : Done). OnlyDirty d.state) (may_write h) (still (with_held t block (written h value))) (still t)
-    (λ x. ungiven-put t p block (written h value) (and_second (is_own h.mode) (is_none h.giving) (and_first (is_own h.mode && is_none h.giving) _ x))) (λ x. p)
+    by_test (λ (d : Done). OnlyDirty d.state) (may_write h) (still (with_held t block (held_write h value))) (still t)
+    (λ x. ungiven-put t p block (held_write h value) (and_second (is_own h.mode) (is_none h.giving) (and_first (is_own h.mode && is_none h.giving) _ x))) (λ x. p)
 
 changes-give : (s : Serving) (block : BlockId) (value : Option (List ℕ)) → Sound s → OnlyDirty s.tokens → OnlyDirty (changes s block value).done.state.tokens
 unfolding changes
@@ -343,7 +343,7 @@ keeps-giving = record {
   logs = λ s i outer sound p. logs-give s i sound p;
   puts = λ s block value sound may p. changes-give s block value sound p;
   puts_owned = λ s block value sound may p. changes-give s block value sound p;
-  lets_owned = λ s block sound p. notes_gone-tokens OnlyDirty (record s { tokens = (on_evict s.tokens block).state }) block (evict-gives none s.tokens block p);
+  lets_owned = λ s block sound p. note_gone-tokens OnlyDirty (record s { tokens = (on_evict s.tokens block).state }) block (evict-gives none s.tokens block p);
 }
 
 -- ---- openings
@@ -362,7 +362,7 @@ any_opens (progress.Lost seg) = tt
 pub any_reopens : Reopens AnyMap AnyOpening AnyLog
 any_reopens = record {
   first = λ owner servers q. tt;
-  packet = λ o q p brings h. any_opens (opening.on_packet o q p).progress;
+  packet = λ o q p brings h. any_opens (opening.opening_take o q p).progress;
   tick = λ o q h. any_opens (opening.on_tick o q).progress;
 }
 

@@ -8,15 +8,15 @@ use Rattle.client_log.specs.declared.output.Out as log_out
 use Rattle.client_log.specs.declared.output.Out.TheVariants.{Send, Settled}
 use Rattle.client_log.specs.LogState.{LogState}
 use Rattle.client_log.specs.Transition as log
-use Rattle.client_log.specs.Transition.{can_go_on, has_next, if_full, is_idle, on_acked, on_maps, on_put, on_seal, on_tick, sealed, waits}
+use Rattle.client_log.specs.Transition.{can_go_on, has_next, log_go_on, is_idle, on_acked, on_maps, on_put, on_seal, on_tick, log_seal, waits}
 use Rattle.client_running.specs.Blocks.{changes, wrote}
 use Rattle.client_serving.specs.declared.serving.Serving.{Serving}
-use Rattle.client_serving.specs.Flights.{feeds, gives_if_clean, gives_up, held_at, keeps_clean, notes_settled, settled_rows, settles, writes, writes_one}
-use Rattle.client_serving.specs.Follow.{evicts, notes_clean, seals}
+use Rattle.client_serving.specs.Flights.{feeds, give_if_clean, gives_up, held_at, keep_row, notes_settled, settle_rows, serving_settle, serving_write, write_one}
+use Rattle.client_serving.specs.Follow.{evicts, note_clean, serving_seal}
 use Rattle.client_serving.specs.Sends as client
 use Rattle.coop_cache.specs.declared.output.Out as cache_out
 use Rattle.coop_cache.specs.declared.output.Out.TheVariants.{Victim}
-use Rattle.coop_cache.specs.Transition.{cleaned}
+use Rattle.coop_cache.specs.Transition.{cache_clean}
 use Rattle.group_map.specs.GroupMapState.{GroupMapState}
 use Rattle.group_map.specs.WellFormed.{IsGroupMap}
 use Rattle.group_map.proofs.Presence.{is_present}
@@ -27,7 +27,7 @@ use Rattle.node_slots.specs.client_law.Grouped.{HasSuchMaps}
 use Rattle.node_slots.proofs.client_law.Grouped.{OpensBySuch}
 use Rattle.log_owner.specs.Opening as opening
 use Rattle.log_owner.specs.Sealing.{is_settling}
-use Rattle.node_slots.proofs.client_law.Grouping.{Has, acked_has, if_full_groups, mapped_has, packet_groups, sealed_groups, tick_groups, ticked_has}
+use Rattle.node_slots.proofs.client_law.Grouping.{Has, acked_has, log_go_on_groups, mapped_has, packet_groups, sealed_groups, tick_groups, ticked_has}
 use Rattle.token_client.specs.declared.held.Giving.{Giving}
 use Rattle.token_client.specs.Held.{is_dirty}
 use Rattle.token_client.specs.Settling.{is_giving}
@@ -41,14 +41,14 @@ use Rattle.xfs_base.specs.Steps.{steps, still}
 use Rattle.xfs_base.proofs.Booleans.{by_test}
 use Rattle.node_slots.specs.client_law.Groups.{HasPresentGroups, StripesByPresentGroupsAlways}
 use Rattle.node_slots.proofs.client_law.Happening.{AnyBlock, OpensSo, Reopens, always_where, arrives_any, where_weaker}
-use Rattle.node_slots.proofs.client_law.Keeping.{At, Fact, IsOuter, Keeps, TakesKeep, notes_gone-keeps, seals-keeps, takes_back-keeps}
+use Rattle.node_slots.proofs.client_law.Keeping.{At, Fact, IsOuter, Keeps, TakesKeep, note_gone-keeps, serving_seal-keeps, take_back-keeps}
 
 -- ---- the log keeps its groups
 
 on_seal-groups : (l : LogState) → (on_seal l).state.groups ≡ l.groups
 unfolding on_seal
 on_seal-groups l =
-    by_test (λ (d : log.Done). d.state.groups ≡ l.groups) (is_idle l && nat_lt 0 (length l.dirty) && has_next l.end.seq) (sealed l) (still l)
+    by_test (λ (d : log.Done). d.state.groups ≡ l.groups) (is_idle l && nat_lt 0 (length l.dirty) && has_next l.end.seq) (log_seal l) (still l)
     (λ x. sealed_groups l)
     (λ x. refl)
 
@@ -57,8 +57,8 @@ module _ (Is : GroupMapState → Type 0) where
     put-has : (block : BlockId) (change : Change) → Has Is (on_put l block change)
     unfolding on_put
     put-has block change =
-        by_test (Has Is) (can_go_on (waits l block change)) (if_full (waits l block change)) (still l)
-        (λ x. subst Is (sym (if_full_groups (waits l block change))) p) (λ x. p)
+        by_test (Has Is) (can_go_on (waits l block change)) (log_go_on (waits l block change)) (still l)
+        (λ x. subst Is (sym (log_go_on_groups (waits l block change))) p) (λ x. p)
 
     outer-has : (i : log_in.In) → IsOuter Is i → Has Is (log.transition l i)
     unfolding on_acked on_maps on_tick
@@ -87,18 +87,18 @@ module _ (Is : GroupMapState → Type 0) where
   all_evicted s [] p = p
   all_evicted s (Victim block ∷ outs) p = all_evicted (evicts s (Victim block)) outs p
 
-  notes_clean-stripes : (s : Serving) (block : BlockId) → At S s → At S (notes_clean s block)
-  unfolding notes_clean
-  notes_clean-stripes s block p = all_evicted (record s { cache = (cleaned s.cache block).state }) (cleaned s.cache block).outs p
+  note_clean-stripes : (s : Serving) (block : BlockId) → At S s → At S (note_clean s block)
+  unfolding note_clean
+  note_clean-stripes s block p = all_evicted (record s { cache = (cache_clean s.cache block).state }) (cache_clean s.cache block).outs p
 
-  keeps_clean-stripes : (s : Serving) (row : BlockId × Entry) → At S s → At S (keeps_clean s row)
-  unfolding keeps_clean
-  keeps_clean-stripes s row p =
-      by_test (At S) (not (is_dirty (held_at s row.0)) && is_held (held_at s row.0).mode) (notes_clean s row.0) s (λ x. notes_clean-stripes s row.0 p) (λ x. p)
+  keep_row-stripes : (s : Serving) (row : BlockId × Entry) → At S s → At S (keep_row s row)
+  unfolding keep_row
+  keep_row-stripes s row p =
+      by_test (At S) (not (is_dirty (held_at s row.0)) && is_held (held_at s row.0).mode) (note_clean s row.0) s (λ x. note_clean-stripes s row.0 p) (λ x. p)
 
-  rows_clean : (s : Serving) (rows : List (BlockId × Entry)) → At S s → At S (fold keeps_clean s rows)
+  rows_clean : (s : Serving) (rows : List (BlockId × Entry)) → At S s → At S (fold keep_row s rows)
   rows_clean s [] p = p
-  rows_clean s (row ∷ rows) p = rows_clean (keeps_clean s row) rows (keeps_clean-stripes s row p)
+  rows_clean s (row ∷ rows) p = rows_clean (keep_row s row) rows (keep_row-stripes s row p)
 
   rows_settled : (s : Serving) (rows : List (BlockId × Entry)) → At S s → At S (fold notes_settled s rows)
   unfolding notes_settled
@@ -107,36 +107,36 @@ module _ (Is : GroupMapState → Type 0) where
 
   gives_up-stripes : (s : Serving) (block : BlockId) (g : Option Giving) → At S s → At S (gives_up s block g).state
   gives_up-stripes s block None p = p
-  gives_up-stripes s block (Some g) p = takes_back-keeps S takes-stripes s p block g.stamp g.keep
+  gives_up-stripes s block (Some g) p = take_back-keeps S takes-stripes s p block g.stamp g.keep
 
-  gives_if_clean-stripes : (s : Serving) (block : BlockId) → At S s → At S (gives_if_clean s block).state
-  unfolding gives_if_clean
-  gives_if_clean-stripes s block p =
+  give_if_clean-stripes : (s : Serving) (block : BlockId) → At S s → At S (give_if_clean s block).state
+  unfolding give_if_clean
+  give_if_clean-stripes s block p =
       by_test (λ (d : client.Done). At S d.state) (is_dirty (held_at s block)) (still s) (gives_up s block (held_at s block).giving) (λ x. p)
       (λ x. gives_up-stripes s block (held_at s block).giving p)
 
-  all_given : (s : Serving) (xs : List BlockId) → At S s → At S (steps gives_if_clean s xs).state
+  all_given : (s : Serving) (xs : List BlockId) → At S s → At S (steps give_if_clean s xs).state
   all_given s [] p = p
-  all_given s (x ∷ xs) p = all_given (gives_if_clean s x).state xs (gives_if_clean-stripes s x p)
+  all_given s (x ∷ xs) p = all_given (give_if_clean s x).state xs (give_if_clean-stripes s x p)
 
-  settles-stripes : (s : Serving) (end : End) (rows : List (BlockId × Entry)) → At S s → At S (settles s end rows).state
-  unfolding settles
-  settles-stripes s end rows p =
-      all_given (feeds (settled_rows s rows) end rows) (dirty_in s.tokens.blocks) (rows_clean (fold notes_settled s rows) rows (rows_settled s rows p))
+  serving_settle-stripes : (s : Serving) (end : End) (rows : List (BlockId × Entry)) → At S s → At S (serving_settle s end rows).state
+  unfolding serving_settle
+  serving_settle-stripes s end rows p =
+      all_given (feeds (settle_rows s rows) end rows) (dirty_in s.tokens.blocks) (rows_clean (fold notes_settled s rows) rows (rows_settled s rows p))
 
-  all_written : (s : Serving) (outs : List log_out.Out) → At S s → At S (steps writes_one s outs).state
-  unfolding writes_one
+  all_written : (s : Serving) (outs : List log_out.Out) → At S s → At S (steps write_one s outs).state
+  unfolding write_one
   all_written s [] p = p
   all_written s (Send fragment member ∷ outs) p = all_written s outs p
-  all_written s (Settled end rows ∷ outs) p = all_written (settles s end rows).state outs (settles-stripes s end rows p)
+  all_written s (Settled end rows ∷ outs) p = all_written (serving_settle s end rows).state outs (serving_settle-stripes s end rows p)
 
-  written : (s : Serving) (i : log_in.In) → Has Is (log.transition s.log i) → At S (writes s i).state
-  unfolding writes
+  written : (s : Serving) (i : log_in.In) → Has Is (log.transition s.log i) → At S (serving_write s i).state
+  unfolding serving_write
   written s i p =
       let outs : List log_out.Out = (log.transition s.log i).outs in
-      let u : Serving = (steps writes_one (record s { log = (log.transition s.log i).state }) outs).state in
+      let u : Serving = (steps write_one (record s { log = (log.transition s.log i).state }) outs).state in
       let q : At S u = all_written (record s { log = (log.transition s.log i).state }) outs p in
-      by_test (λ (d : client.Done). At S d.state) (list_any is_settling outs && is_giving u.tokens) (seals u) (still u) (λ x. seals-keeps S takes-stripes u q)
+      by_test (λ (d : client.Done). At S d.state) (list_any is_settling outs && is_giving u.tokens) (serving_seal u) (still u) (λ x. serving_seal-keeps S takes-stripes u q)
       (λ x. q)
 
   changes-stripes : (s : Serving) (block : BlockId) (value : Option (List ℕ)) → At S s → At S (changes s block value).done.state
@@ -154,12 +154,12 @@ module _ (Is : GroupMapState → Type 0) where
     ends = λ t l c p. p;
     takes = λ n. takes-stripes;
     touches = λ t l c block p. p;
-    copies = λ s block g may sound fact p. notes_clean-stripes (record s { tokens = _ }) block p;
+    copies = λ s block g may sound fact p. note_clean-stripes (record s { tokens = _ }) block p;
     owns = λ t l c block g may sound fact p. p;
     logs = λ s i outer sound p. written s i (outer-has s.log p i outer);
     puts = λ s block value sound may p. changes-stripes s block value p;
     puts_owned = λ s block value sound may p. changes-stripes s block value p;
-    lets_owned = λ s block sound p. notes_gone-keeps S takes-stripes (record s { tokens = (on_evict s.tokens block).state }) block p;
+    lets_owned = λ s block sound p. note_gone-keeps S takes-stripes (record s { tokens = (on_evict s.tokens block).state }) block p;
   }
 
   -- ---- openings
@@ -175,7 +175,7 @@ module _ (Is : GroupMapState → Type 0) where
   pub reopens-stripes : Reopens Is (HasSuchMaps Is) StripesSo
   reopens-stripes = record {
     first = λ owner servers q. record { known = tt; log = tt };
-    packet = λ o q p brings h. opens_so (opening.on_packet o q p).progress (packet_groups Is o q p brings h);
+    packet = λ o q p brings h. opens_so (opening.opening_take o q p).progress (packet_groups Is o q p brings h);
     tick = λ o q h. opens_so (opening.on_tick o q).progress (tick_groups Is o q h);
   }
 

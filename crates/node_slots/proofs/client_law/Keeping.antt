@@ -8,17 +8,17 @@ use Rattle.client_log.specs.LogState.{LogState}
 use Rattle.client_log.specs.Transition.{on_seal}
 use Rattle.client_running.specs.Blocks.{changes}
 use Rattle.client_serving.specs.declared.serving.Serving.{Serving}
-use Rattle.client_serving.specs.Flights.{held_at, writes}
-use Rattle.client_serving.specs.Follow.{follows, follows_one, hands, notes_clean, notes_gone, seals, takes_back}
+use Rattle.client_serving.specs.Flights.{held_at, serving_write}
+use Rattle.client_serving.specs.Follow.{serving_follow, follow_one, hand, note_clean, note_gone, serving_seal, take_back}
 use Rattle.client_serving.specs.Reads.{ends_reading}
 use Rattle.client_serving.specs.Sends as client
 use Rattle.coop_cache.specs.CacheState.{CacheState}
-use Rattle.coop_cache.specs.Transition.{left, touched}
+use Rattle.coop_cache.specs.Transition.{cache_leave, touch}
 use Rattle.group_map.specs.GroupMapState.{GroupMapState}
 use Rattle.token_client.specs.declared.held.Held.{Held}
 use Rattle.token_client.specs.declared.output.Out.{Out}
 use Rattle.token_client.specs.declared.output.Out.TheVariants.{Want, Gave, Supply, Flush, Read, Ready}
-use Rattle.token_client.specs.Held.{given_up, is_asking, is_dirty, may_write, put_off}
+use Rattle.token_client.specs.Held.{give_up, is_asking, is_dirty, may_write, put_off}
 use Rattle.token_client.specs.Laws.{IsSound}
 use Rattle.node_base.specs.Room.{has_room}
 use Rattle.token_client.specs.State.{TokensState, held_of, with_held}
@@ -92,11 +92,11 @@ pub record TakesKeep (P : Fact) : Type 0 where
   pub puts_off : (t : TokensState) (l : LogState) (c : CacheState) (block : BlockId) (g : Held) → is_dirty (held_of t.blocks block) ≡ true
       → IsPutOff (held_of t.blocks block) g → P t l c → P (with_held t block g) l c
   pub lets : (t : TokensState) (l : LogState) (c : CacheState) (block : BlockId) (g : Held) → is_dirty (held_of t.blocks block) ≡ false
-      → IsLetGo (held_of t.blocks block) g → P t l c → P (with_held t block g) l (left c block)
+      → IsLetGo (held_of t.blocks block) g → P t l c → P (with_held t block g) l (cache_leave c block)
   pub lowers : (t : TokensState) (l : LogState) (c : CacheState) (block : BlockId) (g : Held) → is_dirty (held_of t.blocks block) ≡ false
       → IsLowered (held_of t.blocks block) g → P t l c → P (with_held t block g) l c
   pub leaves : (t : TokensState) (l : LogState) (c : CacheState) (block : BlockId) → is_nothing (held_of t.blocks block).mode ≡ true
-      → P t l c → P t l (left c block)
+      → P t l c → P t l (cache_leave c block)
   pub seals : (t : TokensState) (l : LogState) (c : CacheState) → P t l c → P t (on_seal l).state c
 
 -- a log's input but for one of the client's own calls; maps that come are so
@@ -118,70 +118,70 @@ pub record Keeps (A : BlockId → Type 0) (M : GroupMapState → Type 0) (B : Fa
   pub less : (t : TokensState) (l : LogState) (c : CacheState) → P 1 t l c → P 0 t l c
   pub ends : (t : TokensState) (l : LogState) (c : CacheState) → P 0 t l c → B t l c
   pub takes : (n : ℕ) → TakesKeep (P n)
-  pub touches : (t : TokensState) (l : LogState) (c : CacheState) (block : BlockId) → P 0 t l c → P 0 t l (touched c block)
+  pub touches : (t : TokensState) (l : LogState) (c : CacheState) (block : BlockId) → P 0 t l c → P 0 t l (touch c block)
   pub copies : (s : Serving) (block : BlockId) (g : Held) → A block → Sound s → IsCopied (held_at s block) g → At (P 1) s
-      → At (P 1) (notes_clean (record s { tokens = with_held s.tokens block g }) block)
+      → At (P 1) (note_clean (record s { tokens = with_held s.tokens block g }) block)
   pub owns : (t : TokensState) (l : LogState) (c : CacheState) (block : BlockId) (g : Held) → A block → IsSound t → IsOwned (held_of t.blocks block) g
       → P 1 t l c
       → Q block (with_held t block g) l c
-  pub logs : (s : Serving) (i : log_in.In) → IsOuter M i → Sound s → At (P 1) s → At (P 0) (writes s i).state
+  pub logs : (s : Serving) (i : log_in.In) → IsOuter M i → Sound s → At (P 1) s → At (P 0) (serving_write s i).state
   pub puts : (s : Serving) (block : BlockId) (value : Option (List ℕ)) → Sound s → may_write (held_at s block) ≡ true → At (P 0) s
       → At (P 0) (changes s block value).done.state
   pub puts_owned : (s : Serving) (block : BlockId) (value : Option (List ℕ)) → Sound s → may_write (held_at s block) ≡ true → At (Q block) s
       → At (P 0) (changes s block value).done.state
   pub lets_owned : (s : Serving) (block : BlockId) → Sound s → At (Q block) s
-      → At (P 0) (notes_gone (record s { tokens = (on_evict s.tokens block).state }) block)
+      → At (P 0) (note_gone (record s { tokens = (on_evict s.tokens block).state }) block)
 
 -- ---- what the tokens say
 
 -- the tokens did this, and what they say is done
 abbrev pub told : Serving → Done → client.Done
-told s d = follows (ends_reading (record s { tokens = d.state })) d.outs
+told s d = serving_follow (ends_reading (record s { tokens = d.state })) d.outs
 
 -- what is silent leaves the client
-pub follows-silent : (s : Serving) (silent outs : List Out) → AllByRecursion IsSilent silent → (follows s (silent ++ outs)).state ≡ (follows s outs).state
-unfolding follows follows_one
-follows-silent s [] outs q = refl
-follows-silent s (Want block req again mode ∷ silent) outs q = follows-silent s silent outs q.1
-follows-silent s (Gave block stamp ∷ silent) outs q = follows-silent s silent outs q.1
-follows-silent s (Supply block ver value ∷ silent) outs q = follows-silent s silent outs q.1
-follows-silent s (Flush block ∷ silent) outs q = absurd q.0
-follows-silent s (Read block place ∷ silent) outs q = absurd q.0
-follows-silent s (Ready block ∷ silent) outs q = absurd q.0
+pub serving_follow-silent : (s : Serving) (silent outs : List Out) → AllByRecursion IsSilent silent → (serving_follow s (silent ++ outs)).state ≡ (serving_follow s outs).state
+unfolding serving_follow follow_one
+serving_follow-silent s [] outs q = refl
+serving_follow-silent s (Want block req again mode ∷ silent) outs q = serving_follow-silent s silent outs q.1
+serving_follow-silent s (Gave block stamp ∷ silent) outs q = serving_follow-silent s silent outs q.1
+serving_follow-silent s (Supply block ver value ∷ silent) outs q = serving_follow-silent s silent outs q.1
+serving_follow-silent s (Flush block ∷ silent) outs q = absurd q.0
+serving_follow-silent s (Read block place ∷ silent) outs q = absurd q.0
+serving_follow-silent s (Ready block ∷ silent) outs q = absurd q.0
 
-follows-nothing : (s : Serving) (outs : List Out) → AllByRecursion IsSilent outs → (follows s outs).state ≡ s
-unfolding follows follows_one
-follows-nothing s [] q = refl
-follows-nothing s (Want block req again mode ∷ outs) q = follows-nothing s outs q.1
-follows-nothing s (Gave block stamp ∷ outs) q = follows-nothing s outs q.1
-follows-nothing s (Supply block ver value ∷ outs) q = follows-nothing s outs q.1
-follows-nothing s (Flush block ∷ outs) q = absurd q.0
-follows-nothing s (Read block place ∷ outs) q = absurd q.0
-follows-nothing s (Ready block ∷ outs) q = absurd q.0
+serving_follow-nothing : (s : Serving) (outs : List Out) → AllByRecursion IsSilent outs → (serving_follow s outs).state ≡ s
+unfolding serving_follow follow_one
+serving_follow-nothing s [] q = refl
+serving_follow-nothing s (Want block req again mode ∷ outs) q = serving_follow-nothing s outs q.1
+serving_follow-nothing s (Gave block stamp ∷ outs) q = serving_follow-nothing s outs q.1
+serving_follow-nothing s (Supply block ver value ∷ outs) q = serving_follow-nothing s outs q.1
+serving_follow-nothing s (Flush block ∷ outs) q = absurd q.0
+serving_follow-nothing s (Read block place ∷ outs) q = absurd q.0
+serving_follow-nothing s (Ready block ∷ outs) q = absurd q.0
 
 module _ (P : Fact) (k : TakesKeep P) where
   -- what the tokens do quietly keeps the fact
   pub quiet-keeps : (s : Serving) (d : Done) → GoesQuietly s.tokens d → At P s → At P (told s d).state
   quiet-keeps s d q p =
       let u : Serving = ends_reading (record s { tokens = d.state }) in
-      subst (At P) (sym (follows-nothing u d.outs q.silent)) (k.quiet s.tokens d.state s.log s.cache q.quiet p)
+      subst (At P) (sym (serving_follow-nothing u d.outs q.silent)) (k.quiet s.tokens d.state s.log s.cache q.quiet p)
 
-  pub notes_gone-keeps : (s : Serving) (block : BlockId) → At P s → At P (notes_gone s block)
-  unfolding notes_gone
-  notes_gone-keeps s block p =
-      by_test (At P) (is_nothing (held_of s.tokens.blocks block).mode) (record s { cache = left s.cache block }) s
+  pub note_gone-keeps : (s : Serving) (block : BlockId) → At P s → At P (note_gone s block)
+  unfolding note_gone
+  note_gone-keeps s block p =
+      by_test (At P) (is_nothing (held_of s.tokens.blocks block).mode) (record s { cache = cache_leave s.cache block }) s
       (λ t. k.leaves s.tokens s.log s.cache block t p) (λ t. p)
 
-  pub seals-keeps : (s : Serving) → At P s → At P (seals s).state
-  unfolding seals
-  seals-keeps s p = k.seals s.tokens s.log s.cache p
+  pub serving_seal-keeps : (s : Serving) → At P s → At P (serving_seal s).state
+  unfolding serving_seal
+  serving_seal-keeps s p = k.seals s.tokens s.log s.cache p
 
   module _ (s : Serving) (p : At P s) (block : BlockId) where
     abbrev Back : Done → Type 0
-    Back d = At P (notes_gone (told s d).state block)
+    Back d = At P (note_gone (told s d).state block)
 
     back-quiet : (d : Done) → GoesQuietly s.tokens d → Back d
-    back-quiet d q = notes_gone-keeps (told s d).state block (quiet-keeps s d q p)
+    back-quiet d q = note_gone-keeps (told s d).state block (quiet-keeps s d q p)
 
     module _ (stamp : Stamp) (keep : Bool) where
       abbrev asked_for : Done
@@ -207,37 +207,37 @@ module _ (P : Fact) (k : TakesKeep P) where
 
       back-put_off : is_dirty now ≡ true
           → Back (saying asked_for.outs (record { state = with_held asked_for.state block (put_off now stamp keep); outs = Flush block ∷ [] }))
-      unfolding follows follows_one
+      unfolding serving_follow follow_one
       back-put_off dirty =
           let g : Held = put_off now stamp keep in
           let u : Serving = with_block g in
-          subst (λ (v : Serving). At P (notes_gone v block)) (sym (follows-silent u asked_for.outs (Flush block ∷ []) quietly.silent))
-          (notes_gone-keeps (seals u).state block (seals-keeps u (k.puts_off asked_for.state s.log s.cache block g dirty put_off-same still_so)))
+          subst (λ (v : Serving). At P (note_gone v block)) (sym (serving_follow-silent u asked_for.outs (Flush block ∷ []) quietly.silent))
+          (note_gone-keeps (serving_seal u).state block (serving_seal-keeps u (k.puts_off asked_for.state s.log s.cache block g dirty put_off-same still_so)))
 
-      gone : (g : Held) → is_dirty now ≡ false → IsLetGo now g → At P (notes_gone (with_block g) block)
-      unfolding notes_gone
+      gone : (g : Held) → is_dirty now ≡ false → IsLetGo now g → At P (note_gone (with_block g) block)
+      unfolding note_gone
       gone g clean lets =
           let t : TokensState = with_held asked_for.state block g in
-          by_test (At P) (is_nothing (held_of t.blocks block).mode) (record (with_block g) { cache = left s.cache block }) (with_block g)
+          by_test (At P) (is_nothing (held_of t.blocks block).mode) (record (with_block g) { cache = cache_leave s.cache block }) (with_block g)
           (λ x. k.lets asked_for.state s.log s.cache block g clean lets still_so)
           (λ x. contrary (sym x ∙ ap (λ (h : Held). is_nothing h.mode) (held_of-put_itself block g asked_for.state.blocks) ∙ ap is_nothing lets.mode))
 
-      given : is_later now.stamp stamp ≡ false → is_dirty now ≡ false → At P (notes_gone (with_block (given_up now stamp keep)) block)
+      given : is_later now.stamp stamp ≡ false → is_dirty now ≡ false → At P (note_gone (with_block (give_up now stamp keep)) block)
       given rises clean =
           let low : Held = record now { mode = Copy; stamp = stamp; giving = None } in
           let none : Held = record now { mode = Nothing; value = None; stamp = stamp; giving = None } in
-          by_test (λ (g : Held). At P (notes_gone (with_block g) block)) (keep && is_held now.mode) low none
-          (λ t. notes_gone-keeps (with_block low) block
+          by_test (λ (g : Held). At P (note_gone (with_block g) block)) (keep && is_held now.mode) low none
+          (λ t. note_gone-keeps (with_block low) block
           (k.lowers asked_for.state s.log s.cache block low clean
           (record { held = and_second keep (is_held now.mode) t; mode = refl; ver = refl; settled = refl; stamp = rises; giving = λ x. contrary x }) still_so))
           (λ t. gone none clean (record { mode = refl; ver = refl; settled = refl; stamp = rises; giving = λ x. contrary x }))
 
       back-given : is_later now.stamp stamp ≡ false → is_dirty now ≡ false
-          → Back (saying asked_for.outs (record { state = with_held asked_for.state block (given_up now stamp keep); outs = Gave block stamp ∷ [] }))
-      unfolding follows follows_one
+          → Back (saying asked_for.outs (record { state = with_held asked_for.state block (give_up now stamp keep); outs = Gave block stamp ∷ [] }))
+      unfolding serving_follow follow_one
       back-given rises clean =
-          let u : Serving = with_block (given_up now stamp keep) in
-          subst (λ (v : Serving). At P (notes_gone v block)) (sym (follows-silent u asked_for.outs (Gave block stamp ∷ []) quietly.silent)) (given rises clean)
+          let u : Serving = with_block (give_up now stamp keep) in
+          subst (λ (v : Serving). At P (note_gone v block)) (sym (serving_follow-silent u asked_for.outs (Gave block stamp ∷ []) quietly.silent)) (given rises clean)
 
       back-above : is_later stamp (held_of s.tokens.blocks block).stamp ≡ true → Back (recalled_above s.tokens block stamp keep)
       unfolding recalled_above give
@@ -247,7 +247,7 @@ module _ (P : Fact) (k : TakesKeep P) where
           by_test Back (can_refetch s.tokens block) (saying asked_for.outs (give asked_for.state block stamp keep)) (still s.tokens)
           (λ t. by_test (λ (d : Done). Back (saying asked_for.outs d)) (is_dirty now)
           (record { state = with_held asked_for.state block (put_off now stamp keep); outs = Flush block ∷ [] })
-          (record { state = with_held asked_for.state block (given_up now stamp keep); outs = Gave block stamp ∷ [] }) back-put_off (back-given rises))
+          (record { state = with_held asked_for.state block (give_up now stamp keep); outs = Gave block stamp ∷ [] }) back-put_off (back-given rises))
           (λ t. back-quiet (still s.tokens) (quiet_still s.tokens))
 
       back-again : Back (recalled_again s.tokens block stamp)
@@ -267,6 +267,6 @@ module _ (P : Fact) (k : TakesKeep P) where
           (λ t. back-quiet (still s.tokens) (quiet_still s.tokens))
 
       -- a block is taken back
-      pub takes_back-keeps : At P (takes_back s block stamp keep).state
-      unfolding takes_back hands
-      takes_back-keeps = back-recalled
+      pub take_back-keeps : At P (take_back s block stamp keep).state
+      unfolding take_back hand
+      take_back-keeps = back-recalled

@@ -16,9 +16,9 @@ use Rattle.token_client.specs.declared.held.Held.{Held}
 use Rattle.token_client.specs.declared.held.Wanted.{Wanted}
 use Rattle.token_client.specs.declared.output.Out.{Out}
 use Rattle.token_client.specs.declared.output.Out.TheVariants.{Want, Gave, Supply, Flush, Read, Ready}
-use Rattle.token_client.specs.Held.{asked, asked_again, is_asking, must_ask, promise_dropped, unasked, unfetched}
+use Rattle.token_client.specs.Held.{held_ask, asked_again, is_asking, must_ask, drop_promised, quit, unfetched}
 use Rattle.token_client.specs.State.{TokensState, held_of, is_in_slot, with_held}
-use Rattle.token_client.specs.Transition.{Done, new_want, ask_again, ask_copy, dropped_in, fetched_in, is_spent, may_promise, on_forwarded, on_need, on_promise, on_quit, on_reask, on_tick, raised, refetch, repeated, serves, supplies, wanted_in}
+use Rattle.token_client.specs.Transition.{Done, tokens_ask, ask_again, ask_copy, drop_in, fetched_blocks, is_spent, may_promise, on_forwarded, on_need, on_promise, on_quit, on_reask, on_tick, raised, refetch, repeated, serves, supplies, wanted_blocks}
 use Rattle.token_client.proofs.Promises.{dropped-known}
 use Rattle.token_client.proofs.Tables.{put_each, put_same}
 
@@ -83,11 +83,11 @@ quiet_steps step one s (x ∷ xs) =
 
 -- ---- each input
 
-pub ask-quiet : (s : TokensState) (block : BlockId) (mode : Mode) → GoesQuietly s (new_want s block mode)
-unfolding new_want
+pub ask-quiet : (s : TokensState) (block : BlockId) (mode : Mode) → GoesQuietly s (tokens_ask s block mode)
+unfolding tokens_ask
 ask-quiet s block mode =
     let h : Held = held_of s.blocks block in
-    let g : Held = asked h (s.req + 1) mode in
+    let g : Held = held_ask h (s.req + 1) mode in
     by_test (GoesQuietly s) (nat_lt s.req u32_end)
     (record { state = record (with_held s block g) { req = s.req + 1 }; outs = Want block (s.req + 1) 0 mode ∷ [] }) (still s)
     (λ t. record {
@@ -98,20 +98,20 @@ ask-quiet s block mode =
 pub on_need-quiet : (s : TokensState) (block : BlockId) (mode : Mode) → GoesQuietly s (on_need s block mode)
 unfolding on_need
 on_need-quiet s block mode =
-    by_test (GoesQuietly s) (must_ask (held_of s.blocks block) mode) (new_want s block mode) (still s) (λ t. ask-quiet s block mode) (λ t. quiet_still s)
+    by_test (GoesQuietly s) (must_ask (held_of s.blocks block) mode) (tokens_ask s block mode) (still s) (λ t. ask-quiet s block mode) (λ t. quiet_still s)
 
 pub on_reask-quiet : (s : TokensState) (block : BlockId) → GoesQuietly s (on_reask s block)
 unfolding on_reask
 on_reask-quiet s block =
-    by_test (GoesQuietly s) (is_some (held_of s.blocks block).fetch) (new_want s block Copy) (still s) (λ t. ask-quiet s block Copy) (λ t. quiet_still s)
+    by_test (GoesQuietly s) (is_some (held_of s.blocks block).fetch) (tokens_ask s block Copy) (still s) (λ t. ask-quiet s block Copy) (λ t. quiet_still s)
 
 pub on_quit-quiet : (s : TokensState) (block : BlockId) → GoesQuietly s (on_quit s block)
 unfolding on_quit
 on_quit-quiet s block =
     let h : Held = held_of s.blocks block in
-    by_test (GoesQuietly s) (is_asking h) (still (with_held s block (unasked h))) (still s)
+    by_test (GoesQuietly s) (is_asking h) (still (with_held s block (quit h))) (still s)
     (λ t. record {
-      quiet = quiet_put s block (unasked h)
+      quiet = quiet_put s block (quit h)
           (record { mode = refl; ver = refl; settled = refl; stamp = not_later_itself h.stamp; giving = λ x. x });
       silent = tt;
     })
@@ -136,14 +136,14 @@ refetch-quiet s block =
     let dropped : TokensState = with_held s block (unfetched h) in
     let first : IsQuiet s dropped =
     quiet_put s block (unfetched h) (record { mode = refl; ver = refl; settled = refl; stamp = not_later_itself h.stamp; giving = λ x. x }) in
-    let second : GoesQuietly dropped (new_want dropped block Copy) = ask-quiet dropped block Copy in
-    by_test (GoesQuietly s) (is_some h.fetch) (new_want dropped block Copy) (still s)
-    (λ t. record { quiet = quiet_through s dropped (new_want dropped block Copy).state first second.quiet; silent = second.silent }) (λ t. quiet_still s)
+    let second : GoesQuietly dropped (tokens_ask dropped block Copy) = ask-quiet dropped block Copy in
+    by_test (GoesQuietly s) (is_some h.fetch) (tokens_ask dropped block Copy) (still s)
+    (λ t. record { quiet = quiet_through s dropped (tokens_ask dropped block Copy).state first second.quiet; silent = second.silent }) (λ t. quiet_still s)
 
-ask-stamp : (s : TokensState) (block : BlockId) (mode : Mode) → (held_of (new_want s block mode).state.blocks block).stamp ≡ (held_of s.blocks block).stamp
-unfolding new_want
+ask-stamp : (s : TokensState) (block : BlockId) (mode : Mode) → (held_of (tokens_ask s block mode).state.blocks block).stamp ≡ (held_of s.blocks block).stamp
+unfolding tokens_ask
 ask-stamp s block mode =
-    let g : Held = asked (held_of s.blocks block) (s.req + 1) mode in
+    let g : Held = held_ask (held_of s.blocks block) (s.req + 1) mode in
     by_test (λ (d : Done). (held_of d.state.blocks block).stamp ≡ (held_of s.blocks block).stamp) (nat_lt s.req u32_end)
     (record { state = record (with_held s block g) { req = s.req + 1 }; outs = Want block (s.req + 1) 0 mode ∷ [] }) (still s)
     (λ t. put_same (λ (f : Held). f.stamp) block block g s.blocks refl) (λ t. refl)
@@ -154,7 +154,7 @@ unfolding refetch
 refetch-stamp s block =
     let h : Held = held_of s.blocks block in
     let dropped : TokensState = with_held s block (unfetched h) in
-    by_test (λ (d : Done). (held_of d.state.blocks block).stamp ≡ h.stamp) (is_some h.fetch) (new_want dropped block Copy) (still s)
+    by_test (λ (d : Done). (held_of d.state.blocks block).stamp ≡ h.stamp) (is_some h.fetch) (tokens_ask dropped block Copy) (still s)
     (λ t. ask-stamp dropped block Copy ∙ put_same (λ (f : Held). f.stamp) block block (unfetched h) s.blocks refl) (λ t. refl)
 
 ask_again-quiet : (s : TokensState) (block : BlockId) → GoesQuietly s (ask_again s block)
@@ -174,13 +174,13 @@ ask_again-quiet s block =
 pub on_tick-quiet : (s : TokensState) → GoesQuietly s (on_tick s)
 unfolding on_tick
 on_tick-quiet s =
-    by_test (GoesQuietly s) (list_any (λ h. is_spent h.want) (values_of s.blocks)) (still s) (steps ask_again s (wanted_in s.blocks)) (λ t. quiet_still s)
-    (λ t. quiet_steps ask_again ask_again-quiet s (wanted_in s.blocks))
+    by_test (GoesQuietly s) (list_any (λ h. is_spent h.want) (values_of s.blocks)) (still s) (steps ask_again s (wanted_blocks s.blocks)) (λ t. quiet_still s)
+    (λ t. quiet_steps ask_again ask_again-quiet s (wanted_blocks s.blocks))
 
-dropped-same : (s : TokensState) (slot : ℕ) (b : BlockId) → IsSame (held_of s.blocks b) (dropped_in slot b (held_of s.blocks b))
+dropped-same : (s : TokensState) (slot : ℕ) (b : BlockId) → IsSame (held_of s.blocks b) (drop_in slot b (held_of s.blocks b))
 dropped-same s slot b =
     let h : Held = held_of s.blocks b in
-    by_test (IsSame h) (is_in_slot slot b) (promise_dropped h) h
+    by_test (IsSame h) (is_in_slot slot b) (drop_promised h) h
     (λ t. record { mode = refl; ver = refl; settled = refl; stamp = not_later_itself h.stamp; giving = λ x. contrary x })
     (λ t. same_itself h)
 
@@ -189,8 +189,8 @@ unfolding on_promise
 on_promise-quiet s slot epoch =
     let risen : TokensState = raised s slot epoch in
     let first : IsQuiet s risen = λ b. subst (IsSame (held_of s.blocks b)) (sym (dropped-known s slot b)) (dropped-same s slot b) in
-    let second : GoesQuietly risen (steps ask_copy risen (fetched_in slot s.blocks)) =
-    quiet_steps ask_copy (λ t b. ask-quiet t b Copy) risen (fetched_in slot s.blocks) in
-    by_test (GoesQuietly s) (may_promise s slot epoch) (steps ask_copy risen (fetched_in slot s.blocks)) (still s)
-    (λ t. record { quiet = quiet_through s risen (steps ask_copy risen (fetched_in slot s.blocks)).state first second.quiet; silent = second.silent })
+    let second : GoesQuietly risen (steps ask_copy risen (fetched_blocks slot s.blocks)) =
+    quiet_steps ask_copy (λ t b. ask-quiet t b Copy) risen (fetched_blocks slot s.blocks) in
+    by_test (GoesQuietly s) (may_promise s slot epoch) (steps ask_copy risen (fetched_blocks slot s.blocks)) (still s)
+    (λ t. record { quiet = quiet_through s risen (steps ask_copy risen (fetched_blocks slot s.blocks)).state first second.quiet; silent = second.silent })
     (λ t. quiet_still s)

@@ -2,11 +2,11 @@
 use Rattle.std.proofs.Common.{◌≡◌, false, refl, ap, subst, ◌∙◌}
 use Rattle.client_node.specs.declared.client.Client.{Client}
 use Rattle.client_node.specs.declared.phase.Phase.TheVariants.{Serving as Serves}
-use Rattle.client_node.specs.Starting.{first_client}
-use Rattle.client_serving.specs.Flights.{held_at, settles, writes}
+use Rattle.client_node.specs.Starting.{client_start}
+use Rattle.client_serving.specs.Flights.{held_at, serving_settle, serving_write}
 use Rattle.client_serving.specs.Sends as client
 use Rattle.token_client.specs.declared.held.Held.{Held}
-use Rattle.token_client.specs.Held.{let_go, version_settled, written}
+use Rattle.token_client.specs.Held.{let_go, version_settled, held_write}
 use Rattle.token_client.specs.State.{TokensState, held_of, with_held}
 use Rattle.token_client.proofs.Tables.{put_each}
 use Rattle.wire_msg.specs.declared.packet.Do.{Do}
@@ -55,7 +55,7 @@ module _ (block : BlockId) (old : Stamp) where
     takes = takes-kept;
     lets_go = λ t b p. kept_same t p b (let_go (held_of t.blocks b)) refl;
     settles = λ t b ver p. kept_same t p b (version_settled (held_of t.blocks b) ver) refl;
-    writes = λ t b value p. kept_same t p b (written (held_of t.blocks b) value) refl;
+    writes = λ t b value p. kept_same t p b (held_write (held_of t.blocks b) value) refl;
   }
 
   keeps-kept : Keeps AnyBlock AnyMap K (λ n. K) (λ b. K)
@@ -82,5 +82,5 @@ no_stamp_falls client what asks s t block fact becomes =
 
 pub stamps_never_fall : StampsNeverFallAlways
 stamps_never_fall number setup works events what =
-    no_stamp_falls (after_events (first_client number setup works) events) what
-    (after-asks (first_client number setup works) events (first_asks number setup works))
+    no_stamp_falls (after_events (client_start number setup works) events) what
+    (after-asks (client_start number setup works) events (first_asks number setup works))

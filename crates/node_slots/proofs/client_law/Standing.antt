@@ -5,9 +5,9 @@ use Rattle.client_node.specs.declared.phase.Phase.TheVariants.{Down, Opening, Se
 use Rattle.client_node.specs.declared.phase.Phase.{Phase}
 use Rattle.client_node.specs.Phases.{takes}
 use Rattle.client_serving.specs.declared.serving.Serving.{Serving}
-use Rattle.client_serving.specs.Lasting.{first_lasting}
-use Rattle.client_node.specs.Serving.{first_serving}
-use Rattle.group_map.specs.Groups.{started}
+use Rattle.client_serving.specs.Lasting.{lasting_start}
+use Rattle.client_node.specs.Serving.{serves_first}
+use Rattle.group_map.specs.Groups.{group_map_start}
 use Rattle.group_map.specs.WellFormed.{IsGroupMap}
 use Rattle.log_flight.specs.Flights.{FlightState}
 use Rattle.node_slots.specs.client_law.Grouped.{HasSuchMaps}
@@ -118,7 +118,7 @@ module _ (opens : OpensEmptyLogs) where
 
   pub starts_well : StartsWell
   starts_well number setup works first =
-      let s : Serving = first_serving (first_lasting number works) setup.managers setup.cache (started setup.servers setup.groups) in
+      let s : Serving = serves_first (lasting_start number works) setup.managers setup.cache (group_map_start setup.servers setup.groups) in
       record {
         asks = first_asks number setup works;
         gives = giving.only_dirty s (giving.starts-giving 1 (replicate slot_count 1) s.log setup.cache tt);

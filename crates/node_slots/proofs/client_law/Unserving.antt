@@ -4,9 +4,9 @@ use Rattle.std.proofs.lemmas.List.Elements.{All-nil, All-cons}
 use Rattle.client_node.specs.declared.client.Client.{Client}
 use Rattle.client_node.specs.declared.phase.Phase.TheVariants.{Down, Opening, Serving as Serves}
 use Rattle.client_node.specs.declared.phase.Phase.{Phase}
-use Rattle.client_node.specs.Phases.{stepped, Went_to, after_opening, begins_item, client_room, crashed, down_begins, happens, item_begins, lasting_of, on_begin, on_deliver, on_time, opened_on, opening_begins, owner_of, restarted, takes, wish_of, with_begun}
+use Rattle.client_node.specs.Phases.{stepped, Went_to, phase_after, begins_item, client_has_room, cut, down_begins, happens, item_begins, lasting_of, on_begin, on_deliver, client_tick, opened_on, opening_begins, owner_of, restart, takes, wish_of, with_begun}
 use Rattle.client_serving.specs.declared.lasting.Lasting.{Lasting}
-use Rattle.client_serving.specs.Lasting.{next_life}
+use Rattle.client_serving.specs.Lasting.{live_on}
 use Rattle.log_owner.specs.Behaves.{Behaves, MayDo, MaySay}
 use Rattle.log_owner.specs.declared.ended.Owner.{Owner}
 use Rattle.log_owner.specs.declared.opened.Progress.{Progress}
@@ -14,14 +14,14 @@ use Rattle.log_owner.specs.declared.opened.Progress.TheVariants as progress
 use Rattle.log_owner.specs.declared.opening.Opening as openings
 use Rattle.log_owner.specs.Opening as opening
 use Rattle.log_owner.specs.Opening.{Went}
-use Rattle.log_owner.specs.Sending.{hello, pushes_all}
+use Rattle.log_owner.specs.Sending.{hello, push_all}
 use Rattle.log_owner.proofs.Behaving as behaving
-use Rattle.node_base.specs.Asking.{drawn, next_ask}
+use Rattle.node_base.specs.Asking.{draw, next_ask}
 use Rattle.node_base.specs.Beginning.{next_item, work_at}
 use Rattle.node_base.specs.declared.effects.Effect.{Effect}
 use Rattle.node_base.specs.declared.effects.Effect.TheVariants.{Send, Answer, Lose, Does}
 use Rattle.node_base.specs.declared.questions.Questions.{Questions}
-use Rattle.node_base.specs.Known.{names_known}
+use Rattle.node_base.specs.Known.{names_known_groups}
 use Rattle.node_base.specs.Shape.{is_well_formed}
 use Rattle.version_model.specs.declared.answer.Answer.TheVariants as answer
 use Rattle.version_model.specs.declared.work.Work.{Work}
@@ -63,28 +63,28 @@ opening_says : (owner : Owner) (w : Went) → Behaves owner w → AllSay IsUntol
 opening_says owner w b = all_weaker (MayDo owner) (Says IsUntold) (may_do owner) w.effects b.does
 
 -- once its log is open, it tells the managers of its log, and answers its item
-back_says : (l : Lasting) (capacity : ℕ) (p : Progress) → SaysNone (after_opening l capacity p)
+back_says : (l : Lasting) (capacity : ℕ) (p : Progress) → SaysNone (phase_after l capacity p)
 back_says l capacity (progress.Opening o) = tt
 back_says l capacity (progress.Opened o) = (
   tt,
-  all_append (Says IsUntold) (pushes_all o.promised.managers o.feed) _ (pushes_say IsUntold (λ m. refl) o.promised.managers o.feed)
+  all_append (Says IsUntold) (push_all o.promised.managers o.feed) _ (pushes_say IsUntold (λ m. refl) o.promised.managers o.feed)
       (answers_say IsUntold l.items.unanswered answer.Done),
 )
 back_says l capacity (progress.Lost seg) = answers_say IsUntold l.items.unanswered (answer.Lost seg)
 
 opened_says : (l : Lasting) (capacity : ℕ) (owner : Owner) (w : Went) → Behaves owner w → SaysNone (opened_on l capacity w)
 opened_says l capacity owner w b =
-    let done : Went_to = after_opening (record l { questions = w.questions }) capacity w.progress in
+    let done : Went_to = phase_after (record l { questions = w.questions }) capacity w.progress in
     all_append (Says IsUntold) w.effects done.outs (opening_says owner w b) (back_says (record l { questions = w.questions }) capacity w.progress)
 
-crashed_says : (l : Lasting) (number : ℕ) → SaysNone (crashed l number)
+crashed_says : (l : Lasting) (number : ℕ) → SaysNone (cut l number)
 crashed_says l number = all_append (Says IsUntold) _ _ (answers_say IsUntold l.items.unanswered answer.Cut) (tt, tt)
 
-restarted_says : (servers : ℕ) (l : Lasting) → SaysNone (restarted servers l)
+restarted_says : (servers : ℕ) (l : Lasting) → SaysNone (restart servers l)
 restarted_says servers l = opening_says (owner_of l) (opening.on_start (owner_of l) servers l.questions) (behaving.begin_so (owner_of l) servers l.questions)
 
 down_says : (servers : ℕ) (l : Lasting) (number : ℕ) (w : Option Work) → SaysNone (down_begins servers l number (wish_of w))
-down_says servers l number (Some (work.Restart node)) = restarted_says servers (next_life l number)
+down_says servers l number (Some (work.Restart node)) = restarted_says servers (live_on l number)
 down_says servers l number (Some (work.Crash node)) = (tt, tt)
 down_says servers l number None = (tt, tt)
 down_says servers l number (Some other) = (tt, tt)
@@ -119,25 +119,25 @@ on_deliver_says : (capacity : ℕ) (phase : Phase) → serves phase ≡ false �
 unfolding on_deliver
 on_deliver_says capacity (Down l) unserving packet = tt
 on_deliver_says capacity (Opening l o) unserving packet =
-    opened_says l capacity o.known.owner (opening.on_packet o l.questions packet) (behaving.packet_so o l.questions packet)
+    opened_says l capacity o.known.owner (opening.opening_take o l.questions packet) (behaving.packet_so o l.questions packet)
 on_deliver_says capacity (Serves s) unserving packet = contrary (sym unserving)
 
-on_time_says : (capacity : ℕ) (phase : Phase) → serves phase ≡ false → SaysNone (on_time capacity phase)
-unfolding on_time
-on_time_says capacity (Down l) unserving = tt
-on_time_says capacity (Opening l o) unserving = opened_says l capacity o.known.owner (opening.on_tick o l.questions) (behaving.tick_so o l.questions)
-on_time_says capacity (Serves s) unserving = contrary (sym unserving)
+client_tick_says : (capacity : ℕ) (phase : Phase) → serves phase ≡ false → SaysNone (client_tick capacity phase)
+unfolding client_tick
+client_tick_says capacity (Down l) unserving = tt
+client_tick_says capacity (Opening l o) unserving = opened_says l capacity o.known.owner (opening.on_tick o l.questions) (behaving.tick_so o l.questions)
+client_tick_says capacity (Serves s) unserving = contrary (sym unserving)
 
 happens_says : (client : Client) (what : Do) → serves client.phase ≡ false → SaysNone (happens client what)
 happens_says client Begin unserving = on_begin_says client.peers.servers client.phase unserving
 happens_says client (Deliver packet) unserving =
     by_test SaysNone (is_well_formed client.peers packet) (on_deliver client.cache client.phase packet) (still client.phase)
     (λ t. on_deliver_says client.cache client.phase unserving packet) (λ t. tt)
-happens_says client Tick unserving = on_time_says client.cache client.phase unserving
+happens_says client Tick unserving = client_tick_says client.cache client.phase unserving
 
 takes_says : (client : Client) (what : Do) → serves client.phase ≡ false → SaysNone (takes client what)
 takes_says client what unserving =
-    by_test SaysNone (client_room client) (happens client what) (still client.phase) (λ t. happens_says client what unserving) (λ t. tt)
+    by_test SaysNone (client_has_room client) (happens client what) (still client.phase) (λ t. happens_says client what unserving) (λ t. tt)
 
 pub says_nothing : SaysNothingOfTokens
 says_nothing client what unserving =
@@ -169,14 +169,14 @@ stays : (client : Client) → IsUnmovedBy client (still client.phase)
 stays client = record { phase_is = inl refl; sends = All-nil (λ (p : Packet). IsQuestion p.body); acts = refl }
 
 abbrev asks_maps : Lasting → openings.Opening → Went
-asks_maps l o = opening.went (progress.Opening o) (drawn l.questions) (hello o.known.owner.inc (next_ask l.questions) ∷ [])
+asks_maps l o = opening.went (progress.Opening o) (draw l.questions) (hello o.known.owner.inc (next_ask l.questions) ∷ [])
 
 module _ (client : Client) (packet : Packet) (about : is_about_tokens packet.body ≡ true) where
   opening_unmoved : (l : Lasting) (o : openings.Opening) → client.phase ≡ Opening l o
-      → IsUnmovedBy client (opened_on l client.cache (opening.on_packet o l.questions packet))
-  unfolding opening.on_packet
+      → IsUnmovedBy client (opened_on l client.cache (opening.opening_take o l.questions packet))
+  unfolding opening.opening_take
   opening_unmoved l o fact =
-      by_test (λ (w : Went). IsUnmovedBy client (opened_on l client.cache w)) (names_known o.known.maps packet.body)
+      by_test (λ (w : Went). IsUnmovedBy client (opened_on l client.cache w)) (names_known_groups o.known.maps packet.body)
       (opening.on_body o l.questions packet.from packet.body) (asks_maps l o)
       (λ t. subst (λ (w : Went). IsUnmovedBy client (opened_on l client.cache w)) (sym (drops_tokens o l.questions packet.from packet.body about))
       (record { phase_is = inl (sym fact); sends = All-nil (λ (p : Packet). IsQuestion p.body); acts = refl }))
@@ -194,6 +194,6 @@ module _ (client : Client) (packet : Packet) (about : is_about_tokens packet.bod
 
 pub takes_nothing : TakesNothingOfTokens
 takes_nothing client packet unserving about =
-    by_test (IsUnmovedBy client) (client_room client) (happens client (Deliver packet)) (still client.phase)
+    by_test (IsUnmovedBy client) (client_has_room client) (happens client (Deliver packet)) (still client.phase)
     (λ t. by_test (IsUnmovedBy client) (is_well_formed client.peers packet) (on_deliver client.cache client.phase packet) (still client.phase)
     (λ formed. deliver_unmoved client packet about client.phase refl unserving) (λ ill. stays client)) (λ t. stays client)

@@ -3,7 +3,7 @@
 use Rattle.std.proofs.Common.{◌≡◌, ◌⊎◌, inl, inr, ℕ, ◌+◌, ◌<◌, ◌≤◌, Bool, true, false, cond, nat_lt, List, [], ◌∷◌, take, drop, Option, Some, None, is_some, unwrap_or, refl, sym, ap, subst, ◌∙◌, arith}
 use Rattle.std.proofs.lemmas.Bool.Decides.{nat_tests}
 use Rattle.token_client.specs.declared.held.Held.{Held}
-use Rattle.token_client.specs.Held.{is_dirty, is_settled_by, version_settled, written}
+use Rattle.token_client.specs.Held.{is_dirty, is_settled_by, version_settled, held_write}
 use Rattle.token_client.specs.State.{TokensState, held_of, with_held}
 use Rattle.token_client.specs.Transition.{Done, on_settled}
 use Rattle.token_client.proofs.Tables.{put_each}
@@ -126,25 +126,25 @@ module _ (t : TokensState) (w d : Versions) (p : AreUnsettled t w d) where
     written_is : (v : ℕ) → version_at next block ≡ Some v → v ≡ old.ver + 1
     written_is v at = sym (some_exact (old.ver + 1) v (sym at_block ∙ at))
 
-    pub unsettled-written : AreUnsettled (with_held t block (written old value)) next d
-    unsettled-written = record {
+    pub unsettled-held_write : AreUnsettled (with_held t block (held_write old value)) next d
+    unsettled-held_write = record {
       waits_once = once_put block (old.ver + 1) w p.waits_once;
       flies_once = p.flies_once;
       newest =
-          put_cases (λ b f. (v : ℕ) → version_at next b ≡ Some v → v ≡ f.ver) block (written old value) t.blocks written_is
+          put_cases (λ b f. (v : ℕ) → version_at next b ≡ Some v → v ≡ f.ver) block (held_write old value) t.blocks written_is
           (λ b other v at. p.newest b v (sym (elsewhere b other) ∙ at));
       unsettled =
-          put_cases (λ b f. (v : ℕ) → version_at next b ≡ Some v → is_dirty f ≡ true) block (written old value) t.blocks
+          put_cases (λ b f. (v : ℕ) → version_at next b ≡ Some v → is_dirty f ≡ true) block (held_write old value) t.blocks
           (λ v at. dirty_now old.settled old.ver below)
           (λ b other v at. p.unsettled b v (sym (elsewhere b other) ∙ at));
       unflown = λ b v u at flies. by_block b v u (same_block block b) refl at flies;
       all =
-          put_cases (λ b f. is_dirty f ≡ true → (is_some (version_at next b) ≡ true) ⊎ (version_at d b ≡ Some f.ver)) block (written old value) t.blocks
+          put_cases (λ b f. is_dirty f ≡ true → (is_some (version_at next b) ≡ true) ⊎ (version_at d b ≡ Some f.ver)) block (held_write old value) t.blocks
           (λ dirty. inl (ap is_some at_block))
           (λ b other dirty. waits_still b other (p.all b dirty));
-      above = put_each (λ b f. (u : ℕ) → version_at d b ≡ Some u → f.settled < u) block (written old value) t.blocks (p.above block) p.above;
+      above = put_each (λ b f. (u : ℕ) → version_at d b ≡ Some u → f.settled < u) block (held_write old value) t.blocks (p.above block) p.above;
       upto =
-          put_each (λ b f. (u : ℕ) → version_at d b ≡ Some u → u ≤ f.ver) block (written old value) t.blocks
+          put_each (λ b f. (u : ℕ) → version_at d b ≡ Some u → u ≤ f.ver) block (held_write old value) t.blocks
           (λ u flies. more u old.ver (p.upto block u flies)) p.upto;
     }
       where

@@ -3,12 +3,12 @@ use Rattle.std.proofs.Common.{◌≡◌, ℕ, ◌+◌, ◌<◌, true, false, not
 use Rattle.std.proofs.lemmas.Bool.Decides.{nat_tests}
 use Rattle.client_log.specs.declared.input.In.TheVariants as log_ins
 use Rattle.client_log.specs.LogState.{LogState}
-use Rattle.client_log.specs.Transition.{can_go_on, has_next, if_full, is_full, on_put, waits}
+use Rattle.client_log.specs.Transition.{can_go_on, has_next, log_go_on, is_full, on_put, waits}
 use Rattle.client_running.specs.Blocks.{changes}
 use Rattle.client_serving.specs.declared.serving.Serving.{Serving}
-use Rattle.client_serving.specs.Flights.{held_at, writes}
-use Rattle.client_serving.specs.Follow.{notes_clean}
-use Rattle.coop_cache.specs.Transition.{left}
+use Rattle.client_serving.specs.Flights.{held_at, serving_write}
+use Rattle.client_serving.specs.Follow.{note_clean}
+use Rattle.coop_cache.specs.Transition.{cache_leave}
 use Rattle.group_map.specs.GroupMapState.{GroupMapState}
 use Rattle.log_flight.specs.declared.dirty.Change.{Change}
 use Rattle.log_owner.specs.declared.opened.Progress.{Progress}
@@ -20,7 +20,7 @@ use Rattle.log_owner.specs.Opening as opening
 use Rattle.node_base.specs.declared.questions.Questions.{Questions}
 use Rattle.node_base.specs.Room.{has_room}
 use Rattle.token_client.specs.declared.held.Held.{Held}
-use Rattle.token_client.specs.Held.{is_dirty, may_write, written}
+use Rattle.token_client.specs.Held.{is_dirty, may_write, held_write}
 use Rattle.token_client.specs.State.{TokensState, held_of, with_held}
 use Rattle.token_client.specs.Transition.{Done, on_evict, on_wrote}
 use Rattle.token_client.proofs.Tables.{held_of-put_itself}
@@ -33,9 +33,9 @@ use Rattle.xfs_base.proofs.Booleans.{by_test, contrary, or_second}
 use Rattle.node_slots.specs.client_law.Unsettled.{WritesJustWhatIsDirty, WritesWhatIsDirty, versions_flown, versions_waiting}
 use Rattle.node_slots.proofs.client_law.Caching.{settled_clean}
 use Rattle.node_slots.proofs.client_law.Happening.{AnyBlock, AnyMap, OpensSo, Reopens, Starts, after_weaker, always}
-use Rattle.node_slots.proofs.client_law.Keeping.{At, IsCopied, Keeps, Sound, notes_gone-keeps}
-use Rattle.node_slots.proofs.client_law.Unsettled.{AreUnsettled, none_unsettled, unsettled-written}
-use Rattle.node_slots.proofs.client_law.UnsettledSteps.{B, NextTo, P, Unsettled, Writes, WroteSo, clean-unsettled, evict-unsettled, if_full-end, if_full-sends, if_full-writes, logs-unsettled, notes_clean-unsettled, room_same, sent-so, takes-unsettled, written-so}
+use Rattle.node_slots.proofs.client_law.Keeping.{At, IsCopied, Keeps, Sound, note_gone-keeps}
+use Rattle.node_slots.proofs.client_law.Unsettled.{AreUnsettled, none_unsettled, unsettled-held_write}
+use Rattle.node_slots.proofs.client_law.UnsettledSteps.{B, NextTo, P, Unsettled, Writes, WroteSo, clean-unsettled, evict-unsettled, log_go_on-end, log_go_on-sends, log_go_on-writes, logs-unsettled, note_clean-unsettled, room_same, sent-so, takes-unsettled, written-so}
 use Rattle.node_slots.proofs.client_law.Versions.{put, version_of, versions_put}
 
 -- ---- a block is written
@@ -63,9 +63,9 @@ module _ (s : Serving) (block : BlockId) (change : Change) where
   unfolding on_put
   put-so versions next room =
       let m : LogState = waits l block change in
-      by_test (WroteSo s) (can_go_on m) (if_full m) (still l)
-      (λ x. sent-so s (if_full m) (if_full-sends m)
-      (record { log = if_full-writes s.tokens m (waits-writes versions next); room = room_same 0 m.end (if_full m).state.end (if_full-end m) room }))
+      by_test (WroteSo s) (can_go_on m) (log_go_on m) (still l)
+      (λ x. sent-so s (log_go_on m) (log_go_on-sends m)
+      (record { log = log_go_on-writes s.tokens m (waits-writes versions next); room = room_same 0 m.end (log_go_on m).state.end (log_go_on-end m) room }))
       (λ x. contrary (sym x ∙ goes_on room))
 
 changes-unsettled : (s : Serving) (block : BlockId) (value : Option (List ℕ)) → Sound s → may_write (held_at s block) ≡ true → At (P 0) s
@@ -73,23 +73,23 @@ changes-unsettled : (s : Serving) (block : BlockId) (value : Option (List ℕ)) 
 unfolding changes on_wrote
 changes-unsettled s block value sound may p =
     let h : Held = held_at s block in
-    let g : Held = written h value in
+    let g : Held = held_write h value in
     let t : TokensState = with_held s.tokens block g in
     by_test (λ (d : Done). At (P 0)
-    (writes (record s { tokens = d.state; cache = left s.cache block })
+    (serving_write (record s { tokens = d.state; cache = cache_leave s.cache block })
     (log_ins.Put block (record { ver = (held_of d.state.blocks block).ver; hop = 0; place = None }) value)).state)
     (may_write h) (still t) (still s.tokens)
     (λ x. wrote_now t g (held_of-put_itself block g s.tokens.blocks)
-    (unsettled-written s.tokens (versions_waiting s.log) (versions_flown s.log.flight) p.log.versions block value (sound.each block).settled_below))
+    (unsettled-held_write s.tokens (versions_waiting s.log) (versions_flown s.log.flight) p.log.versions block value (sound.each block).settled_below))
     (λ x. contrary (sym x ∙ may))
   where
     wrote_now : (t : TokensState) (g : Held) → held_of t.blocks block ≡ g
         → AreUnsettled t (put block g.ver (versions_waiting s.log)) (versions_flown s.log.flight)
         → At (P 0)
-        (writes (record s { tokens = t; cache = left s.cache block })
+        (serving_write (record s { tokens = t; cache = cache_leave s.cache block })
         (log_ins.Put block (record { ver = (held_of t.blocks block).ver; hop = 0; place = None }) value)).state
     wrote_now t g now versions =
-        let w : Serving = record s { tokens = t; cache = left s.cache block } in
+        let w : Serving = record s { tokens = t; cache = cache_leave s.cache block } in
         let entry : Entry = record { ver = (held_of t.blocks block).ver; hop = 0; place = None } in
         written-so w (log_ins.Put block entry value)
         (put-so w block (record { entry = entry; value = value })
@@ -98,9 +98,9 @@ changes-unsettled s block value sound may p =
 -- ---- what arrives
 
 copies-unsettled : (s : Serving) (block : BlockId) (g : Held) → Sound s → IsCopied (held_at s block) g → At (P 1) s
-    → At (P 1) (notes_clean (record s { tokens = with_held s.tokens block g }) block)
+    → At (P 1) (note_clean (record s { tokens = with_held s.tokens block g }) block)
 copies-unsettled s block g sound fact p =
-    notes_clean-unsettled 1 (record s { tokens = with_held s.tokens block g }) block
+    note_clean-unsettled 1 (record s { tokens = with_held s.tokens block g }) block
     (clean-unsettled 1 s.tokens s.log block g ((sound.each block).asks_clean fact.asks) (settled_clean g fact.clean) p)
 
 lessened : (t : TokensState) (l : LogState) → Unsettled 1 t l → Unsettled 0 t l
@@ -126,7 +126,7 @@ keeps-unsettled = record {
   puts = changes-unsettled;
   puts_owned = changes-unsettled;
   lets_owned = λ s block sound p.
-      notes_gone-keeps (P 0) (takes-unsettled 0) (record s { tokens = (on_evict s.tokens block).state }) block (evict-unsettled 0 s.tokens s.log block p);
+      note_gone-keeps (P 0) (takes-unsettled 0) (record s { tokens = (on_evict s.tokens block).state }) block (evict-unsettled 0 s.tokens s.log block p);
 }
 
 -- ---- openings
@@ -139,7 +139,7 @@ IsEmpty l = (l.dirty ≡ []) × (l.flight ≡ None)
 
 -- an opening that ends leaves a log in which nothing waits or flies
 pub record OpensEmptyLogs : Type 0 where
-  pub packet : (o : openings.Opening) (q : Questions) (p : Packet) → WaitsForNothing o.stage → OpensEmpty (opening.on_packet o q p).progress
+  pub packet : (o : openings.Opening) (q : Questions) (p : Packet) → WaitsForNothing o.stage → OpensEmpty (opening.opening_take o q p).progress
   pub tick : (o : openings.Opening) (q : Questions) → WaitsForNothing o.stage → OpensEmpty (opening.on_tick o q).progress
 
 opens_so : (p : Progress) → OpensEmpty p → OpensSo WaitsNot IsEmpty p
@@ -170,7 +170,7 @@ writes_what_is_dirty s p = record {
 pub reopens-empty : OpensEmptyLogs → (M : GroupMapState → Type 0) → Reopens M WaitsNot IsEmpty
 reopens-empty opens M = record {
   first = λ owner servers q. tt;
-  packet = λ o q p brings h. opens_so (opening.on_packet o q p).progress (opens.packet o q p h);
+  packet = λ o q p brings h. opens_so (opening.opening_take o q p).progress (opens.packet o q p h);
   tick = λ o q h. opens_so (opening.on_tick o q).progress (opens.tick o q h);
 }
 

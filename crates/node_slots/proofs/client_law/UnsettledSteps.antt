@@ -9,20 +9,20 @@ use Rattle.client_log.specs.declared.output.Out as log_out
 use Rattle.client_log.specs.declared.output.Out.TheVariants.{Send, Settled}
 use Rattle.client_log.specs.LogState.{LogState}
 use Rattle.client_log.specs.Transition as log
-use Rattle.client_log.specs.Transition.{all_sends, can_follow, followed, has_next, if_full, is_full, is_idle, landed, launched, looked_at, next_attempt, on_acked, on_maps, on_seal, on_tick, restriped, sealed, settled}
+use Rattle.client_log.specs.Transition.{sending_send, can_follow, followed, has_next, log_go_on, is_full, is_idle, landed, log_launch, looked_at, next_attempt, on_acked, on_maps, on_seal, on_tick, restriped, log_seal, settled}
 use Rattle.client_serving.specs.declared.serving.Serving.{Serving}
-use Rattle.client_serving.specs.Flights.{feeds, gives_if_clean, gives_up, held_at, keeps_clean, notes_settled, settled_rows, settles, writes, writes_one}
-use Rattle.client_serving.specs.Follow.{evicts, notes_clean, seals}
+use Rattle.client_serving.specs.Flights.{feeds, give_if_clean, gives_up, held_at, keep_row, notes_settled, settle_rows, serving_settle, serving_write, write_one}
+use Rattle.client_serving.specs.Follow.{evicts, note_clean, serving_seal}
 use Rattle.client_serving.specs.Sends as client
 use Rattle.coop_cache.specs.declared.output.Out as cache_out
 use Rattle.coop_cache.specs.declared.output.Out.TheVariants.{Victim}
-use Rattle.coop_cache.specs.Transition.{cleaned}
+use Rattle.coop_cache.specs.Transition.{cache_clean}
 use Rattle.group_map.specs.GroupMapState.{GroupMapState}
 use Rattle.log_flight.specs.declared.flight.Fate.{Fate}
 use Rattle.log_flight.specs.declared.flight.Fate.TheVariants.{Restripe, Settle, Wait}
 use Rattle.log_flight.specs.Fate.{fate_of}
 use Rattle.log_flight.specs.Flights as flights
-use Rattle.log_flight.specs.Flights.{FlightState, is_of, noting}
+use Rattle.log_flight.specs.Flights.{FlightState, is_of, flight_note}
 use Rattle.log_flight.specs.Items.{items_of}
 use Rattle.log_owner.specs.Sealing.{is_settling}
 use Rattle.segment_format.specs.declared.segment.Item.{Item}
@@ -45,7 +45,7 @@ use Rattle.xfs_base.specs.Steps.{steps, still}
 use Rattle.xfs_base.proofs.Booleans.{and_first, by_test, contrary}
 use Rattle.node_slots.specs.client_law.Unsettled.{versions_flown, versions_waiting}
 use Rattle.node_slots.proofs.client_law.Emptying.{IsSend, all_sent}
-use Rattle.node_slots.proofs.client_law.Keeping.{At, Fact, IsOuter, TakesKeep, seals-keeps, takes_back-keeps}
+use Rattle.node_slots.proofs.client_law.Keeping.{At, Fact, IsOuter, TakesKeep, serving_seal-keeps, take_back-keeps}
 use Rattle.node_slots.proofs.client_law.Unsettled.{AreUnsettled, unsettled-clean, unsettled-put, unsettled-same, unsettled-sealed, unsettled-settled}
 use Rattle.node_slots.proofs.client_law.Versions.{Versions, row_version, told, version_of, versions_written}
 
@@ -71,13 +71,13 @@ sealed_flight l =
     flights.flown (log.next_name l) (log.prior_from l.end) (items_of 0 (take segment_blocks l.dirty)) (flights.group_for l.groups l.log.0 (log.next_name l).seq)
 
 -- what waits first is sealed
-sealed-writes : (t : TokensState) (l : LogState) → l.flight ≡ None → Writes t l → Writes t (sealed l).state
-unfolding sealed launched
-sealed-writes t l idle p =
+log_seal-writes : (t : TokensState) (l : LogState) → l.flight ≡ None → Writes t l → Writes t (log_seal l).state
+unfolding log_seal log_launch
+log_seal-writes t l idle p =
     let before : AreUnsettled t (versions_waiting l) [] = subst (λ o. AreUnsettled t (versions_waiting l) (versions_flown o)) idle p.versions in
     record {
       versions =
-          subst (λ w. AreUnsettled t w (versions_flown (sealed l).state.flight)) (drop-map version_of segment_blocks l.dirty)
+          subst (λ w. AreUnsettled t w (versions_flown (log_seal l).state.flight)) (drop-map version_of segment_blocks l.dirty)
           (subst (λ d. AreUnsettled t (drop segment_blocks (versions_waiting l)) d)
           (take-map version_of segment_blocks l.dirty ∙ sym (versions_written (sealed_flight l).segment 0 (take segment_blocks l.dirty)))
           (unsettled-sealed t (versions_waiting l) segment_blocks before));
@@ -87,45 +87,45 @@ sealed-writes t l idle p =
 on_seal-writes : (t : TokensState) (l : LogState) → Writes t l → Writes t (on_seal l).state
 unfolding on_seal
 on_seal-writes t l p =
-    by_test (λ (d : log.Done). Writes t d.state) (is_idle l && nat_lt 0 (length l.dirty) && has_next l.end.seq) (sealed l) (still l)
-    (λ x. sealed-writes t l (idle_is l.flight (and_first (is_idle l) _ (first (is_idle l) _ _ x))) p) (λ x. p)
+    by_test (λ (d : log.Done). Writes t d.state) (is_idle l && nat_lt 0 (length l.dirty) && has_next l.end.seq) (log_seal l) (still l)
+    (λ x. log_seal-writes t l (idle_is l.flight (and_first (is_idle l) _ (first (is_idle l) _ _ x))) p) (λ x. p)
   where
     first : (a b c : Bool) → ((a && b) && c) ≡ true → (a && b) ≡ true
     first a b c h = and_first (a && b) c h
 
-pub if_full-writes : (t : TokensState) (l : LogState) → Writes t l → Writes t (if_full l).state
-unfolding if_full
-if_full-writes t l p =
-    by_test (λ (d : log.Done). Writes t d.state) (is_full l) (sealed l) (still l) (λ x. sealed-writes t l (idle_is l.flight (and_first (is_idle l) _ x)) p)
+pub log_go_on-writes : (t : TokensState) (l : LogState) → Writes t l → Writes t (log_go_on l).state
+unfolding log_go_on
+log_go_on-writes t l p =
+    by_test (λ (d : log.Done). Writes t d.state) (is_full l) (log_seal l) (still l) (λ x. log_seal-writes t l (idle_is l.flight (and_first (is_idle l) _ x)) p)
     (λ x. p)
 
 -- the end stays
-sealed-end : (l : LogState) → (sealed l).state.end ≡ l.end
-unfolding sealed launched
-sealed-end l = refl
+log_seal-end : (l : LogState) → (log_seal l).state.end ≡ l.end
+unfolding log_seal log_launch
+log_seal-end l = refl
 
 on_seal-end : (l : LogState) → (on_seal l).state.end ≡ l.end
 unfolding on_seal
 on_seal-end l =
-    by_test (λ (d : log.Done). d.state.end ≡ l.end) (is_idle l && nat_lt 0 (length l.dirty) && has_next l.end.seq) (sealed l) (still l) (λ x. sealed-end l)
+    by_test (λ (d : log.Done). d.state.end ≡ l.end) (is_idle l && nat_lt 0 (length l.dirty) && has_next l.end.seq) (log_seal l) (still l) (λ x. log_seal-end l)
     (λ x. refl)
 
-pub if_full-end : (l : LogState) → (if_full l).state.end ≡ l.end
-unfolding if_full
-if_full-end l = by_test (λ (d : log.Done). d.state.end ≡ l.end) (is_full l) (sealed l) (still l) (λ x. sealed-end l) (λ x. refl)
+pub log_go_on-end : (l : LogState) → (log_go_on l).state.end ≡ l.end
+unfolding log_go_on
+log_go_on-end l = by_test (λ (d : log.Done). d.state.end ≡ l.end) (is_full l) (log_seal l) (still l) (λ x. log_seal-end l) (λ x. refl)
 
 -- ---- what is sent
 
-sealed-sends : (l : LogState) → AllByRecursion IsSend (sealed l).outs
-unfolding sealed launched all_sends
-sealed-sends l = all_sent (sealed_flight l) (sealed_flight l).group.members 0
+log_seal-sends : (l : LogState) → AllByRecursion IsSend (log_seal l).outs
+unfolding log_seal log_launch sending_send
+log_seal-sends l = all_sent (sealed_flight l) (sealed_flight l).group.members 0
 
-pub if_full-sends : (l : LogState) → AllByRecursion IsSend (if_full l).outs
-unfolding if_full
-if_full-sends l = by_test (λ (d : log.Done). AllByRecursion IsSend d.outs) (is_full l) (sealed l) (still l) (λ x. sealed-sends l) (λ x. tt)
+pub log_go_on-sends : (l : LogState) → AllByRecursion IsSend (log_go_on l).outs
+unfolding log_go_on
+log_go_on-sends l = by_test (λ (d : log.Done). AllByRecursion IsSend d.outs) (is_full l) (log_seal l) (still l) (λ x. log_seal-sends l) (λ x. tt)
 
-sent-still : (s : Serving) (outs : List log_out.Out) → AllByRecursion IsSend outs → (steps writes_one s outs).state ≡ s
-unfolding writes_one
+sent-still : (s : Serving) (outs : List log_out.Out) → AllByRecursion IsSend outs → (steps write_one s outs).state ≡ s
+unfolding write_one
 sent-still s [] all = refl
 sent-still s (Send fragment member ∷ outs) all = sent-still s outs all.1
 sent-still s (Settled end rows ∷ outs) all = absurd all.0
@@ -196,35 +196,35 @@ module _ (n : ℕ) where
   all_evicted s [] p = p
   all_evicted s (Victim block ∷ outs) p = all_evicted (evicts s (Victim block)) outs (evict-unsettled s.tokens s.log block p)
 
-  pub notes_clean-unsettled : (s : Serving) (block : BlockId) → At (P n) s → At (P n) (notes_clean s block)
-  unfolding notes_clean
-  notes_clean-unsettled s block p = all_evicted (record s { cache = (cleaned s.cache block).state }) (cleaned s.cache block).outs p
+  pub note_clean-unsettled : (s : Serving) (block : BlockId) → At (P n) s → At (P n) (note_clean s block)
+  unfolding note_clean
+  note_clean-unsettled s block p = all_evicted (record s { cache = (cache_clean s.cache block).state }) (cache_clean s.cache block).outs p
 
-  keeps_clean-unsettled : (s : Serving) (row : BlockId × Entry) → At (P n) s → At (P n) (keeps_clean s row)
-  unfolding keeps_clean
-  keeps_clean-unsettled s row p =
-      by_test (At (P n)) (not (is_dirty (held_at s row.0)) && is_held (held_at s row.0).mode) (notes_clean s row.0) s (λ x. notes_clean-unsettled s row.0 p)
+  keep_row-unsettled : (s : Serving) (row : BlockId × Entry) → At (P n) s → At (P n) (keep_row s row)
+  unfolding keep_row
+  keep_row-unsettled s row p =
+      by_test (At (P n)) (not (is_dirty (held_at s row.0)) && is_held (held_at s row.0).mode) (note_clean s row.0) s (λ x. note_clean-unsettled s row.0 p)
       (λ x. p)
 
-  rows_clean : (s : Serving) (rows : List (BlockId × Entry)) → At (P n) s → At (P n) (fold keeps_clean s rows)
+  rows_clean : (s : Serving) (rows : List (BlockId × Entry)) → At (P n) s → At (P n) (fold keep_row s rows)
   rows_clean s [] p = p
-  rows_clean s (row ∷ rows) p = rows_clean (keeps_clean s row) rows (keeps_clean-unsettled s row p)
+  rows_clean s (row ∷ rows) p = rows_clean (keep_row s row) rows (keep_row-unsettled s row p)
 
   -- ---- what is given up
 
   gives_up-unsettled : (s : Serving) (block : BlockId) (g : Option Giving) → At (P n) s → At (P n) (gives_up s block g).state
   gives_up-unsettled s block None p = p
-  gives_up-unsettled s block (Some g) p = takes_back-keeps (P n) takes-unsettled s p block g.stamp g.keep
+  gives_up-unsettled s block (Some g) p = take_back-keeps (P n) takes-unsettled s p block g.stamp g.keep
 
-  gives_if_clean-unsettled : (s : Serving) (block : BlockId) → At (P n) s → At (P n) (gives_if_clean s block).state
-  unfolding gives_if_clean
-  gives_if_clean-unsettled s block p =
+  give_if_clean-unsettled : (s : Serving) (block : BlockId) → At (P n) s → At (P n) (give_if_clean s block).state
+  unfolding give_if_clean
+  give_if_clean-unsettled s block p =
       by_test (λ (d : client.Done). At (P n) d.state) (is_dirty (held_at s block)) (still s) (gives_up s block (held_at s block).giving) (λ x. p)
       (λ x. gives_up-unsettled s block (held_at s block).giving p)
 
-  all_given : (s : Serving) (xs : List BlockId) → At (P n) s → At (P n) (steps gives_if_clean s xs).state
+  all_given : (s : Serving) (xs : List BlockId) → At (P n) s → At (P n) (steps give_if_clean s xs).state
   all_given s [] p = p
-  all_given s (x ∷ xs) p = all_given (gives_if_clean s x).state xs (gives_if_clean-unsettled s x p)
+  all_given s (x ∷ xs) p = all_given (give_if_clean s x).state xs (give_if_clean-unsettled s x p)
 
 -- ---- a segment is settled
 
@@ -247,7 +247,7 @@ record Flies (t : TokensState) (l : LogState) (f : FlightState) : Type 0 where
 
 -- what the log did is done, and so it is then
 abbrev pub WroteSo : Serving → log.Done → Type 0
-WroteSo s d = At (P 0) (steps writes_one (record s { log = d.state }) d.outs).state
+WroteSo s d = At (P 0) (steps write_one (record s { log = d.state }) d.outs).state
 
 module _ (s : Serving) where
   pub sent-so : (d : log.Done) → AllByRecursion IsSend d.outs → Unsettled 0 s.tokens d.state → WroteSo s d
@@ -259,7 +259,7 @@ module _ (s : Serving) where
 
     -- the client, once the log is sealed anew behind it
     abbrev behind : Serving
-    behind = record s { log = (if_full (landed l f)).state }
+    behind = record s { log = (log_go_on (landed l f)).state }
 
     landed-so : At (P 0) (fold notes_settled behind rows)
     landed-so =
@@ -267,23 +267,23 @@ module _ (s : Serving) where
         let here : Writes u.tokens (landed l f) = record { versions = rows_settled behind (versions_waiting l) rows p.versions; next = tt } in
         subst (λ (m : LogState). Unsettled 0 u.tokens m) (sym (log_stays behind rows))
         (record {
-          log = if_full-writes u.tokens (landed l f) here;
-          room = room_same 0 (landed l f).end behind.log.end (if_full-end (landed l f)) (upto f.segment.name.seq l.end.seq p.next p.room);
+          log = log_go_on-writes u.tokens (landed l f) here;
+          room = room_same 0 (landed l f).end behind.log.end (log_go_on-end (landed l f)) (upto f.segment.name.seq l.end.seq p.next p.room);
         })
       where
         upto : (seq end : ℕ) → seq ≡ end + 1 → end + 1 < u32_end → seq + 0 < u32_end
         upto seq end fact room = omega (arith, fact, room)
 
-    settles-so : (end : End) → At (P 0) (settles behind end rows).state
-    unfolding settles
-    settles-so end =
-        all_given 0 (feeds (settled_rows behind rows) end rows) (dirty_in s.tokens.blocks) (rows_clean 0 (fold notes_settled behind rows) rows landed-so)
+    serving_settle-so : (end : End) → At (P 0) (serving_settle behind end rows).state
+    unfolding serving_settle
+    serving_settle-so end =
+        all_given 0 (feeds (settle_rows behind rows) end rows) (dirty_in s.tokens.blocks) (rows_clean 0 (fold notes_settled behind rows) rows landed-so)
 
     settled-so : WroteSo s (settled l f)
-    unfolding settled writes_one
+    unfolding settled write_one
     settled-so =
-        let u : Serving = (settles behind _ rows).state in
-        subst (At (P 0)) (sym (sent-still u (if_full (landed l f)).outs (if_full-sends (landed l f)))) (settles-so _)
+        let u : Serving = (serving_settle behind _ rows).state in
+        subst (At (P 0)) (sym (sent-still u (log_go_on (landed l f)).outs (log_go_on-sends (landed l f)))) (serving_settle-so _)
 
     -- ---- the same content flies anew
 
@@ -300,7 +300,7 @@ module _ (s : Serving) where
     anew = flights.flown (next_attempt f.segment.name) f.segment.prior f.segment.items (flights.group_for l.groups l.log.0 (next_attempt f.segment.name).seq)
 
     restriped-so : WroteSo s (restriped l f)
-    unfolding restriped launched all_sends
+    unfolding restriped log_launch sending_send
     restriped-so =
         sent-so (restriped l f) (all_sent anew anew.group.members 0)
         (record {
@@ -338,14 +338,14 @@ module _ (s : Serving) where
   module _ (p : Unsettled 1 s.tokens s.log) where
     abbrev acked : SegName → ℕ → ℕ → Option FlightState → log.Done
     acked name index generation None = still s.log
-    acked name index generation (Some f) = if is_of f name index generation then looked_at s.log s.log (noting f index) else still s.log
+    acked name index generation (Some f) = if is_of f name index generation then looked_at s.log s.log (flight_note f index) else still s.log
 
     acked-so : (name : SegName) (index generation : ℕ) (o : Option FlightState) → s.log.flight ≡ o → WroteSo s (acked name index generation o)
     acked-so name index generation None fact = lessened p
     acked-so name index generation (Some f) fact =
         let q : Flies s.tokens s.log f = flying f fact p in
-        by_test (WroteSo s) (is_of f name index generation) (looked_at s.log s.log (noting f index)) (still s.log)
-        (λ x. looked-so s.log (noting f index) (record { versions = q.versions; next = q.next; room = q.room }) s.log (lessened p)) (λ x. lessened p)
+        by_test (WroteSo s) (is_of f name index generation) (looked_at s.log s.log (flight_note f index)) (still s.log)
+        (λ x. looked-so s.log (flight_note f index) (record { versions = q.versions; next = q.next; room = q.room }) s.log (lessened p)) (λ x. lessened p)
 
     abbrev mapped : GroupMapState → Option FlightState → log.Done
     mapped groups None = still (record s.log { groups = groups })
@@ -360,10 +360,10 @@ module _ (s : Serving) where
 
     abbrev ticked : Option FlightState → log.Done
     ticked None = still s.log
-    ticked (Some f) = record { state = s.log; outs = all_sends f }
+    ticked (Some f) = record { state = s.log; outs = sending_send f }
 
     ticked-so : (o : Option FlightState) → WroteSo s (ticked o)
-    unfolding all_sends
+    unfolding sending_send
     ticked-so None = lessened p
     ticked-so (Some f) = sent-so (ticked (Some f)) (all_sent f f.group.members 0) (lessened p)
 
@@ -377,13 +377,13 @@ module _ (s : Serving) where
     outer-so M log_ins.Tick outer = ticked-so s.log.flight
 
 -- what the log says is done, and where a block is still to be given up it is sealed again
-pub written-so : (s : Serving) (i : log_in.In) → WroteSo s (log.transition s.log i) → At (P 0) (writes s i).state
-unfolding writes
+pub written-so : (s : Serving) (i : log_in.In) → WroteSo s (log.transition s.log i) → At (P 0) (serving_write s i).state
+unfolding serving_write
 written-so s i p =
     let outs : List log_out.Out = (log.transition s.log i).outs in
-    let u : Serving = (steps writes_one (record s { log = (log.transition s.log i).state }) outs).state in
-    by_test (λ (d : client.Done). At (P 0) d.state) (list_any is_settling outs && is_giving u.tokens) (seals u) (still u)
-    (λ x. seals-keeps (P 0) (takes-unsettled 0) u p) (λ x. p)
+    let u : Serving = (steps write_one (record s { log = (log.transition s.log i).state }) outs).state in
+    by_test (λ (d : client.Done). At (P 0) d.state) (list_any is_settling outs && is_giving u.tokens) (serving_seal u) (still u)
+    (λ x. serving_seal-keeps (P 0) (takes-unsettled 0) u p) (λ x. p)
 
-pub logs-unsettled : (s : Serving) (i : log_in.In) (M : GroupMapState → Type 0) → IsOuter M i → At (P 1) s → At (P 0) (writes s i).state
+pub logs-unsettled : (s : Serving) (i : log_in.In) (M : GroupMapState → Type 0) → IsOuter M i → At (P 1) s → At (P 0) (serving_write s i).state
 logs-unsettled s i M outer p = written-so s i (outer-so s p M i outer)

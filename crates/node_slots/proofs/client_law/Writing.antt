@@ -7,12 +7,12 @@ use Rattle.client_log.specs.declared.output.Out as log_out
 use Rattle.client_log.specs.declared.output.Out.TheVariants.{Send, Settled}
 use Rattle.client_log.specs.Transition as log
 use Rattle.client_serving.specs.declared.serving.Serving.{Serving}
-use Rattle.client_serving.specs.Flights.{seals_again, settles, writes, writes_one}
-use Rattle.client_serving.specs.Follow.{evicts, notes_clean, notes_gone, seals}
+use Rattle.client_serving.specs.Flights.{seals_again, serving_settle, serving_write, write_one}
+use Rattle.client_serving.specs.Follow.{evicts, note_clean, note_gone, serving_seal}
 use Rattle.client_serving.specs.Sends.{Done}
 use Rattle.coop_cache.specs.declared.output.Out as cache_out
 use Rattle.coop_cache.specs.declared.output.Out.TheVariants.{Victim}
-use Rattle.coop_cache.specs.Transition.{cleaned, left}
+use Rattle.coop_cache.specs.Transition.{cache_clean, cache_leave}
 use Rattle.log_owner.specs.Sealing.{is_settling}
 use Rattle.token_client.specs.Settling.{is_giving}
 use Rattle.token_client.specs.State.{TokensState, held_of}
@@ -33,32 +33,32 @@ module _ (R : TokensState → Type 0) where
     all_evicted s [] p = p
     all_evicted s (Victim block ∷ outs) p = all_evicted (evicts s (Victim block)) outs (evict s.tokens block p)
 
-    pub notes_clean-tokens : (s : Serving) (block : BlockId) → R s.tokens → R (notes_clean s block).tokens
-    unfolding notes_clean
-    notes_clean-tokens s block p = all_evicted (record s { cache = (cleaned s.cache block).state }) (cleaned s.cache block).outs p
+    pub note_clean-tokens : (s : Serving) (block : BlockId) → R s.tokens → R (note_clean s block).tokens
+    unfolding note_clean
+    note_clean-tokens s block p = all_evicted (record s { cache = (cache_clean s.cache block).state }) (cache_clean s.cache block).outs p
 
-  pub notes_gone-tokens : (s : Serving) (block : BlockId) → R s.tokens → R (notes_gone s block).tokens
-  unfolding notes_gone
-  notes_gone-tokens s block p =
-      by_test (λ (t : Serving). R t.tokens) (is_nothing (held_of s.tokens.blocks block).mode) (record s { cache = left s.cache block }) s (λ t. p) (λ t. p)
+  pub note_gone-tokens : (s : Serving) (block : BlockId) → R s.tokens → R (note_gone s block).tokens
+  unfolding note_gone
+  note_gone-tokens s block p =
+      by_test (λ (t : Serving). R t.tokens) (is_nothing (held_of s.tokens.blocks block).mode) (record s { cache = cache_leave s.cache block }) s (λ t. p) (λ t. p)
 
   -- ---- the log
 
   seals_again-tokens : (s : Serving) (settling : Bool) → R s.tokens → R (seals_again s settling).state.tokens
-  unfolding seals
+  unfolding serving_seal
   seals_again-tokens s settling p =
-      by_test (λ (d : Done). R d.state.tokens) (settling && is_giving s.tokens) (seals s) (still s) (λ t. p) (λ t. p)
+      by_test (λ (d : Done). R d.state.tokens) (settling && is_giving s.tokens) (serving_seal s) (still s) (λ t. p) (λ t. p)
 
-  module _ (settle : (s : Serving) (end : End) (rows : List (BlockId × Entry)) → R s.tokens → R (settles s end rows).state.tokens) where
-    all_written : (s : Serving) (outs : List log_out.Out) → R s.tokens → R (steps writes_one s outs).state.tokens
-    unfolding writes_one
+  module _ (settle : (s : Serving) (end : End) (rows : List (BlockId × Entry)) → R s.tokens → R (serving_settle s end rows).state.tokens) where
+    all_written : (s : Serving) (outs : List log_out.Out) → R s.tokens → R (steps write_one s outs).state.tokens
+    unfolding write_one
     all_written s [] p = p
     all_written s (Send fragment member ∷ outs) p = all_written s outs p
-    all_written s (Settled end rows ∷ outs) p = all_written (settles s end rows).state outs (settle s end rows p)
+    all_written s (Settled end rows ∷ outs) p = all_written (serving_settle s end rows).state outs (settle s end rows p)
 
-    pub writes-tokens : (s : Serving) (i : log_in.In) → R s.tokens → R (writes s i).state.tokens
-    unfolding writes
-    writes-tokens s i p =
+    pub serving_write-tokens : (s : Serving) (i : log_in.In) → R s.tokens → R (serving_write s i).state.tokens
+    unfolding serving_write
+    serving_write-tokens s i p =
         let t : Serving = record s { log = (log.transition s.log i).state } in
         let outs : List log_out.Out = (log.transition s.log i).outs in
-        seals_again-tokens (steps writes_one t outs).state (list_any is_settling outs) (all_written t outs p)
+        seals_again-tokens (steps write_one t outs).state (list_any is_settling outs) (all_written t outs p)

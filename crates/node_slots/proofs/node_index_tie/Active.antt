@@ -15,7 +15,7 @@ use Rattle.index_tie.specs.Net.Packet.{AnsweredLive, AnsweredDead}
 use Rattle.index_tie.specs.Net.Happens.{GetsDeltas, GetsOther, Answers}
 use Rattle.index_tie.proofs.Slots.{Same}
 use Rattle.manager_slots.specs.Slots.{with_slot as holding}
-use Rattle.manager_slots.specs.Tokens.{said, takes, want_input, gone, on_want, deltas_input, on_deltas, check_input, check_said, on_check, on_usage_ask}
+use Rattle.manager_slots.specs.Tokens.{tokens_say, tokens_take, want_input, gone, on_want, deltas_input, on_deltas, check_input, tokens_answer, on_check, on_usage_ask}
 use Rattle.manager_slots.specs.declared.slot_phase.Active.{Active}
 use Rattle.manager_slots.specs.declared.slot_phase.SlotPhase.{SlotPhase}
 use Rattle.manager_slots.specs.declared.slot_phase.SlotPhase.TheVariants as phase
@@ -39,7 +39,7 @@ use Rattle.headline.specs.Filed.{Texts}
 use Rattle.node_slots.proofs.node_index_tie.Agreeing.{phase_on}
 use Rattle.node_slots.proofs.node_index_tie.Inputs.{tokens_same, deltas_take}
 use Rattle.node_slots.proofs.node_index_tie.Moves.{Brought, AllDone, Sees, some_none, grows_slot, grows_sent, put_here, sees_same, sees_sent, sees_slot}
-use Rattle.node_slots.proofs.node_index_tie.Puts.{paged_put, paged_on, pages-indexed_all}
+use Rattle.node_slots.proofs.node_index_tie.Puts.{paged_put, paged_on, pages-merge_all}
 
 module _ (part : ℕ) (texts : Texts) (asked : Questions) (brought : Brought) (desk : Desk) where
   -- an event of the slot
@@ -50,8 +50,8 @@ module _ (part : ℕ) (texts : Texts) (asked : Questions) (brought : Brought) (d
   event_same n p outs agrees done = sees_same part texts asked brought n p outs (λ m. PhaseAgrees part texts m desk p) done agrees
 
   -- what a slot says of tokens tells nothing of where blocks lie
-  pub said_done : (n : Net) (k epoch : ℕ) (outs : List Out) → AllDone part texts asked n (flat_map (said k epoch) outs)
-  unfolding said
+  pub said_done : (n : Net) (k epoch : ℕ) (outs : List Out) → AllDone part texts asked n (flat_map (tokens_say k epoch) outs)
+  unfolding tokens_say
   said_done n k epoch [] = tt
   said_done n k epoch (out.Grant client block stamp inc req mode entry ∷ os) = (tt, said_done n k epoch os)
   said_done n k epoch (out.Forward client block stamp to inc req ver ∷ os) = (tt, said_done n k epoch os)
@@ -94,11 +94,11 @@ module _ (part : ℕ) (texts : Texts) (asked : Questions) (brought : Brought) (d
 
   -- an input of tokens
   pub slot_takes : (n : Net) (k : ℕ) (p : SlotPhase) (given : Input) → IsOfTokens given → PhaseAgrees part texts n desk p
-      → Event n p (takes p k given).state (takes p k given).outs
-  unfolding takes
+      → Event n p (tokens_take p k given).state (tokens_take p k given).outs
+  unfolding tokens_take
   slot_takes n k (phase.Active a) given of agrees =
       let d = slot.transition a.slot given in
-      steps_to n a d.state (flat_map (said k a.slot.epoch) d.outs) agrees.there (GetsOther a.slot.epoch a.slot given agrees.there of)
+      steps_to n a d.state (flat_map (tokens_say k a.slot.epoch) d.outs) agrees.there (GetsOther a.slot.epoch a.slot given agrees.there of)
       (stands_same n a d.state (tokens_same a.slot given of) agrees)
       (said_done (with_slot n a.slot.epoch d.state) k a.slot.epoch d.outs)
   slot_takes n k (phase.Away epoch) given of agrees = event_same n (phase.Away epoch) [] agrees tt
@@ -139,16 +139,16 @@ module _ (part : ℕ) (texts : Texts) (asked : Questions) (brought : Brought) (d
         nine = ap (λ (x : List ℕ). length x) same.applied ∙ length-set a.slot.applied (of.0 - 1) m.upto ∙ k.nine;
         short = λ l some limit. subst (λ x. applied_of x l < u32_end) (sym same.applied)
             (short_put a.slot.applied (of.0 - 1) m.upto l k.nine within known.short (k.short l some limit));
-        pages = subst (λ p. Paged part texts n desk a.slot.epoch p a.parts) (sym (ap pages_of same.index ∙ pages-indexed_all a.slot.index m.rows))
+        pages = subst (λ p. Paged part texts n desk a.slot.epoch p a.parts) (sym (ap pages_of same.index ∙ pages-merge_all a.slot.index m.rows))
             (paged_put part texts n desk a.slot.epoch (pages_of a.slot.index) a.parts m.rows known.fit k.pages);
       })
 
   abbrev IsEvent : Net → Active → ℕ → slot.Done → Type 0
-  IsEvent n a k d = Event n (phase.Active a) (holding a d.state) (flat_map (said k a.slot.epoch) d.outs)
+  IsEvent n a k d = Event n (phase.Active a) (holding a d.state) (flat_map (tokens_say k a.slot.epoch) d.outs)
 
   active_deltas : (n : Net) (a : Active) (of : LogId) (m : Deltas) → DeltasKnown part n of.0 m → ActiveAgrees part texts n desk a
       → Event n (phase.Active a) (holding a (slot.transition a.slot (deltas_input of m)).state)
-      (flat_map (said m.slot a.slot.epoch) (slot.transition a.slot (deltas_input of m)).outs)
+      (flat_map (tokens_say m.slot a.slot.epoch) (slot.transition a.slot (deltas_input of m)).outs)
   active_deltas n a of m known agrees = by (slot_recalls.is_followed of) refl
     where
       within : (x : ℕ) → slot_recalls.is_followed (record { 0 = x }) ≡ true → x - 1 < block_logs
@@ -159,7 +159,7 @@ module _ (part : ℕ) (texts : Texts) (asked : Questions) (brought : Brought) (d
           let d = slot.transition a.slot (deltas_input of m) in
           let w = within of.0 fact in
           let nine = agrees.nine in
-          steps_to n a d.state (flat_map (said m.slot a.slot.epoch) d.outs) agrees.there
+          steps_to n a d.state (flat_map (tokens_say m.slot a.slot.epoch) d.outs) agrees.there
           (GetsDeltas a.slot.epoch a.slot of m.first m.upto m.rows agrees.there (omega arith) known.tells) (stands_deltas n a of m w known agrees)
           (said_done (with_slot n a.slot.epoch d.state) m.slot a.slot.epoch d.outs)
       by false fact = subst (IsEvent n a m.slot) (sym (ap (λ t. cond t (slot.deltas_of a.slot of m.first m.upto m.rows) (still a.slot)) fact))
@@ -167,7 +167,7 @@ module _ (part : ℕ) (texts : Texts) (asked : Questions) (brought : Brought) (d
 
   pub slot_deltas : (n : Net) (p : SlotPhase) (of : LogId) (m : Deltas) → DeltasKnown part n of.0 m → PhaseAgrees part texts n desk p
       → Event n p (on_deltas p of m).state (on_deltas p of m).outs
-  unfolding takes
+  unfolding tokens_take
   slot_deltas n (phase.Active a) of m known agrees = active_deltas n a of m known agrees
   slot_deltas n (phase.Away epoch) of m known agrees = event_same n (phase.Away epoch) [] agrees tt
   slot_deltas n (phase.Taking t) of m known agrees = event_same n (phase.Taking t) [] agrees tt
@@ -176,15 +176,15 @@ module _ (part : ℕ) (texts : Texts) (asked : Questions) (brought : Brought) (d
   -- ---- checks
 
   active_check : (n : Net) (a : Active) (check : Check) → CheckKnown part asked n check → ActiveAgrees part texts n desk a
-      → Event n (phase.Active a) (phase.Active a) (flat_map (check_said check a.slot.epoch) (slot.transition a.slot (check_input check)).outs)
-  unfolding check_said
+      → Event n (phase.Active a) (phase.Active a) (flat_map (tokens_answer check a.slot.epoch) (slot.transition a.slot (check_input check)).outs)
+  unfolding tokens_answer
   active_check n a check known agrees =
       let e = a.slot.epoch in
       let s = a.slot in
       let happens = Answers e s known.number check.block check.place known.below agrees.there known.sent in
       by_test (λ (o : Out). Happens part (held_in part texts) n (record n
       { sent = answer_packets known.number check.block check.place.seg.name known.below e (o ∷ []) ++ n.sent })
-      → Event n (phase.Active a) (phase.Active a) (flat_map (check_said check e) (o ∷ []))) (slot.is_place (slot.entry_at s check.block).place check.place)
+      → Event n (phase.Active a) (phase.Active a) (flat_map (tokens_answer check e) (o ∷ []))) (slot.is_place (slot.entry_at s check.block).place check.place)
       (out.Live (slot.entry_at s check.block)) out.Dead
       (λ _ it. sees_sent part texts asked brought n (phase.Active a) (phase.Active a) (AnsweredLive check.block (slot.entry_at s check.block) ∷ []) _
       (λ m. PhaseAgrees part texts m desk (phase.Active a)) it (λ d h. h) (λ d h. h) (omega arith) ((λ _. inl refl), tt)
@@ -211,8 +211,8 @@ module _ (part : ℕ) (texts : Texts) (asked : Questions) (brought : Brought) (d
   elsewhere k other same = absurd (other same)
 
   check_done : (n : Net) (check : Check) (epoch : ℕ) (outs : List Out) → (slot_of check.block.ino.0 ≡ part → ⊥)
-      → AllDone part texts asked n (flat_map (check_said check epoch) outs)
-  unfolding check_said
+      → AllDone part texts asked n (flat_map (tokens_answer check epoch) outs)
+  unfolding tokens_answer
   check_done n check epoch [] other = tt
   check_done n check epoch (out.Grant client block stamp inc req mode entry ∷ os) other = ((λ same. absurd (other same)), check_done n check epoch os other)
   check_done n check epoch (out.Forward client block stamp to inc req ver ∷ os) other = ((λ same. absurd (other same)), check_done n check epoch os other)
@@ -228,8 +228,8 @@ module _ (part : ℕ) (texts : Texts) (asked : Questions) (brought : Brought) (d
 
   -- ---- what other slots say
 
-  pub other_takes : (n : Net) (k : ℕ) (p : SlotPhase) (given : Input) → AllDone part texts asked n (takes p k given).outs
-  unfolding takes
+  pub other_takes : (n : Net) (k : ℕ) (p : SlotPhase) (given : Input) → AllDone part texts asked n (tokens_take p k given).outs
+  unfolding tokens_take
   other_takes n k (phase.Active a) given = said_done n k a.slot.epoch (slot.transition a.slot given).outs
   other_takes n k _ given = tt
 

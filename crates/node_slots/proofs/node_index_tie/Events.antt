@@ -7,21 +7,21 @@ use Rattle.xfs_base.specs.Steps.{still}
 use Rattle.xfs_base.specs.Limits.{slot_count}
 use Rattle.index_tie.specs.Net.{Net}
 use Rattle.index_tie.specs.Net.Runs.{Begun}
-use Rattle.manager_node.specs.Events.{takes_welcome, on_welcome, on_waiting, on_packet, on_deliver, on_time, on_event, happens}
-use Rattle.manager_node.specs.Phases.{Went_to, lasting_of, phase_has_room, serves, crashes, restarts, wish_at, down_wish, waiting_wish, serving_wish, with_begun, down_item, waiting_item, serving_item, begin_down, begin_waiting, begin_serving, on_begin}
+use Rattle.manager_node.specs.Events.{takes_welcome, on_welcome, on_waiting, on_packet, manager_deliver, on_time, on_event, happens}
+use Rattle.manager_node.specs.Phases.{Went_to, lasting_of, phase_has_room, serves, crash, restart, wish_at, down_wish, waiting_wish, serving_wish, with_begun, down_item, waiting_item, serving_item, begin_down, begin_waiting, begin_serving, on_begin}
 use Rattle.manager_slots.specs.Lasting.{log_of}
-use Rattle.manager_slots.specs.SlotTable.{Table, unknown_table}
+use Rattle.manager_slots.specs.SlotTable.{Table, slot_table_unknown}
 use Rattle.manager_slots.specs.Slots.{epoch_of}
 use Rattle.manager_serving.specs.Checkpoints.{Done, on_checkpoint}
-use Rattle.manager_serving.specs.Serving.{again, begun as serving_begun, no_end, on_news, hears, on_tick}
-use Rattle.checkpoint.specs.Transition.{started as writer_started}
-use Rattle.client_log.specs.LogState.{started as log_started}
+use Rattle.manager_serving.specs.Serving.{again, serving_begin as serving_begun, no_end, on_news, serving_hear, on_tick}
+use Rattle.checkpoint.specs.Transition.{writer_start as writer_started}
+use Rattle.client_log.specs.LogState.{log_start as log_started}
 use Rattle.manager_node.specs.declared.phase.Phase.{Phase}
 use Rattle.manager_node.specs.declared.phase.Phase.TheVariants.{Down, Waiting, Serving as Serves}
 use Rattle.manager_slots.specs.declared.lasting.Lasting.{Lasting as Kept}
 use Rattle.manager_serving.specs.declared.serving.Serving.{Serving}
 use Rattle.group_map.specs.GroupMapState.{GroupMapState}
-use Rattle.node_base.specs.Beginning.{is_left, next_item, work_at, answers_unanswered, begun}
+use Rattle.node_base.specs.Beginning.{is_left, next_item, work_at, answers_unanswered, items_begin}
 use Rattle.node_base.specs.Maps.{fits, forgotten}
 use Rattle.node_base.specs.Shape.{is_well_formed}
 use Rattle.node_base.specs.declared.effects.Effect.{Effect}
@@ -104,12 +104,12 @@ module _ (part : ℕ) (texts : Texts) (questions : Questions) (exists : part < s
   answers_all None a number b = (tt, tt)
   answers_all (Some x) a number b = (tt, (tt, tt))
 
-  crash_goes : (p : Phase) (what : Do) (kept : Kept) (number : ℕ) → Goes p what (crashes kept number)
-  unfolding crashes
+  crash_goes : (p : Phase) (what : Do) (kept : Kept) (number : ℕ) → Goes p what (crash kept number)
+  unfolding crash
   crash_goes p what kept number = to_quiet p _ what _ tt (answers_all kept.items.unanswered answer.Cut number answer.Done)
 
-  restart_goes : (p : Phase) (what : Do) (kept : Kept) (number : ℕ) → Goes p what (restarts kept number)
-  unfolding restarts
+  restart_goes : (p : Phase) (what : Do) (kept : Kept) (number : ℕ) → Goes p what (restart kept number)
+  unfolding restart
   restart_goes p what kept number = to_quiet p _ what _ tt (tt, (tt, tt))
 
   -- ---- the next item
@@ -125,7 +125,7 @@ module _ (part : ℕ) (texts : Texts) (questions : Questions) (exists : part < s
   waiting_goes p kept hello number (Some _) = to_quiet p (Waiting kept hello) Begin _ tt (tt, tt)
 
   -- what is to do is begun, and what is open stays so
-  same_open : (items : Items) → (begun items).unanswered ≡ items.unanswered
+  same_open : (items : Items) → (items_begin items).unanswered ≡ items.unanswered
   same_open items = by_test (λ (x : Items). x.unanswered ≡ items.unanswered) (is_left items) (record items { begun = items.begun + 1 }) items (λ _. refl)
       (λ _. refl)
 
@@ -223,9 +223,9 @@ module _ (part : ℕ) (texts : Texts) (questions : Questions) (exists : part < s
       (fits (forgotten peers.servers) welcome.news) takes in
       let same_inc : welcome.inc ≡ kept.inc = eqb-true welcome.inc kept.inc (and_first (welcome.inc == kept.inc) (welcome.ask == hello) answered) in
       let s : Serving = again kept (forgotten peers.servers) welcome.news.groups in
-      let none : epoch_of (phase_at unknown_table part) ≡ 0 = ap epoch_of (unknown_at part) in
+      let none : epoch_of (phase_at slot_table_unknown part) ≡ 0 = ap epoch_of (unknown_at part) in
       let h = news_serves part texts questions exists (record { names = λ e. Names part j e what; ends = ⊥ }) j (λ no. no) n s peers.clients welcome.news number
-      (begun_agreed kept (forgotten peers.servers) unknown_table welcome.news.groups refl (subst (PhaseAgrees part texts n _) (sym (unknown_at part)) tt))
+      (begun_agreed kept (forgotten peers.servers) slot_table_unknown welcome.news.groups refl (subst (PhaseAgrees part texts n _) (sym (unknown_at part)) tt))
       filed (λ f there. absurd (some_none f (sym there)))
       (subst (λ k. AllNewsGets part texts questions j n k welcome.news.slots) (sym none) (gets same_inc))
       (λ x there of ours. subst (NamedBy part j x.epoch) (sym fact) (x, there, of, refl, ours)) in
@@ -262,14 +262,14 @@ module _ (part : ℕ) (texts : Texts) (questions : Questions) (exists : part < s
   packet_goes peers (Waiting kept hello) packet number agrees filed gets writes = waiting_gets peers kept hello packet packet.body number filed refl gets
       writes
   packet_goes peers (Serves s) packet number agrees filed gets writes =
-      to_serving s (Deliver packet) (hears s peers.clients packet) writes
+      to_serving s (Deliver packet) (serving_hear s peers.clients packet) writes
       (hears_serves part texts questions exists (brings (Deliver packet)) j n s peers.clients packet number agrees.0 filed agrees.1 gets
       (λ e fact. fact) ((λ x. x), (λ x. x)))
 
   deliver_goes : (peers : Peers) (p : Phase) (packet : Sent) → (lasting_of p).number ≡ j → ManagerAgrees part texts n p → AreTexts texts n.filed
-      → PacketGets part texts questions j n p packet → WritesTexts part texts questions j n (on_deliver peers p packet).state
-      → Goes p (Deliver packet) (on_deliver peers p packet)
-  unfolding on_deliver
+      → PacketGets part texts questions j n p packet → WritesTexts part texts questions j n (manager_deliver peers p packet).state
+      → Goes p (Deliver packet) (manager_deliver peers p packet)
+  unfolding manager_deliver
   deliver_goes peers p packet number agrees filed gets writes =
       by_test (λ (w : Went_to). WritesTexts part texts questions j n w.state → Goes p (Deliver packet) w) (is_well_formed peers packet)
       (on_packet peers p packet) (still p)

@@ -10,7 +10,7 @@ use Rattle.xfs_base.specs.declared.entry.Entry.{Entry}
 use Rattle.xfs_base.proofs.StepLoops.{steps_both}
 use Rattle.segment_format.specs.Rows.{rows_of}
 use Rattle.segment_format.specs.declared.segment.Segment.{Segment}
-use Rattle.delta_feed.specs.FeedState.{FeedState, started}
+use Rattle.delta_feed.specs.FeedState.{FeedState, feed_start}
 use Rattle.delta_feed.specs.History.{greatest, settled_numbers, end_of, filed_by}
 use Rattle.delta_feed.specs.Transition.{settled, transition}
 use Rattle.delta_feed.specs.declared.input.In.{In}
@@ -153,7 +153,7 @@ module _ (part : ℕ) (n : Net) (l : ℕ) (feed : FeedState) (k : FeedSeen part 
       base = k.base;
       inputs = k.inputs ++ Settled (suc head) (rows_of s) ∷ [];
       feed_is = ap (λ x. (transition x (Settled (suc head) (rows_of s))).state) k.feed_is
-          ∙ sym (steps_both transition (started k.base) k.inputs (Settled (suc head) (rows_of s) ∷ []));
+          ∙ sym (steps_both transition (feed_start k.base) k.inputs (Settled (suc head) (rows_of s) ∷ []));
       fed = record {
         known = let a = k.fed.known in let h = new_head in omega arith;
         end = ap (greatest k.base) (numbers_more k.inputs (suc head) (rows_of s)) ∙ greatest_more k.base (settled_numbers k.inputs) (suc head)

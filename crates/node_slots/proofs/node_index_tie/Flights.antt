@@ -17,14 +17,14 @@ use Rattle.segment_format.specs.declared.segment.Segment.{Segment}
 use Rattle.log_flight.specs.declared.flight.Fate.{Fate}
 use Rattle.log_flight.specs.declared.flight.Fate.TheVariants.{Restripe, Settle, Wait}
 use Rattle.log_flight.specs.Fate.{fate_of}
-use Rattle.log_flight.specs.Flights.{FlightState, is_noted, is_of, noting}
+use Rattle.log_flight.specs.Flights.{FlightState, is_noted, is_of, flight_note}
 use Rattle.log_flight.specs.Texts.{has_text}
 use Rattle.client_log.specs.declared.input.In.{In}
 use Rattle.client_log.specs.declared.input.In.TheVariants.{Put, Parts, Seal, Acked, Maps, Tick}
 use Rattle.client_log.specs.declared.output.Out.{Out}
 use Rattle.client_log.specs.declared.output.Out.TheVariants.{Settled}
 use Rattle.client_log.specs.LogState.{LogState}
-use Rattle.client_log.specs.Transition.{Done, send_at, sends, all_sends, launched, writes, has_next, is_idle, is_full, sealed, if_full, on_parts, restriped, end_from, landed, settled, can_follow, followed, looked_at, on_acked, on_maps, on_tick, transition}
+use Rattle.client_log.specs.Transition.{Done, send_at, sends, sending_send, log_launch, log_write, has_next, is_idle, is_full, log_seal, log_go_on, on_parts, restriped, end_of, landed, settled, can_follow, followed, looked_at, on_acked, on_maps, on_tick, transition}
 use Rattle.node_moves.proofs.client_walk.LogTurns.{IsSend}
 use Rattle.node_moves.proofs.LogWalk.{IsHeard}
 use Rattle.node_slots.proofs.node_index_tie.Moves.{some_none}
@@ -34,8 +34,8 @@ sends_send f [] place = tt
 sends_send f (m ∷ ms) place = all_append IsSend (send_at f m place) (sends f ms (place + 1))
     (by_test (AllByRecursion IsSend) (is_noted f.noted place) [] _ (λ _. tt) (λ _. (tt, tt))) (sends_send f ms (place + 1))
 
-all_send : (f : FlightState) → AllByRecursion IsSend (all_sends f)
-unfolding all_sends
+all_send : (f : FlightState) → AllByRecursion IsSend (sending_send f)
+unfolding sending_send
 all_send f = sends_send f f.group.members 0
 
 module _ (s : LogState) where
@@ -60,7 +60,7 @@ module _ (s : LogState) where
     pub dirty : d.state.dirty ≡ s.dirty
     pub flight : d.state.flight ≡ None
     pub rows : List (BlockId × Entry)
-    pub outs : d.outs ≡ Settled (end_from old.segment) rows ∷ []
+    pub outs : d.outs ≡ Settled (end_of old.segment) rows ∷ []
 
   abbrev pub Went : Done → Type 0
   Went d = GoesOn d ⊎ Lands d
@@ -88,7 +88,7 @@ module _ (s : LogState) where
         never false = refl
 
     followed_went : (fate : Fate) → Went (followed t g fate)
-    unfolding restriped launched settled if_full
+    unfolding restriped log_launch settled log_go_on
     followed_went Restripe = inl (record {
       same_log = same_log;
       dirty = dirty;
@@ -101,7 +101,7 @@ module _ (s : LogState) where
       sends = all_send _;
     })
     followed_went Settle =
-        subst (λ b. Went (saying (Settled (end_from g.segment) (rows_of g.segment) ∷ []) (cond b (sealed (landed t g)) (still (landed t g)))))
+        subst (λ b. Went (saying (Settled (end_of g.segment) (rows_of g.segment) ∷ []) (cond b (log_seal (landed t g)) (still (landed t g)))))
         (sym (not_full (landed t g) (dirty ∙ nothing_waits)))
         (inr (record {
           old = f;
@@ -110,7 +110,7 @@ module _ (s : LogState) where
           dirty = dirty;
           flight = refl;
           rows = rows_of g.segment;
-          outs = ap (λ (x : Segment). Settled (end_from x) (rows_of g.segment) ∷ []) segment;
+          outs = ap (λ (x : Segment). Settled (end_of x) (rows_of g.segment) ∷ []) segment;
         }))
     followed_went Wait = inl (record {
       same_log = same_log;
@@ -134,10 +134,10 @@ module _ (s : LogState) where
   acked_went none name index generation = by s.flight refl
     where
       by : (o : Option FlightState) → s.flight ≡ o
-          → Went (elim o [ None ↦ still s | Some f ↦ cond (is_of f name index generation) (looked_at s s (noting f index)) (still s) ])
+          → Went (elim o [ None ↦ still s | Some f ↦ cond (is_of f name index generation) (looked_at s s (flight_note f index)) (still s) ])
       by None fact = stays s refl refl refl [] tt
-      by (Some f) fact = by_test Went (is_of f name index generation) (looked_at s s (noting f index)) (still s)
-          (λ _. looked_went none s refl refl f (noting f index) fact refl) (λ _. stays s refl refl refl [] tt)
+      by (Some f) fact = by_test Went (is_of f name index generation) (looked_at s s (flight_note f index)) (still s)
+          (λ _. looked_went none s refl refl f (flight_note f index) fact refl) (λ _. stays s refl refl refl [] tt)
 
   maps_went : s.dirty ≡ [] → (groups : GroupMapState) → Went (on_maps s groups)
   unfolding on_maps
@@ -152,9 +152,9 @@ module _ (s : LogState) where
   unfolding on_tick
   tick_went = by s.flight
     where
-      by : (o : Option FlightState) → Went (elim o [ None ↦ still s | Some f ↦ record { state = s; outs = all_sends f } ])
+      by : (o : Option FlightState) → Went (elim o [ None ↦ still s | Some f ↦ record { state = s; outs = sending_send f } ])
       by None = stays s refl refl refl [] tt
-      by (Some f) = stays s refl refl refl (all_sends f) (all_send f)
+      by (Some f) = stays s refl refl refl (sending_send f) (all_send f)
 
   -- what is not a write of anything new
   pub log_went : s.dirty ≡ [] → (i : In) → IsHeard i → Went (transition s i)
@@ -172,9 +172,9 @@ module _ (s : LogState) where
     pub of : (f : FlightState) → d.state.flight ≡ Some f → f.segment.name.log ≡ s.log
 
   pub parts_went : s.flight ≡ None → (items : List Item) → Writes items (on_parts s items)
-  unfolding on_parts launched
+  unfolding on_parts log_launch
   parts_went none items =
-      by_test (Writes items) (is_idle s && has_next s.end.seq && has_text items) (writes s items) (still s)
+      by_test (Writes items) (is_idle s && has_next s.end.seq && has_text items) (log_write s items) (still s)
       (λ _. record {
         same_log = refl;
         dirty = refl;

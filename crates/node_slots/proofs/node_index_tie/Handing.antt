@@ -28,8 +28,8 @@ use Rattle.headline.specs.Indexes.{of_log}
 use Rattle.index_tie.proofs.Takeovers.{applied_in, of_log_in, nine}
 use Rattle.log_protocol.specs.Tables.{In}
 use Rattle.manager_slots.specs.Slots.{epoch_of, managed}
-use Rattle.manager_slots.specs.SlotTable.{Hearer, hears_of}
-use Rattle.manager_slots.specs.Takeovers.{Asker, asker, Done, says, says_each, heard, takes, report_input, on_report, phase_of}
+use Rattle.manager_slots.specs.SlotTable.{Hearer, hear_of}
+use Rattle.manager_slots.specs.Takeovers.{Asker, asker, Done, takeovers_say, say_each, outs_of, takeovers_take, report_input, on_report, phase_of}
 use Rattle.manager_slots.specs.declared.slot_phase.SlotPhase.{SlotPhase}
 use Rattle.manager_slots.specs.declared.slot_phase.SlotPhase.TheVariants as phase
 use Rattle.manager_slots.specs.declared.slot_phase.Taking.{Taking}
@@ -37,12 +37,12 @@ use Rattle.node_base.specs.declared.questions.Questions.{Questions as Numbers}
 use Rattle.node_slots.specs.node_tie.ManagerEvents.{HeldAt, ManagedAt}
 use Rattle.node_slots.proofs.node_tie.ManagerTakes.{Hands, Brings, took, all_heard}
 use Rattle.segment_format.specs.declared.segment.Segment.{Segment}
-use Rattle.slot_beliefs.specs.Index.{nothing_indexed, pages_of, indexed_all}
+use Rattle.slot_beliefs.specs.Index.{block_index_new, pages_of, merge_all}
 use Rattle.slot_beliefs.specs.Recalls.{applied_of as applied_in_slot}
 use Rattle.takeover.specs.Course.{Course, course_of, after_input, IsTakenOver}
 use Rattle.takeover.specs.ReadBack.{told_by_all}
 use Rattle.takeover.specs.Reports.{applied_of, applied_at, beliefs_of, is_heard, end_of, end_from, no_end, polled, client_after, awaited_of, horizon_at}
-use Rattle.takeover.specs.TakeState.{TakeState, started}
+use Rattle.takeover.specs.TakeState.{TakeState, take_start}
 use Rattle.takeover.specs.Transition.{active, transition}
 use Rattle.takeover.specs.declared.input.In.{In as Input}
 use Rattle.takeover.specs.declared.input.In.TheVariants as input
@@ -50,7 +50,7 @@ use Rattle.takeover.specs.declared.output.Out.TheVariants as out
 use Rattle.takeover.specs.declared.report.Report.{Report as Heard}
 use Rattle.takeover.proofs.Standing.{taken_over}
 use Rattle.token_manager.specs.SlotState.{SlotState}
-use Rattle.token_manager.specs.Transition.{started as slot_started}
+use Rattle.token_manager.specs.Transition.{slot_start as slot_started}
 use Rattle.token_protocol.specs.Basics.{In as Among}
 use Rattle.wire_msg.specs.declared.deltas.Report.{Report}
 use Rattle.node_slots.specs.node_index_tie.ManagerEvents.{TakingAgrees, PhaseAgrees, completes}
@@ -122,7 +122,7 @@ module _ (part : ℕ) (texts : Texts) (n : Net) where
       → TakingAgrees part texts n epoch (transition take given).state
   taken_on epoch take given k owes =
       let c = course_of k.news k.groups k.clients k.inputs in
-      let one = after_one (record { state = started k.news k.groups k.clients; read = record { whole = []; present = [] } }) k.inputs given in
+      let one = after_one (record { state = take_start k.news k.groups k.clients; read = record { whole = []; present = [] } }) k.inputs given in
       let h = took take given k.ready k.once in
       let read : AllRead part texts (after_input c given).read = read_on part texts c.state c.read given (record { whole = k.whole; present = k.present })
       (λ s fact. owes.reads s (ap (λ x. completes x given) k.take_is ∙ fact)) in
@@ -261,7 +261,7 @@ module _ (part : ℕ) (texts : Texts) (asked : Questions) (brought : Brought) (d
             there = put_here n.slots epoch (Some slot);
             nine = nine later.news.horizon later.reports;
             short = slot_short;
-            pages = paged_on part texts n (with_slot n epoch slot) (grows_slot n epoch slot) desk epoch (pages_of (indexed_all nothing_indexed hands.index))
+            pages = paged_on part texts n (with_slot n epoch slot) (grows_slot n epoch slot) desk epoch (pages_of (merge_all block_index_new hands.index))
                 []
                 (paged_first part texts n desk epoch hands.index fits (λ w there of at. busy w there of (ap n.slots at ∙ none)));
           })
@@ -283,14 +283,14 @@ module _ (part : ℕ) (texts : Texts) (asked : Questions) (brought : Brought) (d
       (owes : Owes part texts n t.epoch t.take given) (filed : AreTexts texts n.filed)
       (hands : Hands (transition t.take given).state (transition t.take given).outs) (may : brought.ends) (busy : Busy n)
       → AskEvent n (phase.Taking t)
-      (says_each k (asker (phase.Taking (record t { take = (transition t.take given).state })) q) (active (transition t.take given).state hands.index ∷ []))
-  unfolding says_each says
+      (say_each k (asker (phase.Taking (record t { take = (transition t.take given).state })) q) (active (transition t.take given).state hands.index ∷ []))
+  unfolding say_each takeovers_say
   is_handed n k t q given agrees owes filed hands may busy = handed n t given agrees owes filed hands may busy
 
   pub slot_hears : brought.ends → (n : Net) (k : ℕ) (p : SlotPhase) (q : Numbers) (given : Input) → PhaseAgrees part texts n desk p → Busy n
       → AreTexts texts n.filed
-      → OwesAt part texts n p given → AskEvent n p (takes (asker p q) k given)
-  unfolding takes heard says_each
+      → OwesAt part texts n p given → AskEvent n p (takeovers_take (asker p q) k given)
+  unfolding takeovers_take outs_of say_each
   slot_hears may n k (phase.Away epoch) q given agrees busy filed owes = event_staying n (phase.Away epoch) _
       (stays_each part texts asked desk n k (asker (phase.Away epoch) q) [] tt agrees) (λ _ e h. h)
       (takes_done part texts asked n k (asker (phase.Away epoch) q) given)
@@ -303,24 +303,24 @@ module _ (part : ℕ) (texts : Texts) (asked : Questions) (brought : Brought) (d
   slot_hears may n k (phase.Taking t) q given agrees busy filed owes =
       let u : Taking = record t { take = (transition t.take given).state } in
       ⊎_elim
-      (λ plain. event_staying n (phase.Taking t) (says_each k (asker (phase.Taking u) q) (transition t.take given).outs)
+      (λ plain. event_staying n (phase.Taking t) (say_each k (asker (phase.Taking u) q) (transition t.take given).outs)
       (let s = stays_each part texts asked desk n k (asker (phase.Taking u) q) (transition t.take given).outs plain
       (taken_on part texts n t.epoch t.take given agrees owes) in record { agrees = s.agrees; held = s.held; epoch = s.epoch }) (λ _ e h. absurd h)
       (takes_done part texts asked n k (asker (phase.Taking t) q) given))
-      (λ hands. subst (λ os. AskEvent n (phase.Taking t) (says_each k (asker (phase.Taking u) q) os)) (sym hands.says_active)
+      (λ hands. subst (λ os. AskEvent n (phase.Taking t) (say_each k (asker (phase.Taking u) q) os)) (sym hands.says_active)
       (is_handed n k t q given agrees owes filed hands may busy))
       (took t.take given agrees.ready agrees.once).said
 
   -- newer groups end no takeover
   pub slot_regroups : (n : Net) (k : ℕ) (p : SlotPhase) (q : Numbers) (groups : GroupMapState) → PhaseAgrees part texts n desk p
-      → OwesAt part texts n p (input.Maps groups) → AskEvent n p (takes (asker p q) k (input.Maps groups))
-  unfolding takes heard says_each
+      → OwesAt part texts n p (input.Maps groups) → AskEvent n p (takeovers_take (asker p q) k (input.Maps groups))
+  unfolding takeovers_take outs_of say_each
   slot_regroups n k (phase.Taking t) q groups agrees owes =
       let given = input.Maps groups in
       let u : Taking = record t { take = (transition t.take given).state } in
       let s = stays_each part texts asked desk n k (asker (phase.Taking u) q) (transition t.take given).outs (maps_plain t.take groups)
       (taken_on part texts n t.epoch t.take given agrees owes) in
-      event_staying n (phase.Taking t) (says_each k (asker (phase.Taking u) q) (transition t.take given).outs)
+      event_staying n (phase.Taking t) (say_each k (asker (phase.Taking u) q) (transition t.take given).outs)
       (record { agrees = s.agrees; held = s.held; epoch = s.epoch }) (λ _ e h. absurd h)
       (takes_done part texts asked n k (asker (phase.Taking t) q) given)
   slot_regroups n k (phase.Away epoch) q groups agrees owes = event_staying n (phase.Away epoch) _
@@ -339,7 +339,7 @@ module _ (part : ℕ) (texts : Texts) (asked : Questions) (brought : Brought) (d
       → AreTexts texts n.filed → ReportKnown part n report.epoch from report.end
       → AskEvent n p (on_report (asker p q) from report)
   slot_reports may n p q from report agrees busy filed known =
-      by_test (AskEvent n p) (report.epoch == epoch_of p) (takes (asker p q) report.slot (report_input from report)) (still (asker p q))
+      by_test (AskEvent n p) (report.epoch == epoch_of p) (takeovers_take (asker p q) report.slot (report_input from report)) (still (asker p q))
       (λ same. slot_hears may n report.slot p q (report_input from report) agrees busy filed (owes p (eqb-true report.epoch (epoch_of p) same)))
       (λ _. event_same part texts asked brought desk n p [] agrees tt)
     where
@@ -374,7 +374,7 @@ module _ (part : ℕ) (texts : Texts) (asked : Questions) (brought : Brought) (d
       → Begins n news (phase_of number news groups clients)
   begins j n number news groups clients is_j of known named_ =
       by_test (Begins n news) (news.manager == number) (phase.Taking
-      (record { epoch = news.epoch; take = started news groups clients; fetches = record { own = 0; ask = 0 } })) (phase.Away news.epoch)
+      (record { epoch = news.epoch; take = take_start news groups clients; fetches = record { own = 0; ask = 0 } })) (phase.Away news.epoch)
       (λ same. let ours : news.manager ≡ j = eqb-true news.manager number same ∙ is_j in record {
         agrees = record {
           news = news;
@@ -402,12 +402,12 @@ module _ (part : ℕ) (texts : Texts) (asked : Questions) (brought : Brought) (d
   pub slot_hears_of : (j : ℕ) (n : Net) (h : Hearer) (news : SlotNews) (one : Asker) → h.ears.number ≡ j → news.slot ≡ part
       → PhaseAgrees part texts n desk one.phase
       → (news.manager ≡ j → epoch_of one.phase < news.epoch → NewsKnown part n news) → (news.manager ≡ j → brought.names news.epoch)
-      → Rose n one.phase (hears_of h news one).state.phase
-  unfolding hears_of
+      → Rose n one.phase (hear_of h news one).state.phase
+  unfolding hear_of
   slot_hears_of j n h news one is_j of agrees known named_ =
       let begun = phase_of h.ears.number news h.groups h.ears.clients in
       by_test (λ (d : Done). Rose n one.phase d.state.phase) (nat_lt (epoch_of one.phase) news.epoch)
-      (takes (record one { phase = begun }) news.slot input.Tick) (still one)
+      (takeovers_take (record one { phase = begun }) news.slot input.Tick) (still one)
       (λ less.
       let later : epoch_of one.phase < news.epoch = ltb-true (epoch_of one.phase) news.epoch less in
       let b = begins j n h.ears.number news h.groups h.ears.clients is_j of (λ ours. known ours later) named_ in

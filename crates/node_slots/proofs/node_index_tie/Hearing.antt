@@ -20,8 +20,8 @@ use Rattle.manager_serving.specs.Checkpoints.{Done}
 use Rattle.manager_serving.specs.Serving as serving
 use Rattle.manager_serving.specs.Serving.{and_then, asker_of, with_slots, with_asker}
 use Rattle.manager_serving.specs.declared.serving.Serving.{Serving}
-use Rattle.node_base.specs.Known.{names_known}
-use Rattle.node_base.specs.Maps.{fits, is_older, taken}
+use Rattle.node_base.specs.Known.{names_known_groups}
+use Rattle.node_base.specs.Maps.{fits, is_older, maps_take}
 use Rattle.node_slots.specs.node_tie.ManagerEvents.{NamedBy}
 use Rattle.headline.specs.Managers.{phase_at}
 use Rattle.takeover.specs.declared.input.In.{In as TakeoverIn}
@@ -166,13 +166,13 @@ module _ (part : ℕ) (texts : Texts) (questions : Questions) (exists : part < s
     serves_answer : brought.ends → (j : ℕ) (n : Net) (s : Serving) (ask : ℕ) (given : ℕ → TakeoverIn) → ServingAgrees part texts n s → AreTexts texts n.filed
         → ((own : ℕ) (r : Heard) → Brings (given own) r → ⊥) → AnswerGets part texts questions j n (phase_at s.slots part) ask given
         → Of part texts questions exists brought n s (serving.answered_by s (serving.fetch_of s ask) given)
-    unfolding serving.takes
+    unfolding serving.serving_take
     serves_answer ends j n s ask given agrees filed none gets = by (serving.fetch_of s ask) refl
       where
         by : (o : Option (ℕ × ℕ)) → serving.fetch_of s ask ≡ o → Of part texts questions exists brought n s (serving.answered_by s o given)
         by None fact = still_of part texts questions exists brought n s agrees
         by (Some which) fact =
-            by_asker n s agrees (table.takes (asker_of s) which.0 (given which.1))
+            by_asker n s agrees (table.slot_table_take (asker_of s) which.0 (given which.1))
             (table_takes part texts questions exists brought (desk_of s agrees.given) ends n (asker_of s) which.0 (given which.1) (table_of n s agrees filed)
             (λ same. owes_answer j n (phase_at s.slots part) ask which.1 given none gets
             (subst (λ k. fetch_in (phase_at s.slots k) ask ≡ Some which.1) same (fetch_is s.slots ask table.all_slots which fact))))
@@ -203,17 +203,17 @@ module _ (part : ℕ) (texts : Texts) (questions : Questions) (exists : part < s
     recalls : (n : Net) (s : Serving) → ServingAgrees part texts n s → AreTexts texts n.filed
         → Of part texts questions exists brought n s (serving.recalls_again s)
     unfolding serving.recalls_again
-    recalls n s agrees filed = by_table n s agrees (table.recalls_all s.slots)
+    recalls n s agrees filed = by_table n s agrees (table.recall_again s.slots)
         (table_recalls_all part texts questions exists brought (desk_of s agrees.given) n s.slots (table_of n s agrees filed))
 
     asks : (n : Net) (s : Serving) (polls : Bool) → ServingAgrees part texts n s → AreTexts texts n.filed
-        → Of part texts questions exists brought n s (serving.asks_again s polls)
-    unfolding serving.asks_again
-    asks n s polls agrees filed = by_asker n s agrees (table.asks_all polls (asker_of s))
+        → Of part texts questions exists brought n s (serving.serving_ask_again s polls)
+    unfolding serving.serving_ask_again
+    asks n s polls agrees filed = by_asker n s agrees (table.slot_table_ask_again polls (asker_of s))
         (table_asks_all part texts questions exists brought (desk_of s agrees.given) n polls (asker_of s) (table_of n s agrees filed))
 
-    same_log : (s : Serving) → (serving.asks_again (serving.asks_again (serving.recalls_again s).state true).state false).state.log ≡ s.log
-    unfolding serving.recalls_again serving.asks_again
+    same_log : (s : Serving) → (serving.serving_ask_again (serving.serving_ask_again (serving.recalls_again s).state true).state false).state.log ≡ s.log
+    unfolding serving.recalls_again serving.serving_ask_again
     same_log s = refl
 
     pub tick_serves : (n : Net) (s : Serving) → ServingAgrees part texts n s → AreTexts texts n.filed → FlightIsText texts s.log
@@ -221,13 +221,13 @@ module _ (part : ℕ) (texts : Texts) (questions : Questions) (exists : part < s
     unfolding serving.on_tick
     tick_serves n s agrees filed text =
         let a = serving.recalls_again s in
-        let b = and_then a (λ t. serving.asks_again t true) in
-        let c = and_then b (λ t. serving.asks_again t false) in
-        let e = and_then c (λ t. node.writes t log_input.Tick) in
-        serves_then part texts questions exists brought n s e (node.tells_again e.state)
-        (serves_then part texts questions exists brought n s c (node.writes c.state log_input.Tick)
-        (serves_then part texts questions exists brought n s b (serving.asks_again b.state false)
-        (serves_then part texts questions exists brought n s a (serving.asks_again a.state true) (recalls n s agrees filed)
+        let b = and_then a (λ t. serving.serving_ask_again t true) in
+        let c = and_then b (λ t. serving.serving_ask_again t false) in
+        let e = and_then c (λ t. node.serving_write t log_input.Tick) in
+        serves_then part texts questions exists brought n s e (node.serving_tell_again e.state)
+        (serves_then part texts questions exists brought n s c (node.serving_write c.state log_input.Tick)
+        (serves_then part texts questions exists brought n s b (serving.serving_ask_again b.state false)
+        (serves_then part texts questions exists brought n s a (serving.serving_ask_again a.state true) (recalls n s agrees filed)
         (λ m g k. asks m a.state true k (filed_on n m g filed)))
         (λ m g k. asks m b.state false k (filed_on n m g filed)))
         (λ m g k. writes_serves part texts questions exists brought m c.state log_input.Tick tt k (subst (FlightIsText texts) (sym (same_log s)) text)))
@@ -247,14 +247,14 @@ module _ (part : ℕ) (texts : Texts) (questions : Questions) (exists : part < s
     rose : Calm → (n : Net) (s : Serving) (clients known : ℕ) (slots : List SlotNews) → s.lasting.number ≡ j → ServingAgrees part texts n s
         → AreTexts texts n.filed
         → AllNewsGets part texts questions j n known slots
-        → known ≤ epoch_of (phase_at s.slots part) → AreNamed slots → Of part texts questions exists brought n s (serving.hears_slots s clients slots)
-    unfolding serving.hears_slots
+        → known ≤ epoch_of (phase_at s.slots part) → AreNamed slots → Of part texts questions exists brought n s (serving.hear_slots s clients slots)
+    unfolding serving.hear_slots
     rose calm n s clients known slots number agrees filed gets low names = by s.maps.groups
       where
         by : (o : Option GroupMapState) → Of part texts questions exists brought n s (serving.hears_with s clients slots o)
         by None = still_of part texts questions exists brought n s agrees
         by (Some groups) =
-            let d = table.hears_all (serving.hearer_of s clients groups) (asker_of s) slots in
+            let d = table.hear_each (serving.hearer_of s clients groups) (asker_of s) slots in
             let h = table_hears_all part texts questions exists brought (desk_of s agrees.given) j n (serving.hearer_of s clients groups) (asker_of s) slots
             number (table_of brought n s agrees filed)
             (λ news there of ours above. gets news there of ours (omega arith)) names in
@@ -283,7 +283,7 @@ module _ (part : ℕ) (texts : Texts) (questions : Questions) (exists : part < s
     told_groups n s groups slots agrees filed gets =
         let d = serving.regroups s groups in
         let p = phase_at s.slots part in
-        let h = by_asker (nothing brought.ends) n s agrees (table.regroups_all groups (asker_of s))
+        let h = by_asker (nothing brought.ends) n s agrees (table.slot_table_regroup groups (asker_of s))
         (table_regroups part texts questions exists (nothing brought.ends) (desk_of s agrees.given) n groups (asker_of s)
         (table_of (nothing brought.ends) n s agrees filed)) in
         sees_named part texts questions brought n p (phase_at d.state.slots part) d.outs (λ m. Owed m d.state (epoch_of p) slots)
@@ -300,8 +300,8 @@ module _ (part : ℕ) (texts : Texts) (questions : Questions) (exists : part < s
     same_number s groups = refl
 
     log_stays : (s : Serving) (groups : GroupMapState) (clients : ℕ) (slots : List SlotNews)
-        → (serving.hears_slots (serving.regroups s groups).state clients slots).state.log ≡ s.log
-    unfolding serving.regroups serving.hears_slots
+        → (serving.hear_slots (serving.regroups s groups).state clients slots).state.log ≡ s.log
+    unfolding serving.regroups serving.hear_slots
     log_stays s groups clients slots = by s.maps.groups
       where
         by : (o : Option GroupMapState) → (serving.hears_with (serving.regroups s groups).state clients slots o).state.log ≡ s.log
@@ -314,9 +314,9 @@ module _ (part : ℕ) (texts : Texts) (questions : Questions) (exists : part < s
     unfolding serving.on_newer
     newer_serves calm n s clients news number agrees filed text gets names =
         let a = serving.regroups s news.groups in
-        let b = serving.hears_slots a.state clients news.slots in
+        let b = serving.hear_slots a.state clients news.slots in
         let c = saying a.outs b in
-        serves_then part texts questions exists brought n s c (node.writes b.state (log_input.Maps news.groups))
+        serves_then part texts questions exists brought n s c (node.serving_write b.state (log_input.Maps news.groups))
         (sees_then part texts questions brought n (phase_at s.slots part) (phase_at a.state.slots part) (phase_at b.state.slots part) a.outs b.outs
         (λ m. Owed m a.state (epoch_of (phase_at s.slots part)) news.slots) (λ m. ServingAgrees part texts m b.state)
         (told_groups n s news.groups news.slots agrees filed gets)
@@ -330,9 +330,9 @@ module _ (part : ℕ) (texts : Texts) (questions : Questions) (exists : part < s
         → AreNamed news.slots → Of part texts questions exists brought n s (serving.on_news s clients news)
     unfolding serving.on_news
     news_serves calm n s clients news number agrees filed text gets names =
-        let newer : Serving = record s { maps = taken s.maps news } in
+        let newer : Serving = record s { maps = maps_take s.maps news } in
         by_test (Of part texts questions exists brought n s) (is_older s.maps news) (serving.on_newer newer clients news)
-        (serving.hears_slots s clients news.slots)
+        (serving.hear_slots s clients news.slots)
         (λ _. newer_serves calm n newer clients news number
         (record { eight = agrees.eight; given = agrees.given; here = agrees.here; writer = agrees.writer; closed = agrees.closed; done = agrees.done })
         filed text gets names)
@@ -380,12 +380,12 @@ module _ (part : ℕ) (texts : Texts) (questions : Questions) (exists : part < s
         → FlightIsText texts s.log
         → ServingGets part texts questions j n s.lasting.inc (epoch_of (phase_at s.slots part)) (phase_at s.slots part) packet.from packet.body
         → ((e : ℕ) → NamedBy part j e packet.body → brought.names e) → brought.ends ↔ MayEnd packet.body
-        → Of part texts questions exists brought n s (serving.hears s clients packet)
-    unfolding serving.hears serving.asks_for_maps
+        → Of part texts questions exists brought n s (serving.serving_hear s clients packet)
+    unfolding serving.serving_hear serving.ask_for_maps
     hears_serves n s clients packet number agrees filed text gets names ends =
-        by_test (Of part texts questions exists brought n s) (names_known s.maps packet.body) (serving.on_body s clients packet.from packet.body)
-        (serving.asks_for_maps s)
+        by_test (Of part texts questions exists brought n s) (names_known_groups s.maps packet.body) (serving.on_body s clients packet.from packet.body)
+        (serving.ask_for_maps s)
         (λ _. body_serves n s clients packet.from packet.body number agrees filed text gets names ends)
-        (λ _. sees_quiet part texts questions brought n (phase_at s.slots part) (phase_at s.slots part) (serving.asks_for_maps s).outs
-        (λ m. ServingAgrees part texts m (serving.asks_for_maps s).state) (λ e h. inl h) (λ _ e h. h) (omega arith) (tt, tt)
+        (λ _. sees_quiet part texts questions brought n (phase_at s.slots part) (phase_at s.slots part) (serving.ask_for_maps s).outs
+        (λ m. ServingAgrees part texts m (serving.ask_for_maps s).state) (λ e h. inl h) (λ _ e h. h) (omega arith) (tt, tt)
         (record { eight = agrees.eight; given = agrees.given; here = agrees.here; writer = agrees.writer; closed = agrees.closed; done = agrees.done }))

@@ -11,9 +11,9 @@ use Rattle.xfs_base.specs.declared.entry.Entry.{Entry}
 use Rattle.xfs_base.proofs.StepLoops.{steps_both}
 use Rattle.xfs_base.proofs.Alls.{all_append}
 use Rattle.xfs_base.specs.Limits.{slot_count, block_logs}
-use Rattle.delta_feed.specs.FeedState.{FeedState, started, acked_of}
+use Rattle.delta_feed.specs.FeedState.{FeedState, feed_start, acked_of}
 use Rattle.delta_feed.specs.History.{filed_by, settled_numbers, greatest}
-use Rattle.delta_feed.specs.Transition.{slot_rows, rows_after, pushed, transition}
+use Rattle.delta_feed.specs.Transition.{slot_rows, rows_after, feed_push, transition}
 use Rattle.delta_feed.specs.declared.feed.FiledDeltas.{FiledDeltas}
 use Rattle.delta_feed.specs.declared.input.In.{In}
 use Rattle.delta_feed.specs.declared.input.In.TheVariants.{Settled, Ack, NewEpoch, Push, Tick}
@@ -24,7 +24,7 @@ use Rattle.index_tie.specs.Feeds.{fed_at}
 use Rattle.headline.specs.Filed.{Filed, rows_at}
 use Rattle.index_tie.specs.Net.{Net}
 use Rattle.index_tie.proofs.Feeds.{ranges_tell}
-use Rattle.log_owner.specs.Sending.{range, pushes, pushes_all}
+use Rattle.log_owner.specs.Sending.{range, sending_push, push_all}
 use Rattle.log_owner.specs.declared.promised.Managers.{Managers}
 use Rattle.node_slots.specs.node_index_tie.OwnerEvents.{FeedSeen, OwnerDoes, OwnersTell, FeedsStay}
 use Rattle.node_slots.specs.node_index_tie.Sight.{RowsFit, DeltasKnown}
@@ -77,8 +77,8 @@ module _ (part : ℕ) (n : Net) (l : ℕ) (some : 0 < l) (limit : l ≤ block_lo
     short = let e = ends in let s = k.short in omega arith;
   }
 
-  told : (slot : ℕ) → AllByRecursion (OwnerDoes part n l) (pushes managers feed slot)
-  unfolding pushed
+  told : (slot : ℕ) → AllByRecursion (OwnerDoes part n l) (sending_push managers feed slot)
+  unfolding feed_push
   told slot = by (nat_lt slot slot_count && nat_lt (acked_of feed slot) feed.end) refl
     where
       by : (t : Bool) → (nat_lt slot slot_count && nat_lt (acked_of feed slot) feed.end) ≡ t
@@ -96,15 +96,15 @@ module _ (part : ℕ) (n : Net) (l : ℕ) (some : 0 < l) (limit : l ≤ block_lo
   map_both [] ys = refl
   map_both (x ∷ xs) ys = ap (λ r. range managers x ∷ r) (map_both xs ys)
 
-  told_each : (slots : List ℕ) → AllByRecursion (OwnerDoes part n l) (map (range managers) (flat_map (pushed feed) slots))
+  told_each : (slots : List ℕ) → AllByRecursion (OwnerDoes part n l) (map (range managers) (flat_map (feed_push feed) slots))
   told_each [] = tt
-  told_each (slot ∷ slots) = subst (AllByRecursion (OwnerDoes part n l)) (sym (map_both (pushed feed slot) (flat_map (pushed feed) slots)))
-      (all_append (OwnerDoes part n l) (pushes managers feed slot) (map (range managers) (flat_map (pushed feed) slots)) (told slot) (told_each slots))
+  told_each (slot ∷ slots) = subst (AllByRecursion (OwnerDoes part n l)) (sym (map_both (feed_push feed slot) (flat_map (feed_push feed) slots)))
+      (all_append (OwnerDoes part n l) (sending_push managers feed slot) (map (range managers) (flat_map (feed_push feed) slots)) (told slot) (told_each slots))
 
 pub owners_tell : OwnersTell
 owners_tell part n l feed managers some limit k = record {
-  one = λ slot. All-from_recursion (OwnerDoes part n l) (pushes managers feed slot) (told part n l some limit feed k managers slot);
-  each = All-from_recursion (OwnerDoes part n l) (pushes_all managers feed) (told_each part n l some limit feed k managers (range_with_len 0 slot_count));
+  one = λ slot. All-from_recursion (OwnerDoes part n l) (sending_push managers feed slot) (told part n l some limit feed k managers slot);
+  each = All-from_recursion (OwnerDoes part n l) (push_all managers feed) (told_each part n l some limit feed k managers (range_with_len 0 slot_count));
 }
 
 -- ---- acknowledgements and new epochs
@@ -151,7 +151,7 @@ quiet_seen : (part : ℕ) (n : Net) (l : ℕ) (feed : FeedState) (i : In) → Is
 quiet_seen part n l feed i q k = record {
   base = k.base;
   inputs = k.inputs ++ i ∷ [];
-  feed_is = ap (λ s. (transition s i).state) k.feed_is ∙ sym (steps_both transition (started k.base) k.inputs (i ∷ []));
+  feed_is = ap (λ s. (transition s i).state) k.feed_is ∙ sym (steps_both transition (feed_start k.base) k.inputs (i ∷ []));
   fed = record {
     known = k.fed.known;
     end = ap (greatest k.base) (quiet_numbers k.inputs i q) ∙ k.fed.end;

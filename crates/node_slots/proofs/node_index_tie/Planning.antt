@@ -14,7 +14,7 @@ use Rattle.checkpoint.specs.Laws.{Event, rows_of, Checkpointed, nothing_checkpoi
 use Rattle.checkpoint.specs.Plan.{plan_of}
 use Rattle.checkpoint.specs.Transition.{is_idle, go_on}
 use Rattle.checkpoint.specs.WriterState.{WorkState, WriterState}
-use Rattle.index_pages.specs.Pages.{PagesState, cleaned}
+use Rattle.index_pages.specs.Pages.{PagesState, pages_clean}
 use Rattle.index_tie.specs.Checkpoints.{IsNext}
 use Rattle.index_tie.specs.Net.{Net, with_slot, with_packet}
 use Rattle.index_tie.specs.Net.Packet.{CheckpointPlanned}
@@ -23,7 +23,7 @@ use Rattle.index_tie.specs.Net.Runs.{Begun, On}
 use Rattle.index_tie.proofs.Takeovers.{of_log_in}
 use Rattle.manager_slots.specs.Numbers.{risen}
 use Rattle.manager_slots.specs.Slots.{epoch_of}
-use Rattle.manager_slots.specs.SlotTable.{Table, next_of, all_logs, horizon_of, begin_with, begin_in, begin_one, begin_at, cleaned_phase, cleaned_at}
+use Rattle.manager_slots.specs.SlotTable.{Table, next_of, all_logs, horizon_of, begin_with, begin_in, begin_one, begin_at, phase_clean, slot_table_clean}
 use Rattle.manager_slots.specs.declared.slot_phase.Active.{Active}
 use Rattle.manager_slots.specs.declared.slot_phase.SlotPhase.{SlotPhase}
 use Rattle.manager_slots.specs.declared.slot_phase.SlotPhase.TheVariants as phase
@@ -31,7 +31,7 @@ use Rattle.manager_serving.specs.Checkpoints as node
 use Rattle.manager_serving.specs.declared.serving.Serving.{Serving}
 use Rattle.node_slots.specs.node_tie.ManagerEvents.{HeldAt, ManagedAt}
 use Rattle.headline.specs.Managers.{phase_at}
-use Rattle.slot_beliefs.specs.Index.{Indexed, pages_of, cleaned_index}
+use Rattle.slot_beliefs.specs.Index.{Indexed, pages_of, block_index_clean}
 use Rattle.slot_beliefs.specs.Recalls.{applied_of}
 use Rattle.token_manager.specs.SlotState.{SlotState}
 use Rattle.token_manager.specs.Transition as slot
@@ -104,8 +104,8 @@ begin_is t k = by (slice_get t k)
     by None = refl
     by (Some p) = refl
 
-cleaned_pages : (i : Indexed) → pages_of (cleaned_index i) ≡ cleaned (pages_of i)
-unfolding cleaned
+cleaned_pages : (i : Indexed) → pages_of (block_index_clean i) ≡ pages_clean (pages_of i)
+unfolding pages_clean
 cleaned_pages i = refl
 
 module _ (part : ℕ) (texts : Texts) (questions : Questions) (exists : part < slot_count) (brought : Brought) where
@@ -118,11 +118,11 @@ module _ (part : ℕ) (texts : Texts) (questions : Questions) (exists : part < s
   begins_on : (n : Net) (s v : Serving) (w : WorkState) (p : SlotPhase) → v.writer.work ≡ Some w → v.log.flight ≡ None → p ≡ phase_at s.slots part
       → Sees part texts questions brought n p (phase_at v.slots part) [] (λ m. Clear m v)
       → Sees part texts questions brought n p
-      (phase_at (node.says_each (record v { writer = (go_on v.writer w).state }) (go_on v.writer w).outs).state.slots part)
-      (node.says_each (record v { writer = (go_on v.writer w).state }) (go_on v.writer w).outs).outs
-      (λ m. ServingAgrees part texts m (node.says_each (record v { writer = (go_on v.writer w).state }) (go_on v.writer w).outs).state)
+      (phase_at (node.writer_says_each (record v { writer = (go_on v.writer w).state }) (go_on v.writer w).outs).state.slots part)
+      (node.writer_says_each (record v { writer = (go_on v.writer w).state }) (go_on v.writer w).outs).outs
+      (λ m. ServingAgrees part texts m (node.writer_says_each (record v { writer = (go_on v.writer w).state }) (go_on v.writer w).outs).state)
   begins_on n s v w p there landed at h =
-      let d = node.says_each (record v { writer = (go_on v.writer w).state }) (go_on v.writer w).outs in
+      let d = node.writer_says_each (record v { writer = (go_on v.writer w).state }) (go_on v.writer w).outs in
       sees_then part texts questions brought n p (phase_at v.slots part) (phase_at d.state.slots part) [] d.outs (λ m. Clear m v)
       (λ m. ServingAgrees part texts m d.state) h
       (λ m g k. goes_on part texts questions exists brought m v w there k.agrees k.none landed)
@@ -155,15 +155,15 @@ module _ (part : ℕ) (texts : Texts) (questions : Questions) (exists : part < s
     -- ---- the slot itself
 
     abbrev cleaned_here : Serving
-    cleaned_here = record s { slots = cleaned_at s.slots part }
+    cleaned_here = record s { slots = slot_table_clean s.slots part }
 
-    cleaned_is : (p : SlotPhase) → now ≡ p → phase_at cleaned_here.slots part ≡ cleaned_phase p
-    unfolding cleaned_at
-    cleaned_is p fact = changed_here s.slots part cleaned_phase (let e = agrees.eight in omega arith) ∙ ap cleaned_phase fact
+    cleaned_is : (p : SlotPhase) → now ≡ p → phase_at cleaned_here.slots part ≡ phase_clean p
+    unfolding slot_table_clean
+    cleaned_is p fact = changed_here s.slots part phase_clean (let e = agrees.eight in omega arith) ∙ ap phase_clean fact
 
     cleaned_eight : length cleaned_here.slots ≡ slot_count
-    unfolding cleaned_at
-    cleaned_eight = changed_length s.slots part cleaned_phase ∙ agrees.eight
+    unfolding slot_table_clean
+    cleaned_eight = changed_length s.slots part phase_clean ∙ agrees.eight
 
     module _ (a : Active) (is_now : now ≡ phase.Active a) (k : ActiveAgrees part texts n (desk_of s agrees.given) a) where
       abbrev epoch : ℕ
@@ -178,8 +178,8 @@ module _ (part : ℕ) (texts : Texts) (questions : Questions) (exists : part < s
         horizon = horizon_of a.slot;
       }
 
-      cleaned_active : phase_at cleaned_here.slots part ≡ phase.Active (record a { slot = slot.cleaned a.slot })
-      unfolding cleaned_phase
+      cleaned_active : phase_at cleaned_here.slots part ≡ phase.Active (record a { slot = slot.slot_clean a.slot })
+      unfolding phase_clean
       cleaned_active = cleaned_is (phase.Active a) is_now
 
       held_before : (e : ℕ) → HeldAt (phase_at cleaned_here.slots part) e → HeldAt now e
@@ -194,7 +194,7 @@ module _ (part : ℕ) (texts : Texts) (questions : Questions) (exists : part < s
       -- the writer begins no more
       ends : is_idle s.writer ≡ false → Serves part texts questions exists brought n s (still cleaned_here)
       ends busy =
-          let t = slot.cleaned a.slot in
+          let t = slot.slot_clean a.slot in
           let m : Net = with_slot n epoch t in
           let g = grows_slot n epoch t in
           sees_slot part texts questions brought n now (phase_at cleaned_here.slots part) epoch t [] (λ m. ServingAgrees part texts m cleaned_here)
@@ -223,22 +223,22 @@ module _ (part : ℕ) (texts : Texts) (questions : Questions) (exists : part < s
         planned = with_packet n (CheckpointPlanned epoch events (horizon_of a.slot))
 
         abbrev later : Net
-        later = with_slot planned epoch (slot.cleaned a.slot)
+        later = with_slot planned epoch (slot.slot_clean a.slot)
 
         abbrev virtual : Serving
         virtual = record cleaned_here { writer = at_work asked_work }
 
         grows : Grows n later
         grows = grows_then n planned later (grows_sent n (CheckpointPlanned epoch events (horizon_of a.slot) ∷ []))
-            (grows_slot planned epoch (slot.cleaned a.slot))
+            (grows_slot planned epoch (slot.slot_clean a.slot))
 
-        there : later.slots epoch ≡ Some (slot.cleaned a.slot)
-        there = put_here n.slots epoch (Some (slot.cleaned a.slot))
+        there : later.slots epoch ≡ Some (slot.slot_clean a.slot)
+        there = put_here n.slots epoch (Some (slot.slot_clean a.slot))
 
         work : IsWork part texts later (desk_of virtual []) events asked_work
         work = record {
           planned = inl refl;
-          begun = λ none. some_none (slot.cleaned a.slot) (sym there ∙ none);
+          begun = λ none. some_none (slot.slot_clean a.slot) (sym there ∙ none);
           may = may;
           segments = [];
           parts = ap (λ (c : Checkpointed). (plan_of c.pages c.parts).parts) (sym fact) ∙ sym
@@ -256,7 +256,7 @@ module _ (part : ℕ) (texts : Texts) (questions : Questions) (exists : part < s
               there = there;
               nine = k.nine;
               short = k.short;
-              pages = Written events asked_work [] refl refl refl work tt (cleaned_pages a.slot.index ∙ ap (λ (c : Checkpointed). cleaned c.pages) (sym fact));
+              pages = Written events asked_work [] refl refl refl work tt (cleaned_pages a.slot.index ∙ ap (λ (c : Checkpointed). pages_clean c.pages) (sym fact));
             });
             writer = writer_begun later (writer_on part texts n later grows (desk_of s agrees.given) agrees.writer) asked_work
                 (λ _. record { events = events; as_planned = work });
@@ -273,11 +273,11 @@ module _ (part : ℕ) (texts : Texts) (questions : Questions) (exists : part < s
           runs = On (On Begun (Plans epoch a.slot events (horizon_of a.slot) k.there (ap (λ (c : Checkpointed). c.pages) fact) may
               (horizon_next a.slot k.short))) (Cleans epoch a.slot k.there);
           grows = grows;
-          slots = λ d other _. put_there n.slots epoch (Some (slot.cleaned a.slot)) d (λ same. other (subst (λ p. HeldAt p d) (sym is_now) (sym same)));
-          came = λ d none. inl (put_each (λ x o. n.slots x ≡ None → o ≡ None) n.slots epoch (Some (slot.cleaned a.slot))
+          slots = λ d other _. put_there n.slots epoch (Some (slot.slot_clean a.slot)) d (λ same. other (subst (λ p. HeldAt p d) (sym is_now) (sym same)));
+          came = λ d none. inl (put_each (λ x o. n.slots x ≡ None → o ≡ None) n.slots epoch (Some (slot.slot_clean a.slot))
               (λ free. absurd (some_none a.slot (sym k.there ∙ free))) (λ x other free. free) d none);
           enters = λ d z. put_each (λ x o. o ≡ Some z → n.slots x ≡ None → brought.ends × ManagedAt (phase_at cleaned_here.slots part) x) n.slots epoch
-              (Some (slot.cleaned a.slot))
+              (Some (slot.slot_clean a.slot))
               (λ _ none. absurd (some_none a.slot (sym k.there ∙ none))) (λ x other some none. absurd (some_none z (sym some ∙ none))) d;
           stays = λ _ e h. managed_now e (subst (λ p. ManagedAt p e) is_now h);
           held = λ e h. inl (held_before e h);
@@ -287,7 +287,7 @@ module _ (part : ℕ) (texts : Texts) (questions : Questions) (exists : part < s
         })
 
       begins_active : Serves part texts questions exists brought n s (node.writer_takes cleaned_here (begin_with part a))
-      unfolding node.writer_takes node.says_each
+      unfolding node.writer_takes node.writer_says_each
       begins_active =
           by_test (λ (r : Stepped WriterState Out). Serves part texts questions exists brought n s (node.said_by cleaned_here r)) (is_idle s.writer)
           (go_on (record s.writer { number = s.writer.number + 1 }) asked_work) (still s.writer)
@@ -303,7 +303,7 @@ module _ (part : ℕ) (texts : Texts) (questions : Questions) (exists : part < s
           refused busy = ends busy
 
     -- a slot that isn't managed
-    begins_nothing : (p : SlotPhase) → now ≡ p → cleaned_phase p ≡ p → Serves part texts questions exists brought n s (still cleaned_here)
+    begins_nothing : (p : SlotPhase) → now ≡ p → phase_clean p ≡ p → Serves part texts questions exists brought n s (still cleaned_here)
     begins_nothing p fact same =
         let at : phase_at cleaned_here.slots part ≡ now = cleaned_is p fact ∙ same ∙ sym fact in
         sees_quiet part texts questions brought n now (phase_at cleaned_here.slots part) [] (λ m. ServingAgrees part texts m cleaned_here)
@@ -319,7 +319,7 @@ module _ (part : ℕ) (texts : Texts) (questions : Questions) (exists : part < s
         })
 
     begins_here : (p : SlotPhase) → now ≡ p → Serves part texts questions exists brought n s (node.writes_slot cleaned_here (begin_in part p))
-    unfolding cleaned_phase
+    unfolding phase_clean
     begins_here (phase.Active a) fact = begins_active a fact (subst (PhaseAgrees part texts n (desk_of s agrees.given)) fact agrees.here)
     begins_here (phase.Away epoch_) fact = begins_nothing (phase.Away epoch_) fact refl
     begins_here (phase.Taking t) fact = begins_nothing (phase.Taking t) fact refl
@@ -329,15 +329,15 @@ module _ (part : ℕ) (texts : Texts) (questions : Questions) (exists : part < s
 
     module _ (k : ℕ) (other : k ≡ part → ⊥) where
       abbrev cleaned_there : Serving
-      cleaned_there = record s { slots = cleaned_at s.slots k }
+      cleaned_there = record s { slots = slot_table_clean s.slots k }
 
       same_there : phase_at cleaned_there.slots part ≡ now
-      unfolding cleaned_at
-      same_there = changed_there s.slots k part cleaned_phase (λ e. other (sym e))
+      unfolding slot_table_clean
+      same_there = changed_there s.slots k part phase_clean (λ e. other (sym e))
 
       eight_there : length cleaned_there.slots ≡ slot_count
-      unfolding cleaned_at
-      eight_there = changed_length s.slots k cleaned_phase ∙ agrees.eight
+      unfolding slot_table_clean
+      eight_there = changed_length s.slots k phase_clean ∙ agrees.eight
 
       stays_there : Serves part texts questions exists brought n s (still cleaned_there)
       stays_there =
@@ -393,7 +393,7 @@ module _ (part : ℕ) (texts : Texts) (questions : Questions) (exists : part < s
             }))
 
       begins_there : (p : SlotPhase) → Serves part texts questions exists brought n s (node.writes_slot cleaned_there (begin_in k p))
-      unfolding node.writer_takes node.says_each
+      unfolding node.writer_takes node.writer_says_each
       begins_there (phase.Active a) =
           by_test (λ (r : Stepped WriterState Out). Serves part texts questions exists brought n s (node.said_by cleaned_there r)) (is_idle s.writer)
           (go_on (record s.writer { number = s.writer.number + 1 })
@@ -420,12 +420,12 @@ module _ (part : ℕ) (texts : Texts) (questions : Questions) (exists : part < s
 
     -- ---- any slot
 
-    pub begins_serves : (k : ℕ) → Serves part texts questions exists brought n s (node.begins_slot s k)
-    unfolding node.begins_slot
+    pub begins_serves : (k : ℕ) → Serves part texts questions exists brought n s (node.begin_slot s k)
+    unfolding node.begin_slot
     begins_serves k =
-        subst (λ o. Serves part texts questions exists brought n s (node.writes_slot (record s { slots = cleaned_at s.slots k }) o)) (sym (begin_is s.slots k))
+        subst (λ o. Serves part texts questions exists brought n s (node.writes_slot (record s { slots = slot_table_clean s.slots k }) o)) (sym (begin_is s.slots k))
         (by_part k part (Serves part texts questions exists brought n s
-        (node.writes_slot (record s { slots = cleaned_at s.slots k }) (begin_in k (phase_at s.slots k))))
+        (node.writes_slot (record s { slots = slot_table_clean s.slots k }) (begin_in k (phase_at s.slots k))))
         (λ same. subst (λ x. Serves part texts questions exists brought n s
-        (node.writes_slot (record s { slots = cleaned_at s.slots x }) (begin_in x (phase_at s.slots x)))) (sym same) (begins_here now refl))
+        (node.writes_slot (record s { slots = slot_table_clean s.slots x }) (begin_in x (phase_at s.slots x)))) (sym same) (begins_here now refl))
         (λ other. begins_there k other (phase_at s.slots k)))

@@ -5,10 +5,10 @@ use Rattle.xfs_base.proofs.Alls.{all_append}
 use Rattle.checkpoint.specs.Laws.{Event, Checkpointed, nothing_checkpointed, after_event, after_events, slot_after, AllMayCome}
 use Rattle.checkpoint.specs.Laws.Event.{Merged}
 use Rattle.checkpoint.specs.WriterState.{Rows, WorkState}
-use Rattle.index_pages.specs.Pages.{PagesState, put_newer, cleaned}
+use Rattle.index_pages.specs.Pages.{PagesState, pages_merge, pages_clean}
 use Rattle.index_tie.specs.Net.{Net}
-use Rattle.slot_beliefs.specs.Index.{Indexed, nothing_indexed, pages_of, indexed, indexed_all}
-use Rattle.slot_beliefs.proofs.Counting.{pages-indexed}
+use Rattle.slot_beliefs.specs.Index.{Indexed, block_index_new, pages_of, block_index_merge, merge_all}
+use Rattle.slot_beliefs.proofs.Counting.{pages-block_index_merge}
 use Rattle.node_slots.specs.node_index_tie.Pages.{put_all, checkpointed, Desk, IsWork, Paged, WorkSeen}
 use Rattle.node_slots.specs.node_index_tie.Pages.Paged.{Covered, Written, Ended}
 use Rattle.node_slots.specs.node_index_tie.Sight.{held_in, RowsFit}
@@ -17,13 +17,13 @@ use Rattle.node_slots.proofs.node_index_tie.Moves.{Grows}
 
 -- ---- the pages of an index
 
-pub pages-indexed_all : (i : Indexed) (ms : Rows) → pages_of (indexed_all i ms) ≡ put_all (pages_of i) ms
-pages-indexed_all i [] = refl
-pages-indexed_all i (m ∷ ms) = pages-indexed_all (indexed i m) ms ∙ ap (λ (p : PagesState). put_all p ms) (pages-indexed i m)
+pub pages-merge_all : (i : Indexed) (ms : Rows) → pages_of (merge_all i ms) ≡ put_all (pages_of i) ms
+pages-merge_all i [] = refl
+pages-merge_all i (m ∷ ms) = pages-merge_all (block_index_merge i m) ms ∙ ap (λ (p : PagesState). put_all p ms) (pages-block_index_merge i m)
 
 pub put_all-append : (p : PagesState) (xs ys : Rows) → put_all p (xs ++ ys) ≡ put_all (put_all p xs) ys
 put_all-append p [] ys = refl
-put_all-append p (x ∷ xs) ys = put_all-append (put_newer p x.0 x.1) xs ys
+put_all-append p (x ∷ xs) ys = put_all-append (pages_merge p x.0 x.1) xs ys
 
 -- ---- events of a slot that is checkpointed
 
@@ -60,16 +60,16 @@ module _ (part : ℕ) (texts : Texts) where
       (λ (k : Checkpointed). checkpointed (put_all k.pages rows) k.parts) fact) none
   paged_put n desk epoch pages parts rows fit (Written events w before there of at work fits fact) =
       Written events w (before ++ rows) there of at work (all_append (λ row. row.0.blk < 2 ^ 32) before rows fits fit)
-      (ap (λ (p : PagesState). put_all p rows) fact ∙ sym (put_all-append (cleaned (slot_after events).pages) before rows))
+      (ap (λ (p : PagesState). put_all p rows) fact ∙ sym (put_all-append (pages_clean (slot_after events).pages) before rows))
   paged_put n desk epoch pages parts rows fit (Ended number none) = Ended number none
 
   -- a slot that a takeover hands out, before its first checkpoint
   pub paged_first : (n : Net) (desk : Desk) (epoch : ℕ) (rows : Rows) → RowsFit rows
       → ((w : WorkState) → desk.writer.work ≡ Some w → w.slot ≡ part → w.epoch ≡ epoch → ⊥)
-      → Paged part texts n desk epoch (pages_of (indexed_all nothing_indexed rows)) []
+      → Paged part texts n desk epoch (pages_of (merge_all block_index_new rows)) []
   paged_first n desk epoch rows fit none =
       Covered (merges rows) (may_merges (held_in part texts) nothing_checkpointed rows fit)
-      (after_merges nothing_checkpointed rows ∙ ap (λ (p : PagesState). checkpointed p []) (sym (pages-indexed_all nothing_indexed rows))) none
+      (after_merges nothing_checkpointed rows ∙ ap (λ (p : PagesState). checkpointed p []) (sym (pages-merge_all block_index_new rows))) none
 
   -- ---- the small world goes on
 

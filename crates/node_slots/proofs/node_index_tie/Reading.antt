@@ -9,7 +9,7 @@ use Rattle.xfs_base.proofs.NodeOrder.{same_node_is}
 use Rattle.xfs_base.specs.Nodes.{same_node}
 use Rattle.xfs_base.proofs.Alls.{all_take, all_append, all_weaker}
 use Rattle.segment_format.specs.declared.segment.Segment.{Segment}
-use Rattle.segment_reading.specs.Reading.{ReadingState, on_answer}
+use Rattle.segment_reading.specs.Reading.{ReadingState, reading_take}
 use Rattle.stripe_code.specs.declared.round.Told.{Told}
 use Rattle.stripe_code.specs.declared.round.Told.TheVariants.{Held, Missing as Lacks}
 use Rattle.takeover.specs.Course.{Course, segment_of, and_of, read_in, read_at, read_by, read_after, after_input, after_inputs}
@@ -65,7 +65,7 @@ module _ (part : ℕ) (texts : Texts) where
     where
       by : (q : Option ReadingState) → Completes (completes_in s q ask server told) → AllRead (read_in s r p q ask server told)
       by None owed = all
-      by (Some reading) owed = read_one r p (segment_of (on_answer reading s.groups ask server told).next) all owed
+      by (Some reading) owed = read_one r p (segment_of (reading_take reading s.groups ask server told).next) all owed
 
   read_by_all : (s : TakeState) (r : Read) (ask server : ℕ) (told : Told) → AllRead r → Completes (completes_at s s.present ask server told)
       → AllRead (read_by s r ask server told)

@@ -21,7 +21,7 @@ use Rattle.node_moves.specs.server_moves.Moves.{Came}
 use Rattle.index_tie.proofs.Runs.{one_at}
 use Rattle.node_slots.specs.node_tie.RegistryEvents.{RegistrySound}
 use Rattle.node_slots.proofs.node_tie.RegistryNode.{registry_goes, registry_begins}
-use Rattle.registry.specs.Board.{manager_restarted, server_lost, moved, is_kept, checkpointed, slot_news, all_news}
+use Rattle.registry.specs.Board.{manager_restarted, server_lost, moved, is_kept, checkpointed, slot_news, board_slots}
 use Rattle.registry.specs.BoardState.{BoardState}
 use Rattle.registry.specs.Checkpoints.{first_checkpoint, places, none_lower, no_lower, covers, covers_kept, parts_in, parts_at, horizon_in, horizon_at}
 use Rattle.registry.specs.Slots.{all_slots, entry_of}
@@ -192,7 +192,7 @@ module _ (part : ℕ) (below : part < 8) (texts : Texts) (n : Net) (r : Registry
   later = (registry_step r what).node
 
   -- what the maps tell of the slot is what is kept
-  told : (m : Net) → RegistryAgrees part m later → (news : SlotNews) → Among news (all_news later.board) → news.slot ≡ part → NewsTold part m news
+  told : (m : Net) → RegistryAgrees part m later → (news : SlotNews) → Among news (board_slots later.board) → news.slot ≡ part → NewsTold part m news
   told m k news there of = by all_slots there
     where
       by : (slots : List ℕ) → Among news (map (slot_news later.board) slots) → NewsTold part m news

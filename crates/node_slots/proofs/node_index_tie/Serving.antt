@@ -92,8 +92,8 @@ module _ (part : ℕ) (texts : Texts) (questions : Questions) (exists : part < s
 
   -- ---- the registry answers a checkpoint
 
-  counted_done : (n : Net) (o : Option Checkpointing) (x : Out) → DoneSeen part n o → DoneSeen part n (node.counted o x)
-  unfolding node.counted
+  counted_done : (n : Net) (o : Option Checkpointing) (x : Out) → DoneSeen part n o → DoneSeen part n (node.checkpointing_count o x)
+  unfolding node.checkpointing_count
   counted_done n None (out.Parts items) done = done
   counted_done n None (out.Done slot epoch parts horizon) done = done
   counted_done n None out.Kept done = tt
@@ -108,7 +108,7 @@ module _ (part : ℕ) (texts : Texts) (questions : Questions) (exists : part < s
     answered_writer = record s.writer { asked = None }
 
     abbrev answered_serving : Out → Serving
-    answered_serving x = record s { writer = answered_writer; checkpoint = node.counted s.checkpoint x }
+    answered_serving x = record s { writer = answered_writer; checkpoint = node.checkpointing_count s.checkpoint x }
 
     no_work : s.writer.work ≡ None
     no_work = agrees.writer.answered own was
@@ -160,14 +160,14 @@ module _ (part : ℕ) (texts : Texts) (questions : Questions) (exists : part < s
 
   -- ---- time, for what awaits the registry's answer
 
-  pub tells_serves : (n : Net) (s : Serving) → ServingAgrees part texts n s → Of n s (node.tells_again s)
-  unfolding node.tells_again
-  tells_serves n s agrees = serves_same part texts questions exists brought n s (node.told_again s.checkpoint) agrees (by s.checkpoint agrees.done)
+  pub tells_serves : (n : Net) (s : Serving) → ServingAgrees part texts n s → Of n s (node.serving_tell_again s)
+  unfolding node.serving_tell_again
+  tells_serves n s agrees = serves_same part texts questions exists brought n s (node.checkpointing_tell_again s.checkpoint) agrees (by s.checkpoint agrees.done)
     where
-      by_done : (o : Option CkptDone) → DoneIn part n o → AllDone part texts questions n (node.done_again o)
+      by_done : (o : Option CkptDone) → DoneIn part n o → AllDone part texts questions n (node.send_done o)
       by_done None seen = tt
       by_done (Some done) seen = (seen, tt)
 
-      by : (o : Option Checkpointing) → DoneSeen part n o → AllDone part texts questions n (node.told_again o)
+      by : (o : Option Checkpointing) → DoneSeen part n o → AllDone part texts questions n (node.checkpointing_tell_again o)
       by None seen = tt
       by (Some job) seen = by_done job.done seen

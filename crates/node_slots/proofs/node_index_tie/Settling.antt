@@ -101,7 +101,7 @@ module _ (part : ℕ) (texts : Texts) (questions : Questions) (exists : part < s
       (dirty : t.dirty ≡ s.log.dirty) (landed : t.flight ≡ None) (agrees : ServingAgrees part texts n s)
       (text : FlightIsText texts s.log) where
     abbrev part_ref : SegRef
-    part_ref = part_at s.writer.log (log.end_from old.segment)
+    part_ref = part_at s.writer.log (log.end_of old.segment)
 
     -- it holds what was given out for it
     holds : old.segment.items ≡ items_of part agrees.given → held_in part texts part_ref ≡ rows_of agrees.given
@@ -174,16 +174,16 @@ module _ (part : ℕ) (texts : Texts) (questions : Questions) (exists : part < s
         done = agrees.done;
       }
 
-      writes_on : Serves part texts questions exists brought n s (node.said_by (record s { log = t }) (settled s.writer (Some w) (log.end_from old.segment)))
+      writes_on : Serves part texts questions exists brought n s (node.said_by (record s { log = t }) (settled s.writer (Some w) (log.end_of old.segment)))
       unfolding virtual_agrees
       writes_on = goes_on part texts questions exists brought n virtual next_work refl virtual_agrees refl landed
 
-    takes_settled : Serves part texts questions exists brought n s (node.writer_takes (record s { log = t }) (writer_in.Settled (log.end_from old.segment)))
+    takes_settled : Serves part texts questions exists brought n s (node.writer_takes (record s { log = t }) (writer_in.Settled (log.end_of old.segment)))
     unfolding node.writer_takes
     takes_settled = by s.writer.work refl
       where
         by : (o : Option WorkState) → s.writer.work ≡ o
-            → Serves part texts questions exists brought n s (node.said_by (record s { log = t }) (settled s.writer o (log.end_from old.segment)))
+            → Serves part texts questions exists brought n s (node.said_by (record s { log = t }) (settled s.writer o (log.end_of old.segment)))
         by None none = absurd (some_none old (sym was ∙ agrees.writer.idle none))
         by (Some w) there = writes_on w there
 
@@ -192,7 +192,7 @@ module _ (part : ℕ) (texts : Texts) (questions : Questions) (exists : part < s
   unfolding node.log_says node.on_settled
   lands n s r l agrees text =
       let t = record s { log = r.state } in
-      let end = log.end_from l.old.segment in
+      let end = log.end_of l.old.segment in
       let filed = node.filed t end in
       subst (λ os. Serves part texts questions exists brought n s (steps node.log_says t os)) (sym l.outs)
       (serves_one part texts questions exists brought node.log_says n s t (log_out.Settled end l.rows)
@@ -206,8 +206,8 @@ module _ (part : ℕ) (texts : Texts) (questions : Questions) (exists : part < s
   -- ---- any input that writes nothing new
 
   pub writes_serves : (n : Net) (s : Serving) (given : LogIn) → IsHeard given → ServingAgrees part texts n s → FlightIsText texts s.log
-      → Serves part texts questions exists brought n s (node.writes s given)
-  unfolding node.writes node.log_says_each
+      → Serves part texts questions exists brought n s (node.serving_write s given)
+  unfolding node.serving_write node.log_says_each
   writes_serves n s given bars agrees text =
       ⊎_elim (λ g. goes n s (log.transition s.log given) g agrees) (λ l. lands n s (log.transition s.log given) l agrees text)
       (log_went s.log agrees.writer.nothing_waits given bars)

@@ -5,13 +5,13 @@ use Rattle.xfs_base.specs.Blocks.{slot_of}
 use Rattle.xfs_base.specs.declared.setup.Setup.{Setup}
 use Rattle.xfs_base.specs.Limits.{slot_count}
 use Rattle.index_tie.specs.Net.{opening}
-use Rattle.manager_map.specs.Slots.{start_entries, entry_at}
-use Rattle.manager_node.specs.Events.{first_manager, first_life}
-use Rattle.manager_slots.specs.SlotTable.{first_phase, first_table}
+use Rattle.manager_map.specs.Slots.{manager_map_start, entry_at}
+use Rattle.manager_node.specs.Events.{manager_start, first_life}
+use Rattle.manager_slots.specs.SlotTable.{first_phase, slot_table_first}
 use Rattle.manager_slots.specs.Slots.{first_active}
 use Rattle.manager_slots.specs.declared.slot_phase.SlotPhase.TheVariants as phase
-use Rattle.group_map.specs.Groups.{started as groups_started}
-use Rattle.node_base.specs.Maps.{at_start}
+use Rattle.group_map.specs.Groups.{group_map_start as groups_started}
+use Rattle.node_base.specs.Maps.{maps_start}
 use Rattle.segment_format.specs.declared.segment.Segment.{Segment}
 use Rattle.version_model.specs.declared.work.Work.{Work}
 use Rattle.node_slots.specs.node_index_tie.ManagerEvents.{PhaseAgrees, ManagerAgrees, FirstManagerAgrees}
@@ -52,13 +52,13 @@ module _ (part : ℕ) (texts : Texts) (any : ℕ → ℕ → Segment) where
   }
 
   pub first_agrees : (number : ℕ) (setup : Setup) (works : List Work) → part < slot_count
-      → ManagerAgrees part texts (opening any) (first_manager number setup works).phase
+      → ManagerAgrees part texts (opening any) (manager_start number setup works).phase
   first_agrees number setup works exists =
-      let f = λ (k : ℕ). first_phase number (start_entries setup.managers) k in (
-        begun_agreed part texts [] exists number (opening any) (first_life number works) (at_start (groups_started setup.servers setup.groups))
-            (first_table number setup.managers) (groups_started setup.servers setup.groups) refl
+      let f = λ (k : ℕ). first_phase number (manager_map_start setup.managers) k in (
+        begun_agreed part texts [] exists number (opening any) (first_life number works) (maps_start (groups_started setup.servers setup.groups))
+            (slot_table_first number setup.managers) (groups_started setup.servers setup.groups) refl
             (subst (PhaseAgrees part texts (opening any) _) (sym (first_at f part exists))
-            (by_test (PhaseAgrees part texts (opening any) _) ((entry_at (start_entries setup.managers) (slot_of part)).manager == number) first_active
+            (by_test (PhaseAgrees part texts (opening any) _) ((entry_at (manager_map_start setup.managers) (slot_of part)).manager == number) first_active
             (phase.Away 1) (λ _. first_is _ refl) (λ _. tt))),
         λ f_ fact. absurd (some_none f_ (sym fact)),
       )

@@ -176,8 +176,8 @@ module _ (part : ℕ) (texts : Texts) (asked : Questions) (exists : part < slot_
       by None = tt
       by (Some p) = usage_done part texts asked brought desk n p ask
 
-  pub table_recalls : (n : Net) (t : Table) (k : ℕ) → TableAgrees n t → TableEvent n t (table.recalls t k).state (table.recalls t k).outs
-  unfolding table.recalls
+  pub table_recalls : (n : Net) (t : Table) (k : ℕ) → TableAgrees n t → TableEvent n t (table.slot_table_recall t k).state (table.slot_table_recall t k).outs
+  unfolding table.slot_table_recall
   table_recalls n t k agrees =
       at_slot-goes n t k (λ p. tokens.on_tick p k) agrees (λ same. slot_takes part texts asked brought desk n k (phase_at t part) told.Tick tt agrees.here)
       (λ other. other_takes part texts asked brought desk n k (phase_at t k) told.Tick)
@@ -185,10 +185,10 @@ module _ (part : ℕ) (texts : Texts) (asked : Questions) (exists : part < slot_
   -- ---- takeovers
 
   pub table_takes : brought.ends → (n : Net) (a : TableAsker) (k : ℕ) (given : Input) → TableAgrees n a.table
-      → (k ≡ part → OwesAt part texts n (phase_at a.table part) given) → AskTable n a.table (table.takes a k given)
-  unfolding table.takes
+      → (k ≡ part → OwesAt part texts n (phase_at a.table part) given) → AskTable n a.table (table.slot_table_take a k given)
+  unfolding table.slot_table_take
   table_takes ends n a k given agrees owes =
-      at_taken-goes n a k (λ one. takeovers.takes one k given) agrees
+      at_taken-goes n a k (λ one. takeovers.takeovers_take one k given) agrees
       (λ same. slot_hears part texts asked brought desk ends n k (phase_at a.table part) a.questions given agrees.here agrees.busy agrees.filed (owes same))
       (λ other. takes_done part texts asked n k (asker (phase_at a.table k) a.questions) given)
 
@@ -201,10 +201,10 @@ module _ (part : ℕ) (texts : Texts) (asked : Questions) (exists : part < slot_
       (known same))
       (λ other. reports_done part texts asked n (asker (phase_at a.table report.slot) a.questions) from report)
 
-  pub table_asks : (n : Net) (polls : Bool) (a : TableAsker) (k : ℕ) → TableAgrees n a.table → AskTable n a.table (table.asks polls a k)
-  unfolding table.asks
+  pub table_asks : (n : Net) (polls : Bool) (a : TableAsker) (k : ℕ) → TableAgrees n a.table → AskTable n a.table (table.slot_table_ask polls a k)
+  unfolding table.slot_table_ask
   table_asks n polls a k agrees =
-      at_taken-goes n a k (λ one. takeovers.asks_again one k polls) agrees
+      at_taken-goes n a k (λ one. takeovers.takeovers_ask_again one k polls) agrees
       (λ same. event_staying part texts asked brought desk n (phase_at a.table part) _
       (stays_asks part texts asked desk n k (phase_at a.table part) a.questions polls agrees.here)
       (λ _ e h. asks_managed part texts asked desk k (phase_at a.table part) a.questions polls e h)
@@ -218,10 +218,10 @@ module _ (part : ℕ) (texts : Texts) (asked : Questions) (exists : part < slot_
 
   -- and end no takeover
   table_regroup : (n : Net) (groups : GroupMapState) (a : TableAsker) (k : ℕ) → TableAgrees n a.table
-      → AskTable n a.table (table.takes a k (input.Maps groups))
-  unfolding table.takes
+      → AskTable n a.table (table.slot_table_take a k (input.Maps groups))
+  unfolding table.slot_table_take
   table_regroup n groups a k agrees =
-      at_taken-goes n a k (λ one. takeovers.takes one k (input.Maps groups)) agrees
+      at_taken-goes n a k (λ one. takeovers.takeovers_take one k (input.Maps groups)) agrees
       (λ same. slot_regroups part texts asked brought desk n k (phase_at a.table part) a.questions groups agrees.here
       (regroup_owes n (phase_at a.table part) groups))
       (λ other. takes_done part texts asked n k (asker (phase_at a.table k) a.questions) (input.Maps groups))
@@ -237,15 +237,15 @@ module _ (part : ℕ) (texts : Texts) (asked : Questions) (exists : part < slot_
         (f s x).outs (steps f (f s x).state xs).outs (λ m. TableAgrees m (tab (f s x).state))
         (λ m. TableAgrees m (tab (steps f (f s x).state xs).state)) (each n s x agrees) (λ m g h. each_goes m (f s x).state xs h)
 
-  pub table_recalls_all : (n : Net) (t : Table) → TableAgrees n t → TableEvent n t (table.recalls_all t).state (table.recalls_all t).outs
-  table_recalls_all n t agrees = each_goes (λ u. u) table.recalls (λ n u k h. table_recalls n u k h) n t all_slots agrees
+  pub table_recalls_all : (n : Net) (t : Table) → TableAgrees n t → TableEvent n t (table.recall_again t).state (table.recall_again t).outs
+  table_recalls_all n t agrees = each_goes (λ u. u) table.slot_table_recall (λ n u k h. table_recalls n u k h) n t all_slots agrees
 
-  pub table_asks_all : (n : Net) (polls : Bool) (a : TableAsker) → TableAgrees n a.table → AskTable n a.table (table.asks_all polls a)
-  table_asks_all n polls a agrees = each_goes (λ (b : TableAsker). b.table) (table.asks polls) (λ n b k h. table_asks n polls b k h) n a all_slots agrees
+  pub table_asks_all : (n : Net) (polls : Bool) (a : TableAsker) → TableAgrees n a.table → AskTable n a.table (table.slot_table_ask_again polls a)
+  table_asks_all n polls a agrees = each_goes (λ (b : TableAsker). b.table) (table.slot_table_ask polls) (λ n b k h. table_asks n polls b k h) n a all_slots agrees
 
-  pub table_regroups : (n : Net) (groups : GroupMapState) (a : TableAsker) → TableAgrees n a.table → AskTable n a.table (table.regroups_all groups a)
+  pub table_regroups : (n : Net) (groups : GroupMapState) (a : TableAsker) → TableAgrees n a.table → AskTable n a.table (table.slot_table_regroup groups a)
   table_regroups n groups a agrees =
-      each_goes (λ (b : TableAsker). b.table) (table.regroups groups)
+      each_goes (λ (b : TableAsker). b.table) (table.regroup_one groups)
       (λ n b k h. table_regroup n groups b k h) n a all_slots agrees
 
   -- ---- news
@@ -262,7 +262,7 @@ module _ (part : ℕ) (texts : Texts) (asked : Questions) (exists : part < slot_
 
   -- what the slot makes of the news that has what slot k has, and the table then
   abbrev heard_at : Hearer → TableAsker → SlotNews → ℕ → Stepped Asker Effect
-  heard_at h a news k = table.hears_of h news (asker (phase_at a.table k) a.questions)
+  heard_at h a news k = table.hear_of h news (asker (phase_at a.table k) a.questions)
 
   abbrev HeardAt : Net → Hearer → TableAsker → SlotNews → ℕ → Type 0
   HeardAt n h a news k = TableRose n a.table (slice_set a.table news.slot (heard_at h a news k).state.phase) (heard_at h a news k).outs
@@ -270,11 +270,11 @@ module _ (part : ℕ) (texts : Texts) (asked : Questions) (exists : part < slot_
   table_hears : (j : ℕ) (n : Net) (h : Hearer) (a : TableAsker) (news : SlotNews) → h.ears.number ≡ j → TableAgrees n a.table
       → (news.slot ≡ part → news.manager ≡ j → epoch_of (phase_at a.table part) < news.epoch → NewsKnown part n news)
       → (news.slot ≡ part → news.manager ≡ j → brought.names news.epoch)
-      → TableRose n a.table (table.hears h a news).state.table (table.hears h a news).outs
-  unfolding table.hears
+      → TableRose n a.table (table.slot_table_hear h a news).state.table (table.slot_table_hear h a news).outs
+  unfolding table.slot_table_hear
   table_hears j n h a news is_j agrees known named_ =
-      by_taken (TableRose n a.table) a news.slot (table.hears_of h news)
-      (by_slot (TableRose n a.table) a.table news.slot (as_slot a.questions (table.hears_of h news)) (λ _. rose_same n a.table agrees)
+      by_taken (TableRose n a.table) a news.slot (table.hear_of h news)
+      (by_slot (TableRose n a.table) a.table news.slot (as_slot a.questions (table.hear_of h news)) (λ _. rose_same n a.table agrees)
       (λ within. by_part news.slot part (HeardAt n h a news news.slot) (λ same. subst (HeardAt n h a news) (sym same) (ours within same))
       (λ other. others other)))
     where
@@ -316,10 +316,10 @@ module _ (part : ℕ) (texts : Texts) (asked : Questions) (exists : part < slot_
   pub table_hears_all : (j : ℕ) (n : Net) (h : Hearer) (a : TableAsker) (slots : List SlotNews) → h.ears.number ≡ j → TableAgrees n a.table
       → ((news : SlotNews) → Among news slots → news.slot ≡ part → news.manager ≡ j → epoch_of (phase_at a.table part) < news.epoch → NewsKnown part n news)
       → ((news : SlotNews) → Among news slots → news.slot ≡ part → news.manager ≡ j → brought.names news.epoch)
-      → TableRose n a.table (table.hears_all h a slots).state.table (table.hears_all h a slots).outs
+      → TableRose n a.table (table.hear_each h a slots).state.table (table.hear_each h a slots).outs
   table_hears_all j n h a [] is_j agrees known named_ = rose_same n a.table agrees
   table_hears_all j n h a (news ∷ slots) is_j agrees known named_ =
-      let d = table.hears h a news in
+      let d = table.slot_table_hear h a news in
       let one = table_hears j n h a news is_j agrees (known news (inl refl)) (named_ news (inl refl)) in
       let up = one.rises in
       let more = table_hears_all j n h d.state slots is_j one.agrees (λ x fact same ours above. known x (inr fact) same ours (omega arith))
@@ -328,5 +328,5 @@ module _ (part : ℕ) (texts : Texts) (asked : Questions) (exists : part < slot_
         agrees = more.agrees;
         held = λ e at. ⊎_elim (λ x. one.held e x) (λ x. inr x) (more.held e at);
         rises = let b = more.rises in omega arith;
-        does = all_append (DoesAt part texts asked n) d.outs (table.hears_all h d.state slots).outs one.does more.does;
+        does = all_append (DoesAt part texts asked n) d.outs (table.hear_each h d.state slots).outs one.does more.does;
       }

@@ -19,8 +19,8 @@ use Rattle.delta_index.specs.Entries.{is_newer}
 use Rattle.delta_index.specs.Index.{entry_of, merged, merged_all}
 use Rattle.index_tie.specs.Net.{Net}
 use Rattle.manager_slots.specs.Slots.{epoch_of}
-use Rattle.manager_slots.specs.SlotTable.{Hearer, hears_of}
-use Rattle.manager_slots.specs.Takeovers.{Asker, asker, Done, fetches, says, says_each, heard, takes, is_wanted, asks_again, report_input, on_report, phase_of}
+use Rattle.manager_slots.specs.SlotTable.{Hearer, hear_of}
+use Rattle.manager_slots.specs.Takeovers.{Asker, asker, Done, takeovers_fetch, takeovers_say, say_each, outs_of, takeovers_take, is_wanted, takeovers_ask_again, report_input, on_report, phase_of}
 use Rattle.manager_slots.specs.declared.slot_phase.SlotPhase.{SlotPhase}
 use Rattle.manager_slots.specs.declared.slot_phase.SlotPhase.TheVariants as phase
 use Rattle.node_base.specs.declared.questions.Questions.{Questions as Numbers}
@@ -29,9 +29,9 @@ use Rattle.node_slots.proofs.node_tie.ManagerTakes.{IsPlain, ArePlain, fetches_p
 use Rattle.group_map.specs.GroupMapState.{GroupMapState}
 use Rattle.group_map.specs.Groups.{group_of}
 use Rattle.group_map.specs.declared.group.Group.{Group}
-use Rattle.segment_reading.specs.Reading.{ReadingState, begun, to_ask}
+use Rattle.segment_reading.specs.Reading.{ReadingState, reading_start, reading_unanswered}
 use Rattle.takeover.specs.TakeState.{TakeState}
-use Rattle.takeover.specs.Transition.{Done as Told, can_ask, target_of, sought_over, sought, waits_in, waiting, sought_again, on_maps, transition}
+use Rattle.takeover.specs.Transition.{Done as Told, can_ask, target_of, sought_over, seek, present_waiting, waiting, sought_again, on_maps, transition}
 use Rattle.takeover.specs.declared.source.Present.{Present}
 use Rattle.takeover.specs.declared.source.Source.{Source}
 use Rattle.takeover.specs.declared.input.In.{In as Input}
@@ -46,21 +46,21 @@ use Rattle.node_slots.proofs.node_index_tie.Moves.{DoesAt, AllDone}
 
 -- ---- newer groups
 
-sought_plain : (s : TakeState) (source : Source) → ArePlain (sought s source).outs
-unfolding sought
+sought_plain : (s : TakeState) (source : Source) → ArePlain (seek s source).outs
+unfolding seek
 sought_plain s source = by (group_of s.groups source.seg.group)
   where
     by : (g : Option Group) → ArePlain (sought_over s source g).outs
     by None = tt
-    by (Some group) = fetches_plain source.seg.name (s.ask + 1) (to_ask (begun (target_of source) group (s.ask + 1)))
+    by (Some group) = fetches_plain source.seg.name (s.ask + 1) (reading_unanswered (reading_start (target_of source) group (s.ask + 1)))
 
 -- newer groups end no takeover
 pub maps_plain : (s : TakeState) (groups : GroupMapState) → ArePlain (on_maps s groups).outs
 unfolding on_maps
 maps_plain s groups = by s.present
   where
-    by_reading : (source : Source) (r : Option ReadingState) → ArePlain (sought_again (record s { groups = groups }) (waits_in source r)).outs
-    by_reading source None = by_test (λ (d : Told). ArePlain d.outs) (can_ask s) (sought (record s { groups = groups }) source)
+    by_reading : (source : Source) (r : Option ReadingState) → ArePlain (sought_again (record s { groups = groups }) (present_waiting source r)).outs
+    by_reading source None = by_test (λ (d : Told). ArePlain d.outs) (can_ask s) (seek (record s { groups = groups }) source)
         (still (record s { groups = groups })) (λ _. sought_plain (record s { groups = groups }) source) (λ _. tt)
     by_reading source (Some r) = tt
 
@@ -93,12 +93,12 @@ all_fits rows (m ∷ ms) fit fits = all_fits (merged rows m.0 m.1) ms (merged_fi
 
 module _ (part : ℕ) (texts : Texts) (asked : Questions) where
   -- none of it tells of where blocks lie
-  says_done : (n : Net) (k : ℕ) (a : Asker) (o : Out) → AllDone part texts asked n (says k a o).outs
-  unfolding says
+  says_done : (n : Net) (k : ℕ) (a : Asker) (o : Out) → AllDone part texts asked n (takeovers_say k a o).outs
+  unfolding takeovers_say
   says_done n k a (out.Poll to) = (tt, tt)
   says_done n k a (out.Fetch server name own) = by a.phase
     where
-      by : (p : SlotPhase) → AllDone part texts asked n (fetches p a.questions server name own).outs
+      by : (p : SlotPhase) → AllDone part texts asked n (takeovers_fetch p a.questions server name own).outs
       by (phase.Taking t) = (tt, tt)
       by (phase.Away epoch) = tt
       by (phase.Active active_) = tt
@@ -106,29 +106,29 @@ module _ (part : ℕ) (texts : Texts) (asked : Questions) where
   says_done n k a (out.Active epoch index beliefs applied) = tt
   says_done n k a (out.Lost seg) = (tt, tt)
 
-  each_done : (n : Net) (k : ℕ) (a : Asker) (outs : List Out) → AllDone part texts asked n (says_each k a outs).outs
-  unfolding says_each
+  each_done : (n : Net) (k : ℕ) (a : Asker) (outs : List Out) → AllDone part texts asked n (say_each k a outs).outs
+  unfolding say_each
   each_done n k a [] = tt
-  each_done n k a (o ∷ os) = all_append (DoesAt part texts asked n) (says k a o).outs _ (says_done n k a o) (each_done n k (says k a o).state os)
+  each_done n k a (o ∷ os) = all_append (DoesAt part texts asked n) (takeovers_say k a o).outs _ (says_done n k a o) (each_done n k (takeovers_say k a o).state os)
 
-  pub takes_done : (n : Net) (k : ℕ) (a : Asker) (given : Input) → AllDone part texts asked n (takes a k given).outs
-  unfolding takes
-  takes_done n k a given = each_done n k (record a { phase = (heard a.phase given).state }) (heard a.phase given).outs
+  pub takes_done : (n : Net) (k : ℕ) (a : Asker) (given : Input) → AllDone part texts asked n (takeovers_take a k given).outs
+  unfolding takeovers_take
+  takes_done n k a given = each_done n k (record a { phase = (outs_of a.phase given).state }) (outs_of a.phase given).outs
 
-  pub asks_done : (n : Net) (k : ℕ) (a : Asker) (polls : Bool) → AllDone part texts asked n (asks_again a k polls).outs
-  unfolding asks_again
-  asks_done n k a polls = each_done n k (record a { phase = (heard a.phase input.Tick).state }) (filter (is_wanted polls) (heard a.phase input.Tick).outs)
+  pub asks_done : (n : Net) (k : ℕ) (a : Asker) (polls : Bool) → AllDone part texts asked n (takeovers_ask_again a k polls).outs
+  unfolding takeovers_ask_again
+  asks_done n k a polls = each_done n k (record a { phase = (outs_of a.phase input.Tick).state }) (filter (is_wanted polls) (outs_of a.phase input.Tick).outs)
 
   pub reports_done : (n : Net) (a : Asker) (from : NodeId) (report : Report) → AllDone part texts asked n (on_report a from report).outs
   reports_done n a from report =
-      by_test (λ (d : Done). AllDone part texts asked n d.outs) (report.epoch == epoch_of a.phase) (takes a report.slot (report_input from report)) (still a)
+      by_test (λ (d : Done). AllDone part texts asked n d.outs) (report.epoch == epoch_of a.phase) (takeovers_take a report.slot (report_input from report)) (still a)
       (λ _. takes_done n report.slot a (report_input from report)) (λ _. tt)
 
-  pub hears_done : (n : Net) (h : Hearer) (news : SlotNews) (one : Asker) → AllDone part texts asked n (hears_of h news one).outs
-  unfolding hears_of
+  pub hears_done : (n : Net) (h : Hearer) (news : SlotNews) (one : Asker) → AllDone part texts asked n (hear_of h news one).outs
+  unfolding hear_of
   hears_done n h news one =
       by_test (λ (d : Done). AllDone part texts asked n d.outs) (nat_lt (epoch_of one.phase) news.epoch)
-      (takes (record one { phase = phase_of h.ears.number news h.groups h.ears.clients }) news.slot input.Tick) (still one)
+      (takeovers_take (record one { phase = phase_of h.ears.number news h.groups h.ears.clients }) news.slot input.Tick) (still one)
       (λ _. takes_done n news.slot (record one { phase = phase_of h.ears.number news h.groups h.ears.clients }) input.Tick) (λ _. tt)
 
   module _ (desk : Desk) where
@@ -144,39 +144,39 @@ module _ (part : ℕ) (texts : Texts) (asked : Questions) where
     stays_still n a agrees = record { agrees = agrees; held = λ e h. h; epoch = refl }
 
     stays_fetches : (n : Net) (p : SlotPhase) (q : Numbers) (server : ℕ) (name : SegName) (own : ℕ) → PhaseAgrees part texts n desk p
-        → Stays n p (fetches p q server name own)
+        → Stays n p (takeovers_fetch p q server name own)
     stays_fetches n (phase.Taking t) q server name own agrees = record { agrees = agrees; held = λ e h. h; epoch = refl }
     stays_fetches n (phase.Away epoch) q server name own agrees = stays_still n (asker (phase.Away epoch) q) agrees
     stays_fetches n (phase.Active a) q server name own agrees = stays_still n (asker (phase.Active a) q) agrees
     stays_fetches n (phase.Broken epoch seg) q server name own agrees = stays_still n (asker (phase.Broken epoch seg) q) agrees
 
-    stays_says : (n : Net) (k : ℕ) (a : Asker) (o : Out) → IsPlain o → PhaseAgrees part texts n desk a.phase → Stays n a.phase (says k a o)
-    unfolding says
+    stays_says : (n : Net) (k : ℕ) (a : Asker) (o : Out) → IsPlain o → PhaseAgrees part texts n desk a.phase → Stays n a.phase (takeovers_say k a o)
+    unfolding takeovers_say
     stays_says n k a (out.Poll to) plain agrees = record { agrees = agrees; held = λ e h. h; epoch = refl }
     stays_says n k a (out.Fetch server name own) plain agrees = stays_fetches n a.phase a.questions server name own agrees
     stays_says n k a (out.Active epoch index beliefs applied) plain agrees = absurd plain
     stays_says n k a (out.Lost seg) plain agrees = record { agrees = tt; held = λ e h. absurd h; epoch = refl }
 
     pub stays_each : (n : Net) (k : ℕ) (a : Asker) (outs : List Out) → ArePlain outs → PhaseAgrees part texts n desk a.phase
-        → Stays n a.phase (says_each k a outs)
-    unfolding says_each
+        → Stays n a.phase (say_each k a outs)
+    unfolding say_each
     stays_each n k a [] plain agrees = stays_still n a agrees
     stays_each n k a (o ∷ os) plain agrees =
         let one = stays_says n k a o plain.0 agrees in
-        let rest = stays_each n k (says k a o).state os plain.1 one.agrees in
+        let rest = stays_each n k (takeovers_say k a o).state os plain.1 one.agrees in
         record { agrees = rest.agrees; held = λ e h. one.held e (rest.held e h); epoch = rest.epoch ∙ one.epoch }
 
     -- time alone says nothing else
-    pub stays_ticks : (n : Net) (k : ℕ) (p : SlotPhase) (q : Numbers) → PhaseAgrees part texts n desk p → Stays n p (takes (asker p q) k input.Tick)
-    unfolding takes heard
+    pub stays_ticks : (n : Net) (k : ℕ) (p : SlotPhase) (q : Numbers) → PhaseAgrees part texts n desk p → Stays n p (takeovers_take (asker p q) k input.Tick)
+    unfolding takeovers_take outs_of
     stays_ticks n k (phase.Taking t) q agrees = stays_each n k (asker (phase.Taking t) q) (transition t.take input.Tick).outs (tick_said t.take) agrees
     stays_ticks n k (phase.Away epoch) q agrees = stays_each n k (asker (phase.Away epoch) q) [] tt agrees
     stays_ticks n k (phase.Active a) q agrees = stays_each n k (asker (phase.Active a) q) [] tt agrees
     stays_ticks n k (phase.Broken epoch seg) q agrees = stays_each n k (asker (phase.Broken epoch seg) q) [] tt agrees
 
     pub stays_asks : (n : Net) (k : ℕ) (p : SlotPhase) (q : Numbers) (polls : Bool) → PhaseAgrees part texts n desk p
-        → Stays n p (asks_again (asker p q) k polls)
-    unfolding asks_again heard
+        → Stays n p (takeovers_ask_again (asker p q) k polls)
+    unfolding takeovers_ask_again outs_of
     stays_asks n k (phase.Taking t) q polls agrees = stays_each n k (asker (phase.Taking t) q) (filter (is_wanted polls) (transition t.take input.Tick).outs)
         (kept_plain (is_wanted polls) (transition t.take input.Tick).outs (tick_said t.take)) agrees
     stays_asks n k (phase.Away epoch) q polls agrees = stays_each n k (asker (phase.Away epoch) q) [] tt agrees
@@ -184,7 +184,7 @@ module _ (part : ℕ) (texts : Texts) (asked : Questions) where
     stays_asks n k (phase.Broken epoch seg) q polls agrees = stays_each n k (asker (phase.Broken epoch seg) q) [] tt agrees
 
     -- and a slot that is managed stays so
-    pub asks_managed : (k : ℕ) (p : SlotPhase) (q : Numbers) (polls : Bool) (e : ℕ) → ManagedAt p e → ManagedAt (asks_again (asker p q) k polls).state.phase e
-    unfolding asks_again heard says_each
+    pub asks_managed : (k : ℕ) (p : SlotPhase) (q : Numbers) (polls : Bool) (e : ℕ) → ManagedAt p e → ManagedAt (takeovers_ask_again (asker p q) k polls).state.phase e
+    unfolding takeovers_ask_again outs_of say_each
     asks_managed k (phase.Active a) q polls e h = h
     asks_managed k _ q polls e h = absurd h

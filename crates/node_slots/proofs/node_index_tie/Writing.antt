@@ -13,7 +13,7 @@ use Rattle.checkpoint.specs.declared.output.Out.TheVariants as out
 use Rattle.checkpoint.specs.Laws.{rows_of, rows_in, rows_of_items, nothing_checkpointed, after_event, slot_after, AllMayCome}
 use Rattle.checkpoint.specs.Laws.Event.{Written as Laid}
 use Rattle.checkpoint.specs.Plan.{plan_of}
-use Rattle.checkpoint.specs.Transition.{finished, gives, go_on}
+use Rattle.checkpoint.specs.Transition.{writer_finish, gives, go_on}
 use Rattle.checkpoint.specs.WriterState.{Rows, WorkState, WriterState, items_of}
 use Rattle.client_log.specs.declared.input.In.TheVariants as log_input
 use Rattle.client_log.specs.declared.output.Out.{Out as LogOut}
@@ -24,7 +24,7 @@ use Rattle.index_tie.specs.Net.{Net}
 use Rattle.index_tie.specs.Net.Packet.{CheckpointDone}
 use Rattle.index_tie.specs.Net.Happens.{Checkpoints}
 use Rattle.manager_slots.specs.Slots.{epoch_of}
-use Rattle.manager_slots.specs.SlotTable.{named_phase, named_at}
+use Rattle.manager_slots.specs.SlotTable.{phase_name, slot_table_name}
 use Rattle.manager_slots.specs.declared.slot_phase.SlotPhase.{SlotPhase}
 use Rattle.manager_slots.specs.declared.slot_phase.SlotPhase.TheVariants as phase
 use Rattle.manager_serving.specs.Checkpoints as node
@@ -104,13 +104,13 @@ module _ (part : ℕ) (texts : Texts) (questions : Questions) (exists : part < s
 
     module _ (nil : w.left ≡ []) where
       abbrev idle_writer : WriterState
-      idle_writer = (finished v.writer w).state
+      idle_writer = (writer_finish v.writer w).state
 
       abbrev done : CkptDone
       done = record { slot = w.slot; epoch = w.epoch; ask = next_ask v.lasting.questions; parts = w.parts; horizon = w.horizon }
 
       abbrev registered : Done
-      registered = node.registers (node.asked (record v { writer = idle_writer })) done
+      registered = node.register (node.asked (record v { writer = idle_writer })) done
 
       abbrev idle_desk : Desk
       idle_desk = record { log = v.log; given = agrees.given; writer = idle_writer }
@@ -163,8 +163,8 @@ module _ (part : ℕ) (texts : Texts) (questions : Questions) (exists : part < s
       paged_done m epoch pages parts ours same (Ended number over) = absurd (some_none w (sym there ∙ over))
 
       named_on : (m : Net) → Grows n m → ((e : ℕ) → m.slots e ≡ n.slots e) → w.slot ≡ part → (p : SlotPhase) → PhaseAgrees part texts n desk p
-          → PhaseAgrees part texts m idle_desk (named_phase w.epoch w.parts p)
-      unfolding named_phase
+          → PhaseAgrees part texts m idle_desk (phase_name w.epoch w.parts p)
+      unfolding phase_name
       named_on m g same ours (phase.Active a) k =
           by_test (PhaseAgrees part texts m idle_desk) (a.slot.epoch == w.epoch) (phase.Active (record a { parts = w.parts })) (phase.Active a)
           (λ fact. record {
@@ -185,34 +185,34 @@ module _ (part : ℕ) (texts : Texts) (questions : Questions) (exists : part < s
       named_on m g same ours (phase.Away e) k = tt
       named_on m g same ours (phase.Broken e seg) k = tt
 
-      named_held : (p : SlotPhase) (e : ℕ) → HeldAt (named_phase w.epoch w.parts p) e → HeldAt p e
-      unfolding named_phase
+      named_held : (p : SlotPhase) (e : ℕ) → HeldAt (phase_name w.epoch w.parts p) e → HeldAt p e
+      unfolding phase_name
       named_held (phase.Active a) e h = by_test (λ q. HeldAt q e → HeldAt (phase.Active a) e) (a.slot.epoch == w.epoch)
           (phase.Active (record a { parts = w.parts })) (phase.Active a) (λ _ k. k) (λ _ k. k) h
       named_held _ e h = h
 
-      named_managed : (p : SlotPhase) (e : ℕ) → ManagedAt p e → ManagedAt (named_phase w.epoch w.parts p) e
-      unfolding named_phase
+      named_managed : (p : SlotPhase) (e : ℕ) → ManagedAt p e → ManagedAt (phase_name w.epoch w.parts p) e
+      unfolding phase_name
       named_managed (phase.Active a) e h = by_test (λ q. ManagedAt q e) (a.slot.epoch == w.epoch) (phase.Active (record a { parts = w.parts })) (phase.Active a)
           (λ _. h) (λ _. h)
       named_managed _ e h = h
 
-      named_epoch : (p : SlotPhase) → epoch_of (named_phase w.epoch w.parts p) ≡ epoch_of p
-      unfolding named_phase
+      named_epoch : (p : SlotPhase) → epoch_of (phase_name w.epoch w.parts p) ≡ epoch_of p
+      unfolding phase_name
       named_epoch (phase.Active a) = by_test (λ q. epoch_of q ≡ epoch_of (phase.Active a)) (a.slot.epoch == w.epoch)
           (phase.Active (record a { parts = w.parts })) (phase.Active a) (λ _. refl) (λ _. refl)
       named_epoch _ = refl
 
-      done_awaited : (m : Net) → CkptSeen part m done → (o : Option Checkpointing) → DoneSeen part m (node.awaiting done o)
+      done_awaited : (m : Net) → CkptSeen part m done → (o : Option Checkpointing) → DoneSeen part m (node.await_answer done o)
       done_awaited m seen None = tt
       done_awaited m seen (Some job) = seen
 
       length_on : length registered.state.slots ≡ slot_count
-      unfolding node.registers named_at
-      length_on = changed_length v.slots w.slot (named_phase w.epoch w.parts) ∙ agrees.eight
+      unfolding node.register slot_table_name
+      length_on = changed_length v.slots w.slot (phase_name w.epoch w.parts) ∙ agrees.eight
 
       finishes_ours : w.slot ≡ part → Serves n v registered
-      unfolding node.registers named_at
+      unfolding node.register slot_table_name
       finishes_ours ours =
           let k = agrees.writer.work w there ours in
           let holds = held_in part texts in
@@ -224,9 +224,9 @@ module _ (part : ℕ) (texts : Texts) (questions : Questions) (exists : part < s
           let seen : CkptSeen part m done = λ _. inl (ap (CheckpointDone w.epoch w.horizon) k.as_planned.parts) in
           let within : w.slot < length v.slots = let e = agrees.eight in omega arith in
           let p = phase_at v.slots part in
-          let at : phase_at registered.state.slots part ≡ named_phase w.epoch w.parts p = subst
-          (λ x. phase_at (named_at v.slots w.slot w.epoch w.parts) x ≡ named_phase w.epoch w.parts (phase_at v.slots x)) ours
-          (changed_here v.slots w.slot (named_phase w.epoch w.parts) within) in
+          let at : phase_at registered.state.slots part ≡ phase_name w.epoch w.parts p = subst
+          (λ x. phase_at (slot_table_name v.slots w.slot w.epoch w.parts) x ≡ phase_name w.epoch w.parts (phase_at v.slots x)) ours
+          (changed_here v.slots w.slot (phase_name w.epoch w.parts) within) in
           sees_sent part texts questions brought n p (phase_at registered.state.slots part) (packet ∷ []) registered.outs
           (λ m. ServingAgrees part texts m registered.state)
           (Checkpoints w.epoch k.events w.horizon k.as_planned.segments k.as_planned.planned laid)
@@ -244,11 +244,11 @@ module _ (part : ℕ) (texts : Texts) (questions : Questions) (exists : part < s
           })
 
       finishes_other : (w.slot ≡ part → ⊥) → Serves n v registered
-      unfolding node.registers named_at
+      unfolding node.register slot_table_name
       finishes_other other =
           let seen : CkptSeen part n done = λ same. absurd (other same) in
           let p = phase_at v.slots part in
-          let at : phase_at registered.state.slots part ≡ p = changed_there v.slots w.slot part (named_phase w.epoch w.parts) (λ e. other (sym e)) in
+          let at : phase_at registered.state.slots part ≡ p = changed_there v.slots w.slot part (phase_name w.epoch w.parts) (λ e. other (sym e)) in
           sees_quiet part texts questions brought n p (phase_at registered.state.slots part) registered.outs (λ m. ServingAgrees part texts m registered.state)
           (λ e h. inl (subst (λ q. HeldAt q e) at h)) (λ _ e h. managed_as p (phase_at registered.state.slots part) at e h)
           (let e = ap epoch_of at in omega arith) (seen, tt)
@@ -288,10 +288,10 @@ module _ (part : ℕ) (texts : Texts) (questions : Questions) (exists : part < s
     pages_out = items_of w.slot (take 24 w.left)
 
     abbrev given_out : Done
-    given_out = node.gives_parts (record v { writer = busy_writer }) pages_out
+    given_out = node.give_parts (record v { writer = busy_writer }) pages_out
 
-    stored_done : (outs : List LogOut) → AllDone part texts questions n (flat_map node.stored outs)
-    unfolding node.stored
+    stored_done : (outs : List LogOut) → AllDone part texts questions n (flat_map node.checkpointing_store outs)
+    unfolding node.checkpointing_store
     stored_done [] = tt
     stored_done (log_out.Send fragment member ∷ os) = (tt, stored_done os)
     stored_done (log_out.Settled end rows ∷ os) = stored_done os
@@ -332,7 +332,7 @@ module _ (part : ℕ) (texts : Texts) (questions : Questions) (exists : part < s
     }
 
     gives_on : Serves n v given_out
-    unfolding node.gives_parts
+    unfolding node.give_parts
     gives_on =
         sees_same part texts questions brought n (phase_at v.slots part) given_out.outs (λ m. ServingAgrees part texts m given_out.state)
         (stored_done (log.transition v.log (log_input.Parts pages_out)).outs)
@@ -354,19 +354,19 @@ module _ (part : ℕ) (texts : Texts) (questions : Questions) (exists : part < s
 
     -- ---- either
 
-    says_done : (nil : w.left ≡ []) → Serves n v (node.says (record v { writer = (finished v.writer w).state }) (out.Done w.slot w.epoch w.parts w.horizon))
-    unfolding node.says
+    says_done : (nil : w.left ≡ []) → Serves n v (node.writer_says (record v { writer = (writer_finish v.writer w).state }) (out.Done w.slot w.epoch w.parts w.horizon))
+    unfolding node.writer_says
     says_done nil = finishes nil
 
-    says_parts : Serves n v (node.says (record v { writer = busy_writer }) (out.Parts pages_out))
-    unfolding node.says
+    says_parts : Serves n v (node.writer_says (record v { writer = busy_writer }) (out.Parts pages_out))
+    unfolding node.writer_says
     says_parts = gives_on
 
-    pub goes_on : Serves n v (node.says_each (record v { writer = (go_on v.writer w).state }) (go_on v.writer w).outs)
-    unfolding node.says_each
+    pub goes_on : Serves n v (node.writer_says_each (record v { writer = (go_on v.writer w).state }) (go_on v.writer w).outs)
+    unfolding node.writer_says_each
     goes_on =
-        by_test (λ (r : Stepped WriterState Out). Serves n v (steps node.says (record v { writer = r.state }) r.outs)) (length w.left == 0)
-        (finished v.writer w) (gives v.writer w)
-        (λ fact. serves_one node.says n v (record v { writer = (finished v.writer w).state }) (out.Done w.slot w.epoch w.parts w.horizon)
+        by_test (λ (r : Stepped WriterState Out). Serves n v (steps node.writer_says (record v { writer = r.state }) r.outs)) (length w.left == 0)
+        (writer_finish v.writer w) (gives v.writer w)
+        (λ fact. serves_one node.writer_says n v (record v { writer = (writer_finish v.writer w).state }) (out.Done w.slot w.epoch w.parts w.horizon)
         (says_done (nil_from_length w.left (eqb-true (length w.left) 0 fact))))
-        (λ _. serves_one node.says n v (record v { writer = busy_writer }) (out.Parts pages_out) says_parts)
+        (λ _. serves_one node.writer_says n v (record v { writer = busy_writer }) (out.Parts pages_out) says_parts)

@@ -11,7 +11,7 @@ use Rattle.xfs_base.proofs.Booleans.{contrary, by_test, and_second}
 use Rattle.token_client.specs.declared.held.Fetch.{Fetch}
 use Rattle.token_client.specs.declared.held.Held.{Held}
 use Rattle.token_client.specs.declared.held.Wanted.{Wanted}
-use Rattle.token_client.specs.Held.{unknown, is_wanted, gives_after, asked, asked_again, owned, copied, copy_granted, grant_taken, fetch_ended, written, version_settled, let_go, unasked, unfetched, promise_dropped, put_off, given_up}
+use Rattle.token_client.specs.Held.{held_new, is_wanted, gives_after, held_ask, asked_again, held_own, copy_of, take_copy, take_grant, end_fetch, held_write, version_settled, let_go, quit, unfetched, drop_promised, put_off, give_up}
 
 -- what is needed: one block in one mode, or none
 abbrev pub Need : Type 0
@@ -72,34 +72,34 @@ module _ (n : Need) (block : BlockId) where
       at_mode Own Own fact above same other = contrary (sym other)
 
   module _ (h : Held) (p : Suits n block h) where
-    pub asked-suits : (req : ℕ) (mode : Mode) → n ≡ Some (block, mode) → allows h.mode mode ≡ false → Suits n block (asked h req mode)
-    asked-suits req mode fact above = record { want = (fact, above); fetch = p.fetch }
+    pub held_ask-suits : (req : ℕ) (mode : Mode) → n ≡ Some (block, mode) → allows h.mode mode ≡ false → Suits n block (held_ask h req mode)
+    held_ask-suits req mode fact above = record { want = (fact, above); fetch = p.fetch }
 
     pub asked_again-suits : (w : Wanted) → WantSuits n block h.mode (Some w) → Suits n block (asked_again h w)
     asked_again-suits w q = record { want = q; fetch = p.fetch }
 
-    copy_granted-suits : (stamp : Stamp) (ver : ℕ) (place : Option Place) → n ≡ Some (block, Copy) → Suits n block (copy_granted h stamp ver place)
-    copy_granted-suits stamp ver None fact = record { want = tt; fetch = tt }
-    copy_granted-suits stamp ver (Some place) fact = record { want = tt; fetch = fact }
+    take_copy-suits : (stamp : Stamp) (ver : ℕ) (place : Option Place) → n ≡ Some (block, Copy) → Suits n block (take_copy h stamp ver place)
+    take_copy-suits stamp ver None fact = record { want = tt; fetch = tt }
+    take_copy-suits stamp ver (Some place) fact = record { want = tt; fetch = fact }
 
     pub grant_needed : (req : ℕ) (mode : Mode) → is_wanted h.want req mode ≡ true → is_own mode ≡ false → n ≡ Some (block, Copy)
     grant_needed req mode answers other = copy_answered h.mode mode h.want req p.want answers other
 
-    pub grant_taken-suits : (stamp : Stamp) (req : ℕ) (mode : Mode) (entry : Entry) → is_wanted h.want req mode ≡ true
-        → Suits n block (grant_taken h stamp mode entry)
-    grant_taken-suits stamp req mode entry answers =
-        by_test (Suits n block) (is_own mode) (owned h stamp entry.ver) (copy_granted h stamp entry.ver entry.place)
-        (λ t. record { want = tt; fetch = tt }) (λ t. copy_granted-suits stamp entry.ver entry.place (grant_needed req mode answers t))
+    pub take_grant-suits : (stamp : Stamp) (req : ℕ) (mode : Mode) (entry : Entry) → is_wanted h.want req mode ≡ true
+        → Suits n block (take_grant h stamp mode entry)
+    take_grant-suits stamp req mode entry answers =
+        by_test (Suits n block) (is_own mode) (held_own h stamp entry.ver) (take_copy h stamp entry.ver entry.place)
+        (λ t. record { want = tt; fetch = tt }) (λ t. take_copy-suits stamp entry.ver entry.place (grant_needed req mode answers t))
 
-    pub copied-suits : (stamp : Stamp) (ver : ℕ) (value : Option (List ℕ)) → Suits n block (copied h stamp ver value)
-    copied-suits stamp ver value = record { want = tt; fetch = tt }
+    pub copy_of-suits : (stamp : Stamp) (ver : ℕ) (value : Option (List ℕ)) → Suits n block (copy_of h stamp ver value)
+    copy_of-suits stamp ver value = record { want = tt; fetch = tt }
 
-    pub fetch_ended-suits : (f : Option Fetch) (value : Option (List ℕ)) → is_none h.want ≡ true → Suits n block (fetch_ended h f value)
-    fetch_ended-suits None value unwanted = p
-    fetch_ended-suits (Some f) value unwanted = record { want = none_suits Copy h.want unwanted; fetch = tt }
+    pub end_fetch-suits : (f : Option Fetch) (value : Option (List ℕ)) → is_none h.want ≡ true → Suits n block (end_fetch h f value)
+    end_fetch-suits None value unwanted = p
+    end_fetch-suits (Some f) value unwanted = record { want = none_suits Copy h.want unwanted; fetch = tt }
 
-    pub written-suits : (value : Option (List ℕ)) → Suits n block (written h value)
-    written-suits value = record { want = p.want; fetch = p.fetch }
+    pub held_write-suits : (value : Option (List ℕ)) → Suits n block (held_write h value)
+    held_write-suits value = record { want = p.want; fetch = p.fetch }
 
     pub version_settled-suits : (ver : ℕ) → Suits n block (version_settled h ver)
     version_settled-suits ver = record { want = p.want; fetch = p.fetch }
@@ -107,26 +107,26 @@ module _ (n : Need) (block : BlockId) where
     pub let_go-suits : Suits n block (let_go h)
     let_go-suits = record { want = lowered h.mode Nothing h.want (nothing_allows h.mode) p.want; fetch = p.fetch }
 
-    pub unasked-suits : Suits n block (unasked h)
-    unasked-suits = record { want = tt; fetch = tt }
+    pub quit-suits : Suits n block (quit h)
+    quit-suits = record { want = tt; fetch = tt }
 
     pub unfetched-suits : Suits n block (unfetched h)
     unfetched-suits = record { want = p.want; fetch = tt }
 
-    pub promise_dropped-suits : Suits n block (promise_dropped h)
-    promise_dropped-suits = record { want = p.want; fetch = tt }
+    pub drop_promised-suits : Suits n block (drop_promised h)
+    drop_promised-suits = record { want = p.want; fetch = tt }
 
     pub put_off-suits : (stamp : Stamp) (keep : Bool) → Suits n block (put_off h stamp keep)
     put_off-suits stamp keep =
         by_test (Suits n block) (gives_after h.giving stamp) h (record h { giving = Some (record { stamp = stamp; keep = keep }) }) (λ t. p)
         (λ t. record { want = p.want; fetch = p.fetch })
 
-    pub given_up-suits : (stamp : Stamp) (keep : Bool) → Suits n block (given_up h stamp keep)
-    given_up-suits stamp keep =
+    pub give_up-suits : (stamp : Stamp) (keep : Bool) → Suits n block (give_up h stamp keep)
+    give_up-suits stamp keep =
         by_test (Suits n block) (keep && is_held h.mode)
         (record h { mode = Copy; stamp = stamp; giving = None }) (record h { mode = Nothing; value = None; stamp = stamp; giving = None })
         (λ t. record { want = lowered h.mode Copy h.want (λ m. copy_allows h.mode m (and_second keep (is_held h.mode) t)) p.want; fetch = p.fetch })
         (λ t. record { want = lowered h.mode Nothing h.want (nothing_allows h.mode) p.want; fetch = p.fetch })
 
-  pub unknown-suits : Suits n block unknown
-  unknown-suits = record { want = tt; fetch = tt }
+  pub held_new-suits : Suits n block held_new
+  held_new-suits = record { want = tt; fetch = tt }

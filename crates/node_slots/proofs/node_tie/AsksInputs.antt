@@ -16,14 +16,14 @@ use Rattle.token_client.specs.declared.input.In.{In}
 use Rattle.token_client.specs.declared.input.In.TheVariants as input
 use Rattle.token_client.specs.declared.output.Out.{Out}
 use Rattle.token_client.specs.declared.output.Out.TheVariants.{Want, Gave, Supply, Flush, Read, Ready}
-use Rattle.token_client.specs.Held.{is_asking, is_wanted, grant_taken}
+use Rattle.token_client.specs.Held.{is_asking, is_wanted, take_grant}
 use Rattle.token_client.specs.Laws.{IsSound}
-use Rattle.token_client.specs.State.{TokensState, held_of, started, with_held}
+use Rattle.token_client.specs.State.{TokensState, held_of, tokens_start, with_held}
 use Rattle.token_client.specs.Transition.{Done, accepts, copy_next, grant_next, on_granted, transition}
-use Rattle.token_client.proofs.AllInputs.{started-sound, transition-follows}
+use Rattle.token_client.proofs.AllInputs.{tokens_start-sound, transition-follows}
 use Rattle.token_client.proofs.Promises.{Each}
 use Rattle.token_client.proofs.SoundBlocks.{asks_by_fetch, asks_by_want}
-use Rattle.node_slots.proofs.node_tie.AsksBlock.{Need, WantSuits, FetchSuits, grant_needed, grant_taken-suits, unknown-suits}
+use Rattle.node_slots.proofs.node_tie.AsksBlock.{Need, WantSuits, FetchSuits, grant_needed, take_grant-suits, held_new-suits}
 use Rattle.node_slots.proofs.node_tie.AsksTokens.{AllSuit, IsQuiet, GoesOn, answers_want, put-suits, on_need-goes_on, on_supplied-goes_on, on_forwarded-goes_on, on_recalled-goes_on, on_wrote-goes_on, on_settled-goes_on, on_fetched-goes_on, on_evict-goes_on, on_reask-goes_on, on_quit-goes_on, on_promise-goes_on, on_tick-goes_on}
 
 -- the tokens are sound, and ask for what is needed
@@ -48,8 +48,8 @@ OneRead n [] = Unit {0}
 OneRead n (o ∷ []) = ReadSuits n o
 OneRead n (o ∷ o' ∷ outs) = ⊥
 
-pub started-asks : (n : Need) (inc : ℕ) (epochs : List ℕ) → AsksAs n (started inc epochs)
-started-asks n inc epochs = record { sound = started-sound inc epochs; suits = λ b. unknown-suits n b }
+pub tokens_start-asks : (n : Need) (inc : ℕ) (epochs : List ℕ) → AsksAs n (tokens_start inc epochs)
+tokens_start-asks n inc epochs = record { sound = tokens_start-sound inc epochs; suits = λ b. held_new-suits n b }
 
 -- each input keeps the tokens sound
 transition-sound : (s : TokensState) (i : In) → IsSound s → IsSound (transition s i).state
@@ -86,9 +86,9 @@ module _ (n : Need) (s : TokensState) (a : AsksAs n s) where
       suits =
           let h : Held = held_of s.blocks block in
           by_test (λ (d : Done). AllSuit n d.state) (accepts s block stamp inc req mode)
-          (record { state = with_held s block (grant_taken h stamp mode entry); outs = grant_next block mode entry.place ∷ [] }) (still s)
+          (record { state = with_held s block (take_grant h stamp mode entry); outs = grant_next block mode entry.place ∷ [] }) (still s)
           (λ t. let answers : is_wanted h.want req mode ≡ true = answers_want n s a.sound a.suits block stamp inc req mode t in
-          put-suits n s a.suits block (grant_taken h stamp mode entry) (grant_taken-suits n block h (a.suits block) stamp req mode entry answers))
+          put-suits n s a.suits block (take_grant h stamp mode entry) (take_grant-suits n block h (a.suits block) stamp req mode entry answers))
           (λ t. a.suits);
     }
 
@@ -109,7 +109,7 @@ module _ (n : Need) (s : TokensState) (a : AsksAs n s) where
     unfolding on_granted
     granted-outs =
         by_test (λ (d : Done). OneRead n d.outs) (accepts s block stamp inc req mode)
-        (record { state = with_held s block (grant_taken (held_of s.blocks block) stamp mode entry); outs = grant_next block mode entry.place ∷ [] }) (still s)
+        (record { state = with_held s block (take_grant (held_of s.blocks block) stamp mode entry); outs = grant_next block mode entry.place ∷ [] }) (still s)
         (λ t. grant_next-suits t) (λ t. tt)
 
 -- ---- where nothing is asked for

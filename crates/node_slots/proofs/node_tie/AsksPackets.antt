@@ -1,19 +1,19 @@
 -- A client that serves asks for its call still, whatever a packet says, and as time passes.
 use Rattle.std.proofs.Common.{◌≡◌, ℕ, Bool, true, ◌&&◌, ◌==◌, not, nat_lt, List, Option, Some, None, option_map, refl}
 use Rattle.client_log.specs.declared.input.In.TheVariants as log_in
-use Rattle.client_call.specs.Reads.{block_read, heard, Heard, reading_in, value_at}
+use Rattle.client_call.specs.Reads.{block_read, hear_reading, Heard, reading_in, value_at}
 use Rattle.client_serving.specs.declared.serving.Serving.{Serving}
-use Rattle.client_serving.specs.Flights.{held_at, on_stored, writes}
-use Rattle.client_serving.specs.Follow.{follows, hands, takes_back}
+use Rattle.client_serving.specs.Flights.{held_at, on_stored, serving_write}
+use Rattle.client_serving.specs.Follow.{serving_follow, hand, take_back}
 use Rattle.client_serving.specs.Grants.{is_stamp, is_want}
-use Rattle.client_serving.specs.Packets.{asks_for_maps, ends_fetch, hears, is_acked, is_gone, is_news, may_report, on_ack, on_body, on_forward, on_found, on_gone, on_grant, on_missing, on_news, on_packet, on_poll, on_recall, on_supply, on_tick, on_told, on_welcome, polled, promised_by, promised_in, promises, regroups, renews, reports, says_again, takes_news, told_at, told_by}
+use Rattle.client_serving.specs.Packets.{asks_for_maps, end_fetch, serving_hear, is_acked, is_gone, is_news, may_report, on_ack, take_body, on_forward, on_found, on_gone, on_grant, on_missing, on_news, serving_take, on_poll, on_recall, on_supply, on_tick, on_told, on_welcome, polled, promised_by, promised_in, serving_promise, regroups, serving_renew, reports, says_again, takes_news, told_at, told_by}
 use Rattle.client_serving.specs.Reads.{ends_reading, loses, with_reading}
 use Rattle.client_serving.specs.Sends.{Done}
 use Rattle.delta_feed.specs.Transition.{acknowledged, new_epoch}
 use Rattle.group_map.specs.GroupMapState.{GroupMapState}
-use Rattle.log_owner.specs.Promised.{manager_set}
-use Rattle.node_base.specs.Known.{names_known}
-use Rattle.node_base.specs.Maps.{fits, is_older, taken}
+use Rattle.log_owner.specs.Promised.{managers_set}
+use Rattle.node_base.specs.Known.{names_known_groups}
+use Rattle.node_base.specs.Maps.{fits, is_older, maps_take}
 use Rattle.node_base.specs.Room.{has_long_room}
 use Rattle.segment_reading.specs.declared.reading.Next.{Next}
 use Rattle.segment_reading.specs.declared.reading.Next.TheVariants as next
@@ -50,8 +50,8 @@ use Rattle.node_slots.specs.node_tie.Asks.{AsksForCall, needed}
 use Rattle.node_slots.proofs.node_tie.AsksBlock.{Need}
 use Rattle.node_slots.proofs.node_tie.AsksInputs.{transition-asks, transition-quiet}
 use Rattle.node_slots.proofs.node_tie.AsksFrames.{Keeps, kept, keeps_same, keeps_through, steps_keep, takes-keeps}
-use Rattle.node_slots.proofs.node_tie.AsksFollow.{ends_reading-keeps, follows-keeps, hands-keeps, takes_back-keeps, with_reading-keeps}
-use Rattle.node_slots.proofs.node_tie.AsksFlights.{writes-keeps}
+use Rattle.node_slots.proofs.node_tie.AsksFollow.{ends_reading-keeps, serving_follow-keeps, hand-keeps, take_back-keeps, with_reading-keeps}
+use Rattle.node_slots.proofs.node_tie.AsksFlights.{serving_write-keeps}
 use Rattle.node_slots.proofs.node_tie.AsksReads.{grant-asks, loses-asks}
 
 module _ (n : Need) where
@@ -62,7 +62,7 @@ module _ (n : Need) where
 
   on_supply-keeps : (s : Serving) (p : Supply) → KeepsAll s (on_supply s p)
   unfolding on_supply
-  on_supply-keeps s p = hands-keeps n s (tokens.Supplied p.block p.stamp p.inc p.req p.ver p.value) tt
+  on_supply-keeps s p = hand-keeps n s (tokens.Supplied p.block p.stamp p.inc p.req p.ver p.value) tt
 
   on_forward-keeps : (s : Serving) (f : Forward) → KeepsAll s (on_forward s f)
   unfolding on_forward
@@ -72,8 +72,8 @@ module _ (n : Need) where
   unfolding on_recall
   on_recall-keeps s r =
       by_test (KeepsAll s) (is_stamp (held_at s r.block).stamp r.stamp) (says_again s r (on_recalled s.tokens r.block r.stamp r.keep))
-      (takes_back s r.block r.stamp r.keep)
-      (λ t. takes-keeps n s (tokens.Recalled r.block r.stamp r.keep) tt) (λ t. takes_back-keeps n s r.block r.stamp r.keep)
+      (take_back s r.block r.stamp r.keep)
+      (λ t. takes-keeps n s (tokens.Recalled r.block r.stamp r.keep) tt) (λ t. take_back-keeps n s r.block r.stamp r.keep)
 
   on_ack-keeps : (s : Serving) (m : DeltaAck) → Keeps n s (on_ack s m)
   unfolding on_ack
@@ -83,20 +83,20 @@ module _ (n : Need) where
 
   -- ---- fragments
 
-  ends_fetch-keeps : (s : Serving) (at : BlockAt) (does : Next) → KeepsAll s (ends_fetch s at does)
-  ends_fetch-keeps s at next.Again = hands-keeps n s (tokens.Reask at.block) tt
-  ends_fetch-keeps s at (next.Read segment) = hands-keeps n s (tokens.Fetched at.block (value_at segment at.item)) tt
-  ends_fetch-keeps s at _ = keeps_same n s
+  end_fetch-keeps : (s : Serving) (at : BlockAt) (does : Next) → KeepsAll s (end_fetch s at does)
+  end_fetch-keeps s at next.Again = hand-keeps n s (tokens.Reask at.block) tt
+  end_fetch-keeps s at (next.Read segment) = hand-keeps n s (tokens.Fetched at.block (value_at segment at.item)) tt
+  end_fetch-keeps s at _ = keeps_same n s
 
   told_at-keeps : (s : Serving) (at : Option BlockAt) (h : Heard) → KeepsAll s (told_at s at h)
   told_at-keeps s None h = keeps_same n s
   told_at-keeps s (Some at) h =
       let t : Serving = with_reading s h.reading in
-      keeps_through n s t (ends_fetch t at h.next).state (with_reading-keeps n s h.reading) (ends_fetch-keeps t at h.next)
+      keeps_through n s t (end_fetch t at h.next).state (with_reading-keeps n s h.reading) (end_fetch-keeps t at h.next)
 
   told_by-keeps : (s : Serving) (server ask : ℕ) (t : Told) → KeepsAll s (told_by s server ask t)
   unfolding told_by
-  told_by-keeps s server ask t = told_at-keeps s (block_read (reading_in s.call)) (heard (reading_in s.call) s.maps.groups ask server t)
+  told_by-keeps s server ask t = told_at-keeps s (block_read (reading_in s.call)) (hear_reading (reading_in s.call) s.maps.groups ask server t)
 
   on_told-keeps : (s : Serving) (from : NodeId) (ask : ℕ) (t : Told) → KeepsAll s (on_told s from ask t)
   on_told-keeps s (node.Server server) ask t = told_by-keeps s server ask t
@@ -110,56 +110,56 @@ module _ (n : Need) where
 
   -- ---- promises
 
-  renews-keeps : (s : Serving) (slot epoch : ℕ) → Keeps n s (renews s slot epoch)
-  unfolding renews
-  renews-keeps s slot epoch =
+  serving_renew-keeps : (s : Serving) (slot epoch : ℕ) → Keeps n s (serving_renew s slot epoch)
+  unfolding serving_renew
+  serving_renew-keeps s slot epoch =
       by_test (Keeps n s) (nat_lt (epoch_of s.tokens.epochs slot) epoch) (record s { feed = new_epoch s.feed slot }) s
       (λ t a. record { asks = a; call = refl; item = refl }) (λ t. keeps_same n s)
 
   -- a slot is promised, and what the tokens say is done
   promised_by-keeps : (s : Serving) (slot epoch manager : ℕ)
-      → KeepsAll s (follows (promised_by s slot epoch manager).state (promised_by s slot epoch manager).outs)
+      → KeepsAll s (serving_follow (promised_by s slot epoch manager).state (promised_by s slot epoch manager).outs)
   promised_by-keeps s slot epoch manager a =
-      let t : Serving = record s { managers = manager_set s.managers slot manager; tokens = (on_promise s.tokens slot epoch).state } in
+      let t : Serving = record s { managers = managers_set s.managers slot manager; tokens = (on_promise s.tokens slot epoch).state } in
       let u : Serving = ends_reading t in
       let outs : List Out = (on_promise s.tokens slot epoch).outs in
-      let followed : Keeps n u (follows u outs).state = follows-keeps n u outs (transition-quiet n s.tokens a (tokens.Promise slot epoch) tt) in
-      keeps_through n s t (follows u outs).state (λ b. record { asks = transition-asks n s.tokens b (tokens.Promise slot epoch) tt; call = refl; item = refl })
-      (keeps_through n t u (follows u outs).state (ends_reading-keeps n t) followed) a
+      let followed : Keeps n u (serving_follow u outs).state = serving_follow-keeps n u outs (transition-quiet n s.tokens a (tokens.Promise slot epoch) tt) in
+      keeps_through n s t (serving_follow u outs).state (λ b. record { asks = transition-asks n s.tokens b (tokens.Promise slot epoch) tt; call = refl; item = refl })
+      (keeps_through n t u (serving_follow u outs).state (ends_reading-keeps n t) followed) a
 
-  promises-keeps : (s : Serving) (slot epoch manager : ℕ) → KeepsAll s (follows (promises s slot epoch manager).state (promises s slot epoch manager).outs)
-  unfolding promises
-  promises-keeps s slot epoch manager =
-      let t : Serving = renews s slot epoch in
-      keeps_through n s t (follows (promised_by t slot epoch manager).state (promised_by t slot epoch manager).outs).state (renews-keeps s slot epoch)
+  serving_promise-keeps : (s : Serving) (slot epoch manager : ℕ) → KeepsAll s (serving_follow (serving_promise s slot epoch manager).state (serving_promise s slot epoch manager).outs)
+  unfolding serving_promise
+  serving_promise-keeps s slot epoch manager =
+      let t : Serving = serving_renew s slot epoch in
+      keeps_through n s t (serving_follow (promised_by t slot epoch manager).state (promised_by t slot epoch manager).outs).state (serving_renew-keeps s slot epoch)
       (promised_by-keeps t slot epoch manager)
 
   polled-keeps : (s : Serving) (manager : ℕ) (p : Poll) → KeepsAll s (polled s manager p)
   unfolding polled
   polled-keeps s manager p =
-      by_test (KeepsAll s) (may_report s p) (reports p.slot p.epoch (promises s p.slot p.epoch manager)) (still s)
-      (λ t. promises-keeps s p.slot p.epoch manager) (λ t. keeps_same n s)
+      by_test (KeepsAll s) (may_report s p) (reports p.slot p.epoch (serving_promise s p.slot p.epoch manager)) (still s)
+      (λ t. serving_promise-keeps s p.slot p.epoch manager) (λ t. keeps_same n s)
 
   on_poll-keeps : (s : Serving) (from : NodeId) (p : Poll) → KeepsAll s (on_poll s from p)
   on_poll-keeps s (node.Manager manager) p = polled-keeps s manager p
   on_poll-keeps s _ p = keeps_same n s
 
-  hears-keeps : (s : Serving) (news : SlotNews) → KeepsAll s (hears s news)
-  unfolding hears
-  hears-keeps s news =
-      by_test (KeepsAll s) (is_news s news) (promised_in s news) (still s) (λ t. promises-keeps s news.slot news.epoch news.manager) (λ t. keeps_same n s)
+  serving_hear-keeps : (s : Serving) (news : SlotNews) → KeepsAll s (serving_hear s news)
+  unfolding serving_hear
+  serving_hear-keeps s news =
+      by_test (KeepsAll s) (is_news s news) (promised_in s news) (still s) (λ t. serving_promise-keeps s news.slot news.epoch news.manager) (λ t. keeps_same n s)
 
   regroups-keeps : (s : Serving) (newer : Bool) (groups : GroupMapState) → KeepsAll s (regroups s newer groups)
   regroups-keeps s newer groups =
-      by_test (KeepsAll s) newer (writes s (log_in.Maps groups)) (still s) (λ t. writes-keeps n s (log_in.Maps groups)) (λ t. keeps_same n s)
+      by_test (KeepsAll s) newer (serving_write s (log_in.Maps groups)) (still s) (λ t. serving_write-keeps n s (log_in.Maps groups)) (λ t. keeps_same n s)
 
   takes_news-keeps : (s : Serving) (news : News) → KeepsAll s (takes_news s news)
   unfolding takes_news
   takes_news-keeps s news =
-      let t : Serving = record s { maps = taken s.maps news } in
-      let u : Serving = (steps hears t news.slots).state in
+      let t : Serving = record s { maps = maps_take s.maps news } in
+      let u : Serving = (steps serving_hear t news.slots).state in
       keeps_through n s u (regroups u (is_older s.maps news) news.groups).state
-      (keeps_through n s t u (λ a. record { asks = a; call = refl; item = refl }) (steps_keep n hears hears-keeps t news.slots))
+      (keeps_through n s t u (λ a. record { asks = a; call = refl; item = refl }) (steps_keep n serving_hear serving_hear-keeps t news.slots))
       (regroups-keeps u (is_older s.maps news) news.groups)
 
   on_news-keeps : (s : Serving) (news : News) → KeepsAll s (on_news s news)
@@ -174,8 +174,8 @@ module _ (n : Need) where
   on_tick-keeps : (s : Serving) → KeepsAll s (on_tick s)
   unfolding on_tick
   on_tick-keeps s =
-      let t : Serving = (hands s tokens.Tick).state in
-      keeps_through n s t (writes t log_in.Tick).state (hands-keeps n s tokens.Tick tt) (writes-keeps n t log_in.Tick)
+      let t : Serving = (hand s tokens.Tick).state in
+      keeps_through n s t (serving_write t log_in.Tick).state (hand-keeps n s tokens.Tick tt) (serving_write-keeps n t log_in.Tick)
 
   asks_for_maps-keeps : (s : Serving) → KeepsAll s (asks_for_maps s)
   unfolding asks_for_maps
@@ -190,7 +190,7 @@ module _ (s : Serving) (p : AsksForCall s) where
   on_grant-asks : (g : Grant) → StillAsks (on_grant s g)
   unfolding on_grant
   on_grant-asks g =
-      by_test StillAsks (is_own g.mode && not (has_long_room g.entry.ver)) (still s) (hands s (tokens.Granted g.block g.stamp g.inc g.req g.mode g.entry))
+      by_test StillAsks (is_own g.mode && not (has_long_room g.entry.ver)) (still s) (hand s (tokens.Granted g.block g.stamp g.inc g.req g.mode g.entry))
       (λ t. p)
       (λ t. grant-asks s g.block g.stamp g.inc g.req g.mode g.entry p)
 
@@ -213,25 +213,25 @@ module _ (s : Serving) (p : AsksForCall s) where
   keeps_asks : (d : Done) → Keeps (needed s.call) s d.state → StillAsks d
   keeps_asks d f = kept s d.state f p
 
-  on_body-asks : (from : NodeId) (m : Body) → StillAsks (on_body s from m)
-  on_body-asks from (body.Grant m) = on_grant-asks m
-  on_body-asks from (body.Supply m) = keeps_asks (on_supply s m) (on_supply-keeps (needed s.call) s m)
-  on_body-asks from (body.Forward m) = keeps_asks (on_forward s m) (on_forward-keeps (needed s.call) s m)
-  on_body-asks from (body.Recall m) = keeps_asks (on_recall s m) (on_recall-keeps (needed s.call) s m)
-  on_body-asks from (body.Gone m) = on_gone-asks m
-  on_body-asks from (body.DeltaAck m) = keeps_asks (still (on_ack s m)) (on_ack-keeps (needed s.call) s m)
-  on_body-asks from (body.Poll m) = keeps_asks (on_poll s from m) (on_poll-keeps (needed s.call) s from m)
-  on_body-asks from (body.Stored m) = keeps_asks (on_stored s m) (writes-keeps (needed s.call) s (log_in.Acked m.name m.index m.generation))
-  on_body-asks from (body.Fragment m) = keeps_asks (on_found s from m) (on_found-keeps (needed s.call) s from m)
-  on_body-asks from (body.Missing m) = keeps_asks (on_missing s from m) (on_missing-keeps (needed s.call) s from m)
-  on_body-asks from (body.MapNews m) = keeps_asks (on_news s m) (on_news-keeps (needed s.call) s m)
-  on_body-asks from (body.Welcome m) = keeps_asks (on_welcome s m) (on_welcome-keeps (needed s.call) s m)
-  on_body-asks from _ = p
+  take_body-asks : (from : NodeId) (m : Body) → StillAsks (take_body s from m)
+  take_body-asks from (body.Grant m) = on_grant-asks m
+  take_body-asks from (body.Supply m) = keeps_asks (on_supply s m) (on_supply-keeps (needed s.call) s m)
+  take_body-asks from (body.Forward m) = keeps_asks (on_forward s m) (on_forward-keeps (needed s.call) s m)
+  take_body-asks from (body.Recall m) = keeps_asks (on_recall s m) (on_recall-keeps (needed s.call) s m)
+  take_body-asks from (body.Gone m) = on_gone-asks m
+  take_body-asks from (body.DeltaAck m) = keeps_asks (still (on_ack s m)) (on_ack-keeps (needed s.call) s m)
+  take_body-asks from (body.Poll m) = keeps_asks (on_poll s from m) (on_poll-keeps (needed s.call) s from m)
+  take_body-asks from (body.Stored m) = keeps_asks (on_stored s m) (serving_write-keeps (needed s.call) s (log_in.Acked m.name m.index m.generation))
+  take_body-asks from (body.Fragment m) = keeps_asks (on_found s from m) (on_found-keeps (needed s.call) s from m)
+  take_body-asks from (body.Missing m) = keeps_asks (on_missing s from m) (on_missing-keeps (needed s.call) s from m)
+  take_body-asks from (body.MapNews m) = keeps_asks (on_news s m) (on_news-keeps (needed s.call) s m)
+  take_body-asks from (body.Welcome m) = keeps_asks (on_welcome s m) (on_welcome-keeps (needed s.call) s m)
+  take_body-asks from _ = p
 
-  pub on_packet-asks : (packet : Packet) → StillAsks (on_packet s packet)
-  unfolding on_packet
-  on_packet-asks packet =
-      by_test StillAsks (names_known s.maps packet.body) (on_body s packet.from packet.body) (asks_for_maps s) (λ t. on_body-asks packet.from packet.body)
+  pub serving_take-asks : (packet : Packet) → StillAsks (serving_take s packet)
+  unfolding serving_take
+  serving_take-asks packet =
+      by_test StillAsks (names_known_groups s.maps packet.body) (take_body s packet.from packet.body) (asks_for_maps s) (λ t. take_body-asks packet.from packet.body)
       (λ t. keeps_asks (asks_for_maps s) (asks_for_maps-keeps (needed s.call) s))
 
   pub on_tick-asks : StillAsks (on_tick s)

@@ -29,13 +29,13 @@ use Rattle.token_client.specs.Transition.{on_granted, transition}
 use Rattle.token_client.proofs.Readings.{quit_ends}
 use Rattle.client_call.specs.Reads.{kept_while, reading_in, same_at, same_target, target_of}
 use Rattle.client_serving.specs.declared.serving.Serving.{Serving}
-use Rattle.client_serving.specs.Follow.{follows, follows_one, hands}
-use Rattle.client_serving.specs.Reads.{ask_after, begins, begins_over, confirmed_next, confirms, drawn_after, draws, ends_reading, group_in, loses, loses_at, reads, reads_over, with_reading}
+use Rattle.client_serving.specs.Follow.{serving_follow, follow_one, hand}
+use Rattle.client_serving.specs.Reads.{ask_after, begin_reading, begins_over, go_on_reading, serving_confirm, drawn_after, draws, ends_reading, group_in, loses, lose_at, serving_read, reads_over, with_reading}
 use Rattle.client_serving.specs.Sends.{Done}
 use Rattle.node_slots.specs.node_tie.Asks.{AsksForCall, needed}
 use Rattle.node_slots.proofs.node_tie.AsksInputs.{AsksAs, OneRead, ReadSuits, granted-asks, granted-outs, nothing_asks, transition-asks}
 use Rattle.node_slots.proofs.node_tie.AsksFrames.{asks_as, asks_for, asks_none, kept, needed_same}
-use Rattle.node_slots.proofs.node_tie.AsksFollow.{call_with-step, ends_reading-keeps, follows_one-keeps, with_reading-keeps}
+use Rattle.node_slots.proofs.node_tie.AsksFollow.{set_reading-step, ends_reading-keeps, follow_one-keeps, with_reading-keeps}
 
 -- the open call reads this block
 pub record ReadsFor (block : BlockId) (s : Serving) : Type 0 where
@@ -78,76 +78,76 @@ with_reading-asks : (s : Serving) (r : Option ReadingState) → AsksForCall s �
 with_reading-asks s r p = kept s (with_reading s r) (with_reading-keeps (needed s.call) s r) p
 
 module _ (block : BlockId) where
-  loses_at-asks : (s : Serving) (at : Option BlockAt) (seg : SegName) → IsAt block at → ReadsFor block s → AsksForCall (loses_at s at seg).state
-  loses_at-asks s None seg here p = p.asks
-  loses_at-asks s (Some at) seg here p = loses-asks s at.block Copy seg p.asks (p.needs ∙ ap (λ b. Some (b, Copy)) (sym here))
+  lose_at-asks : (s : Serving) (at : Option BlockAt) (seg : SegName) → IsAt block at → ReadsFor block s → AsksForCall (lose_at s at seg).state
+  lose_at-asks s None seg here p = p.asks
+  lose_at-asks s (Some at) seg here p = loses-asks s at.block Copy seg p.asks (p.needs ∙ ap (λ b. Some (b, Copy)) (sym here))
 
-  confirmed_next-asks : (s : Serving) (r : ReadingState) (then_next : Next) → IsAt block r.target.block → ReadsFor block s
-      → AsksForCall (confirmed_next s r then_next).state
-  confirmed_next-asks s r next.Lost here p = loses_at-asks s r.target.block r.target.seg.name here p
-  confirmed_next-asks s r _ here p = with_reading-asks s (Some r) p.asks
+  go_on_reading-asks : (s : Serving) (r : ReadingState) (then_next : Next) → IsAt block r.target.block → ReadsFor block s
+      → AsksForCall (go_on_reading s r then_next).state
+  go_on_reading-asks s r next.Lost here p = lose_at-asks s r.target.block r.target.seg.name here p
+  go_on_reading-asks s r _ here p = with_reading-asks s (Some r) p.asks
 
   drawn_after-reads : (s : Serving) (stage : Stage) → ReadsFor block s → ReadsFor block (drawn_after s stage)
   drawn_after-reads s Between p = record { asks = draws-asks s p.asks; needs = p.needs }
   drawn_after-reads s _ p = p
 
-  confirms-asks : (s : Serving) (r : ReadingState) → IsAt block r.target.block → ReadsFor block s → AsksForCall (confirms s r).state
-  unfolding confirms
-  confirms-asks s r here p =
+  serving_confirm-asks : (s : Serving) (r : ReadingState) → IsAt block r.target.block → ReadsFor block s → AsksForCall (serving_confirm s r).state
+  unfolding serving_confirm
+  serving_confirm-asks s r here p =
       let ask : ℕ = ask_after s r.ask r.stage in
-      confirmed_next-asks (drawn_after s r.stage) (on_confirmed r ask).state (on_confirmed r ask).next
+      go_on_reading-asks (drawn_after s r.stage) (on_confirmed r ask).state (on_confirmed r ask).next
       (subst (λ (t : Target). IsAt block t.block) (sym (confirmed-target r ask)) here) (drawn_after-reads s r.stage p)
 
   begins_over-asks : (s : Serving) (target : Target) (group : Option Group) → AsksForCall s → AsksForCall (begins_over s target group).state
   begins_over-asks s target None p = p
   begins_over-asks s target (Some group) p = with_reading-asks (draws s) _ (draws-asks s p)
 
-  begins-asks : (s : Serving) (target : Target) → AsksForCall s → AsksForCall (begins s target).state
-  unfolding begins
-  begins-asks s target p = begins_over-asks s target (group_in s.maps.groups target.seg.group) p
+  begin_reading-asks : (s : Serving) (target : Target) → AsksForCall s → AsksForCall (begin_reading s target).state
+  unfolding begin_reading
+  begin_reading-asks s target p = begins_over-asks s target (group_in s.maps.groups target.seg.group) p
 
   reads_over-asks : (s : Serving) (place : Place) (r : Option ReadingState) → ReadsFor block s → AsksForCall (reads_over s (target_of block place) r).state
-  reads_over-asks s place None p = begins-asks s (target_of block place) p.asks
+  reads_over-asks s place None p = begin_reading-asks s (target_of block place) p.asks
   reads_over-asks s place (Some r) p =
       let target : Target = target_of block place in
       let same_segment : Bool = same_name r.target.seg.name target.seg.name && (r.target.seg.group == target.seg.group) in
-      by_test (λ (d : Done). AsksForCall d.state) (same_target r.target target) (confirms s r) (begins s target)
-      (λ t. confirms-asks s r (is_at block place.item r.target.block (and_second same_segment (same_at r.target.block target.block) t)) p)
-      (λ t. begins-asks s target p.asks)
+      by_test (λ (d : Done). AsksForCall d.state) (same_target r.target target) (serving_confirm s r) (begin_reading s target)
+      (λ t. serving_confirm-asks s r (is_at block place.item r.target.block (and_second same_segment (same_at r.target.block target.block) t)) p)
+      (λ t. begin_reading-asks s target p.asks)
 
   -- a block that the call needs is read
-  pub reads-asks : (s : Serving) (place : Place) → ReadsFor block s → AsksForCall (reads s block place).state
-  unfolding reads
-  reads-asks s place p =
+  pub serving_read-asks : (s : Serving) (place : Place) → ReadsFor block s → AsksForCall (serving_read s block place).state
+  unfolding serving_read
+  serving_read-asks s place p =
       let u : Serving = with_reading s None in
-      let fact : needed u.call ≡ Some (block, Copy) = needed_same u.call s.call (call_with-step s.call None) ∙ p.needs in
+      let fact : needed u.call ≡ Some (block, Copy) = needed_same u.call s.call (set_reading-step s.call None) ∙ p.needs in
       by_test (λ (d : Done). AsksForCall d.state) (is_none s.call) (still s) (reads_over u (target_of block place) (reading_in s.call)) (λ t. p.asks)
       (λ t. reads_over-asks u place (reading_in s.call) (record { asks = with_reading-asks s None p.asks; needs = fact }))
 
 -- ---- grants
 
-follows_one-asks : (s : Serving) (o : Out) → AsksForCall s → ReadSuits (needed s.call) o → AsksForCall (follows_one s o).state
-unfolding follows_one
-follows_one-asks s (Flush block) p q = kept s (follows_one s (Flush block)).state (follows_one-keeps (needed s.call) s (Flush block) tt) p
-follows_one-asks s (Read block place) p q = reads-asks block s place (record { asks = p; needs = q })
-follows_one-asks s (Ready block) p q = kept s (follows_one s (Ready block)).state (follows_one-keeps (needed s.call) s (Ready block) tt) p
-follows_one-asks s _ p q = p
+follow_one-asks : (s : Serving) (o : Out) → AsksForCall s → ReadSuits (needed s.call) o → AsksForCall (follow_one s o).state
+unfolding follow_one
+follow_one-asks s (Flush block) p q = kept s (follow_one s (Flush block)).state (follow_one-keeps (needed s.call) s (Flush block) tt) p
+follow_one-asks s (Read block place) p q = serving_read-asks block s place (record { asks = p; needs = q })
+follow_one-asks s (Ready block) p q = kept s (follow_one s (Ready block)).state (follow_one-keeps (needed s.call) s (Ready block) tt) p
+follow_one-asks s _ p q = p
 
-follows-asks : (s : Serving) (outs : List Out) → AsksForCall s → OneRead (needed s.call) outs → AsksForCall (follows s outs).state
-unfolding follows
-follows-asks s [] p q = p
-follows-asks s (o ∷ []) p q = follows_one-asks s o p q
-follows-asks s (o ∷ o' ∷ outs) p q = absurd q
+serving_follow-asks : (s : Serving) (outs : List Out) → AsksForCall s → OneRead (needed s.call) outs → AsksForCall (serving_follow s outs).state
+unfolding serving_follow
+serving_follow-asks s [] p q = p
+serving_follow-asks s (o ∷ []) p q = follow_one-asks s o p q
+serving_follow-asks s (o ∷ o' ∷ outs) p q = absurd q
 
 -- a grant is taken, and what is granted is read
 pub grant-asks : (s : Serving) (block : BlockId) (stamp : Stamp) (inc req : ℕ) (mode : Mode) (entry : Entry) → AsksForCall s
-    → AsksForCall (hands s (input.Granted block stamp inc req mode entry)).state
-unfolding hands
+    → AsksForCall (hand s (input.Granted block stamp inc req mode entry)).state
+unfolding hand
 grant-asks s block stamp inc req mode entry p =
     let t : Serving = record s { tokens = (on_granted s.tokens block stamp inc req mode entry).state } in
     let u : Serving = ends_reading t in
     let outs : List Out = (on_granted s.tokens block stamp inc req mode entry).outs in
-    let same : needed u.call ≡ needed s.call = needed_same u.call s.call (call_with-step s.call (kept_while t.tokens (reading_in t.call))) in
+    let same : needed u.call ≡ needed s.call = needed_same u.call s.call (set_reading-step s.call (kept_while t.tokens (reading_in t.call))) in
     let taken : AsksForCall t = asks_for t (granted-asks (needed s.call) s.tokens (asks_as s p) block stamp inc req mode entry) p.waits in
-    follows-asks u outs (kept t u (ends_reading-keeps (needed t.call) t) taken)
+    serving_follow-asks u outs (kept t u (ends_reading-keeps (needed t.call) t) taken)
     (subst (λ n. OneRead n outs) (sym same) (granted-outs (needed s.call) s.tokens (asks_as s p) block stamp inc req mode entry))

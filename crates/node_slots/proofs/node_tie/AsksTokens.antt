@@ -15,13 +15,13 @@ use Rattle.token_client.specs.declared.held.Held.{Held}
 use Rattle.token_client.specs.declared.held.Wanted.{Wanted}
 use Rattle.token_client.specs.declared.output.Out.{Out}
 use Rattle.token_client.specs.declared.output.Out.TheVariants.{Want, Gave, Supply, Flush, Read, Ready}
-use Rattle.token_client.specs.Held.{is_dirty, is_asking, must_ask, is_wanted, is_answer, may_write, is_settled_by, may_end_fetch, may_evict, asked, asked_again, copied, fetch_ended, written, version_settled, let_go, unasked, unfetched, promise_dropped, put_off, given_up}
+use Rattle.token_client.specs.Held.{is_dirty, is_asking, must_ask, is_wanted, is_answer, may_write, is_settled_by, may_end_fetch, may_evict, held_ask, asked_again, copy_of, end_fetch, held_write, version_settled, let_go, quit, unfetched, drop_promised, put_off, give_up}
 use Rattle.token_client.specs.Laws.{IsSound}
 use Rattle.token_client.specs.State.{TokensState, held_of, with_held, is_in_slot}
-use Rattle.token_client.specs.Transition.{Done, new_want, on_need, accepts, is_promised, on_supplied, serves, supplies, on_forwarded, refetch, give, can_refetch, recalled_above, was_answered, recalled_again, recalled, on_recalled, on_wrote, on_settled, on_fetched, on_evict, on_reask, on_quit, fetched_in, raised, ask_copy, may_promise, on_promise, is_spent, repeated, ask_again, wanted_in, on_tick}
+use Rattle.token_client.specs.Transition.{Done, tokens_ask, on_need, accepts, is_promised, on_supplied, serves, supplies, on_forwarded, refetch, give, can_refetch, recalled_above, was_answered, recalled_again, recalled, on_recalled, on_wrote, on_settled, on_fetched, on_evict, on_reask, on_quit, fetched_blocks, raised, ask_copy, may_promise, on_promise, is_spent, repeated, ask_again, wanted_blocks, on_tick}
 use Rattle.token_client.proofs.Promises.{Each, Each-weaker, IsFetched, agrees-itself, dropped-known, fetched-facts}
 use Rattle.token_client.proofs.Tables.{held_of-put_itself, put_each, put_same}
-use Rattle.node_slots.proofs.node_tie.AsksBlock.{Need, Suits, WantSuits, asked-suits, asked_again-suits, copied-suits, fetch_ended-suits, fetch_needed, given_up-suits, let_go-suits, promise_dropped-suits, put_off-suits, unasked-suits, unfetched-suits, version_settled-suits, written-suits}
+use Rattle.node_slots.proofs.node_tie.AsksBlock.{Need, Suits, WantSuits, held_ask-suits, asked_again-suits, copy_of-suits, end_fetch-suits, fetch_needed, give_up-suits, let_go-suits, drop_promised-suits, put_off-suits, quit-suits, unfetched-suits, version_settled-suits, held_write-suits}
 
 -- what all blocks ask for is as needed
 abbrev pub AllSuit : Need → TokensState → Type 0
@@ -51,29 +51,29 @@ module _ (n : Need) where
   pub put-suits : (s : TokensState) → AllSuit n s → (block : BlockId) (g : Held) → Suits n block g → AllSuit n (with_held s block g)
   put-suits s p block g here = put_each (Suits n) block g s.blocks here p
 
-  ask-quiet : (s : TokensState) (block : BlockId) (mode : Mode) → Each IsQuiet (new_want s block mode).outs
-  unfolding new_want
+  ask-quiet : (s : TokensState) (block : BlockId) (mode : Mode) → Each IsQuiet (tokens_ask s block mode).outs
+  unfolding tokens_ask
   ask-quiet s block mode =
       let h : Held = held_of s.blocks block in
       by_test (λ (d : Done). Each IsQuiet d.outs) (nat_lt s.req u32_end)
-      (record { state = record (with_held s block (asked h (s.req + 1) mode)) { req = s.req + 1 }; outs = Want block (s.req + 1) 0 mode ∷ [] })
+      (record { state = record (with_held s block (held_ask h (s.req + 1) mode)) { req = s.req + 1 }; outs = Want block (s.req + 1) 0 mode ∷ [] })
       (still s) (λ t. (tt, tt)) (λ t. tt)
 
   -- a want of what is needed may be opened, where the mode that is held is below
   ask-suits : (s : TokensState) → AllSuit n s → (block : BlockId) (mode : Mode) → n ≡ Some (block, mode) → allows (held_of s.blocks block).mode mode ≡ false
-      → AllSuit n (new_want s block mode).state
-  unfolding new_want
+      → AllSuit n (tokens_ask s block mode).state
+  unfolding tokens_ask
   ask-suits s p block mode fact above =
       let h : Held = held_of s.blocks block in
       by_test (λ (d : Done). AllSuit n d.state) (nat_lt s.req u32_end)
-      (record { state = record (with_held s block (asked h (s.req + 1) mode)) { req = s.req + 1 }; outs = Want block (s.req + 1) 0 mode ∷ [] })
-      (still s) (λ t. put-suits s p block (asked h (s.req + 1) mode) (asked-suits n block h (p block) (s.req + 1) mode fact above)) (λ t. p)
+      (record { state = record (with_held s block (held_ask h (s.req + 1) mode)) { req = s.req + 1 }; outs = Want block (s.req + 1) 0 mode ∷ [] })
+      (still s) (λ t. put-suits s p block (held_ask h (s.req + 1) mode) (held_ask-suits n block h (p block) (s.req + 1) mode fact above)) (λ t. p)
 
   ask_copy-quiet : (s : TokensState) (block : BlockId) → Each IsQuiet (ask_copy s block).outs
   ask_copy-quiet s block = ask-quiet s block Copy
 
   ask-goes_on : (s : TokensState) → AllSuit n s → (block : BlockId) (mode : Mode) → n ≡ Some (block, mode) → allows (held_of s.blocks block).mode mode ≡ false
-      → GoesOn n (new_want s block mode)
+      → GoesOn n (tokens_ask s block mode)
   ask-goes_on s p block mode fact above = record { suits = ask-suits s p block mode fact above; quiet = ask-quiet s block mode }
 
   module _ (s : TokensState) (sound : IsSound s) (p : AllSuit n s) where
@@ -87,7 +87,7 @@ module _ (n : Need) where
     unfolding on_need
     on_need-goes_on block mode fact =
         let h : Held = held_of s.blocks block in
-        by_test (GoesOn n) (must_ask h mode) (new_want s block mode) (still s)
+        by_test (GoesOn n) (must_ask h mode) (tokens_ask s block mode) (still s)
         (λ t. ask-goes_on s p block mode fact (not_true (allows h.mode mode) (and_second (not (is_asking h) && is_none h.giving) (not (allows h.mode mode)) t)))
         (λ t. stays)
 
@@ -102,9 +102,9 @@ module _ (n : Need) where
     unfolding on_supplied
     on_supplied-goes_on block stamp inc req ver value =
         let h : Held = held_of s.blocks block in
-        by_test (GoesOn n) (accepts s block stamp inc req Copy) (record { state = with_held s block (copied h stamp ver value); outs = Ready block ∷ [] })
+        by_test (GoesOn n) (accepts s block stamp inc req Copy) (record { state = with_held s block (copy_of h stamp ver value); outs = Ready block ∷ [] })
         (still s)
-        (λ t. record { suits = put-suits s p block (copied h stamp ver value) (copied-suits n block h (p block) stamp ver value); quiet = (tt, tt) })
+        (λ t. record { suits = put-suits s p block (copy_of h stamp ver value) (copy_of-suits n block h (p block) stamp ver value); quiet = (tt, tt) })
         (λ t. stays)
 
     supplies-quiet : (block : BlockId) (ver : ℕ) (value : Option (Option (List ℕ))) → Each IsQuiet (supplies block ver value)
@@ -127,7 +127,7 @@ module _ (n : Need) where
     refetch-goes_on block =
         let h : Held = held_of s.blocks block in
         let dropped : TokensState = with_held s block (unfetched h) in
-        by_test (GoesOn n) (is_some h.fetch) (new_want dropped block Copy) (still s)
+        by_test (GoesOn n) (is_some h.fetch) (tokens_ask dropped block Copy) (still s)
         (λ t.
         ask-goes_on dropped (put-suits s p block (unfetched h) (unfetched-suits n block h (p block))) block Copy
         (fetch_needed n block h.fetch (p block).fetch t)
@@ -143,8 +143,8 @@ module _ (n : Need) where
     unfolding on_wrote
     on_wrote-goes_on block value =
         let h : Held = held_of s.blocks block in
-        by_test (GoesOn n) (may_write h) (still (with_held s block (written h value))) (still s)
-        (λ t. puts block (written h value) (written-suits n block h (p block) value)) (λ t. stays)
+        by_test (GoesOn n) (may_write h) (still (with_held s block (held_write h value))) (still s)
+        (λ t. puts block (held_write h value) (held_write-suits n block h (p block) value)) (λ t. stays)
 
     pub on_settled-goes_on : (block : BlockId) (ver : ℕ) → GoesOn n (on_settled s block ver)
     unfolding on_settled
@@ -157,11 +157,11 @@ module _ (n : Need) where
     unfolding on_fetched
     on_fetched-goes_on block value =
         let h : Held = held_of s.blocks block in
-        by_test (GoesOn n) (may_end_fetch h) (record { state = with_held s block (fetch_ended h h.fetch value); outs = Ready block ∷ [] }) (still s)
+        by_test (GoesOn n) (may_end_fetch h) (record { state = with_held s block (end_fetch h h.fetch value); outs = Ready block ∷ [] }) (still s)
         (λ t. record {
           suits =
-              put-suits s p block (fetch_ended h h.fetch value)
-              (fetch_ended-suits n block h (p block) h.fetch value (and_second (is_some h.fetch) (is_none h.want) t));
+              put-suits s p block (end_fetch h h.fetch value)
+              (end_fetch-suits n block h (p block) h.fetch value (and_second (is_some h.fetch) (is_none h.want) t));
           quiet = (tt, tt);
         }) (λ t. stays)
 
@@ -176,14 +176,14 @@ module _ (n : Need) where
     unfolding on_reask
     on_reask-goes_on block =
         let h : Held = held_of s.blocks block in
-        by_test (GoesOn n) (is_some h.fetch) (new_want s block Copy) (still s)
+        by_test (GoesOn n) (is_some h.fetch) (tokens_ask s block Copy) (still s)
         (λ t. ask-goes_on s p block Copy (fetch_needed n block h.fetch (p block).fetch t) (fetched_below block t)) (λ t. stays)
 
     pub on_quit-goes_on : (block : BlockId) → GoesOn n (on_quit s block)
     unfolding on_quit
     on_quit-goes_on block =
         let h : Held = held_of s.blocks block in
-        by_test (GoesOn n) (is_asking h) (still (with_held s block (unasked h))) (still s) (λ t. puts block (unasked h) (unasked-suits n block h (p block)))
+        by_test (GoesOn n) (is_asking h) (still (with_held s block (quit h))) (still s) (λ t. puts block (quit h) (quit-suits n block h (p block)))
         (λ t. stays)
 
   -- ---- recalls
@@ -194,9 +194,9 @@ module _ (n : Need) where
       let h : Held = held_of s.blocks block in
       by_test (GoesOn n) (is_dirty h)
       (record { state = with_held s block (put_off h stamp keep); outs = Flush block ∷ [] })
-      (record { state = with_held s block (given_up h stamp keep); outs = Gave block stamp ∷ [] })
+      (record { state = with_held s block (give_up h stamp keep); outs = Gave block stamp ∷ [] })
       (λ t. record { suits = put-suits s p block (put_off h stamp keep) (put_off-suits n block h (p block) stamp keep); quiet = (tt, tt) })
-      (λ t. record { suits = put-suits s p block (given_up h stamp keep) (given_up-suits n block h (p block) stamp keep); quiet = (tt, tt) })
+      (λ t. record { suits = put-suits s p block (give_up h stamp keep) (give_up-suits n block h (p block) stamp keep); quiet = (tt, tt) })
 
   module _ (s : TokensState) (sound : IsSound s) (p : AllSuit n s) where
     recalled_above-goes_on : (block : BlockId) (stamp : Stamp) (keep : Bool) → GoesOn n (recalled_above s block stamp keep)
@@ -247,9 +247,9 @@ module _ (n : Need) where
   pub on_tick-goes_on : (s : TokensState) → AllSuit n s → GoesOn n (on_tick s)
   unfolding on_tick
   on_tick-goes_on s p =
-      by_test (GoesOn n) (list_any (λ h. is_spent h.want) (values_of s.blocks)) (still s) (steps ask_again s (wanted_in s.blocks))
+      by_test (GoesOn n) (list_any (λ h. is_spent h.want) (values_of s.blocks)) (still s) (steps ask_again s (wanted_blocks s.blocks))
       (λ t. record { suits = p; quiet = tt })
-      (λ t. record { suits = asks_again-suits s (wanted_in s.blocks) p; quiet = quiet_steps ask_again ask_again-quiet s (wanted_in s.blocks) })
+      (λ t. record { suits = asks_again-suits s (wanted_blocks s.blocks) p; quiet = quiet_steps ask_again ask_again-quiet s (wanted_blocks s.blocks) })
 
   -- ---- promises
 
@@ -257,10 +257,10 @@ module _ (n : Need) where
   abbrev IsFree : TokensState → BlockId → Type 0
   IsFree s b = (n ≡ Some (b, Copy)) × (is_held (held_of s.blocks b).mode ≡ false)
 
-  ask-free : (s : TokensState) (block b : BlockId) → IsFree s b → IsFree (new_want s block Copy).state b
-  unfolding new_want
+  ask-free : (s : TokensState) (block b : BlockId) → IsFree s b → IsFree (tokens_ask s block Copy).state b
+  unfolding tokens_ask
   ask-free s block b free =
-      let g : Held = asked (held_of s.blocks block) (s.req + 1) Copy in
+      let g : Held = held_ask (held_of s.blocks block) (s.req + 1) Copy in
       by_test (λ (d : Done). IsFree d.state b) (nat_lt s.req u32_end)
       (record { state = record (with_held s block g) { req = s.req + 1 }; outs = Want block (s.req + 1) 0 Copy ∷ [] }) (still s)
       (λ t. (free.0, put_same (λ (h : Held). is_held h.mode) b block g s.blocks refl ∙ free.1)) (λ t. free)
@@ -268,7 +268,7 @@ module _ (n : Need) where
   asks-suit : (s : TokensState) → AllSuit n s → (blocks : List BlockId) → Each (IsFree s) blocks → AllSuit n (steps ask_copy s blocks).state
   asks-suit s p [] free = p
   asks-suit s p (b ∷ bs) free =
-      let t : TokensState = (new_want s b Copy).state in
+      let t : TokensState = (tokens_ask s b Copy).state in
       asks-suit t (ask-suits s p b Copy free.0.0 free.0.1) bs (Each-weaker (IsFree s) (IsFree t) (λ c. ask-free s b c) bs free.1)
 
   module _ (s : TokensState) (sound : IsSound s) (p : AllSuit n s) (slot epoch : ℕ) where
@@ -276,12 +276,12 @@ module _ (n : Need) where
     dropped-suits b =
         let h : Held = held_of s.blocks b in
         subst (Suits n b) (sym (dropped-known s slot b))
-        (by_test (Suits n b) (is_in_slot slot b) (promise_dropped h) h (λ t. promise_dropped-suits n b h (p b)) (λ t. p b))
+        (by_test (Suits n b) (is_in_slot slot b) (drop_promised h) h (λ t. drop_promised-suits n b h (p b)) (λ t. p b))
 
     dropped-mode : (b : BlockId) → (held_of (raised s slot epoch).blocks b).mode ≡ (held_of s.blocks b).mode
     dropped-mode b =
         let h : Held = held_of s.blocks b in
-        ap (λ (g : Held). g.mode) (dropped-known s slot b) ∙ by_test (λ (g : Held). g.mode ≡ h.mode) (is_in_slot slot b) (promise_dropped h) h (λ t. refl)
+        ap (λ (g : Held). g.mode) (dropped-known s slot b) ∙ by_test (λ (g : Held). g.mode ≡ h.mode) (is_in_slot slot b) (drop_promised h) h (λ t. refl)
         (λ t. refl)
 
     fetched-free : (b : BlockId) → IsFetched s.blocks slot b → IsFree (raised s slot epoch) b
@@ -291,7 +291,7 @@ module _ (n : Need) where
     unfolding on_promise
     on_promise-goes_on =
         let risen : TokensState = raised s slot epoch in
-        let blocks : List BlockId = fetched_in slot s.blocks in
+        let blocks : List BlockId = fetched_blocks slot s.blocks in
         let facts : Each (IsFetched s.blocks slot) blocks = fetched-facts s.blocks slot s.blocks (agrees-itself s.blocks sound.sorted) in
         by_test (GoesOn n) (may_promise s slot epoch) (steps ask_copy risen blocks) (still s)
         (λ t. record {

@@ -138,8 +138,8 @@ module _ (members part : ℕ) (few : members ≤ its_log) where
   idle_is None t = refl
   idle_is (Some f) t = contrary t
 
-  log_seals : (k : Books) (s : LogState) → s.flight ≡ None → LogSeen k its_log s → AreCopies k (rows_waiting s) → LogGone k (log.sealed s).state
-  unfolding log.sealed log.launched
+  log_seals : (k : Books) (s : LogState) → s.flight ≡ None → LogSeen k its_log s → AreCopies k (rows_waiting s) → LogGone k (log.log_seal s).state
+  unfolding log.log_seal log.log_launch
   log_seals k s idle seen waits =
       let rows = rows_told (items_of 0 (take segment_blocks s.dirty)) in
       let copies : AreCopies k rows = subst (AreCopies k) (sym (rows_told_of (take segment_blocks s.dirty) (take_within segment_blocks s.dirty)))
@@ -158,16 +158,16 @@ module _ (members part : ℕ) (few : members ≤ its_log) where
         waits = copies_grown k (sealed k its_log rows) (lasts_sealed k its_log rows) _ (left_copies k segment_blocks s.dirty waits);
       }
 
-  if_full_goes : (k : Books) (s : LogState) → LogSeen k its_log s → AreCopies k (rows_waiting s) → LogGone k (log.if_full s).state
-  unfolding log.if_full
-  if_full_goes k s seen waits =
-      by_test (λ (d : log.Done). LogGone k d.state) (log.is_full s) (log.sealed s) (still s)
+  log_go_on_goes : (k : Books) (s : LogState) → LogSeen k its_log s → AreCopies k (rows_waiting s) → LogGone k (log.log_go_on s).state
+  unfolding log.log_go_on
+  log_go_on_goes k s seen waits =
+      by_test (λ (d : log.Done). LogGone k d.state) (log.is_full s) (log.log_seal s) (still s)
       (λ full. log_seals k s (idle_is s.flight (and_first (log.is_idle s) _ full)) seen waits) (λ _. log_stays k s seen waits)
 
   -- settling is looked at: the segment in flight stays, is striped again, or is filed
   looked_goes : (k : Books) (before s : LogState) (f : FlightState) → k.flying its_log ≡ true → k.end its_log ≡ s.end.seq → IsFlown k its_log s f
       → LogSeen k its_log before → AreCopies k (rows_waiting before) → AreCopies k (rows_waiting s) → LogGone k (log.looked_at before s f).state
-  unfolding log.looked_at log.settled log.restriped log.launched
+  unfolding log.looked_at log.settled log.restriped log.log_launch
   looked_goes k before s f flying end flown seen waited waits =
       by_test (λ (d : log.Done). LogGone k d.state) (log.can_follow s f (fate_of s.groups f)) (log.followed s f (fate_of s.groups f)) (still before)
       (λ _. by_fate (fate_of s.groups f)) (λ _. log_stays k before seen waited)
@@ -181,7 +181,7 @@ module _ (members part : ℕ) (few : members ≤ its_log) where
         flies = λ f. let here = put_here k.end its_log (suc (k.end its_log)) in inr (omega arith);
       }
 
-      settles : LogGone (filed k its_log) (log.if_full (log.landed s f)).state → LogGone k (log.settled s f).state
+      settles : LogGone (filed k its_log) (log.log_go_on (log.landed s f)).state → LogGone k (log.settled s f).state
       settles h = record { next = h.next; goes = books_through k (filed k its_log) h.next filing h.goes; seen = h.seen; waits = h.waits }
 
       restripes : LogGone k (log.restriped s f).state
@@ -190,7 +190,7 @@ module _ (members part : ℕ) (few : members ≤ its_log) where
       by_fate : (fate : Fate) → LogGone k (log.followed s f fate).state
       by_fate Restripe = restripes
       by_fate Settle =
-          settles (if_full_goes (filed k its_log) (log.landed s f) (file_seen k its_log s f end flown)
+          settles (log_go_on_goes (filed k its_log) (log.landed s f) (file_seen k its_log s f end flown)
           (copies_grown k (filed k its_log) (lasts_filed k its_log) _ waits))
       by_fate Wait = log_stays k (record s { flight = Some f }) (flies_seen k its_log s (record s { flight = Some f }) f flying end refl refl flown) waits
 
@@ -214,26 +214,26 @@ module _ (members part : ℕ) (few : members ≤ its_log) where
   unfolding log.on_put log.on_seal log.on_acked log.on_maps log.on_tick
   log_goes k s (log_in.Put block entry value) seen waits copy =
       let t : LogState = log.waits s block (record { entry = entry; value = value }) in
-      by_test (λ (d : log.Done). LogGone k d.state) (log.can_go_on t) (log.if_full t) (still s)
-      (λ _. if_full_goes k t (record { end = seen.end; flying = seen.flying; flight = seen.flight })
+      by_test (λ (d : log.Done). LogGone k d.state) (log.can_go_on t) (log.log_go_on t) (still s)
+      (λ _. log_go_on_goes k t (record { end = seen.end; flying = seen.flying; flight = seen.flight })
       (put_copies k s.dirty block (record { entry = entry; value = value }) copy waits)) (λ _. log_stays k s seen waits)
   log_goes k s (log_in.Parts items) seen waits copy = absurd copy
   log_goes k s log_in.Seal seen waits copy =
-      by_test (λ (d : log.Done). LogGone k d.state) (log.is_idle s && nat_lt 0 (length s.dirty) && log.has_next s.end.seq) (log.sealed s) (still s)
+      by_test (λ (d : log.Done). LogGone k d.state) (log.is_idle s && nat_lt 0 (length s.dirty) && log.has_next s.end.seq) (log.log_seal s) (still s)
       (λ may. log_seals k s
       (idle_is s.flight
       (and_first (log.is_idle s) (nat_lt 0 (length s.dirty)) (and_first (log.is_idle s && nat_lt 0 (length s.dirty)) (log.has_next s.end.seq) may))) seen waits)
       (λ _. log_stays k s seen waits)
   log_goes k s (log_in.Acked name index generation) seen waits copy =
       flight_or k s (λ o. LogGone k (acked_in o).state) seen (log_stays k s seen waits)
-      (λ f flying flown. by_test (λ (d : log.Done). LogGone k d.state) (flights.is_of f name index generation) (log.looked_at s s (flights.noting f index))
+      (λ f flying flown. by_test (λ (d : log.Done). LogGone k d.state) (flights.is_of f name index generation) (log.looked_at s s (flights.flight_note f index))
       (still s)
-      (λ _. looked_goes k s s (flights.noting f index) flying seen.end flown seen waits waits) (λ _. log_stays k s seen waits))
+      (λ _. looked_goes k s s (flights.flight_note f index) flying seen.end flown seen waits waits) (λ _. log_stays k s seen waits))
     where
       acked_in : Option FlightState → log.Done
       acked_in o = elim o [
         | None ↦ still s
-        | Some f ↦ cond (flights.is_of f name index generation) (log.looked_at s s (flights.noting f index)) (still s)
+        | Some f ↦ cond (flights.is_of f name index generation) (log.looked_at s s (flights.flight_note f index)) (still s)
       ]
   log_goes k s (log_in.Maps groups) seen waits copy =
       flight_or k s (λ o. LogGone k (mapped_in o).state) seen (log_stays k (record s { groups = groups }) again waits)
@@ -253,5 +253,5 @@ module _ (members part : ℕ) (few : members ≤ its_log) where
       told_in : Option FlightState → log.Done
       told_in o = elim o [
         | None ↦ still s
-        | Some f ↦ record { state = s; outs = log.all_sends f }
+        | Some f ↦ record { state = s; outs = log.sending_send f }
       ]

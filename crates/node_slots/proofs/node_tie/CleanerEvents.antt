@@ -15,7 +15,7 @@ use Rattle.log_owner.specs.declared.opening.Opening as openings
 use Rattle.log_owner.specs.declared.promised.Promised.{Promised}
 use Rattle.log_owner.specs.Opening as opening
 use Rattle.log_owner.specs.Opening.{Went}
-use Rattle.log_owner.specs.Sending.{pushes_all}
+use Rattle.log_owner.specs.Sending.{push_all}
 use Rattle.node_base.specs.Beginning.{answers_unanswered, next_item}
 use Rattle.node_base.specs.declared.effects.Effect.{Effect}
 use Rattle.node_base.specs.declared.effects.Effect.TheVariants.{Send, Answer, Lose, Does}
@@ -24,17 +24,17 @@ use Rattle.node_base.specs.declared.questions.Questions.{Questions}
 use Rattle.node_base.specs.Maps.{fits}
 use Rattle.node_base.specs.Nodes.{has_node}
 use Rattle.node_base.specs.Room.{has_room}
-use Rattle.node_base.specs.Shape.{are_from, has_logs, is_slot_news, is_well_formed}
+use Rattle.node_base.specs.Shape.{are_in_order, has_logs, is_slot_news, is_well_formed}
 use Rattle.cleaner_serving.specs.declared.emptying.Emptying.{Emptying}
 use Rattle.cleaner_serving.specs.EmptyingEvents.{on_clean, on_packet, on_tick}
 use Rattle.cleaner_serving.specs.Jobs.{Done}
-use Rattle.cleaner_node.specs.CleanerEvents.{Went_to, crashes, next_life, owner_of, back, after_opening, opened_on, restarts, restarts_in, down_wishes, opening_wishes, serving_wishes, serves_on, begun_life, wish_at, down_at, opening_at, serving_at, on_begin, hears, on_deliver, on_time, happens, phase_room, takes, lasting_of}
+use Rattle.cleaner_node.specs.CleanerEvents.{Went_to, crash, next_life, owner_of, back, after_opening, opened_on, restart, restart_in, down_wishes, opening_wishes, serving_wishes, serves_on, begun_life, wish_at, down_at, opening_at, serving_at, on_begin, cleaner_hear, on_deliver, on_time, happens, phase_has_room, takes, lasting_of}
 use Rattle.cleaner_node.specs.declared.cleaner.Phase.{Phase}
 use Rattle.cleaner_node.specs.declared.cleaner.Phase.TheVariants.{Down, Opening, Serving as Serves}
 use Rattle.cleaner_node.specs.declared.cleaner.Wish.{Wish}
 use Rattle.cleaner_node.specs.declared.cleaner.Wish.TheVariants.{Crash, Restart, Clean}
 use Rattle.cleaner_job.specs.declared.lasting.Lasting.{Lasting}
-use Rattle.cleaner_job.specs.Lasting.{lasting_room}
+use Rattle.cleaner_job.specs.Lasting.{lasting_has_room}
 use Rattle.token_client.specs.State.{epoch_of}
 use Rattle.version_model.specs.declared.answer.Answer.{Answer as AnAnswer}
 use Rattle.version_model.specs.declared.answer.Answer.TheVariants as answer
@@ -119,12 +119,12 @@ module _ (part promised limit : ℕ) (small : part < 8) (low : promised ≤ limi
   -- ---- one that is down
 
   module _ (l : Lasting) where
-    restarted : (servers number : ℕ) → has_room l.inc ≡ true → Goes (Down l) (restarts servers (begun_life l) number)
-    unfolding restarts
+    restarted : (servers number : ℕ) → has_room l.inc ≡ true → Goes (Down l) (restart servers (begun_life l) number)
+    unfolding restart
     restarted servers number room =
         let life : Lasting = next_life (begun_life l) number in
         let later : l.inc < life.inc = raised (begun_life l) number room in
-        goes_same (Down l) (restarts_in servers life).state (restarts_in servers life).outs (record { owner = refl; promises = inl refl })
+        goes_same (Down l) (restart_in servers life).state (restart_in servers life).outs (record { owner = refl; promises = inl refl })
         (start_does (owner_of life) (CleanerDoes part promised life.inc)
         (cleaner_opening part promised life.inc (owner_of life) (omega arith)) servers life.questions) (omega arith) later
 
@@ -146,9 +146,9 @@ module _ (part promised limit : ℕ) (small : part < 8) (low : promised ≤ limi
         (omega arith) tt
 
     opening_wished : (number : ℕ) (wish : Wish) → Goes (Opening l o) (opening_wishes (begun_life l) o number wish)
-    unfolding crashes
+    unfolding crash
     opening_wished number Crash =
-        goes_same (Opening l o) (crashes (begun_life l) number).state (crashes (begun_life l) number).outs tt
+        goes_same (Opening l o) (crash (begun_life l) number).state (crash (begun_life l) number).outs tt
         (crashed_done l.inc (begun_life l).items.unanswered number) (omega arith) tt
     opening_wished number Restart = opening_answers number answer.Up
     opening_wished number (Clean count) = opening_answers number answer.Down
@@ -165,7 +165,7 @@ module _ (part promised limit : ℕ) (small : part < 8) (low : promised ≤ limi
         → Goes (Opening l o) (saying effects (back (record l { questions = questions }) r))
     came_back questions effects r done kept =
         let now : ℕ = epoch_of r.promised.epochs part in
-        let said : List Effect = pushes_all r.promised.managers r.feed ++ answers_unanswered l.items.unanswered answer.Done in
+        let said : List Effect = push_all r.promised.managers r.feed ++ answers_unanswered l.items.unanswered answer.Done in
         record {
           next = now;
           rises = kept.rises;
@@ -173,9 +173,9 @@ module _ (part promised limit : ℕ) (small : part < 8) (low : promised ≤ limi
           stands = record { eight = kept.eight; promises = refl };
           does = All-from_recursion (CleanerDoes part now l.inc) (effects ++ said)
               (done_append now l.inc effects said (done now)
-              (done_append now l.inc (pushes_all r.promised.managers r.feed) (answers_unanswered l.items.unanswered answer.Done)
-              (done_said now l.inc (pushes_all r.promised.managers r.feed)
-              (emptying.all_job part limit small now l.inc (pushes_all r.promised.managers r.feed)
+              (done_append now l.inc (push_all r.promised.managers r.feed) (answers_unanswered l.items.unanswered answer.Done)
+              (done_said now l.inc (push_all r.promised.managers r.feed)
+              (emptying.all_job part limit small now l.inc (push_all r.promised.managers r.feed)
               (emptying.deltas_pushed part limit small l.inc r.promised.managers r.feed)))
               (done_answers now l.inc l.items.unanswered answer.Done)));
           later = omega arith;
@@ -220,12 +220,12 @@ module _ (part promised limit : ℕ) (small : part < 8) (low : promised ≤ limi
     -- a Welcome promises within the bounds
     brings_so : (b : Body) → CleanerGets part promised limit (Opening l o) b → has_logs b ≡ true → promising.Brings Kept o b
     brings_so (body.Welcome w) gets logs = λ meant.
-        let formed : (are_from 0 w.news.slots && list_all is_slot_news w.news.slots) ≡ true = and_second (length w.news.slots == 8)
-        (are_from 0 w.news.slots && list_all is_slot_news w.news.slots) logs in
+        let formed : (are_in_order 0 w.news.slots && list_all is_slot_news w.news.slots) ≡ true = and_second (length w.news.slots == 8)
+        (are_in_order 0 w.news.slots && list_all is_slot_news w.news.slots) logs in
         let incs : w.inc ≡ l.inc = eqb-true w.inc o.known.owner.inc (and_first (w.inc == o.known.owner.inc) (fits o.known.maps w.news) meant) ∙ stands.owner in
         client_opening.welcome_promises part promised limit small w.news.slots
-        (eqb-true (length w.news.slots) 8 (and_first (length w.news.slots == 8) (are_from 0 w.news.slots && list_all is_slot_news w.news.slots) logs))
-        (and_first (are_from 0 w.news.slots) (list_all is_slot_news w.news.slots) formed)
+        (eqb-true (length w.news.slots) 8 (and_first (length w.news.slots == 8) (are_in_order 0 w.news.slots && list_all is_slot_news w.news.slots) logs))
+        (and_first (are_in_order 0 w.news.slots) (list_all is_slot_news w.news.slots) formed)
         (each w.news.slots (recursion_from_All (λ (x : SlotNews). x.slot ≡ part → promised ≤ x.epoch) w.news.slots (gets.1 incs))
         (recursion_from_All (λ (x : SlotNews). x.slot ≡ part → x.epoch ≤ limit) w.news.slots gets.0))
       where
@@ -237,9 +237,9 @@ module _ (part promised limit : ℕ) (small : part < 8) (low : promised ≤ limi
     brings_so _ gets logs = tt
 
     opening_packet : (packet : Packet) → CleanerGets part promised limit (Opening l o) packet.body → has_logs packet.body ≡ true
-        → Goes (Opening l o) (opened_on l (opening.on_packet o l.questions packet))
+        → Goes (Opening l o) (opened_on l (opening.opening_take o l.questions packet))
     opening_packet packet gets logs =
-        went_so (opening.on_packet o l.questions packet)
+        went_so (opening.opening_take o l.questions packet)
         (λ now. packet_does o l.questions (CleanerDoes part now l.inc) (cleaner_opening part now l.inc o.known.owner own) packet)
         (behaving.packet_so o l.questions packet).stays_its (promising.packet_so Kept o l.questions packet opens_so (brings_so packet.body gets logs))
 
@@ -277,9 +277,9 @@ module _ (part promised limit : ℕ) (small : part < 8) (low : promised ≤ limi
     }
 
     serving_wished : (number : ℕ) (wish : Wish) → Goes (Serves e) (serving_wishes begun_emptying number wish)
-    unfolding crashes
+    unfolding crash
     serving_wished number Crash =
-        goes_same (Serves e) (crashes begun_emptying.lasting number).state (crashes begun_emptying.lasting number).outs tt
+        goes_same (Serves e) (crash begun_emptying.lasting number).state (crash begun_emptying.lasting number).outs tt
         (crashed_done e.lasting.inc begun_emptying.lasting.items.unanswered number) (omega arith) tt
     serving_wished number Restart =
         goes_same (Serves e) (Serves begun_emptying) (Answer number answer.Up ∷ []) (record { eight = stands.eight; promises = stands.promises }) (tt, tt)
@@ -314,8 +314,8 @@ module _ (part promised limit : ℕ) (small : part < 8) (low : promised ≤ limi
   begins_so servers (Serves e) stands room = serving_begun e stands (next_item e.lasting.items)
 
   heard : (p : Phase) (packet : Packet) → CleanerStands part promised limit p → CleanerGets part promised limit p packet.body → has_logs packet.body ≡ true
-      → Goes p (hears p packet)
-  unfolding hears
+      → Goes p (cleaner_hear p packet)
+  unfolding cleaner_hear
   heard (Down l) packet stands gets logs = goes_still (Down l) stands
   heard (Opening l o) packet stands gets logs = opening_packet l o stands packet gets logs
   heard (Serves e) packet stands gets logs = serving_packet e stands packet gets
@@ -324,7 +324,7 @@ module _ (part promised limit : ℕ) (small : part < 8) (low : promised ≤ limi
       → Goes p (on_deliver peers p packet)
   unfolding on_deliver
   delivered peers p packet stands gets =
-      by_test (Goes p) (is_well_formed peers packet) (hears p packet) (still p)
+      by_test (Goes p) (is_well_formed peers packet) (cleaner_hear p packet) (still p)
       (λ t. heard p packet stands gets
       (and_first (has_logs packet.body) _ (and_second (has_node peers packet.from) _ t)))
       (λ t. goes_still p stands)
@@ -335,12 +335,12 @@ module _ (part promised limit : ℕ) (small : part < 8) (low : promised ≤ limi
   ticked (Opening l o) stands = opening_time l o stands
   ticked (Serves e) stands = serving_time e stands
 
-  room_of : (p : Phase) → phase_room p ≡ true → has_room (lasting_of p).inc ≡ true
+  room_of : (p : Phase) → phase_has_room p ≡ true → has_room (lasting_of p).inc ≡ true
   room_of (Down l) room = and_first (has_room l.inc) (has_room l.questions.last) room
-  room_of (Opening l o) room = and_first (has_room l.inc) (has_room l.questions.last) (and_first (lasting_room l) (opening.opening_room o) room)
-  room_of (Serves e) room = and_first (has_room e.lasting.inc) (has_room e.lasting.questions.last) (and_first (lasting_room e.lasting) _ room)
+  room_of (Opening l o) room = and_first (has_room l.inc) (has_room l.questions.last) (and_first (lasting_has_room l) (opening.opening_has_room o) room)
+  room_of (Serves e) room = and_first (has_room e.lasting.inc) (has_room e.lasting.questions.last) (and_first (lasting_has_room e.lasting) _ room)
 
-  happened : (peers : Peers) (p : Phase) (what : Do) → phase_room p ≡ true → CleanerStands part promised limit p → CleanerOwed part promised limit p what
+  happened : (peers : Peers) (p : Phase) (what : Do) → phase_has_room p ≡ true → CleanerStands part promised limit p → CleanerOwed part promised limit p what
       → Goes p (happens peers p what)
   happened peers p Begin room stands owed = begins_so peers.servers p stands (room_of p room)
   happened peers p (Deliver packet) room stands owed = delivered peers p packet stands owed
@@ -362,7 +362,7 @@ first_epoch (suc (suc (suc (suc (suc (suc (suc (suc k)))))))) h = absurd (omega 
 pub cleaner_takes : CleanerTakes
 cleaner_takes logs members part promised limit n small low few adopted cleaner what stands owed copies told =
     let goes : CleanerGoes part promised limit cleaner.phase (takes cleaner.peers cleaner.phase what).state (takes cleaner.peers cleaner.phase what).outs =
-    by_test (λ (w : Went_to). CleanerGoes part promised limit cleaner.phase w.state w.outs) (phase_room cleaner.phase)
+    by_test (λ (w : Went_to). CleanerGoes part promised limit cleaner.phase w.state w.outs) (phase_has_room cleaner.phase)
     (happens cleaner.peers cleaner.phase what)
     (still cleaner.phase)
     (λ room. happened part promised limit small low cleaner.peers cleaner.phase what room stands owed)

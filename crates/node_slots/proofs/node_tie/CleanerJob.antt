@@ -7,18 +7,18 @@ use Rattle.client_log.specs.declared.output.Out.TheVariants as log_out
 use Rattle.client_log.specs.Transition as log
 use Rattle.log_owner.specs.Opening.{stored}
 use Rattle.log_owner.specs.Sending.{fetch}
-use Rattle.node_base.specs.Asking.{next_ask, drawn}
+use Rattle.node_base.specs.Asking.{next_ask, draw}
 use Rattle.group_map.specs.GroupMapState.{GroupMapState}
 use Rattle.segment_format.specs.declared.segment.Segment.{Segment}
 use Rattle.cleaner_serving.specs.declared.emptying.Emptying.{Emptying}
-use Rattle.cleaner_serving.specs.Jobs.{Done, with_questions, asks_maps, asks_list, asks_usage, checks_block, check_sent, asks_check, holds, reads, puts, puts_block, moves, deletes, says, job_takes, cleans, takes_in, checked_in, holds_in, told_in, confirmed_in, on_listed, on_usage, on_live, on_dead, on_deleted, ends_reading, told_by, confirmed, after_confirmed, reads_again, after_told, on_told}
+use Rattle.cleaner_serving.specs.Jobs.{Done, with_questions, ask_maps, ask_list, ask_usage, emptying_check, check_sent, ask_check, emptying_hold, emptying_read, emptying_put, put_block, move_all, emptying_delete, says, emptying_take, emptying_clean, takes_in, checked_in, holds_in, told_in, confirmed_in, on_listed, on_usage, on_live, on_dead, on_deleted, end_reading, emptying_hear, confirmed, after_confirmed, emptying_read_again, after_told, on_told}
 use Rattle.cleaner_job.specs.declared.hand.Hand.{Hand}
 use Rattle.cleaner_job.specs.declared.job.Job.{Job}
-use Rattle.cleaner_job.specs.Hands.{Heard, fetches_for, fetches}
-use Rattle.cleaner_job.specs.Jobs.{hand_of, is_whole, drops, lists_of, usages_of, check_of, is_out, job_read}
+use Rattle.cleaner_job.specs.Hands.{Heard, hand_fetch, fetches}
+use Rattle.cleaner_job.specs.Jobs.{hand_of, is_whole, act_dropped, lists_of, usages_of, check_of, is_out, note_read}
 use Rattle.segment_reading.specs.declared.reading.Next.{Next}
 use Rattle.segment_reading.specs.declared.reading.Next.TheVariants as next
-use Rattle.segment_reading.specs.Reading.{ReadingState, to_ask}
+use Rattle.segment_reading.specs.Reading.{ReadingState, reading_unanswered}
 use Rattle.stripe_cleaner.specs.declared.input.In.{In}
 use Rattle.stripe_cleaner.specs.declared.input.In.TheVariants as input
 use Rattle.stripe_cleaner.specs.declared.output.Out.{Out}
@@ -77,15 +77,15 @@ job_steps step each e (x ∷ xs) = job_then e (step e x) (steps step (step e x).
 
 -- ---- what the job asks
 
-maps_asked : (e : Emptying) (job : Option Job) → JobDoes e (asks_maps e job)
+maps_asked : (e : Emptying) (job : Option Job) → JobDoes e (ask_maps e job)
 maps_asked e None = job_still e
 maps_asked e (Some job) = record { says = (omega arith, tt); inc = refl; promised = refl }
 
-list_asked : (e : Emptying) (job : Option Job) (server : ℕ) → JobDoes e (asks_list e job server)
+list_asked : (e : Emptying) (job : Option Job) (server : ℕ) → JobDoes e (ask_list e job server)
 list_asked e None server = job_still e
 list_asked e (Some job) server = record { says = (tt, tt); inc = refl; promised = refl }
 
-usage_asked : (e : Emptying) (job : Option Job) (slot : ℕ) → JobDoes e (asks_usage e job slot)
+usage_asked : (e : Emptying) (job : Option Job) (slot : ℕ) → JobDoes e (ask_usage e job slot)
 usage_asked e None slot = job_still e
 usage_asked e (Some job) slot = record { says = (tt, tt); inc = refl; promised = refl }
 
@@ -101,8 +101,8 @@ checked_alike : (e : Emptying) (job : Option Job) (block : BlockId) → Alike e 
 checked_alike e None block = (refl, refl)
 checked_alike e (Some job) block = (refl, refl)
 
-check_asked : (e : Emptying) (block : BlockId) (place : Place) → JobDoes e (asks_check e block place)
-unfolding asks_check checks_block
+check_asked : (e : Emptying) (block : BlockId) (place : Place) → JobDoes e (ask_check e block place)
+unfolding ask_check emptying_check
 check_asked e block place =
     let c = checked_in e e.job block in
     job_from e c.state (check_sent c.state block place c.ask) (checked_alike e e.job block).0 (checked_alike e e.job block).1
@@ -110,9 +110,9 @@ check_asked e block place =
 
 -- ---- a segment is read
 
-asked_for : (life : ℕ) (name : SegName) (reading : Option ReadingState) → AllSay (JobSends life) (fetches_for name reading)
+asked_for : (life : ℕ) (name : SegName) (reading : Option ReadingState) → AllSay (JobSends life) (hand_fetch name reading)
 asked_for life name None = tt
-asked_for life name (Some r) = all_map (Says (JobSends life)) (fetch name r.ask) (λ server. tt) (to_ask r)
+asked_for life name (Some r) = all_map (Says (JobSends life)) (fetch name r.ask) (λ server. tt) (reading_unanswered r)
 
 fetched : (life : ℕ) (hand : Option Hand) → AllSay (JobSends life) (fetches hand)
 fetched life None = tt
@@ -122,8 +122,8 @@ held_alike : (e : Emptying) (job : Option Job) (seg : SegRef) → Alike e (holds
 held_alike e None seg = (refl, refl)
 held_alike e (Some job) seg = (refl, refl)
 
-read_begun : (e : Emptying) (seg : SegRef) → JobDoes e (reads e seg)
-unfolding reads holds
+read_begun : (e : Emptying) (seg : SegRef) → JobDoes e (emptying_read e seg)
+unfolding emptying_read emptying_hold
 read_begun e seg =
     let h = holds_in e e.job seg in
     record { says = fetched e.lasting.inc (hand_of h.job); inc = (held_alike e e.job seg).0; promised = (held_alike e e.job seg).1 }
@@ -134,32 +134,32 @@ fragment_stored : (life : ℕ) (o : LogOut) → AllSay (JobSends life) (stored o
 fragment_stored life (log_out.Send fragment member) = (tt, tt)
 fragment_stored life (log_out.Settled end rows) = tt
 
-put_so : (e : Emptying) (i : LogIn) → JobDoes e (puts e i)
-unfolding puts
+put_so : (e : Emptying) (i : LogIn) → JobDoes e (emptying_put e i)
+unfolding emptying_put
 put_so e i = record {
   says = all_flat_map (Says (JobSends e.lasting.inc)) stored (fragment_stored e.lasting.inc) (log.transition e.log i).outs;
   inc = refl;
   promised = refl;
 }
 
-block_put : (e : Emptying) (one : BlockId × Entry × Option (List ℕ)) → JobDoes e (puts_block e one)
-unfolding puts_block
+block_put : (e : Emptying) (one : BlockId × Entry × Option (List ℕ)) → JobDoes e (put_block e one)
+unfolding put_block
 block_put e one = put_so e (log_in.Put one.0 one.1 one.2)
 
-blocks_moved : (e : Emptying) (blocks : List (BlockId × Entry × Option (List ℕ))) → JobDoes e (moves e blocks)
-unfolding moves
+blocks_moved : (e : Emptying) (blocks : List (BlockId × Entry × Option (List ℕ))) → JobDoes e (move_all e blocks)
+unfolding move_all
 blocks_moved e blocks =
-    let d : Done = steps puts_block e blocks in
-    job_then e d (puts d.state log_in.Seal) (job_steps puts_block block_put e blocks) (put_so d.state log_in.Seal)
+    let d : Done = steps put_block e blocks in
+    job_then e d (emptying_put d.state log_in.Seal) (job_steps put_block block_put e blocks) (put_so d.state log_in.Seal)
 
-drop_filed : (life : ℕ) (is_first : Bool) (name : SegName) → AllSay (JobSends life) (drops is_first name)
+drop_filed : (life : ℕ) (is_first : Bool) (name : SegName) → AllSay (JobSends life) (act_dropped is_first name)
 drop_filed life true name = (tt, tt)
 drop_filed life false name = tt
 
-segment_deleted : (e : Emptying) (job : Option Job) (server : ℕ) (name : SegName) → JobDoes e (deletes e job server name)
+segment_deleted : (e : Emptying) (job : Option Job) (server : ℕ) (name : SegName) → JobDoes e (emptying_delete e job server name)
 segment_deleted e None server name = job_still e
 segment_deleted e (Some job) server name = record {
-  says = all_append (Says (JobSends e.lasting.inc)) (drops (is_whole job.hand) name) _ (drop_filed e.lasting.inc (is_whole job.hand) name) (tt, tt);
+  says = all_append (Says (JobSends e.lasting.inc)) (act_dropped (is_whole job.hand) name) _ (drop_filed e.lasting.inc (is_whole job.hand) name) (tt, tt);
   inc = refl;
   promised = refl;
 }
@@ -180,8 +180,8 @@ takes_alike e None given = (refl, refl)
 takes_alike e (Some job) given = (refl, refl)
 
 -- the job takes an input
-pub job_goes_on : (e : Emptying) (given : In) → JobDoes e (cleans e given)
-unfolding cleans job_takes
+pub job_goes_on : (e : Emptying) (given : In) → JobDoes e (emptying_clean e given)
+unfolding emptying_clean emptying_take
 job_goes_on e given =
     let t = takes_in e e.job given in
     job_from e t.state (steps says t.state t.outs) (takes_alike e e.job given).0 (takes_alike e e.job given).1 (job_steps says job_says t.state t.outs)
@@ -192,7 +192,7 @@ pub list_came : (e : Emptying) (server : Option ℕ) (m : Listed) → JobDoes e 
 unfolding on_listed
 list_came e None m = job_still e
 list_came e (Some server) m =
-    by_test (JobDoes e) (is_out (lists_of e.job) m.ask) (cleans e (input.Listed server m.held)) (still e) (λ t. job_goes_on e (input.Listed server m.held))
+    by_test (JobDoes e) (is_out (lists_of e.job) m.ask) (emptying_clean e (input.Listed server m.held)) (still e) (λ t. job_goes_on e (input.Listed server m.held))
     (λ t. job_still e)
 
 pub usage_came : (e : Emptying) (m : Usage) → JobDoes e (on_usage e m)
@@ -218,9 +218,9 @@ deleted_came e (Some server) m = job_goes_on e (input.Deleted server m.name)
 
 -- ---- the reading of the segment in hand
 
-reading_ended : (e : Emptying) (read : Option Segment) → JobDoes e (ends_reading e read)
-unfolding ends_reading
-reading_ended e read = job_from e (record e { job = job_read e.job }) _ refl refl (job_goes_on (record e { job = job_read e.job }) (input.Read read))
+reading_ended : (e : Emptying) (read : Option Segment) → JobDoes e (end_reading e read)
+unfolding end_reading
+reading_ended e read = job_from e (record e { job = note_read e.job }) _ refl refl (job_goes_on (record e { job = note_read e.job }) (input.Read read))
 
 confirmed_so : (e : Emptying) (n : Next) → JobDoes e (after_confirmed e n)
 confirmed_so e next.Ask = record { says = fetched e.lasting.inc (hand_of e.job); inc = refl; promised = refl }
@@ -231,10 +231,10 @@ confirmed_alike : (e : Emptying) (job : Option Job) (ask : ℕ) → Alike e (con
 confirmed_alike e None ask = (refl, refl)
 confirmed_alike e (Some job) ask = (refl, refl)
 
-read_again : (e : Emptying) → JobDoes e (reads_again e)
-unfolding reads_again confirmed
+read_again : (e : Emptying) → JobDoes e (emptying_read_again e)
+unfolding emptying_read_again confirmed
 read_again e =
-    let f : Emptying = with_questions e (drawn e.lasting.questions) in
+    let f : Emptying = with_questions e (draw e.lasting.questions) in
     let h : Heard Emptying = confirmed_in f f.job (next_ask e.lasting.questions) in
     job_from e h.state (after_confirmed h.state h.next) (confirmed_alike f f.job (next_ask e.lasting.questions)).0
     (confirmed_alike f f.job (next_ask e.lasting.questions)).1 (confirmed_so h.state h.next)
@@ -253,7 +253,7 @@ told_alike e (Some job) (Some groups) ask server t = (refl, refl)
 
 -- a server tells of its fragment
 pub told_came : (e : Emptying) (server : Option ℕ) (ask : ℕ) (t : Told) → JobDoes e (on_told e server ask t)
-unfolding on_told told_by
+unfolding on_told emptying_hear
 told_came e None ask t = job_still e
 told_came e (Some server) ask t =
     let h = told_in e e.job e.maps.groups ask server t in

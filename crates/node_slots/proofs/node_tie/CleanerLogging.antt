@@ -14,7 +14,7 @@ use Rattle.client_log.specs.declared.input.In.{In as LogIn}
 use Rattle.client_log.specs.declared.input.In.TheVariants as log_in
 use Rattle.client_log.specs.Transition as log
 use Rattle.group_map.specs.GroupMapState.{GroupMapState}
-use Rattle.node_base.specs.Asking.{drawn, next_ask}
+use Rattle.node_base.specs.Asking.{draw, next_ask}
 use Rattle.segment_format.specs.declared.segment.Segment.{Segment}
 use Rattle.segment_reading.specs.declared.reading.Next.{Next}
 use Rattle.segment_reading.specs.declared.reading.Next.TheVariants as next
@@ -30,10 +30,10 @@ use Rattle.wire_msg.specs.declared.cleaning.Usage.{Usage}
 use Rattle.wire_msg.specs.declared.storage.Deleted.{Deleted}
 use Rattle.wire_msg.specs.declared.storage.Listed.{Listed}
 use Rattle.cleaner_serving.specs.declared.emptying.Emptying.{Emptying}
-use Rattle.cleaner_serving.specs.Jobs.{Done, with_questions, asks_maps, asks_list, asks_usage, checked_in, checks_block, check_sent, asks_check, holds_in, holds, reads, puts, puts_block, moves, deletes, says, takes_in, job_takes, cleans, on_listed, on_usage, on_live, on_dead, on_deleted, ends_reading, told_in, told_by, confirmed_in, confirmed, after_confirmed, reads_again, after_told, on_told}
+use Rattle.cleaner_serving.specs.Jobs.{Done, with_questions, ask_maps, ask_list, ask_usage, checked_in, emptying_check, check_sent, ask_check, holds_in, emptying_hold, emptying_read, emptying_put, put_block, move_all, emptying_delete, says, takes_in, emptying_take, emptying_clean, on_listed, on_usage, on_live, on_dead, on_deleted, end_reading, told_in, emptying_hear, confirmed_in, confirmed, after_confirmed, emptying_read_again, after_told, on_told}
 use Rattle.cleaner_job.specs.declared.hand.Hand.{Hand}
 use Rattle.cleaner_job.specs.declared.job.Job.{Job}
-use Rattle.cleaner_job.specs.Jobs.{job_checks, hand_checks_in, hand_of, lists_of, usages_of, check_of, is_out, job_read, hand_hears_in, job_hears, hand_confirmed_in, job_confirmed}
+use Rattle.cleaner_job.specs.Jobs.{job_check, hand_checks_in, hand_of, lists_of, usages_of, check_of, is_out, note_read, hand_hears_in, job_hear, hand_confirmed_in, job_confirmed}
 use Rattle.token_law.specs.Books.{Books}
 use Rattle.node_slots.specs.node_tie.CleanerLogs.{its_log, PhaseCopies, ServesCopies, LiveTold}
 use Rattle.node_slots.proofs.node_tie.BooksLast.{Lasts}
@@ -72,21 +72,21 @@ module _ (members part : ℕ) (few : members ≤ its_log) where
 
   -- ---- what the job asks
 
-  maps_asked : (k : Books) (e : Emptying) (job : Option Job) → ServesCopies k e → JobCopies k job → ServesCopies k (asks_maps e job).state
+  maps_asked : (k : Books) (e : Emptying) (job : Option Job) → ServesCopies k e → JobCopies k job → ServesCopies k (ask_maps e job).state
   maps_asked k e None h its = h
   maps_asked k e (Some job) h its = record { seen = h.seen; waits = h.waits; job = its }
 
-  list_asked : (k : Books) (e : Emptying) (job : Option Job) (server : ℕ) → ServesCopies k e → JobCopies k job → ServesCopies k (asks_list e job server).state
+  list_asked : (k : Books) (e : Emptying) (job : Option Job) (server : ℕ) → ServesCopies k e → JobCopies k job → ServesCopies k (ask_list e job server).state
   list_asked k e None server h its = h
   list_asked k e (Some job) server h its = record { seen = h.seen; waits = h.waits; job = its }
 
-  usage_asked : (k : Books) (e : Emptying) (job : Option Job) (slot : ℕ) → ServesCopies k e → JobCopies k job → ServesCopies k (asks_usage e job slot).state
+  usage_asked : (k : Books) (e : Emptying) (job : Option Job) (slot : ℕ) → ServesCopies k e → JobCopies k job → ServesCopies k (ask_usage e job slot).state
   usage_asked k e None slot h its = h
   usage_asked k e (Some job) slot h its = record { seen = h.seen; waits = h.waits; job = its }
 
-  check_asked : (k : Books) (e : Emptying) (block : BlockId) (place : Place) → ServesCopies k e → ServesCopies k (asks_check e block place).state
-  unfolding asks_check checks_block job_checks
-  check_asked k e block place h = check_said (checks_block e block).state (checks_block e block).ask (checked e.job h.job)
+  check_asked : (k : Books) (e : Emptying) (block : BlockId) (place : Place) → ServesCopies k e → ServesCopies k (ask_check e block place).state
+  unfolding ask_check emptying_check job_check
+  check_asked k e block place h = check_said (emptying_check e block).state (emptying_check e block).ask (checked e.job h.job)
     where
       by_hand : (job : Job) (hand : Option Hand) → PhaseCopies k job.cleaning.phase
           → PhaseCopies k (hand_checks_in job e.lasting.questions hand block).job.cleaning.phase
@@ -101,8 +101,8 @@ module _ (members part : ℕ) (few : members ≤ its_log) where
       check_said f None c = c
       check_said f (Some ask) c = c
 
-  read_begun : (k : Books) (e : Emptying) (seg : SegRef) → ServesCopies k e → ServesCopies k (reads e seg).state
-  unfolding reads holds
+  read_begun : (k : Books) (e : Emptying) (seg : SegRef) → ServesCopies k e → ServesCopies k (emptying_read e seg).state
+  unfolding emptying_read emptying_hold
   read_begun k e seg h = by_job e.job h.job
     where
       by_job : (job : Option Job) → JobCopies k job → ServesCopies k (holds_in e job seg)
@@ -118,27 +118,27 @@ module _ (members part : ℕ) (few : members ≤ its_log) where
       let t = log_goes members part few k e.log i h.seen h.waits copy in
       record { next = t.next; goes = t.goes; copies = record { seen = t.seen; waits = t.waits; job = job_grown k t.next t.goes.lasts e.job h.job } }
 
-  block_put : (k : Books) (e : Emptying) (one : BlockId × Entry × Option (List ℕ)) → ServesCopies k e → MoveCopies k one → Gone k (puts_block e one).state
-  unfolding puts_block puts
+  block_put : (k : Books) (e : Emptying) (one : BlockId × Entry × Option (List ℕ)) → ServesCopies k e → MoveCopies k one → Gone k (put_block e one).state
+  unfolding put_block emptying_put
   block_put k e one h copy = log_taken k e (log_in.Put one.0 one.1 one.2) h copy
 
-  seals : (k : Books) (e : Emptying) → ServesCopies k e → Gone k (puts e log_in.Seal).state
-  unfolding puts
+  seals : (k : Books) (e : Emptying) → ServesCopies k e → Gone k (emptying_put e log_in.Seal).state
+  unfolding emptying_put
   seals k e h = log_taken k e log_in.Seal h tt
 
   move_grown : (k m : Books) → Lasts k m → (one : BlockId × Entry × Option (List ℕ)) → MoveCopies k one → MoveCopies m one
   move_grown k m grown one copy = copy_grown k m grown one.0 _ copy
 
   blocks_moved : (k : Books) (e : Emptying) (blocks : List (BlockId × Entry × Option (List ℕ))) → ServesCopies k e → AllByRecursion (MoveCopies k) blocks
-      → Gone k (moves e blocks).state
-  unfolding moves
+      → Gone k (move_all e blocks).state
+  unfolding move_all
   blocks_moved k e blocks h copies =
-      let d : Done = steps puts_block e blocks in
-      let p : Gone k d.state = all_steps puts_block MoveCopies move_grown block_put k e blocks h copies in
-      and_then k d.state (puts d.state log_in.Seal).state p (seals p.next d.state p.copies)
+      let d : Done = steps put_block e blocks in
+      let p : Gone k d.state = all_steps put_block MoveCopies move_grown block_put k e blocks h copies in
+      and_then k d.state (emptying_put d.state log_in.Seal).state p (seals p.next d.state p.copies)
 
   segment_deleted : (k : Books) (e : Emptying) (job : Option Job) (server : ℕ) (name : SegName) → ServesCopies k e → JobCopies k job
-      → ServesCopies k (deletes e job server name).state
+      → ServesCopies k (emptying_delete e job server name).state
   segment_deleted k e None server name h its = h
   segment_deleted k e (Some job) server name h its = record { seen = h.seen; waits = h.waits; job = its }
 
@@ -174,14 +174,14 @@ module _ (members part : ℕ) (few : members ≤ its_log) where
       let c = cleaning_copies k job.cleaning given its told in
       record { copies = record { seen = h.seen; waits = h.waits; job = c.phase }; said = c.outs }
 
-  pub job_hears_of : (k : Books) (e : Emptying) (given : Input) → ServesCopies k e → JobTold k e.job given → Gone k (cleans e given).state
-  unfolding cleans job_takes
+  pub job_hears_of : (k : Books) (e : Emptying) (given : Input) → ServesCopies k e → JobTold k e.job given → Gone k (emptying_clean e given).state
+  unfolding emptying_clean emptying_take
   job_hears_of k e given h told =
       let t = took k e e.job given h h.job told in
       all_steps says OutCopies out_grown job_says k (takes_in e e.job given).state (takes_in e e.job given).outs t.copies t.said
 
   -- an input that tells of nothing live
-  pub job_goes_on : (k : Books) (e : Emptying) (given : Input) → ServesCopies k e → ((p : Phase) → InputTold k p given) → Gone k (cleans e given).state
+  pub job_goes_on : (k : Books) (e : Emptying) (given : Input) → ServesCopies k e → ((p : Phase) → InputTold k p given) → Gone k (emptying_clean e given).state
   job_goes_on k e given h none = job_hears_of k e given h (by_job e.job)
     where
       by_job : (job : Option Job) → JobTold k job given
@@ -194,25 +194,25 @@ module _ (members part : ℕ) (few : members ≤ its_log) where
   unfolding on_listed
   list_came k e None m h = stays k e h
   list_came k e (Some server) m h =
-      by_test (λ (d : Done). Gone k d.state) (is_out (lists_of e.job) m.ask) (cleans e (input.Listed server m.held)) (still e)
+      by_test (λ (d : Done). Gone k d.state) (is_out (lists_of e.job) m.ask) (emptying_clean e (input.Listed server m.held)) (still e)
       (λ t. job_goes_on k e (input.Listed server m.held) h (λ p. tt)) (λ t. stays k e h)
 
   pub usage_came : (k : Books) (e : Emptying) (m : Usage) → ServesCopies k e → Gone k (on_usage e m).state
   unfolding on_usage
   usage_came k e m h =
-      by_test (λ (d : Done). Gone k d.state) (is_out (usages_of e.job) m.ask) (cleans e (input.Usage m.slot m.epoch m.counts)) (still e)
+      by_test (λ (d : Done). Gone k d.state) (is_out (usages_of e.job) m.ask) (emptying_clean e (input.Usage m.slot m.epoch m.counts)) (still e)
       (λ t. job_goes_on k e (input.Usage m.slot m.epoch m.counts) h (λ p. tt)) (λ t. stays k e h)
 
   pub live_came : (k : Books) (e : Emptying) (m : Live) → ServesCopies k e → LiveTold k e m → Gone k (on_live e m).state
   unfolding on_live
   live_came k e m h told =
-      by_test (λ (d : Done). Gone k d.state) (is_out (check_of (hand_of e.job) m.block) m.ask) (cleans e (input.Live m.block m.epoch m.entry)) (still e)
+      by_test (λ (d : Done). Gone k d.state) (is_out (check_of (hand_of e.job) m.block) m.ask) (emptying_clean e (input.Live m.block m.epoch m.entry)) (still e)
       (λ t. job_hears_of k e (input.Live m.block m.epoch m.entry) h (told t)) (λ t. stays k e h)
 
   pub dead_came : (k : Books) (e : Emptying) (m : Dead) → ServesCopies k e → Gone k (on_dead e m).state
   unfolding on_dead
   dead_came k e m h =
-      by_test (λ (d : Done). Gone k d.state) (is_out (check_of (hand_of e.job) m.block) m.ask) (cleans e (input.Dead m.block m.epoch)) (still e)
+      by_test (λ (d : Done). Gone k d.state) (is_out (check_of (hand_of e.job) m.block) m.ask) (emptying_clean e (input.Dead m.block m.epoch)) (still e)
       (λ t. job_goes_on k e (input.Dead m.block m.epoch) h (λ p. tt)) (λ t. stays k e h)
 
   pub deleted_came : (k : Books) (e : Emptying) (server : Option ℕ) (m : Deleted) → ServesCopies k e → Gone k (on_deleted e server m).state
@@ -222,12 +222,12 @@ module _ (members part : ℕ) (few : members ≤ its_log) where
 
   -- ---- the reading of the segment in hand
 
-  reading_ended : (k : Books) (e : Emptying) (read : Option Segment) → ServesCopies k e → Gone k (ends_reading e read).state
-  unfolding ends_reading
+  reading_ended : (k : Books) (e : Emptying) (read : Option Segment) → ServesCopies k e → Gone k (end_reading e read).state
+  unfolding end_reading
   reading_ended k e read h =
-      job_goes_on k (record e { job = job_read e.job }) (input.Read read) (record { seen = h.seen; waits = h.waits; job = by_job e.job h.job }) (λ p. tt)
+      job_goes_on k (record e { job = note_read e.job }) (input.Read read) (record { seen = h.seen; waits = h.waits; job = by_job e.job h.job }) (λ p. tt)
     where
-      by_job : (job : Option Job) → JobCopies k job → JobCopies k (job_read job)
+      by_job : (job : Option Job) → JobCopies k job → JobCopies k (note_read job)
       by_job None its = tt
       by_job (Some job) its = its
 
@@ -244,10 +244,10 @@ module _ (members part : ℕ) (few : members ≤ its_log) where
   confirmed_so k e next.Lost h = reading_ended k e None h
   confirmed_so k e _ h = stays k e h
 
-  read_again : (k : Books) (e : Emptying) → ServesCopies k e → Gone k (reads_again e).state
-  unfolding reads_again confirmed
+  read_again : (k : Books) (e : Emptying) → ServesCopies k e → Gone k (emptying_read_again e).state
+  unfolding emptying_read_again confirmed
   read_again k e h =
-      let f : Emptying = with_questions e (drawn e.lasting.questions) in
+      let f : Emptying = with_questions e (draw e.lasting.questions) in
       let c = confirmed f (next_ask e.lasting.questions) in
       confirmed_so k c.state c.next (confirms k f e.job (next_ask e.lasting.questions) (record { seen = h.seen; waits = h.waits; job = h.job }) h.job)
 
@@ -260,7 +260,7 @@ module _ (members part : ℕ) (few : members ≤ its_log) where
 
   hears_told : (k : Books) (e : Emptying) (job : Option Job) (groups : Option GroupMapState) (ask server : ℕ) (t : Told) → ServesCopies k e → JobCopies k job
       → ServesCopies k (told_in e job groups ask server t).state
-  unfolding job_hears
+  unfolding job_hear
   hears_told k e None groups ask server t h its = h
   hears_told k e (Some job) None ask server t h its = h
   hears_told k e (Some job) (Some groups) ask server t h its = by_hand job.hand
@@ -270,8 +270,8 @@ module _ (members part : ℕ) (few : members ≤ its_log) where
       by_hand (Some hand) = record { seen = h.seen; waits = h.waits; job = its }
 
   pub told_came : (k : Books) (e : Emptying) (server : Option ℕ) (ask : ℕ) (t : Told) → ServesCopies k e → Gone k (on_told e server ask t).state
-  unfolding on_told told_by
+  unfolding on_told emptying_hear
   told_came k e None ask t h = stays k e h
   told_came k e (Some server) ask t h =
-      let x = told_by e ask server t in
+      let x = emptying_hear e ask server t in
       told_so k x.state x.next (hears_told k e e.job e.maps.groups ask server t h h.job)

@@ -7,7 +7,7 @@ use Rattle.xfs_base.specs.declared.block.BlockId.{BlockId}
 use Rattle.xfs_base.specs.declared.entry.Entry.{Entry}
 use Rattle.segment_format.specs.declared.segment.Item.{Item}
 use Rattle.segment_format.specs.declared.segment.Item.TheVariants.{Block, Delta, Part}
-use Rattle.stripe_cleaner.specs.Checks.{checks_from}
+use Rattle.stripe_cleaner.specs.Checks.{checks_of}
 use Rattle.stripe_cleaner.specs.CleaningState.{CleaningState}
 use Rattle.stripe_cleaner.specs.declared.checks.Check.{Check}
 use Rattle.stripe_cleaner.specs.declared.checks.Fate.{Fate}
@@ -42,7 +42,7 @@ module _ (k : Books) where
   InputTold p (input.Live block epoch entry) = PhaseTold k block entry p
   InputTold p _ = Unit {0}
 
-  asked_of : (number : ℕ) (items : List Item) → AllByRecursion CheckCopies (checks_from number items)
+  asked_of : (number : ℕ) (items : List Item) → AllByRecursion CheckCopies (checks_of number items)
   asked_of number [] = tt
   asked_of number (Block block value ∷ items) = (tt, asked_of (number + 1) items)
   asked_of number (Delta block ver hop item ∷ items) = asked_of (number + 1) items

@@ -14,8 +14,8 @@ use Rattle.client_log.specs.Transition as log
 use Rattle.group_map.specs.GroupMapState.{GroupMapState}
 use Rattle.log_owner.specs.Promised.{epoch_of}
 use Rattle.log_owner.specs.Sending.{server_in}
-use Rattle.node_base.specs.Known.{names_known}
-use Rattle.node_base.specs.Maps.{fits, is_older, taken}
+use Rattle.node_base.specs.Known.{names_known_groups}
+use Rattle.node_base.specs.Maps.{fits, is_older, maps_take}
 use Rattle.stripe_cleaner.specs.declared.input.In.TheVariants as input
 use Rattle.stripe_code.specs.declared.round.Told.TheVariants as told
 use Rattle.wire_msg.specs.declared.body.Body.{Body}
@@ -26,10 +26,10 @@ use Rattle.wire_msg.specs.declared.packet.Packet.{Packet}
 use Rattle.wire_msg.specs.declared.registry.News.{News}
 use Rattle.wire_msg.specs.declared.registry.Welcome.{Welcome}
 use Rattle.cleaner_serving.specs.declared.emptying.Emptying.{Emptying}
-use Rattle.cleaner_serving.specs.EmptyingEvents.{renews, promises_slot, promises_all, with_new_job, begins_job, on_clean, fed, settles, writes_one, writes, on_ack, promises, reports, on_poll, hears_slot, hears_slots, job_regrouped, log_regrouped, takes_news, on_news, welcomes_over, welcomes, on_welcome, on_body, asks_for_maps, on_packet, on_tick}
-use Rattle.cleaner_serving.specs.Jobs.{Done, cleans}
+use Rattle.cleaner_serving.specs.EmptyingEvents.{emptying_renew, promise_slot, promise_all, with_new_job, begin_job, on_clean, fed, emptying_settle, write_one, emptying_write, on_ack, emptying_promise, emptying_report, on_poll, hear_slot, hear_slots, regroup_job, regroup_log, take_news, on_news, welcome_over, emptying_welcome, on_welcome, on_body, ask_for_maps, on_packet, on_tick}
+use Rattle.cleaner_serving.specs.Jobs.{Done, emptying_clean}
 use Rattle.cleaner_job.specs.declared.job.Job.{Job}
-use Rattle.cleaner_job.specs.Jobs.{job_moved, hello_of, greeted, is_out}
+use Rattle.cleaner_job.specs.Jobs.{note_moved, hello_of, note_greeted, is_out}
 use Rattle.token_law.specs.Books.{Books}
 use Rattle.node_slots.specs.node_tie.CleanerLogs.{its_log, ServesCopies, ServingTold}
 use Rattle.node_slots.proofs.node_tie.CleanerBooks.{PutCopies}
@@ -52,44 +52,44 @@ module _ (members part : ℕ) (few : members ≤ its_log) where
 
   -- ---- a job begins
 
-  slot_promised : (k : Books) (e : Emptying) (slot : ℕ) → ServesCopies k e → Unit {0} → GoesTo k (promises_slot e slot)
-  unfolding promises_slot
+  slot_promised : (k : Books) (e : Emptying) (slot : ℕ) → ServesCopies k e → Unit {0} → GoesTo k (promise_slot e slot)
+  unfolding promise_slot
   slot_promised k e slot h no_more = job_goes_on members part few k e (input.Promise slot (epoch_of e.promised slot)) h (λ p. tt)
 
-  job_begun : (k : Books) (e : Emptying) (number count : ℕ) → ServesCopies k e → GoesTo k (begins_job e number count)
-  unfolding begins_job promises_all
+  job_begun : (k : Books) (e : Emptying) (number count : ℕ) → ServesCopies k e → GoesTo k (begin_job e number count)
+  unfolding begin_job promise_all
   job_begun k e number count h =
       let f : Emptying = with_new_job e number count in
-      let d : Done = steps promises_slot f (range_with_len 0 8) in
-      let p = all_steps members part few promises_slot (λ k x. Unit {0}) (λ k m grown x o. tt) slot_promised k f (range_with_len 0 8)
+      let d : Done = steps promise_slot f (range_with_len 0 8) in
+      let p = all_steps members part few promise_slot (λ k x. Unit {0}) (λ k m grown x o. tt) slot_promised k f (range_with_len 0 8)
       (record { seen = h.seen; waits = h.waits; job = tt }) (nothing_asked (range_with_len 0 8)) in
-      and_then members part few k d.state (cleans d.state input.Tick).state p (job_goes_on members part few p.next d.state input.Tick p.copies (λ p. tt))
+      and_then members part few k d.state (emptying_clean d.state input.Tick).state p (job_goes_on members part few p.next d.state input.Tick p.copies (λ p. tt))
 
   pub cleaning_wished : (k : Books) (e : Emptying) (number count : ℕ) → ServesCopies k e → GoesTo k (on_clean e number count)
   unfolding on_clean
   cleaning_wished k e number count h =
-      by_test (GoesTo k) (is_some e.lasting.items.unanswered) _ (begins_job e number count) (λ t. as_was k e h) (λ t. job_begun k e number count h)
+      by_test (GoesTo k) (is_some e.lasting.items.unanswered) _ (begin_job e number count) (λ t. as_was k e h) (λ t. job_begun k e number count h)
 
   -- ---- the log
 
-  moved_kept : (k : Books) (job : Option Job) → JobCopies k job → JobCopies k (job_moved job)
+  moved_kept : (k : Books) (job : Option Job) → JobCopies k job → JobCopies k (note_moved job)
   moved_kept k None its = tt
   moved_kept k (Some job) its = its
 
-  one_written : (k : Books) (e : Emptying) (o : LogOut) → ServesCopies k e → Unit {0} → GoesTo k (writes_one e o)
-  unfolding writes_one settles
+  one_written : (k : Books) (e : Emptying) (o : LogOut) → ServesCopies k e → Unit {0} → GoesTo k (write_one e o)
+  unfolding write_one emptying_settle
   one_written k e (log_out.Send fragment member) h no_more = as_was k e h
   one_written k e (log_out.Settled end rows) h no_more =
       job_goes_on members part few k (fed e end rows) input.Moved (record { seen = h.seen; waits = h.waits; job = moved_kept k e.job h.job }) (λ p. tt)
 
-  log_takes : (k : Books) (e : Emptying) (i : LogIn) → ServesCopies k e → PutCopies members part few k i → GoesTo k (writes e i)
-  unfolding writes
+  log_takes : (k : Books) (e : Emptying) (i : LogIn) → ServesCopies k e → PutCopies members part few k i → GoesTo k (emptying_write e i)
+  unfolding emptying_write
   log_takes k e i h copy =
       let r = log.transition e.log i in
       let f : Emptying = record e { log = r.state } in
       let p = log_taken members part few k e i h copy in
-      and_then members part few k f (steps writes_one f r.outs).state p
-      (all_steps members part few writes_one (λ k x. Unit {0}) (λ k m grown x o. tt) one_written p.next f r.outs p.copies (nothing_asked r.outs))
+      and_then members part few k f (steps write_one f r.outs).state p
+      (all_steps members part few write_one (λ k x. Unit {0}) (λ k m grown x o. tt) one_written p.next f r.outs p.copies (nothing_asked r.outs))
 
   acknowledged : (k : Books) (e : Emptying) (m : DeltaAck) → ServesCopies k e → GoesTo k (on_ack e m)
   unfolding on_ack
@@ -99,22 +99,22 @@ module _ (members part : ℕ) (few : members ≤ its_log) where
 
   -- ---- promises
 
-  renewed : (k : Books) (e : Emptying) (slot epoch : ℕ) → ServesCopies k e → ServesCopies k (renews e slot epoch)
+  renewed : (k : Books) (e : Emptying) (slot epoch : ℕ) → ServesCopies k e → ServesCopies k (emptying_renew e slot epoch)
   renewed k e slot epoch h =
       by_test (ServesCopies k) (nat_lt (epoch_of e.promised slot) epoch) _ e (λ t. record { seen = h.seen; waits = h.waits; job = h.job }) (λ t. h)
 
-  promised : (k : Books) (e : Emptying) (slot epoch manager : ℕ) → ServesCopies k e → ServesCopies k (promises e slot epoch manager)
-  unfolding promises
+  promised : (k : Books) (e : Emptying) (slot epoch manager : ℕ) → ServesCopies k e → ServesCopies k (emptying_promise e slot epoch manager)
+  unfolding emptying_promise
   promised k e slot epoch manager h = (let r = renewed k e slot epoch h in record { seen = r.seen; waits = r.waits; job = r.job })
 
-  reported : (k : Books) (e : Emptying) (manager : ℕ) (m : Poll) → ServesCopies k e → GoesTo k (reports e manager m)
+  reported : (k : Books) (e : Emptying) (manager : ℕ) (m : Poll) → ServesCopies k e → GoesTo k (emptying_report e manager m)
   reported k e manager m h =
-      job_goes_on members part few k (promises e m.slot m.epoch manager) (input.Promise m.slot m.epoch) (promised k e m.slot m.epoch manager h) (λ p. tt)
+      job_goes_on members part few k (emptying_promise e m.slot m.epoch manager) (input.Promise m.slot m.epoch) (promised k e m.slot m.epoch manager h) (λ p. tt)
 
   poll_heard : (k : Books) (e : Emptying) (from : NodeId) (m : Poll) → ServesCopies k e → GoesTo k (on_poll e from m)
   unfolding on_poll
   poll_heard k e (node.Manager manager) m h =
-      by_test (GoesTo k) (nat_lt m.epoch (epoch_of e.promised m.slot)) (still e) (reports e manager m) (λ t. as_was k e h) (λ t. reported k e manager m h)
+      by_test (GoesTo k) (nat_lt m.epoch (epoch_of e.promised m.slot)) (still e) (emptying_report e manager m) (λ t. as_was k e h) (λ t. reported k e manager m h)
   poll_heard k e (node.Client n) m h = as_was k e h
   poll_heard k e (node.Server n) m h = as_was k e h
   poll_heard k e node.Cleaner m h = as_was k e h
@@ -122,63 +122,63 @@ module _ (members part : ℕ) (few : members ≤ its_log) where
 
   -- ---- the maps
 
-  slot_heard : (k : Books) (e : Emptying) (news : SlotNews) → ServesCopies k e → Unit {0} → GoesTo k (hears_slot e news)
-  unfolding hears_slot
+  slot_heard : (k : Books) (e : Emptying) (news : SlotNews) → ServesCopies k e → Unit {0} → GoesTo k (hear_slot e news)
+  unfolding hear_slot
   slot_heard k e news h no_more =
       by_test (GoesTo k) (nat_lt (epoch_of e.promised news.slot) news.epoch) _ (still e)
-      (λ t. job_goes_on members part few k (promises e news.slot news.epoch news.manager) (input.Promise news.slot news.epoch)
+      (λ t. job_goes_on members part few k (emptying_promise e news.slot news.epoch news.manager) (input.Promise news.slot news.epoch)
       (promised k e news.slot news.epoch news.manager h) (λ p. tt))
       (λ t. as_was k e h)
 
-  slots_heard : (k : Books) (e : Emptying) (slots : List SlotNews) → ServesCopies k e → GoesTo k (hears_slots e slots)
-  unfolding hears_slots
-  slots_heard k e slots h = all_steps members part few hears_slot (λ k x. Unit {0}) (λ k m grown x o. tt) slot_heard k e slots h (nothing_asked slots)
+  slots_heard : (k : Books) (e : Emptying) (slots : List SlotNews) → ServesCopies k e → GoesTo k (hear_slots e slots)
+  unfolding hear_slots
+  slots_heard k e slots h = all_steps members part few hear_slot (λ k x. Unit {0}) (λ k m grown x o. tt) slot_heard k e slots h (nothing_asked slots)
 
-  job_hears_groups : (k : Books) (e : Emptying) (newer : Bool) (groups : GroupMapState) → ServesCopies k e → GoesTo k (job_regrouped e newer groups)
+  job_hears_groups : (k : Books) (e : Emptying) (newer : Bool) (groups : GroupMapState) → ServesCopies k e → GoesTo k (regroup_job e newer groups)
   job_hears_groups k e true groups h = job_goes_on members part few k e (input.Maps groups) h (λ p. tt)
   job_hears_groups k e false groups h = as_was k e h
 
-  log_hears_groups : (k : Books) (e : Emptying) (newer : Bool) (groups : GroupMapState) → ServesCopies k e → GoesTo k (log_regrouped e newer groups)
+  log_hears_groups : (k : Books) (e : Emptying) (newer : Bool) (groups : GroupMapState) → ServesCopies k e → GoesTo k (regroup_log e newer groups)
   log_hears_groups k e true groups h = log_takes k e (log_in.Maps groups) h tt
   log_hears_groups k e false groups h = as_was k e h
 
-  news_taken : (k : Books) (e : Emptying) (news : News) → ServesCopies k e → GoesTo k (takes_news e news)
-  unfolding takes_news
+  news_taken : (k : Books) (e : Emptying) (news : News) → ServesCopies k e → GoesTo k (take_news e news)
+  unfolding take_news
   news_taken k e news h =
       let newer : Bool = is_older e.maps news in
-      let with_maps : Emptying = record e { maps = taken e.maps news } in
-      let a : Done = job_regrouped with_maps newer news.groups in
-      let b : Done = hears_slots a.state news.slots in
+      let with_maps : Emptying = record e { maps = maps_take e.maps news } in
+      let a : Done = regroup_job with_maps newer news.groups in
+      let b : Done = hear_slots a.state news.slots in
       let p = job_hears_groups k with_maps newer news.groups (record { seen = h.seen; waits = h.waits; job = h.job }) in
       let q = and_then members part few k a.state b.state p (slots_heard p.next a.state news.slots p.copies) in
-      and_then members part few k b.state (log_regrouped b.state newer news.groups).state q (log_hears_groups q.next b.state newer news.groups q.copies)
+      and_then members part few k b.state (regroup_log b.state newer news.groups).state q (log_hears_groups q.next b.state newer news.groups q.copies)
 
   news_heard : (k : Books) (e : Emptying) (news : News) → ServesCopies k e → GoesTo k (on_news e news)
-  news_heard k e news h = by_test (GoesTo k) (fits e.maps news) (takes_news e news) (still e) (λ t. news_taken k e news h) (λ t. as_was k e h)
+  news_heard k e news h = by_test (GoesTo k) (fits e.maps news) (take_news e news) (still e) (λ t. news_taken k e news h) (λ t. as_was k e h)
 
   welcomed_over : (k : Books) (e : Emptying) (slots : List SlotNews) (groups : Option GroupMapState) → ServesCopies k e
-      → GoesTo k (welcomes_over e slots groups)
+      → GoesTo k (welcome_over e slots groups)
   welcomed_over k e slots None h = as_was k e h
   welcomed_over k e slots (Some groups) h = job_goes_on members part few k e (input.Welcome slots groups) h (λ p. tt)
 
-  greeted_kept : (k : Books) (job : Option Job) → JobCopies k job → JobCopies k (greeted job)
+  greeted_kept : (k : Books) (job : Option Job) → JobCopies k job → JobCopies k (note_greeted job)
   greeted_kept k None its = tt
   greeted_kept k (Some job) its = its
 
-  job_welcomed : (k : Books) (e : Emptying) (m : Welcome) → ServesCopies k e → GoesTo k (welcomes e m)
-  unfolding welcomes
+  job_welcomed : (k : Books) (e : Emptying) (m : Welcome) → ServesCopies k e → GoesTo k (emptying_welcome e m)
+  unfolding emptying_welcome
   job_welcomed k e m h =
-      by_test (GoesTo k) (is_out (hello_of e.job) m.ask) (welcomes_over (record e { job = greeted e.job }) m.news.slots e.maps.groups) (still e)
-      (λ t. welcomed_over k (record e { job = greeted e.job }) m.news.slots e.maps.groups
+      by_test (GoesTo k) (is_out (hello_of e.job) m.ask) (welcome_over (record e { job = note_greeted e.job }) m.news.slots e.maps.groups) (still e)
+      (λ t. welcomed_over k (record e { job = note_greeted e.job }) m.news.slots e.maps.groups
       (record { seen = h.seen; waits = h.waits; job = greeted_kept k e.job h.job }))
       (λ t. as_was k e h)
 
   welcome_heard : (k : Books) (e : Emptying) (m : Welcome) → ServesCopies k e → GoesTo k (on_welcome e m)
   unfolding on_welcome
   welcome_heard k e m h =
-      let d : Done = takes_news e m.news in
-      by_test (GoesTo k) ((m.inc == e.lasting.inc) && fits e.maps m.news) (saying d.outs (welcomes d.state m)) (still e)
-      (λ t. let p = news_taken k e m.news h in and_then members part few k d.state (welcomes d.state m).state p (job_welcomed p.next d.state m p.copies))
+      let d : Done = take_news e m.news in
+      by_test (GoesTo k) ((m.inc == e.lasting.inc) && fits e.maps m.news) (saying d.outs (emptying_welcome d.state m)) (still e)
+      (λ t. let p = news_taken k e m.news h in and_then members part few k d.state (emptying_welcome d.state m).state p (job_welcomed p.next d.state m p.copies))
       (λ t. as_was k e h)
 
   -- ---- packets and time
@@ -201,13 +201,13 @@ module _ (members part : ℕ) (few : members ≤ its_log) where
   pub packet_heard : (k : Books) (e : Emptying) (packet : Packet) → ServingTold k e packet.body → ServesCopies k e → GoesTo k (on_packet e packet)
   unfolding on_packet
   packet_heard k e packet owed h =
-      by_test (GoesTo k) (names_known e.maps packet.body) (on_body e packet.from packet.body) (asks_for_maps e)
+      by_test (GoesTo k) (names_known_groups e.maps packet.body) (on_body e packet.from packet.body) (ask_for_maps e)
       (λ t. body_heard k e packet.from packet.body owed h)
       (λ t. as_was k _ (record { seen = h.seen; waits = h.waits; job = h.job }))
 
   pub time_passes : (k : Books) (e : Emptying) → ServesCopies k e → GoesTo k (on_tick e)
   unfolding on_tick
   time_passes k e h =
-      let j : Done = cleans e input.Tick in
+      let j : Done = emptying_clean e input.Tick in
       let p = job_goes_on members part few k e input.Tick h (λ p. tt) in
-      and_then members part few k j.state (writes j.state log_in.Tick).state p (log_takes p.next j.state log_in.Tick p.copies tt)
+      and_then members part few k j.state (emptying_write j.state log_in.Tick).state p (log_takes p.next j.state log_in.Tick p.copies tt)

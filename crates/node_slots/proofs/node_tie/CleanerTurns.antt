@@ -17,7 +17,7 @@ use Rattle.node_base.specs.Effects.{acts_of}
 use Rattle.node_base.specs.Shape.{is_well_formed}
 use Rattle.cleaner_serving.specs.declared.emptying.Emptying.{Emptying}
 use Rattle.cleaner_serving.specs.EmptyingEvents.{on_clean, on_packet, on_tick}
-use Rattle.cleaner_node.specs.CleanerEvents.{Went_to, crashes, after_opening, restarts, down_wishes, opening_wishes, serving_wishes, begun_life, wish_at, down_at, opening_at, serving_at, on_begin, hears, on_deliver, on_time, happens, phase_room, takes}
+use Rattle.cleaner_node.specs.CleanerEvents.{Went_to, crash, after_opening, restart, down_wishes, opening_wishes, serving_wishes, begun_life, wish_at, down_at, opening_at, serving_at, on_begin, cleaner_hear, on_deliver, on_time, happens, phase_has_room, takes}
 use Rattle.cleaner_node.specs.declared.cleaner.Cleaner.{Cleaner as CleanerNode}
 use Rattle.cleaner_node.specs.declared.cleaner.Phase.{Phase}
 use Rattle.cleaner_node.specs.declared.cleaner.Phase.TheVariants.{Down, Opening, Serving as Serves}
@@ -117,7 +117,7 @@ module _ (members part : ℕ) (few : members ≤ its_log) (adopted : Bool) where
   -- ---- the next item
 
   down_wished : (k : Books) (before l : Lasting) (servers number : ℕ) (wish : Wish) → Turned k (Down before) (down_wishes servers l number wish).state
-  unfolding restarts
+  unfolding restart
   down_wished k before l servers number Restart = to_opening k (Down before) _ _
   down_wished k before l servers number Crash = to_down k (Down before) l
   down_wished k before l servers number (Clean count) = to_down k (Down before) l
@@ -128,7 +128,7 @@ module _ (members part : ℕ) (few : members ≤ its_log) (adopted : Bool) where
 
   opening_wished : (k : Books) (before l : Lasting) (o : openings.Opening) (number : ℕ) (wish : Wish)
       → Turned k (Opening before o) (opening_wishes l o number wish).state
-  unfolding crashes
+  unfolding crash
   opening_wished k before l o number Crash = to_down k (Opening before o) _
   opening_wished k before l o number Restart = to_opening k (Opening before o) l o
   opening_wished k before l o number (Clean count) = to_opening k (Opening before o) l o
@@ -139,7 +139,7 @@ module _ (members part : ℕ) (few : members ≤ its_log) (adopted : Bool) where
 
   serving_wished : (k : Books) (before e : Emptying) (number : ℕ) (wish : Wish) → ServesCopies k e
       → Turned k (Serves before) (serving_wishes e number wish).state
-  unfolding crashes
+  unfolding crash
   serving_wished k before e number Crash h = to_down k (Serves before) _
   serving_wished k before e number Restart h = on_serving k before e h
   serving_wished k before e number (Clean count) h =
@@ -158,18 +158,18 @@ module _ (members part : ℕ) (few : members ≤ its_log) (adopted : Bool) where
 
   -- ---- packets, and time
 
-  heard : (k : Books) (p : Phase) (packet : Packet) → CleanerCopies k p → PacketTold k adopted p packet → Turned k p (hears p packet).state
-  unfolding hears
+  heard : (k : Books) (p : Phase) (packet : Packet) → CleanerCopies k p → PacketTold k adopted p packet → Turned k p (cleaner_hear p packet).state
+  unfolding cleaner_hear
   heard k (Down l) packet h owed = to_down k (Down l) l
   heard k (Opening l o) packet h owed =
-      (let w : Went = opening.on_packet o l.questions packet in ended k l (record l { questions = w.questions }) o w.progress owed)
+      (let w : Went = opening.opening_take o l.questions packet in ended k l (record l { questions = w.questions }) o w.progress owed)
   heard k (Serves e) packet h owed = serving k e (on_packet e packet).state (packet_heard members part few k e packet owed h)
 
   delivered : (k : Books) (peers : Peers) (p : Phase) (packet : Packet) → CleanerCopies k p
       → (is_well_formed peers packet ≡ true → PacketTold k adopted p packet) → Turned k p (on_deliver peers p packet).state
   unfolding on_deliver
   delivered k peers p packet h owed =
-      by_test (λ (w : Went_to). Turned k p w.state) (is_well_formed peers packet) (hears p packet) (still p) (λ t. heard k p packet h (owed t))
+      by_test (λ (w : Went_to). Turned k p w.state) (is_well_formed peers packet) (cleaner_hear p packet) (still p) (λ t. heard k p packet h (owed t))
       (λ t. as_it_was k p h)
 
   ticked : (k : Books) (p : Phase) → CleanerCopies k p → InTime k adopted p → Turned k p (on_time p).state
@@ -196,7 +196,7 @@ module _ (members part : ℕ) (few : members ≤ its_log) (adopted : Bool) where
   turned : (k : Books) (cleaner : CleanerNode) (what : Do) → CleanerCopies k cleaner.phase → (IsTaken cleaner what → CleanerTold k adopted cleaner.phase what)
       → Turned k cleaner.phase (takes cleaner.peers cleaner.phase what).state
   turned k cleaner what h owed =
-      by_test (λ (w : Went_to). Turned k cleaner.phase w.state) (phase_room cleaner.phase) (happens cleaner.peers cleaner.phase what) (still cleaner.phase)
+      by_test (λ (w : Went_to). Turned k cleaner.phase w.state) (phase_has_room cleaner.phase) (happens cleaner.peers cleaner.phase what) (still cleaner.phase)
       (λ room. happened k cleaner.peers cleaner.phase what h (λ formed. owed (record { room = room; formed = formed })))
       (λ room. as_it_was k cleaner.phase h)
 

@@ -23,9 +23,9 @@ use Rattle.token_client.specs.declared.input.In.{In}
 use Rattle.token_client.specs.declared.input.In.TheVariants.{Need, Granted, Supplied, Forwarded, Recalled, Wrote, Settled, Fetched, Evict, Reask, Quit, Promise, Tick}
 use Rattle.token_client.specs.declared.output.Out.TheVariants as output
 use Rattle.token_client.specs.Laws.{IsSound}
-use Rattle.token_client.specs.Held.{is_answer, is_wanted, is_dirty, is_asking, must_ask, may_write, is_settled_by, may_end_fetch, may_evict, asked, asked_again, owned, copied, fetched_from, copy_granted, grant_taken, fetch_ended, written, version_settled, let_go, unasked, unfetched, promise_dropped, gives_after, put_off, given_up}
+use Rattle.token_client.specs.Held.{is_answer, is_wanted, is_dirty, is_asking, must_ask, may_write, is_settled_by, may_end_fetch, may_evict, held_ask, asked_again, held_own, copy_of, fetch_from, take_copy, take_grant, end_fetch, held_write, version_settled, let_go, quit, unfetched, drop_promised, gives_after, put_off, give_up}
 use Rattle.token_client.specs.State.{TokensState, held_of, with_held, is_in_slot}
-use Rattle.token_client.specs.Transition.{Done, accepts, is_promised, new_want, on_need, grant_next, on_granted, on_supplied, serves, supplies, on_forwarded, refetch, give, can_refetch, recalled_above, was_answered, recalled_again, recalled, on_recalled, on_wrote, on_settled, on_fetched, on_evict, on_reask, on_quit, fetched_in, dropped_in, raised, ask_copy, may_promise, on_promise, is_spent, repeated, ask_again, wanted_in, on_tick, transition}
+use Rattle.token_client.specs.Transition.{Done, accepts, is_promised, tokens_ask, on_need, grant_next, on_granted, on_supplied, serves, supplies, on_forwarded, refetch, give, can_refetch, recalled_above, was_answered, recalled_again, recalled, on_recalled, on_wrote, on_settled, on_fetched, on_evict, on_reask, on_quit, fetched_blocks, drop_in, raised, ask_copy, may_promise, on_promise, is_spent, repeated, ask_again, wanted_blocks, on_tick, transition}
 use Rattle.token_client.proofs.Promises.{dropped-known}
 use Rattle.token_client.proofs.SoundBlocks.{asks_by_want}
 use Rattle.token_client.proofs.Tables.{put_each}
@@ -84,9 +84,9 @@ module _ (P : BlockId → Option Giving → Type 0) (E : List ℕ → Type 0) (Q
 
   -- what an input has to bring: of a recall that it was sent, of a promise that it may be made; of what isn't clean then, or has no value, that the fact holds
   abbrev pub Allowed : In → Type 0
-  Allowed (Granted block stamp inc req mode entry) = is_own mode ≡ true → (h : Held) → Q block h → Q block (owned h stamp entry.ver)
+  Allowed (Granted block stamp inc req mode entry) = is_own mode ≡ true → (h : Held) → Q block h → Q block (held_own h stamp entry.ver)
   Allowed (Recalled block stamp keep) = P block (Some (record { stamp = stamp; keep = keep }))
-  Allowed (Wrote block value) = (h : Held) → Q block h → Q block (written h value)
+  Allowed (Wrote block value) = (h : Held) → Q block h → Q block (held_write h value)
   Allowed (Settled block ver) = (h : Held) → Q block h → Q block (version_settled h ver)
   Allowed (Promise slot epoch) = (epochs : List ℕ) → E epochs → E (slice_set epochs slot epoch)
   Allowed _ = Unit {0}
@@ -114,48 +114,48 @@ module _ (P : BlockId → Option Giving → Type 0) (E : List ℕ → Type 0) (Q
     same_held s h block g here mode ver settled value =
         bears_with s h block g here (stays.same block (held_of s.blocks block) g mode ver settled value (h.held block))
 
-    pub ask-bears : (s : TokensState) (block : BlockId) (mode : Mode) → Bears s → Bears (new_want s block mode).state
-    unfolding new_want
+    pub ask-bears : (s : TokensState) (block : BlockId) (mode : Mode) → Bears s → Bears (tokens_ask s block mode).state
+    unfolding tokens_ask
     ask-bears s block mode h =
-        let g : Held = asked (held_of s.blocks block) (s.req + 1) mode in
+        let g : Held = held_ask (held_of s.blocks block) (s.req + 1) mode in
         by_test (λ (d : Done). Bears d.state) (nat_lt s.req u32_end)
         (record { state = record (with_held s block g) { req = s.req + 1 }; outs = output.Want block (s.req + 1) 0 mode ∷ [] }) (still s)
         (λ t. asks (same_held s h block g (h.giving block) refl refl refl refl)) (λ t. h)
       where
-        asks : Bears (with_held s block (asked (held_of s.blocks block) (s.req + 1) mode))
-            → Bears (record (with_held s block (asked (held_of s.blocks block) (s.req + 1) mode)) { req = s.req + 1 })
+        asks : Bears (with_held s block (held_ask (held_of s.blocks block) (s.req + 1) mode))
+            → Bears (record (with_held s block (held_ask (held_of s.blocks block) (s.req + 1) mode)) { req = s.req + 1 })
         asks k = record { life_is = k.life_is; promised = k.promised; giving = k.giving; held = k.held }
 
     on_need-bears : (s : TokensState) (block : BlockId) (mode : Mode) → Bears s → Bears (on_need s block mode).state
     unfolding on_need
-    on_need-bears s block mode h = by_test (λ (d : Done). Bears d.state) (must_ask (held_of s.blocks block) mode) (new_want s block mode) (still s)
+    on_need-bears s block mode h = by_test (λ (d : Done). Bears d.state) (must_ask (held_of s.blocks block) mode) (tokens_ask s block mode) (still s)
         (λ t. ask-bears s block mode h) (λ t. h)
 
     granted-bears : (block : BlockId) (h : Held) (stamp : Stamp) (mode : Mode) (entry : Entry) → P block h.giving
-        → P block (grant_taken h stamp mode entry).giving
+        → P block (take_grant h stamp mode entry).giving
     granted-bears block h stamp mode entry p =
-        by_test (λ (g : Held). P block g.giving) (is_own mode) (owned h stamp entry.ver) (copy_granted h stamp entry.ver entry.place) (λ t. p)
+        by_test (λ (g : Held). P block g.giving) (is_own mode) (held_own h stamp entry.ver) (take_copy h stamp entry.ver entry.place) (λ t. p)
         (λ t. by_place entry.place)
       where
-        by_place : (place : Option Place) → P block (copy_granted h stamp entry.ver place).giving
+        by_place : (place : Option Place) → P block (take_copy h stamp entry.ver place).giving
         by_place None = p
         by_place (Some place) = p
 
     granted-fact : (block : BlockId) (h : Held) (stamp : Stamp) (mode : Mode) (entry : Entry)
-        → (is_own mode ≡ true → (h : Held) → Q block h → Q block (owned h stamp entry.ver))
-        → is_dirty h ≡ false → Q block h → Q block (grant_taken h stamp mode entry)
+        → (is_own mode ≡ true → (h : Held) → Q block h → Q block (held_own h stamp entry.ver))
+        → is_dirty h ≡ false → Q block h → Q block (take_grant h stamp mode entry)
     granted-fact block h stamp mode entry may clean q =
-        by_test (Q block) (is_own mode) (owned h stamp entry.ver) (copy_granted h stamp entry.ver entry.place) (λ t. may t h q) (λ t. by_place entry.place)
+        by_test (Q block) (is_own mode) (held_own h stamp entry.ver) (take_copy h stamp entry.ver entry.place) (λ t. may t h q) (λ t. by_place entry.place)
       where
-        by_place : (place : Option Place) → Q block (copy_granted h stamp entry.ver place)
-        by_place None = stays.clean block h (copied h stamp entry.ver None) clean (itself_clean entry.ver) (λ held. refl) q
-        by_place (Some place) = stays.clean block h (fetched_from h stamp entry.ver place) clean clean (λ held. contrary held) q
+        by_place : (place : Option Place) → Q block (take_copy h stamp entry.ver place)
+        by_place None = stays.clean block h (copy_of h stamp entry.ver None) clean (itself_clean entry.ver) (λ held. refl) q
+        by_place (Some place) = stays.clean block h (fetch_from h stamp entry.ver place) clean clean (λ held. contrary held) q
 
     on_granted-bears : (s : TokensState) → IsSound s → (block : BlockId) (stamp : Stamp) (inc req : ℕ) (mode : Mode) (entry : Entry)
         → Allowed (Granted block stamp inc req mode entry) → Bears s → Bears (on_granted s block stamp inc req mode entry).state
     unfolding on_granted
     on_granted-bears s sound block stamp inc req mode entry may h =
-        let g : Held = grant_taken (held_of s.blocks block) stamp mode entry in
+        let g : Held = take_grant (held_of s.blocks block) stamp mode entry in
         by_test (λ (d : Done). Bears d.state) (accepts s block stamp inc req mode)
         (record { state = with_held s block g; outs = grant_next block mode entry.place ∷ [] }) (still s)
         (λ t. bears_with s h block g (granted-bears block (held_of s.blocks block) stamp mode entry (h.giving block))
@@ -165,7 +165,7 @@ module _ (P : BlockId → Option Giving → Type 0) (E : List ℕ → Type 0) (Q
         → Bears (on_supplied s block stamp inc req ver value).state
     unfolding on_supplied
     on_supplied-bears s sound block stamp inc req ver value h =
-        let g : Held = copied (held_of s.blocks block) stamp ver value in
+        let g : Held = copy_of (held_of s.blocks block) stamp ver value in
         by_test (λ (d : Done). Bears d.state) (accepts s block stamp inc req Copy) (record { state = with_held s block g; outs = output.Ready block ∷ [] })
         (still s)
         (λ t. bears_with s h block g (h.giving block)
@@ -182,7 +182,7 @@ module _ (P : BlockId → Option Giving → Type 0) (E : List ℕ → Type 0) (Q
     unfolding refetch
     refetch-bears s block h =
         let dropped : TokensState = with_held s block (unfetched (held_of s.blocks block)) in
-        by_test (λ (d : Done). Bears d.state) (is_some (held_of s.blocks block).fetch) (new_want dropped block Copy) (still s)
+        by_test (λ (d : Done). Bears d.state) (is_some (held_of s.blocks block).fetch) (tokens_ask dropped block Copy) (still s)
         (λ t. ask-bears dropped block Copy (same_held s h block (unfetched (held_of s.blocks block)) (h.giving block) refl refl refl refl)) (λ t. h)
 
     module _ (none : (b : BlockId) → P b None) where
@@ -193,13 +193,13 @@ module _ (P : BlockId → Option Giving → Type 0) (E : List ℕ → Type 0) (Q
           let k : Held = held_of s.blocks block in
           by_test (λ (d : Done). Bears d.state) (is_dirty k)
           (record { state = with_held s block (put_off k stamp keep); outs = output.Flush block ∷ [] })
-          (record { state = with_held s block (given_up k stamp keep); outs = output.Gave block stamp ∷ [] })
+          (record { state = with_held s block (give_up k stamp keep); outs = output.Gave block stamp ∷ [] })
           (λ t. bears_with s h block (put_off k stamp keep)
           (by_test (λ (g : Held). P block g.giving) (gives_after k.giving stamp) k (record k { giving = Some (record { stamp = stamp; keep = keep }) })
           (λ u. h.giving block) (λ u. sent))
           (by_test (Q block) (gives_after k.giving stamp) k (record k { giving = Some (record { stamp = stamp; keep = keep }) }) (λ u. h.held block)
           (λ u. stays.same block k (record k { giving = Some (record { stamp = stamp; keep = keep }) }) refl refl refl refl (h.held block))))
-          (λ t. bears_with s h block (given_up k stamp keep)
+          (λ t. bears_with s h block (give_up k stamp keep)
           (by_test (λ (g : Held). P block g.giving) (keep && is_held k.mode) (record k { mode = Copy; stamp = stamp; giving = None })
           (record k { mode = Nothing; value = None; stamp = stamp; giving = None }) (λ u. none block) (λ u. none block))
           (by_test (Q block) (keep && is_held k.mode) (record k { mode = Copy; stamp = stamp; giving = None })
@@ -245,24 +245,24 @@ module _ (P : BlockId → Option Giving → Type 0) (E : List ℕ → Type 0) (Q
         held = λ b. subst (Q b) (sym (dropped-known s slot b)) (fact b (held_of s.blocks b) (h.held b));
       }
         where
-          dropped : (b : BlockId) (k : Held) → P b k.giving → P b (dropped_in slot b k).giving
-          dropped b k p = by_test (λ (g : Held). P b g.giving) (is_in_slot slot b) (promise_dropped k) k (λ t. none b) (λ t. p)
+          dropped : (b : BlockId) (k : Held) → P b k.giving → P b (drop_in slot b k).giving
+          dropped b k p = by_test (λ (g : Held). P b g.giving) (is_in_slot slot b) (drop_promised k) k (λ t. none b) (λ t. p)
 
-          fact : (b : BlockId) (k : Held) → Q b k → Q b (dropped_in slot b k)
-          fact b k q = by_test (Q b) (is_in_slot slot b) (promise_dropped k) k (λ t. stays.same b k (promise_dropped k) refl refl refl refl q) (λ t. q)
+          fact : (b : BlockId) (k : Held) → Q b k → Q b (drop_in slot b k)
+          fact b k q = by_test (Q b) (is_in_slot slot b) (drop_promised k) k (λ t. stays.same b k (drop_promised k) refl refl refl refl q) (λ t. q)
 
       on_promise-bears : (s : TokensState) (slot epoch : ℕ) → ((epochs : List ℕ) → E epochs → E (slice_set epochs slot epoch)) → Bears s
           → Bears (on_promise s slot epoch).state
       unfolding on_promise
       on_promise-bears s slot epoch may h =
-          by_test (λ (d : Done). Bears d.state) (may_promise s slot epoch) (steps ask_copy (raised s slot epoch) (fetched_in slot s.blocks)) (still s)
-          (λ t. bears_steps ask_copy (λ u b. ask-bears u b Copy) (raised s slot epoch) (fetched_in slot s.blocks) (raised-bears s slot epoch may h)) (λ t. h)
+          by_test (λ (d : Done). Bears d.state) (may_promise s slot epoch) (steps ask_copy (raised s slot epoch) (fetched_blocks slot s.blocks)) (still s)
+          (λ t. bears_steps ask_copy (λ u b. ask-bears u b Copy) (raised s slot epoch) (fetched_blocks slot s.blocks) (raised-bears s slot epoch may h)) (λ t. h)
 
     on_wrote-bears : (s : TokensState) (block : BlockId) (value : Option (List ℕ)) → Allowed (Wrote block value) → Bears s
         → Bears (on_wrote s block value).state
     unfolding on_wrote
     on_wrote-bears s block value may h =
-        let g : Held = written (held_of s.blocks block) value in
+        let g : Held = held_write (held_of s.blocks block) value in
         by_test (λ (d : Done). Bears d.state) (may_write (held_of s.blocks block)) (still (with_held s block g)) (still s)
         (λ t. bears_with s h block g (h.giving block) (may (held_of s.blocks block) (h.held block))) (λ t. h)
 
@@ -278,15 +278,15 @@ module _ (P : BlockId → Option Giving → Type 0) (E : List ℕ → Type 0) (Q
     on_fetched-bears s sound block value h =
         let k : Held = held_of s.blocks block in
         by_test (λ (d : Done). Bears d.state) (may_end_fetch k)
-        (record { state = with_held s block (fetch_ended k k.fetch value); outs = output.Ready block ∷ [] }) (still s)
-        (λ t. bears_with s h block (fetch_ended k k.fetch value) (by_fetch k (h.giving block) k.fetch)
+        (record { state = with_held s block (end_fetch k k.fetch value); outs = output.Ready block ∷ [] }) (still s)
+        (λ t. bears_with s h block (end_fetch k k.fetch value) (by_fetch k (h.giving block) k.fetch)
         (fact k (fetched_clean s sound block t) (h.held block) k.fetch)) (λ t. h)
       where
-        fact : (k : Held) → is_dirty k ≡ false → Q block k → (fetch : Option Fetch) → Q block (fetch_ended k fetch value)
+        fact : (k : Held) → is_dirty k ≡ false → Q block k → (fetch : Option Fetch) → Q block (end_fetch k fetch value)
         fact k clean q None = q
-        fact k clean q (Some fetch) = stays.clean block k (fetch_ended k (Some fetch) value) clean (itself_clean fetch.ver) (λ held. refl) q
+        fact k clean q (Some fetch) = stays.clean block k (end_fetch k (Some fetch) value) clean (itself_clean fetch.ver) (λ held. refl) q
 
-        by_fetch : (k : Held) → P block k.giving → (fetch : Option Fetch) → P block (fetch_ended k fetch value).giving
+        by_fetch : (k : Held) → P block k.giving → (fetch : Option Fetch) → P block (end_fetch k fetch value).giving
         by_fetch k p None = p
         by_fetch k p (Some fetch) = p
 
@@ -304,13 +304,13 @@ module _ (P : BlockId → Option Giving → Type 0) (E : List ℕ → Type 0) (Q
 
     on_reask-bears : (s : TokensState) (block : BlockId) → Bears s → Bears (on_reask s block).state
     unfolding on_reask
-    on_reask-bears s block h = by_test (λ (d : Done). Bears d.state) (is_some (held_of s.blocks block).fetch) (new_want s block Copy) (still s)
+    on_reask-bears s block h = by_test (λ (d : Done). Bears d.state) (is_some (held_of s.blocks block).fetch) (tokens_ask s block Copy) (still s)
         (λ t. ask-bears s block Copy h) (λ t. h)
 
     on_quit-bears : (s : TokensState) (block : BlockId) → Bears s → Bears (on_quit s block).state
     unfolding on_quit
     on_quit-bears s block h =
-        let g : Held = unasked (held_of s.blocks block) in
+        let g : Held = quit (held_of s.blocks block) in
         by_test (λ (d : Done). Bears d.state) (is_asking (held_of s.blocks block)) (still (with_held s block g)) (still s)
         (λ t. same_held s h block g (h.giving block) refl refl refl refl) (λ t. h)
 
@@ -327,8 +327,8 @@ module _ (P : BlockId → Option Giving → Type 0) (E : List ℕ → Type 0) (Q
     on_tick-bears : (s : TokensState) → Bears s → Bears (on_tick s).state
     unfolding on_tick
     on_tick-bears s h =
-        by_test (λ (d : Done). Bears d.state) (list_any (λ k. is_spent k.want) (values_of s.blocks)) (still s) (steps ask_again s (wanted_in s.blocks))
-        (λ t. h) (λ t. bears_steps ask_again (λ u b. ask_again-bears u b) s (wanted_in s.blocks) h)
+        by_test (λ (d : Done). Bears d.state) (list_any (λ k. is_spent k.want) (values_of s.blocks)) (still s) (steps ask_again s (wanted_blocks s.blocks))
+        (λ t. h) (λ t. bears_steps ask_again (λ u b. ask_again-bears u b) s (wanted_blocks s.blocks) h)
 
     -- each input leaves what is borne
     pub transition-bears : ((b : BlockId) → P b None) → (s : TokensState) → IsSound s → (i : In) → Allowed i → Bears s → Bears (transition s i).state

@@ -3,24 +3,24 @@ use Rattle.std.proofs.Common.{◌≡◌, ◌<◌, ℕ, zero, suc, ◌+◌, ◌==
 use Rattle.std.proofs.lemmas.Bool.Decides.{nat_tests}
 use Rattle.client_log.specs.Transition as log
 use Rattle.client_call.specs.Blocks.{value_of}
-use Rattle.client_call.specs.Calls.{after_answer}
+use Rattle.client_call.specs.Calls.{plan_answered}
 use Rattle.client_call.specs.declared.call.Call.{Call}
 use Rattle.client_call.specs.declared.call.Going.TheVariants.{On, Ends}
 use Rattle.client_call.specs.declared.call.Going.{Going}
 use Rattle.client_call.specs.Fitting.{put_fits}
-use Rattle.client_running.specs.Blocks.{Made, needs, got, gets, wrote, put_of, changes, changes_if_fits, puts, lets_go, held_back, changed, puts_again, puts_at, is_settled, synced_acts, syncs, makes}
+use Rattle.client_running.specs.Blocks.{Made, blocks_need, got, blocks_get, wrote, put_of, changes, blocks_change, blocks_put, blocks_let_go, held_back, changed, puts_again, blocks_put_at, is_settled, synced_acts, blocks_sync, blocks_make}
 use Rattle.client_serving.specs.declared.serving.Serving.{Serving}
 use Rattle.client_serving.specs.Flights.{held_at}
-use Rattle.client_serving.specs.Follow.{notes_gone, seals}
-use Rattle.client_running.specs.Running.{goes_on, Ran, answers_call, ran, runs_call, runs_once, runs_upto, runs}
+use Rattle.client_serving.specs.Follow.{note_gone, serving_seal}
+use Rattle.client_running.specs.Running.{running_go_on, Ran, take_answer, ran, runs_call, run_once, run_upto, run}
 use Rattle.client_serving.specs.Sends.{Done, gives}
-use Rattle.coop_cache.specs.Transition.{touched}
+use Rattle.coop_cache.specs.Transition.{touch}
 use Rattle.file_plan.specs.declared.block_call.BlockAnswer.{BlockAnswer}
 use Rattle.file_plan.specs.declared.block_call.BlockCall.{BlockCall}
 use Rattle.file_plan.specs.declared.block_call.BlockCall.TheVariants.{Get, Put, PutAt, Sync}
 use Rattle.log_flight.specs.declared.dirty.Change.{Change}
 use Rattle.log_flight.specs.Flights.{FlightState}
-use Rattle.node_base.specs.Beginning.{answered, answers_unanswered}
+use Rattle.node_base.specs.Beginning.{items_answer, answers_unanswered}
 use Rattle.node_base.specs.declared.effects.Effect.{Effect}
 use Rattle.node_base.specs.declared.effects.Effect.TheVariants.{Does}
 use Rattle.token_client.specs.declared.input.In.TheVariants as input
@@ -60,8 +60,8 @@ module _ (logs : Bool) (members part limit c life room highest : ℕ) (pos : 0 <
 
   -- ---- calls on blocks
 
-  needs_so : (n : Net) (s : Serving) (block : BlockId) (mode : Mode) → At n s → Goes n (needs s block mode).done
-  needs_so n s block mode h = tokens.hands_own logs members part limit c life room highest pos less n s (input.Need block mode) tt (λ u. refl) tt h
+  blocks_need_so : (n : Net) (s : Serving) (block : BlockId) (mode : Mode) → At n s → Goes n (blocks_need s block mode).done
+  blocks_need_so n s block mode h = tokens.hands_own logs members part limit c life room highest pos less n s (input.Need block mode) tt (λ u. refl) tt h
 
   -- what is held is read
   got_so : (n : Net) (s : Serving) (block : BlockId) → is_nothing (held_at s block).mode ≡ false → At n s → Goes n (got s block (held_at s block)).done
@@ -93,18 +93,18 @@ module _ (logs : Bool) (members part limit c life room highest : ℕ) (pos : 0 <
       by_value : (o : Option (Option (List ℕ))) → (held_at s block).value ≡ o → is_some o ≡ true → Goes n (got s block (held_at s block)).done
       by_value None fact some = contrary some
       by_value (Some value) fact some =
-          let t : Serving = record s { cache = touched s.cache block } in
+          let t : Serving = record s { cache = touch s.cache block } in
           let a : Act = Read s.lasting.number block (held_at s block).ver (value_of (held_at s block)) in
           frames.goes_acting logs members part limit c life room highest n (nets.acted n (a ∷ [])) a (still t) tt
           (subst (λ (x : Act). frames.Grown logs members part c n (nets.acted n (x ∷ [])) (x ∷ [])) (act_is value fact) (grown value fact))
           (frames.goes_still logs members part limit c life room highest (nets.acted n (a ∷ [])) t
           (frames.stands_acted logs members part limit c life room highest n (a ∷ []) s.tokens s.log s.lasting.number s.lasting.inc h))
 
-  gets_so : (n : Net) (s : Serving) (block : BlockId) → At n s → Goes n (gets s block).done
-  unfolding gets
-  gets_so n s block h =
-      by_test (λ (m : Made). Goes n m.done) (is_nothing (held_at s block).mode) (needs s block Copy) (got s block (held_at s block))
-      (λ t. needs_so n s block Copy h) (λ t. got_so n s block t h)
+  blocks_get_so : (n : Net) (s : Serving) (block : BlockId) → At n s → Goes n (blocks_get s block).done
+  unfolding blocks_get
+  blocks_get_so n s block h =
+      by_test (λ (m : Made). Goes n m.done) (is_nothing (held_at s block).mode) (blocks_need s block Copy) (got s block (held_at s block))
+      (λ t. blocks_need_so n s block Copy h) (λ t. got_so n s block t h)
 
   -- once the tokens have the write, and it waits, the log may be sealed
   abbrev pub Written : Net → Serving → BlockId → Option (List ℕ) → Type 0
@@ -130,44 +130,44 @@ module _ (logs : Bool) (members part limit c life room highest : ℕ) (pos : 0 <
 
   -- once the tokens have let it go
   pub gone_from : (n : Net) (s : Serving) (block : BlockId) → At n (record s { tokens = (client.on_evict s.tokens block).state })
-      → Goes n (still (notes_gone (record s { tokens = (client.on_evict s.tokens block).state }) block))
+      → Goes n (still (note_gone (record s { tokens = (client.on_evict s.tokens block).state }) block))
   gone_from n s block h =
       let t : Serving = record s { tokens = (client.on_evict s.tokens block).state } in
-      frames.goes_still logs members part limit c life room highest n (notes_gone t block)
-      (tokens.notes_gone_so logs members part limit c life room highest pos less n t block h)
+      frames.goes_still logs members part limit c life room highest n (note_gone t block)
+      (tokens.note_gone_so logs members part limit c life room highest pos less n t block h)
 
-  lets_go_so : (n : Net) (s : Serving) (block : BlockId) → At n s → Goes n (still (lets_go s block))
-  lets_go_so n s block h =
+  blocks_let_go_so : (n : Net) (s : Serving) (block : BlockId) → At n s → Goes n (still (blocks_let_go s block))
+  blocks_let_go_so n s block h =
       let t : Serving = record s { tokens = (client.on_evict s.tokens block).state } in
-      by_test (λ (u : Serving). Goes n (still u)) (is_none (held_at s block).value) (notes_gone t block) s
-      (λ fact. frames.goes_on logs members part limit c life room highest n (still t) (still (notes_gone t block))
+      by_test (λ (u : Serving). Goes n (still u)) (is_none (held_at s block).value) (note_gone t block) s
+      (λ fact. frames.goes_on logs members part limit c life room highest n (still t) (still (note_gone t block))
       (tokens.acts_so logs members part limit c life room highest pos less n s (input.Evict block) tt (λ u. refl) tt h) (λ m k. gone_from m s block k))
       (λ fact. frames.goes_still logs members part limit c life room highest n s h)
 
-  changes_if_fits_so : (n : Net) (s : Serving) (block : BlockId) (value : Option (List ℕ)) → may_write (held_at s block) ≡ true → At n s
-      → Goes n (changes_if_fits s block value).done
-  unfolding changes_if_fits
-  changes_if_fits_so n s block value may h =
+  blocks_change_so : (n : Net) (s : Serving) (block : BlockId) (value : Option (List ℕ)) → may_write (held_at s block) ≡ true → At n s
+      → Goes n (blocks_change s block value).done
+  unfolding blocks_change
+  blocks_change_so n s block value may h =
       by_test (λ (m : Made). Goes n m.done) (put_fits block ((held_at s block).ver + 1) value) (changes s block value) (held_back s block)
-      (λ t. changes_so n s block value may h) (λ t. lets_go_so n s block h)
+      (λ t. changes_so n s block value may h) (λ t. blocks_let_go_so n s block h)
 
-  puts_so : (n : Net) (s : Serving) (block : BlockId) (value : Option (List ℕ)) → At n s → Goes n (puts s block value).done
-  unfolding puts
-  puts_so n s block value h =
-      by_test (λ (m : Made). Goes n m.done) (may_write (held_at s block)) (changes_if_fits s block value) (needs s block Own)
-      (λ t. changes_if_fits_so n s block value t h) (λ t. needs_so n s block Own h)
+  blocks_put_so : (n : Net) (s : Serving) (block : BlockId) (value : Option (List ℕ)) → At n s → Goes n (blocks_put s block value).done
+  unfolding blocks_put
+  blocks_put_so n s block value h =
+      by_test (λ (m : Made). Goes n m.done) (may_write (held_at s block)) (blocks_change s block value) (blocks_need s block Own)
+      (λ t. blocks_change_so n s block value t h) (λ t. blocks_need_so n s block Own h)
 
   puts_again_so : (n : Net) (s : Serving) (block : BlockId) (ver : ℕ) (value : Option (List ℕ)) → may_write (held_at s block) ≡ true → At n s
       → Goes n (puts_again s block ver value).done
   puts_again_so n s block ver value may h =
-      by_test (λ (m : Made). Goes n m.done) ((held_at s block).ver == ver) (changes_if_fits s block value) (changed s block)
-      (λ t. changes_if_fits_so n s block value may h) (λ t. lets_go_so n s block h)
+      by_test (λ (m : Made). Goes n m.done) ((held_at s block).ver == ver) (blocks_change s block value) (changed s block)
+      (λ t. blocks_change_so n s block value may h) (λ t. blocks_let_go_so n s block h)
 
-  puts_at_so : (n : Net) (s : Serving) (block : BlockId) (ver : ℕ) (value : Option (List ℕ)) → At n s → Goes n (puts_at s block ver value).done
-  unfolding puts_at
-  puts_at_so n s block ver value h =
-      by_test (λ (m : Made). Goes n m.done) (may_write (held_at s block)) (puts_again s block ver value) (needs s block Own)
-      (λ t. puts_again_so n s block ver value t h) (λ t. needs_so n s block Own h)
+  blocks_put_at_so : (n : Net) (s : Serving) (block : BlockId) (ver : ℕ) (value : Option (List ℕ)) → At n s → Goes n (blocks_put_at s block ver value).done
+  unfolding blocks_put_at
+  blocks_put_at_so n s block ver value h =
+      by_test (λ (m : Made). Goes n m.done) (may_write (held_at s block)) (puts_again s block ver value) (blocks_need s block Own)
+      (λ t. puts_again_so n s block ver value t h) (λ t. blocks_need_so n s block Own h)
 
   -- where nothing waits or flies, all is clean
   all_clean : (n : Net) (s : Serving) → is_settled s ≡ true → At n s → Premise logs (AllClean (n.tokens c))
@@ -208,66 +208,66 @@ module _ (logs : Bool) (members part limit c life room highest : ℕ) (pos : 0 <
       (frames.stands_acted logs members part limit c life room highest n (a ∷ []) s.tokens s.log s.lasting.number s.lasting.inc h)))
       (λ t. frames.goes_still logs members part limit c life room highest n s h)
 
-  syncs_so : (n : Net) (s : Serving) → At n s → Goes n (syncs s).done
-  unfolding syncs
-  syncs_so n s h =
-      let d : Done = seals s in
+  blocks_sync_so : (n : Net) (s : Serving) → At n s → Goes n (blocks_sync s).done
+  unfolding blocks_sync
+  blocks_sync_so n s h =
+      let d : Done = serving_seal s in
       frames.goes_on logs members part limit c life room highest n d (gives d.state (synced_acts d.state))
-      (tokens.seals_so logs members part limit c life room highest pos less n s s.log.end.seq refl h).goes (λ m k. synced_so m d.state k)
+      (tokens.serving_seal_so logs members part limit c life room highest pos less n s s.log.end.seq refl h).goes (λ m k. synced_so m d.state k)
 
-  makes_so : (n : Net) (s : Serving) (call : BlockCall) → At n s → Goes n (makes s call).done
-  unfolding makes
-  makes_so n s (Get block) h = gets_so n s block h
-  makes_so n s (Put block value) h = puts_so n s block value h
-  makes_so n s (PutAt block ver value) h = puts_at_so n s block ver value h
-  makes_so n s Sync h = syncs_so n s h
+  blocks_make_so : (n : Net) (s : Serving) (call : BlockCall) → At n s → Goes n (blocks_make s call).done
+  unfolding blocks_make
+  blocks_make_so n s (Get block) h = blocks_get_so n s block h
+  blocks_make_so n s (Put block value) h = blocks_put_so n s block value h
+  blocks_make_so n s (PutAt block ver value) h = blocks_put_at_so n s block ver value h
+  blocks_make_so n s Sync h = blocks_sync_so n s h
 
   -- ---- the open call
 
-  pub goes_on_so : (n : Net) (s : Serving) (going : Going) → At n s → Goes n (goes_on s going)
-  unfolding goes_on
-  goes_on_so n s (On call) h = frames.goes_still logs members part limit c life room highest n (record s { call = Some call }) h
-  goes_on_so n s (Ends answer) h =
-      frames.goes_plain logs members part limit c life room highest n (record s { lasting = record s.lasting { items = answered s.lasting.items } })
+  pub running_go_on_so : (n : Net) (s : Serving) (going : Going) → At n s → Goes n (running_go_on s going)
+  unfolding running_go_on
+  running_go_on_so n s (On call) h = frames.goes_still logs members part limit c life room highest n (record s { call = Some call }) h
+  running_go_on_so n s (Ends answer) h =
+      frames.goes_plain logs members part limit c life room highest n (record s { lasting = record s.lasting { items = items_answer s.lasting.items } })
       (answers_unanswered s.lasting.items.unanswered answer) h
       (tokens.plain_answers part c life s.lasting.items.unanswered answer)
 
-  answers_call_so : (n : Net) (s : Serving) (call : Call) (answer : Option BlockAnswer) → At n s → Goes n (answers_call s call answer).done
-  answers_call_so n s call None h = frames.goes_still logs members part limit c life room highest n (record s { call = Some call }) h
-  answers_call_so n s call (Some a) h = goes_on_so n s (after_answer call.plan a) h
+  take_answer_so : (n : Net) (s : Serving) (call : Call) (answer : Option BlockAnswer) → At n s → Goes n (take_answer s call answer).done
+  take_answer_so n s call None h = frames.goes_still logs members part limit c life room highest n (record s { call = Some call }) h
+  take_answer_so n s call (Some a) h = running_go_on_so n s (plan_answered call.plan a) h
 
   -- what was made is told to the call
   pub ran_so : (n : Net) (call : Call) (made : Made) → Goes n made.done → Goes n (ran call made).done
   ran_so n call made p =
-      frames.goes_on logs members part limit c life room highest n made.done (answers_call made.done.state call made.answer).done p
-      (λ m k. answers_call_so m made.done.state call made.answer k)
+      frames.goes_on logs members part limit c life room highest n made.done (take_answer made.done.state call made.answer).done p
+      (λ m k. take_answer_so m made.done.state call made.answer k)
 
   runs_call_so : (n : Net) (s : Serving) (call : Option Call) → At n s → Goes n (runs_call s call).done
   runs_call_so n s None h = frames.goes_still logs members part limit c life room highest n s h
-  runs_call_so n s (Some call) h = ran_so n call (makes (record s { call = None }) call.step) (makes_so n (record s { call = None }) call.step h)
+  runs_call_so n s (Some call) h = ran_so n call (blocks_make (record s { call = None }) call.step) (blocks_make_so n (record s { call = None }) call.step h)
 
-  runs_once_so : (n : Net) (s : Serving) → At n s → Goes n (runs_once s).done
-  unfolding runs_once
-  runs_once_so n s h = runs_call_so n s s.call h
+  run_once_so : (n : Net) (s : Serving) → At n s → Goes n (run_once s).done
+  unfolding run_once
+  run_once_so n s h = runs_call_so n s s.call h
 
   -- after the first turn come the others
-  turns_from : (n : Net) (k : ℕ) (s : Serving) → ((m : Net) (t : Serving) → At m t → Goes m (runs_upto k t)) → Goes n (runs_once s).done
-      → Goes n (runs_upto (suc k) s)
-  unfolding runs_upto
+  turns_from : (n : Net) (k : ℕ) (s : Serving) → ((m : Net) (t : Serving) → At m t → Goes m (run_upto k t)) → Goes n (run_once s).done
+      → Goes n (run_upto (suc k) s)
+  unfolding run_upto
   turns_from n k s rest p =
-      let r : Ran = runs_once s in
-      by_test (λ (d : Done). Goes n d) r.goes (saying r.done.outs (runs_upto k r.done.state)) r.done
-      (λ t. frames.goes_on logs members part limit c life room highest n r.done (runs_upto k r.done.state) p (λ m h. rest m r.done.state h)) (λ t. p)
+      let r : Ran = run_once s in
+      by_test (λ (d : Done). Goes n d) r.goes (saying r.done.outs (run_upto k r.done.state)) r.done
+      (λ t. frames.goes_on logs members part limit c life room highest n r.done (run_upto k r.done.state) p (λ m h. rest m r.done.state h)) (λ t. p)
 
-  runs_upto_so : (k : ℕ) (n : Net) (s : Serving) → At n s → Goes n (runs_upto k s)
-  unfolding runs_upto
-  runs_upto_so zero n s h = frames.goes_still logs members part limit c life room highest n s h
-  runs_upto_so (suc k) n s h = turns_from n k s (λ m t. runs_upto_so k m t) (runs_once_so n s h)
+  run_upto_so : (k : ℕ) (n : Net) (s : Serving) → At n s → Goes n (run_upto k s)
+  unfolding run_upto
+  run_upto_so zero n s h = frames.goes_still logs members part limit c life room highest n s h
+  run_upto_so (suc k) n s h = turns_from n k s (λ m t. run_upto_so k m t) (run_once_so n s h)
 
   -- the open call runs, from its first turn on
-  pub runs_from : (n : Net) (s : Serving) → Goes n (runs_once s).done → Goes n (runs s)
-  unfolding runs
-  runs_from n s p = turns_from n 4095 s (λ m t. runs_upto_so 4095 m t) p
+  pub runs_from : (n : Net) (s : Serving) → Goes n (run_once s).done → Goes n (run s)
+  unfolding run
+  runs_from n s p = turns_from n 4095 s (λ m t. run_upto_so 4095 m t) p
 
-  pub runs_so : (n : Net) (s : Serving) → At n s → Goes n (runs s)
-  runs_so n s h = runs_from n s (runs_once_so n s h)
+  pub run_so : (n : Net) (s : Serving) → At n s → Goes n (run s)
+  run_so n s h = runs_from n s (run_once_so n s h)

@@ -16,7 +16,7 @@ use Rattle.log_flight.specs.Flights.{FlightState}
 use Rattle.segment_format.specs.declared.segment.Item.{Item}
 use Rattle.segment_format.specs.declared.segment.Item.TheVariants.{Block, Delta, Part}
 use Rattle.token_client.specs.declared.held.Held.{Held}
-use Rattle.token_client.specs.Held.{is_dirty, unknown}
+use Rattle.token_client.specs.Held.{is_dirty, held_new}
 use Rattle.token_client.specs.Laws.{IsSound}
 use Rattle.token_client.specs.State.{dirty_in, held_of}
 use Rattle.token_client.proofs.Tables.{InOrder}
@@ -179,10 +179,10 @@ module _ (s : Serving) where
       → Found b es (held_of es b)
       → Found b (e ∷ es) (held_of (e ∷ es) b)
   found_step b e es below rest =
-      subst (λ t. Found b (e ∷ es) (unwrap_or (cond t (Some e.1) (lookup (is_at (block_cmp b)) es)) unknown)) (sym (eq_same e.0 b))
+      subst (λ t. Found b (e ∷ es) (unwrap_or (cond t (Some e.1) (lookup (is_at (block_cmp b)) es)) held_new)) (sym (eq_same e.0 b))
       (by_same (same_block e.0 b) refl)
     where
-      by_same : (t : Bool) → same_block e.0 b ≡ t → Found b (e ∷ es) (unwrap_or (cond t (Some e.1) (lookup (is_at (block_cmp b)) es)) unknown)
+      by_same : (t : Bool) → same_block e.0 b ≡ t → Found b (e ∷ es) (unwrap_or (cond t (Some e.1) (lookup (is_at (block_cmp b)) es)) held_new)
       by_same true same = found_first b e es below (sym (same_block_exact e.0 b same))
       by_same false other = found_later b e es (held_of es b) other rest
 

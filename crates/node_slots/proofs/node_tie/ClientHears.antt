@@ -2,18 +2,18 @@
 use Rattle.std.proofs.Common.{◌≡◌, ◌<◌, ℕ, ◌+◌, Bool, true, false, List, [], ◌∷◌, Option, Some, None, refl, sym, subst, ◌∙◌, arith, inl, inr}
 use Rattle.std.proofs.lemmas.Bool.Decides.{nat_tests}
 use Rattle.std.proofs.lemmas.List.Elements.{All-nil, All-cons}
-use Rattle.client_call.specs.Reads.{block_read, Heard, heard, reading_in, value_at}
+use Rattle.client_call.specs.Reads.{block_read, Heard, hear_reading, reading_in, value_at}
 use Rattle.client_serving.specs.declared.serving.Serving.{Serving}
 use Rattle.client_serving.specs.Flights.{held_at, on_stored}
-use Rattle.client_serving.specs.Follow.{hands, takes_back}
+use Rattle.client_serving.specs.Follow.{hand, take_back}
 use Rattle.client_serving.specs.Grants.{is_stamp}
-use Rattle.client_serving.specs.Packets.{on_supply, supplied_by, on_forward, again, says_again, on_recall, is_gone, on_gone, is_acked, on_ack, ends_fetch, told_at, told_by, on_told, on_found, on_missing, asks_for_maps}
+use Rattle.client_serving.specs.Packets.{on_supply, supplied_by, on_forward, again, says_again, on_recall, is_gone, on_gone, is_acked, on_ack, end_fetch, told_at, told_by, on_told, on_found, on_missing, asks_for_maps}
 use Rattle.client_serving.specs.Reads.{loses, with_reading}
 use Rattle.client_serving.specs.Sends.{Done, gives, gave}
 use Rattle.delta_feed.specs.Transition.{acknowledged}
 use Rattle.log_flight.specs.Flights.{FlightState}
 use Rattle.log_owner.specs.Sending.{hello}
-use Rattle.node_base.specs.Asking.{next_ask, drawn}
+use Rattle.node_base.specs.Asking.{next_ask, draw}
 use Rattle.segment_reading.specs.declared.reading.Next.{Next}
 use Rattle.segment_reading.specs.declared.reading.Next.TheVariants as next
 use Rattle.segment_reading.specs.declared.target.BlockAt.{BlockAt}
@@ -92,7 +92,7 @@ module _ (logs : Bool) (members part limit c life room highest : ℕ) (pos : 0 <
       → Goes n (on_supply s p)
   unfolding on_supply
   on_supply_so n s p h sent =
-      tokens.hands_so logs members part limit c life room highest pos less n s (input.Supplied p.block p.stamp p.inc p.req p.ver p.value)
+      tokens.hand_so logs members part limit c life room highest pos less n s (input.Supplied p.block p.stamp p.inc p.req p.ver p.value)
       (record { happens = λ end serves. by_slot end serves (is_in_slot part p.block) refl; allowed = tt }) h
     where
       by_slot : (end : ℕ) → IsServing logs members n c end → (t : Bool) → is_in_slot part p.block ≡ t
@@ -157,14 +157,14 @@ module _ (logs : Bool) (members part limit c life room highest : ℕ) (pos : 0 <
       flights.recall_may logs members part limit c life room highest pos less n s.log r.block r.stamp r.keep sent in
       let d : client.Done = client.on_recalled s.tokens r.block r.stamp r.keep in
       let t : Serving = record s { tokens = d.state } in
-      by_test (λ (x : Done). Goes n x) (is_stamp (held_at s r.block).stamp r.stamp) (says_again s r d) (takes_back s r.block r.stamp r.keep)
+      by_test (λ (x : Done). Goes n x) (is_stamp (held_at s r.block).stamp r.stamp) (says_again s r d) (take_back s r.block r.stamp r.keep)
       (λ fact.
       let k : taking.Taken logs members part limit c life room highest n s.log s.log.end.seq s.lasting.number s.lasting.inc d [] =
       taking.takes logs members part limit c life room highest n s.tokens s.log s.lasting.number s.lasting.inc
       (input.Recalled r.block r.stamp r.keep) pos less h may in
       frames.goes_from logs members part limit c life room highest n k.next (says_again s r d) k.grown
       (again_so k.next t r d.outs (said_again s.tokens r.block r.stamp r.keep fact) k.seen k.stands))
-      (λ fact. tokens.takes_back_so logs members part limit c life room highest pos less n s r.block r.stamp r.keep may h)
+      (λ fact. tokens.take_back_so logs members part limit c life room highest pos less n s r.block r.stamp r.keep may h)
 
   pub on_gone_so : (n : Net) (s : Serving) (g : Gone) → At n s → Goes n (on_gone s g)
   unfolding on_gone
@@ -186,23 +186,23 @@ module _ (logs : Bool) (members part limit c life room highest : ℕ) (pos : 0 <
 
   -- what is read ends the fetch, where the world brings what the segment there says
   read_so : (n : Net) (s : Serving) (block : BlockId) (value : Option (List ℕ)) → Premise logs (ReadsThere n.books s.tokens block value) → At n s
-      → Goes n (hands s (input.Fetched block value))
+      → Goes n (hand s (input.Fetched block value))
   read_so n s block value brings h =
-      tokens.hands_so logs members part limit c life room highest pos less n s (input.Fetched block value) (record {
+      tokens.hand_so logs members part limit c life room highest pos less n s (input.Fetched block value) (record {
         happens = λ end serves. Fetches c end block value serves (premise_by logs
             (λ (r : ReadsThere n.books s.tokens block value). subst (λ (t : TokensState). ReadsThere n.books t block value) (sym h.tokens) r) brings);
         allowed = tt;
       }) h
 
-  ends_fetch_so : (n : Net) (s : Serving) (at : BlockAt) (x : Next) → Premise logs (BringsRead n.books s (Some at) x) → At n s → Goes n (ends_fetch s at x)
-  ends_fetch_so n s at next.Again brings h =
+  end_fetch_so : (n : Net) (s : Serving) (at : BlockAt) (x : Next) → Premise logs (BringsRead n.books s (Some at) x) → At n s → Goes n (end_fetch s at x)
+  end_fetch_so n s at next.Again brings h =
       tokens.hands_own logs members part limit c life room highest pos less n s (input.Reask at.block) tt (λ u. refl) tt h
-  ends_fetch_so n s at (next.Read segment) brings h = read_so n s at.block (value_at segment at.item) brings h
-  ends_fetch_so n s at _ brings h = still_so n s h
+  end_fetch_so n s at (next.Read segment) brings h = read_so n s at.block (value_at segment at.item) brings h
+  end_fetch_so n s at _ brings h = still_so n s h
 
   told_at_so : (n : Net) (s : Serving) (at : Option BlockAt) (x : Heard) → Premise logs (BringsRead n.books s at x.next) → At n s → Goes n (told_at s at x)
   told_at_so n s None x brings h = still_so n s h
-  told_at_so n s (Some at) x brings h = ends_fetch_so n (with_reading s x.reading) at x.next (as_read x.next brings) h
+  told_at_so n s (Some at) x brings h = end_fetch_so n (with_reading s x.reading) at x.next (as_read x.next brings) h
     where
       as_read : (x' : Next) → Premise logs (BringsRead n.books s (Some at) x') → Premise logs (BringsRead n.books (with_reading s x.reading) (Some at) x')
       as_read next.Again brings = brings
@@ -214,7 +214,7 @@ module _ (logs : Bool) (members part limit c life room highest : ℕ) (pos : 0 <
   told_by_so : (n : Net) (s : Serving) (server ask : ℕ) (t : Told) → Premise logs (Tells n.books s (node.Server server) ask t) → At n s
       → Goes n (told_by s server ask t)
   unfolding told_by
-  told_by_so n s server ask t brings h = told_at_so n s (block_read (reading_in s.call)) (heard (reading_in s.call) s.maps.groups ask server t) brings h
+  told_by_so n s server ask t brings h = told_at_so n s (block_read (reading_in s.call)) (hear_reading (reading_in s.call) s.maps.groups ask server t) brings h
 
   on_told_so : (n : Net) (s : Serving) (from : NodeId) (ask : ℕ) (t : Told) → Premise logs (Tells n.books s from ask t) → At n s → Goes n (on_told s from ask t)
   on_told_so n s (node.Server server) ask t brings h = told_by_so n s server ask t brings h
@@ -233,7 +233,7 @@ module _ (logs : Bool) (members part limit c life room highest : ℕ) (pos : 0 <
   pub asks_for_maps_so : (n : Net) (s : Serving) → At n s → Goes n (asks_for_maps s)
   unfolding asks_for_maps
   asks_for_maps_so n s h =
-      frames.goes_plain logs members part limit c life room highest n (record s { lasting = record s.lasting { questions = drawn s.lasting.questions } })
+      frames.goes_plain logs members part limit c life room highest n (record s { lasting = record s.lasting { questions = draw s.lasting.questions } })
       (hello s.lasting.inc (next_ask s.lasting.questions) ∷ []) h
       (All-cons (frames.May part c life) (hello s.lasting.inc (next_ask s.lasting.questions)) [] (let e : s.lasting.inc ≡ life = h.inc_is in omega arith)
       (All-nil (frames.May part c life)))

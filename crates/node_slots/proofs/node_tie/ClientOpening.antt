@@ -12,11 +12,11 @@ use Rattle.log_owner.specs.declared.ended.Owner.{Owner}
 use Rattle.log_owner.specs.declared.opening.Stage.{Stage}
 use Rattle.log_owner.specs.declared.opening.Stage.TheVariants as stage
 use Rattle.log_owner.specs.declared.promised.Promised.{Promised}
-use Rattle.log_owner.specs.Promised.{at_start, promise, promised_in, manager_set}
+use Rattle.log_owner.specs.Promised.{promised_start, promise, promised_of, managers_set}
 use Rattle.log_owner.proofs.Promising as promising
 use Rattle.node_base.specs.declared.effects.Effect.{Effect}
 use Rattle.node_base.specs.declared.effects.Effect.TheVariants.{Send, Answer, Lose, Does}
-use Rattle.node_base.specs.Shape.{are_from}
+use Rattle.node_base.specs.Shape.{are_in_order}
 use Rattle.token_client.specs.State.{epoch_of}
 use Rattle.token_law.specs.Owed.{IsNeutral}
 use Rattle.version_model.specs.declared.act.Act.{Act}
@@ -88,14 +88,14 @@ module _ (part low high : ℕ) (small : part < slot_count) where
   promise_eight : (p : Promised) (news : SlotNews) → length p.epochs ≡ slot_count → length (promise p news).epochs ≡ slot_count
   promise_eight p news e =
       by_test (λ (x : Promised). length x.epochs ≡ slot_count) (nat_lt news.slot slot_count)
-      (record { epochs = slice_set p.epochs news.slot news.epoch; managers = manager_set p.managers news.slot news.manager }) p
+      (record { epochs = slice_set p.epochs news.slot news.epoch; managers = managers_set p.managers news.slot news.manager }) p
       (λ t. length-set p.epochs news.slot news.epoch ∙ e) (λ t. e)
 
   -- the slot is promised
   pub promise_here : (p : Promised) (news : SlotNews) → length p.epochs ≡ slot_count → news.slot ≡ part → Says news → Bounded part low high (promise p news)
   promise_here p news e fact says =
       by_test (Bounded part low high) (nat_lt news.slot slot_count)
-      (record { epochs = slice_set p.epochs news.slot news.epoch; managers = manager_set p.managers news.slot news.manager }) p
+      (record { epochs = slice_set p.epochs news.slot news.epoch; managers = managers_set p.managers news.slot news.manager }) p
       (λ t.
       let inside : news.slot < length p.epochs = omega arith in
       let now : epoch_of (slice_set p.epochs news.slot news.epoch) part ≡ news.epoch = subst
@@ -111,7 +111,7 @@ module _ (part low high : ℕ) (small : part < slot_count) where
   promise_there : (p : Promised) (news : SlotNews) → (part ≡ news.slot → ⊥) → Bounded part low high p → Bounded part low high (promise p news)
   promise_there p news other h =
       by_test (Bounded part low high) (nat_lt news.slot slot_count)
-      (record { epochs = slice_set p.epochs news.slot news.epoch; managers = manager_set p.managers news.slot news.manager }) p
+      (record { epochs = slice_set p.epochs news.slot news.epoch; managers = managers_set p.managers news.slot news.manager }) p
       (λ t.
       let now : epoch_of (slice_set p.epochs news.slot news.epoch) part ≡ epoch_of p.epochs part = get_or-set_other p.epochs news.slot part news.epoch 0 other
       in
@@ -134,16 +134,16 @@ module _ (part low high : ℕ) (small : part < slot_count) where
   all_keep p (news ∷ slots) says h = all_keep (promise p news) slots says.1 (promise_keeps p news says.0 h)
 
   -- of slots in order, from one up to the slot on, the slot is promised
-  reaches : (number : ℕ) (p : Promised) (slots : List SlotNews) → are_from number slots ≡ true → number ≤ part → part < number + length slots
+  reaches : (number : ℕ) (p : Promised) (slots : List SlotNews) → are_in_order number slots ≡ true → number ≤ part → part < number + length slots
       → length p.epochs ≡ slot_count → AllByRecursion Says slots → Bounded part low high (fold promise p slots)
   reaches number p [] ordered below above e says = absurd (omega arith)
   reaches number p (news ∷ slots) ordered below above e says =
       by_slot (number == part) refl
-      (λ other. reaches (number + 1) (promise p news) slots (and_second (news.slot == number) (are_from (number + 1) slots) ordered) (next_below other)
+      (λ other. reaches (number + 1) (promise p news) slots (and_second (news.slot == number) (are_in_order (number + 1) slots) ordered) (next_below other)
       (next_above above) (promise_eight p news e) says.1)
     where
       here : news.slot ≡ number
-      here = eqb-true news.slot number (and_first (news.slot == number) (are_from (number + 1) slots) ordered)
+      here = eqb-true news.slot number (and_first (news.slot == number) (are_in_order (number + 1) slots) ordered)
 
       next_below : (part ≡ number → ⊥) → number + 1 ≤ part
       next_below other = omega arith
@@ -156,6 +156,6 @@ module _ (part low high : ℕ) (small : part < slot_count) where
       by_slot true fact rest = all_keep (promise p news) slots says.1 (promise_here p news e (here ∙ eqb-true number part fact) says.0)
       by_slot false fact rest = rest (apart number part fact)
 
-  pub welcome_promises : (slots : List SlotNews) → length slots ≡ slot_count → are_from 0 slots ≡ true → AllByRecursion Says slots
-      → Bounded part low high (promised_in slots)
-  welcome_promises slots eight ordered says = reaches 0 (at_start 1) slots ordered (omega arith) (omega arith) refl says
+  pub welcome_promises : (slots : List SlotNews) → length slots ≡ slot_count → are_in_order 0 slots ≡ true → AllByRecursion Says slots
+      → Bounded part low high (promised_of slots)
+  welcome_promises slots eight ordered says = reaches 0 (promised_start 1) slots ordered (omega arith) (omega arith) refl says

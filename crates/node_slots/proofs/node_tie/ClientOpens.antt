@@ -5,7 +5,7 @@ use Rattle.std.proofs.lemmas.List.Elements.{All-nil, All-cons, All-append, recur
 use Rattle.std.proofs.lemmas.Bool.{eqb-true}
 use Rattle.client_node.specs.declared.phase.Phase.TheVariants.{Down, Opening, Serving as Serves}
 use Rattle.client_node.specs.declared.phase.Phase.{Phase}
-use Rattle.client_node.specs.Phases.{Went_to, crashed, served, back, after_opening, opened_on, answers, wish_of, opening_begins}
+use Rattle.client_node.specs.Phases.{Went_to, cut, served, back, phase_after, opened_on, answers, wish_of, opening_begins}
 use Rattle.client_serving.specs.declared.lasting.Lasting.{Lasting}
 use Rattle.log_owner.specs.Behaves.{IsOf, Behaves}
 use Rattle.log_owner.specs.declared.ended.Owner.{Owner}
@@ -16,18 +16,18 @@ use Rattle.log_owner.specs.declared.opening.Opening as openings
 use Rattle.log_owner.specs.declared.promised.Promised.{Promised}
 use Rattle.log_owner.specs.Opening as opening
 use Rattle.log_owner.specs.Opening.{Went}
-use Rattle.log_owner.specs.Sending.{pushes_all}
+use Rattle.log_owner.specs.Sending.{push_all}
 use Rattle.log_owner.proofs.Behaving as behaving
 use Rattle.log_owner.proofs.Promising as promising
-use Rattle.node_base.specs.Beginning.{begun, answered, answers_unanswered}
+use Rattle.node_base.specs.Beginning.{items_begin, items_answer, answers_unanswered}
 use Rattle.node_base.specs.declared.effects.Effect.{Effect}
 use Rattle.node_base.specs.declared.effects.Effect.TheVariants.{Answer as Answers, Does}
 use Rattle.node_base.specs.declared.questions.Questions.{Questions}
 use Rattle.node_base.specs.Effects.{acts_of}
 use Rattle.node_base.specs.Maps.{fits}
-use Rattle.node_base.specs.Shape.{are_from, is_slot_news, has_logs}
+use Rattle.node_base.specs.Shape.{are_in_order, is_slot_news, has_logs}
 use Rattle.token_client.specs.declared.held.Giving.{Giving}
-use Rattle.token_client.specs.State.{TokensState, epoch_of, started as fresh_tokens}
+use Rattle.token_client.specs.State.{TokensState, epoch_of, tokens_start as fresh_tokens}
 use Rattle.token_law.specs.Books.{Books, reopened, with_empty}
 use Rattle.token_law.specs.Net.{Net, Happens, acted}
 use Rattle.token_law.specs.Net.Happens.{Returns}
@@ -94,20 +94,20 @@ module _ (logs : Bool) (members part limit c : ℕ) (small : part < slot_count) 
     crashed_plain life unanswered number = All-append (frames.May part c life) (answers_unanswered unanswered answer.Cut) (Answers number answer.Done ∷ [])
         (tokens.plain_answers part c life unanswered answer.Cut) (answered_one logs members part limit c small pos less n life number answer.Done)
 
-    opening_answers : (number : ℕ) (a : Answer) → Goes (Opening l o) (answers (Opening (record l { items = begun l.items }) o) number a)
+    opening_answers : (number : ℕ) (a : Answer) → Goes (Opening l o) (answers (Opening (record l { items = items_begin l.items }) o) number a)
     opening_answers number a =
-        stays_so logs members part limit c small pos less n (Opening l o) (Opening (record l { items = begun l.items }) o) (Answers number a ∷ [])
+        stays_so logs members part limit c small pos less n (Opening l o) (Opening (record l { items = items_begin l.items }) o) (Answers number a ∷ [])
         (record { up = sees.up; number = sees.number; inc = sees.inc; owner = sees.owner; promised = sees.promised; beyond = sees.beyond }) h.within h.promises
         (omega arith) tt tt (premise logs refl)
         (answered_one logs members part limit c small pos less n l.inc number a)
 
-    pub opening_begins_so : (number : ℕ) (w : Option Work) → Goes (Opening l o) (opening_begins (record l { items = begun l.items }) o number (wish_of w))
+    pub opening_begins_so : (number : ℕ) (w : Option Work) → Goes (Opening l o) (opening_begins (record l { items = items_begin l.items }) o number (wish_of w))
     opening_begins_so number (Some (work.Crash node)) =
-        stays_so logs members part limit c small pos less n (Opening l o) (crashed (record l { items = begun l.items }) number).state
-        (crashed (record l { items = begun l.items }) number).outs
+        stays_so logs members part limit c small pos less n (Opening l o) (cut (record l { items = items_begin l.items }) number).state
+        (cut (record l { items = items_begin l.items }) number).outs
         (record { up = sees.up; number = sees.number; inc = (let k : (n.tokens c).inc < l.inc = sees.inc in omega arith); beyond = sees.beyond }) h.within tt
         (omega arith) tt tt (premise logs refl)
-        (crashed_plain l.inc (begun l.items).unanswered number)
+        (crashed_plain l.inc (items_begin l.items).unanswered number)
     opening_begins_so number (Some (work.Restart node)) = opening_answers number answer.Up
     opening_begins_so number (Some _) = opening_answers number answer.Down
     opening_begins_so number None = opening_answers number answer.Down
@@ -128,7 +128,7 @@ module _ (logs : Bool) (members part limit c : ℕ) (small : part < slot_count) 
       fresh = fresh_tokens l.inc r.promised.epochs
 
       abbrev rest : List Effect
-      rest = pushes_all r.promised.managers r.feed ++ answers_unanswered l.items.unanswered answer.Done
+      rest = push_all r.promised.managers r.feed ++ answers_unanswered l.items.unanswered answer.Done
 
       -- what the opening says is acted first
       abbrev before : Net
@@ -160,7 +160,7 @@ module _ (logs : Bool) (members part limit c : ℕ) (small : part < slot_count) 
       -- and the rest is said
       plain_rest : frames.Plain part c l.inc rest
       plain_rest =
-          All-append (frames.May part c l.inc) (pushes_all r.promised.managers r.feed) (answers_unanswered l.items.unanswered answer.Done)
+          All-append (frames.May part c l.inc) (push_all r.promised.managers r.feed) (answers_unanswered l.items.unanswered answer.Done)
           (tokens.plain_pushes_all part c l.inc r.promised.managers r.feed)
           (tokens.plain_answers part c l.inc l.items.unanswered answer.Done)
 
@@ -246,7 +246,7 @@ module _ (logs : Bool) (members part limit c : ℕ) (small : part < slot_count) 
         plain = plain_does part c l.inc o.known.owner sees.owner w.effects b.does
 
         by_progress : (p : Progress) → IsOf o.known.owner p → promising.Holds Kept p → Premise logs (EndsSo n.books n.acts c p)
-            → Goes (Opening l o) (saying w.effects (after_opening (record l { questions = w.questions }) capacity p))
+            → Goes (Opening l o) (saying w.effects (phase_after (record l { questions = w.questions }) capacity p))
         by_progress (progress.Opening q) its kept ended =
             stays_so logs members part limit c small pos less n (Opening l o) (Opening (record l { questions = w.questions }) q) (w.effects ++ [])
             (record {
@@ -269,7 +269,7 @@ module _ (logs : Bool) (members part limit c : ℕ) (small : part < slot_count) 
             within q (inr k) = inr k.within
         by_progress (progress.Opened r) its kept ended = back_so w.questions capacity w.effects r plain kept ended
         by_progress (progress.Lost seg) its kept ended =
-            stays_so logs members part limit c small pos less n (Opening l o) (Down (record l { questions = w.questions; items = answered l.items }))
+            stays_so logs members part limit c small pos less n (Opening l o) (Down (record l { questions = w.questions; items = items_answer l.items }))
             (w.effects ++ answers_unanswered l.items.unanswered (answer.Lost seg))
             (record { up = sees.up; number = sees.number; inc = (let k : (n.tokens c).inc < l.inc = sees.inc in omega arith); beyond = sees.beyond })
             h.within tt (omega arith) tt tt (premise logs refl)
@@ -278,12 +278,12 @@ module _ (logs : Bool) (members part limit c : ℕ) (small : part < slot_count) 
     -- a Welcome promises within the bounds
     brings_so : (b : Body) → GetsBody part limit c n (Opening l o) b → has_logs b ≡ true → promising.Brings Kept o b
     brings_so (body.Welcome w) gets known = λ meant.
-        let formed : (are_from 0 w.news.slots && list_all is_slot_news w.news.slots) ≡ true = and_second (length w.news.slots == slot_count)
-        (are_from 0 w.news.slots && list_all is_slot_news w.news.slots) known in
+        let formed : (are_in_order 0 w.news.slots && list_all is_slot_news w.news.slots) ≡ true = and_second (length w.news.slots == slot_count)
+        (are_in_order 0 w.news.slots && list_all is_slot_news w.news.slots) known in
         let incs : w.inc ≡ l.inc = eqb-true w.inc o.known.owner.inc (and_first (w.inc == o.known.owner.inc) (fits o.known.maps w.news) meant) ∙ sees.owner in
         welcome_promises part (epoch_of (n.tokens c).epochs part) limit small w.news.slots
-        (eqb-true (length w.news.slots) slot_count (and_first (length w.news.slots == slot_count) (are_from 0 w.news.slots && list_all is_slot_news w.news.slots) known))
-        (and_first (are_from 0 w.news.slots) (list_all is_slot_news w.news.slots) formed)
+        (eqb-true (length w.news.slots) slot_count (and_first (length w.news.slots == slot_count) (are_in_order 0 w.news.slots && list_all is_slot_news w.news.slots) known))
+        (and_first (are_in_order 0 w.news.slots) (list_all is_slot_news w.news.slots) formed)
         (each w.news.slots (recursion_from_All (λ (x : SlotNews). x.slot ≡ part → epoch_of (n.tokens c).epochs part ≤ x.epoch) w.news.slots (gets.1 incs))
         (recursion_from_All (λ (x : SlotNews). x.slot ≡ part → x.epoch ≤ limit) w.news.slots gets.0))
       where
@@ -295,9 +295,9 @@ module _ (logs : Bool) (members part limit c : ℕ) (small : part < slot_count) 
     brings_so _ gets known = tt
 
     pub opening_packet : (capacity : ℕ) (packet : wire.Packet) → ClientGets logs part limit c n (Opening l o) packet → has_logs packet.body ≡ true
-        → Goes (Opening l o) (opened_on l capacity (opening.on_packet o l.questions packet))
+        → Goes (Opening l o) (opened_on l capacity (opening.opening_take o l.questions packet))
     opening_packet capacity packet gets known =
-        went_so capacity (opening.on_packet o l.questions packet) (behaving.packet_so o l.questions packet)
+        went_so capacity (opening.opening_take o l.questions packet) (behaving.packet_so o l.questions packet)
         (promising.packet_so Kept o l.questions packet opens_so (brings_so packet.body gets.brings known)) gets.reads
 
     pub opening_time : (capacity : ℕ) → Premise logs (EndsInTime part limit c n (Opening l o))

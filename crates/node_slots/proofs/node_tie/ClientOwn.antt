@@ -3,21 +3,21 @@ use Rattle.std.proofs.Common.{◌≡◌, ◌<◌, ◌+◌, ℕ, ◌==◌, ◌&&�
 use Rattle.std.proofs.lemmas.Bool.Decides.{nat_tests}
 use Rattle.client_call.specs.declared.call.Call.{Call}
 use Rattle.client_call.specs.Fitting.{put_fits}
-use Rattle.client_call.specs.Reads.{kept_while, reading_in, call_with}
-use Rattle.client_running.specs.Blocks.{Made, changes, changes_if_fits, puts, needs, changed, held_back, puts_again, puts_at, makes}
+use Rattle.client_call.specs.Reads.{kept_while, reading_in, set_reading}
+use Rattle.client_running.specs.Blocks.{Made, changes, blocks_change, blocks_put, blocks_need, changed, held_back, puts_again, blocks_put_at, blocks_make}
 use Rattle.client_serving.specs.declared.serving.Serving.{Serving}
 use Rattle.client_serving.specs.Flights.{held_at}
-use Rattle.client_serving.specs.Follow.{notes_clean, notes_copy, notes_gone, follows_one, follows, hands}
+use Rattle.client_serving.specs.Follow.{note_clean, note_copy, note_gone, follow_one, serving_follow, hand}
 use Rattle.client_serving.specs.Packets.{on_grant}
 use Rattle.client_serving.specs.Reads.{ends_reading}
-use Rattle.client_running.specs.Running.{runs_call, runs_once, runs}
+use Rattle.client_running.specs.Running.{runs_call, run_once, run}
 use Rattle.client_serving.specs.Sends.{Done}
 use Rattle.file_plan.specs.declared.block_call.BlockCall.{BlockCall}
 use Rattle.file_plan.specs.declared.block_call.BlockCall.TheVariants.{Get, Put, PutAt, Sync}
 use Rattle.node_base.specs.Room.{has_long_room}
 use Rattle.token_client.specs.declared.held.Held.{Held}
 use Rattle.token_client.specs.declared.input.In.TheVariants as input
-use Rattle.token_client.specs.Held.{may_write, owned}
+use Rattle.token_client.specs.Held.{may_write, held_own}
 use Rattle.token_client.specs.State.{held_of, is_in_slot}
 use Rattle.token_client.specs.Transition as client
 use Rattle.token_law.specs.Net.{Net, Happens, IsServing, after_client}
@@ -50,12 +50,12 @@ module _ (logs : Bool) (members part limit c life room highest : ℕ) (pos : 0 <
 
   -- what is done, and then the open call runs
   abbrev pub and_runs : Done → Done
-  and_runs d = saying d.outs (runs d.state)
+  and_runs d = saying d.outs (run d.state)
 
   pub runs_after : (n : Net) (d : Done) → Goes n d → Goes n (and_runs d)
   runs_after n d p =
-      frames.goes_on logs members part limit c life room highest n d (runs d.state) p
-      (λ m k. blocks.runs_so logs members part limit c life room highest pos less m d.state k)
+      frames.goes_on logs members part limit c life room highest n d (run d.state) p
+      (λ m k. blocks.run_so logs members part limit c life room highest pos less m d.state k)
 
   -- ---- a grant to own is accepted
 
@@ -72,7 +72,7 @@ module _ (logs : Bool) (members part limit c life room highest : ℕ) (pos : 0 <
     abbrev running : Serving
     running = record owner { call = None }
 
-    known : held_of granted.state.blocks block ≡ owned (held_of s.tokens.blocks block) stamp entry.ver
+    known : held_of granted.state.blocks block ≡ held_own (held_of s.tokens.blocks block) stamp entry.ver
     known = (owned_so s.tokens block stamp inc req entry taken).known
 
     may : may_write (held_of granted.state.blocks block) ≡ true
@@ -90,61 +90,61 @@ module _ (logs : Bool) (members part limit c life room highest : ℕ) (pos : 0 <
     lets_it_go =
         let k : owning.Gone logs members part limit c life room highest pos less n s h asks block stamp inc req entry sent below taken =
         owning.let_gone logs members part limit c life room highest pos less n s h asks block stamp inc req entry sent below taken in
-        let gone : Serving = notes_gone (record running { tokens = (client.on_evict granted.state block).state }) block in
+        let gone : Serving = note_gone (record running { tokens = (client.on_evict granted.state block).state }) block in
         by_test (λ (t : Serving). Goes n (still t)) (is_none (held_at running block).value) gone running
         (λ fact. frames.goes_from logs members part limit c life room highest n k.next (still gone) k.grown
         (blocks.gone_from logs members part limit c life room highest pos less k.next running block k.stands))
         (λ fact. contrary (sym fact ∙ ap (λ (g : Held). is_none g.value) known))
 
-    writes_if_fits : (value : Option (List ℕ)) → Goes n (changes_if_fits running block value).done
-    unfolding changes_if_fits
+    writes_if_fits : (value : Option (List ℕ)) → Goes n (blocks_change running block value).done
+    unfolding blocks_change
     writes_if_fits value =
         by_test (λ (m : Made). Goes n m.done) (put_fits block ((held_at running block).ver + 1) value) (changes running block value) (held_back running block)
         (λ t. writes_it value) (λ t. lets_it_go)
 
     -- PutAt
-    puts_it_at : (ver : ℕ) (value : Option (List ℕ)) → Goes n (puts_at running block ver value).done
-    unfolding puts_at
+    puts_it_at : (ver : ℕ) (value : Option (List ℕ)) → Goes n (blocks_put_at running block ver value).done
+    unfolding blocks_put_at
     puts_it_at ver value =
-        by_test (λ (m : Made). Goes n m.done) (may_write (held_at running block)) (puts_again running block ver value) (needs running block Own)
-        (λ t. by_test (λ (m : Made). Goes n m.done) ((held_at running block).ver == ver) (changes_if_fits running block value) (changed running block)
+        by_test (λ (m : Made). Goes n m.done) (may_write (held_at running block)) (puts_again running block ver value) (blocks_need running block Own)
+        (λ t. by_test (λ (m : Made). Goes n m.done) ((held_at running block).ver == ver) (blocks_change running block value) (changed running block)
         (λ u. writes_if_fits value) (λ u. lets_it_go))
         (λ t. contrary (sym t ∙ may))
 
     -- Put
-    puts_it : (value : Option (List ℕ)) → Goes n (puts running block value).done
-    unfolding puts
+    puts_it : (value : Option (List ℕ)) → Goes n (blocks_put running block value).done
+    unfolding blocks_put
     puts_it value =
-        by_test (λ (m : Made). Goes n m.done) (may_write (held_at running block)) (changes_if_fits running block value) (needs running block Own)
+        by_test (λ (m : Made). Goes n m.done) (may_write (held_at running block)) (blocks_change running block value) (blocks_need running block Own)
         (λ t. writes_if_fits value) (λ t. contrary (sym t ∙ may))
 
     -- the call on blocks that needs it
-    makes_it : (step : BlockCall) → needed_by step ≡ Some (block, Own) → Goes n (makes running step).done
-    unfolding makes mode_in block_in
+    makes_it : (step : BlockCall) → needed_by step ≡ Some (block, Own) → Goes n (blocks_make running step).done
+    unfolding blocks_make mode_in block_in
     makes_it (Get b) e = (let e : Copy ≡ Own = ap mode_in e in absurd (cc))
-    makes_it (Put b value) e = subst (λ k. Goes n (puts running k value).done) (sym (ap (block_in block) e)) (puts_it value)
-    makes_it (PutAt b ver value) e = subst (λ k. Goes n (puts_at running k ver value).done) (sym (ap (block_in block) e)) (puts_it_at ver value)
+    makes_it (Put b value) e = subst (λ k. Goes n (blocks_put running k value).done) (sym (ap (block_in block) e)) (puts_it value)
+    makes_it (PutAt b ver value) e = subst (λ k. Goes n (blocks_put_at running k ver value).done) (sym (ap (block_in block) e)) (puts_it_at ver value)
     makes_it Sync e = absurd (cc)
 
     -- the open call's first turn
-    runs_it : (call : Option Call) → s.call ≡ call → needed call ≡ Some (block, Own) → Goes n (runs_once owner).done
-    unfolding runs_once
+    runs_it : (call : Option Call) → s.call ≡ call → needed call ≡ Some (block, Own) → Goes n (run_once owner).done
+    unfolding run_once
     runs_it None fact e = absurd (cc)
     runs_it (Some call) fact e =
         let kept : Call = record call { reading = kept_while granted.state call.reading } in
-        let now : owner.call ≡ Some kept = ap (λ (k : Option Call). call_with k (kept_while granted.state (reading_in k))) fact in
+        let now : owner.call ≡ Some kept = ap (λ (k : Option Call). set_reading k (kept_while granted.state (reading_in k))) fact in
         subst (λ (k : Option Call). Goes n (runs_call owner k).done) (sym now)
-        (blocks.ran_so logs members part limit c life room highest pos less n kept (makes running kept.step) (makes_it call.step e))
+        (blocks.ran_so logs members part limit c life room highest pos less n kept (blocks_make running kept.step) (makes_it call.step e))
 
     -- it stays out of the cache
-    uncached : notes_copy owner block ≡ owner
-    unfolding notes_copy
-    uncached = ap (λ t. cond t (notes_clean owner block) owner) (ap (λ (g : Held). same_mode g.mode Copy) known)
+    uncached : note_copy owner block ≡ owner
+    unfolding note_copy
+    uncached = ap (λ t. cond t (note_clean owner block) owner) (ap (λ (g : Held). same_mode g.mode Copy) known)
 
-    owns_so : Goes n (and_runs (hands s (input.Granted block stamp inc req Own entry)))
-    unfolding hands follows follows_one
+    owns_so : Goes n (and_runs (hand s (input.Granted block stamp inc req Own entry)))
+    unfolding hand serving_follow follow_one
     owns_so =
-        subst (λ outs. Goes n (and_runs (steps follows_one owner outs))) (sym (owned_so s.tokens block stamp inc req entry taken).outs_are)
+        subst (λ outs. Goes n (and_runs (steps follow_one owner outs))) (sym (owned_so s.tokens block stamp inc req entry taken).outs_are)
         (subst (λ t. Goes n (and_runs (still t))) (sym uncached)
         (blocks.runs_from logs members part limit c life room highest pos less n owner (runs_it s.call refl (call_needs s asks block stamp inc req Own taken))))
 
@@ -153,19 +153,19 @@ module _ (logs : Bool) (members part limit c life room highest : ℕ) (pos : 0 <
   -- one that isn't accepted changes nothing
   refused_so : (n : Net) (s : Serving) → At n s → (block : BlockId) (stamp : Stamp) (inc req : ℕ) (mode : Mode) (entry : Entry)
       → client.accepts s.tokens block stamp inc req mode ≡ false
-      → Goes n (hands s (input.Granted block stamp inc req mode entry))
-  unfolding hands
+      → Goes n (hand s (input.Granted block stamp inc req mode entry))
+  unfolding hand
   refused_so n s h block stamp inc req mode entry fact =
-      subst (λ (d : client.Done). Goes n (follows (ends_reading (record s { tokens = d.state })) d.outs))
+      subst (λ (d : client.Done). Goes n (serving_follow (ends_reading (record s { tokens = d.state })) d.outs))
       (sym (refused s.tokens block stamp inc req mode entry fact))
-      (tokens.follows_so logs members part limit c life room highest pos less n (ends_reading s) [] h tt)
+      (tokens.serving_follow_so logs members part limit c life room highest pos less n (ends_reading s) [] h tt)
 
   -- one of a copy, of the slot or of another
   copy_so : (n : Net) (s : Serving) → At n s → (block : BlockId) (stamp : Stamp) (inc req : ℕ) (entry : Entry)
-      → SentOf part n.sent block (GrantSent c block stamp inc req Copy entry) → Goes n (and_runs (hands s (input.Granted block stamp inc req Copy entry)))
+      → SentOf part n.sent block (GrantSent c block stamp inc req Copy entry) → Goes n (and_runs (hand s (input.Granted block stamp inc req Copy entry)))
   copy_so n s h block stamp inc req entry sent =
-      runs_after n (hands s (input.Granted block stamp inc req Copy entry))
-      (tokens.hands_so logs members part limit c life room highest pos less n s (input.Granted block stamp inc req Copy entry)
+      runs_after n (hand s (input.Granted block stamp inc req Copy entry))
+      (tokens.hand_so logs members part limit c life room highest pos less n s (input.Granted block stamp inc req Copy entry)
       (record { happens = λ end serves. by_slot end serves (is_in_slot part block) refl; allowed = λ own g q. contrary own }) h)
     where
       by_slot : (end : ℕ) → IsServing logs members n c end → (t : Bool) → is_in_slot part block ≡ t
@@ -175,7 +175,7 @@ module _ (logs : Bool) (members part limit c life room highest : ℕ) (pos : 0 <
 
   granted_so : (n : Net) (s : Serving) → At n s → AsksForCall s → (block : BlockId) (stamp : Stamp) (inc req : ℕ) (mode : Mode) (entry : Entry)
       → SentOf part n.sent block (GrantSent c block stamp inc req mode entry)
-      → (is_own mode && not (has_long_room entry.ver)) ≡ false → Goes n (and_runs (hands s (input.Granted block stamp inc req mode entry)))
+      → (is_own mode && not (has_long_room entry.ver)) ≡ false → Goes n (and_runs (hand s (input.Granted block stamp inc req mode entry)))
   granted_so n s h asks block stamp inc req Copy entry sent low = copy_so n s h block stamp inc req entry sent
   granted_so n s h asks block stamp inc req Own entry sent low =
       by_accepts (client.accepts s.tokens block stamp inc req Own) refl
@@ -184,16 +184,16 @@ module _ (logs : Bool) (members part limit c life room highest : ℕ) (pos : 0 <
       is_below ver r = grind (arith, nat_tests)
 
       by_accepts : (t : Bool) → client.accepts s.tokens block stamp inc req Own ≡ t
-          → Goes n (and_runs (hands s (input.Granted block stamp inc req Own entry)))
+          → Goes n (and_runs (hand s (input.Granted block stamp inc req Own entry)))
       by_accepts true fact = owns_so n s h asks block stamp inc req entry sent (is_below entry.ver low) fact
-      by_accepts false fact = runs_after n (hands s (input.Granted block stamp inc req Own entry)) (refused_so n s h block stamp inc req Own entry fact)
+      by_accepts false fact = runs_after n (hand s (input.Granted block stamp inc req Own entry)) (refused_so n s h block stamp inc req Own entry fact)
   granted_so n s h asks block stamp inc req Nothing entry sent low =
       by_accepts (client.accepts s.tokens block stamp inc req Nothing) refl
     where
       by_accepts : (t : Bool) → client.accepts s.tokens block stamp inc req Nothing ≡ t
-          → Goes n (and_runs (hands s (input.Granted block stamp inc req Nothing entry)))
+          → Goes n (and_runs (hand s (input.Granted block stamp inc req Nothing entry)))
       by_accepts true fact = absurd (no_call_needs s.call block (call_needs s asks block stamp inc req Nothing fact))
-      by_accepts false fact = runs_after n (hands s (input.Granted block stamp inc req Nothing entry)) (refused_so n s h block stamp inc req Nothing entry fact)
+      by_accepts false fact = runs_after n (hand s (input.Granted block stamp inc req Nothing entry)) (refused_so n s h block stamp inc req Nothing entry fact)
 
   -- a grant, and then the open call runs
   pub on_grant_so : (n : Net) (s : Serving) (g : Grant) → At n s → AsksForCall s
@@ -201,6 +201,6 @@ module _ (logs : Bool) (members part limit c life room highest : ℕ) (pos : 0 <
   unfolding on_grant
   on_grant_so n s g h asks sent =
       by_test (λ (d : Done). Goes n (and_runs d)) (is_own g.mode && not (has_long_room g.entry.ver)) (still s)
-      (hands s (input.Granted g.block g.stamp g.inc g.req g.mode g.entry))
+      (hand s (input.Granted g.block g.stamp g.inc g.req g.mode g.entry))
       (λ t. runs_after n (still s) (frames.goes_still logs members part limit c life room highest n s h))
       (λ t. granted_so n s h asks g.block g.stamp g.inc g.req g.mode g.entry sent t)

@@ -13,7 +13,7 @@ use Rattle.token_client.specs.declared.held.Wanted.{Wanted}
 use Rattle.token_client.specs.declared.input.In as inputs
 use Rattle.token_client.specs.declared.input.In.TheVariants as input
 use Rattle.token_client.specs.declared.output.Out.TheVariants as output
-use Rattle.token_client.specs.Held.{is_dirty, is_wanted, is_answer, may_evict, may_write, grant_taken, let_go, owned}
+use Rattle.token_client.specs.Held.{is_dirty, is_wanted, is_answer, may_evict, may_write, take_grant, let_go, held_own}
 use Rattle.token_client.specs.Laws.{IsSound}
 use Rattle.token_client.specs.State.{TokensState, held_of, with_held, is_in_slot}
 use Rattle.token_client.specs.Transition as client
@@ -120,13 +120,13 @@ no_call_needs (Some call) block h = by_step call.step h
 -- what is known of a block that was granted to own, and what the tokens say
 pub record Owned (s : TokensState) (block : BlockId) (stamp : Stamp) (entry : Entry) (d : client.Done) : Type 0 where
   pub outs_are : d.outs ≡ output.Ready block ∷ []
-  pub known : held_of d.state.blocks block ≡ owned (held_of s.blocks block) stamp entry.ver
+  pub known : held_of d.state.blocks block ≡ held_own (held_of s.blocks block) stamp entry.ver
 
 pub owned_so : (s : TokensState) (block : BlockId) (stamp : Stamp) (inc req : ℕ) (entry : Entry) → client.accepts s block stamp inc req Own ≡ true
     → Owned s block stamp entry (client.on_granted s block stamp inc req Own entry)
 unfolding client.on_granted
 owned_so s block stamp inc req entry fact =
-    let g : Held = grant_taken (held_of s.blocks block) stamp Own entry in
+    let g : Held = take_grant (held_of s.blocks block) stamp Own entry in
     let d : client.Done = record { state = with_held s block g; outs = output.Ready block ∷ [] } in
     by_test (λ (d : client.Done). Owned s block stamp entry d) (client.accepts s block stamp inc req Own) d (still s)
     (λ t. record { outs_are = refl; known = held_of-put_itself block g s.blocks }) (λ t. contrary (sym t ∙ fact))
@@ -137,7 +137,7 @@ pub refused : (s : TokensState) (block : BlockId) (stamp : Stamp) (inc req : ℕ
 unfolding client.on_granted
 refused s block stamp inc req mode entry fact = ap
     (λ t. cond t (record {
-      state = with_held s block (grant_taken (held_of s.blocks block) stamp mode entry);
+      state = with_held s block (take_grant (held_of s.blocks block) stamp mode entry);
       outs = client.grant_next block mode
           entry.place ∷ [];
     }) (still s)) fact
@@ -177,18 +177,18 @@ module _ (logs : Bool) (members part limit c life room highest : ℕ) (pos : 0 <
         (record { life_is = h.bears.life_is; promised = h.bears.promised; giving = h.bears.giving; held = λ b. tt })
 
     -- what is known of the block then
-    pub known : held_of granted.state.blocks block ≡ owned (held_of s.tokens.blocks block) stamp entry.ver
+    pub known : held_of granted.state.blocks block ≡ held_own (held_of s.tokens.blocks block) stamp entry.ver
     known = (owned_so s.tokens block stamp inc req entry taken).known
 
     -- each block but it is as it was
-    others_known : (P : BlockId → Held → Type 0) → P block (owned (held_of s.tokens.blocks block) stamp entry.ver)
+    others_known : (P : BlockId → Held → Type 0) → P block (held_own (held_of s.tokens.blocks block) stamp entry.ver)
         → ((b : BlockId) → same_block block b ≡ false → P b (held_of s.tokens.blocks b)) → (b : BlockId) → P b (held_of granted.state.blocks b)
     unfolding client.on_granted
     others_known P here there =
         by_test (λ (d : client.Done). (b : BlockId) → P b (held_of d.state.blocks b)) (client.accepts s.tokens block stamp inc req Own)
-        (record { state = with_held s.tokens block (grant_taken (held_of s.tokens.blocks block) stamp Own entry); outs = output.Ready block ∷ [] })
+        (record { state = with_held s.tokens block (take_grant (held_of s.tokens.blocks block) stamp Own entry); outs = output.Ready block ∷ [] })
         (still s.tokens)
-        (λ t. put_cases P block (grant_taken (held_of s.tokens.blocks block) stamp Own entry) s.tokens.blocks here there) (λ t. contrary (sym t ∙ taken))
+        (λ t. put_cases P block (take_grant (held_of s.tokens.blocks block) stamp Own entry) s.tokens.blocks here there) (λ t. contrary (sym t ∙ taken))
 
     valued : (b : BlockId) → same_block block b ≡ false → IsValued (held_of granted.state.blocks b)
     valued = others_known (λ b g. same_block block b ≡ false → IsValued g) (λ other. contrary (sym other ∙ same_block_itself block))
@@ -198,7 +198,7 @@ module _ (logs : Bool) (members part limit c life room highest : ℕ) (pos : 0 <
     unsettled = premise_by logs (λ (p : AllUnsettled s.tokens (row_in (rows_waiting s.log)) (row_in (rows_flown s.log.flight))).
         others_known (λ b g. IsUnsettled g (row_in (rows_waiting s.log) b) (row_in (rows_flown s.log.flight) b))
         (stays_clean (row_in (rows_waiting s.log) block) (row_in (rows_flown s.log.flight) block) (held_of s.tokens.blocks block)
-        (owned (held_of s.tokens.blocks block) stamp entry.ver) (asked_clean s.tokens h.sound block stamp inc req Own taken) (itself_clean entry.ver) (p block))
+        (held_own (held_of s.tokens.blocks block) stamp entry.ver) (asked_clean s.tokens h.sound block stamp inc req Own taken) (itself_clean entry.ver) (p block))
         (λ b other. p b)) (all_known logs members part limit c life room highest s.log s.tokens h.bears.held)
 
     pub may : may_write (held_of granted.state.blocks block) ≡ true

@@ -4,15 +4,15 @@ use Rattle.std.proofs.lemmas.List.Elements.{All-nil, All-cons, All-append}
 use Rattle.client_node.specs.declared.client.Client.{Client}
 use Rattle.client_node.specs.declared.phase.Phase.TheVariants.{Down, Opening, Serving as Serves}
 use Rattle.client_node.specs.declared.phase.Phase.{Phase}
-use Rattle.client_node.specs.Phases.{Went_to, crashed, answers, serves_on, wish_of, wish_at, serving_begins, lasting_of, with_begun, item_begins, begins_item, on_begin, then_runs, on_deliver, on_time, delivers, happens, phase_room, client_room}
+use Rattle.client_node.specs.Phases.{Went_to, cut, answers, serves_on, wish_of, wish_at, serving_begins, lasting_of, with_begun, item_begins, begins_item, on_begin, then_runs, on_deliver, client_tick, client_deliver, happens, phase_has_room, client_has_room}
 use Rattle.client_node.specs.Crash.{fall_of, falls, flight_of}
 use Rattle.client_serving.specs.declared.serving.Serving.{Serving}
 use Rattle.client_running.specs.Opens.{opens}
 use Rattle.client_serving.specs.Packets as packets
-use Rattle.client_node.specs.Room.{serving_room, tokens_room}
+use Rattle.client_node.specs.Room.{serving_has_room, tokens_room}
 use Rattle.client_serving.specs.Sends.{gives}
-use Rattle.log_owner.specs.Opening.{attempt_of, log_room}
-use Rattle.node_base.specs.Beginning.{next_item, work_at, begun, answers_unanswered}
+use Rattle.log_owner.specs.Opening.{attempt_of, log_has_room}
+use Rattle.node_base.specs.Beginning.{next_item, work_at, items_begin, answers_unanswered}
 use Rattle.node_base.specs.declared.effects.Effect.{Effect}
 use Rattle.node_base.specs.declared.effects.Effect.TheVariants.{Answer as Answers}
 use Rattle.node_base.specs.declared.peers.Peers.{Peers}
@@ -54,16 +54,16 @@ use Rattle.node_slots.proofs.node_tie.ClientTokens as tokens
 use Rattle.node_slots.proofs.node_tie.SmallWorld.{premise, premise_by}
 
 -- where no counter of a client that serves is near its end, neither is one of its log, nor of its wants
-log_has_room : (s : Serving) → serving_room s ≡ true → has_room s.log.end.seq ≡ true
-log_has_room s room =
-    and_first (has_room s.log.end.seq) (has_room (attempt_of s.log.flight)) (and_first (log_room s.log) (tokens_room s)
-    (and_second (has_room s.tokens.req) (log_room s.log && tokens_room s)
-    (and_second (has_room s.maps.version) (has_room s.tokens.req && (log_room s.log && tokens_room s)) room)))
+log_has_room_lem : (s : Serving) → serving_has_room s ≡ true → has_room s.log.end.seq ≡ true
+log_has_room_lem s room =
+    and_first (has_room s.log.end.seq) (has_room (attempt_of s.log.flight)) (and_first (log_has_room s.log) (tokens_room s)
+    (and_second (has_room s.tokens.req) (log_has_room s.log && tokens_room s)
+    (and_second (has_room s.maps.version) (has_room s.tokens.req && (log_has_room s.log && tokens_room s)) room)))
 
-wants_have_room : (s : Serving) → serving_room s ≡ true → has_room s.tokens.req ≡ true
+wants_have_room : (s : Serving) → serving_has_room s ≡ true → has_room s.tokens.req ≡ true
 wants_have_room s room =
-    and_first (has_room s.tokens.req) (log_room s.log && tokens_room s)
-    (and_second (has_room s.maps.version) (has_room s.tokens.req && (log_room s.log && tokens_room s)) room)
+    and_first (has_room s.tokens.req) (log_has_room s.log && tokens_room s)
+    (and_second (has_room s.maps.version) (has_room s.tokens.req && (log_has_room s.log && tokens_room s)) room)
 
 module _ (logs : Bool) (members part limit c : ℕ) (small : part < slot_count) (pos : 0 < c) (less : c < members) (n : Net) where
   abbrev Goes : Phase → Went_to → Type 0
@@ -74,7 +74,7 @@ module _ (logs : Bool) (members part limit c : ℕ) (small : part < slot_count) 
   module _ (s : Serving) (sees : SeesServing logs part c n s) (h : ClientStands part limit c n (Serves s)) where
     -- its next item is begun
     abbrev begun_serving : Serving
-    begun_serving = record s { lasting = record s.lasting { items = begun s.lasting.items } }
+    begun_serving = record s { lasting = record s.lasting { items = items_begin s.lasting.items } }
 
     -- it falls
     module _ (number : ℕ) where
@@ -124,8 +124,8 @@ module _ (logs : Bool) (members part limit c : ℕ) (small : part < slot_count) 
       low : (n.tokens c).inc ≤ s.lasting.inc
       low = (let e : (n.tokens c).inc ≡ s.lasting.inc = ap (λ (t : TokensState). t.inc) sees.tokens ∙ sees.inc in omega arith)
 
-      crashed_so : Goes (Serves s) (saying (falls begun_serving ∷ []) (crashed begun_serving.lasting number))
-      crashed_so = record {
+      cut_so : Goes (Serves s) (saying (falls begun_serving ∷ []) (cut begun_serving.lasting number))
+      cut_so = record {
         next = next;
         runs = grown.runs;
         agrees = record {
@@ -140,8 +140,8 @@ module _ (logs : Bool) (members part limit c : ℕ) (small : part < slot_count) 
         acts = grown.acts ∙ ap (λ x. n.acts ++ (Fell x flight falling ∷ acts_of (AClient c) after_falls)) (sym sees.number);
         books = grown.books;
         log = premise logs refl;
-        does = All-cons (ClientDid part c n n.sent s.lasting.inc (crashed begun_serving.lasting number).state) _ _ (sees.number, tt, dirty_ones)
-            (all_did part c n n.sent s.lasting.inc (crashed begun_serving.lasting number).state after_falls
+        does = All-cons (ClientDid part c n n.sent s.lasting.inc (cut begun_serving.lasting number).state) _ _ (sees.number, tt, dirty_ones)
+            (all_did part c n n.sent s.lasting.inc (cut begun_serving.lasting number).state after_falls
             (frames.plain_does part c s.lasting.inc n.sent after_falls plain_after));
         within = h.within;
         promises = tt;
@@ -171,16 +171,16 @@ module _ (logs : Bool) (members part limit c : ℕ) (small : part < slot_count) 
           (serving.highest logs members part limit c n s) small pos less n begun_serving number begun_stands)
 
       serving_begins_so : (number : ℕ) (w : Option Work) → Goes (Serves s) (serving_begins begun_serving number (wish_of w))
-      serving_begins_so number (Some (work.Crash node)) = crashed_so number
+      serving_begins_so number (Some (work.Crash node)) = cut_so number
       serving_begins_so number (Some (work.Restart node)) = serving_answers number answer.Up
       serving_begins_so number (Some _) = serving_calls number
       serving_begins_so number None = serving_calls number
 
       serving_packet : (packet : wire.Packet) → ClientGets logs part limit c n (Serves s) packet → has_room s.tokens.req ≡ true
-          → Goes (Serves s) (then_runs (packets.on_packet s packet))
+          → Goes (Serves s) (then_runs (packets.serving_take s packet))
       serving_packet packet gets wants =
           serving.serves_on_so logs members part limit c n s sees
-          (serving.and_runs logs members part limit c s.lasting.inc (serving.highest logs members part limit c n s) small pos less (packets.on_packet s packet))
+          (serving.and_runs logs members part limit c s.lasting.inc (serving.highest logs members part limit c n s) small pos less (packets.serving_take s packet))
           (serving.packet_so logs members part limit c s.lasting.inc
           (serving.highest logs members part limit c n s) small pos less n s packet gets h.asks wants stands)
 
@@ -196,64 +196,64 @@ module _ (logs : Bool) (members part limit c : ℕ) (small : part < slot_count) 
   still_so p sees h = staying.still_so logs members part limit c small pos less n p sees h
 
   begin_so : (servers number : ℕ) (p : Phase) → ClientAgrees logs part c n p → ClientStands part limit c n p → has_room (lasting_of p).inc ≡ true
-      → phase_room p ≡ true
+      → phase_has_room p ≡ true
       → Goes p (item_begins servers (with_begun p) number (wish_at (lasting_of (with_begun p)) number))
   begin_so servers number (Down l) sees h later room =
-      staying.down_begins_so logs members part limit c small pos less n l sees h servers number (work_at (begun l.items) number) later
+      staying.down_begins_so logs members part limit c small pos less n l sees h servers number (work_at (items_begin l.items) number) later
   begin_so servers number (Opening l o) sees h later room =
-      opening.opening_begins_so logs members part limit c small pos less n l o sees h number (work_at (begun l.items) number)
-  begin_so servers number (Serves s) sees h later room = serving_begins_so s sees h (log_has_room s room) number (work_at (begun s.lasting.items) number)
+      opening.opening_begins_so logs members part limit c small pos less n l o sees h number (work_at (items_begin l.items) number)
+  begin_so servers number (Serves s) sees h later room = serving_begins_so s sees h (log_has_room_lem s room) number (work_at (items_begin s.lasting.items) number)
 
   item_so : (servers : ℕ) (p : Phase) (next : Option ℕ) → ClientAgrees logs part c n p → ClientStands part limit c n p → has_room (lasting_of p).inc ≡ true
-      → phase_room p ≡ true → Goes p (begins_item servers p next)
+      → phase_has_room p ≡ true → Goes p (begins_item servers p next)
   item_so servers p None sees h later room = still_so p sees h
   item_so servers p (Some number) sees h later room = begin_so servers number p sees h later room
 
   on_begin_so : (servers : ℕ) (p : Phase) → ClientAgrees logs part c n p → ClientStands part limit c n p → has_room (lasting_of p).inc ≡ true
-      → phase_room p ≡ true
+      → phase_has_room p ≡ true
       → Goes p (on_begin servers p)
   unfolding on_begin
   on_begin_so servers p sees h later room = item_so servers p (next_item (lasting_of p).items) sees h later room
 
   on_deliver_so : (capacity : ℕ) (p : Phase) (packet : wire.Packet) → ClientAgrees logs part c n p → ClientStands part limit c n p
-      → ClientGets logs part limit c n p packet → has_logs packet.body ≡ true → phase_room p ≡ true
+      → ClientGets logs part limit c n p packet → has_logs packet.body ≡ true → phase_has_room p ≡ true
       → Goes p (on_deliver capacity p packet)
   unfolding on_deliver
   on_deliver_so capacity (Down l) packet sees h gets known room = still_so (Down l) sees h
   on_deliver_so capacity (Opening l o) packet sees h gets known room =
       opening.opening_packet logs members part limit c small pos less n l o sees h capacity packet gets known
-  on_deliver_so capacity (Serves s) packet sees h gets known room = serving_packet s sees h (log_has_room s room) packet gets (wants_have_room s room)
+  on_deliver_so capacity (Serves s) packet sees h gets known room = serving_packet s sees h (log_has_room_lem s room) packet gets (wants_have_room s room)
 
-  delivers_so : (peers : Peers) (capacity : ℕ) (p : Phase) (packet : wire.Packet) → ClientAgrees logs part c n p → ClientStands part limit c n p
-      → (is_well_formed peers packet ≡ true → ClientGets logs part limit c n p packet) → phase_room p ≡ true → Goes p (delivers peers capacity p packet)
-  delivers_so peers capacity p packet sees h gets room =
+  client_deliver_so : (peers : Peers) (capacity : ℕ) (p : Phase) (packet : wire.Packet) → ClientAgrees logs part c n p → ClientStands part limit c n p
+      → (is_well_formed peers packet ≡ true → ClientGets logs part limit c n p packet) → phase_has_room p ≡ true → Goes p (client_deliver peers capacity p packet)
+  client_deliver_so peers capacity p packet sees h gets room =
       by_test (λ (w : Went_to). Goes p w) (is_well_formed peers packet) (on_deliver capacity p packet) (still p)
       (λ t. on_deliver_so capacity p packet sees h (gets t)
       (and_first (has_logs packet.body) _ (and_second (has_node peers packet.from) _ t))
       room)
       (λ t. still_so p sees h)
 
-  on_time_so : (capacity : ℕ) (p : Phase) → ClientAgrees logs part c n p → ClientStands part limit c n p → Premise logs (EndsInTime part limit c n p)
-      → phase_room p ≡ true → Goes p (on_time capacity p)
-  unfolding on_time
-  on_time_so capacity (Down l) sees h ends room = still_so (Down l) sees h
-  on_time_so capacity (Opening l o) sees h ends room = opening.opening_time logs members part limit c small pos less n l o sees h capacity ends
-  on_time_so capacity (Serves s) sees h ends room = serving_time s sees h (log_has_room s room)
+  client_tick_so : (capacity : ℕ) (p : Phase) → ClientAgrees logs part c n p → ClientStands part limit c n p → Premise logs (EndsInTime part limit c n p)
+      → phase_has_room p ≡ true → Goes p (client_tick capacity p)
+  unfolding client_tick
+  client_tick_so capacity (Down l) sees h ends room = still_so (Down l) sees h
+  client_tick_so capacity (Opening l o) sees h ends room = opening.opening_time logs members part limit c small pos less n l o sees h capacity ends
+  client_tick_so capacity (Serves s) sees h ends room = serving_time s sees h (log_has_room_lem s room)
 
   one_packet : (a b : wire.Packet) → Deliver a ≡ Deliver b → a ≡ b
   one_packet a b same = cc
 
   happens_so : (client : Client) (what : Do) → ClientAgrees logs part c n client.phase → ClientStands part limit c n client.phase
-      → (IsTaken client what → ClientOwed logs part limit c n client.phase what) → client_room client ≡ true → Goes client.phase (happens client what)
+      → (IsTaken client what → ClientOwed logs part limit c n client.phase what) → client_has_room client ≡ true → Goes client.phase (happens client what)
   happens_so client what sees h owed room = by_event what refl (λ formed. owed (record { room = room; formed = formed }))
     where
       later : has_room (lasting_of client.phase).inc ≡ true
-      later = and_first (has_room (lasting_of client.phase).inc) (has_room (lasting_of client.phase).questions.last && phase_room client.phase) room
+      later = and_first (has_room (lasting_of client.phase).inc) (has_room (lasting_of client.phase).questions.last && phase_has_room client.phase) room
 
-      inside : phase_room client.phase ≡ true
+      inside : phase_has_room client.phase ≡ true
       inside =
-          and_second (has_room (lasting_of client.phase).questions.last) (phase_room client.phase)
-          (and_second (has_room (lasting_of client.phase).inc) (has_room (lasting_of client.phase).questions.last && phase_room client.phase) room)
+          and_second (has_room (lasting_of client.phase).questions.last) (phase_has_room client.phase)
+          (and_second (has_room (lasting_of client.phase).inc) (has_room (lasting_of client.phase).questions.last && phase_has_room client.phase) room)
 
       Formed : Do → Type 0
       Formed x = (q : wire.Packet) → x ≡ Deliver q → is_well_formed client.peers q ≡ true
@@ -261,14 +261,14 @@ module _ (logs : Bool) (members part limit c : ℕ) (small : part < slot_count) 
       by_event : (x : Do) → what ≡ x → (Formed x → ClientOwed logs part limit c n client.phase x) → Goes client.phase (happens client x)
       by_event Begin fact owed = on_begin_so client.peers.servers client.phase sees h later inside
       by_event (Deliver packet) fact owed =
-          delivers_so client.peers client.cache client.phase packet sees h
+          client_deliver_so client.peers client.cache client.phase packet sees h
           (λ formed. owed (λ q same. subst (λ (x : wire.Packet). is_well_formed client.peers x ≡ true) (one_packet packet q same) formed)) inside
-      by_event Tick fact owed = on_time_so client.cache client.phase sees h (owed (λ q clash. absurd cc)) inside
+      by_event Tick fact owed = client_tick_so client.cache client.phase sees h (owed (λ q clash. absurd cc)) inside
 
 -- an event is taken where no counter is near its end, and changes nothing else
 pub client_takes : ClientTakes
 client_takes logs members part limit c small pos less n client what sees h owed =
-    by_test (λ (w : Went_to). ClientGoes logs members part limit c n client.phase w.state w.outs) (client_room client) (happens client what)
+    by_test (λ (w : Went_to). ClientGoes logs members part limit c n client.phase w.state w.outs) (client_has_room client) (happens client what)
     (still client.phase)
     (λ room. happens_so logs members part limit c small pos less n client what sees h owed room)
     (λ room. still_so logs members part limit c small pos less n client.phase sees h)

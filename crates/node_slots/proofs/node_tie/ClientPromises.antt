@@ -11,14 +11,14 @@ use Rattle.std.proofs.lemmas.List.Elements.{All-nil, All-cons, recursion_from_Al
 use Rattle.client_log.specs.declared.input.In.TheVariants as log_in
 use Rattle.client_log.specs.LogState.{LogState}
 use Rattle.client_serving.specs.declared.serving.Serving.{Serving}
-use Rattle.client_serving.specs.Flights.{held_at, writes}
-use Rattle.client_serving.specs.Follow.{follows, follows_one}
-use Rattle.client_serving.specs.Packets.{renews, promised_by, promises, reports, may_report, polled, on_poll, promised_in, is_news, hears, regroups, takes_news, on_news, on_welcome}
+use Rattle.client_serving.specs.Flights.{held_at, serving_write}
+use Rattle.client_serving.specs.Follow.{serving_follow, follow_one}
+use Rattle.client_serving.specs.Packets.{serving_renew, promised_by, serving_promise, reports, may_report, polled, on_poll, promised_in, is_news, serving_hear, regroups, takes_news, on_news, on_welcome}
 use Rattle.client_serving.specs.Sends.{Done, report}
 use Rattle.delta_feed.specs.Transition.{new_epoch}
 use Rattle.group_map.specs.GroupMapState.{GroupMapState}
 use Rattle.log_flight.specs.Flights.{FlightState}
-use Rattle.node_base.specs.Maps.{fits, is_older, taken}
+use Rattle.node_base.specs.Maps.{fits, is_older, maps_take}
 use Rattle.node_base.specs.Room.{has_room}
 use Rattle.token_client.specs.declared.held.Fetch.{Fetch}
 use Rattle.token_client.specs.declared.held.Held.{Held}
@@ -67,7 +67,7 @@ IsFetched table b = is_some (held_of table b).fetch ≡ true
 module _ (table : List (BlockId × Held)) (slot : ℕ) (alone : (a b : BlockId) → IsFetched table a → IsFetched table b → a ≡ b) where
   -- behind one that is fetched no other is
   none_behind : (a : BlockId) → IsFetched table a → (es : List (BlockId × Held)) → AllByRecursion (λ b. block_cmp a b ≡ Less) (keys_of es) → Agrees table es
-      → length (client.fetched_in slot es) ≡ 0
+      → length (client.fetched_blocks slot es) ≡ 0
   none_behind a f [] below h = refl
   none_behind a f (e ∷ es) below h =
       let rest : List (BlockId × Held) = filter (λ e. is_in_slot slot e.0 && is_some e.1.fetch) es in
@@ -79,7 +79,7 @@ module _ (table : List (BlockId × Held)) (slot : ℕ) (alone : (a b : BlockId) 
       absurd (cc))
       (λ t. none_behind a f es below.1 h.1)
 
-  pub one_fetched : (es : List (BlockId × Held)) → InOrder es → Agrees table es → length (client.fetched_in slot es) ≤ 1
+  pub one_fetched : (es : List (BlockId × Held)) → InOrder es → Agrees table es → length (client.fetched_blocks slot es) ≤ 1
   unfolding IsStrictlySortedBy
   one_fetched [] sorted h = omega arith
   one_fetched (e ∷ es) sorted h =
@@ -87,7 +87,7 @@ module _ (table : List (BlockId × Held)) (slot : ℕ) (alone : (a b : BlockId) 
       by_test (λ (rows : List (BlockId × Held)). length (keys_of rows) ≤ 1) (is_in_slot slot e.0 && is_some e.1.fetch) (e ∷ rest) rest
       (λ t.
       let f : IsFetched table e.0 = ap (λ (g : Held). is_some g.fetch) h.0 ∙ and_second (is_in_slot slot e.0) (is_some e.1.fetch) t in
-      let none : length (client.fetched_in slot es) ≡ 0 = none_behind e.0 f es sorted.0 h.1 in
+      let none : length (client.fetched_blocks slot es) ≡ 0 = none_behind e.0 f es sorted.0 h.1 in
       omega arith)
       (λ t. one_fetched es sorted.1 h.1)
 
@@ -107,10 +107,10 @@ fetched_alone s asks a b fa fb = ap block_in (sym (need a (held_at s a).fetch re
 promise_made : (s : Serving) (slot epoch : ℕ) → AsksForCall s → has_room s.tokens.req ≡ true
     → (nat_lt slot slot_count && nat_le (epoch_of s.tokens.epochs slot) epoch) ≡ true → client.may_promise s.tokens slot epoch ≡ true
 promise_made s slot epoch asks room may =
-    let few : length (client.fetched_in slot s.tokens.blocks) ≤ 1 = one_fetched s.tokens.blocks slot (fetched_alone s asks) s.tokens.blocks asks.sound.sorted
+    let few : length (client.fetched_blocks slot s.tokens.blocks) ≤ 1 = one_fetched s.tokens.blocks slot (fetched_alone s asks) s.tokens.blocks asks.sound.sorted
     (agrees-itself s.tokens.blocks asks.sound.sorted) in
-    ap (λ t. t && nat_le (length (client.fetched_in slot s.tokens.blocks)) (u32_end - s.tokens.req)) may ∙ fits_in s.tokens.req
-    (length (client.fetched_in slot s.tokens.blocks)) room few
+    ap (λ t. t && nat_le (length (client.fetched_blocks slot s.tokens.blocks)) (u32_end - s.tokens.req)) may ∙ fits_in s.tokens.req
+    (length (client.fetched_blocks slot s.tokens.blocks)) room few
   where
     fits_in : (req k : ℕ) → has_room req ≡ true → k ≤ 1 → nat_le k (u32_end - req) ≡ true
     fits_in req k r f = grind (arith, nat_tests)
@@ -121,10 +121,10 @@ promise_kept : (s : TokensState) (slot epoch : ℕ) → length s.epochs ≡ slot
 unfolding client.on_promise
 promise_kept s slot epoch eight small may =
     by_test (λ (d : client.Done). epoch_of d.state.epochs slot ≡ epoch) (client.may_promise s slot epoch)
-    (steps client.ask_copy (client.raised s slot epoch) (client.fetched_in slot s.blocks)) (still s)
+    (steps client.ask_copy (client.raised s slot epoch) (client.fetched_blocks slot s.blocks)) (still s)
     (λ t. (bears_steps (λ b g. Unit {0}) kept (λ b g. Unit {0}) s.inc client.ask_copy
     (λ u b. ask-bears (λ b g. Unit {0}) kept (λ b g. Unit {0}) s.inc no_fact u b Copy)
-    (client.raised s slot epoch) (client.fetched_in slot s.blocks)
+    (client.raised s slot epoch) (client.fetched_blocks slot s.blocks)
     (record { life_is = refl; promised = get_or-set_same s.epochs slot epoch 0 (omega arith); giving = λ b. tt; held = λ b. tt })).promised)
     (λ t. contrary (sym t ∙ may))
   where
@@ -142,7 +142,7 @@ wants_on [] ys h k = k
 wants_on (x ∷ xs) ys h k = (h.0, wants_on xs ys h.1 k)
 
 asks-wants : (t : TokensState) (block : BlockId) → AllByRecursion IsWant (client.ask_copy t block).outs
-unfolding client.new_want
+unfolding client.tokens_ask
 asks-wants t block =
     by_test (λ (d : client.Done). AllByRecursion IsWant d.outs) (nat_lt t.req u32_end) _ (still t) (λ x. (tt, tt)) (λ x. tt)
 
@@ -156,11 +156,11 @@ promise-wants : (t : TokensState) (slot epoch : ℕ) → AllByRecursion IsWant (
 unfolding client.on_promise
 promise-wants t slot epoch =
     by_test (λ (d : client.Done). AllByRecursion IsWant d.outs) (client.may_promise t slot epoch)
-    (steps client.ask_copy (client.raised t slot epoch) (client.fetched_in slot t.blocks))
-    (still t) (λ x. all_ask-wants (client.raised t slot epoch) (client.fetched_in slot t.blocks)) (λ x. tt)
+    (steps client.ask_copy (client.raised t slot epoch) (client.fetched_blocks slot t.blocks))
+    (still t) (λ x. all_ask-wants (client.raised t slot epoch) (client.fetched_blocks slot t.blocks)) (λ x. tt)
 
-wants-log : (s : Serving) (outs : List outputs.Out) → AllByRecursion IsWant outs → (follows s outs).state.log ≡ s.log
-unfolding follows follows_one
+wants-log : (s : Serving) (outs : List outputs.Out) → AllByRecursion IsWant outs → (serving_follow s outs).state.log ≡ s.log
+unfolding serving_follow follow_one
 wants-log s [] h = refl
 wants-log s (output.Want block req again mode ∷ outs) h = wants-log s outs h.1
 wants-log s (output.Gave block stamp ∷ outs) h = absurd h.0
@@ -169,23 +169,23 @@ wants-log s (output.Flush block ∷ outs) h = absurd h.0
 wants-log s (output.Read block place ∷ outs) h = absurd h.0
 wants-log s (output.Ready block ∷ outs) h = absurd h.0
 
-renews-log : (s : Serving) (slot epoch : ℕ) → (renews s slot epoch).log ≡ s.log
-unfolding renews
-renews-log s slot epoch =
+serving_renew-log : (s : Serving) (slot epoch : ℕ) → (serving_renew s slot epoch).log ≡ s.log
+unfolding serving_renew
+serving_renew-log s slot epoch =
     by_test (λ (t : Serving). t.log ≡ s.log) (nat_lt (epoch_of s.tokens.epochs slot) epoch) (record s { feed = new_epoch s.feed slot }) s (λ x. refl)
     (λ x. refl)
 
-hears-log : (s : Serving) (news : SlotNews) → (hears s news).state.log ≡ s.log
-unfolding hears promises
-hears-log s news =
-    let r : Serving = renews s news.slot news.epoch in
+serving_hear-log : (s : Serving) (news : SlotNews) → (serving_hear s news).state.log ≡ s.log
+unfolding serving_hear serving_promise
+serving_hear-log s news =
+    let r : Serving = serving_renew s news.slot news.epoch in
     let p : Stepped Serving outputs.Out = promised_by r news.slot news.epoch news.manager in
     by_test (λ (d : Done). d.state.log ≡ s.log) (is_news s news) (promised_in s news) (still s)
-    (λ x. wants-log p.state p.outs (promise-wants r.tokens news.slot news.epoch) ∙ renews-log s news.slot news.epoch) (λ x. refl)
+    (λ x. wants-log p.state p.outs (promise-wants r.tokens news.slot news.epoch) ∙ serving_renew-log s news.slot news.epoch) (λ x. refl)
 
-all_heard-log : (s : Serving) (slots : List SlotNews) → (steps hears s slots).state.log ≡ s.log
+all_heard-log : (s : Serving) (slots : List SlotNews) → (steps serving_hear s slots).state.log ≡ s.log
 all_heard-log s [] = refl
-all_heard-log s (news ∷ slots) = all_heard-log (hears s news).state slots ∙ hears-log s news
+all_heard-log s (news ∷ slots) = all_heard-log (serving_hear s news).state slots ∙ serving_hear-log s news
 
 module _ (logs : Bool) (members part limit c life room highest : ℕ) (small : part < slot_count) (pos : 0 < c) (less : c < members) where
   abbrev At : Net → Serving → Type 0
@@ -211,25 +211,25 @@ module _ (logs : Bool) (members part limit c life room highest : ℕ) (small : p
       (taking.promise_may logs members part limit c life room highest small slot epoch fits))
 
   -- what the feed does first changes nothing that is seen
-  by_renewed : (P : Serving → Type 0) (s : Serving) (slot epoch : ℕ) → P (record s { feed = new_epoch s.feed slot }) → P s → P (renews s slot epoch)
-  unfolding renews
+  by_renewed : (P : Serving → Type 0) (s : Serving) (slot epoch : ℕ) → P (record s { feed = new_epoch s.feed slot }) → P s → P (serving_renew s slot epoch)
+  unfolding serving_renew
   by_renewed P s slot epoch newer same = by_test P (nat_lt (epoch_of s.tokens.epochs slot) epoch) (record s { feed = new_epoch s.feed slot }) s (λ t. newer)
       (λ t. same)
 
   -- what the tokens say of a promise is done
   promised_by_so : (n : Net) (s : Serving) (slot epoch manager : ℕ) → (slot ≡ part → epoch ≤ limit) → At n s
-      → Goes n (follows (promised_by s slot epoch manager).state (promised_by s slot epoch manager).outs)
+      → Goes n (serving_follow (promised_by s slot epoch manager).state (promised_by s slot epoch manager).outs)
   promised_by_so n s slot epoch manager fits h =
       let p : Stepped Serving outputs.Out = promised_by s slot epoch manager in
       let k : Promises n s slot epoch = promise_taken n s slot epoch fits h in
-      frames.goes_from logs members part limit c life room highest n k.next (follows p.state p.outs) k.grown
-      (tokens.follows_so logs members part limit c life room highest pos less k.next p.state p.outs k.stands
+      frames.goes_from logs members part limit c life room highest n k.next (serving_follow p.state p.outs) k.grown
+      (tokens.serving_follow_so logs members part limit c life room highest pos less k.next p.state p.outs k.stands
       (taking.outs_seen logs members part limit c life room highest k.next.sent s.log.end.seq p.outs k.seen))
 
   promised_in_so : (n : Net) (s : Serving) (news : SlotNews) → (news.slot ≡ part → news.epoch ≤ limit) → At n s → Goes n (promised_in s news)
-  unfolding promises
+  unfolding serving_promise
   promised_in_so n s news fits h =
-      by_renewed (λ (t : Serving). Goes n (follows (promised_by t news.slot news.epoch news.manager).state
+      by_renewed (λ (t : Serving). Goes n (serving_follow (promised_by t news.slot news.epoch news.manager).state
       (promised_by t news.slot news.epoch news.manager).outs)) s news.slot news.epoch
       (promised_by_so n (record s { feed = new_epoch s.feed news.slot }) news.slot news.epoch news.manager fits h)
       (promised_by_so n s news.slot news.epoch news.manager fits h)
@@ -265,8 +265,8 @@ module _ (logs : Bool) (members part limit c life room highest : ℕ) (small : p
       } in
       frames.goes_from logs members part limit c life room highest n m (reports slot epoch p) k.grown
       (frames.goes_on_in logs members part limit c life room highest m (record { state = p.state; outs = report p.state slot epoch ∷ [] })
-      (follows p.state p.outs) said
-      (λ o w i. tokens.follows_so logs members part limit c life room highest pos less o p.state p.outs i
+      (serving_follow p.state p.outs) said
+      (λ o w i. tokens.serving_follow_so logs members part limit c life room highest pos less o p.state p.outs i
       (taking.outs_more logs members part limit c life room highest m.sent o.sent w s.log.end.seq p.outs
       (taking.outs_seen logs members part limit c life room highest m.sent s.log.end.seq p.outs k.seen))))
     where
@@ -281,9 +281,9 @@ module _ (logs : Bool) (members part limit c life room highest : ℕ) (small : p
 
   polled_so : (n : Net) (s : Serving) (manager : ℕ) (p : Poll) → PollSeen part n.sent limit p → AsksForCall s → has_room s.tokens.req ≡ true → At n s
       → Goes n (polled s manager p)
-  unfolding polled promises
+  unfolding polled serving_promise
   polled_so n s manager p fits asks room h =
-      by_test (λ (d : Done). Goes n d) (may_report s p) (reports p.slot p.epoch (promised_by (renews s p.slot p.epoch) p.slot p.epoch manager)) (still s)
+      by_test (λ (d : Done). Goes n d) (may_report s p) (reports p.slot p.epoch (promised_by (serving_renew s p.slot p.epoch) p.slot p.epoch manager)) (still s)
       (λ t.
       let may : client.may_promise s.tokens p.slot p.epoch ≡ true = promise_made s p.slot p.epoch asks room t in
       let low : p.slot < slot_count = is_low p.slot (and_first (nat_lt p.slot slot_count) (nat_le (epoch_of s.tokens.epochs p.slot) p.epoch) t) in
@@ -302,16 +302,16 @@ module _ (logs : Bool) (members part limit c life room highest : ℕ) (small : p
 
   -- ---- news
 
-  hears_so : (n : Net) (s : Serving) (news : SlotNews) → (news.slot ≡ part → news.epoch ≤ limit) → At n s → Goes n (hears s news)
-  unfolding hears
-  hears_so n s news fits h = by_test (λ (d : Done). Goes n d) (is_news s news) (promised_in s news) (still s) (λ t. promised_in_so n s news fits h)
+  serving_hear_so : (n : Net) (s : Serving) (news : SlotNews) → (news.slot ≡ part → news.epoch ≤ limit) → At n s → Goes n (serving_hear s news)
+  unfolding serving_hear
+  serving_hear_so n s news fits h = by_test (λ (d : Done). Goes n d) (is_news s news) (promised_in s news) (still s) (λ t. promised_in_so n s news fits h)
       (λ t. still_so n s h)
 
   all_heard : (n : Net) (s : Serving) (slots : List SlotNews) → AllByRecursion (λ news. news.slot ≡ part → news.epoch ≤ limit) slots → At n s
-      → Goes n (steps hears s slots)
+      → Goes n (steps serving_hear s slots)
   all_heard n s [] fits h = still_so n s h
-  all_heard n s (news ∷ slots) fits h = frames.goes_on logs members part limit c life room highest n (hears s news) (steps hears (hears s news).state slots)
-      (hears_so n s news fits.0 h) (λ m k. all_heard m (hears s news).state slots fits.1 k)
+  all_heard n s (news ∷ slots) fits h = frames.goes_on logs members part limit c life room highest n (serving_hear s news) (steps serving_hear (serving_hear s news).state slots)
+      (serving_hear_so n s news fits.0 h) (λ m k. all_heard m (serving_hear s news).state slots fits.1 k)
 
   -- newer groups may settle what is in flight
   abbrev pub More : Net → Serving → Type 0
@@ -319,14 +319,14 @@ module _ (logs : Bool) (members part limit c life room highest : ℕ) (small : p
 
   regroups_so : (n : Net) (s : Serving) (newer : Bool) (groups : GroupMapState) → At n s → More n s → Goes n (regroups s newer groups)
   regroups_so n s newer groups h more =
-      by_test (λ (d : Done). Goes n d) newer (writes s (log_in.Maps groups)) (still s)
+      by_test (λ (d : Done). Goes n d) newer (serving_write s (log_in.Maps groups)) (still s)
       (λ t. writing.maps_so logs members part limit c life room highest pos less n s h more groups) (λ t. still_so n s h)
 
   takes_news_so : (n : Net) (s : Serving) (news : News) → NewsWithin part limit c n news.slots → At n s → More n s → Goes n (takes_news s news)
   unfolding takes_news
   takes_news_so n s news fits h more =
-      let t : Serving = record s { maps = taken s.maps news } in
-      let d : Done = steps hears t news.slots in
+      let t : Serving = record s { maps = maps_take s.maps news } in
+      let d : Done = steps serving_hear t news.slots in
       frames.goes_on logs members part limit c life room highest n d (regroups d.state (is_older s.maps news) news.groups)
       (all_heard n t news.slots (recursion_from_All (λ (x : SlotNews). x.slot ≡ part → x.epoch ≤ limit) news.slots fits) h)
       (λ m k. regroups_so m d.state (is_older s.maps news) news.groups k (more_then m d.state (all_heard-log t news.slots) k))

@@ -5,7 +5,7 @@ use Rattle.client_log.specs.Transition.{waits}
 use Rattle.log_flight.specs.declared.dirty.Change.{Change}
 use Rattle.token_client.specs.declared.held.Held.{Held}
 use Rattle.token_client.specs.declared.input.In.TheVariants as input
-use Rattle.token_client.specs.Held.{may_write, written}
+use Rattle.token_client.specs.Held.{may_write, held_write}
 use Rattle.token_client.specs.Laws.{IsSound}
 use Rattle.token_client.specs.State.{TokensState, held_of, with_held}
 use Rattle.token_client.specs.Transition as client
@@ -44,7 +44,7 @@ pub written_some : (t : TokensState) (block : BlockId) (value : Option (List ℕ
     → 0 < (held_of (client.on_wrote t block value).state.blocks block).ver
 unfolding client.on_wrote
 written_some t block value may =
-    let g : Held = written (held_of t.blocks block) value in
+    let g : Held = held_write (held_of t.blocks block) value in
     by_test (λ (d : client.Done). 0 < (held_of d.state.blocks block).ver) (may_write (held_of t.blocks block)) (still (with_held t block g)) (still t)
     (λ fact. subst (λ (k : Held). 0 < k.ver) (sym (held_of-put_itself block g t.blocks)) (some (held_of t.blocks block).ver)) (λ fact. contrary (sym fact
     ∙ may))
@@ -73,15 +73,15 @@ module _ (logs : Bool) (block : BlockId) (value : Option (List ℕ)) where
     h = held_of t.blocks block
 
     abbrev wrote : TokensState
-    wrote = with_held t block (written h value)
+    wrote = with_held t block (held_write h value)
 
     values : (b : BlockId) → IsValued (held_of wrote.blocks b)
-    values b = put_cases (λ b g. IsValued g) block (written h value) t.blocks (λ held. refl) valued b
+    values b = put_cases (λ b g. IsValued g) block (held_write h value) t.blocks (λ held. refl) valued b
 
     rows_are : put_row block (row_of (change_of wrote block value)) (rows_waiting l) ≡ put_row block (record { version = h.ver + 1; value = value })
         (rows_waiting l)
     rows_are = ap (λ (g : Held). put_row block (record { version = g.ver; value = value }) (rows_waiting l))
-        (held_of-put_itself block (written h value) t.blocks)
+        (held_of-put_itself block (held_write h value) t.blocks)
 
     unsettled_then : Premise logs (AllUnsettled wrote (row_in (rows_waiting (waits l block (change_of wrote block value)))) (row_in (rows_flown l.flight)))
     unsettled_then = premise_by logs (λ (p : AllUnsettled t (row_in (rows_waiting l)) (row_in (rows_flown l.flight))).

@@ -8,7 +8,7 @@ use Rattle.act_tie.specs.BlockActs.{is_adopted}
 use Rattle.client_log.specs.LogState.{LogState}
 use Rattle.log_flight.specs.declared.dirty.Change.{Change}
 use Rattle.log_flight.specs.Flights.{FlightState}
-use Rattle.token_client.specs.State.{started}
+use Rattle.token_client.specs.State.{tokens_start}
 use Rattle.token_law.specs.Books.{Books, sealed, filed, discarded, reopened, with_empty}
 use Rattle.token_law.specs.Owed.{IsNeutral, adopts}
 use Rattle.token_protocol.specs.Basics.{put}
@@ -100,7 +100,7 @@ other_with_empty (suc count) k c l other =
 -- ---- a log in which nothing waits or flies, beside tokens of which nothing is known
 
 module _ (k : Books) (c inc : ℕ) (epochs : List ℕ) (rests : Rests k c) where
-  empty_agrees : (l : LogState) → l.end.seq ≡ k.end c → LogAgrees k c (started inc epochs) (record l { dirty = []; flight = None })
+  empty_agrees : (l : LogState) → l.end.seq ≡ k.end c → LogAgrees k c (tokens_start inc epochs) (record l { dirty = []; flight = None })
   empty_agrees l end = record {
     seen = record { end = sym end; flying = rests.flying; flight = tt };
     said = rests.blank (suc (k.end c)) (next (k.end c));
@@ -117,10 +117,10 @@ module _ (k : Books) (c inc : ℕ) (epochs : List ℕ) (rests : Rests k c) where
       next : (e : ℕ) → e < suc e
       next e = omega arith
 
-  pub opened_agrees : (l : LogState) → l.dirty ≡ [] → l.flight ≡ None → l.end.seq ≡ k.end c → LogAgrees k c (started inc epochs) l
+  pub opened_agrees : (l : LogState) → l.dirty ≡ [] → l.flight ≡ None → l.end.seq ≡ k.end c → LogAgrees k c (tokens_start inc epochs) l
   opened_agrees l waits flies end =
-      subst (λ (d : List (BlockId × Change)). LogAgrees k c (started inc epochs) (record l { dirty = d })) (sym waits)
-      (subst (λ (o : Option FlightState). LogAgrees k c (started inc epochs) (record l { dirty = []; flight = o })) (sym flies) (empty_agrees l end))
+      subst (λ (d : List (BlockId × Change)). LogAgrees k c (tokens_start inc epochs) (record l { dirty = d })) (sym waits)
+      (subst (λ (o : Option FlightState). LogAgrees k c (tokens_start inc epochs) (record l { dirty = []; flight = o })) (sym flies) (empty_agrees l end))
 
 -- ---- acts that change no history
 

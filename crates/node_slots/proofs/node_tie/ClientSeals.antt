@@ -215,8 +215,8 @@ module _ (logs : Bool) (members part limit c life room highest : ℕ) where
       idle_flies : LogStands k c l → k.flying c ≡ false
       idle_flies x = x.seen.flying ∙ ap (λ (o : Option FlightState). is_some o) idle
 
-      logged_then : Premise logs (LogStands (sealed k c rows) c (log.sealed l).state)
-      unfolding log.sealed log.launched
+      logged_then : Premise logs (LogStands (sealed k c rows) c (log.log_seal l).state)
+      unfolding log.log_seal log.log_launch
       logged_then = premise_by logs (λ (x : LogStands k c l). record {
         seen = record { end = x.seen.end; flying = put_here k.flying c true; flight = (next_is l.end.seq, said_now k c rows) };
         said = said_now k c rows;
@@ -227,8 +227,8 @@ module _ (logs : Bool) (members part limit c life room highest : ℕ) where
         flies_some = subst AreVersions (sym rows_are) (some_taken segment_blocks (rows_waiting l) x.waits_some);
       }) h.logged
 
-      pub sealed_passes : Passes n t (log.sealed l).state number inc
-      unfolding log.sealed log.launched
+      pub sealed_passes : Passes n t (log.log_seal l).state number inc
+      unfolding log.log_seal log.log_launch
       sealed_passes = record {
         next = after_seal;
         grown = record {
@@ -241,7 +241,7 @@ module _ (logs : Bool) (members part limit c life room highest : ℕ) where
           acts = (grown_still logs members part c n).acts;
           own = premise_by logs (λ (x : LogStands k c l). onward_sealed k c rows (idle_flies x)) h.logged;
         };
-        stands = stands_beside n (sealed k c rows) t l (log.sealed l).state number inc (λ b. (
+        stands = stands_beside n (sealed k c rows) t l (log.log_seal l).state number inc (λ b. (
           (h.bears.held b).0,
           premise_at logs (λ b. IsUnsettled (held_of t.blocks b) (row_in (map told (drop segment_blocks l.dirty)) b) (row_in rows b)) unsettled b,
         )) logged_then h.numbers h;
@@ -254,15 +254,15 @@ module _ (logs : Bool) (members part limit c life room highest : ℕ) where
     pub on_seal_passes : (n : Net) (t : TokensState) (l : LogState) (number inc : ℕ) → Stands n t l number inc → Passes n t (log.on_seal l).state number inc
     unfolding log.on_seal
     on_seal_passes n t l number inc h =
-        by_test (λ (d : log.Done). Passes n t d.state number inc) (log.is_idle l && nat_lt 0 (length l.dirty) && log.has_next l.end.seq) (log.sealed l)
+        by_test (λ (d : log.Done). Passes n t d.state number inc) (log.is_idle l && nat_lt 0 (length l.dirty) && log.has_next l.end.seq) (log.log_seal l)
         (still l)
         (λ x. sealed_passes n t l number inc
         (idle_is l.flight
         (and_first (log.is_idle l) (nat_lt 0 (length l.dirty)) (and_first (log.is_idle l && nat_lt 0 (length l.dirty)) (log.has_next l.end.seq) x))) h)
         (λ x. passes_still n t l number inc h)
 
-    pub if_full_passes : (n : Net) (t : TokensState) (l : LogState) (number inc : ℕ) → Stands n t l number inc → Passes n t (log.if_full l).state number inc
-    unfolding log.if_full
-    if_full_passes n t l number inc h =
-        by_test (λ (d : log.Done). Passes n t d.state number inc) (log.is_full l) (log.sealed l) (still l)
+    pub log_go_on_passes : (n : Net) (t : TokensState) (l : LogState) (number inc : ℕ) → Stands n t l number inc → Passes n t (log.log_go_on l).state number inc
+    unfolding log.log_go_on
+    log_go_on_passes n t l number inc h =
+        by_test (λ (d : log.Done). Passes n t d.state number inc) (log.is_full l) (log.log_seal l) (still l)
         (λ x. sealed_passes n t l number inc (idle_is l.flight (and_first (log.is_idle l) _ x)) h) (λ x. passes_still n t l number inc h)

@@ -7,20 +7,20 @@ use Rattle.std.proofs.lemmas.Bool.{leb-true}
 use Rattle.client_log.specs.declared.input.In.TheVariants as log_in
 use Rattle.client_node.specs.declared.phase.Phase.TheVariants.{Serving as Serves}
 use Rattle.client_call.specs.declared.call.Going.{Going}
-use Rattle.client_call.specs.Reads.{fetches_again, reading_in}
+use Rattle.client_call.specs.Reads.{fetch_again, reading_in}
 use Rattle.client_serving.specs.declared.serving.Serving.{Serving}
-use Rattle.client_serving.specs.Flights.{writes}
-use Rattle.client_serving.specs.Follow.{hands}
-use Rattle.client_running.specs.Opens.{begins_call, call_at, opens}
-use Rattle.client_serving.specs.Packets.{on_body, on_packet, asks_for_maps, on_tick}
-use Rattle.client_running.specs.Running.{goes_on, runs}
+use Rattle.client_serving.specs.Flights.{serving_write}
+use Rattle.client_serving.specs.Follow.{hand}
+use Rattle.client_running.specs.Opens.{begin_call, call_at, opens}
+use Rattle.client_serving.specs.Packets.{take_body, serving_take, asks_for_maps, on_tick}
+use Rattle.client_running.specs.Running.{running_go_on, run}
 use Rattle.client_serving.specs.Sends.{Done, gives}
 use Rattle.log_flight.specs.Flights.{FlightState}
-use Rattle.log_owner.specs.Sending.{pushes_all}
-use Rattle.node_base.specs.Beginning.{work_at, waiting}
+use Rattle.log_owner.specs.Sending.{push_all}
+use Rattle.node_base.specs.Beginning.{work_at, items_wait}
 use Rattle.node_base.specs.declared.effects.Effect.{Effect}
 use Rattle.node_base.specs.declared.effects.Effect.TheVariants.{Answer as Answers}
-use Rattle.node_base.specs.Known.{names_known}
+use Rattle.node_base.specs.Known.{names_known_groups}
 use Rattle.node_base.specs.Room.{has_room}
 use Rattle.segment_reading.specs.Reading.{ReadingState}
 use Rattle.token_client.specs.declared.held.Giving.{Giving}
@@ -73,7 +73,7 @@ module _ (logs : Bool) (members part limit c life highest : ℕ) (small : part <
 
   -- what is done, and then the open call runs
   abbrev pub and_runs : Done → Done
-  and_runs d = saying d.outs (runs d.state)
+  and_runs d = saying d.outs (run d.state)
 
   runs_after : (n : Net) (d : Done) → Goes n d → Goes n (and_runs d)
   runs_after n d p = own.runs_after logs members part limit c life 0 highest pos less n d p
@@ -86,7 +86,7 @@ module _ (logs : Bool) (members part limit c life highest : ℕ) (small : part <
 
   body_so : (n : Net) (s : Serving) (p : Packet) (b : Body) → GetsBody part limit c n (Serves s) b → Premise logs (ServingReads part limit c n s p b)
       → AsksForCall s
-      → has_room s.tokens.req ≡ true → Before n s → Goes n (and_runs (on_body s p.from b))
+      → has_room s.tokens.req ≡ true → Before n s → Goes n (and_runs (take_body s p.from b))
   body_so n s p (body.Grant m) gets reads asks room h = own.on_grant_so logs members part limit c life 0 highest pos less n s m h.here asks gets
   body_so n s p (body.Supply m) gets reads asks room h =
       runs_after n _ (hearing.on_supply_so logs members part limit c life 0 highest pos less n s m h.here gets)
@@ -111,26 +111,26 @@ module _ (logs : Bool) (members part limit c life highest : ℕ) (small : part <
   body_so n s p _ gets reads asks room h = just_runs n s h
 
   pub packet_so : (n : Net) (s : Serving) (p : Packet) → ClientGets logs part limit c n (Serves s) p → AsksForCall s → has_room s.tokens.req ≡ true → Before n s
-      → Goes n (and_runs (on_packet s p))
-  unfolding on_packet
+      → Goes n (and_runs (serving_take s p))
+  unfolding serving_take
   packet_so n s p gets asks room h =
-      by_test (λ (d : Done). Goes n (and_runs d)) (names_known s.maps p.body) (on_body s p.from p.body) (asks_for_maps s)
+      by_test (λ (d : Done). Goes n (and_runs d)) (names_known_groups s.maps p.body) (take_body s p.from p.body) (asks_for_maps s)
       (λ t. body_so n s p p.body gets.brings gets.reads asks room h)
       (λ t. runs_after n (asks_for_maps s) (hearing.asks_for_maps_so logs members part limit c life 0 highest pos less n s h.here))
 
   -- ---- time
 
-  plain_again : (r : Option ReadingState) → frames.Plain part c life (fetches_again r)
+  plain_again : (r : Option ReadingState) → frames.Plain part c life (fetch_again r)
   plain_again None = All-nil (frames.May part c life)
   plain_again (Some r) = tokens.plain_fetches part c life r
 
   tick_so : (n : Net) (s : Serving) → Before n s → Goes n (on_tick s)
   unfolding on_tick
   tick_so n s h =
-      let w : Done = hands s input.Tick in
-      let l : Done = writes w.state log_in.Tick in
-      let fetched : List Effect = fetches_again (reading_in w.state.call) in
-      let pushed : List Effect = pushes_all l.state.managers l.state.feed in
+      let w : Done = hand s input.Tick in
+      let l : Done = serving_write w.state log_in.Tick in
+      let fetched : List Effect = fetch_again (reading_in w.state.call) in
+      let pushed : List Effect = push_all l.state.managers l.state.feed in
       frames.goes_on logs members part limit c life 0 highest n w (gives l.state (fetched ++ (l.outs ++ pushed)))
       (tokens.hands_own logs members part limit c life 0 highest pos less n s input.Tick tt (λ u. refl) tt h.here)
       (λ m k. frames.goes_after logs members part limit c life 0 highest m w.state fetched (gives l.state (l.outs ++ pushed))
@@ -148,18 +148,18 @@ module _ (logs : Bool) (members part limit c life highest : ℕ) (small : part <
   says_so n s number a h = frames.goes_plain logs members part limit c life 0 highest n s (Answers number a ∷ []) h.here
       (All-cons (frames.May part c life) (Answers number a) [] tt (All-nil (frames.May part c life)))
 
-  begins_so : (n : Net) (s : Serving) (number : ℕ) (going : Option Going) → Before n s → Goes n (begins_call s number going)
+  begins_so : (n : Net) (s : Serving) (number : ℕ) (going : Option Going) → Before n s → Goes n (begin_call s number going)
   begins_so n s number None h = says_so n s number answer.Done h
   begins_so n s number (Some going) h =
-      let d : Done = goes_on (record s { lasting = record s.lasting { items = waiting s.lasting.items number } }) going in
-      runs_after n d (blocks.goes_on_so logs members part limit c life 0 highest pos less n
-      (record s { lasting = record s.lasting { items = waiting s.lasting.items number } }) going h.here)
+      let d : Done = running_go_on (record s { lasting = record s.lasting { items = items_wait s.lasting.items number } }) going in
+      runs_after n d (blocks.running_go_on_so logs members part limit c life 0 highest pos less n
+      (record s { lasting = record s.lasting { items = items_wait s.lasting.items number } }) going h.here)
 
   pub opens_so : (n : Net) (s : Serving) (number : ℕ) → Before n s → Goes n (opens s number)
   unfolding opens
   opens_so n s number h =
       by_test (λ (d : Done). Goes n d) (is_some s.lasting.items.unanswered) (gives s (Answers number answer.Busy ∷ []))
-      (begins_call s number (call_at s number (work_at s.lasting.items number)))
+      (begin_call s number (call_at s number (work_at s.lasting.items number)))
       (λ t. says_so n s number answer.Busy h) (λ t. begins_so n s number (call_at s number (work_at s.lasting.items number)) h)
 
 -- ---- as the small world sees it

@@ -4,14 +4,14 @@ use Rattle.std.proofs.lemmas.Bool.Decides.{nat_tests}
 use Rattle.std.proofs.lemmas.List.Elements.{All-nil, All-cons}
 use Rattle.client_node.specs.declared.phase.Phase.TheVariants.{Down, Opening, Serving as Serves}
 use Rattle.client_node.specs.declared.phase.Phase.{Phase}
-use Rattle.client_node.specs.Phases.{Went_to, owner_of, restarted, back, answers, wish_of, down_begins, lasting_of}
+use Rattle.client_node.specs.Phases.{Went_to, owner_of, restart, back, answers, wish_of, down_begins, lasting_of}
 use Rattle.client_serving.specs.declared.lasting.Lasting.{Lasting}
-use Rattle.client_serving.specs.Lasting.{next_life}
+use Rattle.client_serving.specs.Lasting.{live_on}
 use Rattle.log_flight.specs.Flights.{FlightState}
 use Rattle.log_owner.specs.Opening as opening
 use Rattle.log_owner.specs.Opening.{Went}
 use Rattle.log_owner.proofs.Behaving as behaving
-use Rattle.node_base.specs.Beginning.{begun}
+use Rattle.node_base.specs.Beginning.{items_begin}
 use Rattle.node_base.specs.declared.effects.Effect.{Effect}
 use Rattle.node_base.specs.declared.effects.Effect.TheVariants.{Answer as Answers}
 use Rattle.node_base.specs.Effects.{acts_of}
@@ -38,7 +38,7 @@ use Rattle.node_slots.proofs.node_tie.SmallWorld.{premise}
 -- ---- tests
 
 -- the next incarnation is a later one
-raised : (l : Lasting) (number : ℕ) → has_room l.inc ≡ true → l.inc < (next_life l number).inc
+raised : (l : Lasting) (number : ℕ) → has_room l.inc ≡ true → l.inc < (live_on l number).inc
 raised l number room = above l.inc room
   where
     above : (k : ℕ) → has_room k ≡ true → k < cond (nat_lt k u32_end) (k + 1) k
@@ -124,12 +124,12 @@ module _ (logs : Bool) (members part limit c : ℕ) (small : part < slot_count) 
   -- ---- one that is down
 
   module _ (l : Lasting) (sees : SeesDown logs part c n l) (h : ClientStands part limit c n (Down l)) where
-    restarted_so : (servers number : ℕ) → has_room l.inc ≡ true → Goes (Down l) (restarted servers (next_life (record l { items = begun l.items }) number))
-    restarted_so servers number room =
-        let life : Lasting = next_life (record l { items = begun l.items }) number in
+    restart_so : (servers number : ℕ) → has_room l.inc ≡ true → Goes (Down l) (restart servers (live_on (record l { items = items_begin l.items }) number))
+    restart_so servers number room =
+        let life : Lasting = live_on (record l { items = items_begin l.items }) number in
         let w : Went = opening.on_start (owner_of life) servers life.questions in
-        let later : l.inc < life.inc = raised (record l { items = begun l.items }) number room in
-        stays_so (Down l) (restarted servers life).state w.effects
+        let later : l.inc < life.inc = raised (record l { items = items_begin l.items }) number room in
+        stays_so (Down l) (restart servers life).state w.effects
         (record {
           up = sees.up;
           number = sees.number;
@@ -141,15 +141,15 @@ module _ (logs : Bool) (members part limit c : ℕ) (small : part < slot_count) 
         h.within (inl refl) (omega arith) later tt (premise logs refl) (plain_does part c life.inc (owner_of life) refl w.effects
         (behaving.begin_so (owner_of life) servers life.questions).does)
 
-    down_answers : (number : ℕ) (a : Answer) → Goes (Down l) (answers (Down (record l { items = begun l.items })) number a)
+    down_answers : (number : ℕ) (a : Answer) → Goes (Down l) (answers (Down (record l { items = items_begin l.items })) number a)
     down_answers number a =
-        stays_so (Down l) (Down (record l { items = begun l.items })) (Answers number a ∷ [])
+        stays_so (Down l) (Down (record l { items = items_begin l.items })) (Answers number a ∷ [])
         (record { up = sees.up; number = sees.number; inc = sees.inc; beyond = sees.beyond })
         h.within tt (omega arith) tt tt (premise logs refl) (answered_one l.inc number a)
 
     pub down_begins_so : (servers number : ℕ) (w : Option Work) → has_room l.inc ≡ true
-        → Goes (Down l) (down_begins servers (record l { items = begun l.items }) number (wish_of w))
-    down_begins_so servers number (Some (work.Restart node)) room = restarted_so servers number room
+        → Goes (Down l) (down_begins servers (record l { items = items_begin l.items }) number (wish_of w))
+    down_begins_so servers number (Some (work.Restart node)) room = restart_so servers number room
     down_begins_so servers number (Some (work.Crash node)) room = down_answers number answer.Down
     down_begins_so servers number (Some _) room = down_answers number answer.Down
     down_begins_so servers number None room = down_answers number answer.Down

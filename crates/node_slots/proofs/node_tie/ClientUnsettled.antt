@@ -3,7 +3,7 @@
 use Rattle.std.proofs.Common.{◌≡◌, ◌⊎◌, inl, inr, ℕ, ◌+◌, ◌<◌, ◌≤◌, Bool, true, false, cond, nat_lt, List, [], ◌∷◌, take, drop, Option, refl, sym, ap, subst, ◌∙◌, arith}
 use Rattle.std.proofs.lemmas.Bool.Decides.{nat_tests}
 use Rattle.token_client.specs.declared.held.Held.{Held}
-use Rattle.token_client.specs.Held.{is_dirty, is_settled_by, version_settled, written}
+use Rattle.token_client.specs.Held.{is_dirty, is_settled_by, version_settled, held_write}
 use Rattle.token_client.specs.State.{TokensState, held_of, put_held, with_held}
 use Rattle.token_client.specs.Transition.{Done, on_settled}
 use Rattle.token_client.proofs.Tables.{put_each, held_of-put_itself}
@@ -73,7 +73,7 @@ module _ (w f : Row) where
 
   -- it is written, and waits
   pub stays_written : (h : Held) (value : Option (List ℕ)) → h.settled ≤ h.ver → IsUnsettled h w f
-      → IsUnsettled (written h value) (record { version = h.ver + 1; value = value }) f
+      → IsUnsettled (held_write h value) (record { version = h.ver + 1; value = value }) f
   stays_written h value below p = record {
     newest = inr (dirty h.settled h.ver below, refl, refl);
     unflown = inr (under p.flown);
@@ -281,11 +281,11 @@ rows_settled t w (r ∷ rows) once p = rows_settled (on_settled t r.0 r.1.versio
 pub all_written : (t : TokensState) (k : BlockId) (value : Option (List ℕ)) (rows : Rows) (f : BlockId → Row)
     → (held_of t.blocks k).settled ≤ (held_of t.blocks k).ver
     → AllUnsettled t (row_in rows) f
-    → AllUnsettled (with_held t k (written (held_of t.blocks k) value))
+    → AllUnsettled (with_held t k (held_write (held_of t.blocks k) value))
     (row_in (put_row k (record { version = (held_of t.blocks k).ver + 1; value = value }) rows)) f
 all_written t k value rows f below p =
-    put_cases (λ b h. IsUnsettled h (row_in (put_row k new rows) b) (f b)) k (written (held_of t.blocks k) value) t.blocks
-    (subst (λ (w : Row). IsUnsettled (written (held_of t.blocks k) value) w (f k))
+    put_cases (λ b h. IsUnsettled h (row_in (put_row k new rows) b) (f b)) k (held_write (held_of t.blocks k) value) t.blocks
+    (subst (λ (w : Row). IsUnsettled (held_write (held_of t.blocks k) value) w (f k))
     (sym (said_put k new k rows ∙ ap (λ x. cond x new (row_in rows k)) (same_block_itself k)))
     (stays_written (row_in rows k) (f k) (held_of t.blocks k) value below (p k)))
     (λ b other. subst (λ (w : Row). IsUnsettled (held_of t.blocks b) w (f b)) (sym (said_put k new b rows ∙ ap (λ x. cond x new (row_in rows b)) other)) (p b))

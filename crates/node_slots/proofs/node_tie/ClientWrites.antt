@@ -10,8 +10,8 @@ use Rattle.client_log.specs.declared.output.Out.TheVariants.{Send, Settled}
 use Rattle.client_log.specs.LogState.{LogState}
 use Rattle.client_log.specs.Transition as log
 use Rattle.client_serving.specs.declared.serving.Serving.{Serving}
-use Rattle.client_serving.specs.Flights.{settles, writes_one, seals_again, writes}
-use Rattle.client_serving.specs.Follow.{seals}
+use Rattle.client_serving.specs.Flights.{serving_settle, write_one, seals_again, serving_write}
+use Rattle.client_serving.specs.Follow.{serving_seal}
 use Rattle.client_serving.specs.Sends.{Done}
 use Rattle.group_map.specs.declared.group.Member.{Member}
 use Rattle.group_map.specs.GroupMapState.{GroupMapState}
@@ -39,7 +39,7 @@ use Rattle.node_slots.specs.node_tie.LogRows.{rows_told}
 use Rattle.node_slots.proofs.node_tie.ClientFiling.{filed_passes}
 use Rattle.node_slots.proofs.node_tie.ClientFlights.{settles_from}
 use Rattle.node_slots.proofs.node_tie.ClientFrames as frames
-use Rattle.node_slots.proofs.node_tie.ClientSeals.{if_full_passes, notes_settled_are, reflown, regrouped, stands_any}
+use Rattle.node_slots.proofs.node_tie.ClientSeals.{log_go_on_passes, notes_settled_are, reflown, regrouped, stands_any}
 use Rattle.node_slots.proofs.node_tie.ClientTokens as tokens
 use Rattle.node_slots.proofs.node_tie.SmallWorld.{premise_by}
 
@@ -56,17 +56,17 @@ all_sent : (f : FlightState) (ms : List Member) (place : ℕ) → AllByRecursion
 all_sent f [] place = tt
 all_sent f (m ∷ ms) place = one_sent f m place (log.sends f ms (place + 1)) (all_sent f ms (place + 1))
 
-sealed-sends : (l : LogState) → AllByRecursion IsSend (log.sealed l).outs
-unfolding log.sealed log.launched log.all_sends
-sealed-sends l =
+log_seal-sends : (l : LogState) → AllByRecursion IsSend (log.log_seal l).outs
+unfolding log.log_seal log.log_launch log.sending_send
+log_seal-sends l =
     let f : FlightState =
     flights.flown (log.next_name l) (log.prior_from l.end) (items_of 0 (take segment_blocks l.dirty))
     (flights.group_for l.groups l.log.0 (log.next_name l).seq) in
     all_sent f f.group.members 0
 
-if_full-sends : (l : LogState) → AllByRecursion IsSend (log.if_full l).outs
-unfolding log.if_full
-if_full-sends l = by_test (λ (d : log.Done). AllByRecursion IsSend d.outs) (log.is_full l) (log.sealed l) (still l) (λ t. sealed-sends l) (λ t. tt)
+log_go_on-sends : (l : LogState) → AllByRecursion IsSend (log.log_go_on l).outs
+unfolding log.log_go_on
+log_go_on-sends l = by_test (λ (d : log.Done). AllByRecursion IsSend d.outs) (log.is_full l) (log.log_seal l) (still l) (λ t. log_seal-sends l) (λ t. tt)
 
 module _ (logs : Bool) (members part limit c life room highest : ℕ) (pos : 0 < c) (less : c < members) where
   abbrev At : Net → Serving → Type 0
@@ -75,29 +75,29 @@ module _ (logs : Bool) (members part limit c life room highest : ℕ) (pos : 0 <
   abbrev Goes : Net → Done → Type 0
   Goes n d = frames.Goes logs members part limit c life room highest n d
 
-  sends_so : (n : Net) (s : Serving) (outs : List Out) → AllByRecursion IsSend outs → At n s → Goes n (steps writes_one s outs)
-  unfolding writes_one
+  sends_so : (n : Net) (s : Serving) (outs : List Out) → AllByRecursion IsSend outs → At n s → Goes n (steps write_one s outs)
+  unfolding write_one
   sends_so n s [] all h = frames.goes_still logs members part limit c life room highest n s h
   sends_so n s (Send fragment member ∷ outs) all h =
-      frames.goes_after logs members part limit c life room highest n s (store fragment member ∷ []) (steps writes_one s outs)
+      frames.goes_after logs members part limit c life room highest n s (store fragment member ∷ []) (steps write_one s outs)
       (All-cons (frames.May part c life) (store fragment member) [] tt (All-nil (frames.May part c life))) h (λ m k. sends_so m s outs all.1 k)
   sends_so n s (Settled end rows ∷ outs) all h = absurd all.0
 
   seals_again_so : (n : Net) (s : Serving) (settling : Bool) → At n s → Goes n (seals_again s settling)
   seals_again_so n s settling h =
-      by_test (λ (d : Done). Goes n d) (settling && is_giving s.tokens) (seals s) (still s)
-      (λ t. (tokens.seals_so logs members part limit c life room highest pos less n s s.log.end.seq refl h).goes)
+      by_test (λ (d : Done). Goes n d) (settling && is_giving s.tokens) (serving_seal s) (still s)
+      (λ t. (tokens.serving_seal_so logs members part limit c life room highest pos less n s s.log.end.seq refl h).goes)
       (λ t. frames.goes_still logs members part limit c life room highest n s h)
 
   -- what the log did is done
   abbrev Wrote : Net → Serving → log.Done → Type 0
-  Wrote n s r = Goes n (steps writes_one (record s { log = r.state }) r.outs)
+  Wrote n s r = Goes n (steps write_one (record s { log = r.state }) r.outs)
 
-  writes_from : (n : Net) (s : Serving) (i : In) → Wrote n s (log.transition s.log i) → Goes n (writes s i)
-  unfolding writes
+  writes_from : (n : Net) (s : Serving) (i : In) → Wrote n s (log.transition s.log i) → Goes n (serving_write s i)
+  unfolding serving_write
   writes_from n s i p =
       let r : log.Done = log.transition s.log i in
-      let d : Done = steps writes_one (record s { log = r.state }) r.outs in
+      let d : Done = steps write_one (record s { log = r.state }) r.outs in
       frames.goes_on logs members part limit c life room highest n d (seals_again d.state (list_any is_settling r.outs)) p
       (λ m k. seals_again_so m d.state (list_any is_settling r.outs) k)
 
@@ -106,13 +106,13 @@ module _ (logs : Bool) (members part limit c life room highest : ℕ) (pos : 0 <
   only_sends n s r all h = sends_so n (record s { log = r.state }) r.outs all h
 
   -- a full log is sealed
-  if_full_so : (n : Net) (s : Serving) (l : LogState) → At n (record s { log = l }) → Wrote n s (log.if_full l)
-  if_full_so n s l h =
-      let k : frames.Passes logs members part limit c life room highest n s.tokens (log.if_full l).state s.lasting.number s.lasting.inc =
-      if_full_passes logs members part limit c life room highest pos less n s.tokens l s.lasting.number s.lasting.inc h in
+  log_go_on_so : (n : Net) (s : Serving) (l : LogState) → At n (record s { log = l }) → Wrote n s (log.log_go_on l)
+  log_go_on_so n s l h =
+      let k : frames.Passes logs members part limit c life room highest n s.tokens (log.log_go_on l).state s.lasting.number s.lasting.inc =
+      log_go_on_passes logs members part limit c life room highest pos less n s.tokens l s.lasting.number s.lasting.inc h in
       frames.goes_from logs members part limit c life room highest n k.next
-      (steps writes_one (record s { log = (log.if_full l).state }) (log.if_full l).outs) k.grown
-      (only_sends k.next s (log.if_full l) (if_full-sends l) k.stands)
+      (steps write_one (record s { log = (log.log_go_on l).state }) (log.log_go_on l).outs) k.grown
+      (only_sends k.next s (log.log_go_on l) (log_go_on-sends l) k.stands)
 
   -- ---- a block waits
 
@@ -121,7 +121,7 @@ module _ (logs : Bool) (members part limit c life room highest : ℕ) (pos : 0 <
   unfolding log.on_put
   put_so n s block change h =
       let m : LogState = log.waits s.log block change in
-      by_test (λ (r : log.Done). Wrote n s r) (log.can_go_on m) (log.if_full m) (still s.log) (λ t. if_full_so n s m h)
+      by_test (λ (r : log.Done). Wrote n s r) (log.can_go_on m) (log.log_go_on m) (still s.log) (λ t. log_go_on_so n s m h)
       (λ t. frames.goes_still logs members part limit c life room highest n s
       (stands_any logs members part limit c life room highest n s.tokens m s.log s.lasting.number s.lasting.inc
       (premise_by logs (λ (left : frames.HasNumbers m.end.seq room highest). absurd (stuck m t left)) h.numbers) h))
@@ -134,7 +134,7 @@ module _ (logs : Bool) (members part limit c life room highest : ℕ) (pos : 0 <
 
   -- what waits already is written, once the tokens and the log have it
   pub puts_from : (n : Net) (s : Serving) (block : BlockId) (entry : Entry) (value : Option (List ℕ))
-      → At n (record s { log = log.waits s.log block (record { entry = entry; value = value }) }) → Goes n (writes s (log_in.Put block entry value))
+      → At n (record s { log = log.waits s.log block (record { entry = entry; value = value }) }) → Goes n (serving_write s (log_in.Put block entry value))
   puts_from n s block entry value h = writes_from n s (log_in.Put block entry value) (put_so n s block (record { entry = entry; value = value }) h)
 
   -- ---- what is in flight goes on, or is settled
@@ -152,34 +152,34 @@ module _ (logs : Bool) (members part limit c life room highest : ℕ) (pos : 0 <
         (frames.stands_less logs members part limit c life room highest n s.tokens (record l { flight = Some f }) s.lasting.number s.lasting.inc h)
 
     restriped_so : Wrote n s (log.restriped l f)
-    unfolding log.restriped log.launched log.all_sends
+    unfolding log.restriped log.log_launch log.sending_send
     restriped_so =
         let g : FlightState = flights.flown (log.next_attempt f.segment.name) f.segment.prior f.segment.items
         (flights.group_for l.groups l.log.0 f.segment.name.seq) in
         only_sends n s (log.restriped l f) (all_sent g g.group.members 0) (flies_so g refl refl)
 
     settled_so : Wrote n s (log.settled l f)
-    unfolding log.settled writes_one
+    unfolding log.settled write_one
     settled_so =
-        let end : End = log.end_from f.segment in
+        let end : End = log.end_of f.segment in
         let rows : List (BlockId × Entry) = rows_of f.segment in
-        let full : log.Done = log.if_full (log.landed l f) in
+        let full : log.Done = log.log_go_on (log.landed l f) in
         let behind : Serving = record s { log = full.state } in
         let filed : frames.Passes logs members part limit c life room highest n (all_settled s.tokens (rows_told f.segment.items))
         (log.landed l f) s.lasting.number s.lasting.inc =
         filed_passes logs members part limit c life room highest pos less n s.tokens l f s.lasting.number s.lasting.inc h in
         let k : frames.Passes logs members part limit c life room highest filed.next
         (all_settled s.tokens (rows_told f.segment.items)) full.state s.lasting.number s.lasting.inc =
-        if_full_passes logs members part limit c life room highest pos less filed.next (all_settled s.tokens (rows_told f.segment.items))
+        log_go_on_passes logs members part limit c life room highest pos less filed.next (all_settled s.tokens (rows_told f.segment.items))
         (log.landed l f) s.lasting.number
         s.lasting.inc filed.stands in
-        let settling : Done = settles behind end rows in
-        frames.goes_from logs members part limit c life room highest n k.next (saying settling.outs (steps writes_one settling.state full.outs))
+        let settling : Done = serving_settle behind end rows in
+        frames.goes_from logs members part limit c life room highest n k.next (saying settling.outs (steps write_one settling.state full.outs))
         (frames.grown_on logs members part c n filed.next k.next [] [] filed.grown k.grown)
-        (frames.goes_on logs members part limit c life room highest k.next settling (steps writes_one settling.state full.outs)
+        (frames.goes_on logs members part limit c life room highest k.next settling (steps write_one settling.state full.outs)
         (settles_from logs members part limit c life room highest pos less k.next behind end rows
         (subst (At k.next) (sym (notes_settled_are behind f.segment)) k.stands))
-        (λ m i. sends_so m settling.state full.outs (if_full-sends (log.landed l f)) i))
+        (λ m i. sends_so m settling.state full.outs (log_go_on-sends (log.landed l f)) i))
 
     followed_so : (before : LogState) → At n (record s { log = before }) → (fate : Fate)
         → Wrote n s (cond (log.can_follow l f fate) (log.followed l f fate) (still before))
@@ -204,14 +204,14 @@ module _ (logs : Bool) (members part limit c life room highest : ℕ) (pos : 0 <
 
     abbrev ticked : Option FlightState → log.Done
     ticked None = still s.log
-    ticked (Some f) = record { state = s.log; outs = log.all_sends f }
+    ticked (Some f) = record { state = s.log; outs = log.sending_send f }
 
     ticked_so : (o : Option FlightState) → Wrote n s (ticked o)
-    unfolding log.all_sends
+    unfolding log.sending_send
     ticked_so None = still_logged
     ticked_so (Some f) = only_sends n s (ticked (Some f)) (all_sent f f.group.members 0) here
 
-    pub ticks_so : Goes n (writes s log_in.Tick)
+    pub ticks_so : Goes n (serving_write s log_in.Tick)
     unfolding log.on_tick
     ticks_so = writes_from n s log_in.Tick (ticked_so s.log.flight)
 
@@ -222,14 +222,14 @@ module _ (logs : Bool) (members part limit c life room highest : ℕ) (pos : 0 <
 
       abbrev acked : SegName → ℕ → ℕ → Option FlightState → log.Done
       acked name index generation None = still s.log
-      acked name index generation (Some f) = if flights.is_of f name index generation then log.looked_at s.log s.log (flights.noting f index) else still s.log
+      acked name index generation (Some f) = if flights.is_of f name index generation then log.looked_at s.log s.log (flights.flight_note f index) else still s.log
 
       acked_so : (name : SegName) (index generation : ℕ) (o : Option FlightState) → s.log.flight ≡ o → Wrote n s (acked name index generation o)
       acked_so name index generation None fact = still_logged
       acked_so name index generation (Some f) fact =
-          by_test (λ (r : log.Done). Wrote n s r) (flights.is_of f name index generation) (log.looked_at s.log s.log (flights.noting f index)) (still s.log)
-          (λ t. looked_so n s s.log (flights.noting f index)
-          (reflown logs members part limit c life (room + 1) highest n s.tokens s.log f (flights.noting f index) s.lasting.number s.lasting.inc refl refl
+          by_test (λ (r : log.Done). Wrote n s r) (flights.is_of f name index generation) (log.looked_at s.log s.log (flights.flight_note f index)) (still s.log)
+          (λ t. looked_so n s s.log (flights.flight_note f index)
+          (reflown logs members part limit c life (room + 1) highest n s.tokens s.log f (flights.flight_note f index) s.lasting.number s.lasting.inc refl refl
           (flying f fact))
           s.log here)
           (λ t. still_logged)
@@ -247,10 +247,10 @@ module _ (logs : Bool) (members part limit c life room highest : ℕ) (pos : 0 <
           (regrouped logs members part limit c life (room + 1) highest n s.tokens (record s.log { flight = Some f }) groups s.lasting.number s.lasting.inc
           (flying f fact)) s.log here
 
-      pub acks_so : (name : SegName) (index generation : ℕ) → Goes n (writes s (log_in.Acked name index generation))
+      pub acks_so : (name : SegName) (index generation : ℕ) → Goes n (serving_write s (log_in.Acked name index generation))
       unfolding log.on_acked
       acks_so name index generation = writes_from n s (log_in.Acked name index generation) (acked_so name index generation s.log.flight refl)
 
-      pub maps_so : (groups : GroupMapState) → Goes n (writes s (log_in.Maps groups))
+      pub maps_so : (groups : GroupMapState) → Goes n (serving_write s (log_in.Maps groups))
       unfolding log.on_maps
       maps_so groups = writes_from n s (log_in.Maps groups) (mapped_so groups s.log.flight refl)

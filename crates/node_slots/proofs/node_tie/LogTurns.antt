@@ -29,8 +29,8 @@ flies_seen k l s t f flying end same fact flown = record {
 
 -- a log that is sealed has the next segment in flight
 pub seal_seen : (k : Books) (l : ℕ) (s : LogState) → LogSeen k l s
-    → LogSeen (sealed k l (rows_told (items_of 0 (take segment_blocks s.dirty)))) l (log.sealed s).state
-unfolding log.sealed log.launched
+    → LogSeen (sealed k l (rows_told (items_of 0 (take segment_blocks s.dirty)))) l (log.log_seal s).state
+unfolding log.log_seal log.log_launch
 seal_seen k l s seen = record {
   end = seen.end;
   flying = put_here k.flying l true;
@@ -55,7 +55,7 @@ file_seen k l s f end flown = record {
 -- what is in flight is striped again, with the same items
 pub restripe_seen : (k : Books) (l : ℕ) (s : LogState) (f : FlightState) → k.flying l ≡ true → k.end l ≡ s.end.seq → IsFlown k l s f
     → LogSeen k l (log.restriped s f).state
-unfolding log.restriped log.launched
+unfolding log.restriped log.log_launch
 restripe_seen k l s f flying end flown = record { end = end; flying = flying; flight = flown }
 
 -- ---- the end of an opening

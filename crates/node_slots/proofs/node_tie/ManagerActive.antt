@@ -33,7 +33,7 @@ use Rattle.manager_slots.specs.declared.slot_phase.Active.{Active}
 use Rattle.manager_slots.specs.declared.slot_phase.SlotPhase.{SlotPhase}
 use Rattle.manager_slots.specs.declared.slot_phase.SlotPhase.TheVariants as phase
 use Rattle.manager_slots.specs.Slots.{with_slot}
-use Rattle.manager_slots.specs.Tokens.{said, takes, want_input, gone, on_want, gave_input, on_gave, deltas_input, on_deltas, check_input, check_said, on_check, on_usage_ask, on_tick}
+use Rattle.manager_slots.specs.Tokens.{tokens_say, tokens_take, want_input, gone, on_want, gave_input, on_gave, deltas_input, on_deltas, check_input, tokens_answer, on_check, on_usage_ask, on_tick}
 use Rattle.node_slots.specs.node_tie.Sight.{WantSeen, GaveSeen}
 use Rattle.node_slots.specs.node_tie.ManagerEvents.{PhaseAgrees, ActiveAgrees, OtherAgrees, DeltasJoin}
 use Rattle.node_slots.proofs.node_tie.ManagerPages.{takes_alike_both, takes_stay}
@@ -53,8 +53,8 @@ some_none x h = cc
 module _ (logs : Bool) (members part limit life : ℕ) where
   -- what the slot says is sent, where the small world has it sent
   said_seen : (n : Net) (k epoch : ℕ) (outs : List Out) → ((x : Packet) → In x (slot_packets outs) → In x n.sent)
-      → AllDone logs members part limit life n (flat_map (said k epoch) outs)
-  unfolding said
+      → AllDone logs members part limit life n (flat_map (tokens_say k epoch) outs)
+  unfolding tokens_say
   said_seen n k epoch [] all = tt
   said_seen n k epoch (out.Grant client block stamp inc req mode entry ∷ os) all = (
     λ inside. all _ (inl refl),
@@ -74,8 +74,8 @@ module _ (logs : Bool) (members part limit life : ℕ) where
 
   -- what another slot says is of no block of the slot
   said_other : (n : Net) (k epoch : ℕ) (outs : List Out) → (k ≡ part → ⊥) → AllSpeakOf k outs
-      → AllDone logs members part limit life n (flat_map (said k epoch) outs)
-  unfolding said
+      → AllDone logs members part limit life n (flat_map (tokens_say k epoch) outs)
+  unfolding tokens_say
   said_other n k epoch [] other all = tt
   said_other n k epoch (out.Grant client block stamp inc req mode entry ∷ os) other all =
       (λ inside. elsewhere k block other all.0 inside, said_other n k epoch os other all.1)
@@ -108,7 +108,7 @@ module _ (logs : Bool) (members part limit life : ℕ) where
 
   -- what the slot that is managed makes of an input
   abbrev Made : Net → ℕ → Active → slot.Done → Type 0
-  Made n k a d = Event n (phase.Active a) (with_slot a d.state) (flat_map (said k a.slot.epoch) d.outs)
+  Made n k a d = Event n (phase.Active a) (with_slot a d.state) (flat_map (tokens_say k a.slot.epoch) d.outs)
 
   active_takes : (n : Net) (k : ℕ) (a : Active) (given : Input) (agrees : ActiveAgrees members part n a)
       → Happens logs members part n (after_slot n a.slot.epoch (slot.transition agrees.slot given))
@@ -151,8 +151,8 @@ module _ (logs : Bool) (members part limit life : ℕ) where
 
   -- an input that any manager of the slot can take
   pub slot_takes : (n : Net) (k : ℕ) (p : SlotPhase) (given : Input) → PhaseAgrees members part n p → CanTake n given
-      → Event n p (takes p k given).state (takes p k given).outs
-  unfolding takes
+      → Event n p (tokens_take p k given).state (tokens_take p k given).outs
+  unfolding tokens_take
   slot_takes n k (phase.Active a) given agrees can =
       active_takes n k a given agrees (can a.slot.epoch agrees.slot agrees.there (ap (λ (s : SlotState). length s.applied) agrees.same ∙ agrees.nine))
   slot_takes n k (phase.Away epoch) given agrees can = event_same n (phase.Away epoch) [] agrees tt
@@ -181,7 +181,7 @@ module _ (logs : Bool) (members part limit life : ℕ) where
   -- deltas of a log that no slot follows, or that don't join on to what is applied, change nothing
   active_deltas : (n : Net) (a : Active) (log : LogId) (deltas : Deltas) → ActiveAgrees members part n a
       → Premise logs (DeltasJoin members part n (phase.Active a) log deltas) → Made n deltas.slot a (slot.transition a.slot (deltas_input log deltas))
-  unfolding said
+  unfolding tokens_say
   active_deltas n a log deltas agrees owed =
       by (slot_recalls.is_followed log) refl
     where
@@ -202,7 +202,7 @@ module _ (logs : Bool) (members part limit life : ℕ) where
       joined false of fact =
           subst (Made n deltas.slot a)
           (sym (ap (λ t. cond t (slot.deltas_of a.slot log deltas.first deltas.upto deltas.rows) (still a.slot)) of
-          ∙ ap (λ t. cond t (slot.apply_or_not a.slot log deltas.upto deltas.rows) (slot.told_applied a.slot log)) fact))
+          ∙ ap (λ t. cond t (slot.slot_apply a.slot log deltas.upto deltas.rows) (slot.told_applied a.slot log)) fact))
           (event_same n (phase.Active a) _ agrees (tt, tt))
 
       by : (t : Bool) → slot_recalls.is_followed log ≡ t → Made n deltas.slot a (slot.transition a.slot (deltas_input log deltas))
@@ -213,7 +213,7 @@ module _ (logs : Bool) (members part limit life : ℕ) where
 
   pub slot_deltas : (n : Net) (p : SlotPhase) (log : LogId) (deltas : Deltas) → PhaseAgrees members part n p
       → Premise logs (DeltasJoin members part n p log deltas) → Event n p (on_deltas p log deltas).state (on_deltas p log deltas).outs
-  unfolding takes
+  unfolding tokens_take
   slot_deltas n (phase.Active a) log deltas agrees owed = active_deltas n a log deltas agrees owed
   slot_deltas n (phase.Away epoch) log deltas agrees owed = event_same n (phase.Away epoch) [] agrees tt
   slot_deltas n (phase.Taking t) log deltas agrees owed = event_same n (phase.Taking t) [] agrees tt
@@ -224,8 +224,8 @@ module _ (logs : Bool) (members part limit life : ℕ) where
 
   -- ---- a check, and a count: nothing changes
 
-  pub checks_done : (n : Net) (check : Check) (epoch : ℕ) (outs : List Out) → AllDone logs members part limit life n (flat_map (check_said check epoch) outs)
-  unfolding check_said
+  pub checks_done : (n : Net) (check : Check) (epoch : ℕ) (outs : List Out) → AllDone logs members part limit life n (flat_map (tokens_answer check epoch) outs)
+  unfolding tokens_answer
   checks_done n check epoch [] = tt
   checks_done n check epoch (out.Grant client block stamp inc req mode entry ∷ os) = (tt, checks_done n check epoch os)
   checks_done n check epoch (out.Forward client block stamp to inc req ver ∷ os) = (tt, checks_done n check epoch os)
@@ -258,8 +258,8 @@ module _ (logs : Bool) (members part limit life : ℕ) where
     pub does : AllDone logs members part limit life n outs
 
   pub other_takes : (n : Net) (k : ℕ) (p : SlotPhase) (given : Input) → (k ≡ part → ⊥) → IsInputOf k given → OtherAgrees k p
-      → Other n k (takes p k given).state (takes p k given).outs
-  unfolding takes
+      → Other n k (tokens_take p k given).state (tokens_take p k given).outs
+  unfolding tokens_take
   other_takes n k (phase.Active a) given other of agrees =
       let t = takes_of k a.slot given of agrees in
       record { agrees = t.jobs; does = said_other n k a.slot.epoch (slot.transition a.slot given).outs other t.outs }

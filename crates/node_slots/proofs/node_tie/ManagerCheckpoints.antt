@@ -28,8 +28,8 @@ use Rattle.wire_msg.specs.declared.registry.CkptAck.{CkptAck}
 use Rattle.wire_msg.specs.declared.registry.CkptDone.{CkptDone}
 use Rattle.wire_msg.specs.declared.storage.Stored.{Stored}
 use Rattle.manager_slots.specs.Numbers.{slot_after}
-use Rattle.manager_slots.specs.SlotTable.{Table, next_active, begin_at, cleaned_at}
-use Rattle.manager_serving.specs.Checkpoints.{Done, gives, stored, gives_parts, registers, asked, says, says_each, writer_takes, filed, on_settled, log_says, log_says_each, writes, on_stored, no_more, writes_slot, begins_slot, next_from, next_for, next_slot, waits, on_checkpoint, awaits, counted, answered_by, on_ckpt_ack, done_again, told_again, tells_again}
+use Rattle.manager_slots.specs.SlotTable.{Table, next_active, begin_at, slot_table_clean}
+use Rattle.manager_serving.specs.Checkpoints.{Done, gives, checkpointing_store, give_parts, register, asked, writer_says, writer_says_each, writer_takes, filed, on_settled, log_says, log_says_each, serving_write, on_stored, no_more, writes_slot, begin_slot, next_from, next_for, next_slot, waits, on_checkpoint, awaits, checkpointing_count, answered_by, on_ckpt_ack, send_done, checkpointing_tell_again, serving_tell_again}
 use Rattle.manager_serving.specs.declared.checkpointing.Checkpointing.{Checkpointing}
 use Rattle.manager_serving.specs.declared.serving.Serving.{Serving}
 use Rattle.node_slots.specs.node_tie.ManagerEvents.{TableAgrees}
@@ -90,33 +90,33 @@ module _ (logs : Bool) (members part limit life : ℕ) (exists : part < slot_cou
 
   -- ---- what the writer says
 
-  stored_done : (outs : List LogOut) → AllDone logs members part limit life n (flat_map stored outs)
-  unfolding stored
+  stored_done : (outs : List LogOut) → AllDone logs members part limit life n (flat_map checkpointing_store outs)
+  unfolding checkpointing_store
   stored_done [] = tt
   stored_done (log_out.Send fragment member ∷ os) = (tt, stored_done os)
   stored_done (log_out.Settled end rows ∷ os) = stored_done os
 
-  quiet_gives_parts : (s : Serving) (items : List Item) → Agrees s.slots → Of s (gives_parts s items)
-  unfolding gives_parts
+  quiet_gives_parts : (s : Serving) (items : List Item) → Agrees s.slots → Of s (give_parts s items)
+  unfolding give_parts
   quiet_gives_parts s items agrees =
       let r = log.transition s.log (log_input.Parts items) in
-      quiet_saying s.lasting.number s.lasting.inc (record s { log = r.state }) (flat_map stored r.outs) refl refl agrees (stored_done r.outs)
+      quiet_saying s.lasting.number s.lasting.inc (record s { log = r.state }) (flat_map checkpointing_store r.outs) refl refl agrees (stored_done r.outs)
 
-  quiet_registers : (s : Serving) (done : CkptDone) → Agrees s.slots → Of s (registers s done)
-  unfolding registers
-  quiet_registers s done agrees = quiet_changed s (registers s done).state (registers s done).outs refl refl
+  quiet_registers : (s : Serving) (done : CkptDone) → Agrees s.slots → Of s (register s done)
+  unfolding register
+  quiet_registers s done agrees = quiet_changed s (register s done).state (register s done).outs refl refl
       (table_names logs members part limit life exists n s.slots done.slot done.epoch done.parts agrees) (tt, tt)
 
-  quiet_says : (s : Serving) (o : Out) → Agrees s.slots → Of s (says s o)
-  unfolding says
+  quiet_says : (s : Serving) (o : Out) → Agrees s.slots → Of s (writer_says s o)
+  unfolding writer_says
   quiet_says s (out.Parts items) agrees = quiet_gives_parts s items agrees
   quiet_says s (out.Done slot epoch parts horizon) agrees = quiet_registers (asked s) _ agrees
   quiet_says s out.Kept agrees = quiet_saying s.lasting.number s.lasting.inc s [] refl refl agrees tt
   quiet_says s (out.Stale epoch) agrees = quiet_saying s.lasting.number s.lasting.inc s [] refl refl agrees tt
 
   quiet_writer : (s : Serving) (given : WriterIn) → Agrees s.slots → Of s (writer_takes s given)
-  unfolding writer_takes says_each
-  quiet_writer s given agrees = quiet_each says quiet_says (record s { writer = (writer.transition s.writer given).state })
+  unfolding writer_takes writer_says_each
+  quiet_writer s given agrees = quiet_each writer_says quiet_says (record s { writer = (writer.transition s.writer given).state })
       (writer.transition s.writer given).outs agrees
 
   -- ---- the log of checkpoints
@@ -132,8 +132,8 @@ module _ (logs : Bool) (members part limit life : ℕ) (exists : part < slot_cou
   quiet_log_says s (log_out.Send fragment member) agrees = quiet_saying s.lasting.number s.lasting.inc s _ refl refl agrees (tt, tt)
   quiet_log_says s (log_out.Settled end rows) agrees = quiet_settled s end agrees
 
-  pub quiet_writes : (s : Serving) (given : LogIn) → Agrees s.slots → Of s (writes s given)
-  unfolding writes log_says_each
+  pub quiet_writes : (s : Serving) (given : LogIn) → Agrees s.slots → Of s (serving_write s given)
+  unfolding serving_write log_says_each
   quiet_writes s given agrees = quiet_each log_says quiet_log_says (record s { log = (log.transition s.log given).state })
       (log.transition s.log given).outs agrees
 
@@ -154,11 +154,11 @@ module _ (logs : Bool) (members part limit life : ℕ) (exists : part < slot_cou
   quiet_writes_slot s None agrees = quiet_saying s.lasting.number s.lasting.inc s [] refl refl agrees tt
   quiet_writes_slot s (Some given) agrees = quiet_writer s given agrees
 
-  quiet_begins : (s : Serving) (slot : ℕ) → Agrees s.slots → Of s (begins_slot s slot)
-  unfolding begins_slot
+  quiet_begins : (s : Serving) (slot : ℕ) → Agrees s.slots → Of s (begin_slot s slot)
+  unfolding begin_slot
   quiet_begins s slot agrees =
       let h = table_cleans logs members part limit life exists n s.slots slot agrees in
-      let r : Serving = record s { slots = cleaned_at s.slots slot } in
+      let r : Serving = record s { slots = slot_table_clean s.slots slot } in
       quiet_then s.lasting.number s.lasting.inc s.slots (still r) (writes_slot r (begin_at s.slots slot)) (quiet_changed s r [] refl refl h tt)
       (quiet_writes_slot r (begin_at s.slots slot) h.agrees)
 
@@ -185,9 +185,9 @@ module _ (logs : Bool) (members part limit life : ℕ) (exists : part < slot_cou
   quiet_answered : (s : Serving) (r : Stepped WriterState Out) → Agrees s.slots → Of s (answered_by s r)
   quiet_answered s r agrees =
       by_test (Of s) (length r.outs == 0) (still (record s { writer = r.state }))
-      (next_slot (record s { writer = r.state; checkpoint = fold counted s.checkpoint r.outs }))
+      (next_slot (record s { writer = r.state; checkpoint = fold checkpointing_count s.checkpoint r.outs }))
       (λ _. quiet_saying s.lasting.number s.lasting.inc (record s { writer = r.state }) [] refl refl agrees tt)
-      (λ _. quiet_next (record s { writer = r.state; checkpoint = fold counted s.checkpoint r.outs }) agrees)
+      (λ _. quiet_next (record s { writer = r.state; checkpoint = fold checkpointing_count s.checkpoint r.outs }) agrees)
 
   pub quiet_ckpt_ack : (s : Serving) (ack : CkptAck) → Agrees s.slots → Of s (on_ckpt_ack s ack)
   unfolding on_ckpt_ack
@@ -196,14 +196,14 @@ module _ (logs : Bool) (members part limit life : ℕ) (exists : part < slot_cou
       (λ _. quiet_answered s (writer.transition s.writer (writer_in.Ack ack.epoch s.dones)) agrees)
       (λ _. quiet_saying s.lasting.number s.lasting.inc s [] refl refl agrees tt)
 
-  pub quiet_tells : (s : Serving) → Agrees s.slots → Of s (tells_again s)
-  unfolding tells_again
-  quiet_tells s agrees = quiet_saying s.lasting.number s.lasting.inc s (told_again s.checkpoint) refl refl agrees (by s.checkpoint)
+  pub quiet_tells : (s : Serving) → Agrees s.slots → Of s (serving_tell_again s)
+  unfolding serving_tell_again
+  quiet_tells s agrees = quiet_saying s.lasting.number s.lasting.inc s (checkpointing_tell_again s.checkpoint) refl refl agrees (by s.checkpoint)
     where
-      by_done : (o : Option CkptDone) → AllDone logs members part limit life n (done_again o)
+      by_done : (o : Option CkptDone) → AllDone logs members part limit life n (send_done o)
       by_done None = tt
       by_done (Some done) = (tt, tt)
 
-      by : (o : Option Checkpointing) → AllDone logs members part limit life n (told_again o)
+      by : (o : Option Checkpointing) → AllDone logs members part limit life n (checkpointing_tell_again o)
       by None = tt
       by (Some job) = by_done job.done

@@ -30,19 +30,19 @@ use Rattle.wire_msg.specs.declared.packet.Do.{Do}
 use Rattle.wire_msg.specs.declared.packet.Do.TheVariants.{Begin, Deliver, Tick}
 use Rattle.wire_msg.specs.declared.packet.Packet.{Packet as Sent}
 use Rattle.wire_msg.specs.declared.registry.Welcome.{Welcome}
-use Rattle.manager_node.specs.Events.{takes_welcome, on_welcome, on_waiting, on_packet, on_deliver, on_time, on_event, happens}
-use Rattle.manager_node.specs.Phases.{lasting_of, phase_has_room, serves, crashes, restarts, wish_at, down_wish, waiting_wish, serving_wish, with_begun, down_item, waiting_item, serving_item, begin_down, begin_waiting, begin_serving, on_begin}
+use Rattle.manager_node.specs.Events.{takes_welcome, on_welcome, on_waiting, on_packet, manager_deliver, on_time, on_event, happens}
+use Rattle.manager_node.specs.Phases.{lasting_of, phase_has_room, serves, crash, restart, wish_at, down_wish, waiting_wish, serving_wish, with_begun, down_item, waiting_item, serving_item, begin_down, begin_waiting, begin_serving, on_begin}
 use Rattle.manager_node.specs.declared.phase.Phase.{Phase}
 use Rattle.manager_node.specs.declared.phase.Phase.TheVariants.{Down, Waiting, Serving as Serves}
-use Rattle.manager_slots.specs.Lasting.{with_answer}
+use Rattle.manager_slots.specs.Lasting.{lasting_answer}
 use Rattle.manager_slots.specs.Numbers.{risen}
-use Rattle.manager_slots.specs.SlotTable.{unknown_table}
+use Rattle.manager_slots.specs.SlotTable.{slot_table_unknown}
 use Rattle.manager_slots.specs.Slots.{epoch_of}
 use Rattle.manager_slots.specs.declared.lasting.Lasting.{Lasting as Kept}
 use Rattle.manager_slots.specs.declared.slot_phase.SlotPhase.{SlotPhase}
 use Rattle.manager_slots.specs.declared.slot_phase.SlotPhase.TheVariants as phase
 use Rattle.manager_serving.specs.Checkpoints.{Done, on_checkpoint}
-use Rattle.manager_serving.specs.Serving.{again, on_news, hears, on_tick}
+use Rattle.manager_serving.specs.Serving.{again, on_news, serving_hear, on_tick}
 use Rattle.manager_serving.specs.declared.serving.Serving.{Serving}
 use Rattle.node_slots.specs.node_tie.Sight.{ManagerDoes}
 use Rattle.node_slots.specs.node_tie.ManagerEvents.{TakingAt, HeldAt, PhaseAgrees, OtherAgrees, TableAgrees, ManagerAgrees, epoch_in, AllNewsGets, WaitingGets, EventGets, NamedBy, Names, is_serving, is_waiting, ManagerGoes, ManagerEventGoes}
@@ -171,10 +171,10 @@ module _ (logs : Bool) (members part limit j : ℕ) (exists : part < slot_count)
   -- ---- crash and restart
 
   crash_goes : (p : Phase) (what : Do) (kept : Kept) (number : ℕ) → kept.number ≡ j → kept.inc ≡ (lasting_of p).inc
-      → ManagerGoes logs members part limit j n p what (crashes kept number)
-  unfolding crashes
+      → ManagerGoes logs members part limit j n p what (crash kept number)
+  unfolding crash
   crash_goes p what kept number is_j later =
-      to_down logs members part limit j n p what (with_answer kept) _ is_j later
+      to_down logs members part limit j n p what (lasting_answer kept) _ is_j later
       (all_append (DoesAt logs members part limit kept.inc n) (answers_unanswered kept.items.unanswered answer.Cut) (Answers number answer.Done ∷ [])
       (answers_done logs members part limit kept.inc exists n kept.items.unanswered answer.Cut) (tt, tt))
 
@@ -182,8 +182,8 @@ module _ (logs : Bool) (members part limit j : ℕ) (exists : part < slot_count)
   rises_by_one inc h = grind (arith, nat_tests)
 
   restart_goes : (p : Phase) (what : Do) (kept : Kept) (number : ℕ) → kept.number ≡ j → (lasting_of p).inc ≤ kept.inc → has_room kept.inc ≡ true
-      → ManagerGoes logs members part limit j n p what (restarts kept number)
-  unfolding restarts
+      → ManagerGoes logs members part limit j n p what (restart kept number)
+  unfolding restart
   restart_goes p what kept number is_j later room =
       let up = rises_by_one kept.inc room in
       to_waiting logs members part limit j n p what _ _ _ is_j (omega arith) (λ _. omega arith) (tt, ((omega arith), tt))
@@ -270,7 +270,7 @@ module _ (logs : Bool) (members part limit j : ℕ) (exists : part < slot_count)
 
   -- ---- packets
 
-  unknown_agrees : TableAgrees members part n unknown_table
+  unknown_agrees : TableAgrees members part n slot_table_unknown
   unknown_agrees = record {
     eight = refl;
     here = subst (PhaseAgrees members part n) (sym (unknown_at part)) tt;
@@ -290,7 +290,7 @@ module _ (logs : Bool) (members part limit j : ℕ) (exists : part < slot_count)
       let same_ask : welcome.ask ≡ hello = eqb-true welcome.ask hello (and_second (welcome.inc == kept.inc) (welcome.ask == hello) answered) in
       let g = gets same_inc in
       let s : Serving = again kept (forgotten peers.servers) welcome.news.groups in
-      let none : epoch_of (phase_at unknown_table part) ≡ 0 = ap epoch_of (unknown_at part) in
+      let none : epoch_of (phase_at slot_table_unknown part) ≡ 0 = ap epoch_of (unknown_at part) in
       let h = went_opening logs members part limit kept.inc exists j (λ e. Names part j e what) n s peers.clients welcome.news unknown_agrees (omega arith)
       (record {
         number = is_j;
@@ -357,13 +357,13 @@ module _ (logs : Bool) (members part limit j : ℕ) (exists : part < slot_count)
   packet_goes peers (Down kept) packet many agrees low gets = to_itself (Down kept) (Deliver packet) agrees low
   packet_goes peers (Waiting kept hello) packet many agrees low gets = waiting_gets peers kept hello packet packet.body many agrees refl gets
   packet_goes peers (Serves s) packet many agrees low gets =
-      to_serving s (Deliver packet) (hears s peers.clients packet) agrees.number
+      to_serving s (Deliver packet) (serving_hear s peers.clients packet) agrees.number
       (went_hears logs members part limit s.lasting.inc exists j (λ e. Names part j e (Deliver packet)) n s peers.clients packet agrees.number refl
       (sym many) agrees.table low gets (λ e fact. fact))
 
   deliver_goes : (peers : Peers) (p : Phase) (packet : Sent) → members ≡ peers.clients + 1 → ManagerAgrees members part n j p → epoch_in part p ≤ limit
-      → EventGets logs part limit j n members p (Deliver packet) → ManagerGoes logs members part limit j n p (Deliver packet) (on_deliver peers p packet)
-  unfolding on_deliver
+      → EventGets logs part limit j n members p (Deliver packet) → ManagerGoes logs members part limit j n p (Deliver packet) (manager_deliver peers p packet)
+  unfolding manager_deliver
   deliver_goes peers p packet many agrees low gets =
       by_test (ManagerGoes logs members part limit j n p (Deliver packet)) (is_well_formed peers packet) (on_packet peers p packet) (still p)
       (λ _. packet_goes peers p packet many agrees low gets) (λ _. to_itself p (Deliver packet) agrees low)

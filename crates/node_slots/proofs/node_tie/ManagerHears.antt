@@ -8,8 +8,8 @@ use Rattle.xfs_base.specs.declared.node.NodeId.{NodeId}
 use Rattle.xfs_base.specs.Limits.{slot_count}
 use Rattle.client_log.specs.declared.input.In.TheVariants as log_input
 use Rattle.group_map.specs.GroupMapState.{GroupMapState}
-use Rattle.node_base.specs.Known.{names_known}
-use Rattle.node_base.specs.Maps.{fits, is_older, taken}
+use Rattle.node_base.specs.Known.{names_known_groups}
+use Rattle.node_base.specs.Maps.{fits, is_older, maps_take}
 use Rattle.token_law.specs.Net.{Net}
 use Rattle.token_protocol.specs.Basics.{In}
 use Rattle.wire_msg.specs.declared.body.Body.{Body}
@@ -18,9 +18,9 @@ use Rattle.wire_msg.specs.declared.packet.Packet.{Packet as Sent}
 use Rattle.wire_msg.specs.declared.registry.News.{News}
 use Rattle.manager_slots.specs.SlotTable.{Table}
 use Rattle.manager_slots.specs.Slots.{epoch_of}
-use Rattle.manager_serving.specs.Checkpoints.{Done, writes, on_stored, on_ckpt_ack}
+use Rattle.manager_serving.specs.Checkpoints.{Done, serving_write, on_stored, on_ckpt_ack}
 use Rattle.manager_serving.specs.declared.serving.Serving.{Serving}
-use Rattle.manager_serving.specs.Serving.{asker_of, regroups, hearer_of, hears_with, hears_slots, on_newer, on_news, on_fitting_news, asks_for_maps, on_body, hears}
+use Rattle.manager_serving.specs.Serving.{asker_of, regroups, hearer_of, hears_with, hear_slots, on_newer, on_news, on_fitting_news, ask_for_maps, on_body, serving_hear}
 use Rattle.node_slots.specs.node_tie.ManagerEvents.{TableAgrees, AllNewsGets, ServingGets, NamedBy}
 use Rattle.headline.specs.Managers.{phase_at}
 use Rattle.node_slots.proofs.node_tie.ManagerCheckpoints.{Quiet, quiet_writes, quiet_stored, quiet_ckpt_ack}
@@ -73,8 +73,8 @@ module _ (logs : Bool) (members part limit life : ℕ) (exists : part < slot_cou
 
   rose_slots : (n : Net) (s : Serving) (clients : ℕ) (slots : List SlotNews) → TableAgrees members part n s.slots
       → serves.Low logs members part limit life exists s.slots → Owed n s clients slots
-      → Rose n s.lasting.number s.lasting.inc s.slots (is_some s.maps.groups) slots (hears_slots s clients slots)
-  unfolding hears_slots
+      → Rose n s.lasting.number s.lasting.inc s.slots (is_some s.maps.groups) slots (hear_slots s clients slots)
+  unfolding hear_slots
   rose_slots n s clients slots agrees low owed = by s.maps.groups
     where
       by : (o : Option GroupMapState) → Rose n s.lasting.number s.lasting.inc s.slots (is_some o) slots (hears_with s clients slots o)
@@ -168,12 +168,12 @@ module _ (logs : Bool) (members part limit life : ℕ) (exists : part < slot_cou
   went_newer n s clients news agrees low owed =
       let d = regroups s news.groups in
       let h = quiet_regroups n s news.groups agrees low in
-      let e = hears_slots d.state clients news.slots in
+      let e = hear_slots d.state clients news.slots in
       let r = rose_slots n d.state clients news.slots h.agrees
       (quiet_low n s.lasting.number s.lasting.inc s.slots d h low) (owed_on n s clients news.slots d h owed) in
       let w = rose_went n s (is_some s.maps.groups) news.slots (saying d.outs e)
       (quiet_rose n s.lasting.number s.lasting.inc s.slots (is_some s.maps.groups) news.slots d e h r) in
-      went_quiet n s.lasting.number s.lasting.inc s.slots (is_some s.maps.groups) news.slots (saying d.outs e) (writes e.state (log_input.Maps news.groups)) w
+      went_quiet n s.lasting.number s.lasting.inc s.slots (is_some s.maps.groups) news.slots (saying d.outs e) (serving_write e.state (log_input.Maps news.groups)) w
       (quiet_writes logs members part limit life exists w.next e.state (log_input.Maps news.groups) w.agrees)
 
   went_news : (n : Net) (s : Serving) (clients : ℕ) (news : News) → TableAgrees members part n s.slots → serves.Low logs members part limit life exists s.slots
@@ -181,12 +181,12 @@ module _ (logs : Bool) (members part limit life : ℕ) (exists : part < slot_cou
       → WentOf n s (on_news s clients news)
   unfolding on_news
   went_news n s clients news agrees low owed =
-      let newer : Serving = record s { maps = taken s.maps news } in
-      by_test (WentOf n s) (is_older s.maps news) (on_newer newer clients news) (hears_slots s clients news.slots)
-      (λ _. went_less n s (is_some (taken s.maps news).groups) news.slots (on_newer newer clients news)
+      let newer : Serving = record s { maps = maps_take s.maps news } in
+      by_test (WentOf n s) (is_older s.maps news) (on_newer newer clients news) (hear_slots s clients news.slots)
+      (λ _. went_less n s (is_some (maps_take s.maps news).groups) news.slots (on_newer newer clients news)
       (went_newer n newer clients news agrees low (record { number = owed.number; many = owed.many; gets = owed.gets; names = owed.names })))
-      (λ _. went_less n s (is_some s.maps.groups) news.slots (hears_slots s clients news.slots)
-      (rose_went n s (is_some s.maps.groups) news.slots (hears_slots s clients news.slots) (rose_slots n s clients news.slots agrees low owed)))
+      (λ _. went_less n s (is_some s.maps.groups) news.slots (hear_slots s clients news.slots)
+      (rose_went n s (is_some s.maps.groups) news.slots (hear_slots s clients news.slots) (rose_slots n s clients news.slots agrees low owed)))
 
   -- one that opens knows of the epochs that its Welcome names, where the maps are newer than none
   pub went_opening : (n : Net) (s : Serving) (clients : ℕ) (news : News) → TableAgrees members part n s.slots
@@ -194,11 +194,11 @@ module _ (logs : Bool) (members part limit life : ℕ) (exists : part < slot_cou
       → is_older s.maps news ≡ true → Went n s.lasting.number s.lasting.inc s.slots true news.slots (on_news s clients news)
   unfolding on_news
   went_opening n s clients news agrees low owed older =
-      let newer : Serving = record s { maps = taken s.maps news } in
+      let newer : Serving = record s { maps = maps_take s.maps news } in
       let h = went_newer n newer clients news agrees low (record { number = owed.number; many = owed.many; gets = owed.gets; names = owed.names }) in
-      let known : is_some (taken s.maps news).groups ≡ true = ap
+      let known : is_some (maps_take s.maps news).groups ≡ true = ap
       (λ t. is_some (cond t (record s.maps { version = news.version; groups = Some news.groups }) s.maps).groups) older in
-      subst (λ t. Went n s.lasting.number s.lasting.inc s.slots true news.slots (cond t (on_newer newer clients news) (hears_slots s clients news.slots)))
+      subst (λ t. Went n s.lasting.number s.lasting.inc s.slots true news.slots (cond t (on_newer newer clients news) (hear_slots s clients news.slots)))
       (sym older)
       (record { numbered = h.numbered; lives = h.lives; next = h.next; goes = h.goes; agrees = h.agrees; within = h.within; above = λ _. h.above known })
 
@@ -257,10 +257,10 @@ module _ (logs : Bool) (members part limit life : ℕ) (exists : part < slot_cou
   pub went_hears : (n : Net) (s : Serving) (clients : ℕ) (packet : Sent) → s.lasting.number ≡ j → s.lasting.inc ≡ life → clients + 1 ≡ members
       → TableAgrees members part n s.slots → serves.Low logs members part limit life exists s.slots
       → ServingGets logs part limit j n members s.lasting.inc (phase_at s.slots part) packet.from packet.body →
-      ((e : ℕ) → NamedBy part j e packet.body → named e) → WentOf n s (hears s clients packet)
-  unfolding hears asks_for_maps
+      ((e : ℕ) → NamedBy part j e packet.body → named e) → WentOf n s (serving_hear s clients packet)
+  unfolding serving_hear ask_for_maps
   went_hears n s clients packet number lives many agrees low gets names =
-      by_test (WentOf n s) (names_known s.maps packet.body) (on_body s clients packet.from packet.body) (asks_for_maps s)
+      by_test (WentOf n s) (names_known_groups s.maps packet.body) (on_body s clients packet.from packet.body) (ask_for_maps s)
       (λ _. went_body n s clients packet.from packet.body number many agrees low gets names)
-      (λ _. went_serving n s (asks_for_maps s) low
+      (λ _. went_serving n s (ask_for_maps s) low
       (record { number = refl; lives = refl; event = table_same logs members part limit life exists n s.slots _ agrees (omega arith, tt) }))

@@ -19,7 +19,7 @@ use Rattle.token_manager.specs.declared.input.In.{In}
 use Rattle.token_manager.specs.declared.input.In.TheVariants as input
 use Rattle.token_manager.specs.declared.output.Out.{Out}
 use Rattle.token_manager.specs.declared.output.Out.TheVariants as out
-use Rattle.token_manager.specs.Recalls.{recall_of, sent, all_sent}
+use Rattle.token_manager.specs.Recalls.{recall_of, send_recalls, send_all}
 use Rattle.token_manager.specs.SlotState.{SlotState}
 use Rattle.token_manager.specs.Transition as slot
 use Rattle.token_manager.proofs.Cases.{recalled_from, all_given, let_go, by_want, by_gave, by_deltas, by_finished_at}
@@ -87,33 +87,33 @@ module _ (k : ℕ) where
   all_both [] ys all more = more
   all_both (x ∷ xs) ys all more = (all.0, all_both xs ys all.1 more)
 
-  of_finished : (s : SlotState) (want : Wanted) → AreOf s.jobs → IsOf want.block → KeepsTo (slot.finished s want)
+  of_finished : (s : SlotState) (want : Wanted) → AreOf s.jobs → IsOf want.block → KeepsTo (slot.slot_finish s want)
   of_finished s want all of = record { jobs = all; outs = by (slot.passers s want) }
     where
       by : (from : List ℕ) → AllSpeakOf (slot.answer s want from ∷ [])
       by [] = (of, tt)
       by (c ∷ cs) = (of, tt)
 
-  of_sent : (block : BlockId) (awaited : List Awaited) → IsOf block → AllSpeakOf (sent block awaited)
+  of_sent : (block : BlockId) (awaited : List Awaited) → IsOf block → AllSpeakOf (send_recalls block awaited)
   of_sent block [] of = tt
   of_sent block (a ∷ rest) of = elim (is_some a.end) as (λ t. AllSpeakOf
-      (cond t (sent block rest) (recall_of block a ∷ sent block rest))) [ true ↦ of_sent block rest of | false ↦ (of, of_sent block rest of) ]
+      (cond t (send_recalls block rest) (recall_of block a ∷ send_recalls block rest))) [ true ↦ of_sent block rest of | false ↦ (of, of_sent block rest of) ]
 
-  of_all_sent : (jobs : List (BlockId × Job)) → AreOf jobs → AllSpeakOf (all_sent jobs)
+  of_all_sent : (jobs : List (BlockId × Job)) → AreOf jobs → AllSpeakOf (send_all jobs)
   of_all_sent [] all = tt
-  of_all_sent (e ∷ es) all = all_both (sent e.0 e.1.awaited) (all_sent es) (of_sent e.0 e.1.awaited all.0.0) (of_all_sent es all.1)
+  of_all_sent (e ∷ es) all = all_both (send_recalls e.0 e.1.awaited) (send_all es) (of_sent e.0 e.1.awaited all.0.0) (of_all_sent es all.1)
 
-  of_finished_at : (s : SlotState) (block : BlockId) → AreOf s.jobs → KeepsTo (slot.finished_at s block)
+  of_finished_at : (s : SlotState) (block : BlockId) → AreOf s.jobs → KeepsTo (slot.finish_job s block)
   of_finished_at s block all =
       by_finished_at KeepsTo s block (record { jobs = all; outs = tt })
       (λ job fact. of_finished (let_go s block) job.want (of_removed (is_at (block_cmp block)) s.jobs all) (of_found s.jobs block job all fact))
 
-  of_steps : (s : SlotState) (blocks : List BlockId) → AreOf s.jobs → KeepsTo (steps slot.finished_at s blocks)
+  of_steps : (s : SlotState) (blocks : List BlockId) → AreOf s.jobs → KeepsTo (steps slot.finish_job s blocks)
   of_steps s [] all = record { jobs = all; outs = tt }
   of_steps s (b ∷ bs) all =
       let one = of_finished_at s b all in
-      let rest = of_steps (slot.finished_at s b).state bs one.jobs in
-      record { jobs = rest.jobs; outs = all_both (slot.finished_at s b).outs (steps slot.finished_at (slot.finished_at s b).state bs).outs one.outs rest.outs }
+      let rest = of_steps (slot.finish_job s b).state bs one.jobs in
+      record { jobs = rest.jobs; outs = all_both (slot.finish_job s b).outs (steps slot.finish_job (slot.finish_job s b).state bs).outs one.outs rest.outs }
 
   -- an input about a block of the slot
   abbrev pub IsInputOf : In → Type 0

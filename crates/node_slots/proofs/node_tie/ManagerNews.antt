@@ -35,7 +35,7 @@ module _ (logs : Bool) (members part limit life : ℕ) (exists : part < slot_cou
 
   -- the table, once the news came to the slot that it names, which has what slot k has
   abbrev heard_at : (n : Net) (h : Hearer) (a : TableAsker) (news : SlotNews) → ℕ → Stepped Asker Effect
-  heard_at n h a news k = table.hears_of h news (asker (phase_at a.table k) a.questions)
+  heard_at n h a news k = table.hear_of h news (asker (phase_at a.table k) a.questions)
 
   abbrev HeardAt : (ℕ → Type 0) → Net → Hearer → TableAsker → SlotNews → ℕ → Type 0
   HeardAt named n h a news k =
@@ -80,12 +80,12 @@ module _ (logs : Bool) (members part limit life : ℕ) (exists : part < slot_cou
   table_hears : (named : ℕ → Type 0) (j : ℕ) (n : Net) (h : Hearer) (a : TableAsker) (news : SlotNews) → NewsHeard j n h → TableAgrees members part n a.table
       → IsLow logs members part limit life exists a.table
       → (news.slot ≡ part → NewsGets part limit j n (epoch_of (phase_at a.table part)) news) → (news.slot ≡ part → news.manager ≡ j → named news.epoch)
-      → TableRose named n a.table (table.hears h a news).state.table (table.hears h a news).outs × IsAbove (table.hears h a news).state.table news
-  unfolding table.hears
+      → TableRose named n a.table (table.slot_table_hear h a news).state.table (table.slot_table_hear h a news).outs × IsAbove (table.slot_table_hear h a news).state.table news
+  unfolding table.slot_table_hear
   table_hears named j n h a news ears agrees low gets named_ =
-      by_taken (λ u outs. TableRose named n a.table u outs × IsAbove u news) a news.slot (table.hears_of h news)
+      by_taken (λ u outs. TableRose named n a.table u outs × IsAbove u news) a news.slot (table.hear_of h news)
       (by_slot (λ u outs. TableRose named n a.table u outs × IsAbove u news) a.table news.slot
-      (as_slot a.questions (table.hears_of h news))
+      (as_slot a.questions (table.hear_of h news))
       (λ past. (
         record {
           rises = rises_of logs members part limit life named n _ _ []
@@ -114,7 +114,7 @@ module _ (logs : Bool) (members part limit life : ℕ) (exists : part < slot_cou
       → TableAgrees members part n a.table → IsLow logs members part limit life exists a.table
       → AllNewsGets part limit j n (epoch_of (phase_at a.table part)) slots →
       ((news : SlotNews) → In news slots → news.slot ≡ part → news.manager ≡ j → named news.epoch)
-      → AllRose named n a.table (table.hears_all h a slots).state.table (table.hears_all h a slots).outs slots
+      → AllRose named n a.table (table.hear_each h a slots).state.table (table.hear_each h a slots).outs slots
   table_hears_all named j n h a [] ears agrees low gets named_ = record {
     rises = rises_of logs members part limit life named n _ _ [] (stays_same logs members part limit life n (phase_at a.table part) [] tt);
     agrees = agrees;
@@ -122,7 +122,7 @@ module _ (logs : Bool) (members part limit life : ℕ) (exists : part < slot_cou
     above = λ news fact. absurd fact;
   }
   table_hears_all named j n h a (news ∷ slots) ears agrees low gets named_ =
-      let d = table.hears h a news in
+      let d = table.slot_table_hear h a news in
       let one = table_hears named j n h a news ears agrees low (gets news (inl refl)) (named_ news (inl refl)) in
       let up = one.0.rises.rises in
       let rest = table_hears_all named j n h d.state slots ears one.0.agrees one.0.within
@@ -130,10 +130,10 @@ module _ (logs : Bool) (members part limit life : ℕ) (exists : part < slot_cou
       (λ x fact. named_ x (inr fact)) in
       record {
         rises = rises_then logs members part limit life named n (phase_at a.table part) (phase_at d.state.table part)
-            (phase_at (table.hears_all h d.state slots).state.table part) d.outs (table.hears_all h d.state slots).outs one.0.rises rest.rises;
+            (phase_at (table.hear_each h d.state slots).state.table part) d.outs (table.hear_each h d.state slots).outs one.0.rises rest.rises;
         agrees = rest.agrees;
         within = rest.within;
-        above = λ x fact same. either x (phase_at d.state.table part) (phase_at (table.hears_all h d.state slots).state.table part) news rest.rises.rises one.1
+        above = λ x fact same. either x (phase_at d.state.table part) (phase_at (table.hear_each h d.state slots).state.table part) news rest.rises.rises one.1
             (λ there. rest.above x there same) fact same;
       }
     where

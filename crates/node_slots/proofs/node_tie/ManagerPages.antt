@@ -8,7 +8,7 @@ use Rattle.xfs_base.specs.Steps.{still, steps}
 use Rattle.slot_beliefs.specs.declared.job.Awaited.{Awaited}
 use Rattle.slot_beliefs.specs.declared.job.Job.{Job}
 use Rattle.slot_beliefs.specs.declared.job.Wanted.{Wanted}
-use Rattle.slot_beliefs.specs.Index.{Indexed, indexed, indexed_all}
+use Rattle.slot_beliefs.specs.Index.{Indexed, block_index_merge, merge_all}
 use Rattle.slot_beliefs.specs.Recalls.{applied_of, is_ready, ready_blocks, noted, answers}
 use Rattle.slot_beliefs.specs.Recalls as slot_recalls
 use Rattle.token_manager.specs.declared.input.In.{In}
@@ -26,13 +26,13 @@ abbrev bare : Indexed → Indexed
 bare i = record { rows = i.rows; usage = i.usage; numbers = []; pages = [] }
 
 -- one entry, of an index that is looked at without its pages
-one_more : (i : Indexed) (m : BlockId × Entry) → bare (indexed i m) ≡ bare (indexed (bare i) m)
-unfolding indexed
+one_more : (i : Indexed) (m : BlockId × Entry) → bare (block_index_merge i m) ≡ bare (block_index_merge (bare i) m)
+unfolding block_index_merge
 one_more i m = refl
 
-bare_all : (i j : Indexed) (ms : List (BlockId × Entry)) → bare i ≡ bare j → bare (indexed_all i ms) ≡ bare (indexed_all j ms)
+bare_all : (i j : Indexed) (ms : List (BlockId × Entry)) → bare i ≡ bare j → bare (merge_all i ms) ≡ bare (merge_all j ms)
 bare_all i j [] same = same
-bare_all i j (m ∷ ms) same = bare_all (indexed i m) (indexed j m) ms (one_more i m ∙ ap (λ k. bare (indexed k m)) same ∙ sym (one_more j m))
+bare_all i j (m ∷ ms) same = bare_all (block_index_merge i m) (block_index_merge j m) ms (one_more i m ∙ ap (λ k. bare (block_index_merge k m)) same ∙ sym (one_more j m))
 
 -- two steps that leave the same but for pages, and say the same
 pub record Alike (d e : slot.Done) : Type 0 where
@@ -43,7 +43,7 @@ by_both : (t : Bool) (d e x y : slot.Done) → (t ≡ true → Alike d x) → (t
 by_both true d e x y f g = f refl
 by_both false d e x y f g = g refl
 
-finished_alike : (s : SlotState) (want : Wanted) → Alike (slot.finished s want) (slot.finished (without_pages s) want)
+finished_alike : (s : SlotState) (want : Wanted) → Alike (slot.slot_finish s want) (slot.slot_finish (without_pages s) want)
 finished_alike s want = record { state = refl; outs = by (slot.passers s want) }
   where
     by : (from : List ℕ) → (slot.answer s want from ∷ []) ≡ (slot.answer (without_pages s) want from ∷ [])
@@ -58,7 +58,7 @@ module _ (s : SlotState) where
   still_alike = record { state = refl; outs = refl }
 
   finish_alike : (want : Wanted) → Alike (slot.finish s want) (slot.finish b want)
-  finish_alike want = by_both (slot.has_turns s.turn 1) (slot.finished s want) (still s) (slot.finished b want) (still b) (λ _. finished_alike s want)
+  finish_alike want = by_both (slot.has_turns s.turn 1) (slot.slot_finish s want) (still s) (slot.slot_finish b want) (still b) (λ _. finished_alike s want)
       (λ _. still_alike)
 
   want_alike : (want : Wanted) (end : ℕ) → Alike (slot.on_want s want end) (slot.on_want b want end)
@@ -76,8 +76,8 @@ module _ (s : SlotState) where
   noted_alike client block want awaited =
       by_both (is_ready s.applied awaited) (slot.gave_last s client block want) (still (slot.gave_one s client block want awaited))
       (slot.gave_last b client block want) (still (slot.gave_one b client block want awaited))
-      (λ _. by_both (slot.has_turns s.turn 1) (slot.finished (all_given s client block want) want) (still s)
-      (slot.finished (all_given b client block want) want) (still b)
+      (λ _. by_both (slot.has_turns s.turn 1) (slot.slot_finish (all_given s client block want) want) (still s)
+      (slot.slot_finish (all_given b client block want) want) (still b)
       (λ _. finished_alike (all_given s client block want) want) (λ _. still_alike))
       (λ _. record { state = refl; outs = refl })
 
@@ -90,9 +90,9 @@ module _ (s : SlotState) where
           (still s) (slot.gave_noted b client block job.want (noted job.awaited client stamp end)) (still b)
           (λ _. noted_alike client block job.want (noted job.awaited client stamp end)) (λ _. still_alike)
 
-  finished_at-alike : (block : BlockId) → Alike (slot.finished_at s block) (slot.finished_at b block)
-  unfolding slot.finished_at
-  finished_at-alike block = by (slot_recalls.job_at s.jobs block)
+  finish_job-alike : (block : BlockId) → Alike (slot.finish_job s block) (slot.finish_job b block)
+  unfolding slot.finish_job
+  finish_job-alike block = by (slot_recalls.job_at s.jobs block)
     where
       by : (o : Option Job) → Alike (slot.finished_job s block o) (slot.finished_job b block o)
       by None = still_alike
@@ -105,14 +105,14 @@ alike_both f each s t same = record {
   outs = (each s).outs ∙ ap (λ x. (f x).outs) same ∙ sym (each t).outs;
 }
 
-steps_alike : (blocks : List BlockId) (s t : SlotState) → SameButPages s t → Alike (steps slot.finished_at s blocks) (steps slot.finished_at t blocks)
+steps_alike : (blocks : List BlockId) (s t : SlotState) → SameButPages s t → Alike (steps slot.finish_job s blocks) (steps slot.finish_job t blocks)
 steps_alike [] s t same = record { state = same; outs = refl }
 steps_alike (k ∷ ks) s t same =
-    let one = alike_both (λ x. slot.finished_at x k) (λ x. finished_at-alike x k) s t same in
-    let rest = steps_alike ks (slot.finished_at s k).state (slot.finished_at t k).state one.state in
+    let one = alike_both (λ x. slot.finish_job x k) (λ x. finish_job-alike x k) s t same in
+    let rest = steps_alike ks (slot.finish_job s k).state (slot.finish_job t k).state one.state in
     record {
       state = rest.state;
-      outs = ap (λ xs. xs ++ (steps slot.finished_at (slot.finished_at s k).state ks).outs) one.outs ∙ ap (λ xs. (slot.finished_at t k).outs ++ xs) rest.outs;
+      outs = ap (λ xs. xs ++ (steps slot.finish_job (slot.finish_job s k).state ks).outs) one.outs ∙ ap (λ xs. (slot.finish_job t k).outs ++ xs) rest.outs;
     }
 
 module _ (s : SlotState) (log : LogId) (upto : ℕ) (rows : List (BlockId × Entry)) where
@@ -130,8 +130,8 @@ module _ (s : SlotState) (log : LogId) (upto : ℕ) (rows : List (BlockId × Ent
   deltas_alike : (first : ℕ) → Alike (slot.on_deltas s log first upto rows) (slot.on_deltas u log first upto rows)
   deltas_alike first =
       by_both (slot_recalls.is_followed log) (slot.deltas_of s log first upto rows) (still s) (slot.deltas_of u log first upto rows) (still u)
-      (λ _. by_both (slot.joins_on (applied_of s.applied log.0) first upto) (slot.apply_or_not s log upto rows) (slot.told_applied s log)
-      (slot.apply_or_not u log upto rows) (slot.told_applied u log)
+      (λ _. by_both (slot.joins_on (applied_of s.applied log.0) first upto) (slot.slot_apply s log upto rows) (slot.told_applied s log)
+      (slot.slot_apply u log upto rows) (slot.told_applied u log)
       (λ _. by_both (slot.can_apply s log upto rows) (slot.apply s log upto rows) (still s) (slot.apply u log upto rows) (still u) (λ _. apply_alike)
       (λ _. record { state = refl; outs = refl }))
       (λ _. record { state = refl; outs = refl }))
@@ -148,7 +148,7 @@ takes_alike s input.Tick = record { state = refl; outs = refl }
 pub takes_alike_both : (s t : SlotState) (given : In) → SameButPages s t → Alike (slot.transition s given) (slot.transition t given)
 takes_alike_both s t given = alike_both (λ x. slot.transition x given) (λ x. takes_alike x given) s t
 
-pub cleaned_alike : (s : SlotState) → SameButPages s (slot.cleaned s)
+pub cleaned_alike : (s : SlotState) → SameButPages s (slot.slot_clean s)
 cleaned_alike s = refl
 
 -- ---- what stays at each input
@@ -160,8 +160,8 @@ Stays s d = (d.state.epoch ≡ s.epoch) × (length d.state.applied ≡ length s.
 stays_same : (s : SlotState) → Stays s (still s)
 stays_same s = (refl, refl)
 
-steps_stay : (s : SlotState) (blocks : List BlockId) → Stays s (steps slot.finished_at s blocks)
-steps_stay s blocks = steps_keep slot.finished_at (λ t. (t.epoch ≡ s.epoch) × (length t.applied ≡ length s.applied))
+steps_stay : (s : SlotState) (blocks : List BlockId) → Stays s (steps slot.finish_job s blocks)
+steps_stay s blocks = steps_keep slot.finish_job (λ t. (t.epoch ≡ s.epoch) × (length t.applied ≡ length s.applied))
     (λ t block h. by_finished_at (λ r. (r.state.epoch ≡ s.epoch) × (length r.state.applied ≡ length s.applied)) t block h (λ job fact. h)) s blocks (refl, refl)
 
 pub takes_stay : (s : SlotState) (given : In) → Stays s (slot.transition s given)

@@ -3,13 +3,13 @@ use Rattle.std.proofs.Common.{◌+◌, ℕ, List, [], ◌∷◌, inl, inr, Optio
 use Rattle.group_map.specs.GroupMapState.{GroupMapState}
 use Rattle.group_map.specs.Groups.{group_of}
 use Rattle.group_map.specs.declared.group.Group.{Group}
-use Rattle.segment_reading.specs.Reading.{begun, to_ask}
+use Rattle.segment_reading.specs.Reading.{reading_start, reading_unanswered}
 use Rattle.takeover.specs.declared.input.In.TheVariants as input
 use Rattle.takeover.specs.declared.output.Out.{Out}
 use Rattle.takeover.specs.declared.output.Out.TheVariants.{Active}
 use Rattle.takeover.specs.declared.source.Source.{Source}
 use Rattle.takeover.specs.TakeState.{TakeState}
-use Rattle.takeover.specs.Transition.{Done, can_ask, target_of, sought_over, sought, waiting, sought_again, on_maps, transition}
+use Rattle.takeover.specs.Transition.{Done, can_ask, target_of, sought_over, seek, waiting, sought_again, on_maps, transition}
 use Rattle.token_protocol.specs.Basics.{In}
 use Rattle.xfs_base.proofs.Booleans.{by_test}
 use Rattle.xfs_base.specs.declared.block.BlockId.{BlockId}
@@ -28,16 +28,16 @@ plain_hands_nothing (o ∷ outs) plain epoch index beliefs applied (inr fact) = 
 
 -- newer groups never end a takeover
 pub maps_said : (s : TakeState) (groups : GroupMapState) → ArePlain (transition s (input.Maps groups)).outs
-unfolding on_maps sought
+unfolding on_maps seek
 maps_said s groups = by_waiting (waiting s.present)
   where
     by_group : (source : Source) (g : Option Group) → ArePlain (sought_over (record s { groups = groups }) source g).outs
     by_group source None = tt
     by_group source (Some group) =
-        fetches_plain source.seg.name (s.ask + 1) (to_ask (begun (target_of source) group (s.ask + 1)))
+        fetches_plain source.seg.name (s.ask + 1) (reading_unanswered (reading_start (target_of source) group (s.ask + 1)))
 
     by_waiting : (o : Option Source) → ArePlain (sought_again (record s { groups = groups }) o).outs
     by_waiting None = tt
     by_waiting (Some source) =
-        by_test (λ (d : Done). ArePlain d.outs) (can_ask s) (sought (record s { groups = groups }) source) (still (record s { groups = groups }))
+        by_test (λ (d : Done). ArePlain d.outs) (can_ask s) (seek (record s { groups = groups }) source) (still (record s { groups = groups }))
         (λ _. by_group source (group_of groups source.seg.group)) (λ _. tt)

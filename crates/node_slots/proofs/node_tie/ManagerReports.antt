@@ -24,7 +24,7 @@ use Rattle.token_law.specs.Net.{Net, Happens, IsLatest}
 use Rattle.token_law.specs.Net.Packet.{ReportSent}
 use Rattle.token_law.specs.Net.Happens.{Activates}
 use Rattle.token_law.specs.Owed.{Gathered}
-use Rattle.token_manager.specs.Transition.{started as slot_started}
+use Rattle.token_manager.specs.Transition.{slot_start as slot_started}
 use Rattle.token_protocol.specs.Basics.{put, In}
 use Rattle.token_protocol.specs.Premises.{Premise}
 use Rattle.token_tie.specs.Epochs.{reported, all_reported}

@@ -23,9 +23,9 @@ use Rattle.wire_msg.specs.declared.tokens.Want.{Want}
 use Rattle.manager_slots.specs.SlotTable as table
 use Rattle.manager_slots.specs.SlotTable.{Table, Asks}
 use Rattle.manager_slots.specs.Slots.{epoch_of, fetch_of as fetch_in}
-use Rattle.manager_serving.specs.Checkpoints.{Done, gives, writes, tells_again}
+use Rattle.manager_serving.specs.Checkpoints.{Done, gives, serving_write, serving_tell_again}
 use Rattle.manager_serving.specs.declared.serving.Serving.{Serving}
-use Rattle.manager_serving.specs.Serving.{and_then, asker_of, with_slots, with_asker, client_in, fed_log, on_want, on_gave, on_deltas, on_check, on_usage_ask, takes, on_report, answered_by, fetch_of, on_found, on_missing, recalls_again, asks_again, on_tick}
+use Rattle.manager_serving.specs.Serving.{and_then, asker_of, with_slots, with_asker, client_in, fed_log, on_want, on_gave, on_deltas, on_check, on_usage_ask, serving_take, on_report, answered_by, fetch_of, on_found, on_missing, recalls_again, serving_ask_again, on_tick}
 use Rattle.node_slots.specs.node_tie.ManagerEvents.{TableAgrees, WantGets, GaveGets, ReportGets, DeltasGets, TakeoverGets, LastReportGets, AnswerGets, FoundGets, AbsentGets}
 use Rattle.headline.specs.Managers.{phase_at}
 use Rattle.node_slots.proofs.node_tie.ManagerFetches.{fetch_is}
@@ -116,9 +116,9 @@ module _ (logs : Bool) (members part limit life : ℕ) (exists : part < slot_cou
   -- ---- takeovers
 
   serves_takes : (n : Net) (s : Serving) (k : ℕ) (given : Input) → TableAgrees members part n s.slots → Low s.slots → ((r : Heard) → Brings given r → ⊥)
-      → (k ≡ part → TakeoverGets logs members part n (phase_at s.slots part) given) → Of n s (takes s k given)
-  unfolding takes
-  serves_takes n s k given agrees low none owed = by_asker n s (table.takes (asker_of s) k given)
+      → (k ≡ part → TakeoverGets logs members part n (phase_at s.slots part) given) → Of n s (serving_take s k given)
+  unfolding serving_take
+  serves_takes n s k given agrees low none owed = by_asker n s (table.slot_table_take (asker_of s) k given)
       (table_takes logs members part limit life exists n (asker_of s) k given agrees low none owed)
 
   pub serves_report : (n : Net) (s : Serving) (from : NodeId) (report : Report) → TableAgrees members part n s.slots → Low s.slots
@@ -155,11 +155,11 @@ module _ (logs : Bool) (members part limit life : ℕ) (exists : part < slot_cou
 
   serves_recalls : (n : Net) (s : Serving) → TableAgrees members part n s.slots → Low s.slots → Of n s (recalls_again s)
   unfolding recalls_again
-  serves_recalls n s agrees low = by_table n s (table.recalls_all s.slots) (table_recalls_all logs members part limit life exists n s.slots agrees low)
+  serves_recalls n s agrees low = by_table n s (table.recall_again s.slots) (table_recalls_all logs members part limit life exists n s.slots agrees low)
 
-  serves_asks : (n : Net) (s : Serving) (polls : Bool) → TableAgrees members part n s.slots → Low s.slots → Of n s (asks_again s polls)
-  unfolding asks_again
-  serves_asks n s polls agrees low = by_asker n s (table.asks_all polls (asker_of s))
+  serves_asks : (n : Net) (s : Serving) (polls : Bool) → TableAgrees members part n s.slots → Low s.slots → Of n s (serving_ask_again s polls)
+  unfolding serving_ask_again
+  serves_asks n s polls agrees low = by_asker n s (table.slot_table_ask_again polls (asker_of s))
       (table_asks_all logs members part limit life exists n polls (asker_of s) agrees low)
 
   -- a step, and another that is taken in the table it leaves
@@ -171,12 +171,12 @@ module _ (logs : Bool) (members part limit life : ℕ) (exists : part < slot_cou
   pub serves_tick : (n : Net) (s : Serving) → TableAgrees members part n s.slots → Low s.slots → Of n s (on_tick s)
   unfolding on_tick
   serves_tick n s agrees low =
-      and_serves n s (and_then (and_then (and_then (recalls_again s) (λ t. asks_again t true)) (λ t. asks_again t false))
-      (λ t. writes t log_input.Tick)) tells_again
-      (and_serves n s (and_then (and_then (recalls_again s) (λ t. asks_again t true)) (λ t. asks_again t false)) (λ t. writes t log_input.Tick)
-      (and_serves n s (and_then (recalls_again s) (λ t. asks_again t true)) (λ t. asks_again t false)
-      (and_serves n s (recalls_again s) (λ t. asks_again t true) (serves_recalls n s agrees low) low (λ m r h l. serves_asks m r true h l))
+      and_serves n s (and_then (and_then (and_then (recalls_again s) (λ t. serving_ask_again t true)) (λ t. serving_ask_again t false))
+      (λ t. serving_write t log_input.Tick)) serving_tell_again
+      (and_serves n s (and_then (and_then (recalls_again s) (λ t. serving_ask_again t true)) (λ t. serving_ask_again t false)) (λ t. serving_write t log_input.Tick)
+      (and_serves n s (and_then (recalls_again s) (λ t. serving_ask_again t true)) (λ t. serving_ask_again t false)
+      (and_serves n s (recalls_again s) (λ t. serving_ask_again t true) (serves_recalls n s agrees low) low (λ m r h l. serves_asks m r true h l))
       low (λ m r h l. serves_asks m r false h l))
-      low (λ m r h _. serves_quiet m r.lasting.number r.lasting.inc r.slots (writes r log_input.Tick)
+      low (λ m r h _. serves_quiet m r.lasting.number r.lasting.inc r.slots (serving_write r log_input.Tick)
       (quiet_writes logs members part limit life exists m r log_input.Tick h)))
-      low (λ m r h _. serves_quiet m r.lasting.number r.lasting.inc r.slots (tells_again r) (quiet_tells logs members part limit life exists m r h))
+      low (λ m r h _. serves_quiet m r.lasting.number r.lasting.inc r.slots (serving_tell_again r) (quiet_tells logs members part limit life exists m r h))

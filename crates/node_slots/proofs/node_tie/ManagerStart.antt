@@ -6,10 +6,10 @@ use Rattle.xfs_base.specs.Blocks.{slot_of}
 use Rattle.xfs_base.specs.declared.block.BlockId.{BlockId}
 use Rattle.xfs_base.specs.declared.setup.Setup.{Setup}
 use Rattle.xfs_base.specs.Limits.{slot_count}
-use Rattle.manager_map.specs.Slots.{start_entries, entry_at}
+use Rattle.manager_map.specs.Slots.{manager_map_start, entry_at}
 use Rattle.slot_beliefs.specs.declared.job.Job.{Job}
 use Rattle.token_law.specs.Net.{opening}
-use Rattle.token_manager.specs.Transition.{started}
+use Rattle.token_manager.specs.Transition.{slot_start}
 use Rattle.version_model.specs.declared.work.Work.{Work}
 use Rattle.manager_slots.specs.SlotTable.{all_slots, first_phase}
 use Rattle.manager_slots.specs.Slots.{epoch_of, first_active}
@@ -33,16 +33,16 @@ each_at f P none made (suc (suc (suc (suc (suc (suc (suc zero))))))) = made 7
 each_at f P none made (suc (suc (suc (suc (suc (suc (suc (suc k)))))))) = none (suc (suc (suc (suc (suc (suc (suc (suc k))))))))
 
 module _ (members part number : ℕ) (setup : Setup) where
-  by_first : (P : SlotPhase → Type 0) → P first_active → P (phase.Away 1) → (k : ℕ) → P (first_phase number (start_entries setup.managers) k)
-  by_first P ours others k = by_test P ((entry_at (start_entries setup.managers) (slot_of k)).manager == number) first_active (phase.Away 1) (λ _. ours)
+  by_first : (P : SlotPhase → Type 0) → P first_active → P (phase.Away 1) → (k : ℕ) → P (first_phase number (manager_map_start setup.managers) k)
+  by_first P ours others k = by_test P ((entry_at (manager_map_start setup.managers) (slot_of k)).manager == number) first_active (phase.Away 1) (λ _. ours)
       (λ _. others)
 
   first_active-agrees : PhaseAgrees members part opening first_active
-  first_active-agrees = record { slot = started 1 [] [] (0 ∷ 0 ∷ 0 ∷ 0 ∷ 0 ∷ 0 ∷ 0 ∷ 0 ∷ 0 ∷ []); there = refl; same = refl; nine = refl }
+  first_active-agrees = record { slot = slot_start 1 [] [] (0 ∷ 0 ∷ 0 ∷ 0 ∷ 0 ∷ 0 ∷ 0 ∷ 0 ∷ 0 ∷ []); there = refl; same = refl; nine = refl }
 
   pub first_agrees : (works : List Work) → part < slot_count → FirstAgrees members part number setup works
   first_agrees works exists =
-      let f = λ (k : ℕ). first_phase number (start_entries setup.managers) k in
+      let f = λ (k : ℕ). first_phase number (manager_map_start setup.managers) k in
       let at : phase_at (map f all_slots) part ≡ f part = first_at f part exists in
       record {
         agrees = record {

@@ -205,8 +205,8 @@ module _ (logs : Bool) (members part limit life : ℕ) (exists : part < slot_cou
       by None = tt
       by (Some p) = usage_done logs members part limit life n p asked
 
-  pub table_recalls : (n : Net) (t : Table) (k : ℕ) → TableAgrees members part n t → TableEvent n t (table.recalls t k).state (table.recalls t k).outs
-  unfolding table.recalls
+  pub table_recalls : (n : Net) (t : Table) (k : ℕ) → TableAgrees members part n t → TableEvent n t (table.slot_table_recall t k).state (table.slot_table_recall t k).outs
+  unfolding table.slot_table_recall
   table_recalls n t k agrees =
       at_slot-goes n t k (λ p. tokens.on_tick p k) agrees (λ same. slot_ticks logs members part limit life n k (phase_at t part) agrees.here)
       (λ other. other_takes logs members part limit life n k (phase_at t k) told.Tick other tt (agrees.there k other))
@@ -215,10 +215,10 @@ module _ (logs : Bool) (members part limit life : ℕ) (exists : part < slot_cou
 
   pub table_takes : (n : Net) (a : TableAsker) (k : ℕ) (given : Input) → TableAgrees members part n a.table → IsLow a.table
       → ((r : Heard) → Brings given r → ⊥) → (k ≡ part → TakeoverGets logs members part n (phase_at a.table part) given)
-      → AskTable n a.table (table.takes a k given)
-  unfolding table.takes
+      → AskTable n a.table (table.slot_table_take a k given)
+  unfolding table.slot_table_take
   table_takes n a k given agrees low none owed =
-      at_taken-goes n a k (λ one. takeovers.takes one k given) agrees
+      at_taken-goes n a k (λ one. takeovers.takeovers_take one k given) agrees
       (λ same. slot_hears logs members part limit life n k (phase_at a.table part) a.questions given agrees.here (λ _. low) (λ r fact. absurd (none r fact))
       (owed same))
       (λ other. other_hears logs members part limit life n k (asker (phase_at a.table k) a.questions) given other (agrees.there k other))
@@ -234,10 +234,10 @@ module _ (logs : Bool) (members part limit life : ℕ) (exists : part < slot_cou
       (agrees.there report.slot other))
 
   pub table_asks : (n : Net) (polls : Bool) (a : TableAsker) (k : ℕ) → TableAgrees members part n a.table → IsLow a.table
-      → AskTable n a.table (table.asks polls a k)
-  unfolding table.asks
+      → AskTable n a.table (table.slot_table_ask polls a k)
+  unfolding table.slot_table_ask
   table_asks n polls a k agrees low =
-      at_taken-goes n a k (λ one. takeovers.asks_again one k polls) agrees
+      at_taken-goes n a k (λ one. takeovers.takeovers_ask_again one k polls) agrees
       (λ same. let d = quiet_asks logs members part limit life (PhaseAgrees members part n) (phases_last logs members part limit life n) n k
       (phase_at a.table part) a.questions polls agrees.here (λ _. low) in
       event_staying logs members part limit life n (phase_at a.table part) _ _ d.stays d.agrees)
@@ -256,12 +256,12 @@ module _ (logs : Bool) (members part limit life : ℕ) (exists : part < slot_cou
         table_then n (tab s) (tab (f s x).state) (tab (steps f (f s x).state xs).state) (f s x).outs (steps f (f s x).state xs).outs one
         (each_goes one.next (f s x).state xs one.agrees still_low)
 
-  pub table_recalls_all : (n : Net) (t : Table) → TableAgrees members part n t → IsLow t → TableEvent n t (table.recalls_all t).state (table.recalls_all t).outs
-  table_recalls_all n t agrees low = each_goes (λ u. u) table.recalls (λ n u k h _. table_recalls n u k h) n t all_slots agrees low
+  pub table_recalls_all : (n : Net) (t : Table) → TableAgrees members part n t → IsLow t → TableEvent n t (table.recall_again t).state (table.recall_again t).outs
+  table_recalls_all n t agrees low = each_goes (λ u. u) table.slot_table_recall (λ n u k h _. table_recalls n u k h) n t all_slots agrees low
 
   pub table_asks_all : (n : Net) (polls : Bool) (a : TableAsker) → TableAgrees members part n a.table → IsLow a.table
-      → AskTable n a.table (table.asks_all polls a)
-  table_asks_all n polls a agrees low = each_goes (λ (b : TableAsker). b.table) (table.asks polls)
+      → AskTable n a.table (table.slot_table_ask_again polls a)
+  table_asks_all n polls a agrees low = each_goes (λ (b : TableAsker). b.table) (table.slot_table_ask polls)
       (λ n b k h l. table_asks n polls b k h l) n a all_slots agrees low
 
   -- ---- newer groups: the small world sees nothing of them
@@ -305,30 +305,30 @@ module _ (logs : Bool) (members part limit life : ℕ) (exists : part < slot_cou
         (λ within. slot_or_other k (QuietAt k) (λ same. subst QuietAt (sym same) (quiet_here same (here same)))
         (λ other. quiet_there other within (there other))))
 
-  regroups-quiet : (n : Net) (groups : GroupMapState) (a : TableAsker) (k : ℕ) → TableAgrees members part n a.table → IsLow a.table
-      → TableQuiet n a.table (table.regroups groups a k).state.table (table.regroups groups a k).outs
-  unfolding table.takes
-  regroups-quiet n groups a k agrees low =
-      at_taken-quiet n a k (λ one. takeovers.takes one k (input.Maps groups)) agrees
+  regroup_one-quiet : (n : Net) (groups : GroupMapState) (a : TableAsker) (k : ℕ) → TableAgrees members part n a.table → IsLow a.table
+      → TableQuiet n a.table (table.regroup_one groups a k).state.table (table.regroup_one groups a k).outs
+  unfolding table.slot_table_take
+  regroup_one-quiet n groups a k agrees low =
+      at_taken-quiet n a k (λ one. takeovers.takeovers_take one k (input.Maps groups)) agrees
       (λ same. quiet_maps logs members part limit life n k (phase_at a.table part) a.questions groups agrees.here (λ _. low))
       (λ other. other_hears logs members part limit life n k (asker (phase_at a.table k) a.questions) (input.Maps groups) other (agrees.there k other))
 
   regroups_each : (n : Net) (groups : GroupMapState) (a : TableAsker) (slots : List ℕ) → TableAgrees members part n a.table → IsLow a.table
-      → TableQuiet n a.table (steps (table.regroups groups) a slots).state.table (steps (table.regroups groups) a slots).outs
+      → TableQuiet n a.table (steps (table.regroup_one groups) a slots).state.table (steps (table.regroup_one groups) a slots).outs
   regroups_each n groups a [] agrees low = table_quiet n a.table agrees
   regroups_each n groups a (k ∷ slots) agrees low =
-      let d = table.regroups groups a k in
-      let one = regroups-quiet n groups a k agrees low in
+      let d = table.regroup_one groups a k in
+      let one = regroup_one-quiet n groups a k agrees low in
       let rest = regroups_each n groups d.state slots one.agrees (let e = one.stays.epoch in omega arith) in
       record {
         stays = stays_then logs members part limit life n (phase_at a.table part) (phase_at d.state.table part)
-            (phase_at (steps (table.regroups groups) d.state slots).state.table part) d.outs (steps (table.regroups groups) d.state slots).outs one.stays
+            (phase_at (steps (table.regroup_one groups) d.state slots).state.table part) d.outs (steps (table.regroup_one groups) d.state slots).outs one.stays
             rest.stays;
         agrees = rest.agrees;
       }
 
   pub table_regroups : (n : Net) (groups : GroupMapState) (a : TableAsker) → TableAgrees members part n a.table → IsLow a.table
-      → TableQuiet n a.table (table.regroups_all groups a).state.table (table.regroups_all groups a).outs
+      → TableQuiet n a.table (table.slot_table_regroup groups a).state.table (table.slot_table_regroup groups a).outs
   table_regroups n groups a agrees low = regroups_each n groups a all_slots agrees low
 
   -- ---- checkpoints
@@ -361,31 +361,31 @@ module _ (logs : Bool) (members part limit life : ℕ) (exists : part < slot_cou
       by (Some p) fact = let same : phase_at t k ≡ p = ap (λ o. unwrap_or o (phase.Away 0)) fact in subst (λ x. TableStays n t (slice_set t k (change x))) same
           (at (slice_get_within t k p fact))
 
-  clean_stays : (n : Net) (p : SlotPhase) → Stays logs members part limit life n p (table.cleaned_phase p) []
-  unfolding table.cleaned_phase
+  clean_stays : (n : Net) (p : SlotPhase) → Stays logs members part limit life n p (table.phase_clean p) []
+  unfolding table.phase_clean
   clean_stays n (phase.Active a) = record { epoch = refl; taking = λ e h. h; held = λ e h. h; managed = λ e h. h; does = tt }
   clean_stays n (phase.Away epoch) = stays_same logs members part limit life n (phase.Away epoch) [] tt
   clean_stays n (phase.Taking t) = stays_same logs members part limit life n (phase.Taking t) [] tt
   clean_stays n (phase.Broken epoch seg) = stays_same logs members part limit life n (phase.Broken epoch seg) [] tt
 
-  clean_agrees : (n : Net) (p : SlotPhase) → PhaseAgrees members part n p → PhaseAgrees members part n (table.cleaned_phase p)
-  unfolding table.cleaned_phase
+  clean_agrees : (n : Net) (p : SlotPhase) → PhaseAgrees members part n p → PhaseAgrees members part n (table.phase_clean p)
+  unfolding table.phase_clean
   clean_agrees n (phase.Active a) h = record { slot = h.slot; there = h.there; same = h.same ∙ cleaned_alike a.slot; nine = h.nine }
   clean_agrees n _ h = h
 
-  clean_other : (k : ℕ) (p : SlotPhase) → OtherAgrees k p → OtherAgrees k (table.cleaned_phase p)
-  unfolding table.cleaned_phase
+  clean_other : (k : ℕ) (p : SlotPhase) → OtherAgrees k p → OtherAgrees k (table.phase_clean p)
+  unfolding table.phase_clean
   clean_other k (phase.Active a) h = h
   clean_other k (phase.Away epoch) h = h
   clean_other k (phase.Taking t) h = h
   clean_other k (phase.Broken epoch seg) h = h
 
-  pub table_cleans : (n : Net) (t : Table) (k : ℕ) → TableAgrees members part n t → TableStays n t (table.cleaned_at t k)
-  unfolding table.cleaned_at
-  table_cleans n t k agrees = changes n t k table.cleaned_phase agrees (clean_agrees n) (clean_stays n) (clean_other k)
+  pub table_cleans : (n : Net) (t : Table) (k : ℕ) → TableAgrees members part n t → TableStays n t (table.slot_table_clean t k)
+  unfolding table.slot_table_clean
+  table_cleans n t k agrees = changes n t k table.phase_clean agrees (clean_agrees n) (clean_stays n) (clean_other k)
 
-  name_stays : (n : Net) (epoch : ℕ) (parts : List SegRef) (p : SlotPhase) → Stays logs members part limit life n p (table.named_phase epoch parts p) []
-  unfolding table.named_phase
+  name_stays : (n : Net) (epoch : ℕ) (parts : List SegRef) (p : SlotPhase) → Stays logs members part limit life n p (table.phase_name epoch parts p) []
+  unfolding table.phase_name
   name_stays n epoch parts (phase.Active a) =
       by_test (λ q. Stays logs members part limit life n (phase.Active a) q []) (a.slot.epoch == epoch) (phase.Active (record a { parts = parts }))
       (phase.Active a)
@@ -395,8 +395,8 @@ module _ (logs : Bool) (members part limit life : ℕ) (exists : part < slot_cou
   name_stays n epoch parts (phase.Broken e seg) = stays_same logs members part limit life n (phase.Broken e seg) [] tt
 
   name_agrees : (n : Net) (epoch : ℕ) (parts : List SegRef) (p : SlotPhase) → PhaseAgrees members part n p
-      → PhaseAgrees members part n (table.named_phase epoch parts p)
-  unfolding table.named_phase
+      → PhaseAgrees members part n (table.phase_name epoch parts p)
+  unfolding table.phase_name
   name_agrees n epoch parts (phase.Active a) h =
       by_test (PhaseAgrees members part n) (a.slot.epoch == epoch) (phase.Active (record a { parts = parts })) (phase.Active a)
       (λ _. record { slot = h.slot; there = h.there; same = h.same; nine = h.nine }) (λ _. h)
@@ -404,13 +404,13 @@ module _ (logs : Bool) (members part limit life : ℕ) (exists : part < slot_cou
   name_agrees n epoch parts (phase.Taking t) h = h
   name_agrees n epoch parts (phase.Broken e seg) h = h
 
-  name_other : (k epoch : ℕ) (parts : List SegRef) (p : SlotPhase) → OtherAgrees k p → OtherAgrees k (table.named_phase epoch parts p)
-  unfolding table.named_phase
+  name_other : (k epoch : ℕ) (parts : List SegRef) (p : SlotPhase) → OtherAgrees k p → OtherAgrees k (table.phase_name epoch parts p)
+  unfolding table.phase_name
   name_other k epoch parts (phase.Active a) h = by_test (OtherAgrees k) (a.slot.epoch == epoch) (phase.Active (record a { parts = parts })) (phase.Active a)
       (λ _. h) (λ _. h)
   name_other k epoch parts _ h = h
 
-  pub table_names : (n : Net) (t : Table) (k epoch : ℕ) (parts : List SegRef) → TableAgrees members part n t → TableStays n t (table.named_at t k epoch parts)
-  unfolding table.named_at
-  table_names n t k epoch parts agrees = changes n t k (table.named_phase epoch parts) agrees (name_agrees n epoch parts) (name_stays n epoch parts)
+  pub table_names : (n : Net) (t : Table) (k epoch : ℕ) (parts : List SegRef) → TableAgrees members part n t → TableStays n t (table.slot_table_name t k epoch parts)
+  unfolding table.slot_table_name
+  table_names n t k epoch parts agrees = changes n t k (table.phase_name epoch parts) agrees (name_agrees n epoch parts) (name_stays n epoch parts)
       (name_other k epoch parts)

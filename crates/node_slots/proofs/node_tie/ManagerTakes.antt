@@ -7,7 +7,7 @@ use Rattle.group_map.specs.GroupMapState.{GroupMapState}
 use Rattle.group_map.specs.Groups.{group_of}
 use Rattle.group_map.specs.declared.group.Group.{Group}
 use Rattle.segment_format.specs.declared.segment.Segment.{Segment}
-use Rattle.segment_reading.specs.Reading.{ReadingState, begun, to_ask, on_answer, on_confirmed}
+use Rattle.segment_reading.specs.Reading.{ReadingState, reading_start, reading_unanswered, reading_take, on_confirmed}
 use Rattle.segment_reading.specs.declared.reading.Next.{Next}
 use Rattle.segment_reading.specs.declared.reading.Next.TheVariants as next
 use Rattle.stripe_code.specs.declared.round.Told.{Told}
@@ -35,7 +35,7 @@ use Rattle.takeover.specs.Reports.{is_heard, unheard, polled}
 use Rattle.takeover.specs.Sources.{sources_of, back_from}
 use Rattle.takeover.specs.Rows.{told_of}
 use Rattle.takeover.specs.TakeState.{TakeState}
-use Rattle.takeover.specs.Transition.{Done, awaited, awaits, can_ask, fetches, polls, reads, asks, target_of, sought_over, sought, is_index, active, next_of, go_on, with_chain, goes_on_from, has_read, confirmed_as, again, judged_as, told_in, told_at, on_told, begun_if_all, on_report, waits_in, waiting, sought_again, on_maps, unanswered, repeated, on_tick, transition}
+use Rattle.takeover.specs.Transition.{Done, awaited, awaits, can_ask, fetches, polls, take_read, ask_servers, target_of, sought_over, seek, is_index, active, next_of, go_on, join_chain, go_on_from, has_read, confirmed_as, again, take_follow, take_judge, told_at, on_told, begin_if_all, on_report, present_waiting, waiting, sought_again, on_maps, present_repeat, repeated, on_tick, transition}
 use Rattle.takeover.proofs.Ending.{nobody}
 use Rattle.token_protocol.specs.Basics.{In}
 
@@ -86,26 +86,26 @@ On s d = Goes s.news s.clients s.reports d
 abbrev AllIn : TakeState → Type 0
 AllIn s = awaited s ≡ []
 
-reads_on : (s : TakeState) (source : Source) (r : Option ReadingState) → AllIn s → On s (still (reads s source r))
+reads_on : (s : TakeState) (source : Source) (r : Option ReadingState) → AllIn s → On s (still (take_read s source r))
 reads_on s source r all = record { news = refl; clients = refl; reports = refl; ready = λ p fact. all; said = inl tt }
 
-asks_on : (s : TakeState) (source : Source) (r : ReadingState) → AllIn s → On s (asks s source r)
+asks_on : (s : TakeState) (source : Source) (r : ReadingState) → AllIn s → On s (ask_servers s source r)
 asks_on s source r all = record {
   news = refl;
   clients = refl;
   reports = refl;
   ready = λ p fact. all;
   said = inl
-      (fetches_plain source.seg.name (s.ask + 1) (to_ask r));
+      (fetches_plain source.seg.name (s.ask + 1) (reading_unanswered r));
 }
 
-sought_on : (s : TakeState) (source : Source) → AllIn s → On s (sought s source)
-unfolding sought
+sought_on : (s : TakeState) (source : Source) → AllIn s → On s (seek s source)
+unfolding seek
 sought_on s source all = by (group_of s.groups source.seg.group)
   where
     by : (g : Option Group) → On s (sought_over s source g)
     by None = reads_on s source None all
-    by (Some group) = asks_on s source (begun (target_of source) group (s.ask + 1)) all
+    by (Some group) = asks_on s source (reading_start (target_of source) group (s.ask + 1)) all
 
 next_on : (sources : List Source) (s : TakeState) → AllIn s → On s (next_of sources s)
 next_on [] s all = record { news = refl; clients = refl; reports = refl; ready = λ p fact. all; said = by (is_index s.index) }
@@ -126,8 +126,8 @@ has_read-on : (s : TakeState) (source : Source) (segment : Segment) → AllIn s 
 unfolding has_read
 has_read-on s source segment all = by (back_from source segment)
   where
-    by : (o : Option Source) → On s (goes_on_from (record s { chain = told_of s.news.slot segment ∷ s.chain }) o)
-    by None = go_on-on (with_chain (record s { chain = told_of s.news.slot segment ∷ s.chain })) all
+    by : (o : Option Source) → On s (go_on_from (record s { chain = told_of s.news.slot segment ∷ s.chain }) o)
+    by None = go_on-on (join_chain (record s { chain = told_of s.news.slot segment ∷ s.chain })) all
     by (Some before) = sought_on (record s { chain = told_of s.news.slot segment ∷ s.chain }) before all
 
 again_on : (s : TakeState) (source : Source) (r : ReadingState) → AllIn s → On s (again s source r)
@@ -141,14 +141,14 @@ again_on s source r all = by (on_confirmed r (s.ask + 1)).state (on_confirmed r 
     by q next.Again = reads_on s source (Some q) all
     by q (next.Read segment) = reads_on s source (Some q) all
 
-judged_on : (s : TakeState) (source : Source) (r : ReadingState) (n : Next) → AllIn s → On s (judged_as s source r n)
+judged_on : (s : TakeState) (source : Source) (r : ReadingState) (n : Next) → AllIn s → On s (take_follow s source r n)
 judged_on s source r next.Again all = again_on s source r all
 judged_on s source r (next.Read segment) all = has_read-on s source segment all
 judged_on s source r _ all = reads_on s source (Some r) all
 
-told_in-on : (s : TakeState) (source : Source) (r : Option ReadingState) (ask server : ℕ) (t : Told) → AllIn s → On s (told_in s source r ask server t)
-told_in-on s source None ask server t all = reads_on s source None all
-told_in-on s source (Some r) ask server t all = judged_on s source (on_answer r s.groups ask server t).state (on_answer r s.groups ask server t).next all
+take_judge-on : (s : TakeState) (source : Source) (r : Option ReadingState) (ask server : ℕ) (t : Told) → AllIn s → On s (take_judge s source r ask server t)
+take_judge-on s source None ask server t all = reads_on s source None all
+take_judge-on s source (Some r) ask server t all = judged_on s source (reading_take r s.groups ask server t).state (reading_take r s.groups ask server t).next all
 
 -- ---- the inputs
 
@@ -162,7 +162,7 @@ told_on s ask server t ready = by_test (On s) (can_ask s) (told_at (record s { p
   where
     by : (o : Option Present) → ((p : Present) → o ≡ Some p → awaited s ≡ []) → On s (told_at (record s { present = None }) o ask server t)
     by None all = record { news = refl; clients = refl; reports = refl; ready = λ p fact. absurd (let clash : None ≡ Some p = fact in cc); said = inl tt }
-    by (Some p) all = told_in-on (record s { present = None }) p.source p.reading ask server t (all p refl)
+    by (Some p) all = take_judge-on (record s { present = None }) p.source p.reading ask server t (all p refl)
 
 maps_on : (s : TakeState) (groups : GroupMapState) → IsReady s → On s (on_maps s groups)
 unfolding on_maps
@@ -175,10 +175,10 @@ maps_on s groups ready = by s.present ready
     none = record { news = refl; clients = refl; reports = refl; ready = ready; said = inl tt }
 
     some : (source : Source) → AllIn s → On s (sought_again (record s { groups = groups }) (Some source))
-    some source all = by_test (On s) (can_ask s) (sought (record s { groups = groups }) source) (still (record s { groups = groups }))
+    some source all = by_test (On s) (can_ask s) (seek (record s { groups = groups }) source) (still (record s { groups = groups }))
         (λ _. sought_on (record s { groups = groups }) source all) (λ _. none)
 
-    by_reading : (source : Source) (r : Option ReadingState) → AllIn s → On s (sought_again (record s { groups = groups }) (waits_in source r))
+    by_reading : (source : Source) (r : Option ReadingState) → AllIn s → On s (sought_again (record s { groups = groups }) (present_waiting source r))
     by_reading source None all = some source all
     by_reading source (Some r) all = none
 
@@ -189,9 +189,9 @@ maps_on s groups ready = by s.present ready
 tick_plain : (s : TakeState) → ArePlain (on_tick s)
 tick_plain s = plain_both (polls (awaited s)) (repeated s.present) (polls_plain (awaited s)) (by s.present)
   where
-    by_reading : (source : Source) (r : Option ReadingState) → ArePlain (unanswered source r)
+    by_reading : (source : Source) (r : Option ReadingState) → ArePlain (present_repeat source r)
     by_reading source None = tt
-    by_reading source (Some r) = fetches_plain source.seg.name r.ask (to_ask r)
+    by_reading source (Some r) = fetches_plain source.seg.name r.ask (reading_unanswered r)
 
     by : (o : Option Present) → ArePlain (repeated o)
     by None = tt
@@ -201,7 +201,7 @@ heard_in : TakeState → Report → TakeState
 heard_in s report = record s { reports = s.reports ++ report ∷ [] }
 
 begun_on : (s : TakeState) (report : Report) → IsReady s → awaits s report.from ≡ true
-    → On (record s { reports = s.reports ++ report ∷ [] }) (begun_if_all (record s { reports = s.reports ++ report ∷ [] }))
+    → On (record s { reports = s.reports ++ report ∷ [] }) (begin_if_all (record s { reports = s.reports ++ report ∷ [] }))
 begun_on s report ready awaits_it =
     let h : TakeState = record s { reports = s.reports ++ report ∷ [] } in
     by_test (On h) (length (awaited h) == 0) (go_on (record h { sources = sources_of h.news h.reports })) (still h)
@@ -309,10 +309,10 @@ unfolding on_report
 took_report s from held end ready once =
     let report : Report = record { from = from; held = held; end = end } in
     let i : Input = input.Report from held end in
-    by_test (Took s i) (can_ask s && awaits s from) (begun_if_all (record s { reports = s.reports ++ report ∷ [] })) (still s)
+    by_test (Took s i) (can_ask s && awaits s from) (begin_if_all (record s { reports = s.reports ++ report ∷ [] })) (still s)
     (λ t.
     let new = and_second (can_ask s) (awaits s from) t in
-    let d = begun_if_all (record s { reports = s.reports ++ report ∷ [] }) in
+    let d = begin_if_all (record s { reports = s.reports ++ report ∷ [] }) in
     let h = begun_on s report ready new in
     record {
       news = h.news;

@@ -23,13 +23,13 @@ use Rattle.takeover.specs.declared.output.Out.{Out}
 use Rattle.takeover.specs.declared.output.Out.TheVariants as out
 use Rattle.takeover.specs.declared.report.Report.{Report as Heard}
 use Rattle.takeover.specs.Reports.{beliefs_of, applied_of}
-use Rattle.takeover.specs.TakeState.{TakeState, started}
+use Rattle.takeover.specs.TakeState.{TakeState, take_start}
 use Rattle.takeover.specs.Transition.{active, transition}
 use Rattle.token_law.specs.Net.{Net}
 use Rattle.token_law.specs.Net.Packet.{ReportSent}
 use Rattle.token_law.specs.Net.Runs.{Begun, On}
 use Rattle.token_manager.specs.SlotState.{SlotState}
-use Rattle.token_manager.specs.Transition.{started as slot_started}
+use Rattle.token_manager.specs.Transition.{slot_start as slot_started}
 use Rattle.token_protocol.specs.Basics.{put, In}
 use Rattle.token_protocol.specs.Premises.{Premise}
 use Rattle.token_protocol.proofs.Refining.{put_each}
@@ -38,8 +38,8 @@ use Rattle.manager_slots.specs.declared.slot_phase.SlotPhase.{SlotPhase}
 use Rattle.manager_slots.specs.declared.slot_phase.SlotPhase.TheVariants as phase
 use Rattle.manager_slots.specs.declared.slot_phase.Taking.{Taking}
 use Rattle.manager_slots.specs.Slots.{epoch_of}
-use Rattle.manager_slots.specs.SlotTable.{Hearer, hears_of}
-use Rattle.manager_slots.specs.Takeovers.{Asker, asker, Done, fetches, says, says_each, heard, takes, is_wanted, asks_again, report_input, on_report, phase_of}
+use Rattle.manager_slots.specs.SlotTable.{Hearer, hear_of}
+use Rattle.manager_slots.specs.Takeovers.{Asker, asker, Done, takeovers_fetch, takeovers_say, say_each, outs_of, takeovers_take, is_wanted, takeovers_ask_again, report_input, on_report, phase_of}
 use Rattle.node_slots.specs.node_tie.ManagerEvents.{HeldAt, ManagedAt, ReportKnown, TakingAgrees, PhaseAgrees, OtherAgrees, ReportGets, NewsGets, HasGathered, Completes, TakeoverGets, LastReportGets}
 use Rattle.node_slots.proofs.node_tie.SmallWorld.{premise_by}
 use Rattle.node_slots.proofs.node_tie.ManagerActive.{put_here, put_there, some_none, Event, event_staying, event_same, Other}
@@ -77,7 +77,7 @@ module _ (logs : Bool) (members part limit life : ℕ) where
     quiet_still : (a : Asker) → A a.phase → Quiet A n a.phase (still a)
     quiet_still a agrees = record { agrees = agrees; stays = stays_same logs members part limit life n a.phase [] tt }
 
-    quiet_fetches : (p : SlotPhase) (q : Questions) (server : ℕ) (name : SegName) (own : ℕ) → A p → Quiet A n p (fetches p q server name own)
+    quiet_fetches : (p : SlotPhase) (q : Questions) (server : ℕ) (name : SegName) (own : ℕ) → A p → Quiet A n p (takeovers_fetch p q server name own)
     quiet_fetches (phase.Taking t) q server name own agrees =
         record { agrees = lasts.asked t _ agrees; stays = record { epoch = refl; taking = λ e h. h; held = λ e h. h; managed = λ e h. h; does = (tt, tt) } }
     quiet_fetches (phase.Away epoch) q server name own agrees = quiet_still (asker (phase.Away epoch) q) agrees
@@ -88,21 +88,21 @@ module _ (logs : Bool) (members part limit life : ℕ) where
     abbrev pub Idle : SlotPhase → Type 0
     Idle p = (e : ℕ) → ManagedAt p e → ⊥
 
-    idle_fetches : (p : SlotPhase) (q : Questions) (server : ℕ) (name : SegName) (own : ℕ) → Idle p → Idle (fetches p q server name own).state.phase
+    idle_fetches : (p : SlotPhase) (q : Questions) (server : ℕ) (name : SegName) (own : ℕ) → Idle p → Idle (takeovers_fetch p q server name own).state.phase
     idle_fetches (phase.Taking t) q server name own idle = idle
     idle_fetches (phase.Away epoch) q server name own idle = idle
     idle_fetches (phase.Active active) q server name own idle = idle
     idle_fetches (phase.Broken epoch seg) q server name own idle = idle
 
-    idle_says : (a : Asker) (o : Out) → IsPlain o → Idle a.phase → Idle (says k a o).state.phase
-    unfolding says
+    idle_says : (a : Asker) (o : Out) → IsPlain o → Idle a.phase → Idle (takeovers_say k a o).state.phase
+    unfolding takeovers_say
     idle_says a (out.Poll to) plain idle = idle
     idle_says a (out.Fetch server name own) plain idle = idle_fetches a.phase a.questions server name own idle
     idle_says a (out.Active epoch index beliefs applied) plain idle = absurd plain
     idle_says a (out.Lost seg) plain idle = λ e h. h
 
-    quiet_says : (a : Asker) (o : Out) → IsPlain o → A a.phase → Idle a.phase → IsLow k a.phase → Quiet A n a.phase (says k a o)
-    unfolding says
+    quiet_says : (a : Asker) (o : Out) → IsPlain o → A a.phase → Idle a.phase → IsLow k a.phase → Quiet A n a.phase (takeovers_say k a o)
+    unfolding takeovers_say
     quiet_says a (out.Poll to) plain agrees idle low = record { agrees = agrees; stays = stays_same logs members part limit life n a.phase _ (low, tt) }
     quiet_says a (out.Fetch server name own) plain agrees idle low = quiet_fetches a.phase a.questions server name own agrees
     quiet_says a (out.Active epoch index beliefs applied) plain agrees idle low = absurd plain
@@ -113,33 +113,33 @@ module _ (logs : Bool) (members part limit life : ℕ) where
     }
 
     -- nothing is said
-    pub quiet_none : (a : Asker) → A a.phase → Quiet A n a.phase (says_each k a [])
-    unfolding says_each
+    pub quiet_none : (a : Asker) → A a.phase → Quiet A n a.phase (say_each k a [])
+    unfolding say_each
     quiet_none a agrees = quiet_still a agrees
 
-    pub quiet_each : (a : Asker) (outs : List Out) → ArePlain outs → A a.phase → Idle a.phase → IsLow k a.phase → Quiet A n a.phase (says_each k a outs)
-    unfolding says_each
+    pub quiet_each : (a : Asker) (outs : List Out) → ArePlain outs → A a.phase → Idle a.phase → IsLow k a.phase → Quiet A n a.phase (say_each k a outs)
+    unfolding say_each
     quiet_each a [] plain agrees idle low = quiet_still a agrees
     quiet_each a (o ∷ os) plain agrees idle low =
         let one = quiet_says a o plain.0 agrees idle low in
-        let rest = quiet_each (says k a o).state os plain.1 one.agrees (idle_says a o plain.0 idle)
+        let rest = quiet_each (takeovers_say k a o).state os plain.1 one.agrees (idle_says a o plain.0 idle)
         (λ same. let l = low same in let e = one.stays.epoch in omega arith) in
         record {
           agrees = rest.agrees;
-          stays = stays_then logs members part limit life n a.phase (says k a o).state.phase _ (says k a o).outs _ one.stays rest.stays;
+          stays = stays_then logs members part limit life n a.phase (takeovers_say k a o).state.phase _ (takeovers_say k a o).outs _ one.stays rest.stays;
         }
 
     -- time alone says nothing else
-    pub quiet_ticks : (p : SlotPhase) (q : Questions) → A p → IsLow k p → Quiet A n p (takes (asker p q) k input.Tick)
-    unfolding takes heard
+    pub quiet_ticks : (p : SlotPhase) (q : Questions) → A p → IsLow k p → Quiet A n p (takeovers_take (asker p q) k input.Tick)
+    unfolding takeovers_take outs_of
     quiet_ticks (phase.Taking t) q agrees low =
         quiet_each (asker (phase.Taking t) q) (transition t.take input.Tick).outs (tick_said t.take) agrees (λ e h. h) low
     quiet_ticks (phase.Away epoch) q agrees low = quiet_none (asker (phase.Away epoch) q) agrees
     quiet_ticks (phase.Active active) q agrees low = quiet_none (asker (phase.Active active) q) agrees
     quiet_ticks (phase.Broken epoch seg) q agrees low = quiet_none (asker (phase.Broken epoch seg) q) agrees
 
-    pub quiet_asks : (p : SlotPhase) (q : Questions) (polls : Bool) → A p → IsLow k p → Quiet A n p (asks_again (asker p q) k polls)
-    unfolding asks_again heard
+    pub quiet_asks : (p : SlotPhase) (q : Questions) (polls : Bool) → A p → IsLow k p → Quiet A n p (takeovers_ask_again (asker p q) k polls)
+    unfolding takeovers_ask_again outs_of
     quiet_asks (phase.Taking t) q polls agrees low = quiet_each (asker (phase.Taking t) q) (filter (is_wanted polls) (transition t.take input.Tick).outs)
         (kept_plain (is_wanted polls) (transition t.take input.Tick).outs (tick_said t.take)) agrees (λ e h. h) low
     quiet_asks (phase.Away epoch) q polls agrees low = quiet_none (asker (phase.Away epoch) q) agrees
@@ -157,8 +157,8 @@ module _ (logs : Bool) (members part limit life : ℕ) where
   -- the takeover hands the slot out
   handed : (n : Net) (t : Taking) (q : Questions) (k : ℕ) (index : List (BlockId × Entry)) → TakingAgrees members part n t
       → Hands t.take (active t.take index ∷ []) → Premise logs (HasGathered members part n t.take index)
-      → AskEvent n (phase.Taking t) (says_each k (asker (phase.Taking t) q) (active t.take index ∷ []))
-  unfolding says_each says applied_of
+      → AskEvent n (phase.Taking t) (say_each k (asker (phase.Taking t) q) (active t.take index ∷ []))
+  unfolding say_each takeovers_say applied_of
   handed n t q k index agrees hands gathered =
       let e = t.take.news.epoch in
       let of : e ≡ t.epoch = agrees.epoch in
@@ -232,7 +232,7 @@ module _ (logs : Bool) (members part limit life : ℕ) where
   plain_taken : (n : Net) (k : ℕ) (t : Taking) (q : Questions) (given : Input) → TakingAgrees members part n (record t { take = (transition t.take given).state })
       → ArePlain (transition t.take given).outs → IsLow k (phase.Taking t)
       → Quiet (PhaseAgrees members part n) n (phase.Taking t)
-      (says_each k (asker (phase.Taking (record t { take = (transition t.take given).state })) q) (transition t.take given).outs)
+      (say_each k (asker (phase.Taking (record t { take = (transition t.take given).state })) q) (transition t.take given).outs)
   plain_taken n k t q given on plain low =
       let u : Taking = record t { take = (transition t.take given).state } in
       let d = quiet_each (PhaseAgrees members part n) (phases_last n) n k (asker (phase.Taking u) q) (transition t.take given).outs plain on (λ e h. h) low in
@@ -243,8 +243,8 @@ module _ (logs : Bool) (members part limit life : ℕ) where
 
   -- newer groups complete no takeover
   pub quiet_maps : (n : Net) (k : ℕ) (p : SlotPhase) (q : Questions) (groups : GroupMapState) → PhaseAgrees members part n p → IsLow k p
-      → Quiet (PhaseAgrees members part n) n p (takes (asker p q) k (input.Maps groups))
-  unfolding takes heard
+      → Quiet (PhaseAgrees members part n) n p (takeovers_take (asker p q) k (input.Maps groups))
+  unfolding takeovers_take outs_of
   quiet_maps n k (phase.Taking t) q groups agrees low =
       plain_taken n k t q (input.Maps groups) (taken_on n t (input.Maps groups) agrees (λ r fact. absurd fact)) (maps_said t.take groups) low
   quiet_maps n k (phase.Away epoch) q groups agrees low = quiet_none (PhaseAgrees members part n) (phases_last n) n k (asker (phase.Away epoch) q) agrees
@@ -254,8 +254,8 @@ module _ (logs : Bool) (members part limit life : ℕ) where
 
   pub slot_hears : (n : Net) (k : ℕ) (p : SlotPhase) (q : Questions) (given : Input) → PhaseAgrees members part n p → IsLow k p
       → ((r : Heard) → Brings given r → ReportKnown members part n (epoch_of p) r.from r.held r.end) → TakeoverGets logs members part n p given
-      → AskEvent n p (takes (asker p q) k given)
-  unfolding takes heard
+      → AskEvent n p (takeovers_take (asker p q) k given)
+  unfolding takeovers_take outs_of
   slot_hears n k (phase.Away epoch) q given agrees low known owed = event_of n (phase.Away epoch) _
       (quiet_none (PhaseAgrees members part n) (phases_last n) n k (asker (phase.Away epoch) q) agrees)
   slot_hears n k (phase.Active a) q given agrees low known owed = event_of n (phase.Active a) _
@@ -266,9 +266,9 @@ module _ (logs : Bool) (members part limit life : ℕ) where
       let u : Taking = record t { take = (transition t.take given).state } in
       let on = taken_on n t given agrees known in
       ⊎_elim
-      (λ plain. event_of n (phase.Taking t) (says_each k (asker (phase.Taking u) q) (transition t.take given).outs)
+      (λ plain. event_of n (phase.Taking t) (say_each k (asker (phase.Taking u) q) (transition t.take given).outs)
       (plain_taken n k t q given on plain low))
-      (λ hands. subst (λ os. AskEvent n (phase.Taking t) (says_each k (asker (phase.Taking u) q) os)) (sym hands.says_active)
+      (λ hands. subst (λ os. AskEvent n (phase.Taking t) (say_each k (asker (phase.Taking u) q) os)) (sym hands.says_active)
       (from_taking n t u.take _ _ (handed n u q k hands.index on (record { index = hands.index; says_active = refl; reported = hands.reported })
       (premise_by logs (λ (owed : Completes members part n t.take given). owed hands.index (subst (In _) (sym hands.says_active) (inl refl))) owed))))
       (took t.take given agrees.ready agrees.once).said
@@ -278,7 +278,7 @@ module _ (logs : Bool) (members part limit life : ℕ) where
       → report.slot ≡ part → ReportGets part n members from report → LastReportGets logs members part n p from report
       → AskEvent n p (on_report (asker p q) from report)
   slot_reports n p q from report agrees low of gets owed =
-      by_test (AskEvent n p) (report.epoch == epoch_of p) (takes (asker p q) report.slot (report_input from report)) (still (asker p q))
+      by_test (AskEvent n p) (report.epoch == epoch_of p) (takeovers_take (asker p q) report.slot (report_input from report)) (still (asker p q))
       (λ same. slot_hears n report.slot p q (report_input from report) agrees (λ _. low)
       (λ r fact. known from gets (eqb-true report.epoch (epoch_of p) same) r fact) (owed of (eqb-true report.epoch (epoch_of p) same)))
       (λ _. event_same logs members part limit life n p [] agrees tt)
@@ -296,8 +296,8 @@ module _ (logs : Bool) (members part limit life : ℕ) where
   -- ---- any input, of another slot
 
   pub other_says : (n : Net) (k : ℕ) (a : Asker) (o : Out) → (k ≡ part → ⊥) → OtherAgrees k a.phase
-      → Other logs members part limit life n k (says k a o).state.phase (says k a o).outs
-  unfolding says
+      → Other logs members part limit life n k (takeovers_say k a o).state.phase (takeovers_say k a o).outs
+  unfolding takeovers_say
   other_says n k a (out.Poll to) other agrees = record { agrees = agrees; does = (λ same. absurd (other same), tt) }
   other_says n k a (out.Fetch server name own) other agrees = let d = quiet_fetches (OtherAgrees k)
       (others_last k) n k a.phase a.questions server name own agrees in record { agrees = d.agrees; does = d.stays.does }
@@ -306,36 +306,36 @@ module _ (logs : Bool) (members part limit life : ℕ) where
   other_says n k a (out.Lost seg) other agrees = record { agrees = tt; does = (tt, tt) }
 
   other_each : (n : Net) (k : ℕ) (a : Asker) (outs : List Out) → (k ≡ part → ⊥) → OtherAgrees k a.phase
-      → Other logs members part limit life n k (says_each k a outs).state.phase (says_each k a outs).outs
-  unfolding says_each
+      → Other logs members part limit life n k (say_each k a outs).state.phase (say_each k a outs).outs
+  unfolding say_each
   other_each n k a [] other agrees = record { agrees = agrees; does = tt }
   other_each n k a (o ∷ os) other agrees =
       let one = other_says n k a o other agrees in
-      let rest = other_each n k (says k a o).state os other one.agrees in
-      record { agrees = rest.agrees; does = all_append (DoesAt logs members part limit life n) (says k a o).outs _ one.does rest.does }
+      let rest = other_each n k (takeovers_say k a o).state os other one.agrees in
+      record { agrees = rest.agrees; does = all_append (DoesAt logs members part limit life n) (takeovers_say k a o).outs _ one.does rest.does }
 
   abbrev pub OtherAsks : Net → ℕ → Done → Type 0
   OtherAsks n k d = Other logs members part limit life n k d.state.phase d.outs
 
-  other_heard : (k : ℕ) (p : SlotPhase) (given : Input) → OtherAgrees k p → OtherAgrees k (heard p given).state
-  unfolding heard
+  other_heard : (k : ℕ) (p : SlotPhase) (given : Input) → OtherAgrees k p → OtherAgrees k (outs_of p given).state
+  unfolding outs_of
   other_heard k (phase.Active active) given agrees = agrees
   other_heard k _ given agrees = tt
 
-  pub other_hears : (n : Net) (k : ℕ) (a : Asker) (given : Input) → (k ≡ part → ⊥) → OtherAgrees k a.phase → OtherAsks n k (takes a k given)
-  unfolding takes
-  other_hears n k a given other agrees = other_each n k (record a { phase = (heard a.phase given).state }) (heard a.phase given).outs other
+  pub other_hears : (n : Net) (k : ℕ) (a : Asker) (given : Input) → (k ≡ part → ⊥) → OtherAgrees k a.phase → OtherAsks n k (takeovers_take a k given)
+  unfolding takeovers_take
+  other_hears n k a given other agrees = other_each n k (record a { phase = (outs_of a.phase given).state }) (outs_of a.phase given).outs other
       (other_heard k a.phase given agrees)
 
-  pub other_asks : (n : Net) (k : ℕ) (a : Asker) (polls : Bool) → (k ≡ part → ⊥) → OtherAgrees k a.phase → OtherAsks n k (asks_again a k polls)
-  unfolding asks_again
-  other_asks n k a polls other agrees = other_each n k (record a { phase = (heard a.phase input.Tick).state })
-      (filter (is_wanted polls) (heard a.phase input.Tick).outs) other (other_heard k a.phase input.Tick agrees)
+  pub other_asks : (n : Net) (k : ℕ) (a : Asker) (polls : Bool) → (k ≡ part → ⊥) → OtherAgrees k a.phase → OtherAsks n k (takeovers_ask_again a k polls)
+  unfolding takeovers_ask_again
+  other_asks n k a polls other agrees = other_each n k (record a { phase = (outs_of a.phase input.Tick).state })
+      (filter (is_wanted polls) (outs_of a.phase input.Tick).outs) other (other_heard k a.phase input.Tick agrees)
 
   pub other_reports : (n : Net) (a : Asker) (from : NodeId) (report : Report) → (report.slot ≡ part → ⊥) → OtherAgrees report.slot a.phase
       → OtherAsks n report.slot (on_report a from report)
   other_reports n a from report other agrees =
-      by_test (OtherAsks n report.slot) (report.epoch == epoch_of a.phase) (takes a report.slot (report_input from report)) (still a)
+      by_test (OtherAsks n report.slot) (report.epoch == epoch_of a.phase) (takeovers_take a report.slot (report_input from report)) (still a)
       (λ _. other_hears n report.slot a (report_input from report) other agrees) (λ _. record { agrees = agrees; does = tt })
 
   -- ---- news of the slot, and of another
@@ -356,7 +356,7 @@ module _ (logs : Bool) (members part limit life : ℕ) where
       → (news.manager ≡ j → named news.epoch) → Begins named n news (phase_of number news groups clients)
   begins named j n number news groups clients known is_j many of later gets named_ =
       by_test (Begins named n news) (news.manager == number)
-      (phase.Taking (record { epoch = news.epoch; take = started news groups clients; fetches = record { own = 0; ask = 0 } })) (phase.Away news.epoch)
+      (phase.Taking (record { epoch = news.epoch; take = take_start news groups clients; fetches = record { own = 0; ask = 0 } })) (phase.Away news.epoch)
       (λ same. let ours : news.manager ≡ j = eqb-true news.manager number same ∙ is_j in record {
         agrees = record {
           free = gets.new ours later;
@@ -374,11 +374,11 @@ module _ (logs : Bool) (members part limit life : ℕ) where
 
   pub slot_hears_of : (named : ℕ → Type 0) (j : ℕ) (n : Net) (h : Hearer) (news : SlotNews) (one : Asker) → h.ears.number ≡ j → h.ears.clients + 1 ≡ members
       → news.slot ≡ part → PhaseAgrees members part n one.phase → epoch_of one.phase ≤ limit
-      → NewsGets part limit j n (epoch_of one.phase) news → (news.manager ≡ j → named news.epoch) → Rose named n one.phase news (hears_of h news one)
-  unfolding hears_of
+      → NewsGets part limit j n (epoch_of one.phase) news → (news.manager ≡ j → named news.epoch) → Rose named n one.phase news (hear_of h news one)
+  unfolding hear_of
   slot_hears_of named j n h news one is_j many of agrees low gets named_ =
       let begun = phase_of h.ears.number news h.groups h.ears.clients in
-      by_test (Rose named n one.phase news) (nat_lt (epoch_of one.phase) news.epoch) (takes (record one { phase = begun }) news.slot input.Tick) (still one)
+      by_test (Rose named n one.phase news) (nat_lt (epoch_of one.phase) news.epoch) (takeovers_take (record one { phase = begun }) news.slot input.Tick) (still one)
       (λ less.
       let later : epoch_of one.phase < news.epoch = ltb-true (epoch_of one.phase) news.epoch less in
       let b = begins named j n h.ears.number news h.groups h.ears.clients (epoch_of one.phase) is_j many of later gets named_ in
@@ -406,13 +406,13 @@ module _ (logs : Bool) (members part limit life : ℕ) where
       })
 
   pub other_hears_of : (n : Net) (h : Hearer) (news : SlotNews) (one : Asker) → (news.slot ≡ part → ⊥) → OtherAgrees news.slot one.phase
-      → OtherAsks n news.slot (hears_of h news one)
-  unfolding hears_of
+      → OtherAsks n news.slot (hear_of h news one)
+  unfolding hear_of
   other_hears_of n h news one other agrees =
       let begun = phase_of h.ears.number news h.groups h.ears.clients in
-      by_test (OtherAsks n news.slot) (nat_lt (epoch_of one.phase) news.epoch) (takes (record one { phase = begun }) news.slot input.Tick) (still one)
+      by_test (OtherAsks n news.slot) (nat_lt (epoch_of one.phase) news.epoch) (takeovers_take (record one { phase = begun }) news.slot input.Tick) (still one)
       (λ _. other_hears n news.slot (record one { phase = begun }) input.Tick other
       (by_test (OtherAgrees news.slot) (news.manager == h.ears.number)
-      (phase.Taking (record { epoch = news.epoch; take = started news h.groups h.ears.clients; fetches = record { own = 0; ask = 0 } }))
+      (phase.Taking (record { epoch = news.epoch; take = take_start news h.groups h.ears.clients; fetches = record { own = 0; ask = 0 } }))
       (phase.Away news.epoch) (λ _. tt) (λ _. tt)))
       (λ _. record { agrees = agrees; does = tt })

@@ -6,7 +6,7 @@ use Rattle.log_owner.proofs.Behaving.{begin_so, packet_so, tick_so}
 use Rattle.log_owner.specs.Behaves.{IsServer, MaySay, MayAct, MayDo}
 use Rattle.log_owner.specs.declared.ended.Owner.{Owner}
 use Rattle.log_owner.specs.declared.opening.Opening.{Opening}
-use Rattle.log_owner.specs.Opening.{on_start, on_packet, on_tick}
+use Rattle.log_owner.specs.Opening.{on_start, opening_take, on_tick}
 use Rattle.node_base.specs.declared.effects.Effect.{Effect}
 use Rattle.node_base.specs.declared.effects.Effect.TheVariants.{Send, Answer, Lose, Does}
 use Rattle.node_base.specs.declared.questions.Questions.{Questions}
@@ -68,8 +68,8 @@ module _ (owner : Owner) (D : Effect → Type 0) (may : OpeningMay owner D) wher
   start_does servers q = opening_does (on_start owner servers q).effects (begin_so owner servers q).does
 
 module _ (o : Opening) (q : Questions) (D : Effect → Type 0) (may : OpeningMay o.known.owner D) where
-  pub packet_does : (p : Packet) → AllByRecursion D (on_packet o q p).effects
-  packet_does p = opening_does o.known.owner D may (on_packet o q p).effects (packet_so o q p).does
+  pub packet_does : (p : Packet) → AllByRecursion D (opening_take o q p).effects
+  packet_does p = opening_does o.known.owner D may (opening_take o q p).effects (packet_so o q p).does
 
   pub tick_does : AllByRecursion D (on_tick o q).effects
   tick_does = opening_does o.known.owner D may (on_tick o q).effects (tick_so o q).does

@@ -7,7 +7,7 @@ use Rattle.std.proofs.lemmas.Map.Lookups.{exact_unsigned}
 use Rattle.std.proofs.lemmas.Map.Views.{tells_apart}
 use Rattle.std.proofs.Math.ListN.{length-set}
 use Rattle.manager_map.specs.declared.entry.SlotEntry.{SlotEntry}
-use Rattle.manager_map.specs.Slots.{entry_at, next_entry, after_move}
+use Rattle.manager_map.specs.Slots.{entry_at, next_entry, manager_map_advance}
 use Rattle.registry.specs.Board.{Made, inc_of, hears_manager, manager_restarted, manager_hello, can_move, moved}
 use Rattle.registry.specs.BoardState.{BoardState}
 use Rattle.registry.specs.declared.output.Out.TheVariants.{Changed}
@@ -165,22 +165,22 @@ module _ (part : ℕ) (Told : ℕ → ℕ → Type 0) (s : BoardState) (sound : 
   -- ---- a slot that is given to a manager
 
   module _ (low : s.version < u32_end) (at m : ℕ) (there : at < 8) where
-    moved_here : entry_at (after_move s.entries at m) at ≡ next_entry (entry_at s.entries at) m
+    moved_here : entry_at (manager_map_advance s.entries at m) at ≡ next_entry (entry_at s.entries at) m
     moved_here = set_same s.entries at (next_entry (entry_at s.entries at) m) (omega (arith, sound.slots))
 
-    moved_other : (slot : ℕ) → at ≢ slot → entry_at (after_move s.entries at m) slot ≡ entry_at s.entries slot
+    moved_other : (slot : ℕ) → at ≢ slot → entry_at (manager_map_advance s.entries at m) slot ≡ entry_at s.entries slot
     moved_other slot apart = set_other s.entries at slot (next_entry (entry_at s.entries at) m) apart
 
     -- the slot that is given has its next epoch
-    moved_up : (slot : ℕ) → at ≡ slot → (entry_at (after_move s.entries at m) slot).epoch ≡ (entry_at s.entries slot).epoch + 1
+    moved_up : (slot : ℕ) → at ≡ slot → (entry_at (manager_map_advance s.entries at m) slot).epoch ≡ (entry_at s.entries slot).epoch + 1
     moved_up slot fact =
-        subst (λ (q : ℕ). (entry_at (after_move s.entries at m) q).epoch ≡ (entry_at s.entries q).epoch + 1) fact
+        subst (λ (q : ℕ). (entry_at (manager_map_advance s.entries at m) q).epoch ≡ (entry_at s.entries q).epoch + 1) fact
         (ap (λ (e : SlotEntry). e.epoch) moved_here ∙ next_epoch (entry_at s.entries at) m (low_epochs low at there))
 
-    move_little : (slot : ℕ) → slot < 8 → (entry_at (after_move s.entries at m) slot).epoch ≤ (entry_at s.entries slot).epoch + 1
+    move_little : (slot : ℕ) → slot < 8 → (entry_at (manager_map_advance s.entries at m) slot).epoch ≤ (entry_at s.entries slot).epoch + 1
     move_little slot below = by_place (at == slot) refl
       where
-        by_place : (t : Bool) → (at == slot) ≡ t → (entry_at (after_move s.entries at m) slot).epoch ≤ (entry_at s.entries slot).epoch + 1
+        by_place : (t : Bool) → (at == slot) ≡ t → (entry_at (manager_map_advance s.entries at m) slot).epoch ≤ (entry_at s.entries slot).epoch + 1
         by_place true same = omega (arith, moved_up slot (grind (arith, nat_tests)))
         by_place false other = omega (arith, ap (λ (e : SlotEntry). e.epoch) (moved_other slot (grind (arith, nat_tests))))
 
@@ -190,7 +190,7 @@ module _ (part : ℕ) (Told : ℕ → ℕ → Type 0) (s : BoardState) (sound : 
         by_place : (t : Bool) → (at == part % 8) ≡ t → SlotGoes part s (moved s at m)
         by_place true same = inr (moved_up (part % 8) (grind (arith, nat_tests)))
         by_place false other =
-            let same : entry_at (after_move s.entries at m) (part % 8) ≡ entry_at s.entries (part % 8) = moved_other (part % 8) (grind (arith, nat_tests)) in
+            let same : entry_at (manager_map_advance s.entries at m) (part % 8) ≡ entry_at s.entries (part % 8) = moved_other (part % 8) (grind (arith, nat_tests)) in
             inl (ap (λ (e : SlotEntry). e.epoch) same, ap (λ (e : SlotEntry). e.manager) same)
 
     goes_moved : BoardGoes part Told s (moved s at m)

@@ -5,7 +5,7 @@ use Rattle.std.proofs.lemmas.List.FromFn.{length-map-range_with_len, get_or-map-
 use Rattle.std.proofs.lemmas.Option.{unwrap_or-slice_get}
 use Rattle.manager_map.proofs.Epochs.{start_epoch}
 use Rattle.manager_map.specs.declared.entry.SlotEntry.{SlotEntry}
-use Rattle.manager_map.specs.Slots.{first_entry, start_entries}
+use Rattle.manager_map.specs.Slots.{first_entry, manager_map_start}
 use Rattle.node_base.specs.declared.effects.Effect.{Effect}
 use Rattle.node_base.specs.Room.{has_room}
 use Rattle.registry.specs.Board.{checkpointed, server_lost, transition}
@@ -107,5 +107,5 @@ registry_begins part below setup items = record {
     start_manager : manager_in (registry_start setup items).board part ≡ part % setup.managers + 1
     start_manager =
         ap (λ (e : SlotEntry). e.manager)
-        (unwrap_or-slice_get (start_entries setup.managers) (part % 8) (record { epoch = 0; manager = 0 })
+        (unwrap_or-slice_get (manager_map_start setup.managers) (part % 8) (record { epoch = 0; manager = 0 })
         ∙ get_or-map-range_with_len (first_entry setup.managers) 0 8 (part % 8) part (record { epoch = 0; manager = 0 }) (omega arith) (omega arith))

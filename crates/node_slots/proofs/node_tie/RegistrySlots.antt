@@ -9,7 +9,7 @@ use Rattle.std.proofs.lemmas.Bool.Decides.{nat_tests}
 use Rattle.std.proofs.lemmas.Cmp.{eq_by_cmp_equiv, nat_cmp_total}
 use Rattle.std.proofs.Math.ListN.{length-set}
 use Rattle.manager_map.specs.declared.entry.SlotEntry.{SlotEntry}
-use Rattle.manager_map.specs.Slots.{entry_at, next_entry, after_move}
+use Rattle.manager_map.specs.Slots.{entry_at, next_entry, manager_map_advance}
 use Rattle.registry.specs.Board.{inc_of}
 use Rattle.registry.specs.Slots.{all_slots, entry_of, raise_one, raised, can_rise_one, can_rise}
 use Rattle.xfs_base.proofs.BlockOrder.{lookup-insert_entry}
@@ -41,12 +41,12 @@ unfoldable pub raised_entry : ℕ → SlotEntry → SlotEntry
 raised_entry manager e = cond (e.manager == manager) (next_entry e manager) e
 
 -- it moves a slot, or leaves all as it is
-raise_keeps : (P : List SlotEntry → Type 0) (manager : ℕ) (es : List SlotEntry) (slot : ℕ) → P es → P (after_move es slot manager)
+raise_keeps : (P : List SlotEntry → Type 0) (manager : ℕ) (es : List SlotEntry) (slot : ℕ) → P es → P (manager_map_advance es slot manager)
     → P (raise_one manager es slot)
 unfolding raise_one
 raise_keeps P manager es slot as_is moved =
-    by_test P ((entry_of es slot).manager == manager) (cond (nat_lt 7 slot) es (after_move es slot manager)) es
-    (λ t. by_test P (nat_lt 7 slot) es (after_move es slot manager) (λ u. as_is) (λ u. moved))
+    by_test P ((entry_of es slot).manager == manager) (cond (nat_lt 7 slot) es (manager_map_advance es slot manager)) es
+    (λ t. by_test P (nat_lt 7 slot) es (manager_map_advance es slot manager) (λ u. as_is) (λ u. moved))
     (λ t. as_is)
 
 raise_long : (manager : ℕ) (es : List SlotEntry) (slot : ℕ) → length (raise_one manager es slot) ≡ length es
@@ -62,7 +62,7 @@ raise_same : (manager : ℕ) (es : List SlotEntry) (p : ℕ) → p < 8 → lengt
 unfolding raise_one raised_entry
 raise_same manager es p below long =
     subst
-    (λ (q : ℕ). entry_at (cond ((entry_at es q).manager == manager) (cond (nat_lt 7 p) es (after_move es p manager)) es) p ≡ raised_entry manager
+    (λ (q : ℕ). entry_at (cond ((entry_at es q).manager == manager) (cond (nat_lt 7 p) es (manager_map_advance es p manager)) es) p ≡ raised_entry manager
     (entry_at es p))
     (sym low)
     (at ((entry_at es p).manager == manager))
@@ -70,9 +70,9 @@ raise_same manager es p below long =
     low : p % 8 ≡ p
     low = omega arith
 
-    at : (t : Bool) → entry_at (cond t (cond (nat_lt 7 p) es (after_move es p manager)) es) p ≡ cond t (next_entry (entry_at es p) manager) (entry_at es p)
+    at : (t : Bool) → entry_at (cond t (cond (nat_lt 7 p) es (manager_map_advance es p manager)) es) p ≡ cond t (next_entry (entry_at es p) manager) (entry_at es p)
     at true =
-        by_test (λ (xs : List SlotEntry). entry_at xs p ≡ next_entry (entry_at es p) manager) (nat_lt 7 p) es (after_move es p manager)
+        by_test (λ (xs : List SlotEntry). entry_at xs p ≡ next_entry (entry_at es p) manager) (nat_lt 7 p) es (manager_map_advance es p manager)
         (λ u. absurd (grind (arith, nat_tests))) (λ u. set_same es p (next_entry (entry_at es p) manager) (omega arith))
     at false = refl
 

@@ -10,7 +10,7 @@ use Rattle.node_base.specs.declared.questions.Questions.{Questions}
 use Rattle.manager_slots.specs.declared.slot_phase.SlotPhase.{SlotPhase}
 use Rattle.manager_slots.specs.declared.slot_phase.SlotPhase.TheVariants as phase
 use Rattle.manager_slots.specs.SlotTable as table
-use Rattle.manager_slots.specs.SlotTable.{Table, TableAsker, all_slots, unknown_table}
+use Rattle.manager_slots.specs.SlotTable.{Table, TableAsker, all_slots, slot_table_unknown}
 use Rattle.manager_slots.specs.Takeovers.{Asker, asker}
 use Rattle.headline.specs.Managers.{phase_at}
 use Rattle.node_slots.proofs.node_tie.ManagerActive.{some_none}
@@ -67,7 +67,7 @@ first_at f (suc (suc (suc (suc (suc (suc (suc zero))))))) h = refl
 first_at f (suc (suc (suc (suc (suc (suc (suc (suc k)))))))) h = absurd (omega arith)
 
 -- a table of which nothing is known
-pub unknown_at : (k : ℕ) → phase_at unknown_table k ≡ phase.Away 0
+pub unknown_at : (k : ℕ) → phase_at slot_table_unknown k ≡ phase.Away 0
 unknown_at zero = refl
 unknown_at (suc zero) = refl
 unknown_at (suc (suc zero)) = refl

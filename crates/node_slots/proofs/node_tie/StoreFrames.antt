@@ -5,7 +5,7 @@ use Rattle.std.proofs.lemmas.List.Elements.{All-nil, All-cons, All-append}
 use Rattle.node_base.specs.declared.effects.Effect.{Effect}
 use Rattle.node_base.specs.declared.effects.Effect.TheVariants.{Send, Answer, Lose, Does}
 use Rattle.node_base.specs.Beginning.{answers_unanswered}
-use Rattle.node_base.specs.Effects.{act_of, acts_of, packet_of, packets_of, sends_to}
+use Rattle.node_base.specs.Effects.{act_of, acts_of, packet_of, packets_of, send_each}
 use Rattle.token_law.specs.Owed.{IsNeutral}
 use Rattle.version_model.specs.declared.act.Act.{Act}
 use Rattle.version_model.specs.declared.act.Act.TheVariants.{Answered as DoesAnswer, Lost as DoesLose}
@@ -35,7 +35,7 @@ module _ (P : Body → Type 0) where
   answers_say None answer = tt
   answers_say (Some number) answer = (tt, tt)
 
-  pub each_may_say : (to : List NodeId) (said : Body) → P said → AllSay P (sends_to to said)
+  pub each_may_say : (to : List NodeId) (said : Body) → P said → AllSay P (send_each to said)
   each_may_say to said may = all_map (Says P) (λ (n : NodeId). Send n said) (λ n. may) to
 
 -- ---- packets

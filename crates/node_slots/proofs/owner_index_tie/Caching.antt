@@ -3,11 +3,11 @@ use Rattle.std.proofs.Common.{ℕ, ◌&&◌, not, List, [], ◌∷◌}
 use Rattle.std.specs.Prelude.{fold}
 use Rattle.client_log.specs.LogState.{LogState}
 use Rattle.client_serving.specs.declared.serving.Serving.{Serving}
-use Rattle.client_serving.specs.Flights.{held_at, notes_settled, keeps_clean, settled_rows}
-use Rattle.client_serving.specs.Follow.{evicts, notes_clean, notes_gone, notes_copy}
+use Rattle.client_serving.specs.Flights.{held_at, notes_settled, keep_row, settle_rows}
+use Rattle.client_serving.specs.Follow.{evicts, note_clean, note_gone, note_copy}
 use Rattle.coop_cache.specs.declared.output.Out as cache_out
 use Rattle.coop_cache.specs.declared.output.Out.TheVariants.{Victim}
-use Rattle.coop_cache.specs.Transition.{cleaned, left}
+use Rattle.coop_cache.specs.Transition.{cache_clean, cache_leave}
 use Rattle.delta_feed.specs.FeedState.{FeedState}
 use Rattle.token_client.specs.Held.{is_dirty}
 use Rattle.token_client.specs.State.{held_of}
@@ -31,20 +31,20 @@ module _ (Q : ℕ → LogState → FeedState → Type 0) where
   unfolding evicts
   evicts_so s (Victim block) h = h
 
-  pub notes_clean_so : (s : Serving) (block : BlockId) → At s → At (notes_clean s block)
-  unfolding notes_clean
-  notes_clean_so s block h =
-      stands_fold At evicts evicts_so (record s { cache = (cleaned s.cache block).state }) (cleaned s.cache block).outs h
+  pub note_clean_so : (s : Serving) (block : BlockId) → At s → At (note_clean s block)
+  unfolding note_clean
+  note_clean_so s block h =
+      stands_fold At evicts evicts_so (record s { cache = (cache_clean s.cache block).state }) (cache_clean s.cache block).outs h
 
-  pub notes_gone_so : (s : Serving) (block : BlockId) → At s → At (notes_gone s block)
-  unfolding notes_gone
-  notes_gone_so s block h =
-      by_test (λ (t : Serving). At t) (is_nothing (held_of s.tokens.blocks block).mode) (record s { cache = left s.cache block }) s (λ t. h) (λ t. h)
+  pub note_gone_so : (s : Serving) (block : BlockId) → At s → At (note_gone s block)
+  unfolding note_gone
+  note_gone_so s block h =
+      by_test (λ (t : Serving). At t) (is_nothing (held_of s.tokens.blocks block).mode) (record s { cache = cache_leave s.cache block }) s (λ t. h) (λ t. h)
 
-  pub notes_copy_so : (s : Serving) (block : BlockId) → At s → At (notes_copy s block)
-  unfolding notes_copy
-  notes_copy_so s block h =
-      by_test (λ (t : Serving). At t) (same_mode (held_of s.tokens.blocks block).mode Copy) (notes_clean s block) s (λ t. notes_clean_so s block h) (λ t. h)
+  pub note_copy_so : (s : Serving) (block : BlockId) → At s → At (note_copy s block)
+  unfolding note_copy
+  note_copy_so s block h =
+      by_test (λ (t : Serving). At t) (same_mode (held_of s.tokens.blocks block).mode Copy) (note_clean s block) s (λ t. note_clean_so s block h) (λ t. h)
 
   -- ---- settled versions
 
@@ -52,11 +52,11 @@ module _ (Q : ℕ → LogState → FeedState → Type 0) where
   unfolding notes_settled
   notes_settled_so s row h = h
 
-  keeps_clean_so : (s : Serving) (row : BlockId × Entry) → At s → At (keeps_clean s row)
-  unfolding keeps_clean
-  keeps_clean_so s row h =
-      by_test (λ (t : Serving). At t) (not (is_dirty (held_at s row.0)) && is_held (held_at s row.0).mode) (notes_clean s row.0) s
-      (λ t. notes_clean_so s row.0 h) (λ t. h)
+  keep_row_so : (s : Serving) (row : BlockId × Entry) → At s → At (keep_row s row)
+  unfolding keep_row
+  keep_row_so s row h =
+      by_test (λ (t : Serving). At t) (not (is_dirty (held_at s row.0)) && is_held (held_at s row.0).mode) (note_clean s row.0) s
+      (λ t. note_clean_so s row.0 h) (λ t. h)
 
-  pub settled_rows_so : (s : Serving) (rows : List (BlockId × Entry)) → At s → At (settled_rows s rows)
-  settled_rows_so s rows h = stands_fold At keeps_clean keeps_clean_so (fold notes_settled s rows) rows (stands_fold At notes_settled notes_settled_so s rows h)
+  pub settle_rows_so : (s : Serving) (rows : List (BlockId × Entry)) → At s → At (settle_rows s rows)
+  settle_rows_so s rows h = stands_fold At keep_row keep_row_so (fold notes_settled s rows) rows (stands_fold At notes_settled notes_settled_so s rows h)

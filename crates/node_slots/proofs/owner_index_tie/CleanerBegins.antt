@@ -6,17 +6,17 @@ use Rattle.std.specs.List.{range_with_len}
 use Rattle.std.proofs.lemmas.Bool.{eqb-true}
 use Rattle.std.proofs.lemmas.Bool.Decides.{nat_tests}
 use Rattle.cleaner_serving.specs.declared.emptying.Emptying.{Emptying}
-use Rattle.cleaner_serving.specs.EmptyingEvents.{promises_slot, promises_all, with_new_job, begins_job, on_clean}
-use Rattle.cleaner_serving.specs.Jobs.{Done, says, takes_in, job_takes, cleans}
+use Rattle.cleaner_serving.specs.EmptyingEvents.{promise_slot, promise_all, with_new_job, begin_job, on_clean}
+use Rattle.cleaner_serving.specs.Jobs.{Done, says, takes_in, emptying_take, emptying_clean}
 use Rattle.cleaner_job.specs.declared.job.Job.{Job}
-use Rattle.cleaner_job.specs.Jobs.{new_job}
+use Rattle.cleaner_job.specs.Jobs.{job_start}
 use Rattle.index_tie.specs.Net.{Net, Packet, Happens, with_job}
 use Rattle.index_tie.specs.Net.Happens.{JobBegins, JobPromises, JobTakes}
 use Rattle.index_tie.specs.Net.Runs.{Begun, On}
 use Rattle.log_owner.specs.Promised.{epoch_of}
 use Rattle.node_base.specs.declared.effects.Effect.TheVariants.{Answer as Answers}
 use Rattle.node_slots.specs.node_index_tie.Sight.{Questions, held_in}
-use Rattle.stripe_cleaner.specs.CleaningState.{CleaningState, started}
+use Rattle.stripe_cleaner.specs.CleaningState.{CleaningState, cleaning_start}
 use Rattle.stripe_cleaner.specs.declared.input.In.TheVariants as input
 use Rattle.stripe_cleaner.specs.declared.phase.Phase.TheVariants.{Greeting}
 use Rattle.stripe_cleaner.specs.Promises.{promised_at, promised_with, is_above}
@@ -89,8 +89,8 @@ module _ (New : Filed → Segment → Type 0) (part : ℕ) (texts : Texts) (sinc
 
     -- where it happens there, and this holds then
     goes_there : (P : Net → Emptying → Type 0) → Happens part (held_in part texts) n m → P m told
-        → frames.Goes_to New part texts since answered P asked n (promises_slot e slot)
-    unfolding promises_slot cleans job_takes
+        → frames.Goes_to New part texts since answered P asked n (promise_slot e slot)
+    unfolding promise_slot emptying_clean emptying_take
     goes_there P happens holds =
         subst (λ o. frames.Goes_to New part texts since answered P asked n
         (steps says (takes_in e o (input.Promise slot epoch)).state (takes_in e o (input.Promise slot epoch)).outs)) (sym k.has)
@@ -99,7 +99,7 @@ module _ (New : Filed → Segment → Type 0) (part : ℕ) (texts : Texts) (sinc
         (frames.went_quiet New part texts since answered asked m P told [] holds tt)))
 
     -- of another slot
-    still_before : (slot ≡ part → ⊥) → frames.Goes_to New part texts since answered Before asked n (promises_slot e slot)
+    still_before : (slot ≡ part → ⊥) → frames.Goes_to New part texts since answered Before asked n (promise_slot e slot)
     still_before other = goes_there Before
         (subst (λ s. Happens part (held_in part texts) n (with_job n (job.transition s (input.Promise slot epoch)))) k.same_job
         (JobTakes (input.Promise slot epoch) other))
@@ -123,7 +123,7 @@ module _ (New : Filed → Segment → Type 0) (part : ℕ) (texts : Texts) (sinc
         })
 
     -- of the slot
-    now_at : slot ≡ part → frames.Goes_to New part texts since answered At asked n (promises_slot e slot)
+    now_at : slot ≡ part → frames.Goes_to New part texts since answered At asked n (promise_slot e slot)
     now_at same =
         let has : promised_at d.state.promised part ≡ epoch_of e.promised part =
         ap (λ p. promised_at p part) told_is ∙ subst
@@ -213,9 +213,9 @@ module _ (New : Filed → Segment → Type 0) (part : ℕ) (texts : Texts) (sinc
           seen = then_seen told;
         }
 
-  again_so : (asked : Questions) (n : Net) (e : Emptying) (slot : ℕ) → At n e → Goes asked n (promises_slot e slot)
-  unfolding promises_slot
-  again_so asked n e slot h = jobs.cleans_so New part texts since answered asked n e (input.Promise slot (epoch_of e.promised slot)) h
+  again_so : (asked : Questions) (n : Net) (e : Emptying) (slot : ℕ) → At n e → Goes asked n (promise_slot e slot)
+  unfolding promise_slot
+  again_so asked n e slot h = jobs.emptying_clean_so New part texts since answered asked n e (input.Promise slot (epoch_of e.promised slot)) h
       (λ j same. by j same (slot == part) refl)
     where
       at : (slot == part) ≡ true → slot ≡ part
@@ -232,7 +232,7 @@ module _ (New : Filed → Segment → Type 0) (part : ℕ) (texts : Texts) (sinc
   -- ---- all slots
 
   abbrev Claim : List ℕ → Type 0
-  Claim slots = (asked : Questions) (n : Net) (e : Emptying) → Before n e → Among part slots → Goes asked n (steps promises_slot e slots)
+  Claim slots = (asked : Questions) (n : Net) (e : Emptying) → Before n e → Among part slots → Goes asked n (steps promise_slot e slots)
 
   first_told : (slot : ℕ) (slots : List ℕ) → Claim slots → Claim (slot ∷ slots)
   first_told slot slots rest asked n e k among = by (slot == part) refl
@@ -249,14 +249,14 @@ module _ (New : Filed → Segment → Type 0) (part : ℕ) (texts : Texts) (sinc
         | inr more ↦ more
       ]
 
-      by : (t : Bool) → (slot == part) ≡ t → Goes asked n (steps promises_slot e (slot ∷ slots))
-      by true fact = frames.went_through New part texts since answered At At asked n (promises_slot e slot)
-          (steps promises_slot (promises_slot e slot).state slots)
+      by : (t : Bool) → (slot == part) ≡ t → Goes asked n (steps promise_slot e (slot ∷ slots))
+      by true fact = frames.went_through New part texts since answered At At asked n (promise_slot e slot)
+          (steps promise_slot (promise_slot e slot).state slots)
           (now_at asked n e k slot (at fact))
-          (λ w. frames.went_steps New part texts since answered promises_slot again_so w.questions w.next (promises_slot e slot).state slots w.stands)
-      by false fact = frames.went_through New part texts since answered Before At asked n (promises_slot e slot)
-          (steps promises_slot (promises_slot e slot).state slots)
-          (still_before asked n e k slot (other fact)) (λ w. rest w.questions w.next (promises_slot e slot).state w.stands (behind (other fact)))
+          (λ w. frames.went_steps New part texts since answered promise_slot again_so w.questions w.next (promise_slot e slot).state slots w.stands)
+      by false fact = frames.went_through New part texts since answered Before At asked n (promise_slot e slot)
+          (steps promise_slot (promise_slot e slot).state slots)
+          (still_before asked n e k slot (other fact)) (λ w. rest w.questions w.next (promise_slot e slot).state w.stands (behind (other fact)))
 
   all_told : (slots : List ℕ) → Claim slots
   all_told [] = λ asked n e k among. absurd among
@@ -275,12 +275,12 @@ module _ (New : Filed → Segment → Type 0) (part : ℕ) (texts : Texts) (sinc
 
   -- ---- a job begins
 
-  begins_so : (asked : Questions) (n : Net) (e : Emptying) (number count : ℕ) → At n e → Goes asked n (begins_job e number count)
-  unfolding begins_job promises_all
+  begins_so : (asked : Questions) (n : Net) (e : Emptying) (number count : ℕ) → At n e → Goes asked n (begin_job e number count)
+  unfolding begin_job promise_all
   begins_so asked n e number count h =
-      let m = record n { job = started count; number = suc n.number } in
+      let m = record n { job = cleaning_start count; number = suc n.number } in
       let r = with_new_job e number count in
-      let d = steps promises_slot r (range_with_len 0 8) in
+      let d = steps promise_slot r (range_with_len 0 8) in
       let grows : Grows n m = grows_job New part texts since answered n count in
       let before : Before m r = record {
         stands = record {
@@ -293,21 +293,21 @@ module _ (New : Filed → Segment → Type 0) (part : ℕ) (texts : Texts) (sinc
             job = told_nothing count part;
           };
         };
-        job = new_job count;
+        job = job_start count;
         has = refl;
         same_job = refl;
         eight = refl;
         none = told_nothing count part;
         greets = refl;
       } in
-      frames.went_after New part texts since answered At asked asked n m (saying d.outs (cleans d.state input.Tick)) (On Begun (JobBegins count)) grows refl
+      frames.went_after New part texts since answered At asked asked n m (saying d.outs (emptying_clean d.state input.Tick)) (On Begun (JobBegins count)) grows refl
       (λ x fact. fact)
-      (frames.went_on New part texts since answered asked m d (cleans d.state input.Tick) (all_told (range_with_len 0 8) asked m r before (in_slots part small))
-      (λ w. jobs.cleans_so New part texts since answered w.questions w.next d.state input.Tick w.stands
+      (frames.went_on New part texts since answered asked m d (emptying_clean d.state input.Tick) (all_told (range_with_len 0 8) asked m r before (in_slots part small))
+      (λ w. jobs.emptying_clean_so New part texts since answered w.questions w.next d.state input.Tick w.stands
       (jobs.may_other New part texts since answered w.next d.state input.Tick w.stands tt tt)))
 
   pub clean_so : (asked : Questions) (n : Net) (e : Emptying) (number count : ℕ) → At n e → Goes asked n (on_clean e number count)
   unfolding on_clean
   clean_so asked n e number count h =
-      by_test (Goes asked n) (is_some e.lasting.items.unanswered) (record { state = e; outs = Answers number Busy ∷ [] }) (begins_job e number count)
+      by_test (Goes asked n) (is_some e.lasting.items.unanswered) (record { state = e; outs = Answers number Busy ∷ [] }) (begin_job e number count)
       (λ _. frames.quiet New part texts since answered asked n e (Answers number Busy ∷ []) h (tt, tt)) (λ _. begins_so asked n e number count h)

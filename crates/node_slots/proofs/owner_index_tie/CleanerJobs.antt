@@ -6,7 +6,7 @@ use Rattle.std.proofs.lemmas.Bool.{eqb-true}
 use Rattle.std.proofs.lemmas.Bool.Decides.{nat_tests}
 use Rattle.std.proofs.lemmas.List.{get_or-set_same, get_or-set_other, length-set}
 use Rattle.cleaner_serving.specs.declared.emptying.Emptying.{Emptying}
-use Rattle.cleaner_serving.specs.Jobs.{Done, says, takes_in, job_takes, cleans}
+use Rattle.cleaner_serving.specs.Jobs.{Done, says, takes_in, emptying_take, emptying_clean}
 use Rattle.cleaner_job.specs.declared.job.Job.{Job}
 use Rattle.group_map.specs.GroupMapState.{GroupMapState}
 use Rattle.index_tie.specs.Cleaning.{ReadFor}
@@ -182,9 +182,9 @@ module _ (New : Filed → Segment → Type 0) (part : ℕ) (texts : Texts) (sinc
   abbrev pub May : Net → Emptying → inputs.In → Type 0
   May n e i = (j : Job) → e.job ≡ Some j → Takes n (epoch_of e.promised part) (job.transition j.cleaning i)
 
-  pub cleans_so : (asked : Questions) (n : Net) (e : Emptying) (i : inputs.In) → At n e → May n e i → Goes asked n (cleans e i)
-  unfolding cleans job_takes
-  cleans_so asked n e i h may = by e.job refl
+  pub emptying_clean_so : (asked : Questions) (n : Net) (e : Emptying) (i : inputs.In) → At n e → May n e i → Goes asked n (emptying_clean e i)
+  unfolding emptying_clean emptying_take
+  emptying_clean_so asked n e i h may = by e.job refl
     where
       by : (o : Option Job) → e.job ≡ o → Goes asked n (steps says (takes_in e o i).state (takes_in e o i).outs)
       by None same = frames.quiet New part texts since answered asked n e [] h tt

@@ -10,7 +10,7 @@ use Rattle.cleaner_node.specs.declared.cleaner.Phase.{Phase}
 use Rattle.cleaner_node.specs.declared.cleaner.Phase.TheVariants.{Down, Opening, Serving}
 use Rattle.cleaner_node.specs.declared.cleaner.Wish.{Wish}
 use Rattle.cleaner_node.specs.declared.cleaner.Wish.TheVariants.{Crash, Restart, Clean}
-use Rattle.cleaner_node.specs.CleanerEvents.{Went_to, serves_on, crashes, next_life, owner_of, back, after_opening, opened_on, restarts, answers, down_wishes, opening_wishes, serving_wishes, wish_at, begun_life, down_at, opening_at, serving_at, on_begin, hears, on_deliver, on_time, happens, phase_room, takes}
+use Rattle.cleaner_node.specs.CleanerEvents.{Went_to, serves_on, crash, next_life, owner_of, back, after_opening, opened_on, restart, cleaner_answer, down_wishes, opening_wishes, serving_wishes, wish_at, begun_life, down_at, opening_at, serving_at, on_begin, cleaner_hear, on_deliver, on_time, happens, phase_has_room, takes}
 use Rattle.cleaner_job.specs.declared.lasting.Lasting.{Lasting}
 use Rattle.index_tie.specs.Net.{Net}
 use Rattle.index_tie.specs.Net.Happens.{CleanerFiles, JobBegins, Promises}
@@ -26,9 +26,9 @@ use Rattle.log_owner.specs.declared.opening.Stage.TheVariants as stage
 use Rattle.log_owner.specs.Opening as opening
 use Rattle.log_owner.specs.Opening.{Went}
 use Rattle.log_owner.specs.Promised.{epoch_of}
-use Rattle.log_owner.specs.Sending.{pushes_all}
+use Rattle.log_owner.specs.Sending.{push_all}
 use Rattle.log_owner.proofs.Behaving as behaving
-use Rattle.node_base.specs.Beginning.{next_item, answered, answers_unanswered}
+use Rattle.node_base.specs.Beginning.{next_item, items_answer, answers_unanswered}
 use Rattle.node_base.specs.declared.effects.Effect.{Effect}
 use Rattle.node_base.specs.declared.effects.Effect.TheVariants.{Send, Answer as Answers, Lose, Does}
 use Rattle.node_base.specs.declared.peers.Peers.{Peers}
@@ -113,8 +113,8 @@ module _ (New : Filed → Segment → Type 0) (part : ℕ) (texts : Texts) (n : 
       → Goes asked v (record { state = p; outs = outs })
   quiet asked v p outs h all = frames.went_quiet New part texts since n.sent asked v PhaseSo p outs h all
 
-  answers_so : (asked : Questions) (v : Net) (p : Phase) (number : ℕ) (a : Answer) → PhaseSo v p → Goes asked v (answers p number a)
-  answers_so asked v p number a h = quiet asked v p (Answers number a ∷ []) h (tt, tt)
+  cleaner_answer_so : (asked : Questions) (v : Net) (p : Phase) (number : ℕ) (a : Answer) → PhaseSo v p → Goes asked v (cleaner_answer p number a)
+  cleaner_answer_so asked v p number a h = quiet asked v p (Answers number a ∷ []) h (tt, tt)
 
   serves_so : (asked : Questions) (v : Net) (d : Done) → frames.Goes New part texts since n.sent asked v d → Goes asked v (serves_on d)
   serves_so asked v d goes = (
@@ -139,24 +139,24 @@ module _ (New : Filed → Segment → Type 0) (part : ℕ) (texts : Texts) (n : 
       all_append (frames.Plain New part texts since n.sent asked v) (answers_unanswered l.items.unanswered answer.Cut) (Answers number answer.Done ∷ [])
       (answers_plain New part texts since n.sent asked v l.items.unanswered answer.Cut) (tt, tt)
 
-  crashes_so : (asked : Questions) (v : Net) (l : Lasting) (number : ℕ) → Rests v → Goes asked v (crashes l number)
-  unfolding crashes
-  crashes_so asked v l number h = quiet asked v (Down (record l { items = answered l.items })) (crashes l number).outs h (crash_plain asked v l number)
+  crash_so : (asked : Questions) (v : Net) (l : Lasting) (number : ℕ) → Rests v → Goes asked v (crash l number)
+  unfolding crash
+  crash_so asked v l number h = quiet asked v (Down (record l { items = items_answer l.items })) (crash l number).outs h (crash_plain asked v l number)
 
-  serving_crashes : (asked : Questions) (v : Net) (e : Emptying) (number : ℕ) → At v e → v.promised ≡ n.promised → Goes asked v (crashes e.lasting number)
+  serving_crashes : (asked : Questions) (v : Net) (e : Emptying) (number : ℕ) → At v e → v.promised ≡ n.promised → Goes asked v (crash e.lasting number)
   serving_crashes asked v e number h same =
-      frames.went_after New part texts since n.sent PhaseSo asked asked v (jobless New part texts since n.sent v) (crashes e.lasting number)
+      frames.went_after New part texts since n.sent PhaseSo asked asked v (jobless New part texts since n.sent v) (crash e.lasting number)
       (On Begun (JobBegins 0))
       (grows_jobless New part texts since n.sent v) refl
       (λ x fact. fact)
-      (crashes_so asked (jobless New part texts since n.sent v) e.lasting number
+      (crash_so asked (jobless New part texts since n.sent v) e.lasting number
       (record { fits = record { fit = h.seen.owner.feed.fit; short = h.seen.owner.feed.short }; job = told_nothing 0 part }, same))
 
-  restarts_so : (asked : Questions) (v : Net) (servers : ℕ) (l : Lasting) (number : ℕ) → Rests v → Goes asked v (restarts servers l number)
-  unfolding restarts
-  restarts_so asked v servers l number h =
+  restart_so : (asked : Questions) (v : Net) (servers : ℕ) (l : Lasting) (number : ℕ) → Rests v → Goes asked v (restart servers l number)
+  unfolding restart
+  restart_so asked v servers l number h =
       let r = next_life l number in
-      quiet asked v (restarts servers l number).state (restarts servers l number).outs (h, events.first_so 9 (owner_of r) servers r.questions refl) (tt, tt)
+      quiet asked v (restart servers l number).state (restart servers l number).outs (h, events.first_so 9 (owner_of r) servers r.questions refl) (tt, tt)
 
   -- ---- the end of an opening
 
@@ -250,7 +250,7 @@ module _ (New : Filed → Segment → Type 0) (part : ℕ) (texts : Texts) (n : 
         frames.went_after New part texts since n.sent PhaseSo asked asked v m (back l o) (On Begun (Promises epoch low (none_in v k.only_files))) grows refl
         (λ x fact. fact)
         (quiet asked m (back l o).state (back l o).outs at
-        (all_append (frames.Plain New part texts since n.sent asked m) (pushes_all o.promised.managers o.feed) _
+        (all_append (frames.Plain New part texts since n.sent asked m) (push_all o.promised.managers o.feed) _
         (pushes_plain New part texts since n.sent asked m o.promised.managers o.feed owner.feed)
         (answers_plain New part texts since n.sent asked m l.items.unanswered answer.Done)))
 
@@ -260,7 +260,7 @@ module _ (New : Filed → Segment → Type 0) (part : ℕ) (texts : Texts) (n : 
     after_opening_so asked v l (progress.Opening o) k newer = quiet asked v (Opening l o) [] (rests_in v k.only_files k.seen.0, k.seen.1) tt
     after_opening_so asked v l (progress.Opened o) k newer = back_so asked v l o k newer.0 newer.1
     after_opening_so asked v l (progress.Lost seg) k newer =
-        quiet asked v (Down (record l { items = answered l.items })) (answers_unanswered l.items.unanswered (answer.Lost seg)) (rests_in v k.only_files k.seen)
+        quiet asked v (Down (record l { items = items_answer l.items })) (answers_unanswered l.items.unanswered (answer.Lost seg)) (rests_in v k.only_files k.seen)
         (answers_plain New part texts since n.sent asked v l.items.unanswered (answer.Lost seg))
 
     opened_on_so : (moved : IsMovedThere) (asked : Questions) (owner : Owner) (l : Lasting) (w : Went)
@@ -275,19 +275,19 @@ module _ (New : Filed → Segment → Type 0) (part : ℕ) (texts : Texts) (n : 
 
   down_wish : (asked : Questions) (servers : ℕ) (l : Lasting) (number : ℕ) (wish : Wish) → Rests n
       → Goes asked n (down_wishes servers l number wish)
-  down_wish asked servers l number Restart h = restarts_so asked n servers l number h
-  down_wish asked servers l number Crash h = answers_so asked n (Down l) number answer.Down h
-  down_wish asked servers l number (Clean count) h = answers_so asked n (Down l) number answer.Down h
+  down_wish asked servers l number Restart h = restart_so asked n servers l number h
+  down_wish asked servers l number Crash h = cleaner_answer_so asked n (Down l) number answer.Down h
+  down_wish asked servers l number (Clean count) h = cleaner_answer_so asked n (Down l) number answer.Down h
 
   opening_wish : (asked : Questions) (l : Lasting) (o : openings.Opening) (number : ℕ) (wish : Wish) → PhaseSo n (Opening l o)
       → Goes asked n (opening_wishes l o number wish)
-  opening_wish asked l o number Crash h = crashes_so asked n l number h.0
-  opening_wish asked l o number Restart h = answers_so asked n (Opening l o) number answer.Up h
-  opening_wish asked l o number (Clean count) h = answers_so asked n (Opening l o) number answer.Down h
+  opening_wish asked l o number Crash h = crash_so asked n l number h.0
+  opening_wish asked l o number Restart h = cleaner_answer_so asked n (Opening l o) number answer.Up h
+  opening_wish asked l o number (Clean count) h = cleaner_answer_so asked n (Opening l o) number answer.Down h
 
   serving_wish : (asked : Questions) (e : Emptying) (number : ℕ) (wish : Wish) → At n e → Goes asked n (serving_wishes e number wish)
   serving_wish asked e number Crash h = serving_crashes asked n e number h refl
-  serving_wish asked e number Restart h = answers_so asked n (Serving e) number answer.Up h
+  serving_wish asked e number Restart h = cleaner_answer_so asked n (Serving e) number answer.Up h
   serving_wish asked e number (Clean count) h = serves_so asked n (on_clean e number count)
       (clean_so New part texts since n.sent small asked n e number count h)
 
@@ -347,21 +347,21 @@ module _ (New : Filed → Segment → Type 0) (part : ℕ) (texts : Texts) (n : 
       opened_on_so h.0.0.job moved asked owner l w (goes (gets_end l o (record l { questions = w.questions }) w.progress gets)) may
       (gets_newer l o (opened_on l w).state gets)
 
-  hears_so : (asked : Questions) (p : Phase) (packet : Sent) → OpensMoved p → PhaseText p → PacketGets part n p packet → Goes_on asked p (hears p packet)
-  unfolding hears
-  hears_so asked (Down l) packet moved h gets = λ reopens. quiet asked n (Down l) [] h.0 tt
-  hears_so asked (Opening l o) packet moved h gets =
-      opens_to moved asked o.known.owner l o (opening.on_packet o l.questions packet) h.0
+  cleaner_hear_so : (asked : Questions) (p : Phase) (packet : Sent) → OpensMoved p → PhaseText p → PacketGets part n p packet → Goes_on asked p (cleaner_hear p packet)
+  unfolding cleaner_hear
+  cleaner_hear_so asked (Down l) packet moved h gets = λ reopens. quiet asked n (Down l) [] h.0 tt
+  cleaner_hear_so asked (Opening l o) packet moved h gets =
+      opens_to moved asked o.known.owner l o (opening.opening_take o l.questions packet) h.0
       (events.packet_goes New part texts n 9 since n.filed (omega arith) h.0.0.0.fits o.stage o l.questions packet h.0.1 (is_stage o.stage h.1.0))
       (behaving.packet_so o l.questions packet).does
-  hears_so asked (Serving e) packet moved h gets = λ reopens. serves_so asked n (on_packet e packet)
+  cleaner_hear_so asked (Serving e) packet moved h gets = λ reopens. serves_so asked n (on_packet e packet)
       (serving.packet_so New part texts since n.sent small asked n e h.0 (h.1.0, h.1.1.0.flight) packet gets)
 
   delivers_so : (asked : Questions) (peers : Peers) (p : Phase) (packet : Sent) → OpensMoved p → PhaseText p → PacketGets part n p packet
       → Goes_on asked p (on_deliver peers p packet)
   unfolding on_deliver
   delivers_so asked peers p packet moved h gets =
-      by_test (Goes_on asked p) (is_well_formed peers packet) (hears p packet) (still p) (λ _. hears_so asked p packet moved h gets)
+      by_test (Goes_on asked p) (is_well_formed peers packet) (cleaner_hear p packet) (still p) (λ _. cleaner_hear_so asked p packet moved h gets)
       (λ _ reopens. quiet asked n p [] h.0 tt)
 
   time_so : (asked : Questions) (p : Phase) → OpensMoved p → PhaseText p → Goes_on asked p (on_time p)
@@ -383,7 +383,7 @@ module _ (New : Filed → Segment → Type 0) (part : ℕ) (texts : Texts) (n : 
   pub takes_so : (asked : Questions) (peers : Peers) (p : Phase) (what : Do) → OpensMoved p → PhaseText p → EventGets part n p what
       → Goes_on asked p (takes peers p what)
   takes_so asked peers p what moved h gets =
-      by_test (Goes_on asked p) (phase_room p) (happens peers p what) (still p) (λ _. happens_so asked peers p what moved h gets)
+      by_test (Goes_on asked p) (phase_has_room p) (happens peers p what) (still p) (λ _. happens_so asked peers p what moved h gets)
       (λ _ reopens. quiet asked n p [] h.0 tt)
 
   -- ---- what it is there

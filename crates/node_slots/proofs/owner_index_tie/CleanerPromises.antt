@@ -4,8 +4,8 @@ use Rattle.std.proofs.Common.{◌≡◌, ◌≤◌, ◌<◌, ◌==◌, ℕ, Bool
 use Rattle.std.proofs.lemmas.Bool.{eqb-true}
 use Rattle.std.proofs.lemmas.Bool.Decides.{nat_tests}
 use Rattle.cleaner_serving.specs.declared.emptying.Emptying.{Emptying}
-use Rattle.cleaner_serving.specs.EmptyingEvents.{promises}
-use Rattle.cleaner_serving.specs.Jobs.{Done, says, takes_in, job_takes, cleans}
+use Rattle.cleaner_serving.specs.EmptyingEvents.{emptying_promise}
+use Rattle.cleaner_serving.specs.Jobs.{Done, says, takes_in, emptying_take, emptying_clean}
 use Rattle.cleaner_job.specs.declared.job.Job.{Job}
 use Rattle.delta_feed.specs.Transition.{new_epoch}
 use Rattle.headline.specs.Filed.{Filed, Texts}
@@ -15,7 +15,7 @@ use Rattle.index_tie.specs.Takeovers.{Linked}
 use Rattle.headline.specs.Indexes.{of_log}
 use Rattle.index_tie.specs.Net.Happens.{Promises, JobPromises, JobTakes, Reports}
 use Rattle.index_tie.specs.Net.Runs.{Begun, On}
-use Rattle.log_owner.specs.Promised.{epoch_of, promised_to}
+use Rattle.log_owner.specs.Promised.{epoch_of, promise_to}
 use Rattle.node_slots.specs.node_index_tie.Sight.{Questions, held_in}
 use Rattle.node_slots.proofs.node_index_tie.Owners.{feeds_stay}
 use Rattle.stripe_cleaner.specs.declared.input.In.TheVariants as input
@@ -54,7 +54,7 @@ module _ (New : Filed → Segment → Type 0) (part : ℕ) (texts : Texts) (sinc
 
   module _ (asked : Questions) (n : Net) (e : Emptying) (h : At n e) (epoch manager : ℕ) (low : epoch_of e.promised part ≤ epoch) where
     abbrev kept : Emptying
-    kept = record e { promised = promised_to e.promised part epoch manager }
+    kept = record e { promised = promise_to e.promised part epoch manager }
 
     now : epoch_of kept.promised part ≡ epoch
     now = to_here e.promised part epoch manager small h.seen.eight
@@ -167,8 +167,8 @@ module _ (New : Filed → Segment → Type 0) (part : ℕ) (texts : Texts) (sinc
         };
       })
 
-    pub of_slot : frames.Goes_to New part texts since answered Up asked n (cleans kept (input.Promise part epoch))
-    unfolding cleans job_takes
+    pub of_slot : frames.Goes_to New part texts since answered Up asked n (emptying_clean kept (input.Promise part epoch))
+    unfolding emptying_clean emptying_take
     of_slot = by e.job refl
       where
         by : (o : Option Job) → e.job ≡ o
@@ -227,8 +227,8 @@ module _ (New : Filed → Segment → Type 0) (part : ℕ) (texts : Texts) (sinc
                 (ap (λ (f : Filed). f.head 9) k.filed ∙ sym h.seen.owner.end.seq))),
           )
 
-      pub of_poll : frames.Goes_to New part texts since answered Up asked n (saying (report ∷ []) (cleans kept (input.Promise part epoch)))
-      unfolding cleans job_takes
+      pub of_poll : frames.Goes_to New part texts since answered Up asked n (saying (report ∷ []) (emptying_clean kept (input.Promise part epoch)))
+      unfolding emptying_clean emptying_take
       of_poll = by e.job refl
         where
           by : (o : Option Job) → e.job ≡ o
@@ -255,7 +255,7 @@ module _ (New : Filed → Segment → Type 0) (part : ℕ) (texts : Texts) (sinc
 
   module _ (asked : Questions) (n : Net) (e : Emptying) (h : At n e) (slot epoch manager : ℕ) (other : slot ≡ part → ⊥) where
     abbrev others : Emptying
-    others = record e { promised = promised_to e.promised slot epoch manager }
+    others = record e { promised = promise_to e.promised slot epoch manager }
 
     unchanged : epoch_of others.promised part ≡ epoch_of e.promised part
     unchanged = to_other e.promised slot epoch manager part other
@@ -286,8 +286,8 @@ module _ (New : Filed → Segment → Type 0) (part : ℕ) (texts : Texts) (sinc
           };
         }
 
-    of_other : Goes asked n (cleans others (input.Promise slot epoch))
-    of_other = jobs.cleans_so New part texts since answered asked n others (input.Promise slot epoch) still_at may_promise
+    of_other : Goes asked n (emptying_clean others (input.Promise slot epoch))
+    of_other = jobs.emptying_clean_so New part texts since answered asked n others (input.Promise slot epoch) still_at may_promise
 
   -- ---- any slot
 
@@ -333,29 +333,29 @@ module _ (New : Filed → Segment → Type 0) (part : ℕ) (texts : Texts) (sinc
 
     any_slot : (e : Emptying) → At n e → (slot ≡ part → epoch_of e.promised part ≤ epoch)
         → frames.Goes_to New part texts since answered (UpTo slot epoch) asked n
-        (cleans (record e { promised = promised_to e.promised slot epoch manager }) (input.Promise slot epoch))
+        (emptying_clean (record e { promised = promise_to e.promised slot epoch manager }) (input.Promise slot epoch))
     any_slot e h low = by (slot == part) refl
       where
         by : (t : Bool) → (slot == part) ≡ t
             → frames.Goes_to New part texts since answered (UpTo slot epoch) asked n
-            (cleans (record e { promised = promised_to e.promised slot epoch manager }) (input.Promise slot epoch))
+            (emptying_clean (record e { promised = promise_to e.promised slot epoch manager }) (input.Promise slot epoch))
         by true fact = subst (λ k. frames.Goes_to New part texts since answered (UpTo k epoch) asked n
-            (cleans (record e { promised = promised_to e.promised k epoch manager }) (input.Promise k epoch)))
+            (emptying_clean (record e { promised = promise_to e.promised k epoch manager }) (input.Promise k epoch)))
             (sym (at_slot fact))
             (weaker (λ v s u. (u.0, λ same. u.1)) asked n
-            (cleans (record e { promised = promised_to e.promised part epoch manager }) (input.Promise part epoch))
+            (emptying_clean (record e { promised = promise_to e.promised part epoch manager }) (input.Promise part epoch))
             (of_slot asked n e h epoch manager (low (at_slot fact))))
         by false fact = weaker (λ v s u. (u, λ same. absurd (at_other fact same))) asked n
-            (cleans (record e { promised = promised_to e.promised slot epoch manager }) (input.Promise slot epoch))
+            (emptying_clean (record e { promised = promise_to e.promised slot epoch manager }) (input.Promise slot epoch))
             (of_other asked n e h slot epoch manager (at_other fact))
 
     -- a slot is promised to an epoch of a manager
     pub promised_so : (e : Emptying) → At n e → (slot ≡ part → epoch_of e.promised part ≤ epoch)
-        → frames.Goes_to New part texts since answered (UpTo slot epoch) asked n (cleans (promises e slot epoch manager) (input.Promise slot epoch))
-    unfolding promises
+        → frames.Goes_to New part texts since answered (UpTo slot epoch) asked n (emptying_clean (emptying_promise e slot epoch manager) (input.Promise slot epoch))
+    unfolding emptying_promise
     promised_so e h low =
         by_test (λ (r : Emptying). frames.Goes_to New part texts since answered (UpTo slot epoch) asked n
-        (cleans (record r { promised = promised_to r.promised slot epoch manager }) (input.Promise slot epoch)))
+        (emptying_clean (record r { promised = promise_to r.promised slot epoch manager }) (input.Promise slot epoch)))
         (nat_lt (epoch_of e.promised slot) epoch) (record e { feed = new_epoch e.feed slot }) e
         (λ _. any_slot (record e { feed = new_epoch e.feed slot }) (refed n e slot h) low) (λ _. any_slot e h low)
 
@@ -370,25 +370,25 @@ module _ (New : Filed → Segment → Type 0) (part : ℕ) (texts : Texts) (sinc
 
     polled_from : (e : Emptying) → At n e → (slot ≡ part → epoch_of e.promised part ≤ epoch)
         → (slot ≡ part → 0 < of_log (n.horizon epoch) 9 → Linked n.filed 9 (of_log (n.horizon epoch) 9) (n.filed.head 9))
-        → Goes asked n (saying (its_report e ∷ []) (cleans (record e { promised = promised_to e.promised slot epoch manager }) (input.Promise slot epoch)))
+        → Goes asked n (saying (its_report e ∷ []) (emptying_clean (record e { promised = promise_to e.promised slot epoch manager }) (input.Promise slot epoch)))
     polled_from e h low linked = by (slot == part) refl
       where
         by : (t : Bool) → (slot == part) ≡ t
-            → Goes asked n (saying (its_report e ∷ []) (cleans (record e { promised = promised_to e.promised slot epoch manager }) (input.Promise slot epoch)))
+            → Goes asked n (saying (its_report e ∷ []) (emptying_clean (record e { promised = promise_to e.promised slot epoch manager }) (input.Promise slot epoch)))
         by true fact = subst (λ k. Goes asked n
             (saying (Send (Manager manager) (body.Report (record { slot = k; epoch = epoch; held = []; end = e.log.end })) ∷ [])
-            (cleans (record e { promised = promised_to e.promised k epoch manager }) (input.Promise k epoch)))) (sym (at_slot fact))
+            (emptying_clean (record e { promised = promise_to e.promised k epoch manager }) (input.Promise k epoch)))) (sym (at_slot fact))
             (weaker (λ v s u. u.0) asked n _ (of_poll asked n e h epoch manager (low (at_slot fact)) (linked (at_slot fact))))
         by false fact = frames.went_behind New part texts since answered asked n (its_report e ∷ [])
-            (cleans (record e { promised = promised_to e.promised slot epoch manager }) (input.Promise slot epoch))
+            (emptying_clean (record e { promised = promise_to e.promised slot epoch manager }) (input.Promise slot epoch))
             (other_report e h (at_other fact), tt) (of_other asked n e h slot epoch manager (at_other fact))
 
     pub polled_so : (e : Emptying) → At n e → (slot ≡ part → epoch_of e.promised part ≤ epoch)
         → (slot ≡ part → 0 < of_log (n.horizon epoch) 9 → Linked n.filed 9 (of_log (n.horizon epoch) 9) (n.filed.head 9))
-        → Goes asked n (saying (its_report (promises e slot epoch manager) ∷ []) (cleans (promises e slot epoch manager) (input.Promise slot epoch)))
-    unfolding promises
+        → Goes asked n (saying (its_report (emptying_promise e slot epoch manager) ∷ []) (emptying_clean (emptying_promise e slot epoch manager) (input.Promise slot epoch)))
+    unfolding emptying_promise
     polled_so e h low linked =
         by_test (λ (r : Emptying). Goes asked n
-        (saying (its_report r ∷ []) (cleans (record r { promised = promised_to r.promised slot epoch manager }) (input.Promise slot epoch))))
+        (saying (its_report r ∷ []) (emptying_clean (record r { promised = promise_to r.promised slot epoch manager }) (input.Promise slot epoch))))
         (nat_lt (epoch_of e.promised slot) epoch) (record e { feed = new_epoch e.feed slot }) e
         (λ _. polled_from (record e { feed = new_epoch e.feed slot }) (refed n e slot h) low linked) (λ _. polled_from e h low linked)

@@ -6,11 +6,11 @@ use Rattle.std.specs.List.{AllByRecursion, flat_map}
 use Rattle.std.proofs.lemmas.Bool.{eqb-true}
 use Rattle.std.proofs.lemmas.Bool.Decides.{nat_tests}
 use Rattle.cleaner_serving.specs.declared.emptying.Emptying.{Emptying}
-use Rattle.cleaner_serving.specs.Jobs.{Done, asks_maps, asks_list, asks_usage, checked_in, checks_block, check_sent, asks_check, holds_in, holds, reads, puts, puts_block, moves, deletes, finishes, says}
+use Rattle.cleaner_serving.specs.Jobs.{Done, ask_maps, ask_list, ask_usage, checked_in, emptying_check, check_sent, ask_check, holds_in, emptying_hold, emptying_read, emptying_put, put_block, move_all, emptying_delete, emptying_finish, says}
 use Rattle.cleaner_job.specs.declared.hand.Hand.{Hand}
 use Rattle.cleaner_job.specs.declared.job.Job.{Job}
-use Rattle.cleaner_job.specs.Hands.{fetches_for, fetches}
-use Rattle.cleaner_job.specs.Jobs.{hand_checks_in, job_checks, hand_of, is_whole, drops}
+use Rattle.cleaner_job.specs.Hands.{hand_fetch, fetches}
+use Rattle.cleaner_job.specs.Jobs.{hand_checks_in, job_check, hand_of, is_whole, act_dropped}
 use Rattle.client_log.specs.declared.input.In.TheVariants as log_in
 use Rattle.client_log.specs.declared.output.Out.{Out as LogOut}
 use Rattle.client_log.specs.declared.output.Out.TheVariants as log_out
@@ -31,8 +31,8 @@ use Rattle.node_base.specs.declared.effects.Effect.{Effect}
 use Rattle.node_base.specs.declared.effects.Effect.TheVariants.{Send, Does}
 use Rattle.node_base.specs.declared.questions.Questions.{Questions as Asker}
 use Rattle.node_slots.specs.node_index_tie.Sight.{Questions}
-use Rattle.segment_reading.specs.Reading.{ReadingState, to_ask}
-use Rattle.stripe_cleaner.specs.CleaningState.{CleaningState, started}
+use Rattle.segment_reading.specs.Reading.{ReadingState, reading_unanswered}
+use Rattle.stripe_cleaner.specs.CleaningState.{CleaningState, cleaning_start}
 use Rattle.stripe_cleaner.specs.declared.output.Out.{Out}
 use Rattle.stripe_cleaner.specs.declared.output.Out.TheVariants as out
 use Rattle.stripe_cleaner.specs.Promises.{promised_at}
@@ -60,7 +60,7 @@ use Rattle.node_slots.proofs.owner_index_tie.Frames.{more_itself}
 use Rattle.node_slots.proofs.owner_index_tie.Turns.{put_stays, seal_stays}
 
 -- a job that has begun was told nothing
-pub told_nothing : (count part : ℕ) → promised_at (started count).promised part ≡ 0
+pub told_nothing : (count part : ℕ) → promised_at (cleaning_start count).promised part ≡ 0
 told_nothing count zero = refl
 told_nothing count (suc zero) = refl
 told_nothing count (suc (suc zero)) = refl
@@ -125,24 +125,24 @@ module _ (New : Filed → Segment → Type 0) (part : ℕ) (texts : Texts) (sinc
 
   -- ---- what it asks
 
-  maps_so : (asked : Questions) (n : Net) (e : Emptying) (o : Option Job) → e.job ≡ o → At n e → Goes asked n (asks_maps e o)
+  maps_so : (asked : Questions) (n : Net) (e : Emptying) (o : Option Job) → e.job ≡ o → At n e → Goes asked n (ask_maps e o)
   maps_so asked n e None same h = quiet asked n e [] h tt
   maps_so asked n e (Some job) same h =
-      quiet asked n (asks_maps e (Some job)).state (asks_maps e (Some job)).outs
-      (rejobbed n e.log e.feed e.promised e.job (asks_maps e (Some job)).state.job (λ k. subst (JobAgrees part n (epoch_of e.promised part)) same k) h) (tt, tt)
+      quiet asked n (ask_maps e (Some job)).state (ask_maps e (Some job)).outs
+      (rejobbed n e.log e.feed e.promised e.job (ask_maps e (Some job)).state.job (λ k. subst (JobAgrees part n (epoch_of e.promised part)) same k) h) (tt, tt)
 
-  list_so : (asked : Questions) (n : Net) (e : Emptying) (o : Option Job) (server : ℕ) → e.job ≡ o → At n e → Goes asked n (asks_list e o server)
+  list_so : (asked : Questions) (n : Net) (e : Emptying) (o : Option Job) (server : ℕ) → e.job ≡ o → At n e → Goes asked n (ask_list e o server)
   list_so asked n e None server same h = quiet asked n e [] h tt
   list_so asked n e (Some job) server same h =
-      quiet asked n (asks_list e (Some job) server).state (asks_list e (Some job) server).outs
-      (rejobbed n e.log e.feed e.promised e.job (asks_list e (Some job) server).state.job (λ k. subst (JobAgrees part n (epoch_of e.promised part)) same k) h)
+      quiet asked n (ask_list e (Some job) server).state (ask_list e (Some job) server).outs
+      (rejobbed n e.log e.feed e.promised e.job (ask_list e (Some job) server).state.job (λ k. subst (JobAgrees part n (epoch_of e.promised part)) same k) h)
       (tt, tt)
 
-  usage_so : (asked : Questions) (n : Net) (e : Emptying) (o : Option Job) (slot : ℕ) → e.job ≡ o → At n e → Goes asked n (asks_usage e o slot)
+  usage_so : (asked : Questions) (n : Net) (e : Emptying) (o : Option Job) (slot : ℕ) → e.job ≡ o → At n e → Goes asked n (ask_usage e o slot)
   usage_so asked n e None slot same h = quiet asked n e [] h tt
   usage_so asked n e (Some job) slot same h =
-      quiet asked n (asks_usage e (Some job) slot).state (asks_usage e (Some job) slot).outs
-      (rejobbed n e.log e.feed e.promised e.job (asks_usage e (Some job) slot).state.job (λ k. subst (JobAgrees part n (epoch_of e.promised part)) same k) h)
+      quiet asked n (ask_usage e (Some job) slot).state (ask_usage e (Some job) slot).outs
+      (rejobbed n e.log e.feed e.promised e.job (ask_usage e (Some job) slot).state.job (λ k. subst (JobAgrees part n (epoch_of e.promised part)) same k) h)
       (tt, tt)
 
   holds_so : (n : Net) (e : Emptying) (o : Option Job) (seg : SegRef) → e.job ≡ o → At n e → At n (holds_in e o seg)
@@ -154,14 +154,14 @@ module _ (New : Filed → Segment → Type 0) (part : ℕ) (texts : Texts) (sinc
   fetches_plain asked n None = tt
   fetches_plain asked n (Some hand) = by hand.reading
     where
-      by : (r : Option ReadingState) → AllPlain asked n (fetches_for hand.seg.name r)
+      by : (r : Option ReadingState) → AllPlain asked n (hand_fetch hand.seg.name r)
       by None = tt
-      by (Some r) = all_map (frames.Plain New part texts since answered asked n) (fetch hand.seg.name r.ask) (λ server. tt) (to_ask r)
+      by (Some r) = all_map (frames.Plain New part texts since answered asked n) (fetch hand.seg.name r.ask) (λ server. tt) (reading_unanswered r)
 
-  reads_so : (asked : Questions) (n : Net) (e : Emptying) (seg : SegRef) → At n e → Goes asked n (reads e seg)
-  unfolding reads holds
-  reads_so asked n e seg h = quiet asked n (holds e seg) (fetches (hand_of (holds e seg).job)) (holds_so n e e.job seg refl h)
-      (fetches_plain asked n (hand_of (holds e seg).job))
+  emptying_read_so : (asked : Questions) (n : Net) (e : Emptying) (seg : SegRef) → At n e → Goes asked n (emptying_read e seg)
+  unfolding emptying_read emptying_hold
+  emptying_read_so asked n e seg h = quiet asked n (emptying_hold e seg) (fetches (hand_of (emptying_hold e seg).job)) (holds_so n e e.job seg refl h)
+      (fetches_plain asked n (hand_of (emptying_hold e seg).job))
 
   -- ---- its checks
 
@@ -220,7 +220,7 @@ module _ (New : Filed → Segment → Type 0) (part : ℕ) (texts : Texts) (sinc
 
   checks_in : (asked : Questions) (n : Net) (e : Emptying) (o : Option Job) (block : BlockId) (place : Place) → e.job ≡ o → At n e
       → Goes asked n (check_sent (checked_in e o block).state block place (checked_in e o block).ask)
-  unfolding job_checks
+  unfolding job_check
   checks_in asked n e None block place same h = quiet asked n e [] h tt
   checks_in asked n e (Some job) block place same h =
       let c = hand_checks_in job e.lasting.questions job.hand block in
@@ -228,8 +228,8 @@ module _ (New : Filed → Segment → Type 0) (part : ℕ) (texts : Texts) (sinc
       (rejobbed n e.log e.feed e.promised e.job (Some c.job) (λ k. checked_cleaning n (epoch_of e.promised part) job e.lasting.questions job.hand block
       (subst (JobAgrees part n (epoch_of e.promised part)) same k)) h)
 
-  check_so : (asked : Questions) (n : Net) (e : Emptying) (block : BlockId) (place : Place) → At n e → Goes asked n (asks_check e block place)
-  unfolding asks_check checks_block
+  check_so : (asked : Questions) (n : Net) (e : Emptying) (block : BlockId) (place : Place) → At n e → Goes asked n (ask_check e block place)
+  unfolding ask_check emptying_check
   check_so asked n e block place h = checks_in asked n e e.job block place refl h
 
   -- ---- its moves
@@ -239,39 +239,39 @@ module _ (New : Filed → Segment → Type 0) (part : ℕ) (texts : Texts) (sinc
   stored_plain asked n (log_out.Send fragment member ∷ outs) = (tt, stored_plain asked n outs)
   stored_plain asked n (log_out.Settled end rows ∷ outs) = stored_plain asked n outs
 
-  put_so : (asked : Questions) (n : Net) (e : Emptying) (one : BlockId × Entry × Option (List ℕ)) → At n e → Goes asked n (puts_block e one)
-  unfolding puts_block puts
+  put_so : (asked : Questions) (n : Net) (e : Emptying) (one : BlockId × Entry × Option (List ℕ)) → At n e → Goes asked n (put_block e one)
+  unfolding put_block emptying_put
   put_so asked n e one h =
       let r = log.on_put e.log one.0 (record { entry = one.1; value = one.2 }) in
       let k = put_stays 9 e.log h.seen.owner.log one.0 (record { entry = one.1; value = one.2 }) in
       quiet asked n (record e { log = r.state }) (flat_map stored r.outs) (relogged n e.log r.state e.feed e.promised e.job k.next k.rests.same h)
       (stored_plain asked n r.outs)
 
-  seal_so : (asked : Questions) (n : Net) (e : Emptying) → At n e → Goes asked n (puts e log_in.Seal)
-  unfolding puts
+  seal_so : (asked : Questions) (n : Net) (e : Emptying) → At n e → Goes asked n (emptying_put e log_in.Seal)
+  unfolding emptying_put
   seal_so asked n e h =
       let r = log.on_seal e.log in
       let k = seal_stays 9 e.log h.seen.owner.log in
       quiet asked n (record e { log = r.state }) (flat_map stored r.outs) (relogged n e.log r.state e.feed e.promised e.job k.next k.rests.same h)
       (stored_plain asked n r.outs)
 
-  moves_so : (asked : Questions) (n : Net) (e : Emptying) (blocks : List (BlockId × Entry × Option (List ℕ))) → At n e → Goes asked n (moves e blocks)
-  unfolding moves
-  moves_so asked n e blocks h =
-      let d = steps puts_block e blocks in
-      frames.went_on New part texts since answered asked n d (puts d.state log_in.Seal)
-      (frames.went_steps New part texts since answered puts_block put_so asked n e blocks h) (λ w. seal_so w.questions w.next d.state w.stands)
+  move_all_so : (asked : Questions) (n : Net) (e : Emptying) (blocks : List (BlockId × Entry × Option (List ℕ))) → At n e → Goes asked n (move_all e blocks)
+  unfolding move_all
+  move_all_so asked n e blocks h =
+      let d = steps put_block e blocks in
+      frames.went_on New part texts since answered asked n d (emptying_put d.state log_in.Seal)
+      (frames.went_steps New part texts since answered put_block put_so asked n e blocks h) (λ w. seal_so w.questions w.next d.state w.stands)
 
   -- ---- its deletes, and its end
 
-  deletes_so : (asked : Questions) (n : Net) (e : Emptying) (o : Option Job) (server : ℕ) (name : SegName) → e.job ≡ o → In name n.deleted → At n e
-      → Goes asked n (deletes e o server name)
-  deletes_so asked n e None server name same dead h = quiet asked n e [] h tt
-  deletes_so asked n e (Some job) server name same dead h =
-      quiet asked n (deletes e (Some job) server name).state (deletes e (Some job) server name).outs
-      (rejobbed n e.log e.feed e.promised e.job (deletes e (Some job) server name).state.job
+  emptying_delete_so : (asked : Questions) (n : Net) (e : Emptying) (o : Option Job) (server : ℕ) (name : SegName) → e.job ≡ o → In name n.deleted → At n e
+      → Goes asked n (emptying_delete e o server name)
+  emptying_delete_so asked n e None server name same dead h = quiet asked n e [] h tt
+  emptying_delete_so asked n e (Some job) server name same dead h =
+      quiet asked n (emptying_delete e (Some job) server name).state (emptying_delete e (Some job) server name).outs
+      (rejobbed n e.log e.feed e.promised e.job (emptying_delete e (Some job) server name).state.job
       (λ k. subst (JobAgrees part n (epoch_of e.promised part)) same k) h)
-      (all_append (frames.Plain New part texts since answered asked n) (drops (is_whole job.hand) name)
+      (all_append (frames.Plain New part texts since answered asked n) (act_dropped (is_whole job.hand) name)
       (Send (Server server) (body.Delete (record { name = name })) ∷ [])
       (by_test (AllPlain asked n) (is_whole job.hand) (Does (Dropped name) ∷ []) [] (λ _. (dead, tt)) (λ _. tt)) (dead, tt))
 
@@ -281,9 +281,9 @@ module _ (New : Filed → Segment → Type 0) (part : ℕ) (texts : Texts) (sinc
 
   -- the small world's job gives way to one that has just begun
   abbrev pub jobless : Net → Net
-  jobless n = record n { job = started 0; number = suc n.number }
+  jobless n = record n { job = cleaning_start 0; number = suc n.number }
 
-  pub grows_job : (n : Net) (count : ℕ) → Grows n (record n { job = started count; number = suc n.number })
+  pub grows_job : (n : Net) (count : ℕ) → Grows n (record n { job = cleaning_start count; number = suc n.number })
   grows_job n count = record {
     slots = refl;
     epoch = refl;
@@ -298,11 +298,11 @@ module _ (New : Filed → Segment → Type 0) (part : ℕ) (texts : Texts) (sinc
   pub grows_jobless : (n : Net) → Grows n (jobless n)
   grows_jobless n = grows_job n 0
 
-  finishes_so : (asked : Questions) (n : Net) (e : Emptying) (count : ℕ) → At n e → Goes asked n (finishes e count)
-  finishes_so asked n e count h =
+  emptying_finish_so : (asked : Questions) (n : Net) (e : Emptying) (count : ℕ) → At n e → Goes asked n (emptying_finish e count)
+  emptying_finish_so asked n e count h =
       let m = jobless n in
-      frames.went_after New part texts since answered At asked asked n m (finishes e count) (On Begun (JobBegins 0)) (grows_jobless n) refl (λ x fact. fact)
-      (quiet asked m (finishes e count).state (finishes e count).outs
+      frames.went_after New part texts since answered At asked asked n m (emptying_finish e count) (On Begun (JobBegins 0)) (grows_jobless n) refl (λ x fact. fact)
+      (quiet asked m (emptying_finish e count).state (emptying_finish e count).outs
       (record {
         late = h.late;
         heard = h.heard;
@@ -322,11 +322,11 @@ module _ (New : Filed → Segment → Type 0) (part : ℕ) (texts : Texts) (sinc
   one_said asked n e out.Hello k h = maps_so asked n e e.job refl h
   one_said asked n e (out.List server) k h = list_so asked n e e.job server refl h
   one_said asked n e (out.UsageAsk slot) k h = usage_so asked n e e.job slot refl h
-  one_said asked n e (out.Fetch seg) k h = reads_so asked n e seg h
+  one_said asked n e (out.Fetch seg) k h = emptying_read_so asked n e seg h
   one_said asked n e (out.Check block place) k h = check_so asked n e block place h
-  one_said asked n e (out.Move blocks) k h = moves_so asked n e blocks h
-  one_said asked n e (out.Delete server name) k h = deletes_so asked n e e.job server name refl k h
-  one_said asked n e (out.Finished count) k h = finishes_so asked n e count h
+  one_said asked n e (out.Move blocks) k h = move_all_so asked n e blocks h
+  one_said asked n e (out.Delete server name) k h = emptying_delete_so asked n e e.job server name refl k h
+  one_said asked n e (out.Finished count) k h = emptying_finish_so asked n e count h
 
   pub all_said : (asked : Questions) (n : Net) (e : Emptying) (outs : List Out) → AllByRecursion (Known n.deleted) outs → At n e
       → Goes asked n (steps says e outs)

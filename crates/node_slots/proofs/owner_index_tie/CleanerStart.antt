@@ -3,7 +3,7 @@ use Rattle.std.proofs.Common.{◌≡◌, ◌<◌, ℕ, zero, suc, [], refl, sym,
 use Rattle.cleaner_node.specs.declared.cleaner.Phase.{Phase}
 use Rattle.cleaner_node.specs.declared.cleaner.Phase.TheVariants.{Down, Opening, Serving}
 use Rattle.index_tie.specs.Net.{Net}
-use Rattle.log_owner.specs.Promised.{epoch_of, at_start}
+use Rattle.log_owner.specs.Promised.{epoch_of, promised_start}
 use Rattle.headline.specs.Filed.{Texts}
 use Rattle.node_slots.proofs.node_index_tie.Moves.{some_none}
 use Rattle.stripe_cleaner.specs.CleaningState.{CleaningState}
@@ -17,7 +17,7 @@ use Rattle.node_slots.proofs.owner_index_tie.Start.{nothing_fits}
 use Rattle.node_slots.proofs.owner_index_tie.Turns.{none_next}
 
 -- each slot is promised to epoch 1
-first_epoch : (managers k : ℕ) → k < 8 → 1 ≡ epoch_of (at_start managers) k
+first_epoch : (managers k : ℕ) → k < 8 → 1 ≡ epoch_of (promised_start managers) k
 first_epoch managers zero h = refl
 first_epoch managers (suc zero) h = refl
 first_epoch managers (suc (suc zero)) h = refl

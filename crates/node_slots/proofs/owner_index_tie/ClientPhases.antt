@@ -4,15 +4,15 @@ use Rattle.std.proofs.lemmas.List.Elements.{All-from_recursion}
 use Rattle.client_node.specs.declared.client.Client.{Client}
 use Rattle.client_node.specs.declared.phase.Phase.TheVariants.{Down, Opening, Serving as Serves}
 use Rattle.client_node.specs.declared.phase.Phase.{Phase}
-use Rattle.client_node.specs.Phases.{Went_to, crashed, owner_of, restarted, back, after_opening, opened_on, answers, serves_on, wish_of, down_begins, opening_begins, serving_begins, lasting_of, begins_item, on_begin, on_deliver, on_time, delivers, happens, client_room, takes}
+use Rattle.client_node.specs.Phases.{Went_to, cut, owner_of, restart, back, phase_after, opened_on, answers, serves_on, wish_of, down_begins, opening_begins, serving_begins, lasting_of, begins_item, on_begin, on_deliver, client_tick, client_deliver, happens, client_has_room, takes}
 use Rattle.client_call.specs.declared.call.Going.{Going}
 use Rattle.client_node.specs.Crash.{falls}
 use Rattle.client_serving.specs.declared.lasting.Lasting.{Lasting}
 use Rattle.client_serving.specs.declared.serving.Serving.{Serving}
-use Rattle.client_running.specs.Opens.{begins_call, call_at, opens}
-use Rattle.client_serving.specs.Lasting.{next_life}
+use Rattle.client_running.specs.Opens.{begin_call, call_at, opens}
+use Rattle.client_serving.specs.Lasting.{live_on}
 use Rattle.client_serving.specs.Packets as packets
-use Rattle.client_running.specs.Running.{goes_on, runs}
+use Rattle.client_running.specs.Running.{running_go_on, run}
 use Rattle.client_serving.specs.Sends.{Done, gives}
 use Rattle.headline.specs.Filed.{Filed, Texts}
 use Rattle.index_tie.specs.Net.{Net}
@@ -25,8 +25,8 @@ use Rattle.log_owner.specs.declared.opening.Stage.{Stage}
 use Rattle.log_owner.specs.declared.opening.Stage.TheVariants as stage
 use Rattle.log_owner.specs.Opening as opening
 use Rattle.log_owner.specs.Opening.{Went}
-use Rattle.log_owner.specs.Sending.{pushes_all}
-use Rattle.node_base.specs.Beginning.{next_item, begun, work_at, waiting, answered, answers_unanswered}
+use Rattle.log_owner.specs.Sending.{push_all}
+use Rattle.node_base.specs.Beginning.{next_item, items_begin, work_at, items_wait, items_answer, answers_unanswered}
 use Rattle.node_base.specs.declared.effects.Effect.{Effect}
 use Rattle.node_base.specs.declared.effects.Effect.TheVariants.{Answer as Answers}
 use Rattle.node_base.specs.declared.peers.Peers.{Peers}
@@ -57,7 +57,7 @@ use Rattle.node_slots.proofs.owner_index_tie.ServingWalk as owned
 use Rattle.node_moves.proofs.client_walk.Calls as calls
 use Rattle.node_moves.proofs.client_walk.Readings as readings
 use Rattle.node_slots.proofs.owner_index_tie.ServingPackets as serving
-use Rattle.node_slots.proofs.owner_index_tie.Standing.{Stands, pushes_all_plain}
+use Rattle.node_slots.proofs.owner_index_tie.Standing.{Stands, push_all_plain}
 
 module _ (New : Filed → Segment → Type 0) (part : ℕ) (texts : Texts) (n : Net) (c : ℕ) (some : 0 < c) (limit : c ≤ block_logs) where
   abbrev since : ℕ
@@ -91,14 +91,14 @@ module _ (New : Filed → Segment → Type 0) (part : ℕ) (texts : Texts) (n : 
   rests_from : (f : Filed) (s : Serving) → Stood f s → RestingSeen part texts (filing n f) c s.lasting.number
   rests_from f s h = record { number_is = h.seen.number_is; fits = record { fit = h.seen.feed.fit; short = h.seen.feed.short } }
 
-  crashes_so : (f : Filed) (l : Lasting) (number : ℕ) → RestingSeen part texts (filing n f) c l.number → Goes f (crashed l number)
+  crashes_so : (f : Filed) (l : Lasting) (number : ℕ) → RestingSeen part texts (filing n f) c l.number → Goes f (cut l number)
   crashes_so f l number h =
-      quiet f (Down (record l { items = answered l.items })) (crashed l number).outs h
+      quiet f (Down (record l { items = items_answer l.items })) (cut l number).outs h
       (frames.both_plain part n c since f l.items.unanswered answer.Cut number answer.Done)
 
-  restarts_so : (f : Filed) (servers : ℕ) (l : Lasting) → RestingSeen part texts (filing n f) c l.number → Goes f (restarted servers l)
+  restarts_so : (f : Filed) (servers : ℕ) (l : Lasting) → RestingSeen part texts (filing n f) c l.number → Goes f (restart servers l)
   restarts_so f servers l h =
-      quiet f (restarted servers l).state (restarted servers l).outs
+      quiet f (restart servers l).state (restart servers l).outs
       (h, events.first_so c (owner_of l) servers l.questions (ap (λ m. record { 0 = m }) h.number_is)) (tt, tt)
 
   -- ---- the end of an opening
@@ -108,19 +108,19 @@ module _ (New : Filed → Segment → Type 0) (part : ℕ) (texts : Texts) (n : 
       quiet f (back l capacity o).state (back l capacity o).outs
       (record { late = h.late; seen = record { number_is = own; log = h.seen.log; end = h.seen.end; feed = h.seen.feed } }) (
         tt,
-        all_append (frames.Plain part n c since f) (pushes_all o.promised.managers o.feed) _
-            (pushes_all_plain part n c since f some limit o.promised.managers o.feed h.seen.feed)
+        all_append (frames.Plain part n c since f) (push_all o.promised.managers o.feed) _
+            (push_all_plain part n c since f some limit o.promised.managers o.feed h.seen.feed)
             (frames.answers_plain part n c since f l.items.unanswered answer.Done),
       )
 
   abbrev ProgressSeen : Filed → Progress → Type 0
   ProgressSeen f p = log.ProgressSeen part n c since f p
 
-  after_opening_so : (f : Filed) (l : Lasting) (capacity : ℕ) (p : Progress) → l.number ≡ c → ProgressSeen f p → Goes f (after_opening l capacity p)
-  after_opening_so f l capacity (progress.Opening o) own h = still_so f (Opening l o) (record { number_is = own; fits = h.0 }, h.1)
-  after_opening_so f l capacity (progress.Opened o) own h = back_so f l capacity o own h
-  after_opening_so f l capacity (progress.Lost seg) own h =
-      quiet f (Down (record l { items = answered l.items })) (answers_unanswered l.items.unanswered (answer.Lost seg)) (record { number_is = own; fits = h })
+  phase_after_so : (f : Filed) (l : Lasting) (capacity : ℕ) (p : Progress) → l.number ≡ c → ProgressSeen f p → Goes f (phase_after l capacity p)
+  phase_after_so f l capacity (progress.Opening o) own h = still_so f (Opening l o) (record { number_is = own; fits = h.0 }, h.1)
+  phase_after_so f l capacity (progress.Opened o) own h = back_so f l capacity o own h
+  phase_after_so f l capacity (progress.Lost seg) own h =
+      quiet f (Down (record l { items = items_answer l.items })) (answers_unanswered l.items.unanswered (answer.Lost seg)) (record { number_is = own; fits = h })
       (frames.answers_plain part n c since f l.items.unanswered (answer.Lost seg))
 
   opened_on_so : (l : Lasting) (capacity : ℕ) (w : Went) → l.number ≡ c
@@ -128,34 +128,34 @@ module _ (New : Filed → Segment → Type 0) (part : ℕ) (texts : Texts) (n : 
       → Goes n.filed (opened_on l capacity w)
   opened_on_so l capacity w own p =
       let m : Lasting = record l { questions = w.questions } in
-      let e : Went_to = after_opening m capacity w.progress in
+      let e : Went_to = phase_after m capacity w.progress in
       frames.goes_through New part texts n c since ProgressSeen PhaseSo n.filed (record { state = w.progress; outs = w.effects }) e p
-      (λ h. after_opening_so (filed_after texts c n.filed w.effects) m capacity w.progress own h)
+      (λ h. phase_after_so (filed_after texts c n.filed w.effects) m capacity w.progress own h)
 
   -- ---- the next item begins
 
-  begins_so : (f : Filed) (s : Serving) (number : ℕ) (going : Option Going) → Stood f s → Goes f (serves_on (begins_call s number going))
+  begins_so : (f : Filed) (s : Serving) (number : ℕ) (going : Option Going) → Stood f s → Goes f (serves_on (begin_call s number going))
   begins_so f s number None h = answers_so f (Serves s) number answer.Done h
   begins_so f s number (Some x) h =
-      let t : Serving = record s { lasting = record s.lasting { items = waiting s.lasting.items number } } in
-      let d : Done = goes_on t x in
+      let t : Serving = record s { lasting = record s.lasting { items = items_wait s.lasting.items number } } in
+      let d : Done = running_go_on t x in
       let its = owned.walk part n c since some limit f in
-      let p = owned.quiet part n c since some limit f d (calls.goes_on_so its t x (readings.going_any (λ r. Unit {0}) (λ r. tt) x) h) in
-      let q = owned.quiet part n c since some limit f (runs d.state) (calls.runs_so its d.state p.stands) in
-      quiet f (Serves (runs d.state).state) (d.outs ++ (runs d.state).outs) q.stands
-      (all_append (frames.Plain part n c since f) d.outs (runs d.state).outs p.plain q.plain)
+      let p = owned.quiet part n c since some limit f d (calls.running_go_on_so its t x (readings.going_any (λ r. Unit {0}) (λ r. tt) x) h) in
+      let q = owned.quiet part n c since some limit f (run d.state) (calls.run_so its d.state p.stands) in
+      quiet f (Serves (run d.state).state) (d.outs ++ (run d.state).outs) q.stands
+      (all_append (frames.Plain part n c since f) d.outs (run d.state).outs p.plain q.plain)
 
   opens_so : (f : Filed) (s : Serving) (number : ℕ) → Stood f s → Goes f (serves_on (opens s number))
   unfolding opens
   opens_so f s number h =
       by_test (λ (d : Done). Goes f (serves_on d)) (is_some s.lasting.items.unanswered) (gives s (Answers number answer.Busy ∷ []))
-      (begins_call s number (call_at s number (work_at s.lasting.items number)))
+      (begin_call s number (call_at s number (work_at s.lasting.items number)))
       (λ _. answers_so f (Serves s) number answer.Busy h)
       (λ _. begins_so f s number (call_at s number (work_at s.lasting.items number)) h)
 
   down_so : (f : Filed) (servers number : ℕ) (l : Lasting) (wanted : Option Work) → RestingSeen part texts (filing n f) c l.number
       → Goes f (down_begins servers l number (wish_of wanted))
-  down_so f servers number l (Some (work.Restart node)) h = restarts_so f servers (next_life l number) h
+  down_so f servers number l (Some (work.Restart node)) h = restarts_so f servers (live_on l number) h
   down_so f servers number l (Some _) h = answers_so f (Down l) number answer.Down h
   down_so f servers number l None h = answers_so f (Down l) number answer.Down h
 
@@ -168,7 +168,7 @@ module _ (New : Filed → Segment → Type 0) (part : ℕ) (texts : Texts) (n : 
 
   serving_so : (f : Filed) (s : Serving) (number : ℕ) (wanted : Option Work) → Stood f s → Goes f (serving_begins s number (wish_of wanted))
   serving_so f s number (Some (work.Crash node)) h =
-      frames.goes_behind New part texts n c since PhaseSo f (falls s ∷ []) (crashed s.lasting number) (tt, tt)
+      frames.goes_behind New part texts n c since PhaseSo f (falls s ∷ []) (cut s.lasting number) (tt, tt)
       (crashes_so f s.lasting number (rests_from f s h))
   serving_so f s number (Some (work.Restart node)) h = answers_so f (Serves s) number answer.Up h
   serving_so f s number (Some _) h = opens_so f s number h
@@ -176,10 +176,10 @@ module _ (New : Filed → Segment → Type 0) (part : ℕ) (texts : Texts) (n : 
 
   item_so : (f : Filed) (servers : ℕ) (p : Phase) (item : Option ℕ) → PhaseSo f p → Goes f (begins_item servers p item)
   item_so f servers p None h = still_so f p h
-  item_so f servers (Down l) (Some number) h = down_so f servers number (record l { items = begun l.items }) (work_at (begun l.items) number) h
-  item_so f servers (Opening l o) (Some number) h = opening_so f (record l { items = begun l.items }) o number (work_at (begun l.items) number) h
+  item_so f servers (Down l) (Some number) h = down_so f servers number (record l { items = items_begin l.items }) (work_at (items_begin l.items) number) h
+  item_so f servers (Opening l o) (Some number) h = opening_so f (record l { items = items_begin l.items }) o number (work_at (items_begin l.items) number) h
   item_so f servers (Serves s) (Some number) h =
-      serving_so f (record s { lasting = record s.lasting { items = begun s.lasting.items } }) number (work_at (begun s.lasting.items) number) h
+      serving_so f (record s { lasting = record s.lasting { items = items_begin s.lasting.items } }) number (work_at (items_begin s.lasting.items) number) h
 
   -- ---- the events
 
@@ -200,7 +200,7 @@ module _ (New : Filed → Segment → Type 0) (part : ℕ) (texts : Texts) (n : 
   is_stage (stage.Settling s) text = (text, λ back. back)
 
   gets_end : (l : Lasting) (o : openings.Opening) (m : Lasting) (capacity : ℕ) (p : Progress)
-      → ReopensOn part texts n c (Opening l o) (after_opening m capacity p).state
+      → ReopensOn part texts n c (Opening l o) (phase_after m capacity p).state
       → log.EndGets texts c n.filed o.stage p
   gets_end l o m capacity (progress.Opening x) gets = tt
   gets_end l o m capacity (progress.Opened r) gets = gets
@@ -218,40 +218,40 @@ module _ (New : Filed → Segment → Type 0) (part : ℕ) (texts : Texts) (n : 
   unfolding on_deliver
   on_deliver_so capacity (Down l) packet h owed = λ gets. still_so n.filed (Down l) h.0
   on_deliver_so capacity (Opening l o) packet h owed =
-      opens_to l o capacity (opening.on_packet o l.questions packet) h.0
+      opens_to l o capacity (opening.opening_take o l.questions packet) h.0
       (events.packet_goes New part texts n c since n.filed (omega arith) h.0.0.fits o.stage o l.questions packet h.0.1 (is_stage o.stage h.1))
   on_deliver_so capacity (Serves s) packet h owed =
-      serves_so s (saying (packets.on_packet s packet).outs (runs (packets.on_packet s packet).state))
+      serves_so s (saying (packets.serving_take s packet).outs (run (packets.serving_take s packet).state))
       (serving.packet_so New part texts n c since some limit n.filed s h.0 h.1 packet (polled packet.body owed))
     where
       polled : (b : Body) → BodyGets part texts n c s.tokens b → serving.Polled part n c n.filed s b
       polled (body.Poll m) owed = owed
       polled _ owed = tt
 
-  delivers_so : (peers : Peers) (capacity : ℕ) (p : Phase) (packet : Packet) → PhaseText p → PacketGets part texts n c p packet
-      → Goes_to p (delivers peers capacity p packet)
-  delivers_so peers capacity p packet h owed =
+  client_deliver_so : (peers : Peers) (capacity : ℕ) (p : Phase) (packet : Packet) → PhaseText p → PacketGets part texts n c p packet
+      → Goes_to p (client_deliver peers capacity p packet)
+  client_deliver_so peers capacity p packet h owed =
       by_test (λ (w : Went_to). Goes_to p w) (is_well_formed peers packet) (on_deliver capacity p packet) (still p)
       (λ _. on_deliver_so capacity p packet h owed) (λ _ gets. still_so n.filed p h.0)
 
-  on_time_so : (capacity : ℕ) (p : Phase) → PhaseText p → Goes_to p (on_time capacity p)
-  unfolding on_time
-  on_time_so capacity (Down l) h = λ gets. still_so n.filed (Down l) h.0
-  on_time_so capacity (Opening l o) h =
+  client_tick_so : (capacity : ℕ) (p : Phase) → PhaseText p → Goes_to p (client_tick capacity p)
+  unfolding client_tick
+  client_tick_so capacity (Down l) h = λ gets. still_so n.filed (Down l) h.0
+  client_tick_so capacity (Opening l o) h =
       opens_to l o capacity (opening.on_tick o l.questions) h.0
       (events.tick_goes New part texts n c since n.filed (omega arith) h.0.0.fits o.stage o l.questions h.0.1 (is_stage o.stage h.1))
-  on_time_so capacity (Serves s) h =
-      serves_so s (saying (packets.on_tick s).outs (runs (packets.on_tick s).state))
+  client_tick_so capacity (Serves s) h =
+      serves_so s (saying (packets.on_tick s).outs (run (packets.on_tick s).state))
       (serving.time_so New part texts n c since some limit n.filed s h.0 h.1)
 
   happens_so : (client : Client) (what : Do) → PhaseText client.phase → EventGets part texts n c client.phase what → Goes_to client.phase (happens client what)
   happens_so client Begin h owed = λ gets. on_begin_so client.peers.servers client.phase h.0
-  happens_so client (Deliver packet) h owed = delivers_so client.peers client.cache client.phase packet h owed
-  happens_so client Tick h owed = on_time_so client.cache client.phase h
+  happens_so client (Deliver packet) h owed = client_deliver_so client.peers client.cache client.phase packet h owed
+  happens_so client Tick h owed = client_tick_so client.cache client.phase h
 
   pub takes_so : (client : Client) (what : Do) → PhaseText client.phase → EventGets part texts n c client.phase what → Goes_to client.phase (takes client what)
   takes_so client what h owed =
-      by_test (λ (w : Went_to). Goes_to client.phase w) (client_room client) (happens client what) (still client.phase) (λ _. happens_so client what h owed)
+      by_test (λ (w : Went_to). Goes_to client.phase w) (client_has_room client) (happens client what) (still client.phase) (λ _. happens_so client what h owed)
       (λ _ gets. still_so n.filed client.phase h.0)
 
   -- ---- what it is there

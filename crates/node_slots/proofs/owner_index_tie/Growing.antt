@@ -2,7 +2,7 @@
 use Rattle.std.proofs.Common.{◌≡◌, ◌≤◌, ◌<◌, ◌==◌, ℕ, suc, cond, sym, ap, subst, ◌∙◌, arith}
 use Rattle.std.proofs.lemmas.Bool.Decides.{nat_tests}
 use Rattle.client_log.specs.LogState.{LogState}
-use Rattle.client_log.specs.Transition.{end_from}
+use Rattle.client_log.specs.Transition.{end_of}
 use Rattle.delta_feed.specs.FeedState.{FeedState}
 use Rattle.delta_feed.specs.Transition.{settled}
 use Rattle.headline.specs.Filed.{Filed, Texts}
@@ -37,7 +37,7 @@ next_files texts l f name next = first_of (name.seq == suc (f.head l)) (with_seg
 module _ (part : ℕ) (texts : Texts) (n : Net) (l since : ℕ) (f : Filed) (number : ℕ) (later : LogState) (feed : FeedState) (s : Segment) where
   -- whatever end it had
   pub grown : since ≤ f.head l → number ≡ l → FeedSeen part (filing n f) l feed → RowsFit (rows_of s) → suc (f.head l) < u32_end → LogNext l later
-      → later.end ≡ end_from s
+      → later.end ≡ end_of s
       → s.name.seq ≡ suc (f.head l) → Stands part n l since (with_segment f l s) number later (settled feed s.name.seq (rows_of s))
   grown from fact fed fits short next end seq = record {
     late = let a = from in let b = head_is l f s in omega arith;
@@ -56,7 +56,7 @@ module _ (part : ℕ) (texts : Texts) (n : Net) (l since : ℕ) (f : Filed) (num
 
   pub filed_stands : (New : Filed → Segment → Type 0) (log : LogState) (name : SegName) → Stands part n l since f number log feed → name.seq ≡ suc (f.head l)
       → texts name ≡ s
-      → FilesNext New texts l f name → LogNext l later → later.end ≡ end_from s → s.name.seq ≡ suc (f.head l)
+      → FilesNext New texts l f name → LogNext l later → later.end ≡ end_of s → s.name.seq ≡ suc (f.head l)
       → Stands part n l since (with_name texts l f name) number later (settled feed s.name.seq (rows_of s))
   filed_stands New log name h at text owed next end seq =
       subst (λ g. Stands part n l since g number later (settled feed s.name.seq (rows_of s)))

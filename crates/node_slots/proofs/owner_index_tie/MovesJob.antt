@@ -5,7 +5,7 @@ use Rattle.xfs_base.proofs.BlockOrder.{same_block_exact}
 use Rattle.segment_format.specs.declared.segment.Item.{Item}
 use Rattle.segment_format.specs.declared.segment.Item.TheVariants.{Block, Delta, Part}
 use Rattle.stripe_cleaner.specs.CleaningState.{CleaningState}
-use Rattle.stripe_cleaner.specs.Checks.{checks_from}
+use Rattle.stripe_cleaner.specs.Checks.{checks_of}
 use Rattle.stripe_cleaner.specs.declared.input.In.{In as Input}
 use Rattle.stripe_cleaner.specs.declared.output.Out.{Out}
 use Rattle.stripe_cleaner.specs.declared.phase.Phase.{Phase}
@@ -16,7 +16,7 @@ use Rattle.node_moves.proofs.cleaner_moves.Jobs.{JobLaw, OutSo, InputSo, DoneSo,
 use Rattle.node_slots.specs.owner_index_tie.CleanerMoves.{WasLive, FateMoves, CheckMoves, PhaseMoves}
 
 module _ (part : ℕ) (sent : List Packet) where
-  pub asked_of : (number : ℕ) (items : List Item) → AllByRecursion (CheckMoves part sent) (checks_from number items)
+  pub asked_of : (number : ℕ) (items : List Item) → AllByRecursion (CheckMoves part sent) (checks_of number items)
   asked_of number [] = tt
   asked_of number (Block block value ∷ items) = (tt, asked_of (number + 1) items)
   asked_of number (Delta block ver hop item ∷ items) = asked_of (number + 1) items

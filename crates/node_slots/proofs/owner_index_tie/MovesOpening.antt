@@ -12,14 +12,14 @@ use Rattle.log_owner.specs.declared.opening.Opening.{Opening}
 use Rattle.log_owner.specs.declared.opening.Scanning.{Scanning}
 use Rattle.log_owner.specs.declared.opening.Settling.{Settling}
 use Rattle.log_owner.specs.declared.opening.Stage.{Stage}
-use Rattle.log_owner.specs.Opening.{Went, Moved, at_scan, said, scanned, written, opens, writes, behind, starts_log, settles_over, scans_on, welcomed_with, welcomed, on_tick, on_packet, nothing_asked}
-use Rattle.log_owner.specs.Promised.{promised_in}
+use Rattle.log_owner.specs.Opening.{Went, Moved, known_scanning, sent_send, scanned, written, known_go_on, known_write, behind, start_log, settles_over, scans_on, welcomed_with, welcomed, on_tick, opening_take, nothing_asked}
+use Rattle.log_owner.specs.Promised.{promised_of}
 use Rattle.log_scan.specs.declared.input.In.{In}
 use Rattle.log_scan.specs.declared.input.In.TheVariants as input
 use Rattle.log_scan.specs.Transition as scan
 use Rattle.node_base.specs.declared.maps.Maps.{Maps}
 use Rattle.node_base.specs.declared.questions.Questions.{Questions}
-use Rattle.node_base.specs.Maps.{taken}
+use Rattle.node_base.specs.Maps.{maps_take}
 use Rattle.node_base.specs.Shape.{is_log}
 use Rattle.node_slots.proofs.node_index_tie.Moves.{some_none}
 use Rattle.segment_format.specs.declared.segment.Segment.{Segment}
@@ -32,7 +32,7 @@ use Rattle.xfs_base.specs.Steps.{still}
 use Rattle.node_slots.specs.owner_index_tie.CleanerMoves.{LogMoves, StageMoves}
 use Rattle.node_slots.proofs.owner_index_tie.MovesLog.{InputMoves, log_moves, walk}
 use Rattle.node_moves.proofs.LogWalk as log_walk
-use Rattle.node_moves.proofs.OpeningSays.{follows_so}
+use Rattle.node_moves.proofs.OpeningSays.{known_follow_so}
 use Rattle.node_moves.proofs.OpeningWalk.{Any, Walk, packet_so, tick_so}
 
 module _ (part : ℕ) (sent : List Packet) where
@@ -50,24 +50,24 @@ module _ (part : ℕ) (sent : List Packet) where
 
   -- ---- the log
 
-  opens_so : (k : Known) (s : Settling) (end : Option End) → LogMoves part sent s.log → Goes (opens k s end)
-  opens_so k s None h = h
-  opens_so k s (Some end) h = h
+  known_go_on_so : (k : Known) (s : Settling) (end : Option End) → LogMoves part sent s.log → Goes (known_go_on k s end)
+  known_go_on_so k s None h = h
+  known_go_on_so k s (Some end) h = h
 
-  writes_so : (k : Known) (s : Settling) (i : LogIn) → LogMoves part sent s.log → InputMoves part sent i → Goes (writes k s i)
-  unfolding writes
-  writes_so k s i h new =
+  known_write_so : (k : Known) (s : Settling) (i : LogIn) → LogMoves part sent s.log → InputMoves part sent i → Goes (known_write k s i)
+  unfolding known_write
+  known_write_so k s i h new =
       let r = log_steps.transition s.log i in
-      opens_so k (record s { log = r.state }) (written r.outs).state (log_moves part sent s.log i h new)
+      known_go_on_so k (record s { log = r.state }) (written r.outs).state (log_moves part sent s.log i h new)
 
   -- ---- the scan
 
   starts_so : (k : Known) (s : Scanning) (segments : List Segment) (end : End) (low : ℕ) (groups : GroupMapState)
-      → Goes (starts_log k s (record { segments = segments; end = end; low = low }) groups)
+      → Goes (start_log k s (record { segments = segments; end = end; low = low }) groups)
   starts_so k s segments end low groups =
       let t : Settling = behind k (record { segments = segments; end = end; low = low }) groups in
-      by_test Goes (is_log k.owner.log.0) (writes k t (log_in.Parts [])) (still (at_scan k s))
-      (λ _. writes_so k t (log_in.Parts []) (record { dirty = tt; flight = λ f fact. absurd (some_none f (sym fact)) }) tt) (λ _. tt)
+      by_test Goes (is_log k.owner.log.0) (known_write k t (log_in.Parts [])) (still (known_scanning k s))
+      (λ _. known_write_so k t (log_in.Parts []) (record { dirty = tt; flight = λ f fact. absurd (some_none f (sym fact)) }) tt) (λ _. tt)
 
   settles_so : (k : Known) (s : Scanning) (segments : List Segment) (end : End) (low : ℕ) (groups : Option GroupMapState)
       → Goes (settles_over k s (record { segments = segments; end = end; low = low }) groups)
@@ -80,7 +80,7 @@ module _ (part : ℕ) (sent : List Packet) where
       let r = scan.transition s.scan i in
       let low : ℕ = r.state.opening.low in
       let e = scanned k.owner low s.asked q r.outs in
-      follows_so Goes k low (λ _. tt) (λ next segments end. settles_so k next segments end low k.maps.groups) (λ name. tt) s.asked q r.outs
+      known_follow_so Goes k low (λ _. tt) (λ next segments end. settles_so k next segments end low k.maps.groups) (λ name. tt) s.asked q r.outs
       (record { scan = r.state; asked = e.state.asked })
 
   -- ---- the events
@@ -89,11 +89,11 @@ module _ (part : ℕ) (sent : List Packet) where
       → So (welcomed_with (record k { maps = maps }) q s news asked groups)
   welcomed_with_so k q s maps news asked None = tt
   welcomed_with_so k q s maps news asked (Some groups) =
-      scans_so (record k { maps = maps; promised = promised_in news.slots }) q (record s { asked = nothing_asked }) (input.Welcome asked news.slots groups)
+      scans_so (record k { maps = maps; promised = promised_of news.slots }) q (record s { asked = nothing_asked }) (input.Welcome asked news.slots groups)
 
   welcomed_so : (k : Known) (q : Questions) (s : Scanning) (news : News) (asked : ℕ) → So (welcomed k q s news asked)
   unfolding welcomed
-  welcomed_so k q s news asked = (let maps : Maps = taken k.maps news in welcomed_with_so k q s maps news asked maps.groups)
+  welcomed_so k q s news asked = (let maps : Maps = maps_take k.maps news in welcomed_with_so k q s maps news asked maps.groups)
 
   abbrev Holds : Known → Questions → Stage → Went → Type 0
   Holds k q at w = StageMoves part sent at → So w
@@ -103,12 +103,12 @@ module _ (part : ℕ) (sent : List Packet) where
     rests = λ o q h. h;
     asks = λ o q h. h;
     scan = λ k q s i comes h. scans_so k q s i;
-    log = λ k q s i heard h. writes_so k s i h (log_walk.heard (walk part sent) i heard);
+    log = λ k q s i heard h. known_write_so k s i h (log_walk.heard (walk part sent) i heard);
     welcome = λ from k q s m asked said h. welcomed_so k q s m.news asked;
     newer = λ from k news q at w said goes. goes;
   }
 
-  pub packet_moves : (o : Opening) (q : Questions) (p : packets.Packet) → StageMoves part sent o.stage → So (on_packet o q p)
+  pub packet_moves : (o : Opening) (q : Questions) (p : packets.Packet) → StageMoves part sent o.stage → So (opening_take o q p)
   packet_moves o q p = packet_so Any Holds walked o q p tt
 
   pub time_moves : (o : Opening) (q : Questions) → StageMoves part sent o.stage → So (on_tick o q)

@@ -2,7 +2,7 @@
 use Rattle.std.proofs.Common.{ℕ, List, Option, Some, None, subst, sym}
 use Rattle.cleaner_job.specs.declared.job.Job.{Job}
 use Rattle.cleaner_job.specs.declared.lasting.Lasting.{Lasting}
-use Rattle.cleaner_node.specs.CleanerEvents.{restarts}
+use Rattle.cleaner_node.specs.CleanerEvents.{restart}
 use Rattle.cleaner_node.specs.declared.cleaner.Cleaner.{Cleaner}
 use Rattle.cleaner_node.specs.declared.cleaner.Phase.{Phase}
 use Rattle.cleaner_node.specs.declared.cleaner.Phase.TheVariants.{Down, Opening, Serving}
@@ -73,8 +73,8 @@ module _ (part : ℕ) (sent : List Packet) where
     items_so (Opening l o) items h = h
     items_so (Serving e) items h = h
 
-    restarted : (servers : ℕ) (l : Lasting) (number : ℕ) → So (restarts servers l number).state
-    unfolding restarts
+    restarted : (servers : ℕ) (l : Lasting) (number : ℕ) → So (restart servers l number).state
+    unfolding restart
     restarted servers l number = tt
 
     comes_so : (l : Lasting) (p : Progress) → opens.ProgressMoves part sent p → So (came_to l p)

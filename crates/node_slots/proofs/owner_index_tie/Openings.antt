@@ -8,14 +8,14 @@ use Rattle.log_owner.specs.declared.opened.Progress.TheVariants as progress
 use Rattle.log_owner.specs.declared.opening.Opening.{Opening}
 use Rattle.log_owner.specs.declared.opening.Scanning.{Scanning}
 use Rattle.log_owner.specs.declared.opening.Stage.{Stage}
-use Rattle.log_owner.specs.Opening.{Went, at_first, welcomed_with, welcomed, on_tick, on_packet, nothing_asked}
-use Rattle.log_owner.specs.Promised.{promised_in}
+use Rattle.log_owner.specs.Opening.{Went, at_first, welcomed_with, welcomed, on_tick, opening_take, nothing_asked}
+use Rattle.log_owner.specs.Promised.{promised_of}
 use Rattle.log_owner.specs.Sending.{hello}
 use Rattle.log_scan.specs.declared.input.In.TheVariants as input
 use Rattle.node_base.specs.Asking.{next_ask}
 use Rattle.node_base.specs.declared.maps.Maps.{Maps}
 use Rattle.node_base.specs.declared.questions.Questions.{Questions}
-use Rattle.node_base.specs.Maps.{taken}
+use Rattle.node_base.specs.Maps.{maps_take}
 use Rattle.wire_msg.specs.declared.packet.Packet.{Packet}
 use Rattle.wire_msg.specs.declared.registry.News.{News}
 use Rattle.wire_msg.specs.declared.registry.Welcome.{Welcome}
@@ -42,12 +42,12 @@ module _ (New : Filed → Segment → Type 0) (part : ℕ) (texts : Texts) (n : 
       (groups : Option GroupMapState) → So (welcomed_with (record k { maps = maps }) q s news asked groups)
   welcomed_with_so k own q s maps news asked None = log.rests_at New part texts n l since f late sized at (record k { maps = maps }) own q s
   welcomed_with_so k own q s maps news asked (Some groups) =
-      log.scans_so New part texts n l since f late sized at (record k { maps = maps; promised = promised_in news.slots }) own q
+      log.scans_so New part texts n l since f late sized at (record k { maps = maps; promised = promised_of news.slots }) own q
       (record s { asked = nothing_asked }) (input.Welcome asked news.slots groups)
 
   welcomed_so : (k : Known) → k.owner.log ≡ record { 0 = l } → (q : Questions) (s : Scanning) (news : News) (asked : ℕ) → So (welcomed k q s news asked)
   unfolding welcomed
-  welcomed_so k own q s news asked = (let maps : Maps = taken k.maps news in welcomed_with_so k own q s maps news asked maps.groups)
+  welcomed_so k own q s news asked = (let maps : Maps = maps_take k.maps news in welcomed_with_so k own q s maps news asked maps.groups)
 
   abbrev Holds : Known → Questions → Stage → Went → Type 0
   Holds k q x w = k.owner.log ≡ record { 0 = l } → StageSeen l x → IsStage texts l f at x → So w
@@ -59,12 +59,12 @@ module _ (New : Filed → Segment → Type 0) (part : ℕ) (texts : Texts) (n : 
         log.plain_so New part texts n l since f late sized at (progress.Opening o) (hello o.known.owner.inc (next_ask q) ∷ [])
         (sized, record { own = own; stage = h }) (tt, tt);
     scan = λ k q s i comes own h owed. log.scans_so New part texts n l since f late sized at k own q s i;
-    log = λ k q s i heard own h owed. log.writes_so New part texts n l since f late sized at k own s i heard h owed.0 owed.1;
+    log = λ k q s i heard own h owed. log.known_write_so New part texts n l since f late sized at k own s i heard h owed.0 owed.1;
     welcome = λ from k q s m asked said own h owed. welcomed_so k own q s m.news asked;
     newer = λ from k news q x w said goes. goes;
   }
 
-  pub packet_goes : (o : Opening) (q : Questions) (p : Packet) → OpeningSeen l o → IsStage texts l f at o.stage → So (on_packet o q p)
+  pub packet_goes : (o : Opening) (q : Questions) (p : Packet) → OpeningSeen l o → IsStage texts l f at o.stage → So (opening_take o q p)
   packet_goes o q p h owed = packet_so Any Holds walk o q p tt h.own h.stage owed
 
   pub tick_goes : (o : Opening) (q : Questions) → OpeningSeen l o → IsStage texts l f at o.stage → So (on_tick o q)

@@ -2,8 +2,8 @@
 use Rattle.std.proofs.Common.{◌≡◌, ◌<◌, ◌≤◌, ℕ, true, [], ◌∷◌, nat_lt, nat_le, ◌&&◌, subst, arith}
 use Rattle.std.proofs.lemmas.Bool.Decides.{nat_tests}
 use Rattle.client_serving.specs.declared.serving.Serving.{Serving}
-use Rattle.client_serving.specs.Follow.{follows}
-use Rattle.client_serving.specs.Packets.{promises, reports, may_report, polled, on_poll}
+use Rattle.client_serving.specs.Follow.{serving_follow}
+use Rattle.client_serving.specs.Packets.{serving_promise, reports, may_report, polled, on_poll}
 use Rattle.client_serving.specs.Sends.{Done, report}
 use Rattle.headline.specs.Filed.{Filed}
 use Rattle.index_tie.specs.Net.{Net}
@@ -47,15 +47,15 @@ module _ (part : ℕ) (n : Net) (l since : ℕ) (some : 0 < l) (limit : l ≤ bl
 
   reports_so : (slot epoch : ℕ) (p : Stepped Serving outputs.Out) → At p.state → (slot ≡ part → LinkedFrom n l f epoch) → Goes (reports slot epoch p)
   reports_so slot epoch p h linked =
-      frames.quiet_after part n l since f At (report p.state slot epoch ∷ []) (follows p.state p.outs) (
+      frames.quiet_after part n l since f At (report p.state slot epoch ∷ []) (serving_follow p.state p.outs) (
         (
           λ inside. end_known part n l since f p.state.lasting.number p.state.log p.state.feed h epoch (linked inside),
           end_told part n l since f p.state.lasting.number p.state.log p.state.feed h,
         ),
         tt,
       )
-      (serving.quiet part n l since some limit f (follows p.state p.outs)
-      (tokens.follows_so its_walk p.state p.outs (all_tell (λ target. Unit {0}) (λ target. tt) p.outs) h))
+      (serving.quiet part n l since some limit f (serving_follow p.state p.outs)
+      (tokens.serving_follow_so its_walk p.state p.outs (all_tell (λ target. Unit {0}) (λ target. tt) p.outs) h))
 
   not_past : (s : Serving) (p : Poll) → may_report s p ≡ true → p.slot ≡ part → epoch_of s.tokens.epochs part ≤ p.epoch
   not_past s p fact same = subst (λ k. epoch_of s.tokens.epochs k ≤ p.epoch) same (no_later p.slot (epoch_of s.tokens.epochs p.slot) p.epoch fact)
@@ -66,8 +66,8 @@ module _ (part : ℕ) (n : Net) (l since : ℕ) (some : 0 < l) (limit : l ≤ bl
   polled_so : (s : Serving) (manager : ℕ) (p : Poll) → At s → PollLinked part n l f s p → Goes (polled s manager p)
   unfolding polled
   polled_so s manager p h linked =
-      by_test (λ (d : Done). Goes d) (may_report s p) (reports p.slot p.epoch (promises s p.slot p.epoch manager)) (still s)
-      (λ t. reports_so p.slot p.epoch (promises s p.slot p.epoch manager) (hearing.promises_so its_walk s p.slot p.epoch manager h) (λ same. linked same (not_past s p t same)))
+      by_test (λ (d : Done). Goes d) (may_report s p) (reports p.slot p.epoch (serving_promise s p.slot p.epoch manager)) (still s)
+      (λ t. reports_so p.slot p.epoch (serving_promise s p.slot p.epoch manager) (hearing.serving_promise_so its_walk s p.slot p.epoch manager h) (λ same. linked same (not_past s p t same)))
       (λ t. still_so s h)
 
   pub on_poll_so : (s : Serving) (from : NodeId) (p : Poll) → At s → PollLinked part n l f s p → Goes (on_poll s from p)

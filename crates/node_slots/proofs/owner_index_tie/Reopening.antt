@@ -3,7 +3,7 @@ use Rattle.std.proofs.Common.{◌≡◌, ◌≤◌, ◌<◌, ◌==◌, ℕ, suc,
 use Rattle.std.specs.Prelude.{nat_lt, nat_le, length}
 use Rattle.std.specs.List.{AllByRecursion, range_with_len}
 use Rattle.std.proofs.lemmas.Bool.Decides.{nat_tests}
-use Rattle.delta_feed.specs.FeedState.{FeedState, started}
+use Rattle.delta_feed.specs.FeedState.{FeedState, feed_start}
 use Rattle.delta_feed.specs.Transition.{settled}
 use Rattle.index_tie.specs.Feeds.{fed_at}
 use Rattle.headline.specs.Filed.{Filed, Texts, rows_at}
@@ -11,7 +11,7 @@ use Rattle.index_tie.specs.Growth.{with_segment}
 use Rattle.index_tie.specs.Net.{Net}
 use Rattle.index_tie.proofs.Growth.{more_is_filed}
 use Rattle.index_tie.proofs.Tables.{at_same, first_of, second_of}
-use Rattle.log_owner.specs.Opened.{filed, fed, with_segment as fed_with}
+use Rattle.log_owner.specs.Opened.{filed, feed_all, feed_one as fed_with}
 use Rattle.log_protocol.specs.Tables.{put}
 use Rattle.node_slots.specs.node_index_tie.OwnerEvents.{FeedSeen}
 use Rattle.node_slots.specs.node_index_tie.Sight.{RowsFit}
@@ -47,7 +47,7 @@ module _ (New : Filed → Segment → Type 0) (part : ℕ) (texts : Texts) (n : 
     below_fits q = by_filed RowsFit below l q (λ some limit. subst RowsFit (first_of (nat_lt 0 q && nat_le q (f.head l)) (rows_of (f.segment l q)) []
         (let h = below_head in grind (arith, nat_tests, h))) (fits.fit q)) tt
 
-    pub begins_along : Along below f (started base)
+    pub begins_along : Along below f (feed_start base)
     begins_along = record {
       feed = record {
         base = base;
@@ -143,7 +143,7 @@ module _ (New : Filed → Segment → Type 0) (part : ℕ) (texts : Texts) (n : 
       → ((s : Segment) → Among s chain → v.head l < s.name.seq → s.name.seq ≤ g.head l → s ≡ g.segment l s.name.seq)
       → AllByRecursion (λ s. s ≡ texts s.name) chain
       → AllByRecursion (λ (s : Segment). RowsFit (rows_of s)) chain → FilesOwed New texts l g (map filed chain)
-      → Arrives last (filed_after texts l g (map filed chain)) (fed feed chain)
+      → Arrives last (filed_after texts l g (map filed chain)) (feed_all feed chain)
 
   goes_one : (last first : ℕ) (s : Segment) (chain : List Segment) → Claim last (suc first) chain → Claim last first (s ∷ chain)
   goes_one last first s chain rest v g feed k numbers from to limit old text fits owed =
@@ -168,11 +168,11 @@ module _ (New : Filed → Segment → Type 0) (part : ℕ) (texts : Texts) (n : 
       level fact = let h = k.head in grind (arith, nat_tests, h)
 
       by : (t u : Bool) → nat_le first (v.head l) ≡ t → nat_lt (v.head l) (g.head l) ≡ u
-          → Arrives last (filed_after texts l (with_name texts l g s.name) (map filed chain)) (fed (fed_with feed s) chain)
+          → Arrives last (filed_after texts l (with_name texts l g s.name) (map filed chain)) (feed_all (fed_with feed s) chain)
       by true u fact other =
           let over = passes_over v g feed s k (low fact) in
-          subst (λ h. Arrives last (filed_after texts l h (map filed chain)) (fed (fed_with feed s) chain)) (sym over.1)
-          (subst (λ x. Arrives last (filed_after texts l g (map filed chain)) (fed x chain)) (sym over.0)
+          subst (λ h. Arrives last (filed_after texts l h (map filed chain)) (feed_all (fed_with feed s) chain)) (sym over.1)
+          (subst (λ x. Arrives last (filed_after texts l g (map filed chain)) (feed_all x chain)) (sym over.0)
           (rest v g feed k numbers.1 (let a = low fact in let e = seq in omega arith) next_to limit
           (λ x there. old x (inr there)) text.1 fits.1 (subst (λ h. FilesOwed New texts l h (map filed chain)) over.1 owed.1)))
       by false true fact within =
@@ -218,7 +218,7 @@ module _ (New : Filed → Segment → Type 0) (part : ℕ) (texts : Texts) (n : 
     pub head : g.head l ≡ last
 
   pub reopened : (f : Filed) (low last : ℕ) (chain : List Segment) → ReadBack texts l f low last chain → LogFits part (filing n f) l
-      → FilesOwed New texts l f (map filed chain) → Reopened last (filed_after texts l f (map filed chain)) (fed (started (low - 1)) chain)
+      → FilesOwed New texts l f (map filed chain) → Reopened last (filed_after texts l f (map filed chain)) (feed_all (feed_start (low - 1)) chain)
   reopened f low last chain back fits owed =
       let h = back.horizon in
       let some = back.some in
@@ -226,10 +226,10 @@ module _ (New : Filed → Segment → Type 0) (part : ℕ) (texts : Texts) (n : 
       let v = below f fits (low - 1) base in
       let e : v.head l ≡ low - 1 = at_same l (low - 1) (f.head l) in
       let from = back.from in
-      let a = goes_along last back.first chain v f (started (low - 1)) (begins_along f fits (low - 1) base) back.numbers (omega arith) back.to back.reaches
+      let a = goes_along last back.first chain v f (feed_start (low - 1)) (begins_along f fits (low - 1) base) back.numbers (omega arith) back.to back.reaches
       (λ s there after upto. back.filed s there (omega arith) upto) back.named back.fits owed in
       record {
-        feed = same_feed part (filing n a.read) (filing n (filed_after texts l f (map filed chain))) l (fed (started (low - 1)) chain)
-            (same_log last (filed_after texts l f (map filed chain)) (fed (started (low - 1)) chain) a) a.along.feed;
+        feed = same_feed part (filing n a.read) (filing n (filed_after texts l f (map filed chain))) l (feed_all (feed_start (low - 1)) chain)
+            (same_log last (filed_after texts l f (map filed chain)) (feed_all (feed_start (low - 1)) chain) a) a.along.feed;
         head = a.files;
       }

@@ -2,14 +2,14 @@
 use Rattle.std.proofs.Common.{◌≤◌, ◌<◌, ◌==◌, ℕ, sym, subst}
 use Rattle.client_log.specs.declared.input.In.TheVariants as log_in
 use Rattle.client_serving.specs.declared.serving.Serving.{Serving}
-use Rattle.client_serving.specs.Flights.{writes}
-use Rattle.client_serving.specs.Packets.{hears, regroups, takes_news, on_news, on_welcome, on_body, asks_for_maps, on_packet, on_tick}
-use Rattle.client_running.specs.Running.{runs}
+use Rattle.client_serving.specs.Flights.{serving_write}
+use Rattle.client_serving.specs.Packets.{serving_hear, regroups, takes_news, on_news, on_welcome, take_body, asks_for_maps, serving_take, on_tick}
+use Rattle.client_running.specs.Running.{run}
 use Rattle.client_serving.specs.Sends.{Done}
 use Rattle.headline.specs.Filed.{Filed, Texts}
 use Rattle.index_tie.specs.Net.{Net}
-use Rattle.node_base.specs.Known.{names_known}
-use Rattle.node_base.specs.Maps.{fits, is_older, taken}
+use Rattle.node_base.specs.Known.{names_known_groups}
+use Rattle.node_base.specs.Maps.{fits, is_older, maps_take}
 use Rattle.node_slots.specs.node_index_tie.Pages.{FlightIsText}
 use Rattle.segment_format.specs.declared.segment.Segment.{Segment}
 use Rattle.stripe_code.specs.declared.round.Told.TheVariants as told
@@ -65,12 +65,12 @@ module _ (New : Filed → Segment → Type 0) (part : ℕ) (texts : Texts) (n : 
     takes_news_files : (news : News) → Files f (takes_news s news)
     unfolding takes_news
     takes_news_files news =
-        let t : Serving = record s { maps = taken s.maps news } in
-        let d : Done = steps hears t news.slots in
+        let t : Serving = record s { maps = maps_take s.maps news } in
+        let d : Done = steps serving_hear t news.slots in
         frames.goes_on New part texts n l since At f d (regroups d.state (is_older s.maps news) news.groups)
         (walked f d (hearing.all_hear_so (its_walk f) t news.slots h))
-        (λ k. by_test (λ (e : Done). Files (frames_after d) e) (is_older s.maps news) (writes d.state (log_in.Maps news.groups)) (still d.state)
-        (λ _. flights.writes_so New part texts n l since some limit (frames_after d) d.state (log_in.Maps news.groups) k
+        (λ k. by_test (λ (e : Done). Files (frames_after d) e) (is_older s.maps news) (serving_write d.state (log_in.Maps news.groups)) (still d.state)
+        (λ _. flights.serving_write_so New part texts n l since some limit (frames_after d) d.state (log_in.Maps news.groups) k
         (subst (FlightIsText texts) (sym (all_hear_left t news.slots).log) text))
         (λ _. quiet (frames_after d) (still d.state) (frames.quiet_still part n l since (frames_after d) (At (frames_after d)) d.state k)))
       where
@@ -87,36 +87,36 @@ module _ (New : Filed → Segment → Type 0) (part : ℕ) (texts : Texts) (n : 
     unfolding on_welcome
     welcome_files m = by_test (Files f) (m.inc == s.lasting.inc) (on_news s m.news) (still s) (λ _. news_files m.news) (λ _. still_files)
 
-    body_files : (from : NodeId) (b : Body) → Polled part n l f s b → Files f (on_body s from b)
-    body_files from (body.Grant m) owed = walked f (on_body s from (body.Grant m)) (hearing.on_grant_so (its_walk f) s m tt h)
-    body_files from (body.Supply m) owed = walked f (on_body s from (body.Supply m)) (hearing.on_supply_so (its_walk f) s m h)
-    body_files from (body.Forward m) owed = walked f (on_body s from (body.Forward m)) (hearing.on_forward_so (its_walk f) s m h)
-    body_files from (body.Recall m) owed = walked f (on_body s from (body.Recall m)) (hearing.on_recall_so (its_walk f) s m h)
-    body_files from (body.Gone m) owed = walked f (on_body s from (body.Gone m)) (hearing.on_gone_so (its_walk f) s m h)
-    body_files from (body.DeltaAck m) owed = walked f (on_body s from (body.DeltaAck m)) (hearing.on_ack_so (its_walk f) s m h)
-    body_files from (body.Poll m) owed = quiet f (on_body s from (body.Poll m)) (polling.on_poll_so part n l since some limit f s from m h owed)
-    body_files from (body.Stored m) owed = flights.writes_so New part texts n l since some limit f s (log_in.Acked m.name m.index m.generation) h text
-    body_files from (body.Fragment m) owed = walked f (on_body s from (body.Fragment m))
+    body_files : (from : NodeId) (b : Body) → Polled part n l f s b → Files f (take_body s from b)
+    body_files from (body.Grant m) owed = walked f (take_body s from (body.Grant m)) (hearing.on_grant_so (its_walk f) s m tt h)
+    body_files from (body.Supply m) owed = walked f (take_body s from (body.Supply m)) (hearing.on_supply_so (its_walk f) s m h)
+    body_files from (body.Forward m) owed = walked f (take_body s from (body.Forward m)) (hearing.on_forward_so (its_walk f) s m h)
+    body_files from (body.Recall m) owed = walked f (take_body s from (body.Recall m)) (hearing.on_recall_so (its_walk f) s m h)
+    body_files from (body.Gone m) owed = walked f (take_body s from (body.Gone m)) (hearing.on_gone_so (its_walk f) s m h)
+    body_files from (body.DeltaAck m) owed = walked f (take_body s from (body.DeltaAck m)) (hearing.on_ack_so (its_walk f) s m h)
+    body_files from (body.Poll m) owed = quiet f (take_body s from (body.Poll m)) (polling.on_poll_so part n l since some limit f s from m h owed)
+    body_files from (body.Stored m) owed = flights.serving_write_so New part texts n l since some limit f s (log_in.Acked m.name m.index m.generation) h text
+    body_files from (body.Fragment m) owed = walked f (take_body s from (body.Fragment m))
         (hearing.on_told_so (its_walk f) s from m.ask (told.Held m.fragment) (answered_any from) h)
-    body_files from (body.Missing m) owed = walked f (on_body s from (body.Missing m))
+    body_files from (body.Missing m) owed = walked f (take_body s from (body.Missing m))
         (hearing.on_told_so (its_walk f) s from m.ask (told.Missing m.generation) (answered_any from) h)
     body_files from (body.MapNews m) owed = news_files m
     body_files from (body.Welcome m) owed = welcome_files m
     body_files from _ owed = still_files
 
-    packet_files : (p : Packet) → Polled part n l f s p.body → Files f (on_packet s p)
-    unfolding on_packet
+    packet_files : (p : Packet) → Polled part n l f s p.body → Files f (serving_take s p)
+    unfolding serving_take
     packet_files p owed =
-        by_test (Files f) (names_known s.maps p.body) (on_body s p.from p.body) (asks_for_maps s) (λ _. body_files p.from p.body owed)
+        by_test (Files f) (names_known_groups s.maps p.body) (take_body s p.from p.body) (asks_for_maps s) (λ _. body_files p.from p.body owed)
         (λ _. walked f (asks_for_maps s) (hearing.asks_for_maps_so (its_walk f) s h))
 
     -- what is done, and then the open call runs
-    runs_files : (d : Done) → Files f d → Files f (saying d.outs (runs d.state))
-    runs_files d p = frames.goes_on New part texts n l since At f d (runs d.state) p
-        (λ k. walked (filed_after texts l f d.outs) (runs d.state) (calls.runs_so (its_walk (filed_after texts l f d.outs)) d.state k))
+    runs_files : (d : Done) → Files f d → Files f (saying d.outs (run d.state))
+    runs_files d p = frames.goes_on New part texts n l since At f d (run d.state) p
+        (λ k. walked (filed_after texts l f d.outs) (run d.state) (calls.run_so (its_walk (filed_after texts l f d.outs)) d.state k))
 
-    pub packet_so : (p : Packet) → Polled part n l f s p.body → Files f (saying (on_packet s p).outs (runs (on_packet s p).state))
-    packet_so p owed = runs_files (on_packet s p) (packet_files p owed)
+    pub packet_so : (p : Packet) → Polled part n l f s p.body → Files f (saying (serving_take s p).outs (run (serving_take s p).state))
+    packet_so p owed = runs_files (serving_take s p) (packet_files p owed)
 
-    pub time_so : Files f (saying (on_tick s).outs (runs (on_tick s).state))
+    pub time_so : Files f (saying (on_tick s).outs (run (on_tick s).state))
     time_so = runs_files (on_tick s) (walked f (on_tick s) (hearing.tick_goes (its_walk f) s h))

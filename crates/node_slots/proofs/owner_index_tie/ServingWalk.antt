@@ -11,7 +11,7 @@ use Rattle.headline.specs.Filed.{Filed}
 use Rattle.index_tie.specs.Net.{Net}
 use Rattle.xfs_base.specs.Limits.{block_logs}
 use Rattle.node_slots.proofs.owner_index_tie.Frames as frames
-use Rattle.node_slots.proofs.owner_index_tie.Standing.{Stands, acked, end_told, pushes_all_plain, pushes_plain, renewed, rested}
+use Rattle.node_slots.proofs.owner_index_tie.Standing.{Stands, acked, end_told, push_all_plain, pushes_plain, renewed, rested}
 use Rattle.node_slots.proofs.owner_index_tie.Turns.{log_turns}
 
 module _ (part : ℕ) (n : Net) (l since : ℕ) (some : 0 < l) (limit : l ≤ block_logs) (f : Filed) where
@@ -56,7 +56,7 @@ module _ (part : ℕ) (n : Net) (l since : ℕ) (some : 0 < l) (limit : l ≤ bl
     asks = λ inc ask. tt;
     reports = λ s slot epoch owed h. absurd owed;
     pushed = λ s slot h. pushes_plain part n l since f some limit s.managers s.feed h.seen.feed slot;
-    all_pushed = λ s h. pushes_all_plain part n l since f some limit s.managers s.feed h.seen.feed;
+    all_pushed = λ s h. push_all_plain part n l since f some limit s.managers s.feed h.seen.feed;
     answers = λ item a. tt;
     loses = λ name. tt;
     has_read = λ node block ver value. tt;

@@ -6,7 +6,7 @@ use Rattle.client_log.specs.declared.output.Out.{Out as LogOut}
 use Rattle.client_log.specs.declared.output.Out.TheVariants as log_out
 use Rattle.client_log.specs.LogState.{LogState}
 use Rattle.delta_feed.specs.FeedState.{FeedState}
-use Rattle.delta_feed.specs.Transition.{acknowledged, new_epoch, pushed, ticked}
+use Rattle.delta_feed.specs.Transition.{acknowledged, new_epoch, feed_push, feed_tick}
 use Rattle.delta_feed.specs.declared.output.Out.{Out}
 use Rattle.delta_feed.specs.declared.output.Out.TheVariants.{Range}
 use Rattle.headline.specs.Filed.{Filed}
@@ -14,7 +14,7 @@ use Rattle.index_tie.specs.Net.{Net}
 use Rattle.index_tie.specs.Takeovers.{Linked}
 use Rattle.headline.specs.Indexes.{of_log}
 use Rattle.log_owner.specs.Opening.{stored}
-use Rattle.log_owner.specs.Sending.{range, pushes, pushes_all}
+use Rattle.log_owner.specs.Sending.{range, sending_push, push_all}
 use Rattle.log_owner.specs.declared.promised.Managers.{Managers}
 use Rattle.node_slots.specs.node_index_tie.OwnerEvents as owners
 use Rattle.node_slots.specs.node_index_tie.Sight.{EndKnown}
@@ -68,14 +68,14 @@ module _ (part : ℕ) (n : Net) (l since : ℕ) (f : Filed) where
     ranges_plain [] all = tt
     ranges_plain (Range slot first upto rows ∷ outs) all = (all.0, ranges_plain outs all.1)
 
-    pub pushes_plain : (slot : ℕ) → AllPlain part n l since f (pushes managers feed slot)
-    pushes_plain slot = ranges_plain (pushed feed slot)
-        (recursion_from_All (owners.OwnerDoes part (filing n f) l) (pushes managers feed slot)
+    pub pushes_plain : (slot : ℕ) → AllPlain part n l since f (sending_push managers feed slot)
+    pushes_plain slot = ranges_plain (feed_push feed slot)
+        (recursion_from_All (owners.OwnerDoes part (filing n f) l) (sending_push managers feed slot)
         ((owners_tell part (filing n f) l feed managers some limit k).one slot))
 
-    pub pushes_all_plain : AllPlain part n l since f (pushes_all managers feed)
-    pushes_all_plain = ranges_plain (ticked feed)
-        (recursion_from_All (owners.OwnerDoes part (filing n f) l) (pushes_all managers feed) (owners_tell part (filing n f) l feed managers some limit k).each)
+    pub push_all_plain : AllPlain part n l since f (push_all managers feed)
+    push_all_plain = ranges_plain (feed_tick feed)
+        (recursion_from_All (owners.OwnerDoes part (filing n f) l) (push_all managers feed) (owners_tell part (filing n f) l feed managers some limit k).each)
 
   module _ (number : ℕ) (log : LogState) (feed : FeedState) (h : Stands number log feed) where
     -- its end is what is filed last

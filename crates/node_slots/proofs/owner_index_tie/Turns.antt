@@ -8,13 +8,13 @@ use Rattle.client_log.specs.declared.input.In.TheVariants.{Put, Parts, Seal, Ack
 use Rattle.client_log.specs.declared.output.Out.{Out}
 use Rattle.client_log.specs.declared.output.Out.TheVariants.{Settled}
 use Rattle.client_log.specs.LogState.{LogState}
-use Rattle.client_log.specs.Transition.{Done, all_sends, launched, next_name, prior_from, writes, sealed, has_next, is_idle, is_full, can_go_on, if_full, waits, on_put, on_seal, on_parts, next_attempt, restriped, end_from, landed, settled, can_follow, followed, looked_at, on_acked, on_maps, on_tick, transition}
+use Rattle.client_log.specs.Transition.{Done, sending_send, log_launch, next_name, prior_from, log_write, log_seal, has_next, is_idle, is_full, can_go_on, log_go_on, waits, on_put, on_seal, on_parts, next_attempt, restriped, end_of, landed, settled, can_follow, followed, looked_at, on_acked, on_maps, on_tick, transition}
 use Rattle.group_map.specs.GroupMapState.{GroupMapState}
 use Rattle.log_flight.specs.declared.dirty.Change.{Change}
 use Rattle.log_flight.specs.declared.flight.Fate.{Fate}
 use Rattle.log_flight.specs.declared.flight.Fate.TheVariants.{Restripe, Settle, Wait}
 use Rattle.log_flight.specs.Fate.{fate_of}
-use Rattle.log_flight.specs.Flights.{FlightState, flown, group_for, is_of, noting}
+use Rattle.log_flight.specs.Flights.{FlightState, flown, group_for, is_of, flight_note}
 use Rattle.log_flight.specs.Items.{items_of}
 use Rattle.log_flight.specs.Texts.{has_text}
 use Rattle.node_moves.proofs.client_walk.LogTurns.{IsSend}
@@ -40,9 +40,9 @@ pub record Rests (s : LogState) (d : Done) : Type 0 where
 pub record Lands (s : LogState) (d : Done) : Type 0 where
   pub old : FlightState
   pub was : s.flight ≡ Some old
-  pub end : d.state.end ≡ end_from old.segment
+  pub end : d.state.end ≡ end_of old.segment
   pub rest : List Out
-  pub outs : d.outs ≡ Settled (end_from old.segment) (rows_of old.segment) ∷ rest
+  pub outs : d.outs ≡ Settled (end_of old.segment) (rows_of old.segment) ∷ rest
   pub sends : AllByRecursion IsSend rest
 
 pub record Turns (l : ℕ) (s : LogState) (d : Done) : Type 0 where
@@ -79,8 +79,8 @@ module _ (l : ℕ) where
   }
 
   launched_stays : (s t : LogState) (name : SegName) (prior : Prior) (items : List Item) → t.end ≡ s.end → t.log ≡ record { 0 = l } → name.log ≡ t.log
-      → name.seq ≡ suc t.end.seq → Stays l s (launched t name prior items)
-  unfolding launched
+      → name.seq ≡ suc t.end.seq → Stays l s (log_launch t name prior items)
+  unfolding log_launch
   launched_stays s t name prior items end own of next = record {
     next = flying t (flown name prior items (group_for t.groups t.log.0 name.seq)) own of next;
     rests = record { same = end; sends = all_send (flown name prior items (group_for t.groups t.log.0 name.seq)) };
@@ -92,39 +92,39 @@ module _ (l : ℕ) where
   after_end : (t : LogState) → (next_name t).seq ≡ suc t.end.seq
   after_end t = let e = t.end.seq in omega arith
 
-  sealed_stays : (s t : LogState) → t.end ≡ s.end → LogNext l t → Stays l s (sealed t)
-  unfolding sealed
+  sealed_stays : (s t : LogState) → t.end ≡ s.end → LogNext l t → Stays l s (log_seal t)
+  unfolding log_seal
   sealed_stays s t end h =
       launched_stays s (record t { dirty = drop segment_blocks t.dirty }) (next_name (record t { dirty = drop segment_blocks t.dirty })) (prior_from t.end)
       (items_of 0 (take segment_blocks t.dirty)) end h.own refl (after_end t)
 
-  if_full_stays : (s t : LogState) → t.end ≡ s.end → LogNext l t → Stays l s (if_full t)
-  unfolding if_full
-  if_full_stays s t end h = by_test (Stays l s) (is_full t) (sealed t) (still t) (λ _. sealed_stays s t end h) (λ _. still_stays s t end h)
+  log_go_on_stays : (s t : LogState) → t.end ≡ s.end → LogNext l t → Stays l s (log_go_on t)
+  unfolding log_go_on
+  log_go_on_stays s t end h = by_test (Stays l s) (is_full t) (log_seal t) (still t) (λ _. sealed_stays s t end h) (λ _. still_stays s t end h)
 
   module _ (s : LogState) (h : LogNext l s) where
     pub put_stays : (block : BlockId) (change : Change) → Stays l s (on_put s block change)
     unfolding on_put
     put_stays block change =
-        by_test (Stays l s) (can_go_on (waits s block change)) (if_full (waits s block change)) (still s)
-        (λ _. if_full_stays s (waits s block change) refl (same_next s (waits s block change) refl refl refl h)) (λ _. still_stays s s refl h)
+        by_test (Stays l s) (can_go_on (waits s block change)) (log_go_on (waits s block change)) (still s)
+        (λ _. log_go_on_stays s (waits s block change) refl (same_next s (waits s block change) refl refl refl h)) (λ _. still_stays s s refl h)
 
     pub seal_stays : Stays l s (on_seal s)
     unfolding on_seal
-    seal_stays = by_test (Stays l s) (is_idle s && nat_lt 0 (length s.dirty) && has_next s.end.seq) (sealed s) (still s) (λ _. sealed_stays s s refl h)
+    seal_stays = by_test (Stays l s) (is_idle s && nat_lt 0 (length s.dirty) && has_next s.end.seq) (log_seal s) (still s) (λ _. sealed_stays s s refl h)
         (λ _. still_stays s s refl h)
 
     pub parts_stay : (items : List Item) → Stays l s (on_parts s items)
     unfolding on_parts
     parts_stay items =
-        by_test (Stays l s) (is_idle s && has_next s.end.seq && has_text items) (writes s items) (still s)
+        by_test (Stays l s) (is_idle s && has_next s.end.seq && has_text items) (log_write s items) (still s)
         (λ _. launched_stays s s (next_name s) (prior_from s.end) items refl h.own refl (after_end s)) (λ _. still_stays s s refl h)
 
     pub tick_stays : Stays l s (on_tick s)
     unfolding on_tick
     tick_stays = by s.flight
       where
-        by : (o : Option FlightState) → Stays l s (elim o [ None ↦ still s | Some f ↦ record { state = s; outs = all_sends f } ])
+        by : (o : Option FlightState) → Stays l s (elim o [ None ↦ still s | Some f ↦ record { state = s; outs = sending_send f } ])
         by None = still_stays s s refl h
         by (Some f) = record { next = h; rests = record { same = refl; sends = all_send f } }
 
@@ -145,15 +145,15 @@ module _ (l : ℕ) where
       unfolding settled
       settles =
           let u = landed t g in
-          let k = if_full_stays u u refl (none_next u (log ∙ h.own) refl) in
+          let k = log_go_on_stays u u refl (none_next u (log ∙ h.own) refl) in
           record {
             next = k.next;
             went = inr (record {
               old = f;
               was = was;
-              end = k.rests.same ∙ ap end_from segment;
-              rest = (if_full u).outs;
-              outs = ap (λ (x : Segment). Settled (end_from x) (rows_of x) ∷ (if_full u).outs) segment;
+              end = k.rests.same ∙ ap end_of segment;
+              rest = (log_go_on u).outs;
+              outs = ap (λ (x : Segment). Settled (end_of x) (rows_of x) ∷ (log_go_on u).outs) segment;
               sends = k.rests.sends;
             });
           }
@@ -176,10 +176,10 @@ module _ (l : ℕ) where
     acked_turns name index generation = by s.flight refl
       where
         by : (o : Option FlightState) → s.flight ≡ o
-            → Turns l s (elim o [ None ↦ still s | Some f ↦ cond (is_of f name index generation) (looked_at s s (noting f index)) (still s) ])
+            → Turns l s (elim o [ None ↦ still s | Some f ↦ cond (is_of f name index generation) (looked_at s s (flight_note f index)) (still s) ])
         by None fact = stay_turns (still s) (still_stays s s refl h)
-        by (Some f) fact = by_test (Turns l s) (is_of f name index generation) (looked_at s s (noting f index)) (still s)
-            (λ _. looks_turn s refl refl f (noting f index) fact refl) (λ _. stay_turns (still s) (still_stays s s refl h))
+        by (Some f) fact = by_test (Turns l s) (is_of f name index generation) (looked_at s s (flight_note f index)) (still s)
+            (λ _. looks_turn s refl refl f (flight_note f index) fact refl) (λ _. stay_turns (still s) (still_stays s s refl h))
 
     maps_turn : (groups : GroupMapState) → Turns l s (on_maps s groups)
     unfolding on_maps

@@ -5,13 +5,13 @@ use Rattle.client_log.specs.declared.output.Out as log_out
 use Rattle.client_call.specs.declared.call.Going.{Going}
 use Rattle.client_serving.specs.declared.lasting.Lasting.{Lasting}
 use Rattle.client_serving.specs.declared.serving.Serving.{Serving}
-use Rattle.client_serving.specs.Flights.{held_at, keeps_clean, notes_settled, writes_one}
-use Rattle.client_serving.specs.Follow.{notes_clean}
-use Rattle.client_serving.specs.Packets.{on_packet, on_tick}
-use Rattle.client_running.specs.Running.{goes_on, runs_upto}
+use Rattle.client_serving.specs.Flights.{held_at, keep_row, notes_settled, write_one}
+use Rattle.client_serving.specs.Follow.{note_clean}
+use Rattle.client_serving.specs.Packets.{serving_take, on_tick}
+use Rattle.client_running.specs.Running.{running_go_on, run_upto}
 use Rattle.coop_cache.specs.declared.output.Out.{Out}
 use Rattle.coop_cache.specs.declared.output.Out.TheVariants.{Victim}
-use Rattle.coop_cache.specs.Transition.{cleaned, is_clean}
+use Rattle.coop_cache.specs.Transition.{cache_clean, is_clean}
 use Rattle.token_client.specs.declared.held.Held.{Held}
 use Rattle.token_client.specs.Held.{may_evict}
 use Rattle.token_client.specs.State.{with_held}
@@ -34,7 +34,7 @@ pub record CachesWhatIsClean (s : Serving) : Type 0 where
   -- and none twice
   pub once : Once s.cache.blocks
   -- whatever would leave it for one more block that is held and clean is held and clean
-  pub victims : (block : BlockId) → may_evict (held_at s block) ≡ true → AllByRecursion (IsCleanVictim s) (cleaned s.cache block).outs
+  pub victims : (block : BlockId) → may_evict (held_at s block) ≡ true → AllByRecursion (IsCleanVictim s) (cache_clean s.cache block).outs
 
 -- Between events the cache of a client has just the blocks that it holds and that are clean; so what would leave it for one more such block
 -- is held and clean.
@@ -52,7 +52,7 @@ pub record CachesOnlyClean (s : Serving) : Type 0 where
 abbrev pub EvictsOnlyClean : Type 0
 EvictsOnlyClean =
     (s : Serving) (block : BlockId) → CachesOnlyClean s → may_evict (held_at s block) ≡ true
-    → AllByRecursion (IsCleanVictim s) (cleaned s.cache block).outs × CachesOnlyClean (notes_clean s block)
+    → AllByRecursion (IsCleanVictim s) (cache_clean s.cache block).outs × CachesOnlyClean (note_clean s block)
 
 -- A block goes into the cache where a copy of it came, and where a segment was settled in which it was written. So it is where a copy came: what is
 -- known of the block is put, and then the block is noted.
@@ -65,7 +65,7 @@ CopiesOnlyClean =
 abbrev pub SettlesOnlyClean : Type 0
 SettlesOnlyClean =
     (s : Serving) (noted rest : List (BlockId × Entry)) → CachesWhatIsClean s
-    → CachesOnlyClean (fold keeps_clean (fold notes_settled s (noted ++ rest)) noted)
+    → CachesOnlyClean (fold keep_row (fold notes_settled s (noted ++ rest)) noted)
 
 -- ---- from part to part of an event
 
@@ -78,16 +78,16 @@ pub record CachesAllButGranted (s : Serving) : Type 0 where
 -- this client, between any two of these parts its cache is as it is between events.
 pub record CachesThroughAnEvent (s : Serving) : Type 0 where
   -- a packet is taken
-  pub packet : (packet : Packet) → CachesAllButGranted (on_packet s packet).state
+  pub packet : (packet : Packet) → CachesAllButGranted (serving_take s packet).state
   -- and so many calls on blocks are made
-  pub packet_runs : (packet : Packet) (calls : ℕ) → 0 < calls → CachesWhatIsClean (runs_upto calls (on_packet s packet).state).state
+  pub packet_runs : (packet : Packet) (calls : ℕ) → 0 < calls → CachesWhatIsClean (run_upto calls (serving_take s packet).state).state
   -- time passes, and so many are made
-  pub tick_runs : (calls : ℕ) → CachesWhatIsClean (runs_upto calls (on_tick s).state).state
+  pub tick_runs : (calls : ℕ) → CachesWhatIsClean (run_upto calls (on_tick s).state).state
   -- a call begins, and so many are made
   pub call_runs : (lasting : Lasting) (going : Going) (calls : ℕ)
-      → CachesWhatIsClean (runs_upto calls (goes_on (record s { lasting = lasting }) going).state).state
+      → CachesWhatIsClean (run_upto calls (running_go_on (record s { lasting = lasting }) going).state).state
   -- its log says such things, one after the other, and so many are done
-  pub log_says : (outs : List log_out.Out) → CachesWhatIsClean (steps writes_one s outs).state
+  pub log_says : (outs : List log_out.Out) → CachesWhatIsClean (steps write_one s outs).state
 
 -- So it is after any events, whatever the next one is.
 abbrev pub CachesThroughAnyEvent : Type 0

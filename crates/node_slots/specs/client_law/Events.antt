@@ -4,7 +4,7 @@ use Rattle.client_node.specs.declared.client.Client.{Client}
 use Rattle.client_node.specs.declared.phase.Phase.TheVariants.{Down, Opening, Serving as Serves}
 use Rattle.client_node.specs.declared.phase.Phase.{Phase}
 use Rattle.client_node.specs.Phases.{client_step}
-use Rattle.client_node.specs.Starting.{first_client}
+use Rattle.client_node.specs.Starting.{client_start}
 use Rattle.client_serving.specs.declared.serving.Serving.{Serving}
 use Rattle.version_model.specs.declared.work.Work.{Work}
 use Rattle.wire_msg.specs.declared.packet.Do.{Do}
@@ -25,4 +25,4 @@ WhereItServes Holds (Serves s) = Holds s
 -- order, however often time passed, and whichever items began.
 abbrev pub HoldsAfterAnyEvents : (Serving → Type 0) → Type 0
 HoldsAfterAnyEvents Holds =
-    (number : ℕ) (setup : Setup) (works : List Work) (events : List Do) → WhereItServes Holds (after_events (first_client number setup works) events).phase
+    (number : ℕ) (setup : Setup) (works : List Work) (events : List Do) → WhereItServes Holds (after_events (client_start number setup works) events).phase

@@ -1,10 +1,10 @@
 -- The map of groups over which a client stripes its segments, and what is true of every map of groups that it was told.
 use Rattle.std.specs.Prelude.{◌≡◌, ℕ, All, IsTrue, List, Some}
 use Rattle.std.specs.List.{AllByRecursion}
-use Rattle.client_node.specs.Starting.{first_client}
+use Rattle.client_node.specs.Starting.{client_start}
 use Rattle.group_map.specs.declared.group.Group.{Group}
 use Rattle.group_map.specs.GroupMapState.{GroupMapState}
-use Rattle.group_map.specs.Groups.{generation_at, group_of, started}
+use Rattle.group_map.specs.Groups.{generation_at, group_of, group_map_start}
 use Rattle.group_map.specs.WellFormed.{IsGroupMap}
 use Rattle.version_model.specs.declared.work.Work.{Work}
 use Rattle.wire_msg.specs.declared.packet.Do.{Do}
@@ -22,6 +22,6 @@ pub record HasPresentGroups (groups : GroupMapState) : Type 0 where
 -- After any events: where what is true of every map of groups is true of the setup's, and of each that comes.
 abbrev pub StripesByPresentGroupsAlways : Type 0
 StripesByPresentGroupsAlways =
-    (number : ℕ) (setup : Setup) (works : List Work) (events : List Do) → IsGroupMap (started setup.servers setup.groups)
+    (number : ℕ) (setup : Setup) (works : List Work) (events : List Do) → IsGroupMap (group_map_start setup.servers setup.groups)
     → AllByRecursion (DoBrings IsGroupMap) events
-    → WhereItServes (λ s. HasPresentGroups s.log.groups) (after_events (first_client number setup works) events).phase
+    → WhereItServes (λ s. HasPresentGroups s.log.groups) (after_events (client_start number setup works) events).phase

@@ -3,7 +3,7 @@ use Rattle.std.specs.Prelude.{◌≡◌, ℕ, false, List}
 use Rattle.client_node.specs.declared.client.Client.{Client}
 use Rattle.client_node.specs.declared.phase.Phase.TheVariants.{Serving as Serves}
 use Rattle.client_node.specs.Phases.{client_step}
-use Rattle.client_node.specs.Starting.{first_client}
+use Rattle.client_node.specs.Starting.{client_start}
 use Rattle.client_serving.specs.declared.serving.Serving.{Serving}
 use Rattle.client_serving.specs.Flights.{held_at}
 use Rattle.version_model.specs.declared.work.Work.{Work}
@@ -23,4 +23,4 @@ NoStampFalls client what =
 abbrev pub StampsNeverFallAlways : Type 0
 StampsNeverFallAlways =
     (number : ℕ) (setup : Setup) (works : List Work) (events : List Do) (what : Do)
-    → NoStampFalls (after_events (first_client number setup works) events) what
+    → NoStampFalls (after_events (client_start number setup works) events) what

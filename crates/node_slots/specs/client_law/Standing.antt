@@ -4,9 +4,9 @@ use Rattle.client_node.specs.declared.client.Client.{Client}
 use Rattle.client_node.specs.declared.phase.Phase.TheVariants.{Down, Opening, Serving as Serves}
 use Rattle.client_node.specs.declared.phase.Phase.{Phase}
 use Rattle.client_node.specs.Phases.{takes}
-use Rattle.client_node.specs.Starting.{first_client}
+use Rattle.client_node.specs.Starting.{client_start}
 use Rattle.client_serving.specs.declared.serving.Serving.{Serving}
-use Rattle.group_map.specs.Groups.{started}
+use Rattle.group_map.specs.Groups.{group_map_start}
 use Rattle.group_map.specs.WellFormed.{IsGroupMap}
 use Rattle.log_flight.specs.Flights.{FlightState}
 use Rattle.log_owner.specs.declared.opening.Opening as openings
@@ -46,7 +46,7 @@ StandsWell (Serves s) = ServesWell s
 
 abbrev pub StartsWell : Type 0
 StartsWell =
-    (number : ℕ) (setup : Setup) (works : List Work) → IsGroupMap (started setup.servers setup.groups) → StandsWell (first_client number setup works).phase
+    (number : ℕ) (setup : Setup) (works : List Work) → IsGroupMap (group_map_start setup.servers setup.groups) → StandsWell (client_start number setup works).phase
 
 -- each event keeps it, whatever a packet says, where a map of groups that it brings is one
 abbrev pub EventsKeepWell : Type 0

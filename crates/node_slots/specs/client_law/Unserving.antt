@@ -4,7 +4,7 @@ use Rattle.client_node.specs.declared.client.Client.{Client}
 use Rattle.client_node.specs.declared.phase.Phase.{Phase}
 use Rattle.client_node.specs.declared.phase.Phase.TheVariants.{Down, Opening, Serving as Serves}
 use Rattle.client_node.specs.Phases.{client_step}
-use Rattle.node_base.specs.Asking.{drawn}
+use Rattle.node_base.specs.Asking.{draw}
 use Rattle.wire_msg.specs.declared.body.Body.{Body}
 use Rattle.wire_msg.specs.declared.body.Body.TheVariants as body
 use Rattle.wire_msg.specs.declared.packet.Do.{Do}
@@ -43,7 +43,7 @@ asks_for_maps _ = false
 -- the phase, once a question was drawn
 abbrev pub with_question : Phase → Phase
 with_question (Down l) = Down l
-with_question (Opening l o) = Opening (record l { questions = drawn l.questions }) o
+with_question (Opening l o) = Opening (record l { questions = draw l.questions }) o
 with_question (Serves s) = Serves s
 
 -- Whatever happens to a client that doesn't serve, it sends no Want, Gave, Report or Supply: so in the very event in which it begins to serve.

@@ -6,7 +6,7 @@ use Rattle.group_map.specs.GroupMapState.{GroupMapState}
 use Rattle.index_tie.specs.Growth.{IsMore}
 use Rattle.index_tie.specs.Net.{Net, Packet, Runs, opening}
 use Rattle.log_protocol.specs.Tables.{In}
-use Rattle.manager_node.specs.Events.{first_manager, happens}
+use Rattle.manager_node.specs.Events.{manager_start, happens}
 use Rattle.manager_node.specs.Phases.{Went_to, lasting_of}
 use Rattle.manager_node.specs.declared.manager.Manager.{Manager as AManager}
 use Rattle.manager_node.specs.declared.phase.Phase.{Phase}
@@ -20,7 +20,7 @@ use Rattle.manager_serving.specs.declared.serving.Serving.{Serving}
 use Rattle.node_slots.specs.node_tie.ManagerEvents.{HeldAt, ManagedAt, OfServer, Names, epoch_in, is_serving}
 use Rattle.headline.specs.Managers.{phase_at, slot_in}
 use Rattle.segment_format.specs.declared.segment.Segment.{Segment}
-use Rattle.segment_reading.specs.Reading.{ReadingState, on_answer}
+use Rattle.segment_reading.specs.Reading.{ReadingState, reading_take}
 use Rattle.slot_beliefs.specs.Index.{pages_of}
 use Rattle.slot_beliefs.specs.Recalls.{applied_of}
 use Rattle.stripe_code.specs.declared.round.Told.{Told}
@@ -113,7 +113,7 @@ module _ (part : ℕ) (texts : Texts) (n : Net) where
 -- the segment that an answer completes, where it completes one
 abbrev pub completes_in : TakeState → Option ReadingState → ℕ → ℕ → Told → Option Segment
 completes_in s None ask server told = None
-completes_in s (Some reading) ask server told = segment_of (on_answer reading s.groups ask server told).next
+completes_in s (Some reading) ask server told = segment_of (reading_take reading s.groups ask server told).next
 
 abbrev pub completes_at : TakeState → Option Present → ℕ → ℕ → Told → Option Segment
 completes_at s None ask server told = None
@@ -221,7 +221,7 @@ ManagerEventGoes =
 abbrev pub FirstManagerAgrees : Type 0
 FirstManagerAgrees =
     (part : ℕ) (texts : Texts) (any : ℕ → ℕ → Segment) (number : ℕ) (setup : Setup) (works : List Work) → part < slot_count → ManagerAgrees part texts (opening any)
-    (first_manager number setup works).phase
+    (manager_start number setup works).phase
 
 -- The small world has gone on, and of the slots those that a manager holds have stayed, as has what the registry keeps of epochs that it takes over.
 pub record Passes (n m : Net) (p : SlotPhase) : Type 0 where

@@ -9,7 +9,7 @@ use Rattle.index_tie.specs.Feeds.{IsFed}
 use Rattle.headline.specs.Filed.{rows_at}
 use Rattle.index_tie.specs.Growth.{with_segment}
 use Rattle.index_tie.specs.Net.{Net}
-use Rattle.log_owner.specs.Sending.{pushes, pushes_all}
+use Rattle.log_owner.specs.Sending.{sending_push, push_all}
 use Rattle.log_owner.specs.declared.promised.Managers.{Managers}
 use Rattle.segment_format.specs.Rows.{rows_of}
 use Rattle.segment_format.specs.declared.segment.Segment.{Segment}
@@ -42,8 +42,8 @@ module _ (part : ℕ) (n : Net) (l : ℕ) where
 
 -- What an owner tells the manager of one slot, and of each, was filed.
 pub record OwnerTells (part : ℕ) (n : Net) (l : ℕ) (feed : FeedState) (managers : Managers) : Type 0 where
-  pub one : (slot : ℕ) → All (OwnerDoes part n l) (pushes managers feed slot)
-  pub each : All (OwnerDoes part n l) (pushes_all managers feed)
+  pub one : (slot : ℕ) → All (OwnerDoes part n l) (sending_push managers feed slot)
+  pub each : All (OwnerDoes part n l) (push_all managers feed)
 
 abbrev pub OwnersTell : Type 0
 OwnersTell = (part : ℕ) (n : Net) (l : ℕ) (feed : FeedState) (managers : Managers) → 0 < l → l ≤ block_logs → FeedSeen part n l feed → OwnerTells part n l feed

@@ -4,7 +4,7 @@ use Rattle.checkpoint.specs.Laws.{Event, rows_of, rows_in, Checkpointed, nothing
 use Rattle.checkpoint.specs.Plan.{plan_of}
 use Rattle.checkpoint.specs.WriterState.{Rows, WorkState, WriterState, items_of}
 use Rattle.client_log.specs.LogState.{LogState}
-use Rattle.index_pages.specs.Pages.{PagesState, put_newer, cleaned}
+use Rattle.index_pages.specs.Pages.{PagesState, pages_merge, pages_clean}
 use Rattle.index_tie.specs.Net.{Net}
 use Rattle.index_tie.specs.Net.Packet.{CheckpointPlanned}
 use Rattle.log_flight.specs.Flights.{FlightState}
@@ -20,7 +20,7 @@ use Rattle.headline.specs.Filed.{Texts}
 -- pages, once these rows are put
 abbrev pub put_all : PagesState → Rows → PagesState
 put_all s [] = s
-put_all s (row ∷ rows) = put_all (put_newer s row.0 row.1) rows
+put_all s (row ∷ rows) = put_all (pages_merge s row.0 row.1) rows
 
 -- the pages and the parts of what was checkpointed
 abbrev pub checkpointed : PagesState → List SegRef → Checkpointed
@@ -55,7 +55,7 @@ module _ (part : ℕ) (texts : Texts) (n : Net) (desk : Desk) where
         → ((w : WorkState) → desk.writer.work ≡ Some w → w.slot ≡ part → w.epoch ≡ epoch → ⊥) → Paged epoch pages parts
     Written : (events : List Event) (w : WorkState) (rows : Rows) → desk.writer.work ≡ Some w → w.slot ≡ part → w.epoch ≡ epoch → IsWork events w
         → RowsFit rows
-        → pages ≡ put_all (cleaned (slot_after events).pages) rows → Paged epoch pages parts
+        → pages ≡ put_all (pages_clean (slot_after events).pages) rows → Paged epoch pages parts
     Ended : desk.writer.number ≡ u32_end → desk.writer.work ≡ None → Paged epoch pages parts
 
   -- what is written of a checkpoint of the slot was planned

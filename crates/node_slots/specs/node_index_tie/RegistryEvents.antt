@@ -5,7 +5,7 @@ use Rattle.index_tie.specs.Net.Packet.{CheckpointDone}
 use Rattle.headline.specs.Indexes.{epoch_in, of_log}
 use Rattle.log_protocol.specs.Tables.{In}
 use Rattle.node_slots.specs.node_tie.RegistryEvents.{RegistrySound}
-use Rattle.registry.specs.Board.{all_news}
+use Rattle.registry.specs.Board.{board_slots}
 use Rattle.registry.specs.Checkpoints.{parts_at, horizon_at}
 use Rattle.segment_format.specs.declared.segment.Segment.{Segment}
 use Rattle.registry_node.specs.Events.{registry_start, registry_step}
@@ -84,7 +84,7 @@ pub record RegistryGoes (part : ℕ) (texts : Texts) (n : Net) (r : RegistryNode
   pub horizon : (e : ℕ) → n.slots e ≡ None → e ≤ n.epoch → next.horizon e ≡ n.horizon e
   pub parts : (e : ℕ) → n.slots e ≡ None → e ≤ n.epoch → next.parts e ≡ n.parts e
   -- what its maps tell of the slot; all news that it sends are its maps'
-  pub tells : (news : SlotNews) → Among news (all_news (registry_step r what).node.board) → news.slot ≡ part → NewsTold part next news
+  pub tells : (news : SlotNews) → Among news (board_slots (registry_step r what).node.board) → news.slot ≡ part → NewsTold part next news
 
 -- Each event of the registry, where the world owes it what it needs.
 abbrev pub RegistryEventGoes : Type 0

@@ -3,7 +3,7 @@ use Rattle.client_node.specs.declared.client.Client.{Client}
 use Rattle.client_node.specs.declared.phase.Phase.{Phase}
 use Rattle.client_node.specs.declared.phase.Phase.TheVariants.{Down, Opening, Serving as Serves}
 use Rattle.client_node.specs.Phases.{takes}
-use Rattle.client_node.specs.Starting.{first_client}
+use Rattle.client_node.specs.Starting.{client_start}
 use Rattle.std.specs.Prelude.{ℕ, List}
 use Rattle.version_model.specs.declared.work.Work.{Work}
 use Rattle.wire_msg.specs.declared.packet.Do.{Do}
@@ -18,7 +18,7 @@ PhaseAsks (Serves s) = AsksForCall s
 
 -- it does at the start
 abbrev pub StartsAsking : Type 0
-StartsAsking = (number : ℕ) (setup : Setup) (works : List Work) → PhaseAsks (first_client number setup works).phase
+StartsAsking = (number : ℕ) (setup : Setup) (works : List Work) → PhaseAsks (client_start number setup works).phase
 
 -- and each event keeps that, whatever a packet says
 abbrev pub EventsKeepAsking : Type 0

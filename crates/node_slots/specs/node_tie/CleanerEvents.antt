@@ -6,7 +6,7 @@ use Rattle.node_base.specs.Shape.{is_well_formed}
 use Rattle.node_base.specs.declared.effects.Effect.{Effect}
 use Rattle.node_base.specs.declared.effects.Effect.TheVariants.{Send, Answer, Lose, Does}
 use Rattle.cleaner_serving.specs.declared.emptying.Emptying.{Emptying}
-use Rattle.cleaner_node.specs.CleanerEvents.{cleaner_start, lasting_of, phase_room, takes}
+use Rattle.cleaner_node.specs.CleanerEvents.{cleaner_start, lasting_of, phase_has_room, takes}
 use Rattle.cleaner_node.specs.declared.cleaner.Cleaner.{Cleaner}
 use Rattle.cleaner_node.specs.declared.cleaner.Phase.{Phase}
 use Rattle.cleaner_node.specs.declared.cleaner.Phase.TheVariants.{Down, Opening, Serving as Serves}
@@ -113,7 +113,7 @@ pub record CleanerGoes (part promised last_epoch : ℕ) (p p' : Phase) (outs : L
 
 -- The event is taken: no counter of the cleaner is near its end, and a packet that comes is well formed.
 pub record IsTaken (cleaner : Cleaner) (what : Do) : Type 0 where
-  pub room : phase_room cleaner.phase ≡ true
+  pub room : phase_has_room cleaner.phase ≡ true
   pub formed : (q : Packet) → what ≡ Deliver q → is_well_formed cleaner.peers q ≡ true
 
 -- Each event of the cleaner, if the world owes it what its packet says, and logs what they owe where it is taken. Where logs keep their word, no client has

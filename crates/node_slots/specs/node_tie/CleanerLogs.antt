@@ -106,7 +106,7 @@ module _ (k : Books) where
 
   abbrev pub PacketTold : Bool → Phase → packets.Packet → Type 0
   PacketTold adopted (Down l) packet = Unit {0}
-  PacketTold adopted (Opening l o) packet = EndsAt adopted (opens.on_packet o l.questions packet).progress
+  PacketTold adopted (Opening l o) packet = EndsAt adopted (opens.opening_take o l.questions packet).progress
   PacketTold adopted (Serves e) packet = ServingTold e packet.body
 
   abbrev pub InTime : Bool → Phase → Type 0

@@ -3,8 +3,8 @@ use Rattle.std.specs.Prelude.{◌≡◌, ◌⊎◌, ◌<◌, ◌≤◌, ◌++◌
 use Rattle.client_node.specs.declared.client.Client as clients
 use Rattle.client_node.specs.declared.phase.Phase.TheVariants.{Down, Opening, Serving as Serves}
 use Rattle.client_node.specs.declared.phase.Phase.{Phase}
-use Rattle.client_node.specs.Phases.{client_room, lasting_of, takes}
-use Rattle.client_node.specs.Starting.{first_client}
+use Rattle.client_node.specs.Phases.{client_has_room, lasting_of, takes}
+use Rattle.client_node.specs.Starting.{client_start}
 use Rattle.client_serving.specs.declared.lasting.Lasting.{Lasting}
 use Rattle.client_serving.specs.declared.serving.Serving.{Serving}
 use Rattle.log_owner.specs.declared.opening.Opening as openings
@@ -144,7 +144,7 @@ module _ (part last_epoch c : ℕ) (n : Net) where
   -- what a packet brings of logs, in each phase
   abbrev pub ReadsSo : Phase → packets.Packet → Type 0
   ReadsSo (Down l) packet = Unit {0}
-  ReadsSo (Opening l o) packet = EndsSo n.books n.acts c (opens.on_packet o l.questions packet).progress
+  ReadsSo (Opening l o) packet = EndsSo n.books n.acts c (opens.opening_take o l.questions packet).progress
   ReadsSo (Serves s) packet = ServingReads s packet packet.body
 
   -- an opening may end with time, too
@@ -230,7 +230,7 @@ pub record ClientGoes (logs : Bool) (members part last_epoch c : ℕ) (n : Net) 
 
 -- The event is taken: no counter of the client is near its end, and a packet that comes is well formed.
 pub record IsTaken (client : clients.Client) (what : Do) : Type 0 where
-  pub room : client_room client ≡ true
+  pub room : client_has_room client ≡ true
   pub formed : (q : packets.Packet) → what ≡ Deliver q → is_well_formed client.peers q ≡ true
 
 -- what the world owes an event
@@ -256,4 +256,4 @@ pub record ClientBegins (logs : Bool) (part last_epoch c : ℕ) (client : client
 abbrev pub ClientStarts : Type 0
 ClientStarts =
     (logs : Bool) (part last_epoch c : ℕ) → part < slot_count → 1 ≤ last_epoch → (setup : Setup) (works : List Work)
-    → ClientBegins logs part last_epoch c (first_client c setup works)
+    → ClientBegins logs part last_epoch c (client_start c setup works)

@@ -2,7 +2,7 @@
 use Rattle.std.specs.Prelude.{◌≡◌, ◌⊎◌, ◌<◌, ◌≤◌, ℕ, suc, ◌+◌, true, List, [], Option, Some, None}
 use Rattle.std.specs.List.{AllByRecursion}
 use Rattle.client_log.specs.LogState.{LogState}
-use Rattle.client_call.specs.Reads.{block_read, heard, reading_in, value_at}
+use Rattle.client_call.specs.Reads.{block_read, hear_reading, reading_in, value_at}
 use Rattle.client_serving.specs.declared.serving.Serving.{Serving}
 use Rattle.log_flight.specs.Flights.{FlightState}
 use Rattle.log_owner.specs.declared.opened.Opened.{Opened}
@@ -81,7 +81,7 @@ module _ (k : Books) (s : Serving) where
 
   -- a server tells this in answer to a fetch
   abbrev pub Tells : NodeId → ℕ → Told → Type 0
-  Tells (node.Server server) ask t = BringsRead (block_read (reading_in s.call)) (heard (reading_in s.call) s.maps.groups ask server t).next
+  Tells (node.Server server) ask t = BringsRead (block_read (reading_in s.call)) (hear_reading (reading_in s.call) s.maps.groups ask server t).next
   Tells _ ask t = Unit {0}
 
 -- Where the opening of a log ends, its end is that of the books, reopened by the chain that was found, with so many segments that say nothing; what the chain

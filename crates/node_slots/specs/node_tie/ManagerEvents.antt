@@ -1,8 +1,8 @@
 -- How a manager is seen in the small world of one slot of the map, and what one event of it is there.
 use Rattle.std.specs.Prelude.{◌≡◌, ◌≤◌, ◌<◌, ◌+◌, ℕ, List, [], ◌++◌, Some, None, length, false, true, Bool, ◌⊎◌}
 use Rattle.std.specs.List.{All}
-use Rattle.manager_map.specs.Slots.{start_entries}
-use Rattle.manager_node.specs.Events.{first_manager, happens}
+use Rattle.manager_map.specs.Slots.{manager_map_start}
+use Rattle.manager_node.specs.Events.{manager_start, happens}
 use Rattle.manager_node.specs.Phases.{Went_to, lasting_of}
 use Rattle.manager_node.specs.declared.manager.Manager.{Manager as AManager}
 use Rattle.manager_slots.specs.SlotTable.{Table, first_phase}
@@ -359,9 +359,9 @@ ManagerEventGoes =
 
 -- At the start of a run a manager is seen in the opening of the small world: it manages the slot at epoch 1, or isn't its manager then.
 pub record FirstAgrees (members part number : ℕ) (setup : Setup) (works : List Work) : Type 0 where
-  pub agrees : ManagerAgrees members part opening number (first_manager number setup works).phase
-  pub slot : slot_in part (first_manager number setup works).phase ≡ first_phase number (start_entries setup.managers) part
-  pub epoch : epoch_in part (first_manager number setup works).phase ≡ 1
+  pub agrees : ManagerAgrees members part opening number (manager_start number setup works).phase
+  pub slot : slot_in part (manager_start number setup works).phase ≡ first_phase number (manager_map_start setup.managers) part
+  pub epoch : epoch_in part (manager_start number setup works).phase ≡ 1
 
 abbrev pub FirstManagerAgrees : Type 0
 FirstManagerAgrees = (members part number : ℕ) (setup : Setup) (works : List Work) → part < slot_count → FirstAgrees members part number setup works

@@ -1,6 +1,6 @@
 -- What an event makes of the registry, as one slot of the map sees it.
 use Rattle.std.specs.Prelude.{◌≡◌, ℕ, List, ◌+◌, ◌%◌, ◌<◌, ◌≤◌, ◌⊎◌, All, Some, length, map, slice_get}
-use Rattle.manager_map.specs.Slots.{start_entries, entry_at}
+use Rattle.manager_map.specs.Slots.{manager_map_start, entry_at}
 use Rattle.registry.specs.Board.{inc_of}
 use Rattle.registry.specs.BoardState.{BoardState}
 use Rattle.registry.specs.Slots.{all_slots, entry_of}
@@ -113,7 +113,7 @@ pub record RegistryBegins (part managers : ℕ) (r : RegistryNode) : Type 0 wher
   pub sound : RegistrySound r
   pub epoch : epoch_in r.board part ≡ 1
   pub manager : manager_in r.board part ≡ part % managers + 1
-  pub as_first : manager_in r.board part ≡ (entry_of (start_entries managers) part).manager
+  pub as_first : manager_in r.board part ≡ (entry_of (manager_map_start managers) part).manager
   pub incarnations : (manager : ℕ) → inc_in r.board manager ≡ 1
 
 -- Each event of the registry, from its start on.

@@ -2,7 +2,7 @@
 use Rattle.std.specs.Prelude.{◌≡◌, ◌<◌, ◌≤◌, ℕ, true, List, Option, Some, None, length}
 use Rattle.std.specs.List.{All, AllByRecursion}
 use Rattle.cleaner_serving.specs.declared.emptying.Emptying.{Emptying}
-use Rattle.cleaner_serving.specs.Jobs.{told_by}
+use Rattle.cleaner_serving.specs.Jobs.{emptying_hear}
 use Rattle.cleaner_node.specs.CleanerEvents.{Went_to, cleaner_start, takes}
 use Rattle.cleaner_node.specs.declared.cleaner.Cleaner.{Cleaner as ACleaner}
 use Rattle.cleaner_node.specs.declared.cleaner.Phase.{Phase}
@@ -132,7 +132,7 @@ module _ (part : ℕ) (n : Net) where
   -- a segment that is read is the filed one, where that bears its name
   abbrev pub ReadGets : Emptying → Option ℕ → ℕ → Told → Type 0
   ReadGets e None ask told = Unit {0}
-  ReadGets e (Some server) ask told = (s : Segment) → (told_by e ask server told).next ≡ next.Read s → ReadFor n.filed (Some s) n.job.phase
+  ReadGets e (Some server) ask told = (s : Segment) → (emptying_hear e ask server told).next ≡ next.Read s → ReadFor n.filed (Some s) n.job.phase
 
   abbrev pub BodyGets : Emptying → NodeId → Body → Type 0
   BodyGets e from (body.Poll m) = PollGets e m

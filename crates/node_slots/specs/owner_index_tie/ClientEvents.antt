@@ -2,7 +2,7 @@
 use Rattle.std.specs.Prelude.{◌≡◌, ℕ, ◌<◌, ◌≤◌, List}
 use Rattle.std.specs.List.{All}
 use Rattle.client_node.specs.Phases.{Went_to, takes}
-use Rattle.client_node.specs.Starting.{first_client}
+use Rattle.client_node.specs.Starting.{client_start}
 use Rattle.client_node.specs.declared.client.Client.{Client as AClient}
 use Rattle.client_node.specs.declared.phase.Phase.{Phase}
 use Rattle.client_node.specs.declared.phase.Phase.TheVariants.{Down, Opening, Serving as Serves}
@@ -112,7 +112,7 @@ ClientEventGoes =
 abbrev pub FirstClientAgrees : Type 0
 FirstClientAgrees =
     (part : ℕ) (texts : Texts) (any : ℕ → ℕ → Segment) (c : ℕ) (setup : Setup) (works : List Work)
-    → ClientAgrees part texts (opening any) c (first_client c setup works).phase
+    → ClientAgrees part texts (opening any) c (client_start c setup works).phase
 
 -- What others do leaves a client seen, where what is filed of its log stays as it is.
 abbrev pub ClientsStay : Type 0

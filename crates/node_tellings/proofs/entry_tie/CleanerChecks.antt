@@ -5,7 +5,7 @@ use Rattle.group_map.specs.GroupMapState.{GroupMapState}
 use Rattle.segment_format.specs.declared.segment.Item.{Item}
 use Rattle.segment_format.specs.declared.segment.Item.TheVariants as item
 use Rattle.segment_format.specs.declared.segment.Segment.{Segment}
-use Rattle.stripe_cleaner.specs.Checks.{check_of, checks_from, after_live, after_dead, after_moved, live_at, dead_at, moved_at, all_dead, any_asked}
+use Rattle.stripe_cleaner.specs.Checks.{check_of, checks_of, after_live, after_dead, after_moved, live_at, dead_at, moved_at, all_dead, any_asked}
 use Rattle.stripe_cleaner.specs.CleaningState.{CleaningState}
 use Rattle.stripe_cleaner.specs.Counting.{has_usage, is_counted}
 use Rattle.stripe_cleaner.specs.declared.checks.Check.{Check}
@@ -15,11 +15,11 @@ use Rattle.stripe_cleaner.specs.declared.input.In.{In}
 use Rattle.stripe_cleaner.specs.declared.input.In.TheVariants as input
 use Rattle.stripe_cleaner.specs.declared.phase.Phase.{Phase}
 use Rattle.stripe_cleaner.specs.declared.phase.Phase.TheVariants.{Greeting, Listing, Counting, Reading, Checking, Deleting, Over}
-use Rattle.stripe_cleaner.specs.Job.{Turn, next, next_of, counted, left_to_delete, same_name, deleting, checking, looked_at, is_moving}
+use Rattle.stripe_cleaner.specs.Job.{Turn, next, next_of, counted, job_go_on, same_name, job_delete, job_check, job_look, is_moving}
 use Rattle.stripe_cleaner.specs.JobState.{JobState}
 use Rattle.stripe_cleaner.specs.Listing.{is_among, without}
 use Rattle.stripe_cleaner.specs.Transition as steps
-use Rattle.stripe_cleaner.specs.Transition.{Done, on_welcome, on_promise, forgetting, mapped, listed, listed_in, counted_in, usage_with, read_in, answered_in, moved_in, deleted_in, on_usage, on_live, on_dead, is_heard, may_move, welcomed, is_greeting, heard, transition}
+use Rattle.stripe_cleaner.specs.Transition.{Done, on_welcome, on_promise, forgetting, mapped, listing_go_on, listed_in, counted_in, counting_hear, read_in, answered_in, moved_in, deleted_in, on_usage, on_live, on_dead, cleaning_hears, may_move, welcomed, is_greeting, listing_hear, transition}
 use Rattle.stripe_cleaner.specs.Promises.{is_above, is_promised}
 use Rattle.xfs_base.proofs.BlockOrder.{same_block_exact}
 use Rattle.xfs_base.proofs.Booleans.{by_test}
@@ -81,10 +81,10 @@ module _ (told : Told) where
   one_begun number (item.Delta block ver hop at) = tt
   one_begun number (item.Part slot rows) = tt
 
-  all_begun : (number : ℕ) (items : List Item) → Checks (checks_from number items)
+  all_begun : (number : ℕ) (items : List Item) → Checks (checks_of number items)
   all_begun number [] = tt
   all_begun number (i ∷ rest) =
-      all_append (CheckTold told) (check_of number i) (checks_from (number + 1) rest) (one_begun number i) (all_begun (number + 1) rest)
+      all_append (CheckTold told) (check_of number i) (checks_of (number + 1) rest) (one_begun number i) (all_begun (number + 1) rest)
 
   -- ---- the segment in hand
 
@@ -95,14 +95,14 @@ module _ (told : Told) where
       by [] = tt
       by (segment ∷ left) = tt
 
-  checking_keeps : (j : JobState) (segment : SegRef) (checks : List Check) → Checks checks → Keeps (checking j segment checks)
-  unfolding checking
-  checking_keeps j segment checks all = by_test Keeps (all_dead checks) (deleting j segment) _ (λ t. tt) (λ t. all)
+  checking_keeps : (j : JobState) (segment : SegRef) (checks : List Check) → Checks checks → Keeps (job_check j segment checks)
+  unfolding job_check
+  checking_keeps j segment checks all = by_test Keeps (all_dead checks) (job_delete j segment) _ (λ t. tt) (λ t. all)
 
-  looked_keeps : (j : JobState) (segment : SegRef) (was_asked : Bool) (checks : List Check) → Checks checks → Keeps (looked_at j segment was_asked checks)
-  unfolding looked_at
+  looked_keeps : (j : JobState) (segment : SegRef) (was_asked : Bool) (checks : List Check) → Checks checks → Keeps (job_look j segment was_asked checks)
+  unfolding job_look
   looked_keeps j segment was_asked checks all =
-      by_test Keeps (all_dead checks) (deleting j segment) _ (λ t. tt) (λ t. by_test Keeps (was_asked && not (any_asked checks)) _ _ (λ u. all) (λ u. all))
+      by_test Keeps (all_dead checks) (job_delete j segment) _ (λ t. tt) (λ t. by_test Keeps (was_asked && not (any_asked checks)) _ _ (λ u. all) (λ u. all))
 
   -- ---- each phase
 
@@ -117,23 +117,23 @@ module _ (told : Told) where
 
   listed_keeps : (server : ℕ) (held : List FragMeta) (p : Phase) → CheckingTold told p → Keeps (listed_in server held p)
   listed_keeps server held (Listing l) h =
-      by_test Keeps (is_among l.awaited server) (listed (heard l server held)) (still (Listing l))
-      (λ t. by_test Keeps (length (heard l server held).awaited == 0) _ _ (λ u. tt) (λ u. tt)) (λ t. tt)
+      by_test Keeps (is_among l.awaited server) (listing_go_on (listing_hear l server held)) (still (Listing l))
+      (λ t. by_test Keeps (length (listing_hear l server held).awaited == 0) _ _ (λ u. tt) (λ u. tt)) (λ t. tt)
   listed_keeps server held (Checking j segment checks) h = h
   listed_keeps server held _ h = tt
 
   counted_keeps : (count slot : ℕ) (counts : List (SegName × ℕ)) (p : Phase) → CheckingTold told p → Keeps (counted_in count slot counts p)
   counted_keeps count slot counts (Counting c) h =
-      by_test Keeps (has_usage c.usages slot) (still (Counting c)) (steps.counted count (usage_with slot counts c)) (λ t. tt)
-      (λ t. by_test Keeps (is_counted (usage_with slot counts c).usages) _ _ (λ u. next_keeps _) (λ u. tt))
+      by_test Keeps (has_usage c.usages slot) (still (Counting c)) (steps.counting_go_on count (counting_hear slot counts c)) (λ t. tt)
+      (λ t. by_test Keeps (is_counted (counting_hear slot counts c).usages) _ _ (λ u. next_keeps _) (λ u. tt))
   counted_keeps count slot counts (Checking j segment checks) h = h
   counted_keeps count slot counts _ h = tt
 
   read_keeps : (read : Option Segment) (p : Phase) → CheckingTold told p → Keeps (read_in read p)
   read_keeps None (Reading j segment) h = next_keeps j
   read_keeps (Some read) (Reading j segment) h =
-      by_test Keeps (same_name read.name segment.name) (checking j segment (checks_from 0 read.items)) (still (Reading j segment))
-      (λ t. checking_keeps j segment (checks_from 0 read.items) (all_begun 0 read.items)) (λ t. tt)
+      by_test Keeps (same_name read.name segment.name) (job_check j segment (checks_of 0 read.items)) (still (Reading j segment))
+      (λ t. checking_keeps j segment (checks_of 0 read.items) (all_begun 0 read.items)) (λ t. tt)
   read_keeps read (Counting c) h = tt
   read_keeps read (Listing l) h = tt
   read_keeps read Greeting h = tt
@@ -151,7 +151,7 @@ module _ (told : Told) where
 
   deleted_keeps : (server : ℕ) (name : SegName) (p : Phase) → CheckingTold told p → Keeps (deleted_in server name p)
   deleted_keeps server name (Deleting j segment servers) h =
-      by_test Keeps (same_name name segment.name && is_among servers server) (left_to_delete j segment (without servers server))
+      by_test Keeps (same_name name segment.name && is_among servers server) (job_go_on j segment (without servers server))
       (still (Deleting j segment servers))
       (λ t. by_test Keeps (length (without servers server) == 0) (next (counted j)) _ (λ u. next_keeps (counted j)) (λ u. tt)) (λ t. tt)
   deleted_keeps server name (Checking j segment checks) h = h
@@ -179,10 +179,10 @@ module _ (told : Told) where
       by_test KeepsOn (is_promised s.promised slot epoch) _ (still s) (λ t. counted_keeps s.count slot counts s.phase h) (λ t. h)
   cleaning_so s (input.Read read) fact h = read_keeps read s.phase h
   cleaning_so s (input.Live block epoch entry) fact h =
-      by_test KeepsOn (is_heard s.promised block epoch && may_move entry) _ (still s)
+      by_test KeepsOn (cleaning_hears s.promised block epoch && may_move entry) _ (still s)
       (λ t. answered_keeps (live_at block entry) (λ c here. live_told block entry c fact here) s.phase h) (λ t. h)
   cleaning_so s (input.Dead block epoch) fact h =
-      by_test KeepsOn (is_heard s.promised block epoch) _ (still s) (λ t. answered_keeps (dead_at block) (λ c here. dead_told block c here) s.phase h) (λ t. h)
+      by_test KeepsOn (cleaning_hears s.promised block epoch) _ (still s) (λ t. answered_keeps (dead_at block) (λ c here. dead_told block c here) s.phase h) (λ t. h)
   cleaning_so s input.Moved fact h = moved_keeps s.phase h
   cleaning_so s (input.Deleted server name) fact h = deleted_keeps server name s.phase h
   cleaning_so s input.Tick fact h = h

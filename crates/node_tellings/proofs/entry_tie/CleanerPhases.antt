@@ -5,22 +5,22 @@ use Rattle.std.specs.List.{AllByRecursion}
 use Rattle.std.specs.Prelude.{Contains, IfSome}
 use Rattle.cleaner_job.specs.declared.job.Job.{Job}
 use Rattle.cleaner_job.specs.declared.lasting.Lasting.{Lasting}
-use Rattle.cleaner_job.specs.Jobs.{job_moved}
+use Rattle.cleaner_job.specs.Jobs.{note_moved}
 use Rattle.cleaner_job.specs.Starting.{cleaner_log}
-use Rattle.cleaner_node.specs.CleanerEvents.{Went_to, cleaner_step, lasting_of, restarts, serves_on, takes}
+use Rattle.cleaner_node.specs.CleanerEvents.{Went_to, cleaner_step, lasting_of, restart, serves_on, takes}
 use Rattle.cleaner_node.specs.declared.cleaner.Cleaner.{Cleaner}
 use Rattle.cleaner_node.specs.declared.cleaner.Phase.{Phase}
 use Rattle.cleaner_node.specs.declared.cleaner.Phase.TheVariants.{Down, Opening, Serving}
 use Rattle.cleaner_serving.specs.declared.emptying.Emptying.{Emptying}
-use Rattle.cleaner_serving.specs.EmptyingEvents.{fed, settles, writes, writes_one}
-use Rattle.cleaner_serving.specs.Jobs.{Done, cleans, puts}
+use Rattle.cleaner_serving.specs.EmptyingEvents.{fed, emptying_settle, emptying_write, write_one}
+use Rattle.cleaner_serving.specs.Jobs.{Done, emptying_clean, emptying_put}
 use Rattle.client_log.specs.declared.input.In.{In as LogIn}
 use Rattle.client_log.specs.declared.input.In.TheVariants as log_in
 use Rattle.client_log.specs.declared.output.Out.{Out as LogOut}
 use Rattle.client_log.specs.declared.output.Out.TheVariants as log_out
 use Rattle.client_log.specs.LogState.{LogState}
 use Rattle.client_log.specs.Transition as log
-use Rattle.client_log.specs.Transition.{end_from}
+use Rattle.client_log.specs.Transition.{end_of}
 use Rattle.delta_feed.specs.FeedState.{FeedState}
 use Rattle.log_flight.specs.declared.dirty.Change.{Change}
 use Rattle.log_flight.specs.Flights.{FlightState}
@@ -30,7 +30,7 @@ use Rattle.log_owner.specs.declared.opening.Opening as openings
 use Rattle.log_owner.specs.declared.opening.Stage.{Stage}
 use Rattle.log_owner.specs.declared.opening.Stage.TheVariants as stage
 use Rattle.log_owner.specs.Opening.{Went, stored}
-use Rattle.log_owner.specs.Sending.{name_of, pushes_all, store}
+use Rattle.log_owner.specs.Sending.{name_of, push_all, store}
 use Rattle.node_base.specs.declared.effects.Effect.{Effect}
 use Rattle.node_base.specs.declared.effects.Effect.TheVariants.{Does}
 use Rattle.node_base.specs.declared.items.Items.{Items}
@@ -64,7 +64,7 @@ use Rattle.node_moves.specs.cleaner_moves.Moves.Written.{AckCame, GroupsCame, Lo
 use Rattle.node_tellings.specs.entry_tie.CleanerTells.{MovesOn, MovedTold, WaitTold, ItemTold, FlightMoves, LogMoves, StageHolds, FateTold, CheckTold, CheckingTold, JobTold, PhaseHolds, CleanerHolds, PhaseOwed, CleanerOwed, CleanerStartsTold, CleanerHoldsRise, CleanerTellsTold}
 use Rattle.node_tellings.specs.entry_tie.ClientTells.{DeltasTold, FeedTold, FlightOwed}
 use Rattle.node_tellings.specs.entry_tie.Told.{BodyTold, DoTold, RowsTold, TellsTold, Told, told_by_rows}
-use Rattle.node_tellings.proofs.entry_tie.Feeds.{acknowledged_told, pushes_all_say, renewed_told, settled_told}
+use Rattle.node_tellings.proofs.entry_tie.Feeds.{acknowledged_told, push_all_say, renewed_told, settled_told}
 use Rattle.node_tellings.proofs.entry_tie.Frames as frames
 use Rattle.node_tellings.proofs.entry_tie.Frames.{contains_all}
 use Rattle.node_tellings.proofs.entry_tie.LogMoves.{log_moves, moves_heard}
@@ -164,9 +164,9 @@ module _ (told : Told) (done : List Act) where
     put_so s i (BlockPut block entry value moved) h = log_moves told s (log_in.Put block entry value) moved.0 h
     put_so s i AllPut h = log_moves told s log_in.Seal tt h
 
-    puts_so : (e : Emptying) (i : LogIn) → Put (OutMoved told) i → At e → Serves (puts e i)
-    unfolding puts
-    puts_so e i put h =
+    emptying_put_so : (e : Emptying) (i : LogIn) → Put (OutMoved told) i → At e → Serves (emptying_put e i)
+    unfolding emptying_put
+    emptying_put_so e i put h =
         frames.goes_plain told done PhaseSo (Serving (record e { log = (log.transition e.log i).state })) _
         (record { job = h.job; feed = h.feed; log = put_so e.log i put h.log })
         (all_flat_map (frames.Says told done) stored one_stored (log.transition e.log i).outs)
@@ -180,63 +180,63 @@ module _ (told : Told) (done : List Act) where
       takes = λ w e job given later came h d next. (let its = given_so _ given came in
           next tt tt (record { job = cleaning_so told job.cleaning given its h.job; feed = h.feed; log = h.log })
           (cleaning_gives told job.cleaning given its h.job));
-      puts = λ w e i put h. puts_so e i put h;
+      puts = λ w e i put h. emptying_put_so e i put h;
     }
 
     -- ---- the log
 
-    job_kept : (job : Option Job) → JobTold told job → JobTold told (job_moved job)
+    job_kept : (job : Option Job) → JobTold told job → JobTold told (note_moved job)
     job_kept None held = tt
     job_kept (Some job) held = held
 
     -- of a segment that was filed
-    settles_so : (e : Emptying) (end : End) (rows : List (BlockId × Entry)) → At e → RowsTold told rows → Serves (settles e end rows)
-    unfolding settles
-    settles_so e end rows h filed =
+    emptying_settle_so : (e : Emptying) (end : End) (rows : List (BlockId × Entry)) → At e → RowsTold told rows → Serves (emptying_settle e end rows)
+    unfolding emptying_settle
+    emptying_settle_so e end rows h filed =
         let f : Emptying = fed e end rows in
         let k : At f = record { job = job_kept e.job h.job; feed = settled_told told e.feed end.seq rows h.feed filed; log = h.log } in
-        frames.goes_after told done PhaseSo (Does (Filed (name_of cleaner_log end)) ∷ pushes_all f.promised.managers f.feed) (serves_on (cleans f input.Moved))
-        (tt, pushes_all_say told done f.promised.managers f.feed k.feed)
+        frames.goes_after told done PhaseSo (Does (Filed (name_of cleaner_log end)) ∷ push_all f.promised.managers f.feed) (serves_on (emptying_clean f input.Moved))
+        (tt, push_all_say told done f.promised.managers f.feed k.feed)
         (cleaned first what World Later So Says Goes tt Due follows job_keeps tt f input.Moved tt MovesSettled k)
 
-    sends_so : (e : Emptying) (outs : List LogOut) → At e → AllByRecursion IsSend outs → Serves (steps writes_one e outs)
-    unfolding writes_one
+    sends_so : (e : Emptying) (outs : List LogOut) → At e → AllByRecursion IsSend outs → Serves (steps write_one e outs)
+    unfolding write_one
     sends_so e [] h all = frames.goes_still told done PhaseSo (Serving e) h
     sends_so e (log_out.Send f m ∷ outs) h all =
-        frames.goes_after told done PhaseSo (store f m ∷ []) (serves_on (steps writes_one e outs)) (tt, tt) (sends_so e outs h all.1)
+        frames.goes_after told done PhaseSo (store f m ∷ []) (serves_on (steps write_one e outs)) (tt, tt) (sends_so e outs h all.1)
     sends_so e (log_out.Settled end rows ∷ outs) h all = absurd all.0
 
     -- the segment is told first: it is acted to be filed
     lands_so : (e : Emptying) (f : FlightState) (rest : List LogOut) → At e
-        → (Contains done (Filed (name_of cleaner_log (end_from f.segment))) → RowsTold told (rows_of f.segment)) → AllByRecursion IsSend rest
-        → Serves (steps writes_one e (log_out.Settled (end_from f.segment) (rows_of f.segment) ∷ rest))
-    unfolding writes_one settles
+        → (Contains done (Filed (name_of cleaner_log (end_of f.segment))) → RowsTold told (rows_of f.segment)) → AllByRecursion IsSend rest
+        → Serves (steps write_one e (log_out.Settled (end_of f.segment) (rows_of f.segment) ∷ rest))
+    unfolding write_one emptying_settle
     lands_so e f rest h files all acts =
-        let s : Done = settles e (end_from f.segment) (rows_of f.segment) in
-        frames.goes_on told done PhaseSo (serves_on s) (serves_on (steps writes_one s.state rest))
-        (settles_so e (end_from f.segment) (rows_of f.segment) h (files acts.0)) (λ k. sends_so s.state rest k all) acts
+        let s : Done = emptying_settle e (end_of f.segment) (rows_of f.segment) in
+        frames.goes_on told done PhaseSo (serves_on s) (serves_on (steps write_one s.state rest))
+        (emptying_settle_so e (end_of f.segment) (rows_of f.segment) h (files acts.0)) (λ k. sends_so s.state rest k all) acts
 
     writes_from : (e : Emptying) (d : log.Done) → At (record e { log = d.state }) → FlightOwed told done cleaner_log e.log → Turns e.log d
-        → Serves (steps writes_one (record e { log = d.state }) d.outs)
+        → Serves (steps write_one (record e { log = d.state }) d.outs)
     writes_from e d h flies turns =
         let t : Emptying = record e { log = d.state } in
         ⊎_elim (λ (rests : Rests e.log.end d). sends_so t d.outs h rests.sends)
-        (λ (lands : Lands e.log.flight d). subst (λ outs. Serves (steps writes_one t outs)) (sym lands.outs)
+        (λ (lands : Lands e.log.flight d). subst (λ outs. Serves (steps write_one t outs)) (sym lands.outs)
         (lands_so t lands.flight lands.rest h (flies lands.flight lands.flew) lands.sends)) turns
 
     -- what its log had in flight says what is told, where it is acted to be filed
     flies_so : (e before : Emptying) → first.phase ≡ Serving before → e.log ≡ before.log → FlightOwed told done cleaner_log e.log
     flies_so e before same as_was = subst (FlightOwed told done cleaner_log) (sym as_was) (subst (PhaseOwed told done) same owed)
 
-    writes_so : (e : Emptying) (i : LogIn) → Written first what e i → At e → Serves (writes e i)
-    unfolding writes
-    writes_so e i (AckCame packet m same came) h =
+    emptying_write_so : (e : Emptying) (i : LogIn) → Written first what e i → At e → Serves (emptying_write e i)
+    unfolding emptying_write
+    emptying_write_so e i (AckCame packet m same came) h =
         writes_from e (log.transition e.log i)
         (record { job = h.job; feed = h.feed; log = moves_heard told e.log i tt h.log }) (flies_so e e same refl) (log_turns e.log i)
-    writes_so e i (GroupsCame before packet news same as_was brought) h =
+    emptying_write_so e i (GroupsCame before packet news same as_was brought) h =
         writes_from e (log.transition e.log i) (record { job = h.job; feed = h.feed; log = moves_heard told e.log i tt h.log })
         (flies_so e before same as_was) (log_turns e.log i)
-    writes_so e i LogTicks h =
+    emptying_write_so e i LogTicks h =
         sends_so (record e { log = (log.on_tick e.log).state }) (log.on_tick e.log).outs
         (record { job = h.job; feed = h.feed; log = moves_heard told e.log i tt h.log }) (tick_rests e.log).sends
 
@@ -247,10 +247,10 @@ module _ (told : Told) (done : List Act) where
     items_so (Opening l o) items h = h
     items_so (Serving e) items h = h
 
-    restarted : (servers : ℕ) (l : Lasting) (number : ℕ) → Goes tt (restarts servers l number)
-    unfolding restarts
+    restarted : (servers : ℕ) (l : Lasting) (number : ℕ) → Goes tt (restart servers l number)
+    unfolding restart
     restarted servers l number =
-        frames.goes_plain told done PhaseSo (restarts servers l number).state (restarts servers l number).outs tt (tt, tt)
+        frames.goes_plain told done PhaseSo (restart servers l number).state (restart servers l number).outs tt (tt, tt)
 
     comes_so : (l : Lasting) (p : Progress) → events.ProgressHolds told done (LogMoves told) opening_log p → PhaseSo (came_to l p)
     comes_so l (progress.Opening o) h = held o.stage h
@@ -271,8 +271,8 @@ module _ (told : Told) (done : List Act) where
       falls = λ w p h. frames.goes_still told done PhaseSo (Down (lasting_of p)) tt;
       restarts = λ w l number its event following h. restarted first.peers.servers l number;
       opens = λ w l o x later its same by h acts. (let k = went_so l o x same by h acts in (comes_so (record l { questions = x.questions }) x.progress k.0, k.1));
-      writes = λ w e i later came h. writes_so e i came h;
-      pushes = λ w e h. pushes_all_say told done e.promised.managers e.feed h.feed;
+      writes = λ w e i later came h. emptying_write_so e i came h;
+      pushes = λ w e h. push_all_say told done e.promised.managers e.feed h.feed;
     }
 
     taken_so : PhaseSo first.phase → Goes tt (takes first.peers first.phase what)

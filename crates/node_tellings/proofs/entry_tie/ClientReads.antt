@@ -10,7 +10,7 @@ use Rattle.token_client.specs.declared.output.Out.{Out}
 use Rattle.token_client.specs.declared.output.Out.TheVariants as output
 use Rattle.token_client.specs.Held.{is_dirty, is_asking, must_ask, may_write, is_settled_by, may_end_fetch, may_evict}
 use Rattle.token_client.specs.State.{TokensState, held_of}
-use Rattle.token_client.specs.Transition.{Done, new_want, on_need, accepts, copy_next, on_granted, on_supplied, serves, supplies, on_forwarded, refetch, give, can_refetch, recalled_above, was_answered, recalled_again, recalled, is_promised, on_recalled, on_wrote, on_settled, on_fetched, on_evict, on_reask, on_quit, wanted_in, is_spent, repeated, ask_again, on_tick, transition}
+use Rattle.token_client.specs.Transition.{Done, tokens_ask, on_need, accepts, copy_next, on_granted, on_supplied, serves, supplies, on_forwarded, refetch, give, can_refetch, recalled_above, was_answered, recalled_again, recalled, is_promised, on_recalled, on_wrote, on_settled, on_fetched, on_evict, on_reask, on_quit, wanted_blocks, is_spent, repeated, ask_again, on_tick, transition}
 use Rattle.xfs_base.proofs.Booleans.{by_test}
 use Rattle.xfs_base.specs.declared.block.BlockId.{BlockId}
 use Rattle.xfs_base.specs.declared.entry.Entry.{Entry}
@@ -45,13 +45,13 @@ module _ (told : Told) where
   pub wants_told : (outs : List Out) → AllByRecursion IsWant outs → AllByRecursion OutTold outs
   wants_told outs all = all_weaker IsWant OutTold a_want outs all
 
-  new_want_out : (s : TokensState) (block : BlockId) (mode : Mode) → AllOut (new_want s block mode)
-  new_want_out s block mode = wants_told (new_want s block mode).outs (asked_for s block mode)
+  tokens_ask_out : (s : TokensState) (block : BlockId) (mode : Mode) → AllOut (tokens_ask s block mode)
+  tokens_ask_out s block mode = wants_told (tokens_ask s block mode).outs (asked_for s block mode)
 
   need_out : (s : TokensState) (block : BlockId) (mode : Mode) → AllOut (on_need s block mode)
   unfolding on_need
   need_out s block mode =
-      by_test AllOut (must_ask (held_of s.blocks block) mode) (new_want s block mode) (still s) (λ _. new_want_out s block mode) (λ _. tt)
+      by_test AllOut (must_ask (held_of s.blocks block) mode) (tokens_ask s block mode) (still s) (λ _. tokens_ask_out s block mode) (λ _. tt)
 
   copy_out : (block : BlockId) (ver hop : ℕ) (place : Option Place) → told block (record {
     ver =
@@ -91,7 +91,7 @@ module _ (told : Told) where
 
   refetch_out : (s : TokensState) (block : BlockId) → AllOut (refetch s block)
   unfolding refetch
-  refetch_out s block = by_test AllOut (is_some (held_of s.blocks block).fetch) (new_want _ block Copy) (still s) (λ _. new_want_out _ block Copy) (λ _. tt)
+  refetch_out s block = by_test AllOut (is_some (held_of s.blocks block).fetch) (tokens_ask _ block Copy) (still s) (λ _. tokens_ask_out _ block Copy) (λ _. tt)
 
   give_out : (s : TokensState) (block : BlockId) (stamp : Stamp) (keep : Bool) → AllOut (give s block stamp keep)
   unfolding give
@@ -147,9 +147,9 @@ module _ (told : Told) where
   tokens_say s (input.Fetched block value) fact = by_test AllOut (may_end_fetch (held_of s.blocks block)) _ (still s) (λ _. (tt, tt)) (λ _. tt)
   tokens_say s (input.Evict block) fact = by_test AllOut (may_evict (held_of s.blocks block)) _ (still s) (λ _. tt) (λ _. tt)
   tokens_say s (input.Reask block) fact =
-      by_test AllOut (is_some (held_of s.blocks block).fetch) (new_want s block Copy) (still s) (λ _. new_want_out s block Copy) (λ _. tt)
+      by_test AllOut (is_some (held_of s.blocks block).fetch) (tokens_ask s block Copy) (still s) (λ _. tokens_ask_out s block Copy) (λ _. tt)
   tokens_say s (input.Quit block) fact = by_test AllOut (is_asking (held_of s.blocks block)) _ (still s) (λ _. tt) (λ _. tt)
   tokens_say s (input.Promise slot epoch) fact = wants_told (transition s (input.Promise slot epoch)).outs (promise_wants s slot epoch)
   tokens_say s input.Tick fact =
-      by_test AllOut (list_any (λ h. is_spent h.want) (values_of s.blocks)) (still s) (steps ask_again s (wanted_in s.blocks)) (λ _. tt)
-      (λ _. all_asked_again s (wanted_in s.blocks))
+      by_test AllOut (list_any (λ h. is_spent h.want) (values_of s.blocks)) (still s) (steps ask_again s (wanted_blocks s.blocks)) (λ _. tt)
+      (λ _. all_asked_again s (wanted_blocks s.blocks))

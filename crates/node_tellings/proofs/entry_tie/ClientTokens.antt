@@ -8,9 +8,9 @@ use Rattle.token_client.specs.declared.held.Held.{Held}
 use Rattle.token_client.specs.declared.held.Wanted.{Wanted}
 use Rattle.token_client.specs.declared.input.In.{In}
 use Rattle.token_client.specs.declared.input.In.TheVariants as input
-use Rattle.token_client.specs.Held.{is_dirty, is_asking, must_ask, may_write, is_settled_by, may_end_fetch, may_evict, asked, asked_again, owned, copied, copy_granted, grant_taken, fetch_ended, written, version_settled, let_go, unasked, unfetched, promise_dropped, gives_after, put_off, given_up}
+use Rattle.token_client.specs.Held.{is_dirty, is_asking, must_ask, may_write, is_settled_by, may_end_fetch, may_evict, held_ask, asked_again, held_own, copy_of, take_copy, take_grant, end_fetch, held_write, version_settled, let_go, quit, unfetched, drop_promised, gives_after, put_off, give_up}
 use Rattle.token_client.specs.State.{TokensState, held_of, with_held, is_in_slot}
-use Rattle.token_client.specs.Transition.{Done, new_want, on_need, accepts, grant_next, on_granted, on_supplied, serves, supplies, on_forwarded, refetch, give, can_refetch, recalled_above, was_answered, recalled_again, recalled, is_promised, on_recalled, on_wrote, on_settled, on_fetched, on_evict, on_reask, on_quit, fetched_in, dropped_in, raised, ask_copy, may_promise, on_promise, wanted_in, is_spent, repeated, ask_again, on_tick, transition}
+use Rattle.token_client.specs.Transition.{Done, tokens_ask, on_need, accepts, grant_next, on_granted, on_supplied, serves, supplies, on_forwarded, refetch, give, can_refetch, recalled_above, was_answered, recalled_again, recalled, is_promised, on_recalled, on_wrote, on_settled, on_fetched, on_evict, on_reask, on_quit, fetched_blocks, drop_in, raised, ask_copy, may_promise, on_promise, wanted_blocks, is_spent, repeated, ask_again, on_tick, transition}
 use Rattle.xfs_base.proofs.Booleans.{by_test}
 use Rattle.xfs_base.specs.declared.block.BlockId.{BlockId}
 use Rattle.xfs_base.specs.declared.entry.Entry.{Entry}
@@ -44,18 +44,18 @@ module _ (told : Told) where
   put_so s block h here all = put_each (λ (b : BlockId) (g : Held). FetchTold told b g.fetch) block h s.blocks here all
 
   granted_so : (h : Held) (block : BlockId) (stamp : Stamp) (ver hop : ℕ) (place : Option Place) → told block (record { ver = ver; hop = hop; place = place })
-      → FetchTold told block (copy_granted h stamp ver place).fetch
+      → FetchTold told block (take_copy h stamp ver place).fetch
   granted_so h block stamp ver hop None fact = tt
   granted_so h block stamp ver hop (Some place) fact = record { hop = hop; place_told = fact }
 
   taken_so : (h : Held) (block : BlockId) (stamp : Stamp) (mode : Mode) (entry : Entry) → told block entry
-      → FetchTold told block (grant_taken h stamp mode entry).fetch
+      → FetchTold told block (take_grant h stamp mode entry).fetch
   taken_so h block stamp mode entry fact =
-      by_test (λ (g : Held). FetchTold told block g.fetch) (is_own mode) (owned h stamp entry.ver) (copy_granted h stamp entry.ver entry.place)
+      by_test (λ (g : Held). FetchTold told block g.fetch) (is_own mode) (held_own h stamp entry.ver) (take_copy h stamp entry.ver entry.place)
       (λ t. tt) (λ t. granted_so h block stamp entry.ver entry.hop entry.place fact)
 
   ended_so : (h : Held) (block : BlockId) (fetch : Option Fetch) (value : Option (List ℕ)) → FetchTold told block h.fetch
-      → FetchTold told block (fetch_ended h fetch value).fetch
+      → FetchTold told block (end_fetch h fetch value).fetch
   ended_so h block None value fact = fact
   ended_so h block (Some fetch) value fact = tt
 
@@ -64,37 +64,37 @@ module _ (told : Told) where
       by_test (λ (g : Held). FetchTold told block g.fetch) (gives_after h.giving stamp) h (record h { giving = Some (record { stamp = stamp; keep = keep }) })
       (λ t. fact) (λ t. fact)
 
-  given_up_so : (h : Held) (block : BlockId) (stamp : Stamp) (keep : Bool) → FetchTold told block h.fetch → FetchTold told block (given_up h stamp keep).fetch
-  given_up_so h block stamp keep fact =
+  give_up_so : (h : Held) (block : BlockId) (stamp : Stamp) (keep : Bool) → FetchTold told block h.fetch → FetchTold told block (give_up h stamp keep).fetch
+  give_up_so h block stamp keep fact =
       by_test (λ (g : Held). FetchTold told block g.fetch) (keep && is_held h.mode) (record h { mode = Copy; stamp = stamp; giving = None }) _
       (λ t. fact) (λ t. fact)
 
   -- ---- wants
 
-  new_want_so : (s : TokensState) (block : BlockId) (mode : Mode) → FetchesTold s → Keeps (new_want s block mode)
-  unfolding new_want
-  new_want_so s block mode all =
-      by_test Keeps (nat_lt s.req u32_end) _ (still s) (λ t. put_so s block (asked (held_of s.blocks block) _ mode) (all block) all) (λ t. all)
+  tokens_ask_so : (s : TokensState) (block : BlockId) (mode : Mode) → FetchesTold s → Keeps (tokens_ask s block mode)
+  unfolding tokens_ask
+  tokens_ask_so s block mode all =
+      by_test Keeps (nat_lt s.req u32_end) _ (still s) (λ t. put_so s block (held_ask (held_of s.blocks block) _ mode) (all block) all) (λ t. all)
 
   need_so : (s : TokensState) (block : BlockId) (mode : Mode) → FetchesTold s → Keeps (on_need s block mode)
   unfolding on_need
   need_so s block mode all =
-      by_test Keeps (must_ask (held_of s.blocks block) mode) (new_want s block mode) (still s) (λ t. new_want_so s block mode all) (λ t. all)
+      by_test Keeps (must_ask (held_of s.blocks block) mode) (tokens_ask s block mode) (still s) (λ t. tokens_ask_so s block mode all) (λ t. all)
 
   on_granted_so : (s : TokensState) (block : BlockId) (stamp : Stamp) (inc req : ℕ) (mode : Mode) (entry : Entry) → told block entry → FetchesTold s
       → Keeps (on_granted s block stamp inc req mode entry)
   unfolding on_granted
   on_granted_so s block stamp inc req mode entry fact all =
       by_test Keeps (accepts s block stamp inc req mode)
-      (record { state = with_held s block (grant_taken (held_of s.blocks block) stamp mode entry); outs = grant_next block mode entry.place ∷ [] }) (still s)
-      (λ t. put_so s block (grant_taken (held_of s.blocks block) stamp mode entry) (taken_so (held_of s.blocks block) block stamp mode entry fact) all)
+      (record { state = with_held s block (take_grant (held_of s.blocks block) stamp mode entry); outs = grant_next block mode entry.place ∷ [] }) (still s)
+      (λ t. put_so s block (take_grant (held_of s.blocks block) stamp mode entry) (taken_so (held_of s.blocks block) block stamp mode entry fact) all)
       (λ t. all)
 
   supplied_so : (s : TokensState) (block : BlockId) (stamp : Stamp) (inc req ver : ℕ) (value : Option (List ℕ)) → FetchesTold s
       → Keeps (on_supplied s block stamp inc req ver value)
   unfolding on_supplied
   supplied_so s block stamp inc req ver value all =
-      by_test Keeps (accepts s block stamp inc req Copy) _ (still s) (λ t. put_so s block (copied (held_of s.blocks block) stamp ver value) tt all) (λ t. all)
+      by_test Keeps (accepts s block stamp inc req Copy) _ (still s) (λ t. put_so s block (copy_of (held_of s.blocks block) stamp ver value) tt all) (λ t. all)
 
   pub forwarded_so : (s : TokensState) (block : BlockId) (stamp : Stamp) (ver : ℕ) → FetchesTold s → FetchesTold (on_forwarded s block stamp ver).state
   unfolding on_forwarded
@@ -107,15 +107,15 @@ module _ (told : Told) where
   unfolding refetch
   refetch_so s block all =
       let t : TokensState = with_held s block (unfetched (held_of s.blocks block)) in
-      by_test Keeps (is_some (held_of s.blocks block).fetch) (new_want t block Copy) (still s)
-      (λ e. new_want_so t block Copy (put_so s block (unfetched (held_of s.blocks block)) tt all)) (λ e. all)
+      by_test Keeps (is_some (held_of s.blocks block).fetch) (tokens_ask t block Copy) (still s)
+      (λ e. tokens_ask_so t block Copy (put_so s block (unfetched (held_of s.blocks block)) tt all)) (λ e. all)
 
   give_so : (s : TokensState) (block : BlockId) (stamp : Stamp) (keep : Bool) → FetchesTold s → Keeps (give s block stamp keep)
   unfolding give
   give_so s block stamp keep all =
       let h : Held = held_of s.blocks block in
       by_test Keeps (is_dirty h) _ _ (λ t. put_so s block (put_off h stamp keep) (put_off_so h block stamp keep (all block)) all)
-      (λ t. put_so s block (given_up h stamp keep) (given_up_so h block stamp keep (all block)) all)
+      (λ t. put_so s block (give_up h stamp keep) (give_up_so h block stamp keep (all block)) all)
 
   above_so : (s : TokensState) (block : BlockId) (stamp : Stamp) (keep : Bool) → FetchesTold s → Keeps (recalled_above s block stamp keep)
   unfolding recalled_above
@@ -143,7 +143,7 @@ module _ (told : Told) where
   pub wrote_so : (s : TokensState) (block : BlockId) (value : Option (List ℕ)) → FetchesTold s → FetchesTold (on_wrote s block value).state
   unfolding on_wrote
   wrote_so s block value all =
-      by_test Keeps (may_write (held_of s.blocks block)) _ (still s) (λ t. put_so s block (written (held_of s.blocks block) value) (all block) all) (λ t. all)
+      by_test Keeps (may_write (held_of s.blocks block)) _ (still s) (λ t. put_so s block (held_write (held_of s.blocks block) value) (all block) all) (λ t. all)
 
   pub settled_so : (s : TokensState) (block : BlockId) (ver : ℕ) → FetchesTold s → FetchesTold (on_settled s block ver).state
   unfolding on_settled
@@ -156,7 +156,7 @@ module _ (told : Told) where
   unfolding on_fetched
   fetched_so s block value all =
       let h : Held = held_of s.blocks block in
-      by_test Keeps (may_end_fetch h) _ (still s) (λ t. put_so s block (fetch_ended h h.fetch value) (ended_so h block h.fetch value (all block)) all)
+      by_test Keeps (may_end_fetch h) _ (still s) (λ t. put_so s block (end_fetch h h.fetch value) (ended_so h block h.fetch value (all block)) all)
       (λ t. all)
 
   pub evict_so : (s : TokensState) (block : BlockId) → FetchesTold s → FetchesTold (on_evict s block).state
@@ -167,12 +167,12 @@ module _ (told : Told) where
   reask_so : (s : TokensState) (block : BlockId) → FetchesTold s → Keeps (on_reask s block)
   unfolding on_reask
   reask_so s block all =
-      by_test Keeps (is_some (held_of s.blocks block).fetch) (new_want s block Copy) (still s) (λ t. new_want_so s block Copy all) (λ t. all)
+      by_test Keeps (is_some (held_of s.blocks block).fetch) (tokens_ask s block Copy) (still s) (λ t. tokens_ask_so s block Copy all) (λ t. all)
 
   pub quit_so : (s : TokensState) (block : BlockId) → FetchesTold s → FetchesTold (on_quit s block).state
   unfolding on_quit
   quit_so s block all =
-      by_test Keeps (is_asking (held_of s.blocks block)) _ (still s) (λ t. put_so s block (unasked (held_of s.blocks block)) tt all) (λ t. all)
+      by_test Keeps (is_asking (held_of s.blocks block)) _ (still s) (λ t. put_so s block (quit (held_of s.blocks block)) tt all) (λ t. all)
 
   -- ---- promises, and time
 
@@ -181,25 +181,25 @@ module _ (told : Told) where
   steps_so f each s [] all = all
   steps_so f each s (b ∷ bs) all = steps_so f each (f s b).state bs (each s b all)
 
-  dropped_so : (slot : ℕ) (block : BlockId) (h : Held) → FetchTold told block h.fetch → FetchTold told block (dropped_in slot block h).fetch
-  dropped_so slot block h fact = by_test (λ (g : Held). FetchTold told block g.fetch) (is_in_slot slot block) (promise_dropped h) h (λ t. tt) (λ t. fact)
+  dropped_so : (slot : ℕ) (block : BlockId) (h : Held) → FetchTold told block h.fetch → FetchTold told block (drop_in slot block h).fetch
+  dropped_so slot block h fact = by_test (λ (g : Held). FetchTold told block g.fetch) (is_in_slot slot block) (drop_promised h) h (λ t. tt) (λ t. fact)
 
-  same_dropped : (slot : ℕ) (block : BlockId) → dropped_in slot block (held_of [] block) ≡ held_of [] block
+  same_dropped : (slot : ℕ) (block : BlockId) → drop_in slot block (held_of [] block) ≡ held_of [] block
   same_dropped slot block = by_test (λ (g : Held). g ≡ held_of [] block) (is_in_slot slot block) _ _ (λ t. refl) (λ t. refl)
 
   raised_so : (s : TokensState) (slot epoch : ℕ) → FetchesTold s → FetchesTold (raised s slot epoch)
   raised_so s slot epoch all block =
-      subst (λ (h : Held). FetchTold told block h.fetch) (sym (held_of-changed (dropped_in slot) block s.blocks (same_dropped slot block)))
+      subst (λ (h : Held). FetchTold told block h.fetch) (sym (held_of-changed (drop_in slot) block s.blocks (same_dropped slot block)))
       (dropped_so slot block (held_of s.blocks block) (all block))
 
   ask_copy_so : (s : TokensState) (block : BlockId) → FetchesTold s → Keeps (ask_copy s block)
-  ask_copy_so s block all = new_want_so s block Copy all
+  ask_copy_so s block all = tokens_ask_so s block Copy all
 
   pub promise_so : (s : TokensState) (slot epoch : ℕ) → FetchesTold s → FetchesTold (on_promise s slot epoch).state
   unfolding on_promise
   promise_so s slot epoch all =
-      by_test Keeps (may_promise s slot epoch) (steps ask_copy (raised s slot epoch) (fetched_in slot s.blocks)) (still s)
-      (λ t. steps_so ask_copy ask_copy_so (raised s slot epoch) (fetched_in slot s.blocks) (raised_so s slot epoch all)) (λ t. all)
+      by_test Keeps (may_promise s slot epoch) (steps ask_copy (raised s slot epoch) (fetched_blocks slot s.blocks)) (still s)
+      (λ t. steps_so ask_copy ask_copy_so (raised s slot epoch) (fetched_blocks slot s.blocks) (raised_so s slot epoch all)) (λ t. all)
 
   repeated_so : (s : TokensState) (block : BlockId) (want : Option Wanted) → FetchesTold s → Keeps (repeated s block want)
   repeated_so s block None all = all
@@ -214,8 +214,8 @@ module _ (told : Told) where
   tick_so : (s : TokensState) → FetchesTold s → Keeps (on_tick s)
   unfolding on_tick
   tick_so s all =
-      by_test Keeps (list_any (λ h. is_spent h.want) (values_of s.blocks)) (still s) (steps ask_again s (wanted_in s.blocks)) (λ t. all)
-      (λ t. steps_so ask_again ask_again_so s (wanted_in s.blocks) all)
+      by_test Keeps (list_any (λ h. is_spent h.want) (values_of s.blocks)) (still s) (steps ask_again s (wanted_blocks s.blocks)) (λ t. all)
+      (λ t. steps_so ask_again ask_again_so s (wanted_blocks s.blocks) all)
 
   -- ---- any input
 

@@ -3,11 +3,11 @@ use Rattle.std.proofs.Common.{ℕ, ◌-◌, ◌&&◌, ◌==◌, List, [], ◌∷
 use Rattle.std.specs.List.{AllByRecursion, flat_map, range_with_len}
 use Rattle.delta_feed.specs.declared.feed.FiledDeltas.{FiledDeltas}
 use Rattle.delta_feed.specs.declared.output.Out.{Out}
-use Rattle.delta_feed.specs.FeedState.{FeedState, acked_of, started}
-use Rattle.delta_feed.specs.Transition.{settled, acknowledged, new_epoch, slot_rows, rows_after, pushed}
+use Rattle.delta_feed.specs.FeedState.{FeedState, acked_of, feed_start}
+use Rattle.delta_feed.specs.Transition.{settled, acknowledged, new_epoch, slot_rows, rows_after, feed_push}
 use Rattle.log_owner.specs.declared.promised.Managers.{Managers}
-use Rattle.log_owner.specs.Opened.{with_segment, fed, feed_of}
-use Rattle.log_owner.specs.Sending.{range, pushes, pushes_all}
+use Rattle.log_owner.specs.Opened.{feed_one, feed_all, feed_of}
+use Rattle.log_owner.specs.Sending.{range, sending_push, push_all}
 use Rattle.segment_format.specs.declared.segment.Segment.{Segment}
 use Rattle.segment_format.specs.Rows.{rows_of}
 use Rattle.version_model.specs.declared.act.Act.{Act}
@@ -35,15 +35,15 @@ module _ (told : Told) where
   pub renewed_told : (f : FeedState) (slot : ℕ) → FeedTold told f → FeedTold told (new_epoch f slot)
   renewed_told f slot h = by_test (FeedTold told) (nat_lt slot slot_count) _ f (λ t. h) (λ t. h)
 
-  fed_told : (f : FeedState) (chain : List Segment) → FeedTold told f → AllByRecursion (λ s. RowsTold told (rows_of s)) chain → FeedTold told (fed f chain)
-  unfolding with_segment
+  fed_told : (f : FeedState) (chain : List Segment) → FeedTold told f → AllByRecursion (λ s. RowsTold told (rows_of s)) chain → FeedTold told (feed_all f chain)
+  unfolding feed_one
   fed_told f [] h all = h
-  fed_told f (s ∷ chain) h all = fed_told (with_segment f s) chain (settled_told f s.name.seq (rows_of s) h all.0) all.1
+  fed_told f (s ∷ chain) h all = fed_told (feed_one f s) chain (settled_told f s.name.seq (rows_of s) h all.0) all.1
 
   -- that of a log that is open again
   pub opened_told : (low : ℕ) (chain : List Segment) (end : End) → AllByRecursion (λ s. RowsTold told (rows_of s)) chain → FeedTold told (feed_of low chain end)
   opened_told low chain end all =
-      settled_told (fed (started (low - 1)) chain) end.seq [] (fed_told (started (low - 1)) chain tt all) tt
+      settled_told (feed_all (feed_start (low - 1)) chain) end.seq [] (fed_told (feed_start (low - 1)) chain tt all) tt
 
   -- ---- what it tells
 
@@ -56,8 +56,8 @@ module _ (told : Told) where
       (after_told slot number filed all.1)
 
 module _ (told : Told) (done : List Act) (managers : Managers) (f : FeedState) (h : FeedTold told f) where
-  all_say : (slot : ℕ) → AllSay told done (map (range managers) (pushed f slot))
-  unfolding pushed
+  all_say : (slot : ℕ) → AllSay told done (map (range managers) (feed_push f slot))
+  unfolding feed_push
   all_say slot =
       by_test (λ (outs : List Out). AllSay told done (map (range managers) outs)) (nat_lt slot slot_count && nat_lt (acked_of f slot) f.end) _ []
       (λ t. (after_told told slot (acked_of f slot) f.filed h, tt)) (λ t. tt)
@@ -67,12 +67,12 @@ module _ (told : Told) (done : List Act) (managers : Managers) (f : FeedState) (
   map_append [] ys all more = more
   map_append (x ∷ xs) ys all more = (all.0, map_append xs ys all.1 more)
 
-  each_says : (slots : List ℕ) → AllSay told done (map (range managers) (flat_map (pushed f) slots))
+  each_says : (slots : List ℕ) → AllSay told done (map (range managers) (flat_map (feed_push f) slots))
   each_says [] = tt
-  each_says (slot ∷ slots) = map_append (pushed f slot) (flat_map (pushed f) slots) (all_say slot) (each_says slots)
+  each_says (slot ∷ slots) = map_append (feed_push f slot) (flat_map (feed_push f) slots) (all_say slot) (each_says slots)
 
-  pub pushes_say : (slot : ℕ) → AllSay told done (pushes managers f slot)
+  pub pushes_say : (slot : ℕ) → AllSay told done (sending_push managers f slot)
   pushes_say slot = all_say slot
 
-  pub pushes_all_say : AllSay told done (pushes_all managers f)
-  pushes_all_say = each_says (range_with_len 0 slot_count)
+  pub push_all_say : AllSay told done (push_all managers f)
+  push_all_say = each_says (range_with_len 0 slot_count)

@@ -4,11 +4,11 @@ use Rattle.std.specs.Prelude.{Option, Some, None, IfSome}
 use Rattle.std.specs.List.{AllByRecursion}
 use Rattle.checkpoint.specs.WriterState.{WorkState}
 use Rattle.log_flight.specs.Flights.{FlightState}
-use Rattle.manager_map.specs.Slots.{start_entries, entry_at}
+use Rattle.manager_map.specs.Slots.{manager_map_start, entry_at}
 use Rattle.manager_node.specs.declared.manager.Manager.{Manager}
 use Rattle.manager_node.specs.declared.phase.Phase.{Phase}
 use Rattle.manager_node.specs.declared.phase.Phase.TheVariants.{Down, Waiting, Serving as Serves}
-use Rattle.manager_node.specs.Events.{first_manager, manager_step, happens}
+use Rattle.manager_node.specs.Events.{manager_start, manager_step, happens}
 use Rattle.manager_node.specs.Phases.{lasting_of}
 use Rattle.manager_slots.specs.declared.slot_phase.SlotPhase.{SlotPhase}
 use Rattle.manager_slots.specs.declared.slot_phase.SlotPhase.TheVariants as phase
@@ -36,16 +36,16 @@ use Rattle.node_moves.proofs.manager_walk.Events.{manager_goes, packets_so}
 
 module _ (told : Told) where
   -- the index of a slot that is managed from the start on is empty
-  pub first_holds : (number : ℕ) (setup : Setup) (works : List Work) → ManagerHolds told (first_manager number setup works)
+  pub first_holds : (number : ℕ) (setup : Setup) (works : List Work) → ManagerHolds told (manager_start number setup works)
   first_holds number setup works = record {
     slots = (one 0, (one 1, (one 2, (one 3, (one 4, (one 5, (one 6, (one 7, tt))))))));
     pages = tt;
     log = record { clear = refl; flight = tt };
   }
     where
-      one : (slot : ℕ) → SlotHolds told (first_phase number (start_entries setup.managers) slot)
+      one : (slot : ℕ) → SlotHolds told (first_phase number (manager_map_start setup.managers) slot)
       one slot =
-          by_test (SlotHolds told) ((entry_at (start_entries setup.managers) (slot_of slot)).manager == number) first_active (phase.Away 1)
+          by_test (SlotHolds told) ((entry_at (manager_map_start setup.managers) (slot_of slot)).manager == number) first_active (phase.Away 1)
           (λ _. tt) (λ _. tt)
 
 -- ---- the law

@@ -16,9 +16,9 @@ use Rattle.segment_format.specs.declared.segment.Item.{Item}
 use Rattle.segment_format.specs.declared.segment.Item.TheVariants.{Block, Delta, Part}
 use Rattle.segment_format.specs.declared.segment.Segment.{Segment}
 use Rattle.segment_format.specs.Rows as segments
-use Rattle.slot_beliefs.specs.Index.{Indexed, indexed, indexed_all}
+use Rattle.slot_beliefs.specs.Index.{Indexed, block_index_merge, merge_all}
 use Rattle.takeover.specs.Rows.{is_of, part_rows, told_of}
-use Rattle.takeover.specs.Transition.{joined}
+use Rattle.takeover.specs.Transition.{rows_join}
 use Rattle.xfs_base.proofs.BlockOrder.{block_cmp_exact}
 use Rattle.xfs_base.proofs.Booleans.{by_test}
 use Rattle.xfs_base.specs.Blocks.{block_cmp}
@@ -87,15 +87,15 @@ module _ (told : Told) where
   all_merged rows (m ∷ ms) all new = all_merged (merged rows m.0 m.1) ms (merged_told rows m.0 m.1 all new.0) new.1
 
   -- the rows of a chain of segments
-  pub joined_told : (index : Rows) (chain : List Rows) → RowsTold told index → AllByRecursion (RowsTold told) chain → RowsTold told (joined index chain)
+  pub joined_told : (index : Rows) (chain : List Rows) → RowsTold told index → AllByRecursion (RowsTold told) chain → RowsTold told (rows_join index chain)
   joined_told index [] all new = all
   joined_told index (rows ∷ chain) all new = joined_told (merged_all index rows) chain (all_merged index rows all new.0) new.1
 
   -- the index of a slot
-  pub indexed_told : (i : Indexed) (rows : Rows) → RowsTold told i.rows → RowsTold told rows → RowsTold told (indexed_all i rows).rows
-  unfolding indexed
+  pub indexed_told : (i : Indexed) (rows : Rows) → RowsTold told i.rows → RowsTold told rows → RowsTold told (merge_all i rows).rows
+  unfolding block_index_merge
   indexed_told i [] all new = all
-  indexed_told i (m ∷ ms) all new = indexed_told (indexed i m) ms (merged_told i.rows m.0 m.1 all new.0) new.1
+  indexed_told i (m ∷ ms) all new = indexed_told (block_index_merge i m) ms (merged_told i.rows m.0 m.1 all new.0) new.1
 
   -- ---- segments of Parts alone
 

@@ -14,7 +14,7 @@ use Rattle.node_tellings.specs.entry_tie.ClientTells.{BlockTold, FlightOwed, Ser
 use Rattle.node_tellings.specs.entry_tie.Told.{BodyTold, RowsTold, Told}
 use Rattle.node_tellings.proofs.entry_tie.ClientReads.{tokens_say}
 use Rattle.node_tellings.proofs.entry_tie.ClientTokens.{tokens_so}
-use Rattle.node_tellings.proofs.entry_tie.Feeds.{acknowledged_told, pushes_all_say, pushes_say, renewed_told, settled_told}
+use Rattle.node_tellings.proofs.entry_tie.Feeds.{acknowledged_told, push_all_say, pushes_say, renewed_told, settled_told}
 use Rattle.node_tellings.proofs.entry_tie.Frames as frames
 
 module _ (told : Told) (done : List Act) where
@@ -66,7 +66,7 @@ module _ (told : Told) (done : List Act) where
     asks = λ inc ask. tt;
     reports = λ s slot epoch owed h. tt;
     pushed = λ s slot h. pushes_say told done s.managers s.feed h.feed slot;
-    all_pushed = λ s h. pushes_all_say told done s.managers s.feed h.feed;
+    all_pushed = λ s h. push_all_say told done s.managers s.feed h.feed;
     answers = λ item a. tt;
     loses = λ name. tt;
     has_read = λ node block ver value. tt;

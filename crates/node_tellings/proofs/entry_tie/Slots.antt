@@ -1,10 +1,10 @@
 -- A slot that is managed: its index holds what is told, and each grant that it gives tells what its index holds, whatever it takes.
 use Rattle.std.proofs.Common.{ℕ, List}
-use Rattle.slot_beliefs.specs.Index.{nothing_indexed}
+use Rattle.slot_beliefs.specs.Index.{block_index_new}
 use Rattle.token_manager.specs.declared.input.In.{In as Input}
 use Rattle.token_manager.specs.declared.output.Out.{Out}
 use Rattle.token_manager.specs.SlotState.{SlotState}
-use Rattle.token_manager.specs.Transition.{started, transition}
+use Rattle.token_manager.specs.Transition.{slot_start, transition}
 use Rattle.xfs_base.specs.declared.block.BlockId.{BlockId}
 use Rattle.xfs_base.specs.declared.entry.Entry.{Entry}
 use Rattle.xfs_base.specs.declared.token.Mode.{Mode}
@@ -30,5 +30,5 @@ module _ (told : Told) (nothing : AllowsNothing told) where
 
   -- one that starts with an index
   pub started_holds : (epoch : ℕ) (index : List (BlockId × Entry)) (beliefs : List (BlockId × ℕ × Mode)) (applied : List ℕ) → RowsTold told index
-      → StateSo law (started epoch index beliefs applied)
-  started_holds epoch index beliefs applied all = indexed_told told nothing_indexed index tt all
+      → StateSo law (slot_start epoch index beliefs applied)
+  started_holds epoch index beliefs applied all = indexed_told told block_index_new index tt all

@@ -4,13 +4,13 @@ use Rattle.std.proofs.Common.{◌≤◌, ⊎_elim, ℕ, List, [], ◌∷◌, ref
 use Rattle.std.specs.List.{AllByRecursion}
 use Rattle.cleaner_job.specs.declared.lasting.Lasting.{Lasting}
 use Rattle.cleaner_job.specs.Starting.{cleaner_log}
-use Rattle.cleaner_node.specs.CleanerEvents.{Went_to, lasting_of, next_life, owner_of, restarts, serves_on, takes}
+use Rattle.cleaner_node.specs.CleanerEvents.{Went_to, lasting_of, next_life, owner_of, restart, serves_on, takes}
 use Rattle.cleaner_node.specs.declared.cleaner.Cleaner.{Cleaner}
 use Rattle.cleaner_node.specs.declared.cleaner.Phase.{Phase}
 use Rattle.cleaner_node.specs.declared.cleaner.Phase.TheVariants.{Down, Opening, Serving}
 use Rattle.cleaner_serving.specs.declared.emptying.Emptying.{Emptying}
-use Rattle.cleaner_serving.specs.EmptyingEvents.{fed, settles, writes, writes_one}
-use Rattle.cleaner_serving.specs.Jobs.{Done, cleans, puts}
+use Rattle.cleaner_serving.specs.EmptyingEvents.{fed, emptying_settle, emptying_write, write_one}
+use Rattle.cleaner_serving.specs.Jobs.{Done, emptying_clean, emptying_put}
 use Rattle.client_log.specs.declared.input.In.{In as LogIn}
 use Rattle.client_log.specs.declared.output.Out.{Out as LogOut}
 use Rattle.client_log.specs.declared.output.Out.TheVariants as log_out
@@ -20,7 +20,7 @@ use Rattle.log_owner.specs.declared.opened.Progress.{Progress}
 use Rattle.log_owner.specs.declared.opened.Progress.TheVariants as progress
 use Rattle.log_owner.specs.declared.opening.Opening as openings
 use Rattle.log_owner.specs.Opening.{Went, stored}
-use Rattle.log_owner.specs.Sending.{name_of, pushes_all, store}
+use Rattle.log_owner.specs.Sending.{name_of, push_all, store}
 use Rattle.node_base.specs.declared.effects.Effect.{Effect}
 use Rattle.node_base.specs.declared.effects.Effect.TheVariants.{Does}
 use Rattle.node_base.specs.declared.items.Items.{Items}
@@ -49,7 +49,7 @@ use Rattle.segment_format.specs.Rows.{rows_of}
 use Rattle.node_tellings.specs.filed_tie.CleanerReach.{CleanerReachRises, CleanerStartsReaching, CleanerTellsFiled, PhaseReaches}
 use Rattle.node_tellings.specs.filed_tie.OpeningReach.{OpeningReaches}
 use Rattle.node_tellings.specs.filed_tie.Reach.{DoTells, Reach, Rises}
-use Rattle.node_tellings.proofs.filed_tie.Feeds.{acknowledged_end, pushes_all_say, renewed_end, settled_end}
+use Rattle.node_tellings.proofs.filed_tie.Feeds.{acknowledged_end, push_all_say, renewed_end, settled_end}
 use Rattle.node_tellings.proofs.filed_tie.Frames as frames
 use Rattle.node_moves.proofs.client_walk.LogTurns.{IsSend, Lands, Rests, as_end, log_turns, put_rests, seal_rests}
 use Rattle.node_tellings.proofs.filed_tie.OpeningRises.{opening_rises}
@@ -124,9 +124,9 @@ module _ (reach : Reach) where
     put_so e i (BlockPut block entry value due) = put_rests e.log block (record { entry = entry; value = value })
     put_so e i AllPut = seal_rests e.log
 
-    puts_so : (e : Emptying) (i : LogIn) → Put (λ o. Unit {0}) i → At e → Serves (puts e i)
-    unfolding puts
-    puts_so e i put h =
+    emptying_put_so : (e : Emptying) (i : LogIn) → Put (λ o. Unit {0}) i → At e → Serves (emptying_put e i)
+    unfolding emptying_put
+    emptying_put_so e i put h =
         frames.goes_plain reach TheCleaner PhaseSo (Serving (record e { log = (log.transition e.log i).state })) _
         (rests_so e (log.transition e.log i) (put_so e i put) h)
         (all_flat_map (frames.Says reach TheCleaner) stored one_stored (log.transition e.log i).outs)
@@ -138,46 +138,46 @@ module _ (reach : Reach) where
       changes = λ w e f change h. frames.goes_still reach TheCleaner PhaseSo (Serving f) (changed e f change h);
       gives = λ w e effect given h. gives_so e effect given h;
       takes = λ w e job given later came h d next. next tt tt h (all_each (λ o. Unit {0}) (λ o. tt) (transition job.cleaning given).outs);
-      puts = λ w e i put h. puts_so e i put h;
+      puts = λ w e i put h. emptying_put_so e i put h;
     }
 
     -- ---- the log
 
     -- a segment that was filed is settled
-    settles_so : (e : Emptying) (end : End) (rows : List (BlockId × Entry)) → At e → end.seq ≤ reach cleaner_log.0 → Serves (settles e end rows)
-    unfolding settles
-    settles_so e end rows h filed =
+    emptying_settle_so : (e : Emptying) (end : End) (rows : List (BlockId × Entry)) → At e → end.seq ≤ reach cleaner_log.0 → Serves (emptying_settle e end rows)
+    unfolding emptying_settle
+    emptying_settle_so e end rows h filed =
         let f : Emptying = fed e end rows in
         let k : At f = record { end = h.end; feed = settled_end (reach cleaner_log.0) e.feed end.seq rows h.feed filed } in
-        frames.goes_after reach TheCleaner PhaseSo (Does (Filed (name_of cleaner_log end)) ∷ pushes_all f.promised.managers f.feed)
-        (serves_on (cleans f input.Moved)) (tt, pushes_all_say reach TheCleaner f.promised.managers f.feed k.feed)
+        frames.goes_after reach TheCleaner PhaseSo (Does (Filed (name_of cleaner_log end)) ∷ push_all f.promised.managers f.feed)
+        (serves_on (emptying_clean f input.Moved)) (tt, push_all_say reach TheCleaner f.promised.managers f.feed k.feed)
         (cleaned first what World Later So Says Goes tt Any follows job_keeps tt f input.Moved tt MovesSettled k)
 
-    sends_so : (e : Emptying) (outs : List LogOut) → At e → AllByRecursion IsSend outs → Serves (steps writes_one e outs)
-    unfolding writes_one
+    sends_so : (e : Emptying) (outs : List LogOut) → At e → AllByRecursion IsSend outs → Serves (steps write_one e outs)
+    unfolding write_one
     sends_so e [] h all = frames.goes_still reach TheCleaner PhaseSo (Serving e) h
     sends_so e (log_out.Send f m ∷ outs) h all =
-        frames.goes_after reach TheCleaner PhaseSo (store f m ∷ []) (serves_on (steps writes_one e outs)) (tt, tt) (sends_so e outs h all.1)
+        frames.goes_after reach TheCleaner PhaseSo (store f m ∷ []) (serves_on (steps write_one e outs)) (tt, tt) (sends_so e outs h all.1)
     sends_so e (log_out.Settled end rows ∷ outs) h all = absurd all.0
 
     -- the end is told first: it is acted to be filed
     lands_so : (e : Emptying) (l : LogState) (rows : List (BlockId × Entry)) (rest : List LogOut) → At e → AllByRecursion IsSend rest
-        → Serves (steps writes_one (record e { log = l }) (log_out.Settled l.end rows ∷ rest))
-    unfolding writes_one settles
+        → Serves (steps write_one (record e { log = l }) (log_out.Settled l.end rows ∷ rest))
+    unfolding write_one emptying_settle
     lands_so e l rows rest h all acts =
         let t : Emptying = record e { log = l } in
         let filed : l.end.seq ≤ reach cleaner_log.0 = acts.0 in
-        let s : Done = settles t l.end rows in
-        frames.goes_on reach TheCleaner PhaseSo (serves_on s) (serves_on (steps writes_one s.state rest))
-        (settles_so t l.end rows (record { end = filed; feed = h.feed }) filed) (λ k. sends_so s.state rest k all) acts
+        let s : Done = emptying_settle t l.end rows in
+        frames.goes_on reach TheCleaner PhaseSo (serves_on s) (serves_on (steps write_one s.state rest))
+        (emptying_settle_so t l.end rows (record { end = filed; feed = h.feed }) filed) (λ k. sends_so s.state rest k all) acts
 
-    writes_so : (e : Emptying) (i : LogIn) → At e → Serves (writes e i)
-    unfolding writes
-    writes_so e i h =
+    emptying_write_so : (e : Emptying) (i : LogIn) → At e → Serves (emptying_write e i)
+    unfolding emptying_write
+    emptying_write_so e i h =
         let d : log.Done = log.transition e.log i in
         let t : Emptying = record e { log = d.state } in
         ⊎_elim (λ (rests : Rests e.log.end d). sends_so t d.outs (rests_so e d rests h) rests.sends)
-        (λ (lands : Lands e.log.flight d). subst (λ outs. Serves (steps writes_one t outs)) (sym (as_end e.log.flight d lands))
+        (λ (lands : Lands e.log.flight d). subst (λ outs. Serves (steps write_one t outs)) (sym (as_end e.log.flight d lands))
         (lands_so e d.state (rows_of lands.flight.segment) lands.rest h lands.sends))
         (log_turns e.log i)
 
@@ -188,10 +188,10 @@ module _ (reach : Reach) where
     items_so (Opening l o) items h = h
     items_so (Serving e) items h = h
 
-    restarted : (servers : ℕ) (l : Lasting) (number : ℕ) → Goes tt (restarts servers l number)
-    unfolding restarts
+    restarted : (servers : ℕ) (l : Lasting) (number : ℕ) → Goes tt (restart servers l number)
+    unfolding restart
     restarted servers l number =
-        frames.goes_plain reach TheCleaner PhaseSo (restarts servers l number).state (restarts servers l number).outs
+        frames.goes_plain reach TheCleaner PhaseSo (restart servers l number).state (restart servers l number).outs
         (events.first_so reach TheCleaner cleaner_log.0 (owner_of (next_life l number)) servers (next_life l number).questions refl) (tt, tt)
 
     comes_so : (l : Lasting) (p : Progress) → events.ProgressReaches reach TheCleaner cleaner_log.0 p → PhaseSo (came_to l p)
@@ -213,8 +213,8 @@ module _ (reach : Reach) where
       falls = λ w p h. frames.goes_still reach TheCleaner PhaseSo (Down (lasting_of p)) tt;
       restarts = λ w l number its event following h. restarted first.peers.servers l number;
       opens = λ w l o x later its same by h acts. (let k = went_so l o x its by h acts in (comes_so (record l { questions = x.questions }) x.progress k.0, k.1));
-      writes = λ w e i later came h. writes_so e i h;
-      pushes = λ w e h. pushes_all_say reach TheCleaner e.promised.managers e.feed h.feed;
+      writes = λ w e i later came h. emptying_write_so e i h;
+      pushes = λ w e h. push_all_say reach TheCleaner e.promised.managers e.feed h.feed;
     }
 
     taken_so : PhaseSo first.phase → Goes tt (takes first.peers first.phase what)

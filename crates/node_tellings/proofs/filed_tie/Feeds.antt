@@ -2,11 +2,11 @@
 use Rattle.std.proofs.Common.{ℕ, ◌-◌, ◌≤◌, suc, ◌&&◌, List, [], ◌∷◌, ◌++◌, map, nat_lt, arith}
 use Rattle.std.specs.List.{AllByRecursion, flat_map, range_with_len}
 use Rattle.delta_feed.specs.declared.output.Out.{Out}
-use Rattle.delta_feed.specs.FeedState.{FeedState, acked_of, started}
-use Rattle.delta_feed.specs.Transition.{settled, acknowledged, new_epoch, pushed}
+use Rattle.delta_feed.specs.FeedState.{FeedState, acked_of, feed_start}
+use Rattle.delta_feed.specs.Transition.{settled, acknowledged, new_epoch, feed_push}
 use Rattle.log_owner.specs.declared.promised.Managers.{Managers}
-use Rattle.log_owner.specs.Opened.{with_segment, fed, feed_of}
-use Rattle.log_owner.specs.Sending.{range, pushes, pushes_all}
+use Rattle.log_owner.specs.Opened.{feed_one, feed_all, feed_of}
+use Rattle.log_owner.specs.Sending.{range, sending_push, push_all}
 use Rattle.manager_serving.specs.Serving.{fed_log}
 use Rattle.segment_format.specs.declared.segment.Segment.{Segment}
 use Rattle.segment_format.specs.Rows.{rows_of}
@@ -31,22 +31,22 @@ module _ (limit : ℕ) where
   pub renewed_end : (f : FeedState) (slot : ℕ) → f.end ≤ limit → (new_epoch f slot).end ≤ limit
   renewed_end f slot h = by_test (λ (g : FeedState). g.end ≤ limit) (nat_lt slot slot_count) _ f (λ t. h) (λ t. h)
 
-  fed_end : (f : FeedState) (chain : List Segment) → f.end ≤ limit → AllByRecursion (λ s. s.name.seq ≤ limit) chain → (fed f chain).end ≤ limit
-  unfolding with_segment
+  fed_end : (f : FeedState) (chain : List Segment) → f.end ≤ limit → AllByRecursion (λ s. s.name.seq ≤ limit) chain → (feed_all f chain).end ≤ limit
+  unfolding feed_one
   fed_end f [] h all = h
-  fed_end f (s ∷ chain) h all = fed_end (with_segment f s) chain (settled_end f s.name.seq (rows_of s) h all.0) all.1
+  fed_end f (s ∷ chain) h all = fed_end (feed_one f s) chain (settled_end f s.name.seq (rows_of s) h all.0) all.1
 
   -- that of a log that is open again
   pub opened_end : (low : ℕ) (chain : List Segment) (end : End) → low ≤ suc limit → AllByRecursion (λ s. s.name.seq ≤ limit) chain → end.seq ≤ limit
       → (feed_of low chain end).end ≤ limit
   opened_end low chain end small all new =
-      settled_end (fed (started (low - 1)) chain) end.seq [] (fed_end (started (low - 1)) chain (omega (arith, small)) all) new
+      settled_end (feed_all (feed_start (low - 1)) chain) end.seq [] (fed_end (feed_start (low - 1)) chain (omega (arith, small)) all) new
 
 -- ---- what it tells
 
 module _ (reach : Reach) (node : NodeId) (managers : Managers) (f : FeedState) (h : LogReaches reach (fed_log node) f.end) where
-  all_say : (slot : ℕ) → AllSay reach node (map (range managers) (pushed f slot))
-  unfolding pushed
+  all_say : (slot : ℕ) → AllSay reach node (map (range managers) (feed_push f slot))
+  unfolding feed_push
   all_say slot =
       by_test (λ (outs : List Out). AllSay reach node (map (range managers) outs)) (nat_lt slot slot_count && nat_lt (acked_of f slot) f.end) _ []
       (λ t. (h, tt)) (λ t. tt)
@@ -56,12 +56,12 @@ module _ (reach : Reach) (node : NodeId) (managers : Managers) (f : FeedState) (
   map_append [] ys all more = more
   map_append (x ∷ xs) ys all more = (all.0, map_append xs ys all.1 more)
 
-  each_says : (slots : List ℕ) → AllSay reach node (map (range managers) (flat_map (pushed f) slots))
+  each_says : (slots : List ℕ) → AllSay reach node (map (range managers) (flat_map (feed_push f) slots))
   each_says [] = tt
-  each_says (slot ∷ slots) = map_append (pushed f slot) (flat_map (pushed f) slots) (all_say slot) (each_says slots)
+  each_says (slot ∷ slots) = map_append (feed_push f slot) (flat_map (feed_push f) slots) (all_say slot) (each_says slots)
 
-  pub pushes_say : (slot : ℕ) → AllSay reach node (pushes managers f slot)
+  pub pushes_say : (slot : ℕ) → AllSay reach node (sending_push managers f slot)
   pushes_say slot = all_say slot
 
-  pub pushes_all_say : AllSay reach node (pushes_all managers f)
-  pushes_all_say = each_says (range_with_len 0 slot_count)
+  pub push_all_say : AllSay reach node (push_all managers f)
+  push_all_say = each_says (range_with_len 0 slot_count)

@@ -1,8 +1,8 @@
 -- Whatever happens to a manager, what it has of the logs, and what it tells of them, keeps to the bounds.
 use Rattle.std.proofs.Common.{ℕ, ◌==◌, List, replicate}
-use Rattle.manager_map.specs.Slots.{start_entries, entry_at}
+use Rattle.manager_map.specs.Slots.{manager_map_start, entry_at}
 use Rattle.manager_node.specs.declared.manager.Manager.{Manager}
-use Rattle.manager_node.specs.Events.{first_manager, happens}
+use Rattle.manager_node.specs.Events.{manager_start, happens}
 use Rattle.manager_slots.specs.declared.slot_phase.SlotPhase.TheVariants as phase
 use Rattle.manager_slots.specs.Slots.{first_active}
 use Rattle.manager_slots.specs.SlotTable.{first_phase}
@@ -24,13 +24,13 @@ use Rattle.node_moves.proofs.manager_walk.Events as events
 module _ (b : Bounds) where
   -- nothing of any log is applied in a slot that is managed from the start on
   pub first_bounded : (number : ℕ) (setup : Setup) (works : List Work) → ((slot : ℕ) → b.applied slot 1 (replicate block_logs 0))
-      → ManagerBounded b (first_manager number setup works)
+      → ManagerBounded b (manager_start number setup works)
   first_bounded number setup works none =
       record { slots = (one 0, (one 1, (one 2, (one 3, (one 4, (one 5, (one 6, (one 7, tt)))))))); writer = tt; checkpoint = tt }
     where
-      one : (slot : ℕ) → SlotBounded b slot (first_phase number (start_entries setup.managers) slot)
+      one : (slot : ℕ) → SlotBounded b slot (first_phase number (manager_map_start setup.managers) slot)
       one slot =
-          by_test (SlotBounded b slot) ((entry_at (start_entries setup.managers) (slot_of slot)).manager == number) first_active (phase.Away 1)
+          by_test (SlotBounded b slot) ((entry_at (manager_map_start setup.managers) (slot_of slot)).manager == number) first_active (phase.Away 1)
           (λ _. none slot) (λ _. tt)
 
 -- ---- the events

@@ -5,7 +5,7 @@ use Rattle.std.specs.List.{AllByRecursion}
 use Rattle.std.proofs.lemmas.Bool.{eqb-true}
 use Rattle.std.proofs.lemmas.Bool.Decides.{nat_tests}
 use Rattle.node_base.specs.declared.effects.Effect.{Effect}
-use Rattle.registry.specs.Board.{manager_restarted, moved, is_kept, checkpointed, all_news}
+use Rattle.registry.specs.Board.{manager_restarted, moved, is_kept, checkpointed, board_slots}
 use Rattle.registry.specs.BoardState.{BoardState}
 use Rattle.registry.specs.Checkpoints.{covers_kept, horizon_at}
 use Rattle.registry.specs.declared.checkpoint.Checkpoint.{Checkpoint}
@@ -82,7 +82,7 @@ module _ (b : Bounds) where
   below : (slot : ℕ) → nat_lt slot 8 ≡ true → slot < 8
   below slot fact = grind (arith, nat_tests)
 
-  news_bounded : (s : BoardState) → BoardBounded s → AllByRecursion (NewsBounded b) (all_news s)
+  news_bounded : (s : BoardState) → BoardBounded s → AllByRecursion (NewsBounded b) (board_slots s)
   news_bounded s h =
       let at = λ (slot : ℕ) (fact : nat_lt slot 8 ≡ true). h slot (below slot fact) in
       (at 0 refl, (at 1 refl, (at 2 refl, (at 3 refl, (at 4 refl, (at 5 refl, (at 6 refl, (at 7 refl, tt))))))))

@@ -8,7 +8,7 @@ use Rattle.group_map.specs.declared.group.Group.{Group}
 use Rattle.group_map.specs.GroupMapState.{GroupMapState}
 use Rattle.segment_reading.specs.declared.reading.Next.{Next}
 use Rattle.segment_reading.specs.declared.reading.Next.TheVariants as next
-use Rattle.segment_reading.specs.Reading.{ReadingState, is_asking, to_ask, on_answer, on_confirmed}
+use Rattle.segment_reading.specs.Reading.{ReadingState, is_asking, reading_unanswered, reading_take, on_confirmed}
 use Rattle.segment_reading.specs.Reading as reading
 use Rattle.stripe_code.specs.declared.round.Told.{Told}
 use Rattle.xfs_base.specs.declared.news.SlotNews.{SlotNews}
@@ -27,7 +27,7 @@ use Rattle.log_scan.specs.declared.stage.Stage.{Stage}
 use Rattle.log_scan.specs.declared.stage.Stage.TheVariants.{Hails, Gathers, Asks, Reads, Over}
 use Rattle.log_scan.specs.Pick.{known_group, start_of}
 use Rattle.log_scan.specs.ScanState.{ScanState}
-use Rattle.log_scan.specs.Transition.{Done, goes, stays, can_ask, asks_anew, least_horizon, rises, target_at, is_bottom, read_from, with_segment, chain_of, fetches, begins_in, begins_round, follows, goes_on, awaits_welcome, awaits, awaited, fences, picks_at, picks, confirms_by, confirms, welcomed, on_welcome, with_list, on_fenced, heard_with, heard, on_told, asked_again, on_tick, takes, transition}
+use Rattle.log_scan.specs.Transition.{Done, goes, stays, can_ask, asks_anew, least_horizon, opening_rise, target_at, is_bottom, backward_from, backward_with, backward_told, backward_fetch, begins_in, opening_begin_round, opening_follow, opening_go_on, awaits_welcome, awaits, awaited, fences, picks_at, opening_pick, confirms_by, opening_confirm, opening_welcome, on_welcome, with_list, on_fenced, opening_read, opening_hear, on_told, opening_read_again, on_tick, opening_take, transition}
 use Rattle.log_scan.proofs.Targets.{ReadsName, KeepsTarget, answered_keeps, confirmed_keeps}
 use Rattle.node_tellings.specs.filed_tie.OpeningReach.{AreOfLog, ReadsLog, ScanReaches}
 use Rattle.node_tellings.specs.filed_tie.Reach.{Reach, SlotsReach}
@@ -72,38 +72,38 @@ module _ (reach : Reach) (log : ℕ) where
     keeps_anew : (stage : Stage) → ReadsLog log stage → Keeps (asks_anew o stage)
     keeps_anew stage st = record { opening = record { own = fact.own; low = fact.low }; stage = st; outs = (tt, tt) }
 
-    keeps_chain : (b : Backward) → AreOfLog log b.chain → Keeps (goes o Over (chain_of b ∷ []))
+    keeps_chain : (b : Backward) → AreOfLog log b.chain → Keeps (goes o Over (backward_told b ∷ []))
     keeps_chain b so = record { opening = fact; stage = tt; outs = (all_reverse (λ s. s.name.log.0 ≡ log) b.chain so, tt) }
 
     keeps_begins_in : (b : Backward) (g : Option Group) → AreOfLog log b.chain → Keeps (begins_in o b g)
     keeps_begins_in b None so = keeps_anew (Reads b None) (so, tt)
     keeps_begins_in b (Some g) so =
-        let r = reading.begun (target_at o.log b.next) g (o.ask + 1) in
-        record { opening = record { own = fact.own; low = fact.low }; stage = (so, fact.own); outs = fetches_tell r.target.seg.name r.ask (to_ask r) }
+        let r = reading.reading_start (target_at o.log b.next) g (o.ask + 1) in
+        record { opening = record { own = fact.own; low = fact.low }; stage = (so, fact.own); outs = fetches_tell r.target.seg.name r.ask (reading_unanswered r) }
 
-    keeps_begins : (b : Backward) → AreOfLog log b.chain → Keeps (begins_round o b)
-    unfolding begins_round
+    keeps_begins : (b : Backward) → AreOfLog log b.chain → Keeps (opening_begin_round o b)
+    unfolding opening_begin_round
     keeps_begins b so = keeps_begins_in b (known_group o.groups b.next.group) so
 
-    keeps_follows : (b : Backward) → AreOfLog log b.chain → Keeps (follows o b)
-    unfolding follows
+    keeps_follows : (b : Backward) → AreOfLog log b.chain → Keeps (opening_follow o b)
+    unfolding opening_follow
     keeps_follows b so =
-        by_test (λ (d : Done). Keeps d) (is_bottom o.low b.next) (goes o Over (chain_of b ∷ [])) (begins_round o b) (λ t. keeps_chain b so)
+        by_test (λ (d : Done). Keeps d) (is_bottom o.low b.next) (goes o Over (backward_told b ∷ [])) (opening_begin_round o b) (λ t. keeps_chain b so)
         (λ t. keeps_begins b so)
 
     keeps_goes_on : (b : Backward) (r : ReadingState) (n : Next) → AreOfLog log b.chain → LooksFor (Some r) → ReadsName r.target.seg.name n
-        → Keeps (goes_on o b r n)
-    unfolding goes_on
+        → Keeps (opening_go_on o b r n)
+    unfolding opening_go_on
     keeps_goes_on b r next.Wait so looks name = keeps_stay (Reads b (Some r)) (so, looks)
     keeps_goes_on b r next.Ask so looks name =
-        record { opening = record { own = fact.own; low = fact.low }; stage = (so, looks); outs = fetches_tell r.target.seg.name r.ask (to_ask r) }
+        record { opening = record { own = fact.own; low = fact.low }; stage = (so, looks); outs = fetches_tell r.target.seg.name r.ask (reading_unanswered r) }
     keeps_goes_on b r next.Again so looks name = keeps_anew (Reads b (Some r)) (so, looks)
     keeps_goes_on b r (next.Read s) so looks name =
-        keeps_follows (with_segment b s) (all_append (λ x. x.name.log.0 ≡ log) b.chain (s ∷ []) so (ap (λ (n : SegName). n.log.0) name ∙ looks, tt))
+        keeps_follows (backward_with b s) (all_append (λ x. x.name.log.0 ≡ log) b.chain (s ∷ []) so (ap (λ (n : SegName). n.log.0) name ∙ looks, tt))
     keeps_goes_on b r next.Lost so looks name = record { opening = fact; stage = tt; outs = (tt, tt) }
 
     keeps_step : (b : Backward) (r : ReadingState) (step : reading.Step) → AreOfLog log b.chain → LooksFor (Some r) → KeepsTarget r step
-        → Keeps (goes_on o b step.state step.next)
+        → Keeps (opening_go_on o b step.state step.next)
     keeps_step b r step so looks k =
         keeps_goes_on b step.state step.next so (ap (λ t. t.seg.name.log.0) k.same ∙ looks) (subst (λ t. ReadsName t.seg.name step.next) (sym k.same) k.name)
 
@@ -111,18 +111,18 @@ module _ (reach : Reach) (log : ℕ) where
     keeps_confirms_by b None so looks = keeps_begins b so
     keeps_confirms_by b (Some r) so looks = keeps_step b r (on_confirmed r (o.ask + 1)) so looks (confirmed_keeps r (o.ask + 1))
 
-    keeps_confirms : (b : Backward) (r : Option ReadingState) → AreOfLog log b.chain → LooksFor r → Keeps (confirms o b r)
-    unfolding confirms
+    keeps_confirms : (b : Backward) (r : Option ReadingState) → AreOfLog log b.chain → LooksFor r → Keeps (opening_confirm o b r)
+    unfolding opening_confirm
     keeps_confirms b r so looks =
-        by_test (λ (d : Done). Keeps d) (is_bottom o.low b.next) (goes o Over (chain_of b ∷ [])) (confirms_by o b r) (λ t. keeps_chain b so)
+        by_test (λ (d : Done). Keeps d) (is_bottom o.low b.next) (goes o Over (backward_told b ∷ [])) (confirms_by o b r) (λ t. keeps_chain b so)
         (λ t. keeps_confirms_by b r so looks)
 
     keeps_picks_at : (lists : List Listing) (e : Option End) → Keeps (picks_at o lists e)
     keeps_picks_at lists None = keeps_anew (Asks lists) tt
-    keeps_picks_at lists (Some e) = keeps_follows (read_from e) tt
+    keeps_picks_at lists (Some e) = keeps_follows (backward_from e) tt
 
-    keeps_picks : (lists : List Listing) → Keeps (picks o lists)
-    unfolding picks
+    keeps_picks : (lists : List Listing) → Keeps (opening_pick o lists)
+    unfolding opening_pick
     keeps_picks lists = keeps_picks_at lists (start_of o.groups lists o.low)
 
   -- ---- a Welcome
@@ -130,15 +130,15 @@ module _ (reach : Reach) (log : ℕ) where
   IsLow : ℕ → Type 0
   IsLow least = 1 ≤ log → least ≤ suc (reach log)
 
-  risen : (o : Opening) (least : ℕ) → IsOpening o → IsLow least → IsOpening (rises o least)
+  risen : (o : Opening) (least : ℕ) → IsOpening o → IsLow least → IsOpening (opening_rise o least)
   unfolding IsLow
   risen o least fact low = record { own = fact.own; low = λ some. (let a = fact.low some in let b = low some in omega (arith, a, b)) }
 
-  keeps_welcomed : (o : Opening) (stage : Stage) (least : ℕ) → IsOpening o → IsLow least → ReadsLog log stage → Keeps (welcomed o stage least)
+  keeps_welcomed : (o : Opening) (stage : Stage) (least : ℕ) → IsOpening o → IsLow least → ReadsLog log stage → Keeps (opening_welcome o stage least)
   keeps_welcomed o Hails least fact low st = record { opening = fact; stage = tt; outs = fences_tell (awaited o.groups []) }
   keeps_welcomed o (Gathers lists) least fact low st = keeps_stay o fact (Gathers lists) tt
-  keeps_welcomed o (Asks lists) least fact low st = keeps_picks (rises o least) (risen o least fact low) lists
-  keeps_welcomed o (Reads b r) least fact low st = keeps_confirms (rises o least) (risen o least fact low) b r st.0 st.1
+  keeps_welcomed o (Asks lists) least fact low st = keeps_picks (opening_rise o least) (risen o least fact low) lists
+  keeps_welcomed o (Reads b r) least fact low st = keeps_confirms (opening_rise o least) (risen o least fact low) b r st.0 st.1
   keeps_welcomed o Over least fact low st = keeps_stay o fact Over tt
 
   -- maps of some slots that tell so
@@ -156,7 +156,7 @@ module _ (reach : Reach) (log : ℕ) where
   keeps_on_welcome o stage ask slots groups fact news st =
       let p : Opening = record o { groups = Some groups } in
       let least : ℕ = least_horizon o.log.0 slots in
-      by_test (λ (d : Done). Keeps d) ((ask == o.ask) && (can_ask o && awaits_welcome stage)) (welcomed p stage least) (stays o stage)
+      by_test (λ (d : Done). Keeps d) ((ask == o.ask) && (can_ask o && awaits_welcome stage)) (opening_welcome p stage least) (stays o stage)
       (λ t. keeps_welcomed p stage least (record { own = fact.own; low = fact.low }) (least_is_low o slots fact news) st) (λ t. keeps_stay o fact stage st)
 
   -- ---- the other inputs
@@ -179,16 +179,16 @@ module _ (reach : Reach) (log : ℕ) where
 
   keeps_heard_with : (o : Opening) (b : Backward) (r : ReadingState) (groups : Option GroupMapState) (ask server : ℕ) (t : Told) → IsOpening o
       → AreOfLog log b.chain
-      → LooksFor (Some r) → Keeps (heard_with o b r groups ask server t)
+      → LooksFor (Some r) → Keeps (opening_read o b r groups ask server t)
   keeps_heard_with o b r None ask server t fact so looks = keeps_stay o fact (Reads b (Some r)) (so, looks)
   keeps_heard_with o b r (Some groups) ask server t fact so looks =
-      keeps_step o fact b r (on_answer r groups ask server t) so looks (answered_keeps r groups ask server t)
+      keeps_step o fact b r (reading_take r groups ask server t) so looks (answered_keeps r groups ask server t)
 
   keeps_heard : (o : Opening) (b : Backward) (r : Option ReadingState) (ask server : ℕ) (t : Told) → IsOpening o → AreOfLog log b.chain → LooksFor r
-      → Keeps (heard o b r ask server t)
+      → Keeps (opening_hear o b r ask server t)
   keeps_heard o b None ask server t fact so looks = keeps_stay o fact (Reads b None) (so, looks)
   keeps_heard o b (Some r) ask server t fact so looks =
-      by_test (λ (d : Done). Keeps d) (can_ask o) (heard_with o b r o.groups ask server t) (stays o (Reads b (Some r)))
+      by_test (λ (d : Done). Keeps d) (can_ask o) (opening_read o b r o.groups ask server t) (stays o (Reads b (Some r)))
       (λ e. keeps_heard_with o b r o.groups ask server t fact so looks) (λ e. keeps_stay o fact (Reads b (Some r)) (so, looks))
 
   keeps_on_told : (o : Opening) (stage : Stage) (ask server : ℕ) (t : Told) → IsOpening o → ReadsLog log stage → Keeps (on_told o stage ask server t)
@@ -199,10 +199,10 @@ module _ (reach : Reach) (log : ℕ) where
   keeps_on_told o (Reads b r) ask server t fact st = keeps_heard o b r ask server t fact st.0 st.1
   keeps_on_told o Over ask server t fact st = keeps_stay o fact Over tt
 
-  again_tells : (o : Opening) (r : Option ReadingState) → AllByRecursion (ChainTells log) (asked_again o r)
+  again_tells : (o : Opening) (r : Option ReadingState) → AllByRecursion (ChainTells log) (opening_read_again o r)
   again_tells o None = (tt, tt)
   again_tells o (Some r) =
-      by_test (AllByRecursion (ChainTells log)) (is_asking r.stage) (fetches r) (out.Hello o.ask ∷ []) (λ t. fetches_tell r.target.seg.name r.ask (to_ask r))
+      by_test (AllByRecursion (ChainTells log)) (is_asking r.stage) (backward_fetch r) (out.Hello o.ask ∷ []) (λ t. fetches_tell r.target.seg.name r.ask (reading_unanswered r))
       (λ t. (tt, tt))
 
   tick_tells : (o : Opening) (stage : Stage) → AllByRecursion (ChainTells log) (on_tick o stage)
@@ -218,7 +218,7 @@ module _ (reach : Reach) (log : ℕ) where
   InputTells (Welcome ask news groups) = NewsReach news
   InputTells _ = Unit {0}
 
-  keeps_takes : (o : Opening) (stage : Stage) (input : In) → IsOpening o → ReadsLog log stage → InputTells input → Keeps (takes o stage input)
+  keeps_takes : (o : Opening) (stage : Stage) (input : In) → IsOpening o → ReadsLog log stage → InputTells input → Keeps (opening_take o stage input)
   keeps_takes o stage (Welcome ask news groups) fact st tells = keeps_on_welcome o stage ask news groups fact tells st
   keeps_takes o stage (Fenced server generation held) fact st tells =
       keeps_on_fenced o stage (record { server = server; generation = generation; held = held }) fact st

@@ -1,14 +1,14 @@
 -- What a client that serves holds, and tells managers, of its log was filed.
 use Rattle.std.proofs.Common.{◌≡◌, ◌≤◌, ℕ, ◌∙◌, subst, sym}
 use Rattle.client_call.specs.Reads.{reading_in}
-use Rattle.client_log.specs.Transition.{end_from}
+use Rattle.client_log.specs.Transition.{end_of}
 use Rattle.client_serving.specs.declared.serving.Serving.{Serving}
 use Rattle.client_serving.specs.Sends.{Done}
 use Rattle.node_moves.proofs.client_walk.Laws.{Walk, all_read, all_tell}
 use Rattle.token_client.specs.Transition as client
 use Rattle.xfs_base.specs.declared.node.NodeId.TheVariants.{Client}
 use Rattle.node_tellings.specs.filed_tie.Reach.{Reach}
-use Rattle.node_tellings.proofs.filed_tie.Feeds.{acknowledged_end, pushes_all_say, pushes_say, renewed_end, settled_end}
+use Rattle.node_tellings.proofs.filed_tie.Feeds.{acknowledged_end, push_all_say, pushes_say, renewed_end, settled_end}
 use Rattle.node_tellings.proofs.filed_tie.Frames as frames
 
 module _ (reach : Reach) (c : ℕ) where
@@ -48,7 +48,7 @@ module _ (reach : Reach) (c : ℕ) where
     acked = λ s slot applied h. record { own = h.own; end = h.end; feed = acknowledged_end (reach c) s.feed slot applied h.feed };
     renewed = λ s slot h. record { own = h.own; end = h.end; feed = renewed_end (reach c) s.feed slot h.feed };
     rests = λ s i same h. record { own = h.own; end = subst (λ e. e.seq ≤ reach c) (sym same) h.end; feed = h.feed };
-    landed = λ s f flew owed acted h. subst (λ k. (end_from f.segment).seq ≤ reach k) h.own acted;
+    landed = λ s f flew owed acted h. subst (λ k. (end_of f.segment).seq ≤ reach k) h.own acted;
     lands = λ s l rows filed h. record { own = h.own; end = filed; feed = h.feed };
     fed = λ s end rows filed h. record { own = h.own; end = h.end; feed = settled_end (reach c) s.feed end.seq rows h.feed filed };
     stores = λ fragment member. tt;
@@ -59,7 +59,7 @@ module _ (reach : Reach) (c : ℕ) where
     asks = λ inc ask. tt;
     reports = λ s slot epoch owed h. h.end;
     pushed = λ s slot h. pushes_say reach (Client c) s.managers s.feed h.feed slot;
-    all_pushed = λ s h. pushes_all_say reach (Client c) s.managers s.feed h.feed;
+    all_pushed = λ s h. push_all_say reach (Client c) s.managers s.feed h.feed;
     answers = λ item a. tt;
     loses = λ name. tt;
     has_read = λ node block ver value. tt;

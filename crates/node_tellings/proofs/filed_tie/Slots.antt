@@ -10,7 +10,7 @@ use Rattle.slot_beliefs.specs.Recalls.{applied_of, answers, noted, is_ready, rea
 use Rattle.token_manager.specs.declared.input.In.{In as Input}
 use Rattle.token_manager.specs.declared.input.In.TheVariants as input
 use Rattle.token_manager.specs.SlotState.{SlotState}
-use Rattle.token_manager.specs.Transition.{Done, has_turns, finished, finish, recalled, recall, recall_or_finish, is_dropped, on_want, given, gave_last, gave_one, gave_noted, gave_job, on_gave, finished_job, finished_at, with_deltas, apply, can_apply, apply_or_not, joins_on, told_applied, deltas_of, on_deltas, transition}
+use Rattle.token_manager.specs.Transition.{Done, has_turns, slot_finish, finish, recalled, recall, recall_or_finish, is_dropped, on_want, given, gave_last, gave_one, gave_noted, gave_job, on_gave, finished_job, finish_job, with_deltas, apply, can_apply, slot_apply, joins_on, told_applied, deltas_of, on_deltas, transition}
 use Rattle.xfs_base.proofs.Booleans.{by_test}
 use Rattle.xfs_base.specs.declared.block.BlockId.{BlockId}
 use Rattle.xfs_base.specs.declared.entry.Entry.{Entry}
@@ -32,7 +32,7 @@ module _ (b : Bounds) (laws : Bounding b) (k : ℕ) where
   -- ---- want and gave leave it
 
   finish_on : (s : SlotState) (want : Wanted) → StateBounded s → Goes (finish s want)
-  finish_on s want h = by_test Goes (has_turns s.turn 1) (finished s want) (still s) (λ _. h) (λ _. h)
+  finish_on s want h = by_test Goes (has_turns s.turn 1) (slot_finish s want) (still s) (λ _. h) (λ _. h)
 
   recall_on : (s : SlotState) (want : Wanted) (clients : List ℕ) → StateBounded s → Goes (recall_or_finish s want clients)
   recall_on s want clients h =
@@ -49,7 +49,7 @@ module _ (b : Bounds) (laws : Bounding b) (k : ℕ) where
   unfolding gave_noted
   noted_on s client block want awaited h =
       by_test Goes (is_ready s.applied awaited) (gave_last s client block want) (still (gave_one s client block want awaited))
-      (λ _. by_test Goes (has_turns s.turn 1) (finished (record (given s want client block) { jobs = without_job s.jobs block }) want) (still s) (λ _. h)
+      (λ _. by_test Goes (has_turns s.turn 1) (slot_finish (record (given s want client block) { jobs = without_job s.jobs block }) want) (still s) (λ _. h)
       (λ _. h))
       (λ _. h)
 
@@ -64,23 +64,23 @@ module _ (b : Bounds) (laws : Bounding b) (k : ℕ) where
 
   -- ---- deltas
 
-  finished_on : (s : SlotState) (block : BlockId) → StateBounded s → Goes (finished_at s block)
-  unfolding finished_at
+  finished_on : (s : SlotState) (block : BlockId) → StateBounded s → Goes (finish_job s block)
+  unfolding finish_job
   finished_on s block h = by (job_at s.jobs block)
     where
       by : (job : Option Job) → Goes (finished_job s block job)
       by None = h
       by (Some job) = h
 
-  each_finished : (s : SlotState) (blocks : List BlockId) → StateBounded s → Goes (steps finished_at s blocks)
+  each_finished : (s : SlotState) (blocks : List BlockId) → StateBounded s → Goes (steps finish_job s blocks)
   each_finished s [] h = h
-  each_finished s (block ∷ blocks) h = each_finished (finished_at s block).state blocks (finished_on s block h)
+  each_finished s (block ∷ blocks) h = each_finished (finish_job s block).state blocks (finished_on s block h)
 
   deltas_on : (s : SlotState) (log : LogId) (first upto : ℕ) (rows : List (BlockId × Entry)) → b.told (Some log) upto → StateBounded s
       → Goes (on_deltas s log first upto rows)
   deltas_on s log first upto rows told h =
       by_test Goes (is_followed log) (deltas_of s log first upto rows) (still s)
-      (λ followed. by_test Goes (joins_on (applied_of s.applied log.0) first upto) (apply_or_not s log upto rows) (told_applied s log)
+      (λ followed. by_test Goes (joins_on (applied_of s.applied log.0) first upto) (slot_apply s log upto rows) (told_applied s log)
       (λ joins. by_test Goes (can_apply s log upto rows) (apply s log upto rows) (still s)
       (λ _. each_finished (with_deltas s log upto rows) (ready_blocks s.jobs (applied_upto s.applied log upto))
       (laws.merges k s.epoch s.applied log first upto followed joins told h)) (λ _. h)) (λ _. h))

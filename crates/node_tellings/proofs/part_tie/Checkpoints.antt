@@ -17,8 +17,8 @@ use Rattle.group_map.specs.GroupMapState.{GroupMapState}
 use Rattle.log_owner.specs.Sending.{name_of}
 use Rattle.manager_slots.specs.Lasting.{log_of}
 use Rattle.manager_slots.specs.Numbers.{slot_after}
-use Rattle.manager_slots.specs.SlotTable.{next_active, begin_at, cleaned_at}
-use Rattle.manager_serving.specs.Checkpoints.{Done, gives, stored, awaiting, gives_parts, registers, asked, says, says_each, writer_takes, filed, on_settled, log_says, log_says_each, writes, on_stored, no_more, writes_slot, begins_slot, next_from, next_for, next_slot, waits, on_checkpoint, awaits, counted, answered_by, on_ckpt_ack, done_again, told_again, tells_again}
+use Rattle.manager_slots.specs.SlotTable.{next_active, begin_at, slot_table_clean}
+use Rattle.manager_serving.specs.Checkpoints.{Done, gives, checkpointing_store, await_answer, give_parts, register, asked, writer_says, writer_says_each, writer_takes, filed, on_settled, log_says, log_says_each, serving_write, on_stored, no_more, writes_slot, begin_slot, next_from, next_for, next_slot, waits, on_checkpoint, awaits, checkpointing_count, answered_by, on_ckpt_ack, send_done, checkpointing_tell_again, serving_tell_again}
 use Rattle.manager_serving.specs.declared.checkpointing.Checkpointing.{Checkpointing}
 use Rattle.manager_serving.specs.declared.serving.Serving.{Serving}
 use Rattle.node_base.specs.declared.effects.Effect.TheVariants.{Answer as Answers}
@@ -91,24 +91,24 @@ module _ (known : Known) (acts : List Act) (its_number : ℕ) (log_id : LogId) w
   abbrev pub Tells : Done → Type 0
   Tells d = LeavesIf (Acted acts) Plain (Says known) d
 
-  one_stored : (o : LogOut) → AllSay known (stored o)
-  unfolding stored
+  one_stored : (o : LogOut) → AllSay known (checkpointing_store o)
+  unfolding checkpointing_store
   one_stored (log_out.Send fragment member) = (tt, tt)
   one_stored (log_out.Settled end rows) = tt
 
-  parts_on : (s : Serving) (items : List Item) → Plain s → Goes (gives_parts s items)
-  unfolding gives_parts
+  parts_on : (s : Serving) (items : List Item) → Plain s → Goes (give_parts s items)
+  unfolding give_parts
   parts_on s items h = record {
     state = record { slots = h.slots; work = h.work; own = h.own; its = h.its; done = h.done; more = tt };
-    outs = all_flat_map (Says known) stored one_stored (log.transition s.log (log_input.Parts items)).outs;
+    outs = all_flat_map (Says known) checkpointing_store one_stored (log.transition s.log (log_input.Parts items)).outs;
   }
 
-  awaits_done : (m : CkptDone) → DoneNames known m → (job : Option Checkpointing) → IfSome (awaiting m job) (JobNames known)
+  awaits_done : (m : CkptDone) → DoneNames known m → (job : Option Checkpointing) → IfSome (await_answer m job) (JobNames known)
   awaits_done m fact None = tt
   awaits_done m fact (Some job) = fact
 
-  registers_on : (s : Serving) (m : CkptDone) → DoneNames known m → Plain s → Goes (registers s m)
-  unfolding registers
+  registers_on : (s : Serving) (m : CkptDone) → DoneNames known m → Plain s → Goes (register s m)
+  unfolding register
   registers_on s m fact h = record {
     state = record {
       slots = table_named known s.slots m.slot m.epoch m.parts fact h.slots;
@@ -121,8 +121,8 @@ module _ (known : Known) (acts : List Act) (its_number : ℕ) (log_id : LogId) w
     outs = (fact, tt);
   }
 
-  says_on : (s : Serving) (o : Out) → Plain s → OutSo law o → Goes (says s o)
-  unfolding says
+  says_on : (s : Serving) (o : Out) → Plain s → OutSo law o → Goes (writer_says s o)
+  unfolding writer_says
   says_on s (out.Parts items) h fact = parts_on s items h
   says_on s (out.Done slot epoch parts horizon) h fact =
       registers_on (asked s) _ fact (record { slots = h.slots; work = h.work; own = h.own; its = h.its; done = h.done; more = tt })
@@ -130,11 +130,11 @@ module _ (known : Known) (acts : List Act) (its_number : ℕ) (log_id : LogId) w
   says_on s (out.Stale epoch) h fact = record { state = h; outs = tt }
 
   writer_on : (s : Serving) (given : WriterIn) → Plain s → GivenSo law log_id given → Goes (writer_takes s given)
-  unfolding writer_takes says_each
+  unfolding writer_takes writer_says_each
   writer_on s given h fact =
       let d = writer_goes law log_id s.writer given (h.work, h.own) fact in
       let after = d.state in
-      leaves_each Plain (Says known) (OutSo law) says says_on (record s { writer = (writer.transition s.writer given).state })
+      leaves_each Plain (Says known) (OutSo law) writer_says says_on (record s { writer = (writer.transition s.writer given).state })
       (writer.transition s.writer given).outs (record { slots = h.slots; work = after.0; own = after.1; its = h.its; done = h.done; more = tt }) d.outs
 
   -- ---- the log of checkpoints
@@ -153,17 +153,17 @@ module _ (known : Known) (acts : List Act) (its_number : ℕ) (log_id : LogId) w
   log_says_on s (log_out.Settled end rows) h fact acted = settles_on s end h fact acted
 
   writes_on : (s : Serving) (given : LogIn) → Plain s → AllByRecursion (LogOutNames known acts its_number log_id) (log.transition s.log given).outs
-      → Tells (writes s given)
-  unfolding writes log_says_each
+      → Tells (serving_write s given)
+  unfolding serving_write log_says_each
   writes_on s given h names acted =
       leaves_each-if (Acted acts) Plain (Says known) (LogOutNames known acts its_number log_id) log_says log_says_on
       (record s { log = (log.transition s.log given).state })
       (log.transition s.log given).outs (record { slots = h.slots; work = h.work; own = h.own; its = h.its; done = h.done; more = tt }) names acted
 
-  pub maps_on : (s : Serving) (groups : GroupMapState) → Flies s → Tells (writes s (log_input.Maps groups))
+  pub maps_on : (s : Serving) (groups : GroupMapState) → Flies s → Tells (serving_write s (log_input.Maps groups))
   maps_on s groups h = writes_on s (log_input.Maps groups) (plainly s h) (maps_names known acts its_number log_id s.log groups h.more)
 
-  pub ticks_on : (s : Serving) → Flies s → Tells (writes s log_input.Tick)
+  pub ticks_on : (s : Serving) → Flies s → Tells (serving_write s log_input.Tick)
   ticks_on s h = writes_on s log_input.Tick (plainly s h) (tick_names known acts its_number log_id s.log)
 
   pub stored_on : (s : Serving) (m : Stored) → Flies s → Tells (on_stored s m)
@@ -185,10 +185,10 @@ module _ (known : Known) (acts : List Act) (its_number : ℕ) (log_id : LogId) w
   writes_slot-on s (Some (writer_in.Settled end)) h fact = absurd fact
   writes_slot-on s (Some (writer_in.Ack epoch number)) h fact = absurd fact
 
-  begins_on : (s : Serving) (slot : ℕ) → Plain s → Goes (begins_slot s slot)
-  unfolding begins_slot
+  begins_on : (s : Serving) (slot : ℕ) → Plain s → Goes (begin_slot s slot)
+  unfolding begin_slot
   begins_on s slot h =
-      writes_slot-on (record s { slots = cleaned_at s.slots slot }) (begin_at s.slots slot)
+      writes_slot-on (record s { slots = slot_table_clean s.slots slot }) (begin_at s.slots slot)
       (record { slots = table_cleaned known s.slots slot h.slots; work = h.work; own = h.own; its = h.its; done = h.done; more = tt })
       (begin_names known s.slots slot h.slots)
 
@@ -215,8 +215,8 @@ module _ (known : Known) (acts : List Act) (its_number : ℕ) (log_id : LogId) w
       (λ _. record { state = h; outs = (tt, tt) })
       (λ _. next_on (waits s number) (record { slots = h.slots; work = h.work; own = h.own; its = h.its; done = tt; more = tt }))
 
-  one_counted : (job : Option Checkpointing) (o : Out) → IfSome job (JobNames known) → IfSome (counted job o) (JobNames known)
-  unfolding counted
+  one_counted : (job : Option Checkpointing) (o : Out) → IfSome job (JobNames known) → IfSome (checkpointing_count job o) (JobNames known)
+  unfolding checkpointing_count
   one_counted None out.Kept fact = tt
   one_counted (Some job) out.Kept fact = tt
   one_counted None (out.Stale epoch) fact = tt
@@ -224,16 +224,16 @@ module _ (known : Known) (acts : List Act) (its_number : ℕ) (log_id : LogId) w
   one_counted job (out.Parts items) fact = fact
   one_counted job (out.Done slot epoch parts horizon) fact = fact
 
-  all_counted : (job : Option Checkpointing) (outs : List Out) → IfSome job (JobNames known) → IfSome (fold counted job outs) (JobNames known)
+  all_counted : (job : Option Checkpointing) (outs : List Out) → IfSome job (JobNames known) → IfSome (fold checkpointing_count job outs) (JobNames known)
   all_counted job [] fact = fact
-  all_counted job (o ∷ outs) fact = all_counted (counted job o) outs (one_counted job o fact)
+  all_counted job (o ∷ outs) fact = all_counted (checkpointing_count job o) outs (one_counted job o fact)
 
   answered_on : (s : Serving) (r : Stepped WriterState Out) → Plain s → WriterStands law log_id r.state → Goes (answered_by s r)
   answered_on s r h left =
       by_test Goes (length r.outs == 0) (still (record s { writer = r.state }))
-      (next_slot (record s { writer = r.state; checkpoint = fold counted s.checkpoint r.outs }))
+      (next_slot (record s { writer = r.state; checkpoint = fold checkpointing_count s.checkpoint r.outs }))
       (λ _. record { state = record { slots = h.slots; work = left.0; own = left.1; its = h.its; done = h.done; more = tt }; outs = tt })
-      (λ _. next_on (record s { writer = r.state; checkpoint = fold counted s.checkpoint r.outs })
+      (λ _. next_on (record s { writer = r.state; checkpoint = fold checkpointing_count s.checkpoint r.outs })
       (record { slots = h.slots; work = left.0; own = left.1; its = h.its; done = all_counted s.checkpoint r.outs h.done; more = tt }))
 
   pub acks_on : (s : Serving) (ack : CkptAck) → Plain s → Goes (on_ckpt_ack s ack)
@@ -244,14 +244,14 @@ module _ (known : Known) (acts : List Act) (its_number : ℕ) (log_id : LogId) w
       (let d = writer_goes law log_id s.writer (writer_in.Ack ack.epoch s.dones) (h.work, h.own) tt in d.state))
       (λ _. record { state = h; outs = tt })
 
-  pub tells_on : (s : Serving) → Plain s → Goes (tells_again s)
-  unfolding tells_again
+  pub tells_on : (s : Serving) → Plain s → Goes (serving_tell_again s)
+  unfolding serving_tell_again
   tells_on s h = record { state = h; outs = by s.checkpoint h.done }
     where
-      by_done : (done : Option CkptDone) → IfSome done (DoneNames known) → AllSay known (done_again done)
+      by_done : (done : Option CkptDone) → IfSome done (DoneNames known) → AllSay known (send_done done)
       by_done None fact = tt
       by_done (Some done) fact = (fact, tt)
 
-      by : (checkpoint : Option Checkpointing) → IfSome checkpoint (JobNames known) → AllSay known (told_again checkpoint)
+      by : (checkpoint : Option Checkpointing) → IfSome checkpoint (JobNames known) → AllSay known (checkpointing_tell_again checkpoint)
       by None fact = tt
       by (Some job) fact = by_done job.done fact

@@ -6,14 +6,14 @@ use Rattle.checkpoint.specs.Transition.{part_at}
 use Rattle.client_log.specs.declared.output.Out.{Out}
 use Rattle.client_log.specs.declared.output.Out.TheVariants.{Send, Settled}
 use Rattle.client_log.specs.LogState.{LogState}
-use Rattle.client_log.specs.Transition.{Done, all_sends, can_follow, end_from, followed, if_full, is_full, landed, launched, looked_at, on_acked, on_maps, on_tick, restriped, sealed, send_at, sends, settled}
+use Rattle.client_log.specs.Transition.{Done, sending_send, can_follow, end_of, followed, log_go_on, is_full, landed, log_launch, looked_at, on_acked, on_maps, on_tick, restriped, log_seal, send_at, sends, settled}
 use Rattle.group_map.specs.declared.group.Member.{Member}
 use Rattle.group_map.specs.GroupMapState.{GroupMapState}
 use Rattle.log_flight.specs.declared.flight.Fate.{Fate}
 use Rattle.log_flight.specs.declared.flight.Fate.TheVariants.{Restripe, Settle, Wait}
 use Rattle.log_flight.specs.Fate.{fate_of}
-use Rattle.log_flight.specs.Flights.{FlightState, flown, group_for, is_noted, is_of, noting}
-use Rattle.log_flight.specs.Fragments.{piece}
+use Rattle.log_flight.specs.Flights.{FlightState, flown, group_for, is_noted, is_of, flight_note}
+use Rattle.log_flight.specs.Fragments.{flight_fragment}
 use Rattle.log_owner.specs.Sending.{name_of}
 use Rattle.manager_slots.specs.Lasting.{log_of}
 use Rattle.segment_format.specs.declared.segment.Item.{Item}
@@ -41,7 +41,7 @@ module _ (known : Known) (acts : List Act) (its_number : ℕ) (log : LogId) wher
   OutNames (Settled end rows) = FiledKnown end
 
   abbrev Flown : FlightState → Type 0
-  Flown f = FiledKnown (end_from f.segment)
+  Flown f = FiledKnown (end_of f.segment)
 
   abbrev GivesSo : Done → Type 0
   GivesSo d = AllByRecursion OutNames d.outs
@@ -50,28 +50,28 @@ module _ (known : Known) (acts : List Act) (its_number : ℕ) (log : LogId) wher
   some_sends f [] place = tt
   some_sends f (m ∷ ms) place =
       all_append OutNames (send_at f m place) (sends f ms (place + 1))
-      (by_test (AllByRecursion OutNames) (is_noted f.noted place) [] (Send (piece f.segment f.group place) m ∷ []) (λ _. tt) (λ _. (tt, tt)))
+      (by_test (AllByRecursion OutNames) (is_noted f.noted place) [] (Send (flight_fragment f.segment f.group place) m ∷ []) (λ _. tt) (λ _. (tt, tt)))
       (some_sends f ms (place + 1))
 
-  sends_all : (f : FlightState) → AllByRecursion OutNames (all_sends f)
-  unfolding all_sends
+  sends_all : (f : FlightState) → AllByRecursion OutNames (sending_send f)
+  unfolding sending_send
   sends_all f = some_sends f f.group.members 0
 
-  launches : (s : LogState) (name : SegName) (prior : Prior) (items : List Item) → GivesSo (launched s name prior items)
-  unfolding launched
+  launches : (s : LogState) (name : SegName) (prior : Prior) (items : List Item) → GivesSo (log_launch s name prior items)
+  unfolding log_launch
   launches s name prior items = sends_all (flown name prior items (group_for s.groups s.log.0 name.seq))
 
-  seals : (s : LogState) → GivesSo (sealed s)
-  unfolding sealed
+  seals : (s : LogState) → GivesSo (log_seal s)
+  unfolding log_seal
   seals s = launches _ _ _ _
 
-  fills : (s : LogState) → GivesSo (if_full s)
-  unfolding if_full
-  fills s = by_test GivesSo (is_full s) (sealed s) (still s) (λ _. seals s) (λ _. tt)
+  fills : (s : LogState) → GivesSo (log_go_on s)
+  unfolding log_go_on
+  fills s = by_test GivesSo (is_full s) (log_seal s) (still s) (λ _. seals s) (λ _. tt)
 
   settles : (s : LogState) (f : FlightState) → Flown f → GivesSo (settled s f)
   unfolding settled
-  settles s f fact = all_append OutNames (Settled (end_from f.segment) (rows_of f.segment) ∷ []) (if_full (landed s f)).outs (fact, tt) (fills (landed s f))
+  settles s f fact = all_append OutNames (Settled (end_of f.segment) (rows_of f.segment) ∷ []) (log_go_on (landed s f)).outs (fact, tt) (fills (landed s f))
 
   follows : (s : LogState) (f : FlightState) (fate : Fate) → Flown f → GivesSo (followed s f fate)
   unfolding restriped
@@ -91,10 +91,10 @@ module _ (known : Known) (acts : List Act) (its_number : ℕ) (log : LogId) wher
   acked_names s name index generation flies = by s.flight refl
     where
       by : (o : Option FlightState) → s.flight ≡ o
-          → GivesSo (elim o [ None ↦ still s | Some f ↦ cond (is_of f name index generation) (looked_at s s (noting f index)) (still s) ])
+          → GivesSo (elim o [ None ↦ still s | Some f ↦ cond (is_of f name index generation) (looked_at s s (flight_note f index)) (still s) ])
       by None fact = tt
       by (Some f) fact =
-          by_test GivesSo (is_of f name index generation) (looked_at s s (noting f index)) (still s) (λ _. looks s s (noting f index) (flies f fact)) (λ _. tt)
+          by_test GivesSo (is_of f name index generation) (looked_at s s (flight_note f index)) (still s) (λ _. looks s s (flight_note f index) (flies f fact)) (λ _. tt)
 
   pub maps_names : (s : LogState) (groups : GroupMapState) → FlightNames known acts its_number log s → GivesSo (on_maps s groups)
   unfolding on_maps
@@ -109,6 +109,6 @@ module _ (known : Known) (acts : List Act) (its_number : ℕ) (log : LogId) wher
   unfolding on_tick
   tick_names s = by s.flight
     where
-      by : (o : Option FlightState) → GivesSo (elim o [ None ↦ still s | Some f ↦ record { state = s; outs = all_sends f } ])
+      by : (o : Option FlightState) → GivesSo (elim o [ None ↦ still s | Some f ↦ record { state = s; outs = sending_send f } ])
       by None = tt
       by (Some f) = sends_all f

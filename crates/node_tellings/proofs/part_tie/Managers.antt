@@ -3,12 +3,12 @@ use Rattle.std.proofs.Common.{◌≡◌, ℕ, ◌==◌, List, refl}
 use Rattle.std.specs.Prelude.{Option, Some, None, IfSome}
 use Rattle.std.specs.List.{AllByRecursion}
 use Rattle.checkpoint.specs.WriterState.{WorkState}
-use Rattle.manager_map.specs.Slots.{start_entries, entry_at}
+use Rattle.manager_map.specs.Slots.{manager_map_start, entry_at}
 use Rattle.manager_node.specs.declared.manager.Manager.{Manager}
 use Rattle.manager_node.specs.declared.phase.Phase.{Phase}
 use Rattle.manager_node.specs.declared.phase.Phase.TheVariants.{Down, Waiting, Serving as Serves}
-use Rattle.manager_node.specs.Events.{first_manager, manager_step, takes_welcome, on_welcome, on_waiting, on_packet, on_deliver, on_time, on_event, happens}
-use Rattle.manager_node.specs.Phases.{Went_to, lasting_of, phase_has_room, serves, restarts, with_begun, begin_serving, on_begin}
+use Rattle.manager_node.specs.Events.{manager_start, manager_step, takes_welcome, on_welcome, on_waiting, on_packet, manager_deliver, on_time, on_event, happens}
+use Rattle.manager_node.specs.Phases.{Went_to, lasting_of, phase_has_room, serves, restart, with_begun, begin_serving, on_begin}
 use Rattle.manager_slots.specs.declared.lasting.Lasting.{Lasting as Life}
 use Rattle.manager_slots.specs.declared.slot_phase.SlotPhase.{SlotPhase}
 use Rattle.manager_slots.specs.declared.slot_phase.SlotPhase.TheVariants as phase
@@ -16,7 +16,7 @@ use Rattle.manager_slots.specs.Slots.{first_active}
 use Rattle.manager_slots.specs.SlotTable.{first_phase}
 use Rattle.manager_serving.specs.Checkpoints.{Done, on_checkpoint}
 use Rattle.manager_serving.specs.declared.serving.Serving.{Serving}
-use Rattle.manager_serving.specs.Serving.{again, hears, on_news, on_tick}
+use Rattle.manager_serving.specs.Serving.{again, serving_hear, on_news, on_tick}
 use Rattle.node_base.specs.declared.peers.Peers.{Peers}
 use Rattle.node_base.specs.Maps.{forgotten}
 use Rattle.node_base.specs.Shape.{is_well_formed}
@@ -52,16 +52,16 @@ use Rattle.node_tellings.proofs.part_tie.Serving.{news_on, packet_on, tick_on}
 
 -- ---- the start
 
-pub first_names : (known : Known) (number : ℕ) (setup : Setup) (works : List Work) → ManagerNames known (first_manager number setup works)
+pub first_names : (known : Known) (number : ℕ) (setup : Setup) (works : List Work) → ManagerNames known (manager_start number setup works)
 first_names known number setup works = record {
   slots = (one 0, (one 1, (one 2, (one 3, (one 4, (one 5, (one 6, (one 7, tt))))))));
   work = tt;
   done = tt;
 }
   where
-    one : (slot : ℕ) → SlotNames known (first_phase number (start_entries setup.managers) slot)
+    one : (slot : ℕ) → SlotNames known (first_phase number (manager_map_start setup.managers) slot)
     one slot =
-        by_test (SlotNames known) ((entry_at (start_entries setup.managers) (slot_of slot)).manager == number) first_active (phase.Away 1)
+        by_test (SlotNames known) ((entry_at (manager_map_start setup.managers) (slot_of slot)).manager == number) first_active (phase.Away 1)
         (λ _. tt) (λ _. tt)
 
 -- ---- the events
@@ -90,8 +90,8 @@ module _ (known : Known) (acts : List Act) where
 
   -- ---- the next item
 
-  greets : (life : Life) (number : ℕ) → AllByRecursion (Says known) (restarts life number).outs
-  unfolding restarts
+  greets : (life : Life) (number : ℕ) → AllByRecursion (Says known) (restart life number).outs
+  unfolding restart
   greets life number = (tt, (tt, tt))
 
   serving_on : (s : Serving) → ServingNames known s → Goes (begin_serving s)
@@ -143,12 +143,12 @@ module _ (known : Known) (acts : List Act) where
   packet_goes peers (Down life) packet h fact flies = λ acted. record { state = tt; outs = tt }
   packet_goes peers (Waiting life hello) packet h fact flies = awaited_on peers life hello packet.body fact
   packet_goes peers (Serves s) packet h fact flies =
-      serving-if (hears s peers.clients packet) s.lasting.number s.writer.log
+      serving-if (serving_hear s peers.clients packet) s.lasting.number s.writer.log
       (packet_on known acts s.lasting.number s.writer.log s peers.clients packet (held s h flies) fact)
 
   deliver_goes : (peers : Peers) (p : Phase) (packet : Packet) → PhaseNames known p → PacketNames known packet → PhaseFlies known acts p
-      → Tells (on_deliver peers p packet)
-  unfolding on_deliver
+      → Tells (manager_deliver peers p packet)
+  unfolding manager_deliver
   deliver_goes peers p packet h fact flies =
       by_test Tells (is_well_formed peers packet) (on_packet peers p packet) (still p) (λ _. packet_goes peers p packet h fact flies) (λ _ acted. unmoved p h)
 

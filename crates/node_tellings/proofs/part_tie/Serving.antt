@@ -6,11 +6,11 @@ use Rattle.client_log.specs.declared.input.In.TheVariants as log_input
 use Rattle.group_map.specs.GroupMapState.{GroupMapState}
 use Rattle.log_owner.specs.Sending.{server_in}
 use Rattle.manager_slots.specs.SlotTable as table
-use Rattle.manager_serving.specs.Checkpoints.{Done, writes, tells_again}
+use Rattle.manager_serving.specs.Checkpoints.{Done, serving_write, serving_tell_again}
 use Rattle.manager_serving.specs.declared.serving.Serving.{Serving}
-use Rattle.manager_serving.specs.Serving.{and_then, asker_of, fetch_of, with_slots, with_asker, client_in, fed_log, on_want, on_gave, on_deltas, on_check, on_usage_ask, takes, on_report, answered_by, on_found, on_missing, regroups, hearer_of, hears_with, hears_slots, on_newer, on_news, on_fitting_news, asks_for_maps, on_body, hears, recalls_again, asks_again, on_tick}
-use Rattle.node_base.specs.Known.{names_known}
-use Rattle.node_base.specs.Maps.{fits, is_older, taken}
+use Rattle.manager_serving.specs.Serving.{and_then, asker_of, fetch_of, with_slots, with_asker, client_in, fed_log, on_want, on_gave, on_deltas, on_check, on_usage_ask, serving_take, on_report, answered_by, on_found, on_missing, regroups, hearer_of, hears_with, hear_slots, on_newer, on_news, on_fitting_news, ask_for_maps, on_body, serving_hear, recalls_again, serving_ask_again, on_tick}
+use Rattle.node_base.specs.Known.{names_known_groups}
+use Rattle.node_base.specs.Maps.{fits, is_older, maps_take}
 use Rattle.takeover.specs.declared.input.In.{In as TakeIn}
 use Rattle.takeover.specs.declared.input.In.TheVariants as take_in
 use Rattle.version_model.specs.declared.act.Act.{Act}
@@ -87,9 +87,9 @@ module _ (known : Known) (acts : List Act) (its_number : ℕ) (log_id : LogId) w
 
     -- ---- takeovers
 
-    take_on : (s : Serving) (k : ℕ) (given : TakeIn) → At s → Does (takes s k given)
-    unfolding takes
-    take_on s k given h = by_asker s (table.takes (asker_of s) k given) h (table_takes known (asker_of s) k given h.slots)
+    take_on : (s : Serving) (k : ℕ) (given : TakeIn) → At s → Does (serving_take s k given)
+    unfolding serving_take
+    take_on s k given h = by_asker s (table.slot_table_take (asker_of s) k given) h (table_takes known (asker_of s) k given h.slots)
 
     report_on : (s : Serving) (from : NodeId) (report : Report) → At s → Does (on_report s from report)
     unfolding on_report
@@ -113,27 +113,27 @@ module _ (known : Known) (acts : List Act) (its_number : ℕ) (log_id : LogId) w
 
     regroups_on : (s : Serving) (groups : GroupMapState) → At s → Does (regroups s groups)
     unfolding regroups
-    regroups_on s groups h = by_asker s (table.regroups_all groups (asker_of s)) h (table_regroups known groups (asker_of s) h.slots)
+    regroups_on s groups h = by_asker s (table.slot_table_regroup groups (asker_of s)) h (table_regroups known groups (asker_of s) h.slots)
 
-    slots_on : (s : Serving) (clients : ℕ) (slots : List SlotNews) → AllByRecursion (NewsNames known) slots → At s → Does (hears_slots s clients slots)
-    unfolding hears_slots
+    slots_on : (s : Serving) (clients : ℕ) (slots : List SlotNews) → AllByRecursion (NewsNames known) slots → At s → Does (hear_slots s clients slots)
+    unfolding hear_slots
     slots_on s clients slots names h = by s.maps.groups
       where
         by : (groups : Option GroupMapState) → Does (hears_with s clients slots groups)
         by None = unmoved s h
         by (Some groups) =
-            by_asker s (table.hears_all (hearer_of s clients groups) (asker_of s) slots) h
+            by_asker s (table.hear_each (hearer_of s clients groups) (asker_of s) slots) h
             (table_hears known (hearer_of s clients groups) (asker_of s) slots names h.slots)
 
     -- ---- time
 
     recalls_on : (s : Serving) → At s → Does (recalls_again s)
     unfolding recalls_again
-    recalls_on s h = by_table s (table.recalls_all s.slots) h (table_recalls known s.slots h.slots)
+    recalls_on s h = by_table s (table.recall_again s.slots) h (table_recalls known s.slots h.slots)
 
-    asks_on : (s : Serving) (polls : Bool) → At s → Does (asks_again s polls)
-    unfolding asks_again
-    asks_on s polls h = by_asker s (table.asks_all polls (asker_of s)) h (table_asks known polls (asker_of s) h.slots)
+    asks_on : (s : Serving) (polls : Bool) → At s → Does (serving_ask_again s polls)
+    unfolding serving_ask_again
+    asks_on s polls h = by_asker s (table.slot_table_ask_again polls (asker_of s)) h (table_asks known polls (asker_of s) h.slots)
 
   -- ---- one after the other
 
@@ -169,18 +169,18 @@ module _ (known : Known) (acts : List Act) (its_number : ℕ) (log_id : LogId) w
   newer_on : (s : Serving) (clients : ℕ) (news : News) → AllByRecursion (NewsNames known) news.slots → Before s → After (on_newer s clients news)
   unfolding on_newer
   newer_on s clients news names h =
-      then_goes-if Before Then (and_then (regroups s news.groups) (λ t. hears_slots t clients news.slots)) (λ t. writes t (log_input.Maps news.groups))
-      (λ acted. then_goes Before Before (regroups s news.groups) (λ t. hears_slots t clients news.slots) (regroups_on Flown s news.groups h)
+      then_goes-if Before Then (and_then (regroups s news.groups) (λ t. hear_slots t clients news.slots)) (λ t. serving_write t (log_input.Maps news.groups))
+      (λ acted. then_goes Before Before (regroups s news.groups) (λ t. hear_slots t clients news.slots) (regroups_on Flown s news.groups h)
       (λ t k. slots_on Flown t clients news.slots names k))
       (λ t k. maps_on known acts its_number log_id t news.groups k)
 
   pub news_on : (s : Serving) (clients : ℕ) (news : News) → AllByRecursion (NewsNames known) news.slots → Before s → After (on_news s clients news)
   unfolding on_news
   news_on s clients news names h =
-      by_test After (is_older s.maps news) (on_newer (record s { maps = taken s.maps news }) clients news) (hears_slots s clients news.slots)
-      (λ _. newer_on (record s { maps = taken s.maps news }) clients news names
+      by_test After (is_older s.maps news) (on_newer (record s { maps = maps_take s.maps news }) clients news) (hear_slots s clients news.slots)
+      (λ _. newer_on (record s { maps = maps_take s.maps news }) clients news names
       (record { slots = h.slots; work = h.work; own = h.own; its = h.its; done = h.done; more = h.more }))
-      (λ _. calmly (hears_slots s clients news.slots) (slots_on Flown s clients news.slots names h))
+      (λ _. calmly (hear_slots s clients news.slots) (slots_on Flown s clients news.slots names h))
 
   still_on : (s : Serving) → Before s → After (still s)
   still_on s h = calmly (still s) (unmoved Flown s h)
@@ -209,10 +209,10 @@ module _ (known : Known) (acts : List Act) (its_number : ℕ) (log_id : LogId) w
   body_on s clients from (body.CkptAck ack) h fact = λ acted. acks_on known acts its_number log_id s ack (plainly known acts its_number log_id s h)
   body_on s clients from _ h fact = still_on s h
 
-  pub packet_on : (s : Serving) (clients : ℕ) (packet : Packet) → Before s → BodyNames known packet.body → After (hears s clients packet)
-  unfolding hears asks_for_maps
+  pub packet_on : (s : Serving) (clients : ℕ) (packet : Packet) → Before s → BodyNames known packet.body → After (serving_hear s clients packet)
+  unfolding serving_hear ask_for_maps
   packet_on s clients packet h fact =
-      by_test After (names_known s.maps packet.body) (on_body s clients packet.from packet.body) (asks_for_maps s)
+      by_test After (names_known_groups s.maps packet.body) (on_body s clients packet.from packet.body) (ask_for_maps s)
       (λ _. body_on s clients packet.from packet.body h fact)
       (λ _ acted. record { state = record { slots = h.slots; work = h.work; own = h.own; its = h.its; done = h.done; more = tt }; outs = (tt, tt) })
 
@@ -222,11 +222,11 @@ module _ (known : Known) (acts : List Act) (its_number : ℕ) (log_id : LogId) w
   unfolding on_tick
   tick_on s h =
       then_goes-if Then Then
-      (and_then (and_then (and_then (recalls_again s) (λ t. asks_again t true)) (λ t. asks_again t false)) (λ t. writes t log_input.Tick))
-      tells_again
-      (then_goes-if Before Then (and_then (and_then (recalls_again s) (λ t. asks_again t true)) (λ t. asks_again t false)) (λ t. writes t log_input.Tick)
-      (λ acted. then_goes Before Before (and_then (recalls_again s) (λ t. asks_again t true)) (λ t. asks_again t false)
-      (then_goes Before Before (recalls_again s) (λ t. asks_again t true) (recalls_on Flown s h) (λ t k. asks_on Flown t true k))
+      (and_then (and_then (and_then (recalls_again s) (λ t. serving_ask_again t true)) (λ t. serving_ask_again t false)) (λ t. serving_write t log_input.Tick))
+      serving_tell_again
+      (then_goes-if Before Then (and_then (and_then (recalls_again s) (λ t. serving_ask_again t true)) (λ t. serving_ask_again t false)) (λ t. serving_write t log_input.Tick)
+      (λ acted. then_goes Before Before (and_then (recalls_again s) (λ t. serving_ask_again t true)) (λ t. serving_ask_again t false)
+      (then_goes Before Before (recalls_again s) (λ t. serving_ask_again t true) (recalls_on Flown s h) (λ t k. asks_on Flown t true k))
       (λ t k. asks_on Flown t false k))
       (λ t k. ticks_on known acts its_number log_id t k))
       (λ t k acted. tells_on known acts its_number log_id t k)

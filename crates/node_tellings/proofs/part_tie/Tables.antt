@@ -10,7 +10,7 @@ use Rattle.group_map.specs.GroupMapState.{GroupMapState}
 use Rattle.index_pages.specs.Pages.{PagesState, all_rows, changed_rows}
 use Rattle.manager_slots.specs.declared.slot_phase.SlotPhase.{SlotPhase}
 use Rattle.manager_slots.specs.declared.slot_phase.SlotPhase.TheVariants as phase
-use Rattle.manager_slots.specs.SlotTable.{Table, Done, TableAsker, Asks, Hearer, all_slots, in_slot, at_slot, on_want, on_gave, on_deltas, on_check, usage_in, on_usage_ask, recalls, recalls_all, in_taken, at_taken, takes, on_report, asks, asks_all, regroups, regroups_all, hears_of, hears, hears_all, begin_one, begin_at, cleaned_phase, named_phase, changed_in, cleaned_at, named_at}
+use Rattle.manager_slots.specs.SlotTable.{Table, Done, TableAsker, Asks, Hearer, all_slots, in_slot, at_slot, on_want, on_gave, on_deltas, on_check, usage_in, on_usage_ask, slot_table_recall, recall_again, in_taken, at_taken, slot_table_take, on_report, slot_table_ask, slot_table_ask_again, regroup_one, slot_table_regroup, hear_of, slot_table_hear, hear_each, begin_one, begin_at, phase_clean, phase_name, changed_in, slot_table_clean, slot_table_name}
 use Rattle.manager_slots.specs.Takeovers as takeovers
 use Rattle.manager_slots.specs.Takeovers.{Asker, asker}
 use Rattle.manager_slots.specs.Tokens as tokens
@@ -102,8 +102,8 @@ module _ (known : Known) where
       by None = tt
       by (Some p) = phase_tells_usage known p asked
 
-  one_recalls : (t : Table) (k : ℕ) → TableNames t → Unit {0} → TableGoes (recalls t k)
-  unfolding recalls
+  one_recalls : (t : Table) (k : ℕ) → TableNames t → Unit {0} → TableGoes (slot_table_recall t k)
+  unfolding slot_table_recall
   one_recalls t k h any = at_slot-goes t k (λ p. tokens.on_tick p k) (λ p here. phase_takes known p k slot_in.Tick here) h
 
   abbrev Any : ℕ → Type 0
@@ -112,8 +112,8 @@ module _ (known : Known) where
   any_slots : AllByRecursion Any all_slots
   any_slots = all_each Any (λ k. tt) all_slots
 
-  pub table_recalls : (t : Table) → TableNames t → TableGoes (recalls_all t)
-  table_recalls t h = leaves_each TableNames GivesSo Any recalls one_recalls t all_slots h any_slots
+  pub table_recalls : (t : Table) → TableNames t → TableGoes (recall_again t)
+  table_recalls t h = leaves_each TableNames GivesSo Any slot_table_recall one_recalls t all_slots h any_slots
 
   -- ---- takeovers
 
@@ -134,10 +134,10 @@ module _ (known : Known) where
           let d = one p at here in
           record { state = slot_put a.table k (event (asker p a.questions)).state.phase d.state h; outs = d.outs }
 
-  pub table_takes : (a : TableAsker) (k : ℕ) (given : TakeIn) → TableAskerNames a → TableAsks (takes a k given)
-  unfolding takes
+  pub table_takes : (a : TableAsker) (k : ℕ) (given : TakeIn) → TableAskerNames a → TableAsks (slot_table_take a k given)
+  unfolding slot_table_take
   table_takes a k given h =
-      at_taken-goes a k (λ one. takeovers.takes one k given) (λ p at here. asker_takes known (asker p a.questions) k given here) h
+      at_taken-goes a k (λ one. takeovers.takeovers_take one k given) (λ p at here. asker_takes known (asker p a.questions) k given here) h
 
   pub table_reports : (a : TableAsker) (from : NodeId) (report : Report) → TableAskerNames a → TableAsks (on_report a from report)
   unfolding on_report
@@ -145,28 +145,28 @@ module _ (known : Known) where
       at_taken-goes a report.slot (λ one. takeovers.on_report one from report)
       (λ p at here. asker_reports known (asker p a.questions) from report here) h
 
-  one_asks : (polls : Bool) (a : TableAsker) (k : ℕ) → TableAskerNames a → Any k → TableAsks (asks polls a k)
-  unfolding asks
+  one_asks : (polls : Bool) (a : TableAsker) (k : ℕ) → TableAskerNames a → Any k → TableAsks (slot_table_ask polls a k)
+  unfolding slot_table_ask
   one_asks polls a k h any =
-      at_taken-goes a k (λ one. takeovers.asks_again one k polls) (λ p at here. asker_asks known (asker p a.questions) k polls here) h
+      at_taken-goes a k (λ one. takeovers.takeovers_ask_again one k polls) (λ p at here. asker_asks known (asker p a.questions) k polls here) h
 
-  pub table_asks : (polls : Bool) (a : TableAsker) → TableAskerNames a → TableAsks (asks_all polls a)
-  table_asks polls a h = leaves_each TableAskerNames GivesSo Any (asks polls) (one_asks polls) a all_slots h any_slots
+  pub table_asks : (polls : Bool) (a : TableAsker) → TableAskerNames a → TableAsks (slot_table_ask_again polls a)
+  table_asks polls a h = leaves_each TableAskerNames GivesSo Any (slot_table_ask polls) (one_asks polls) a all_slots h any_slots
 
-  one_regroups : (groups : GroupMapState) (a : TableAsker) (k : ℕ) → TableAskerNames a → Any k → TableAsks (regroups groups a k)
+  one_regroups : (groups : GroupMapState) (a : TableAsker) (k : ℕ) → TableAskerNames a → Any k → TableAsks (regroup_one groups a k)
   one_regroups groups a k h any = table_takes a k (take_in.Maps groups) h
 
-  pub table_regroups : (groups : GroupMapState) (a : TableAsker) → TableAskerNames a → TableAsks (regroups_all groups a)
-  table_regroups groups a h = leaves_each TableAskerNames GivesSo Any (regroups groups) (one_regroups groups) a all_slots h any_slots
+  pub table_regroups : (groups : GroupMapState) (a : TableAsker) → TableAskerNames a → TableAsks (slot_table_regroup groups a)
+  table_regroups groups a h = leaves_each TableAskerNames GivesSo Any (regroup_one groups) (one_regroups groups) a all_slots h any_slots
 
-  one_hears : (h : Hearer) (a : TableAsker) (news : SlotNews) → TableAskerNames a → NewsNames known news → TableAsks (hears h a news)
-  unfolding hears
+  one_hears : (h : Hearer) (a : TableAsker) (news : SlotNews) → TableAskerNames a → NewsNames known news → TableAsks (slot_table_hear h a news)
+  unfolding slot_table_hear
   one_hears h a news before names =
-      at_taken-goes a news.slot (hears_of h news) (λ p at here. asker_hears known h news (asker p a.questions) names here) before
+      at_taken-goes a news.slot (hear_of h news) (λ p at here. asker_hears known h news (asker p a.questions) names here) before
 
   pub table_hears : (h : Hearer) (a : TableAsker) (slots : List SlotNews) → AllByRecursion (NewsNames known) slots → TableAskerNames a
-      → TableAsks (hears_all h a slots)
-  table_hears h a slots names before = leaves_each TableAskerNames GivesSo (NewsNames known) (hears h) (one_hears h) a slots before names
+      → TableAsks (hear_each h a slots)
+  table_hears h a slots names before = leaves_each TableAskerNames GivesSo (NewsNames known) (slot_table_hear h) (one_hears h) a slots before names
 
   -- ---- checkpoints
 
@@ -178,13 +178,13 @@ module _ (known : Known) where
       by None here = h
       by (Some p) here = slot_put t k (change p) (one p here) h
 
-  pub table_cleaned : (t : Table) (k : ℕ) → TableNames t → TableNames (cleaned_at t k)
-  unfolding cleaned_at
-  table_cleaned t k h = changes t k cleaned_phase (cleaned_names known) h
+  pub table_cleaned : (t : Table) (k : ℕ) → TableNames t → TableNames (slot_table_clean t k)
+  unfolding slot_table_clean
+  table_cleaned t k h = changes t k phase_clean (cleaned_names known) h
 
-  pub table_named : (t : Table) (k epoch : ℕ) (parts : List SegRef) → AllKnown known parts → TableNames t → TableNames (named_at t k epoch parts)
-  unfolding named_at
-  table_named t k epoch parts all h = changes t k (named_phase epoch parts) (named_names known epoch parts all) h
+  pub table_named : (t : Table) (k epoch : ℕ) (parts : List SegRef) → AllKnown known parts → TableNames t → TableNames (slot_table_name t k epoch parts)
+  unfolding slot_table_name
+  table_named t k epoch parts all h = changes t k (phase_name epoch parts) (named_names known epoch parts all) h
 
   -- the parts that a checkpoint that is begun names again
   abbrev pub BeginNames : WriterIn → Type 0

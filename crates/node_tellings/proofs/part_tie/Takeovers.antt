@@ -6,7 +6,7 @@ use Rattle.takeover.specs.declared.input.In.TheVariants as input
 use Rattle.takeover.specs.declared.report.Report.{Report}
 use Rattle.takeover.specs.Sources.{sources_of}
 use Rattle.takeover.specs.TakeState.{TakeState}
-use Rattle.takeover.specs.Transition.{Done, awaited, awaits, begun_if_all, can_ask, go_on, on_report, transition}
+use Rattle.takeover.specs.Transition.{Done, awaited, awaits, begin_if_all, can_ask, go_on, on_report, transition}
 use Rattle.xfs_base.proofs.Booleans.{by_test}
 use Rattle.xfs_base.specs.Steps.{still}
 use Rattle.node_tellings.proofs.part_tie.Same.{go_on_same, maps_same, told_same}
@@ -14,7 +14,7 @@ use Rattle.node_tellings.proofs.part_tie.Same.{go_on_same, maps_same, told_same}
 report_same : (s : TakeState) (report : Report) → (on_report s report).state.news ≡ s.news
 unfolding on_report
 report_same s report =
-    by_test (λ (d : Done). d.state.news ≡ s.news) (can_ask s && awaits s report.from) (begun_if_all heard) (still s)
+    by_test (λ (d : Done). d.state.news ≡ s.news) (can_ask s && awaits s report.from) (begin_if_all heard) (still s)
     (λ _. by_test (λ (d : Done). d.state.news ≡ s.news) (length (awaited heard) == 0) (go_on all) (still heard) (λ _. (go_on_same all).0) (λ _. refl))
     (λ _. refl)
   where

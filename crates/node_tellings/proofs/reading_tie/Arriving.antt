@@ -2,7 +2,7 @@
 use Rattle.std.proofs.Common.{◌≡◌, ℕ, List, Option, Some, None, refl, sym, subst}
 use Rattle.log_owner.specs.Sending.{server_in}
 use Rattle.node_base.specs.declared.maps.Maps.{Maps}
-use Rattle.node_base.specs.Maps.{is_older, taken}
+use Rattle.node_base.specs.Maps.{is_older, maps_take}
 use Rattle.stripe_code.specs.declared.round.Told.{Told as Answered}
 use Rattle.stripe_code.specs.declared.round.Told.TheVariants.{Held, Missing}
 use Rattle.token_protocol.specs.Basics.{In}
@@ -20,9 +20,9 @@ use Rattle.node_tellings.specs.reading_tie.Came.{Striped, MapStriped, MapsStripe
 use Rattle.node_tellings.proofs.reading_tie.Came.{CameMore}
 
 -- maps that are taken, where they are newer
-pub taken_so : (striped : Striped) (maps : Maps) (news : News) → MapsStriped striped maps.groups → MapStriped striped news.groups
-    → MapsStriped striped (taken maps news).groups
-taken_so striped maps news h fact =
+pub maps_take_so : (striped : Striped) (maps : Maps) (news : News) → MapsStriped striped maps.groups → MapStriped striped news.groups
+    → MapsStriped striped (maps_take maps news).groups
+maps_take_so striped maps news h fact =
     by_test (λ (m : Maps). MapsStriped striped m.groups) (is_older maps news) (record maps { version = news.version; groups = Some news.groups }) maps
     (λ _. fact)
     (λ _. h)

@@ -1,7 +1,7 @@
 -- What each input makes of a job of the cleaner: what it is about was met, and so was each segment that it has the node read.
 use Rattle.std.proofs.Common.{Some, None}
 use Rattle.std.specs.List.{AllByRecursion}
-use Rattle.stripe_cleaner.specs.Checks.{checks_from}
+use Rattle.stripe_cleaner.specs.Checks.{checks_of}
 use Rattle.stripe_cleaner.specs.CleaningState.{CleaningState}
 use Rattle.stripe_cleaner.specs.declared.checks.Check.{Check}
 use Rattle.stripe_cleaner.specs.declared.input.In.{In as Input}
@@ -42,7 +42,7 @@ module _ (met : Met) where
     SegmentSo = met;
     moved = λ block. tt;
     dead = λ block. tt;
-    reads = λ s known. all_each (λ (c : Check). Unit {0}) (λ c. tt) (checks_from 0 s.items);
+    reads = λ s known. all_each (λ (c : Check). Unit {0}) (λ c. tt) (checks_of 0 s.items);
     lives = λ block told entry value same live may h. tt;
     chooses = λ slots meta judges held fact. held;
   }

@@ -3,14 +3,14 @@ use Rattle.std.proofs.Common.{◌≡◌, ℕ, Option, Some, None, refl, subst, �
 use Rattle.cleaner_job.specs.declared.hand.Hand.{Hand}
 use Rattle.cleaner_job.specs.declared.job.Job.{Job}
 use Rattle.cleaner_job.specs.declared.lasting.Lasting.{Lasting}
-use Rattle.cleaner_job.specs.Hands.{Taken, checks, checks_under, confirmed_by, hand_confirmed, hand_hears, hears_by, is_in_hand, kept_ask, known_group, taken_over, takes_in_hand}
-use Rattle.cleaner_job.specs.Jobs.{dropped, hand_hears_in, hand_moved, hand_of, job_hears, read_over}
-use Rattle.cleaner_node.specs.CleanerEvents.{cleaner_step, restarts}
+use Rattle.cleaner_job.specs.Hands.{Taken, hand_check, checks_under, confirmed_by, hand_confirmed, hand_hear, hears_by, is_in_hand, kept_ask, known_group, take_over, take_in_hand}
+use Rattle.cleaner_job.specs.Jobs.{dropped, hand_hears_in, hand_moved, hand_of, job_hear, read_over}
+use Rattle.cleaner_node.specs.CleanerEvents.{cleaner_step, restart}
 use Rattle.cleaner_node.specs.declared.cleaner.Cleaner.{Cleaner}
 use Rattle.cleaner_node.specs.declared.cleaner.Phase.{Phase}
 use Rattle.cleaner_node.specs.declared.cleaner.Phase.TheVariants.{Down, Opening, Serving}
 use Rattle.cleaner_serving.specs.declared.emptying.Emptying.{Emptying}
-use Rattle.cleaner_serving.specs.Jobs.{told_by, told_in}
+use Rattle.cleaner_serving.specs.Jobs.{emptying_hear, told_in}
 use Rattle.group_map.specs.declared.group.Group.{Group}
 use Rattle.group_map.specs.GroupMapState.{GroupMapState}
 use Rattle.log_owner.specs.declared.opened.Progress.{Progress}
@@ -28,7 +28,7 @@ use Rattle.stripe_cleaner.specs.declared.output.Out.{Out}
 use Rattle.stripe_cleaner.specs.Transition.{transition}
 use Rattle.stripe_code.specs.declared.round.Told.{Told as Answered}
 use Rattle.stripe_code.specs.declared.round.Told.TheVariants as answered
-use Rattle.takeover.proofs.Readings.{target-on_answer, target-on_confirmed}
+use Rattle.takeover.proofs.Readings.{target-reading_take, target-on_confirmed}
 use Rattle.wire_msg.specs.declared.body.Body.{Body}
 use Rattle.wire_msg.specs.declared.body.Body.TheVariants as body
 use Rattle.wire_msg.specs.declared.packet.Do.{Do}
@@ -51,7 +51,7 @@ use Rattle.node_tellings.proofs.reading_tie.Arrivals.{AnswerBrought, BodyBrought
 use Rattle.node_tellings.specs.reading_tie.Came.{AnyReadingCame, Came, GroupStriped, MapStriped, MapsStriped, ReadsJoined, Striped}
 use Rattle.node_tellings.proofs.reading_tie.Came.{CameMore, StripedMore}
 use Rattle.node_tellings.specs.reading_tie.CleanerReads.{AnyHandHolds, CleanerEventsKeep, CleanerHolds, CleanerHoldsRise, CleanerReadsWhatCame, CleanerStarts, HandHolds, LooksFor, PhaseHolds, ReadsHand, ServesSo}
-use Rattle.node_tellings.proofs.reading_tie.Arriving.{answered_more, do_brought, taken_so}
+use Rattle.node_tellings.proofs.reading_tie.Arriving.{answered_more, do_brought, maps_take_so}
 use Rattle.node_tellings.proofs.reading_tie.Openings as maps
 use Rattle.node_tellings.proofs.reading_tie.Readings.{answered_came, answered_reads, any_rises, begun_came, confirmed_came, maps_rise}
 
@@ -67,7 +67,7 @@ module _ (came : Came) (striped : Striped) where
   grouped (Some groups) id group fact h = h id group fact
 
   over_so : (q : Questions) (seg : SegRef) (groups : Option GroupMapState) (group : Option Group) → known_group groups seg.group ≡ group
-      → MapsStriped striped groups → Holds (taken_over q seg group).hand
+      → MapsStriped striped groups → Holds (take_over q seg group).hand
   over_so q seg groups None fact h = tt
   over_so q seg groups (Some group) fact h = record {
     looks = refl;
@@ -75,21 +75,21 @@ module _ (came : Came) (striped : Striped) where
   }
 
   in_hand_so : (groups : Option GroupMapState) (q : Questions) (hand : Option Hand) (seg : SegRef) → MapsStriped striped groups → Holds hand
-      → Holds (takes_in_hand groups q hand seg).hand
-  unfolding takes_in_hand
+      → Holds (take_in_hand groups q hand seg).hand
+  unfolding take_in_hand
   in_hand_so groups q hand seg h fact =
-      by_test (λ (t : Taken). Holds t.hand) (is_in_hand hand seg) (record { hand = hand; questions = q }) (taken_over q seg (known_group groups seg.group))
+      by_test (λ (t : Taken). Holds t.hand) (is_in_hand hand seg) (record { hand = hand; questions = q }) (take_over q seg (known_group groups seg.group))
       (λ _. fact) (λ _. over_so q seg groups (known_group groups seg.group) refl h)
 
   hears_so : (hand : Hand) (r : Option ReadingState) (groups : GroupMapState) (ask server : ℕ) (t : Answered) → HandHolds came striped hand.seg hand.reading
       → LooksFor hand.seg r → AnyReadingCame came striped r → came ask server t → Holds (Some (hears_by hand r groups ask server t).state)
   hears_so hand None groups ask server t h looks reading fact = h
   hears_so hand (Some r) groups ask server t h looks reading fact =
-      record { looks = target-on_answer r groups ask server t ∙ looks; reading = answered_came came striped r groups ask server t reading fact }
+      record { looks = target-reading_take r groups ask server t ∙ looks; reading = answered_came came striped r groups ask server t reading fact }
 
   hand_reads : (job : Job) (hand : Option Hand) (groups : GroupMapState) (ask server : ℕ) (t : Answered) (segment : Segment) → Holds hand
       → came ask server t → (hand_hears_in job hand groups ask server t).next ≡ next.Read segment → ReadsHand came striped hand segment
-  unfolding hand_hears
+  unfolding hand_hear
   hand_reads job None groups ask server t segment h fact e = absurd cc
   hand_reads job (Some hand) groups ask server t segment h fact e = by hand.reading h.looks h.reading e
     where
@@ -101,8 +101,8 @@ module _ (came : Came) (striped : Striped) where
           subst (λ (target : Target). ReadsJoined came striped target.seg segment) looks found.joined
 
   pub told_reads : (e : Emptying) (ask server : ℕ) (t : Answered) (segment : Segment) → ServesSo came striped e → came ask server t
-      → (told_by e ask server t).next ≡ next.Read segment → ReadsHand came striped (hand_of e.job) segment
-  unfolding told_by job_hears
+      → (emptying_hear e ask server t).next ≡ next.Read segment → ReadsHand came striped (hand_of e.job) segment
+  unfolding emptying_hear job_hear
   told_reads e ask server t segment h fact read_so = by e.job e.maps.groups h.hand read_so
     where
       by : (job : Option Job) (groups : Option GroupMapState) → Holds (hand_of job) → (told_in e job groups ask server t).next ≡ next.Read segment
@@ -158,7 +158,7 @@ module _ (came : Came) (striped : Striped) where
 
     rehanded : (groups : Option GroupMapState) (hand : Option Hand) (q : Questions) (later : Option Hand) (r : Questions)
         → Rehands first what Any groups hand q later r → MapsStriped striped groups → Holds hand → Holds later
-    unfolding checks hand_hears hand_confirmed
+    unfolding hand_check hand_hear hand_confirmed
     rehanded groups hand q later r (TakenUp seg due) m h = in_hand_so groups q hand seg m h
     rehanded groups hand q later r (Checked {hand = its} block) m h = checked_so its q block (kept_ask its block) h
     rehanded groups hand q later r LetGo m h = dropped_so hand h
@@ -170,7 +170,7 @@ module _ (came : Came) (striped : Striped) where
 
     changed : (e f : Emptying) → Changes first what Any e f → ServesSo came striped e → ServesSo came striped f
     changed e f (MapsTaken {e = x} packet news brought) h =
-        record { maps = taken_so striped x.maps news h.maps (maps_came packet news brought); hand = h.hand }
+        record { maps = maps_take_so striped x.maps news h.maps (maps_came packet news brought); hand = h.hand }
     changed e f (JobBegun count) h = record { maps = h.maps; hand = tt }
     changed e f JobEnded h = record { maps = h.maps; hand = tt }
     changed e f (HandChanged x job hand q becomes) h =
@@ -184,8 +184,8 @@ module _ (came : Came) (striped : Striped) where
     items_so (Opening l o) items h = h
     items_so (Serving e) items h = record { maps = h.maps; hand = h.hand }
 
-    restarted : (servers : ℕ) (l : Lasting) (number : ℕ) → PhaseHolds came striped (restarts servers l number).state
-    unfolding restarts
+    restarted : (servers : ℕ) (l : Lasting) (number : ℕ) → PhaseHolds came striped (restart servers l number).state
+    unfolding restart
     restarted servers l number = tt
 
     comes_so : (l : Lasting) (p : Progress) → maps.ProgressSo came striped p → PhaseHolds came striped (came_to l p)

@@ -3,20 +3,20 @@ use Rattle.std.proofs.Common.{ℕ, Option, Some, None, is_some, [], ◌∷◌}
 use Rattle.client_node.specs.declared.client.Client.{Client}
 use Rattle.client_node.specs.declared.phase.Phase.TheVariants.{Down, Opening, Serving as Serves}
 use Rattle.client_node.specs.declared.phase.Phase.{Phase}
-use Rattle.client_node.specs.Phases.{client_step, Went_to, after_opening, opened_on, wish_of, down_begins, opening_begins, serving_begins, lasting_of, begins_item, on_begin, on_deliver, on_time, delivers, happens, client_room, takes}
+use Rattle.client_node.specs.Phases.{client_step, Went_to, phase_after, opened_on, wish_of, down_begins, opening_begins, serving_begins, lasting_of, begins_item, on_begin, on_deliver, client_tick, client_deliver, happens, client_has_room, takes}
 use Rattle.client_call.specs.declared.call.Going.{Going}
 use Rattle.client_call.specs.Reads.{reading_in}
 use Rattle.client_serving.specs.declared.lasting.Lasting.{Lasting}
 use Rattle.client_serving.specs.declared.serving.Serving.{Serving}
-use Rattle.client_running.specs.Opens.{begins_call, call_at, opens}
-use Rattle.client_running.specs.Running.{goes_on}
+use Rattle.client_running.specs.Opens.{begin_call, call_at, opens}
+use Rattle.client_running.specs.Running.{running_go_on}
 use Rattle.client_serving.specs.Sends.{Done, gives}
 use Rattle.log_owner.specs.declared.opened.Progress.{Progress}
 use Rattle.log_owner.specs.declared.opened.Progress.TheVariants as progress
 use Rattle.log_owner.specs.declared.opening.Opening as openings
 use Rattle.log_owner.specs.Opening as opening
 use Rattle.log_owner.specs.Opening.{Went}
-use Rattle.node_base.specs.Beginning.{next_item, begun, work_at, waiting}
+use Rattle.node_base.specs.Beginning.{next_item, items_begin, work_at, items_wait}
 use Rattle.node_base.specs.declared.effects.Effect.TheVariants.{Answer as Answers}
 use Rattle.node_base.specs.declared.peers.Peers.{Peers}
 use Rattle.node_base.specs.Shape.{is_well_formed}
@@ -54,13 +54,13 @@ module _ (came : Came) (striped : Striped) where
 
   -- ---- openings
 
-  after_opening_so : (l : Lasting) (capacity : ℕ) (p : Progress) → maps.ProgressSo came striped p → Goes (after_opening l capacity p)
-  after_opening_so l capacity (progress.Opening o) h = h
-  after_opening_so l capacity (progress.Opened o) h = record { maps = h; reading = tt }
-  after_opening_so l capacity (progress.Lost seg) h = tt
+  phase_after_so : (l : Lasting) (capacity : ℕ) (p : Progress) → maps.ProgressSo came striped p → Goes (phase_after l capacity p)
+  phase_after_so l capacity (progress.Opening o) h = h
+  phase_after_so l capacity (progress.Opened o) h = record { maps = h; reading = tt }
+  phase_after_so l capacity (progress.Lost seg) h = tt
 
   opened_on_so : (l : Lasting) (capacity : ℕ) (w : Went) → maps.ProgressSo came striped w.progress → Goes (opened_on l capacity w)
-  opened_on_so l capacity w h = after_opening_so (record l { questions = w.questions }) capacity w.progress h
+  opened_on_so l capacity w h = phase_after_so (record l { questions = w.questions }) capacity w.progress h
 
   -- ---- the next item begins
 
@@ -72,12 +72,12 @@ module _ (came : Came) (striped : Striped) where
   gone d p = (steps.gone steps.Any (serving.At came striped) d p).0
 
   begins_so : (s : Serving) (number : ℕ) (going : Option Going) → readings.CallSo (serving.Known came striped) going → ServesSo came striped s
-      → ServesSo came striped (begins_call s number going).state
+      → ServesSo came striped (begin_call s number going).state
   begins_so s number None fact h = h
   begins_so s number (Some x) fact h =
-      let t : Serving = record s { lasting = record s.lasting { items = waiting s.lasting.items number } } in
-      gone (packets_go.and_runs its_walk (goes_on t x)) (packets_go.runs_after its_walk (goes_on t x)
-      (calls.goes_on_so its_walk t x fact h))
+      let t : Serving = record s { lasting = record s.lasting { items = items_wait s.lasting.items number } } in
+      gone (packets_go.and_runs its_walk (running_go_on t x)) (packets_go.runs_after its_walk (running_go_on t x)
+      (calls.running_go_on_so its_walk t x fact h))
 
   call_begun : (s : Serving) (number : ℕ) (wanted : Option Work) → readings.CallSo (serving.Known came striped) (call_at s number wanted)
   call_begun s number None = tt
@@ -87,7 +87,7 @@ module _ (came : Came) (striped : Striped) where
   unfolding opens
   opens_so s number h =
       by_test (λ (d : Done). ServesSo came striped d.state) (is_some s.lasting.items.unanswered) (gives s (Answers number answer.Busy ∷ []))
-      (begins_call s number (call_at s number (work_at s.lasting.items number))) (λ _. h)
+      (begin_call s number (call_at s number (work_at s.lasting.items number))) (λ _. h)
       (λ _. begins_so s number (call_at s number (work_at s.lasting.items number)) (call_begun s number (work_at s.lasting.items number)) h)
 
   down_so : (servers number : ℕ) (l : Lasting) (wanted : Option Work) → Goes (down_begins servers l number (wish_of wanted))
@@ -110,10 +110,10 @@ module _ (came : Came) (striped : Striped) where
 
   item_so : (servers : ℕ) (p : Phase) (item : Option ℕ) → PhaseSo p → Goes (begins_item servers p item)
   item_so servers p None h = h
-  item_so servers (Down l) (Some number) h = down_so servers number (record l { items = begun l.items }) (work_at (begun l.items) number)
-  item_so servers (Opening l o) (Some number) h = opening_so (record l { items = begun l.items }) o number (work_at (begun l.items) number) h
+  item_so servers (Down l) (Some number) h = down_so servers number (record l { items = items_begin l.items }) (work_at (items_begin l.items) number)
+  item_so servers (Opening l o) (Some number) h = opening_so (record l { items = items_begin l.items }) o number (work_at (items_begin l.items) number) h
   item_so servers (Serves s) (Some number) h =
-      serving_so (record s { lasting = record s.lasting { items = begun s.lasting.items } }) number (work_at (begun s.lasting.items) number) h
+      serving_so (record s { lasting = record s.lasting { items = items_begin s.lasting.items } }) number (work_at (items_begin s.lasting.items) number) h
 
   -- ---- the events
 
@@ -126,31 +126,31 @@ module _ (came : Came) (striped : Striped) where
   unfolding on_deliver
   on_deliver_so capacity (Down l) packet fact h = tt
   on_deliver_so capacity (Opening l o) packet fact h =
-      opened_on_so l capacity (opening.on_packet o l.questions packet) (maps.packet_so came striped o l.questions packet fact h)
+      opened_on_so l capacity (opening.opening_take o l.questions packet) (maps.packet_so came striped o l.questions packet fact h)
   on_deliver_so capacity (Serves s) packet fact h =
-      gone (packets_go.and_runs its_walk (packets.on_packet s packet))
+      gone (packets_go.and_runs its_walk (packets.serving_take s packet))
       (packets_go.packet_so its_walk s packet (serving.hears came striped packet.from packet.body fact) h tt)
 
-  delivers_so : (peers : Peers) (capacity : ℕ) (p : Phase) (packet : Packet) → BodyBrought came striped packet.from packet.body → PhaseSo p
-      → Goes (delivers peers capacity p packet)
-  delivers_so peers capacity p packet fact h =
+  client_deliver_so : (peers : Peers) (capacity : ℕ) (p : Phase) (packet : Packet) → BodyBrought came striped packet.from packet.body → PhaseSo p
+      → Goes (client_deliver peers capacity p packet)
+  client_deliver_so peers capacity p packet fact h =
       by_test Goes (is_well_formed peers packet) (on_deliver capacity p packet) (still p) (λ _. on_deliver_so capacity p packet fact h) (λ _. h)
 
-  on_time_so : (capacity : ℕ) (p : Phase) → PhaseSo p → Goes (on_time capacity p)
-  unfolding on_time
-  on_time_so capacity (Down l) h = tt
-  on_time_so capacity (Opening l o) h = opened_on_so l capacity (opening.on_tick o l.questions) (maps.time_so came striped o l.questions h)
-  on_time_so capacity (Serves s) h =
+  client_tick_so : (capacity : ℕ) (p : Phase) → PhaseSo p → Goes (client_tick capacity p)
+  unfolding client_tick
+  client_tick_so capacity (Down l) h = tt
+  client_tick_so capacity (Opening l o) h = opened_on_so l capacity (opening.on_tick o l.questions) (maps.time_so came striped o l.questions h)
+  client_tick_so capacity (Serves s) h =
       gone (packets_go.and_runs its_walk (packets.on_tick s)) (packets_go.time_so its_walk s h)
 
   happens_so : (client : Client) (what : Do) → DoBrought came striped what → PhaseSo client.phase → Goes (happens client what)
   happens_so client Begin fact h = on_begin_so client.peers.servers client.phase h
-  happens_so client (Deliver packet) fact h = delivers_so client.peers client.cache client.phase packet fact h
-  happens_so client Tick fact h = on_time_so client.cache client.phase h
+  happens_so client (Deliver packet) fact h = client_deliver_so client.peers client.cache client.phase packet fact h
+  happens_so client Tick fact h = client_tick_so client.cache client.phase h
 
   takes_so : (client : Client) (what : Do) → DoBrought came striped what → PhaseSo client.phase → Goes (takes client what)
   takes_so client what fact h =
-      by_test Goes (client_room client) (happens client what) (still client.phase) (λ _. happens_so client what fact h) (λ _. h)
+      by_test Goes (client_has_room client) (happens client what) (still client.phase) (λ _. happens_so client what fact h) (λ _. h)
 
   -- ---- of whatever came
 

@@ -16,14 +16,14 @@ use Rattle.group_map.specs.GroupMapState.{GroupMapState}
 use Rattle.log_owner.specs.Sending.{server_in}
 use Rattle.manager_slots.specs.Numbers.{slot_after}
 use Rattle.manager_slots.specs.SlotTable as table
-use Rattle.manager_slots.specs.SlotTable.{next_active, begin_at, cleaned_at}
-use Rattle.manager_serving.specs.Checkpoints.{Done, gives, gives_parts, registers, asked, says, says_each, writer_takes, on_settled, log_says, log_says_each, writes, writes_slot, begins_slot, next_from, next_for, next_slot, waits, on_checkpoint, awaits, counted, answered_by, on_ckpt_ack, tells_again}
+use Rattle.manager_slots.specs.SlotTable.{next_active, begin_at, slot_table_clean}
+use Rattle.manager_serving.specs.Checkpoints.{Done, gives, give_parts, register, asked, writer_says, writer_says_each, writer_takes, on_settled, log_says, log_says_each, serving_write, writes_slot, begin_slot, next_from, next_for, next_slot, waits, on_checkpoint, awaits, checkpointing_count, answered_by, on_ckpt_ack, serving_tell_again}
 use Rattle.manager_serving.specs.declared.checkpointing.Checkpointing.{Checkpointing}
 use Rattle.manager_serving.specs.declared.serving.Serving.{Serving}
-use Rattle.manager_serving.specs.Serving.{asker_of, client_in, fed_log, on_want, on_gave, on_deltas, on_check, on_usage_ask, takes, on_report, answered_by as answers_by, on_found, on_missing, regroups, hearer_of, hears_with, hears_slots, on_newer, on_news, on_fitting_news, asks_for_maps, on_body, hears, recalls_again, asks_again, on_tick}
+use Rattle.manager_serving.specs.Serving.{asker_of, client_in, fed_log, on_want, on_gave, on_deltas, on_check, on_usage_ask, serving_take, on_report, answered_by as answers_by, on_found, on_missing, regroups, hearer_of, hears_with, hear_slots, on_newer, on_news, on_fitting_news, ask_for_maps, on_body, serving_hear, recalls_again, serving_ask_again, on_tick}
 use Rattle.node_base.specs.declared.effects.Effect.TheVariants.{Answer as Answers}
-use Rattle.node_base.specs.Known.{names_known}
-use Rattle.node_base.specs.Maps.{fits, is_older, taken}
+use Rattle.node_base.specs.Known.{names_known_groups}
+use Rattle.node_base.specs.Maps.{fits, is_older, maps_take}
 use Rattle.stripe_code.specs.declared.round.Told.TheVariants as answered
 use Rattle.takeover.specs.declared.input.In.{In as TakeIn}
 use Rattle.takeover.specs.declared.input.In.TheVariants as take_in
@@ -51,7 +51,7 @@ use Rattle.xfs_base.specs.Steps.{Stepped, still}
 use Rattle.node_tellings.proofs.reading_tie.Arrivals.{AnswerBrought, BodyBrought}
 use Rattle.node_tellings.specs.reading_tie.Came.{Came, Striped, MapStriped, MapsStriped}
 use Rattle.node_tellings.specs.reading_tie.ManagerReads.{ServesSo}
-use Rattle.node_tellings.proofs.reading_tie.Arriving.{taken_so}
+use Rattle.node_tellings.proofs.reading_tie.Arriving.{maps_take_so}
 use Rattle.node_tellings.proofs.reading_tie.Slots.{table_wants, table_gaves, table_deltas, table_checks, table_recalls, table_takes, table_reports, table_asks, table_regroups, table_hears, table_cleaned, table_named}
 use Rattle.node_tellings.proofs.reading_tie.Taking.{InputBrought}
 
@@ -64,37 +64,37 @@ module _ (came : Came) (striped : Striped) where
 
   -- ---- checkpoints
 
-  registers_on : (s : Serving) (done : CkptDone) → At s → Goes (registers s done)
-  unfolding registers
+  registers_on : (s : Serving) (done : CkptDone) → At s → Goes (register s done)
+  unfolding register
   registers_on s done h = record { maps = h.maps; slots = table_named came striped s.slots done.slot done.epoch done.parts h.slots }
 
-  says_on : (s : Serving) (o : Out) → At s → Goes (says s o)
-  unfolding says gives_parts
+  says_on : (s : Serving) (o : Out) → At s → Goes (writer_says s o)
+  unfolding writer_says give_parts
   says_on s (out.Done slot epoch parts horizon) h = registers_on (asked s) _ h
   says_on s _ h = h
 
   writer_on : (s : Serving) (given : WriterIn) → At s → Goes (writer_takes s given)
-  unfolding writer_takes says_each
+  unfolding writer_takes writer_says_each
   writer_on s given h =
-      steps_keep says At says_on (record s { writer = (writer.transition s.writer given).state }) (writer.transition s.writer given).outs h
+      steps_keep writer_says At says_on (record s { writer = (writer.transition s.writer given).state }) (writer.transition s.writer given).outs h
 
   log_says_on : (s : Serving) (o : LogOut) → At s → Goes (log_says s o)
   unfolding log_says on_settled
   log_says_on s (log_out.Send fragment member) h = h
   log_says_on s (log_out.Settled end rows) h = writer_on s (writer_in.Settled end) h
 
-  writes_on : (s : Serving) (given : LogIn) → At s → Goes (writes s given)
-  unfolding writes log_says_each
+  writes_on : (s : Serving) (given : LogIn) → At s → Goes (serving_write s given)
+  unfolding serving_write log_says_each
   writes_on s given h = steps_keep log_says At log_says_on (record s { log = (log.transition s.log given).state }) (log.transition s.log given).outs h
 
   writes_slot-on : (s : Serving) (o : Option WriterIn) → At s → Goes (writes_slot s o)
   writes_slot-on s None h = h
   writes_slot-on s (Some given) h = writer_on s given h
 
-  begins_on : (s : Serving) (slot : ℕ) → At s → Goes (begins_slot s slot)
-  unfolding begins_slot
+  begins_on : (s : Serving) (slot : ℕ) → At s → Goes (begin_slot s slot)
+  unfolding begin_slot
   begins_on s slot h =
-      writes_slot-on (record s { slots = cleaned_at s.slots slot }) (begin_at s.slots slot)
+      writes_slot-on (record s { slots = slot_table_clean s.slots slot }) (begin_at s.slots slot)
       (record { maps = h.maps; slots = table_cleaned came striped s.slots slot h.slots })
 
   next_on : (s : Serving) → At s → Goes (next_slot s)
@@ -118,8 +118,8 @@ module _ (came : Came) (striped : Striped) where
   acked_on : (s : Serving) (r : Stepped WriterState Out) → At s → Goes (answered_by s r)
   acked_on s r h =
       by_test Goes (length r.outs == 0) (still (record s { writer = r.state }))
-      (next_slot (record s { writer = r.state; checkpoint = fold counted s.checkpoint r.outs })) (λ _. h)
-      (λ _. next_on (record s { writer = r.state; checkpoint = fold counted s.checkpoint r.outs }) h)
+      (next_slot (record s { writer = r.state; checkpoint = fold checkpointing_count s.checkpoint r.outs })) (λ _. h)
+      (λ _. next_on (record s { writer = r.state; checkpoint = fold checkpointing_count s.checkpoint r.outs }) h)
 
   ack_on : (s : Serving) (ack : CkptAck) → At s → Goes (on_ckpt_ack s ack)
   unfolding on_ckpt_ack
@@ -127,8 +127,8 @@ module _ (came : Came) (striped : Striped) where
       by_test Goes (awaits s.checkpoint ack.ask) (answered_by s (writer.transition s.writer (writer_in.Ack ack.epoch s.dones))) (still s)
       (λ _. acked_on s (writer.transition s.writer (writer_in.Ack ack.epoch s.dones)) h) (λ _. h)
 
-  tells_on : (s : Serving) → At s → Goes (tells_again s)
-  unfolding tells_again
+  tells_on : (s : Serving) → At s → Goes (serving_tell_again s)
+  unfolding serving_tell_again
   tells_on s h = h
 
   -- ---- clients and the cleaner
@@ -158,8 +158,8 @@ module _ (came : Came) (striped : Striped) where
 
   -- ---- takeovers
 
-  take_on : (s : Serving) (k : ℕ) (given : TakeIn) → InputBrought came striped given → At s → Goes (takes s k given)
-  unfolding takes
+  take_on : (s : Serving) (k : ℕ) (given : TakeIn) → InputBrought came striped given → At s → Goes (serving_take s k given)
+  unfolding serving_take
   take_on s k given fact h = record { maps = h.maps; slots = table_takes came striped (asker_of s) k given fact h.slots }
 
   report_on : (s : Serving) (from : NodeId) (report : Report) → At s → Goes (on_report s from report)
@@ -190,8 +190,8 @@ module _ (came : Came) (striped : Striped) where
 
   -- ---- the maps
 
-  slots_on : (s : Serving) (clients : ℕ) (slots : List SlotNews) → At s → Goes (hears_slots s clients slots)
-  unfolding hears_slots
+  slots_on : (s : Serving) (clients : ℕ) (slots : List SlotNews) → At s → Goes (hear_slots s clients slots)
+  unfolding hear_slots
   slots_on s clients slots h = by s.maps.groups h.maps
     where
       by : (groups : Option GroupMapState) → MapsStriped striped groups → Goes (hears_with s clients slots groups)
@@ -205,16 +205,16 @@ module _ (came : Came) (striped : Striped) where
       let grouped : At (regroups s news.groups).state =
       record { maps = h.maps; slots = table_regroups came striped news.groups (asker_of s) fact h.slots }
       in
-      writes_on (hears_slots (regroups s news.groups).state clients news.slots).state (log_input.Maps news.groups)
+      writes_on (hear_slots (regroups s news.groups).state clients news.slots).state (log_input.Maps news.groups)
       (slots_on (regroups s news.groups).state clients news.slots grouped)
 
   pub news_on : (s : Serving) (clients : ℕ) (news : News) → MapStriped striped news.groups → ServesSo came striped s
       → ServesSo came striped (on_news s clients news).state
   unfolding on_news
   news_on s clients news fact h =
-      by_test Goes (is_older s.maps news) (on_newer (record s { maps = taken s.maps news }) clients news) (hears_slots s clients news.slots)
-      (λ _. newer_on (record s { maps = taken s.maps news }) clients news fact
-      (record { maps = taken_so striped s.maps news h.maps fact; slots = h.slots }))
+      by_test Goes (is_older s.maps news) (on_newer (record s { maps = maps_take s.maps news }) clients news) (hear_slots s clients news.slots)
+      (λ _. newer_on (record s { maps = maps_take s.maps news }) clients news fact
+      (record { maps = maps_take_so striped s.maps news h.maps fact; slots = h.slots }))
       (λ _. slots_on s clients news.slots h)
 
   fitting_on : (s : Serving) (clients : ℕ) (news : News) → MapStriped striped news.groups → At s → Goes (on_fitting_news s clients news)
@@ -239,10 +239,10 @@ module _ (came : Came) (striped : Striped) where
   body_on s clients from _ fact h = h
 
   pub packet_on : (s : Serving) (clients : ℕ) (packet : Packet) → BodyBrought came striped packet.from packet.body → ServesSo came striped s
-      → ServesSo came striped (hears s clients packet).state
-  unfolding hears asks_for_maps
+      → ServesSo came striped (serving_hear s clients packet).state
+  unfolding serving_hear ask_for_maps
   packet_on s clients packet fact h =
-      by_test Goes (names_known s.maps packet.body) (on_body s clients packet.from packet.body) (asks_for_maps s)
+      by_test Goes (names_known_groups s.maps packet.body) (on_body s clients packet.from packet.body) (ask_for_maps s)
       (λ _. body_on s clients packet.from packet.body fact h) (λ _. h)
 
   -- ---- time
@@ -251,15 +251,15 @@ module _ (came : Came) (striped : Striped) where
   unfolding recalls_again
   recalls_on s h = record { maps = h.maps; slots = table_recalls came striped s.slots h.slots }
 
-  asks_on : (polls : Bool) (s : Serving) → At s → Goes (asks_again s polls)
-  unfolding asks_again
+  asks_on : (polls : Bool) (s : Serving) → At s → Goes (serving_ask_again s polls)
+  unfolding serving_ask_again
   asks_on polls s h = record { maps = h.maps; slots = table_asks came striped polls (asker_of s) h.slots }
 
   pub tick_on : (s : Serving) → ServesSo came striped s → ServesSo came striped (on_tick s).state
   unfolding on_tick
   tick_on s h =
       let a : Done = recalls_again s in
-      let b : Done = asks_again a.state true in
-      let c : Done = asks_again b.state false in
-      tells_on (writes c.state log_input.Tick).state
+      let b : Done = serving_ask_again a.state true in
+      let c : Done = serving_ask_again b.state false in
+      tells_on (serving_write c.state log_input.Tick).state
       (writes_on c.state log_input.Tick (asks_on false b.state (asks_on true a.state (recalls_on s h))))

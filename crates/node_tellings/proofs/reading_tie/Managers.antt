@@ -1,12 +1,12 @@
 -- What each event makes of a manager: what its takeovers hold came, and its maps are as said; and what they complete is joined of what came.
 use Rattle.std.proofs.Common.{ℕ, ◌==◌}
 use Rattle.std.specs.Prelude.{Option, Some, None}
-use Rattle.manager_map.specs.Slots.{start_entries, entry_at}
+use Rattle.manager_map.specs.Slots.{manager_map_start, entry_at}
 use Rattle.manager_node.specs.declared.manager.Manager.{Manager}
 use Rattle.manager_node.specs.declared.phase.Phase.{Phase}
 use Rattle.manager_node.specs.declared.phase.Phase.TheVariants.{Down, Waiting, Serving as Serves}
-use Rattle.manager_node.specs.Events.{manager_step, takes_welcome, on_welcome, on_waiting, on_packet, on_deliver, on_time, on_event, happens}
-use Rattle.manager_node.specs.Phases.{Went_to, phase_has_room, serves, crashes, restarts, wish_at, down_wish, waiting_wish, serving_wish, with_begun, down_item, waiting_item, serving_item, begin_down, begin_waiting, begin_serving, on_begin}
+use Rattle.manager_node.specs.Events.{manager_step, takes_welcome, on_welcome, on_waiting, on_packet, manager_deliver, on_time, on_event, happens}
+use Rattle.manager_node.specs.Phases.{Went_to, phase_has_room, serves, crash, restart, wish_at, down_wish, waiting_wish, serving_wish, with_begun, down_item, waiting_item, serving_item, begin_down, begin_waiting, begin_serving, on_begin}
 use Rattle.manager_slots.specs.declared.lasting.Lasting.{Lasting as Life}
 use Rattle.manager_slots.specs.declared.slot_phase.SlotPhase.{SlotPhase}
 use Rattle.manager_slots.specs.declared.slot_phase.SlotPhase.TheVariants as phase
@@ -49,12 +49,12 @@ module _ (came : Came) (striped : Striped) where
   abbrev Goes : Went_to → Type 0
   Goes w = PhaseSo w.state
 
-  crashes_on : (life : Life) (number : ℕ) → Goes (crashes life number)
-  unfolding crashes
+  crashes_on : (life : Life) (number : ℕ) → Goes (crash life number)
+  unfolding crash
   crashes_on life number = tt
 
-  restarts_on : (life : Life) (number : ℕ) → Goes (restarts life number)
-  unfolding restarts
+  restarts_on : (life : Life) (number : ℕ) → Goes (restart life number)
+  unfolding restart
   restarts_on life number = tt
 
   -- ---- the next item
@@ -130,8 +130,8 @@ module _ (came : Came) (striped : Striped) where
   packet_goes peers (Waiting life hello) packet fact h = awaited_on peers life hello packet.from packet.body fact
   packet_goes peers (Serves s) packet fact h = packet_on came striped s peers.clients packet fact h
 
-  deliver_goes : (peers : Peers) (p : Phase) (packet : Packet) → BodyBrought came striped packet.from packet.body → PhaseSo p → Goes (on_deliver peers p packet)
-  unfolding on_deliver
+  deliver_goes : (peers : Peers) (p : Phase) (packet : Packet) → BodyBrought came striped packet.from packet.body → PhaseSo p → Goes (manager_deliver peers p packet)
+  unfolding manager_deliver
   deliver_goes peers p packet fact h =
       by_test Goes (is_well_formed peers packet) (on_packet peers p packet) (still p) (λ _. packet_goes peers p packet fact h) (λ _. h)
 
@@ -173,9 +173,9 @@ pub manager_starts : ManagerStarts
 manager_starts packets to cuts number setup works known =
     record { maps = known; slots = (one 0, (one 1, (one 2, (one 3, (one 4, (one 5, (one 6, (one 7, tt)))))))) }
   where
-    one : (slot : ℕ) → SlotHolds (answered_in packets to) (cut_by cuts) (first_phase number (start_entries setup.managers) slot)
+    one : (slot : ℕ) → SlotHolds (answered_in packets to) (cut_by cuts) (first_phase number (manager_map_start setup.managers) slot)
     one slot =
-        by_test (SlotHolds (answered_in packets to) (cut_by cuts)) ((entry_at (start_entries setup.managers) (slot_of slot)).manager == number) first_active
+        by_test (SlotHolds (answered_in packets to) (cut_by cuts)) ((entry_at (manager_map_start setup.managers) (slot_of slot)).manager == number) first_active
         (phase.Away 1) (λ _. tt) (λ _. tt)
 
 pub manager_rises : ManagerHoldsRise

@@ -4,9 +4,9 @@ use Rattle.std.specs.List.{AllByRecursion}
 use Rattle.cleaner_job.specs.declared.hand.Hand.{Hand}
 use Rattle.cleaner_job.specs.declared.job.Job.{Job}
 use Rattle.cleaner_job.specs.declared.lasting.Lasting.{Lasting}
-use Rattle.cleaner_job.specs.Hands.{Taken, checks, checks_under, confirmed_by, hand_confirmed, hand_hears, hears_by, is_in_hand, kept_ask, known_group, taken_over, takes_in_hand}
+use Rattle.cleaner_job.specs.Hands.{Taken, hand_check, checks_under, confirmed_by, hand_confirmed, hand_hear, hears_by, is_in_hand, kept_ask, known_group, take_over, take_in_hand}
 use Rattle.cleaner_job.specs.Jobs.{dropped, hand_moved, read_over}
-use Rattle.cleaner_node.specs.CleanerEvents.{cleaner_step, restarts}
+use Rattle.cleaner_node.specs.CleanerEvents.{cleaner_step, restart}
 use Rattle.cleaner_node.specs.declared.cleaner.Cleaner.{Cleaner}
 use Rattle.cleaner_node.specs.declared.cleaner.Phase.{Phase}
 use Rattle.cleaner_node.specs.declared.cleaner.Phase.TheVariants.{Down, Opening, Serving}
@@ -64,16 +64,16 @@ module _ (met : Met) where
 
   -- ---- the segment in hand
 
-  over_met : (q : Questions) (seg : SegRef) (group : Option Group) → RefMet met seg → HandMet met (taken_over q seg group).hand
+  over_met : (q : Questions) (seg : SegRef) (group : Option Group) → RefMet met seg → HandMet met (take_over q seg group).hand
   over_met q seg None fact = tt
   over_met q seg (Some group) fact = fact
 
   in_hand_met : (groups : Option GroupMapState) (q : Questions) (hand : Option Hand) (seg : SegRef) → RefMet met seg → HandMet met hand
-      → HandMet met (takes_in_hand groups q hand seg).hand
-  unfolding takes_in_hand
+      → HandMet met (take_in_hand groups q hand seg).hand
+  unfolding take_in_hand
   in_hand_met groups q hand seg fact h =
       by_test (λ (t : Taken). HandMet met t.hand) (is_in_hand hand seg) (record { hand = hand; questions = q })
-      (taken_over q seg (known_group groups seg.group))
+      (take_over q seg (known_group groups seg.group))
       (λ _. h) (λ _. over_met q seg (known_group groups seg.group) fact)
 
   hears_met : (hand : Hand) (r : Option ReadingState) (groups : GroupMapState) (ask server : ℕ) (t : Answered) → RefMet met hand.seg
@@ -106,7 +106,7 @@ module _ (met : Met) where
   module _ (first : Cleaner) (what : Do) where
     rehanded : (groups : Option GroupMapState) (hand : Option Hand) (q : Questions) (later : Option Hand) (r : Questions)
         → Rehands first what (OutMet met) groups hand q later r → HandMet met hand → HandMet met later
-    unfolding checks hand_hears hand_confirmed
+    unfolding hand_check hand_hear hand_confirmed
     rehanded groups hand q later r (TakenUp seg due) h = in_hand_met groups q hand seg due h
     rehanded groups hand q later r (Checked {hand = its} block) h = checks_met its q block (kept_ask its block) h
     rehanded groups hand q later r LetGo h = dropped_met hand h
@@ -140,8 +140,8 @@ module _ (met : Met) where
   comes_met l (progress.Opened o) = tt
   comes_met l (progress.Lost seg) = tt
 
-  restarted : (servers : ℕ) (l : Lasting) (number : ℕ) → NodeMet met (restarts servers l number).state
-  unfolding restarts
+  restarted : (servers : ℕ) (l : Lasting) (number : ℕ) → NodeMet met (restart servers l number).state
+  unfolding restart
   restarted servers l number = tt
 
   keeps : (first : Cleaner) (what : Do) → DoMet what → StateKeeps first what (NodeMet met) (OutMet met)

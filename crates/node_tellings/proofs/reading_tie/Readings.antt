@@ -11,7 +11,7 @@ use Rattle.segment_reading.specs.declared.reading.Next.TheVariants.{Wait, Read}
 use Rattle.segment_reading.specs.declared.reading.Stage.{Stage}
 use Rattle.segment_reading.specs.declared.reading.Stage.TheVariants.{Asking, Between, Doubted, Over}
 use Rattle.segment_reading.specs.declared.target.Target.{Target}
-use Rattle.segment_reading.specs.Reading.{ReadingState, Step, begun, is_asking, name_fits, counts, ends, read_as, segment_found, is_target, is_known, has_block, judged, on_answer, goes_on, on_confirmed}
+use Rattle.segment_reading.specs.Reading.{ReadingState, Step, reading_start, is_asking, name_fits, counts, ends, reading_reads, segment_found, is_met_by, is_known, has_block, reading_judge, reading_take, goes_on, on_confirmed}
 use Rattle.stripe_code.proofs.Rounds.{pushed_is_round}
 use Rattle.stripe_code.specs.declared.round.Answer.{Answer}
 use Rattle.stripe_code.specs.declared.round.RoundState.{RoundState}
@@ -19,7 +19,7 @@ use Rattle.stripe_code.specs.declared.round.RoundState.TheVariants as round
 use Rattle.stripe_code.specs.declared.round.Told.{Told as Answered}
 use Rattle.stripe_code.specs.declared.round.Told.TheVariants.{Held, Missing}
 use Rattle.xfs_base.specs.Segments.{same_name}
-use Rattle.stripe_code.specs.Round.{RoundSoFar, TellsPart, count_of, asks, has_answered, taken, told_fits, state_of}
+use Rattle.stripe_code.specs.Round.{RoundSoFar, TellsPart, count_of, asks, has_answered, round_take, told_fits, state_of}
 use Rattle.xfs_base.proofs.Booleans.{by_test, and_first, and_second}
 use Rattle.xfs_base.proofs.SegmentNames.{one_name}
 use Rattle.xfs_base.specs.declared.segment.SegRef.{SegRef}
@@ -62,8 +62,8 @@ module _ (came : Came) (striped : Striped) where
     Is r = RoundCame came striped seg ask r
 
     pub one_more : (r : RoundSoFar) (server : ℕ) (told : Answered) → Is r → came ask server told → IsOfName seg.name told → told_fits r told ≡ true
-        → Is (taken r server told)
-    unfolding taken
+        → Is (round_take r server told)
+    unfolding round_take
     one_more r server told h fact name fits =
         by_test Is (has_answered r.answers server) r (record r { answers = r.answers ++ record { server = server; told = told } ∷ [] }) (λ _. h)
         (λ _. record {
@@ -82,9 +82,9 @@ module _ (came : Came) (striped : Striped) where
   }
 
   -- the first round begins over a group of a map that came
-  pub begun_came : (target : Target) (group : Group) (ask : ℕ) → GroupStriped striped target.seg.group group → ReadingCame came striped (begun target group ask)
+  pub begun_came : (target : Target) (group : Group) (ask : ℕ) → GroupStriped striped target.seg.group group → ReadingCame came striped (reading_start target group ask)
   begun_came target group ask h = record {
-    is_round = record { cut = h.cut; parts = All-nil (λ (a : Answer). TellsPart (length group.members) (count_of (begun target group ask).round) 0 a.told) };
+    is_round = record { cut = h.cut; parts = All-nil (λ (a : Answer). TellsPart (length group.members) (count_of (reading_start target group ask).round) 0 a.told) };
     cut_so = h.said;
     answers = tt;
   }
@@ -94,29 +94,29 @@ module _ (came : Came) (striped : Striped) where
   abbrev StepCame : Step → Type 0
   StepCame s = ReadingCame came striped s.state
 
-  read_as_came : (r : ReadingState) (found : Option Segment) → ReadingCame came striped r → StepCame (read_as r found)
-  read_as_came r None h = record { is_round = h.is_round; cut_so = h.cut_so; answers = h.answers }
-  read_as_came r (Some s) h = record { is_round = h.is_round; cut_so = h.cut_so; answers = h.answers }
+  reading_reads_came : (r : ReadingState) (found : Option Segment) → ReadingCame came striped r → StepCame (reading_reads r found)
+  reading_reads_came r None h = record { is_round = h.is_round; cut_so = h.cut_so; answers = h.answers }
+  reading_reads_came r (Some s) h = record { is_round = h.is_round; cut_so = h.cut_so; answers = h.answers }
 
-  judged_came : (r : ReadingState) (groups : GroupMapState) (now : RoundState) → ReadingCame came striped r → StepCame (judged r groups now)
-  judged_came r groups (round.Read bytes) h = read_as_came r _ h
+  judged_came : (r : ReadingState) (groups : GroupMapState) (now : RoundState) → ReadingCame came striped r → StepCame (reading_judge r groups now)
+  judged_came r groups (round.Read bytes) h = reading_reads_came r _ h
   judged_came r groups (round.Short pairs) h = record { is_round = h.is_round; cut_so = h.cut_so; answers = h.answers }
   judged_came r groups round.Waiting h = h
 
   -- the round with an answer that counts
   with_answer : (r : ReadingState) (ask server : ℕ) (told : Answered) → ReadingCame came striped r → came ask server told → counts r ask server told ≡ true
-      → ReadingCame came striped (record r { round = taken r.round server told })
+      → ReadingCame came striped (record r { round = round_take r.round server told })
   with_answer r ask server told h fact counts_so =
       let c = counted r ask server told counts_so in
       one_more r.target.seg r.ask r.round server told h (subst (λ q. came q server told) (sym c.its_own) fact) c.of_name c.fits
 
   pub answered_came : (r : ReadingState) (groups : GroupMapState) (ask server : ℕ) (told : Answered) → ReadingCame came striped r → came ask server told
-      → ReadingCame came striped (on_answer r groups ask server told).state
-  unfolding on_answer
+      → ReadingCame came striped (reading_take r groups ask server told).state
+  unfolding reading_take
   answered_came r groups ask server told h fact =
       by_test StepCame (counts r ask server told)
-      (judged (record r { round = taken r.round server told }) groups (state_of (taken r.round server told))) (record { state = r; next = Wait })
-      (λ c. judged_came (record r { round = taken r.round server told }) groups (state_of (taken r.round server told)) (with_answer r ask server told h fact c))
+      (reading_judge (record r { round = round_take r.round server told }) groups (state_of (round_take r.round server told))) (record { state = r; next = Wait })
+      (λ c. judged_came (record r { round = round_take r.round server told }) groups (state_of (round_take r.round server told)) (with_answer r ask server told h fact c))
       (λ _. h)
 
   -- ---- what it reads
@@ -126,7 +126,7 @@ module _ (came : Came) (striped : Striped) where
 
   module _ (r : ReadingState) (groups : GroupMapState) (h : ReadingCame came striped r) (text : List ℕ) (joins : state_of r.round ≡ round.Read text)
       (segment : Segment) where
-    found_reads : (s : Segment) → answer_of text ≡ Ok s → is_target r.target groups s ≡ true → Reads (read_as r (Some s)) r.target segment
+    found_reads : (s : Segment) → answer_of text ≡ Ok s → is_met_by r.target groups s ≡ true → Reads (reading_reads r (Some s)) r.target segment
     found_reads s decoded fact e =
         let same : s ≡ segment = cc in
         subst (ReadsTarget came striped r.target) same (record {
@@ -147,25 +147,25 @@ module _ (came : Came) (striped : Striped) where
     none_reads : Reads (ends r []) r.target segment
     none_reads e = absurd cc
 
-    text_reads : (answer : Result Segment SegError) → answer_of text ≡ answer → Reads (read_as r (segment_found r.target groups answer)) r.target segment
+    text_reads : (answer : Result Segment SegError) → answer_of text ≡ answer → Reads (reading_reads r (segment_found r.target groups answer)) r.target segment
     text_reads (Ok s) decoded =
-        by_test (λ (o : Option Segment). Reads (read_as r o) r.target segment) (is_target r.target groups s) (Some s) None
+        by_test (λ (o : Option Segment). Reads (reading_reads r o) r.target segment) (is_met_by r.target groups s) (Some s) None
         (λ fact. found_reads s decoded fact) (λ _. none_reads)
     text_reads (Err e) decoded = none_reads
 
   judged_reads : (r : ReadingState) (groups : GroupMapState) (segment : Segment) (now : RoundState) → state_of r.round ≡ now → ReadingCame came striped r
-      → Reads (judged r groups now) r.target segment
+      → Reads (reading_judge r groups now) r.target segment
   judged_reads r groups segment (round.Read bytes) fact h = text_reads r groups h bytes fact segment (answer_of bytes) refl
   judged_reads r groups segment (round.Short pairs) fact h = λ e. absurd cc
   judged_reads r groups segment round.Waiting fact h = λ e. absurd cc
 
   pub answered_reads : (r : ReadingState) (groups : GroupMapState) (ask server : ℕ) (told : Answered) (segment : Segment) → ReadingCame came striped r
-      → came ask server told → (on_answer r groups ask server told).next ≡ Read segment → ReadsTarget came striped r.target segment
-  unfolding on_answer
+      → came ask server told → (reading_take r groups ask server told).next ≡ Read segment → ReadsTarget came striped r.target segment
+  unfolding reading_take
   answered_reads r groups ask server told segment h fact =
       by_test (λ (s : Step). Reads s r.target segment) (counts r ask server told)
-      (judged (record r { round = taken r.round server told }) groups (state_of (taken r.round server told))) (record { state = r; next = Wait })
-      (λ c. judged_reads (record r { round = taken r.round server told }) groups segment (state_of (taken r.round server told)) refl
+      (reading_judge (record r { round = round_take r.round server told }) groups (state_of (round_take r.round server told))) (record { state = r; next = Wait })
+      (λ c. judged_reads (record r { round = round_take r.round server told }) groups segment (state_of (round_take r.round server told)) refl
       (with_answer r ask server told h fact c))
       (λ _ e. absurd cc)
 

@@ -1,13 +1,13 @@
 -- What a client that serves reads came: each answer of its round was told by a server, and its groups are as maps that came say.
 use Rattle.std.proofs.Common.{◌≡◌, ℕ, Option, Some, None}
-use Rattle.client_call.specs.Reads.{heard}
+use Rattle.client_call.specs.Reads.{hear_reading}
 use Rattle.client_serving.specs.declared.serving.Serving.{Serving}
 use Rattle.client_serving.specs.Reads.{group_in}
 use Rattle.group_map.specs.declared.group.Group.{Group}
 use Rattle.group_map.specs.GroupMapState.{GroupMapState}
 use Rattle.node_base.specs.Asking.{next_ask}
 use Rattle.node_base.specs.declared.maps.Maps.{Maps}
-use Rattle.node_base.specs.Maps.{is_older, taken}
+use Rattle.node_base.specs.Maps.{is_older, maps_take}
 use Rattle.segment_format.specs.declared.segment.Segment.{Segment}
 use Rattle.segment_reading.specs.declared.reading.Next.TheVariants as next
 use Rattle.segment_reading.specs.Reading.{ReadingState}
@@ -40,7 +40,7 @@ module _ (came : Came) (striped : Striped) where
   grouped (Some groups) id group fact h = h id group fact
 
   -- newer maps are what came
-  pub mapped : (s : Serving) (news : News) → MapStriped striped news.groups → MapsStriped striped s.maps.groups → MapsStriped striped (taken s.maps news).groups
+  pub mapped : (s : Serving) (news : News) → MapStriped striped news.groups → MapsStriped striped s.maps.groups → MapsStriped striped (maps_take s.maps news).groups
   mapped s news fact was =
       by_test (λ (m : Maps). MapsStriped striped m.groups) (is_older s.maps news) (record s.maps { version = news.version; groups = Some news.groups }) s.maps
       (λ _. fact) (λ _. was)
@@ -109,7 +109,7 @@ module _ (came : Came) (striped : Striped) where
   -- ---- what a reading reads
 
   pub heard_reads : (r : Option ReadingState) (groups : Option GroupMapState) (ask server : ℕ) (t : Answered) (segment : Segment)
-      → AnyReadingCame came striped r → came ask server t → (heard r groups ask server t).next ≡ next.Read segment → ReadsPlace came striped r segment
+      → AnyReadingCame came striped r → came ask server t → (hear_reading r groups ask server t).next ≡ next.Read segment → ReadsPlace came striped r segment
   heard_reads None groups ask server t segment fact it e = absurd cc
   heard_reads (Some r) None ask server t segment fact it e = absurd cc
   heard_reads (Some r) (Some groups) ask server t segment fact it e = answered_reads came striped r groups ask server t segment fact it e

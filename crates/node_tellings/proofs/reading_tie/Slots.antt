@@ -6,9 +6,9 @@ use Rattle.group_map.specs.GroupMapState.{GroupMapState}
 use Rattle.manager_slots.specs.declared.slot_phase.SlotPhase.{SlotPhase}
 use Rattle.manager_slots.specs.declared.slot_phase.SlotPhase.TheVariants as phase
 use Rattle.manager_slots.specs.Slots.{epoch_of}
-use Rattle.manager_slots.specs.SlotTable.{Table, TableAsker, Hearer, all_slots, in_slot, at_slot, on_want, on_gave, on_deltas, on_check, recalls, recalls_all, in_taken, at_taken, takes, on_report, asks, asks_all, regroups, regroups_all, hears_of, hears, hears_all, cleaned_phase, named_phase, changed_in, cleaned_at, named_at}
+use Rattle.manager_slots.specs.SlotTable.{Table, TableAsker, Hearer, all_slots, in_slot, at_slot, on_want, on_gave, on_deltas, on_check, slot_table_recall, recall_again, in_taken, at_taken, slot_table_take, on_report, slot_table_ask, slot_table_ask_again, regroup_one, slot_table_regroup, hear_of, slot_table_hear, hear_each, phase_clean, phase_name, changed_in, slot_table_clean, slot_table_name}
 use Rattle.manager_slots.specs.Takeovers as takeovers
-use Rattle.manager_slots.specs.Takeovers.{Asker, asker, fetches, says, says_each, heard, is_wanted, asks_again, report_input, phase_of}
+use Rattle.manager_slots.specs.Takeovers.{Asker, asker, takeovers_fetch, takeovers_say, say_each, outs_of, is_wanted, takeovers_ask_again, report_input, phase_of}
 use Rattle.manager_slots.specs.Tokens as tokens
 use Rattle.node_base.specs.declared.effects.Effect.{Effect}
 use Rattle.node_base.specs.declared.questions.Questions.{Questions}
@@ -16,7 +16,7 @@ use Rattle.takeover.specs.declared.input.In.{In as TakeIn}
 use Rattle.takeover.specs.declared.input.In.TheVariants as take_in
 use Rattle.takeover.specs.declared.output.Out.{Out as TakeOut}
 use Rattle.takeover.specs.declared.output.Out.TheVariants as take_out
-use Rattle.takeover.specs.TakeState.{started}
+use Rattle.takeover.specs.TakeState.{take_start}
 use Rattle.token_manager.specs.declared.input.In.{In as SlotIn}
 use Rattle.token_manager.specs.declared.input.In.TheVariants as slot_in
 use Rattle.wire_msg.specs.declared.cleaning.Check.{Check}
@@ -46,8 +46,8 @@ module _ (came : Came) (striped : Striped) where
 
   -- ---- a slot that is managed takes an input
 
-  phase_takes : (p : SlotPhase) (number : ℕ) (given : SlotIn) → Holds p → Goes (tokens.takes p number given)
-  unfolding tokens.takes
+  phase_takes : (p : SlotPhase) (number : ℕ) (given : SlotIn) → Holds p → Goes (tokens.tokens_take p number given)
+  unfolding tokens.tokens_take
   phase_takes (phase.Taking t) number given h = h
   phase_takes _ number given h = tt
 
@@ -68,54 +68,54 @@ module _ (came : Came) (striped : Striped) where
   abbrev AskerHolds : Asker → Type 0
   AskerHolds a = Holds a.phase
 
-  fetches_on : (p : SlotPhase) (q : Questions) (server : ℕ) (name : SegName) (own : ℕ) → Holds p → AskerHolds (fetches p q server name own).state
+  fetches_on : (p : SlotPhase) (q : Questions) (server : ℕ) (name : SegName) (own : ℕ) → Holds p → AskerHolds (takeovers_fetch p q server name own).state
   fetches_on (phase.Taking t) q server name own h = h
   fetches_on _ q server name own h = tt
 
-  says_on : (number : ℕ) (a : Asker) (o : TakeOut) → AskerHolds a → AskerHolds (says number a o).state
-  unfolding says
+  says_on : (number : ℕ) (a : Asker) (o : TakeOut) → AskerHolds a → AskerHolds (takeovers_say number a o).state
+  unfolding takeovers_say
   says_on number a (take_out.Poll to) h = h
   says_on number a (take_out.Fetch server name own) h = fetches_on a.phase a.questions server name own h
   says_on number a (take_out.Active epoch index beliefs applied) h = tt
   says_on number a (take_out.Lost seg) h = tt
 
-  each_said : (number : ℕ) (a : Asker) (outs : List TakeOut) → AskerHolds a → AskerHolds (says_each number a outs).state
-  unfolding says_each
-  each_said number a outs h = steps_keep (says number) AskerHolds (says_on number) a outs h
+  each_said : (number : ℕ) (a : Asker) (outs : List TakeOut) → AskerHolds a → AskerHolds (say_each number a outs).state
+  unfolding say_each
+  each_said number a outs h = steps_keep (takeovers_say number) AskerHolds (says_on number) a outs h
 
-  heard_on : (p : SlotPhase) (given : TakeIn) → InputBrought came striped given → Holds p → Holds (heard p given).state
-  unfolding heard
+  heard_on : (p : SlotPhase) (given : TakeIn) → InputBrought came striped given → Holds p → Holds (outs_of p given).state
+  unfolding outs_of
   heard_on (phase.Taking t) given fact h = take_goes came striped t.take given fact h
   heard_on _ given fact h = tt
 
-  asker_takes : (a : Asker) (number : ℕ) (given : TakeIn) → InputBrought came striped given → AskerHolds a → AskerHolds (takeovers.takes a number given).state
-  unfolding takeovers.takes
+  asker_takes : (a : Asker) (number : ℕ) (given : TakeIn) → InputBrought came striped given → AskerHolds a → AskerHolds (takeovers.takeovers_take a number given).state
+  unfolding takeovers.takeovers_take
   asker_takes a number given fact h =
-      each_said number (record a { phase = (heard a.phase given).state }) (heard a.phase given).outs (heard_on a.phase given fact h)
+      each_said number (record a { phase = (outs_of a.phase given).state }) (outs_of a.phase given).outs (heard_on a.phase given fact h)
 
-  asker_asks : (a : Asker) (number : ℕ) (polls : Bool) → AskerHolds a → AskerHolds (asks_again a number polls).state
-  unfolding asks_again
+  asker_asks : (a : Asker) (number : ℕ) (polls : Bool) → AskerHolds a → AskerHolds (takeovers_ask_again a number polls).state
+  unfolding takeovers_ask_again
   asker_asks a number polls h =
-      each_said number (record a { phase = (heard a.phase take_in.Tick).state }) (filter (is_wanted polls) (heard a.phase take_in.Tick).outs)
+      each_said number (record a { phase = (outs_of a.phase take_in.Tick).state }) (filter (is_wanted polls) (outs_of a.phase take_in.Tick).outs)
       (heard_on a.phase take_in.Tick tt h)
 
   asker_reports : (a : Asker) (from : NodeId) (report : Report) → AskerHolds a → AskerHolds (takeovers.on_report a from report).state
   asker_reports a from report h =
       by_test (λ (d : Stepped Asker Effect). AskerHolds d.state) (report.epoch == epoch_of a.phase)
-      (takeovers.takes a report.slot (report_input from report)) (still a) (λ _. asker_takes a report.slot (report_input from report) tt h) (λ _. h)
+      (takeovers.takeovers_take a report.slot (report_input from report)) (still a) (λ _. asker_takes a report.slot (report_input from report) tt h) (λ _. h)
 
   -- it starts with the groups that are known
-  asker_hears : (h : Hearer) (news : SlotNews) (one : Asker) → MapStriped striped h.groups → AskerHolds one → AskerHolds (hears_of h news one).state
-  unfolding hears_of
+  asker_hears : (h : Hearer) (news : SlotNews) (one : Asker) → MapStriped striped h.groups → AskerHolds one → AskerHolds (hear_of h news one).state
+  unfolding hear_of
   asker_hears h news one known before =
       by_test (λ (d : Stepped Asker Effect). AskerHolds d.state) (nat_lt (epoch_of one.phase) news.epoch)
-      (takeovers.takes (record one { phase = phase_of h.ears.number news h.groups h.ears.clients }) news.slot take_in.Tick)
+      (takeovers.takeovers_take (record one { phase = phase_of h.ears.number news h.groups h.ears.clients }) news.slot take_in.Tick)
       (still one) (λ _. asker_takes (record one { phase = phase_of h.ears.number news h.groups h.ears.clients }) news.slot take_in.Tick tt new) (λ _. before)
     where
       new : Holds (phase_of h.ears.number news h.groups h.ears.clients)
       new =
           by_test Holds (news.manager == h.ears.number)
-          (phase.Taking (record { epoch = news.epoch; take = started news h.groups h.ears.clients; fetches = record { own = 0; ask = 0 } }))
+          (phase.Taking (record { epoch = news.epoch; take = take_start news h.groups h.ears.clients; fetches = record { own = 0; ask = 0 } }))
           (phase.Away news.epoch) (λ _. take_starts came striped news h.groups h.ears.clients known) (λ _. tt)
 
   -- ---- the table
@@ -164,12 +164,12 @@ module _ (came : Came) (striped : Striped) where
   unfolding on_check
   table_checks t check h = at_slot-goes t (slot_of check.block.ino.0) (λ p. tokens.on_check p check) (λ p here. phase_checks p check here) h
 
-  one_recalls : (t : Table) (k : ℕ) → TableHolds t → TableHolds (recalls t k).state
-  unfolding recalls
+  one_recalls : (t : Table) (k : ℕ) → TableHolds t → TableHolds (slot_table_recall t k).state
+  unfolding slot_table_recall
   one_recalls t k h = at_slot-goes t k (λ p. tokens.on_tick p k) (λ p here. phase_takes p k slot_in.Tick here) h
 
-  pub table_recalls : (t : Table) → TableHolds t → TableHolds (recalls_all t).state
-  table_recalls t h = steps_keep recalls TableHolds one_recalls t all_slots h
+  pub table_recalls : (t : Table) → TableHolds t → TableHolds (recall_again t).state
+  table_recalls t h = steps_keep slot_table_recall TableHolds one_recalls t all_slots h
 
   -- ---- takeovers
 
@@ -184,44 +184,44 @@ module _ (came : Came) (striped : Striped) where
       by None here = h
       by (Some p) here = slot_put a.table k (event (asker p a.questions)).state.phase (one (asker p a.questions) here) h
 
-  pub table_takes : (a : TableAsker) (k : ℕ) (given : TakeIn) → InputBrought came striped given → TableAskerHolds a → TableAskerHolds (takes a k given).state
-  unfolding takes
-  table_takes a k given fact h = at_taken-goes a k (λ one. takeovers.takes one k given) (λ one here. asker_takes one k given fact here) h
+  pub table_takes : (a : TableAsker) (k : ℕ) (given : TakeIn) → InputBrought came striped given → TableAskerHolds a → TableAskerHolds (slot_table_take a k given).state
+  unfolding slot_table_take
+  table_takes a k given fact h = at_taken-goes a k (λ one. takeovers.takeovers_take one k given) (λ one here. asker_takes one k given fact here) h
 
   pub table_reports : (a : TableAsker) (from : NodeId) (report : Report) → TableAskerHolds a → TableAskerHolds (on_report a from report).state
   unfolding on_report
   table_reports a from report h =
       at_taken-goes a report.slot (λ one. takeovers.on_report one from report) (λ one here. asker_reports one from report here) h
 
-  one_asks : (polls : Bool) (a : TableAsker) (k : ℕ) → TableAskerHolds a → TableAskerHolds (asks polls a k).state
-  unfolding asks
-  one_asks polls a k h = at_taken-goes a k (λ one. takeovers.asks_again one k polls) (λ one here. asker_asks one k polls here) h
+  one_asks : (polls : Bool) (a : TableAsker) (k : ℕ) → TableAskerHolds a → TableAskerHolds (slot_table_ask polls a k).state
+  unfolding slot_table_ask
+  one_asks polls a k h = at_taken-goes a k (λ one. takeovers.takeovers_ask_again one k polls) (λ one here. asker_asks one k polls here) h
 
-  pub table_asks : (polls : Bool) (a : TableAsker) → TableAskerHolds a → TableAskerHolds (asks_all polls a).state
-  table_asks polls a h = steps_keep (asks polls) TableAskerHolds (one_asks polls) a all_slots h
+  pub table_asks : (polls : Bool) (a : TableAsker) → TableAskerHolds a → TableAskerHolds (slot_table_ask_again polls a).state
+  table_asks polls a h = steps_keep (slot_table_ask polls) TableAskerHolds (one_asks polls) a all_slots h
 
   pub table_regroups : (groups : GroupMapState) (a : TableAsker) → MapStriped striped groups → TableAskerHolds a
-      → TableAskerHolds (regroups_all groups a).state
+      → TableAskerHolds (slot_table_regroup groups a).state
   table_regroups groups a known h =
-      steps_keep (regroups groups) TableAskerHolds (λ b k here. table_takes b k (take_in.Maps groups) known here) a all_slots h
+      steps_keep (regroup_one groups) TableAskerHolds (λ b k here. table_takes b k (take_in.Maps groups) known here) a all_slots h
 
-  one_hears : (h : Hearer) → MapStriped striped h.groups → (a : TableAsker) (news : SlotNews) → TableAskerHolds a → TableAskerHolds (hears h a news).state
-  unfolding hears
-  one_hears h known a news before = at_taken-goes a news.slot (hears_of h news) (λ one here. asker_hears h news one known here) before
+  one_hears : (h : Hearer) → MapStriped striped h.groups → (a : TableAsker) (news : SlotNews) → TableAskerHolds a → TableAskerHolds (slot_table_hear h a news).state
+  unfolding slot_table_hear
+  one_hears h known a news before = at_taken-goes a news.slot (hear_of h news) (λ one here. asker_hears h news one known here) before
 
   pub table_hears : (h : Hearer) (a : TableAsker) (slots : List SlotNews) → MapStriped striped h.groups → TableAskerHolds a
-      → TableAskerHolds (hears_all h a slots).state
-  table_hears h a slots known before = steps_keep (hears h) TableAskerHolds (one_hears h known) a slots before
+      → TableAskerHolds (hear_each h a slots).state
+  table_hears h a slots known before = steps_keep (slot_table_hear h) TableAskerHolds (one_hears h known) a slots before
 
   -- ---- checkpoints
 
-  cleaned_holds : (p : SlotPhase) → Holds p → Holds (cleaned_phase p)
-  unfolding cleaned_phase
+  cleaned_holds : (p : SlotPhase) → Holds p → Holds (phase_clean p)
+  unfolding phase_clean
   cleaned_holds (phase.Taking t) h = h
   cleaned_holds _ h = tt
 
-  named_holds : (epoch : ℕ) (parts : List SegRef) (p : SlotPhase) → Holds p → Holds (named_phase epoch parts p)
-  unfolding named_phase
+  named_holds : (epoch : ℕ) (parts : List SegRef) (p : SlotPhase) → Holds p → Holds (phase_name epoch parts p)
+  unfolding phase_name
   named_holds epoch parts (phase.Active a) h =
       by_test Holds (a.slot.epoch == epoch) (phase.Active (record a { parts = parts })) (phase.Active a) (λ _. tt) (λ _. tt)
   named_holds epoch parts (phase.Away e) h = tt
@@ -236,10 +236,10 @@ module _ (came : Came) (striped : Striped) where
       by None here = h
       by (Some p) here = slot_put t k (change p) (one p here) h
 
-  pub table_cleaned : (t : Table) (k : ℕ) → TableHolds t → TableHolds (cleaned_at t k)
-  unfolding cleaned_at
-  table_cleaned t k h = changes t k cleaned_phase cleaned_holds h
+  pub table_cleaned : (t : Table) (k : ℕ) → TableHolds t → TableHolds (slot_table_clean t k)
+  unfolding slot_table_clean
+  table_cleaned t k h = changes t k phase_clean cleaned_holds h
 
-  pub table_named : (t : Table) (k epoch : ℕ) (parts : List SegRef) → TableHolds t → TableHolds (named_at t k epoch parts)
-  unfolding named_at
-  table_named t k epoch parts h = changes t k (named_phase epoch parts) (named_holds epoch parts) h
+  pub table_named : (t : Table) (k epoch : ℕ) (parts : List SegRef) → TableHolds t → TableHolds (slot_table_name t k epoch parts)
+  unfolding slot_table_name
+  table_named t k epoch parts h = changes t k (phase_name epoch parts) (named_holds epoch parts) h

@@ -10,12 +10,12 @@ use Rattle.segment_format.specs.declared.segment.Segment.{Segment}
 use Rattle.segment_reading.specs.declared.reading.Next.{Next}
 use Rattle.segment_reading.specs.declared.reading.Next.TheVariants as next
 use Rattle.segment_reading.specs.declared.target.Target.{Target}
-use Rattle.segment_reading.specs.Reading.{ReadingState, begun, on_answer, on_confirmed}
+use Rattle.segment_reading.specs.Reading.{ReadingState, reading_start, reading_take, on_confirmed}
 use Rattle.stripe_code.specs.declared.round.Told.{Told as Answered}
 use Rattle.stripe_code.specs.declared.round.Told.TheVariants.{Held}
 use Rattle.stripe_code.specs.declared.round.Told.TheVariants as answered
 use Rattle.takeover.proofs.Ending.{nobody}
-use Rattle.takeover.proofs.Readings.{target-on_answer, target-on_confirmed}
+use Rattle.takeover.proofs.Readings.{target-reading_take, target-on_confirmed}
 use Rattle.takeover.specs.Course.{segment_of}
 use Rattle.takeover.specs.declared.input.In.{In as Input}
 use Rattle.takeover.specs.declared.input.In.TheVariants as input
@@ -24,8 +24,8 @@ use Rattle.takeover.specs.declared.source.Present.{Present}
 use Rattle.takeover.specs.declared.source.Source.{Source}
 use Rattle.takeover.specs.Rows.{told_of}
 use Rattle.takeover.specs.Sources.{sources_of, back_from}
-use Rattle.takeover.specs.TakeState.{TakeState, started}
-use Rattle.takeover.specs.Transition.{Done, awaited, awaits, can_ask, reads, target_of, sought_over, sought, next_of, go_on, with_chain, goes_on_from, has_read, confirmed_as, again, judged_as, told_in, told_at, on_told, begun_if_all, on_report, waits_in, waiting, sought_again, on_maps, transition}
+use Rattle.takeover.specs.TakeState.{TakeState, take_start}
+use Rattle.takeover.specs.Transition.{Done, awaited, awaits, can_ask, take_read, target_of, sought_over, seek, next_of, go_on, join_chain, go_on_from, has_read, confirmed_as, again, take_follow, take_judge, told_at, on_told, begin_if_all, on_report, present_waiting, waiting, sought_again, on_maps, transition}
 use Rattle.xfs_base.proofs.Booleans.{by_test, and_second}
 use Rattle.xfs_base.proofs.Members.{contains_first, contains_rest}
 use Rattle.xfs_base.specs.declared.news.SlotNews.{SlotNews}
@@ -72,21 +72,21 @@ module _ (came : Came) (striped : Striped) where
 
   -- ---- one source after the other
 
-  reads_so : (s : TakeState) (source : Source) (r : Option ReadingState) → Ready s → Leads s source → LooksFor source r → AnyReadingCame (to_any came) striped r
-      → Holds (reads s source r)
-  reads_so s source r ready leads looks reading = record {
+  take_read_so : (s : TakeState) (source : Source) (r : Option ReadingState) → Ready s → Leads s source → LooksFor source r → AnyReadingCame (to_any came) striped r
+      → Holds (take_read s source r)
+  take_read_so s source r ready leads looks reading = record {
     groups = ready.known;
     stands = record { reported = ready.reported; behind = ready.among; leads = leads; looks = looks; reading = reading };
   }
 
-  sought_on : (s : TakeState) (source : Source) → Ready s → Leads s source → Goes (sought s source)
-  unfolding sought
+  sought_on : (s : TakeState) (source : Source) → Ready s → Leads s source → Goes (seek s source)
+  unfolding seek
   sought_on s source ready leads = by (group_of s.groups source.seg.group) refl
     where
       by : (group : Option Group) → group_of s.groups source.seg.group ≡ group → Goes (sought_over s source group)
-      by None fact = reads_so s source None ready leads tt tt
+      by None fact = take_read_so s source None ready leads tt tt
       by (Some group) fact =
-          reads_so (record s { ask = s.ask + 1 }) source (Some (begun (target_of source) group (s.ask + 1))) ready leads refl
+          take_read_so (record s { ask = s.ask + 1 }) source (Some (reading_start (target_of source) group (s.ask + 1))) ready leads refl
           (begun_came (to_any came) striped (target_of source) group (s.ask + 1) (ready.known source.seg.group group fact))
 
   go_on-on : (s : TakeState) → Ready s → Goes (go_on s)
@@ -111,8 +111,8 @@ module _ (came : Came) (striped : Striped) where
       more = record s { chain = told_of s.news.slot segment ∷ s.chain }
 
       by : (before : Option Source) → back_from source segment ≡ before
-          → Goes (goes_on_from (record s { chain = told_of s.news.slot segment ∷ s.chain }) before)
-      by None fact = go_on-on (with_chain (record s { chain = told_of s.news.slot segment ∷ s.chain })) ready
+          → Goes (go_on_from (record s { chain = told_of s.news.slot segment ∷ s.chain }) before)
+      by None fact = go_on-on (join_chain (record s { chain = told_of s.news.slot segment ∷ s.chain })) ready
       by (Some before) fact =
           sought_on (record s { chain = told_of s.news.slot segment ∷ s.chain }) before ready
           (record { first = leads.first; among = leads.among; segments = segment ∷ leads.segments; down = (source, leads.down, joined, fact) })
@@ -125,27 +125,27 @@ module _ (came : Came) (striped : Striped) where
       (confirmed_came (to_any came) striped r (s.ask + 1) reading)
     where
       by : (q : ReadingState) (n : Next) → q.target ≡ target_of source → ReadingCame (to_any came) striped q → Goes (confirmed_as s source q n)
-      by q next.Ask its fact = reads_so (record s { ask = s.ask + 1 }) source (Some q) ready leads its fact
+      by q next.Ask its fact = take_read_so (record s { ask = s.ask + 1 }) source (Some q) ready leads its fact
       by q next.Lost its fact = record { groups = ready.known; stands = refl }
-      by q next.Wait its fact = reads_so s source (Some q) ready leads its fact
-      by q next.Again its fact = reads_so s source (Some q) ready leads its fact
-      by q (next.Read segment) its fact = reads_so s source (Some q) ready leads its fact
+      by q next.Wait its fact = take_read_so s source (Some q) ready leads its fact
+      by q next.Again its fact = take_read_so s source (Some q) ready leads its fact
+      by q (next.Read segment) its fact = take_read_so s source (Some q) ready leads its fact
 
   judged_on : (s : TakeState) (source : Source) (q : ReadingState) (n : Next) → Ready s → Leads s source → q.target ≡ target_of source
       → ReadingCame (to_any came) striped q
-      → ((segment : Segment) → segment_of n ≡ Some segment → ReadsJoined (to_any came) striped source.seg segment) → Goes (judged_as s source q n)
+      → ((segment : Segment) → segment_of n ≡ Some segment → ReadsJoined (to_any came) striped source.seg segment) → Goes (take_follow s source q n)
   judged_on s source q next.Again ready leads looks reading joined = again_on s source q ready leads looks reading
   judged_on s source q (next.Read segment) ready leads looks reading joined = has_read-on s source segment ready leads (joined segment refl)
-  judged_on s source q _ ready leads looks reading joined = reads_so s source (Some q) ready leads looks reading
+  judged_on s source q _ ready leads looks reading joined = take_read_so s source (Some q) ready leads looks reading
 
   -- ---- an answer
 
   -- what an answer completes is joined of what came
   completes_so : (r : ReadingState) (source : Source) (groups : GroupMapState) (own server : ℕ) (t : Answered) (segment : Segment)
       → r.target ≡ target_of source → ReadingCame (to_any came) striped r → to_any came own server t
-      → segment_of (on_answer r groups own server t).next ≡ Some segment → ReadsJoined (to_any came) striped source.seg segment
+      → segment_of (reading_take r groups own server t).next ≡ Some segment → ReadsJoined (to_any came) striped source.seg segment
   completes_so r source groups own server t segment looks reading fact e =
-      let read = answered_reads (to_any came) striped r groups own server t segment reading fact (completed (on_answer r groups own server t).next segment e) in
+      let read = answered_reads (to_any came) striped r groups own server t segment reading fact (completed (reading_take r groups own server t).next segment e) in
       subst (λ (target : Target). ReadsJoined (to_any came) striped target.seg segment) looks read.joined
 
   told_on : (s : TakeState) (own server : ℕ) (t : Answered) → to_any came own server t → Holds s → Goes (on_told s own server t)
@@ -154,13 +154,13 @@ module _ (came : Came) (striped : Striped) where
       by_test Goes (can_ask s) (told_at (record s { present = None }) s.present own server t) (still s) (λ _. by s.present h.stands) (λ _. h)
     where
       by_reading : (p : Present) (r : Option ReadingState) → PresentHolds came striped s p → LooksFor p.source r → AnyReadingCame (to_any came) striped r
-          → Goes (told_in (record s { present = None }) p.source r own server t)
+          → Goes (take_judge (record s { present = None }) p.source r own server t)
       by_reading p None stands looks reading =
-          reads_so (record s { present = None }) p.source None
+          take_read_so (record s { present = None }) p.source None
           (record { known = h.groups; reported = stands.reported; among = stands.behind }) stands.leads tt tt
       by_reading p (Some r) stands looks reading =
-          judged_on (record s { present = None }) p.source (on_answer r s.groups own server t).state (on_answer r s.groups own server t).next
-          (record { known = h.groups; reported = stands.reported; among = stands.behind }) stands.leads (target-on_answer r s.groups own server t ∙ looks)
+          judged_on (record s { present = None }) p.source (reading_take r s.groups own server t).state (reading_take r s.groups own server t).next
+          (record { known = h.groups; reported = stands.reported; among = stands.behind }) stands.leads (target-reading_take r s.groups own server t ∙ looks)
           (answered_came (to_any came) striped r s.groups own server t reading fact)
           (λ segment e. completes_so r p.source s.groups own server t segment looks reading fact e)
 
@@ -183,9 +183,9 @@ module _ (came : Came) (striped : Striped) where
       kept = record { groups = new; stands = grouped s.present h.stands }
 
       by_reading : (p : Present) (r : Option ReadingState) → PresentHolds came striped s p
-          → Goes (sought_again (record s { groups = groups }) (waits_in p.source r))
+          → Goes (sought_again (record s { groups = groups }) (present_waiting p.source r))
       by_reading p None stands =
-          by_test Goes (can_ask s) (sought (record s { groups = groups }) p.source) (still (record s { groups = groups }))
+          by_test Goes (can_ask s) (seek (record s { groups = groups }) p.source) (still (record s { groups = groups }))
           (λ _. sought_on (record s { groups = groups }) p.source (record { known = new; reported = stands.reported; among = stands.behind }) stands.leads)
           (λ _. kept)
       by_reading p (Some r) stands = kept
@@ -199,13 +199,13 @@ module _ (came : Came) (striped : Striped) where
   reported_on : (s : TakeState) (report : Report) → Holds s → Goes (on_report s report)
   unfolding on_report
   reported_on s report h =
-      by_test Goes (can_ask s && awaits s report.from) (begun_if_all heard) (still s)
+      by_test Goes (can_ask s && awaits s report.from) (begin_if_all heard) (still s)
       (λ t. by s.present refl h.stands (and_second (can_ask s) (awaits s report.from) t)) (λ _. h)
     where
       heard : TakeState
       heard = record s { reports = s.reports ++ report ∷ [] }
 
-      by : (o : Option Present) → s.present ≡ o → StandsBy came striped s o → awaits s report.from ≡ true → Goes (begun_if_all heard)
+      by : (o : Option Present) → s.present ≡ o → StandsBy came striped s o → awaits s report.from ≡ true → Goes (begin_if_all heard)
       by None at stands some =
           by_test Goes (length (awaited heard) == 0) (go_on (record heard { sources = sources_of heard.news heard.reports })) (still heard)
           (λ t. go_on-on (record heard { sources = sources_of heard.news heard.reports })
@@ -231,13 +231,13 @@ module _ (came : Came) (striped : Striped) where
   take_goes s input.Tick fact h = h
 
   -- one that begins
-  pub take_starts : (news : SlotNews) (groups : GroupMapState) (clients : ℕ) → MapStriped striped groups → TakeHolds came striped (started news groups clients)
+  pub take_starts : (news : SlotNews) (groups : GroupMapState) (clients : ℕ) → MapStriped striped groups → TakeHolds came striped (take_start news groups clients)
   take_starts news groups clients known = record { groups = known; stands = refl }
 
   -- ---- what it reads
 
   pub take_reads : (s : TakeState) (p : Present) (r : ReadingState) (ask own server : ℕ) (t : Answered) (segment : Segment) → TakeHolds came striped s
-      → s.present ≡ Some p → p.reading ≡ Some r → came ask server t → segment_of (on_answer r s.groups own server t).next ≡ Some segment
+      → s.present ≡ Some p → p.reading ≡ Some r → came ask server t → segment_of (reading_take r s.groups own server t).next ≡ Some segment
       → ReadsJoined (to_any came) striped p.source.seg segment
   take_reads s p r ask own server t segment h at fact it e =
       let stands : PresentHolds came striped s p = subst (StandsBy came striped s) at h.stands in

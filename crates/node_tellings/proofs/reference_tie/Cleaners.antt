@@ -18,7 +18,7 @@ use Rattle.node_moves.proofs.cleaner_moves.Keeping.{EffectKeeps, Gives, any_stat
 use Rattle.node_moves.proofs.cleaner_moves.Keeping.Gives.{EndReported}
 use Rattle.node_moves.specs.cleaner_moves.Moves.{OpenedBy}
 use Rattle.node_moves.specs.cleaner_moves.Moves.OpenedBy.{PacketCame, TimeWent}
-use Rattle.node_tellings.proofs.reference_tie.Feeding.{pushes_all_say}
+use Rattle.node_tellings.proofs.reference_tie.Feeding.{push_all_say}
 use Rattle.node_tellings.proofs.reference_tie.Reporting as frames
 use Rattle.node_tellings.specs.reference_tie.Owners.{CleanerReportsItsEnd}
 
@@ -38,7 +38,7 @@ module _ (told : End) (first : Cleaner) (what : Do) (fact : (e : Emptying) → f
     gives = λ e effect given h. gives_so e effect given;
     sends = λ f m. tt;
     files = λ name. tt;
-    pushes = λ e h. pushes_all_say told e.promised.managers e.feed;
+    pushes = λ e h. push_all_say told e.promised.managers e.feed;
     answers = λ number a due. tt;
     greets = λ inc ask. tt;
     opens = λ l o x same by. opens_so l o x by;

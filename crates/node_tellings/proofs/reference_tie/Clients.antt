@@ -1,7 +1,7 @@
 -- Whatever happens to a client that serves, whichever Report it sends bears the end that its log had before.
-use Rattle.client_node.specs.Phases.{Went_to, crashed, owner_of, restarted, after_opening, opened_on, answers, serves_on, wish_of, down_begins, opening_begins, serving_begins, lasting_of, begins_item, on_begin, on_deliver, on_time, delivers, happens, client_room, takes}
+use Rattle.client_node.specs.Phases.{Went_to, cut, owner_of, restart, phase_after, opened_on, answers, serves_on, wish_of, down_begins, opening_begins, serving_begins, lasting_of, begins_item, on_begin, on_deliver, client_tick, client_deliver, happens, client_has_room, takes}
 use Rattle.client_node.specs.Crash.{falls}
-use Rattle.client_running.specs.Opens.{begins_call, call_at, opens}
+use Rattle.client_running.specs.Opens.{begin_call, call_at, opens}
 use Rattle.log_owner.proofs.Behaving as behaving
 use Rattle.log_owner.specs.Behaves.{Behaves}
 use Rattle.log_owner.specs.declared.ended.Owner.{Owner}
@@ -10,22 +10,22 @@ use Rattle.log_owner.specs.declared.opened.Progress.TheVariants as progress
 use Rattle.log_owner.specs.declared.opening.Opening as openings
 use Rattle.log_owner.specs.Opening as opening
 use Rattle.log_owner.specs.Opening.{Went}
-use Rattle.log_owner.specs.Sending.{pushes_all}
+use Rattle.log_owner.specs.Sending.{push_all}
 use Rattle.node_base.specs.declared.effects.Effect.TheVariants.{Answer as Answers}
 use Rattle.client_node.specs.declared.phase.Phase.TheVariants.{Down, Opening, Serving as Serves}
 use Rattle.client_node.specs.declared.phase.Phase.{Phase}
-use Rattle.node_tellings.proofs.reference_tie.Feeding.{pushes_all_say}
+use Rattle.node_tellings.proofs.reference_tie.Feeding.{push_all_say}
 use Rattle.node_tellings.specs.reference_tie.Owners.{ClientsReportTheirEnd}
 use Rattle.std.proofs.Common.{◌≡◌, ℕ, [], ◌∷◌, Option, Some, None, is_some, refl}
-use Rattle.node_base.specs.Beginning.{next_item, begun, work_at, waiting, answered}
+use Rattle.node_base.specs.Beginning.{next_item, items_begin, work_at, items_wait, items_answer}
 use Rattle.xfs_base.specs.declared.segment.End.{End}
 use Rattle.client_node.specs.declared.client.Client.{Client}
 use Rattle.client_call.specs.declared.call.Going.{Going}
 use Rattle.client_serving.specs.declared.lasting.Lasting.{Lasting}
 use Rattle.client_serving.specs.declared.serving.Serving.{Serving}
-use Rattle.client_serving.specs.Lasting.{next_life}
+use Rattle.client_serving.specs.Lasting.{live_on}
 use Rattle.client_serving.specs.Packets as packets
-use Rattle.client_running.specs.Running.{goes_on}
+use Rattle.client_running.specs.Running.{running_go_on}
 use Rattle.client_serving.specs.Sends.{Done, gives}
 use Rattle.node_base.specs.declared.peers.Peers.{Peers}
 use Rattle.node_base.specs.Shape.{is_well_formed}
@@ -62,9 +62,9 @@ module _ (told : End) where
 
   -- ---- falls and restarts
 
-  crashes_so : (l : Lasting) (number : ℕ) → Goes (crashed l number)
+  crashes_so : (l : Lasting) (number : ℕ) → Goes (cut l number)
   crashes_so l number =
-      frames.goes_plain told PhaseSo (Down (record l { items = answered l.items })) (crashed l number).outs tt
+      frames.goes_plain told PhaseSo (Down (record l { items = items_answer l.items })) (cut l number).outs tt
       (frames.both_say told l.items.unanswered answer.Cut number answer.Done)
 
   -- ---- the next item begins
@@ -72,56 +72,56 @@ module _ (told : End) where
   serves_so : (d : Done) → serving.Goes told d → Goes (serves_on d)
   serves_so d p = (tt, p.1)
 
-  begins_so : (s : Serving) (number : ℕ) (going : Option Going) → serving.At told s → serving.Goes told (begins_call s number going)
+  begins_so : (s : Serving) (number : ℕ) (going : Option Going) → serving.At told s → serving.Goes told (begin_call s number going)
   begins_so s number None h = frames.goes_plain told (serving.At told) s (Answers number answer.Done ∷ []) h (tt, tt)
   begins_so s number (Some x) h =
-      let t : Serving = record s { lasting = record s.lasting { items = waiting s.lasting.items number } } in
-      serving.gone told (packets_go.and_runs (serving.walk told) (goes_on t x)) (packets_go.runs_after (serving.walk told) (goes_on t x)
-      (calls.goes_on_so (serving.walk told) t x (readings.going_any (λ r. Unit {0}) (λ r. tt) x) h))
+      let t : Serving = record s { lasting = record s.lasting { items = items_wait s.lasting.items number } } in
+      serving.gone told (packets_go.and_runs (serving.walk told) (running_go_on t x)) (packets_go.runs_after (serving.walk told) (running_go_on t x)
+      (calls.running_go_on_so (serving.walk told) t x (readings.going_any (λ r. Unit {0}) (λ r. tt) x) h))
 
   opens_so : (s : Serving) (number : ℕ) → serving.At told s → serving.Goes told (opens s number)
   unfolding opens
   opens_so s number h =
       by_test (λ (d : Done). serving.Goes told d) (is_some s.lasting.items.unanswered) (gives s (Answers number answer.Busy ∷ []))
-      (begins_call s number (call_at s number (work_at s.lasting.items number)))
+      (begin_call s number (call_at s number (work_at s.lasting.items number)))
       (λ t. frames.goes_plain told (serving.At told) s (Answers number answer.Busy ∷ []) h (tt, tt))
       (λ t. begins_so s number (call_at s number (work_at s.lasting.items number)) h)
 
   serving_so : (s : Serving) (number : ℕ) (wanted : Option Work) → serving.At told s → Goes (serving_begins s number (wish_of wanted))
   serving_so s number (Some (work.Crash node)) h =
-      frames.goes_after told PhaseSo (falls s ∷ []) (crashed s.lasting number) (tt, tt) (crashes_so s.lasting number)
+      frames.goes_after told PhaseSo (falls s ∷ []) (cut s.lasting number) (tt, tt) (crashes_so s.lasting number)
   serving_so s number (Some (work.Restart node)) h = answers_so (Serves s) number answer.Up
   serving_so s number (Some _) h = serves_so (opens s number) (opens_so s number h)
   serving_so s number None h = serves_so (opens s number) (opens_so s number h)
 
   -- ---- an opening, which reports nothing
 
-  after_opening_so : (l : Lasting) (capacity : ℕ) (p : Progress) → Goes (after_opening l capacity p)
-  after_opening_so l capacity (progress.Opening o) = still_so (Opening l o)
-  after_opening_so l capacity (progress.Opened o) = (
+  phase_after_so : (l : Lasting) (capacity : ℕ) (p : Progress) → Goes (phase_after l capacity p)
+  phase_after_so l capacity (progress.Opening o) = still_so (Opening l o)
+  phase_after_so l capacity (progress.Opened o) = (
     tt,
     (
       tt,
-      all_append (frames.Says told) (pushes_all o.promised.managers o.feed) _ (pushes_all_say told o.promised.managers o.feed)
+      all_append (frames.Says told) (push_all o.promised.managers o.feed) _ (push_all_say told o.promised.managers o.feed)
           (frames.answers_say told l.items.unanswered answer.Done),
     ),
   )
-  after_opening_so l capacity (progress.Lost seg) = (tt, frames.answers_say told l.items.unanswered (answer.Lost seg))
+  phase_after_so l capacity (progress.Lost seg) = (tt, frames.answers_say told l.items.unanswered (answer.Lost seg))
 
   opened_on_so : (l : Lasting) (capacity : ℕ) (owner : Owner) (w : Went) → Behaves owner w → Goes (opened_on l capacity w)
   opened_on_so l capacity owner w b =
-      let e : Went_to = after_opening (record l { questions = w.questions }) capacity w.progress in (
+      let e : Went_to = phase_after (record l { questions = w.questions }) capacity w.progress in (
         tt,
         all_append (frames.Says told) w.effects e.outs (frames.may_do told owner w.effects b.does)
-            (after_opening_so (record l { questions = w.questions }) capacity w.progress).1,
+            (phase_after_so (record l { questions = w.questions }) capacity w.progress).1,
       )
 
-  restarts_so : (servers : ℕ) (l : Lasting) → Goes (restarted servers l)
+  restarts_so : (servers : ℕ) (l : Lasting) → Goes (restart servers l)
   restarts_so servers l =
       (tt, frames.may_do told (owner_of l) (opening.on_start (owner_of l) servers l.questions).effects (behaving.begin_so (owner_of l) servers l.questions).does)
 
   down_so : (servers number : ℕ) (l : Lasting) (wanted : Option Work) → Goes (down_begins servers l number (wish_of wanted))
-  down_so servers number l (Some (work.Restart node)) = restarts_so servers (next_life l number)
+  down_so servers number l (Some (work.Restart node)) = restarts_so servers (live_on l number)
   down_so servers number l (Some _) = answers_so (Down l) number answer.Down
   down_so servers number l None = answers_so (Down l) number answer.Down
 
@@ -135,10 +135,10 @@ module _ (told : End) where
 
   item_so : (servers : ℕ) (p : Phase) (item : Option ℕ) → Goes (begins_item servers p item)
   item_so servers p None = still_so p
-  item_so servers (Down l) (Some number) = down_so servers number (record l { items = begun l.items }) (work_at (begun l.items) number)
-  item_so servers (Opening l o) (Some number) = opening_so (record l { items = begun l.items }) o number (work_at (begun l.items) number)
+  item_so servers (Down l) (Some number) = down_so servers number (record l { items = items_begin l.items }) (work_at (items_begin l.items) number)
+  item_so servers (Opening l o) (Some number) = opening_so (record l { items = items_begin l.items }) o number (work_at (items_begin l.items) number)
   item_so servers (Serves s) (Some number) =
-      serving_so (record s { lasting = record s.lasting { items = begun s.lasting.items } }) number (work_at (begun s.lasting.items) number) tt
+      serving_so (record s { lasting = record s.lasting { items = items_begin s.lasting.items } }) number (work_at (items_begin s.lasting.items) number) tt
 
   on_begin_so : (servers : ℕ) (p : Phase) → Goes (on_begin servers p)
   unfolding on_begin
@@ -152,34 +152,34 @@ module _ (told : End) where
   unfolding on_deliver
   on_deliver_so capacity (Down l) packet fact = still_so (Down l)
   on_deliver_so capacity (Opening l o) packet fact =
-      opened_on_so l capacity o.known.owner (opening.on_packet o l.questions packet) (behaving.packet_so o l.questions packet)
+      opened_on_so l capacity o.known.owner (opening.opening_take o l.questions packet) (behaving.packet_so o l.questions packet)
   on_deliver_so capacity (Serves s) packet fact =
-      serves_so (packets_go.and_runs (serving.walk told) (packets.on_packet s packet))
-      (serving.gone told (packets_go.and_runs (serving.walk told) (packets.on_packet s packet))
+      serves_so (packets_go.and_runs (serving.walk told) (packets.serving_take s packet))
+      (serving.gone told (packets_go.and_runs (serving.walk told) (packets.serving_take s packet))
       (packets_go.packet_so (serving.walk told) s packet (hears_so (serving.walk told) (λ ask server t. tt) (λ groups. tt) packet.from packet.body (λ m is. tt)) tt (fact s refl)))
 
-  delivers_so : (peers : Peers) (capacity : ℕ) (p : Phase) (packet : Packet) → Ends p → Goes (delivers peers capacity p packet)
-  delivers_so peers capacity p packet fact =
+  client_deliver_so : (peers : Peers) (capacity : ℕ) (p : Phase) (packet : Packet) → Ends p → Goes (client_deliver peers capacity p packet)
+  client_deliver_so peers capacity p packet fact =
       by_test (λ (x : Went_to). Goes x) (is_well_formed peers packet) (on_deliver capacity p packet) (still p)
       (λ t. on_deliver_so capacity p packet fact) (λ t. still_so p)
 
-  on_time_so : (capacity : ℕ) (p : Phase) → Goes (on_time capacity p)
-  unfolding on_time
-  on_time_so capacity (Down l) = still_so (Down l)
-  on_time_so capacity (Opening l o) =
+  client_tick_so : (capacity : ℕ) (p : Phase) → Goes (client_tick capacity p)
+  unfolding client_tick
+  client_tick_so capacity (Down l) = still_so (Down l)
+  client_tick_so capacity (Opening l o) =
       opened_on_so l capacity o.known.owner (opening.on_tick o l.questions) (behaving.tick_so o l.questions)
-  on_time_so capacity (Serves s) =
+  client_tick_so capacity (Serves s) =
       serves_so (packets_go.and_runs (serving.walk told) (packets.on_tick s))
       (serving.gone told (packets_go.and_runs (serving.walk told) (packets.on_tick s)) (packets_go.time_so (serving.walk told) s tt))
 
   happens_so : (client : Client) (what : Do) → Ends client.phase → Goes (happens client what)
   happens_so client Begin fact = on_begin_so client.peers.servers client.phase
-  happens_so client (Deliver packet) fact = delivers_so client.peers client.cache client.phase packet fact
-  happens_so client Tick fact = on_time_so client.cache client.phase
+  happens_so client (Deliver packet) fact = client_deliver_so client.peers client.cache client.phase packet fact
+  happens_so client Tick fact = client_tick_so client.cache client.phase
 
   takes_so : (client : Client) (what : Do) → Ends client.phase → Goes (takes client what)
   takes_so client what fact =
-      by_test (λ (x : Went_to). Goes x) (client_room client) (happens client what) (still client.phase) (λ t. happens_so client what fact)
+      by_test (λ (x : Went_to). Goes x) (client_has_room client) (happens client what) (still client.phase) (λ t. happens_so client what fact)
       (λ t. still_so client.phase)
 
 -- ---- the law

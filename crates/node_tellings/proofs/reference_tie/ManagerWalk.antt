@@ -20,7 +20,7 @@ use Rattle.xfs_base.specs.declared.node.NodeId.{NodeId}
 use Rattle.checkpoint.specs.declared.plan.Plan.{Plan}
 use Rattle.checkpoint.specs.Plan.{plan_of, writes_all}
 use Rattle.checkpoint.specs.Transition as writer
-use Rattle.client_log.specs.Transition.{end_from}
+use Rattle.client_log.specs.Transition.{end_of}
 use Rattle.index_pages.specs.Pages.{PagesState, all_rows, changed_rows}
 use Rattle.log_flight.specs.Flights.{FlightState}
 use Rattle.slot_beliefs.specs.Index.{pages_of}
@@ -60,7 +60,7 @@ module _ (refs : References) (node : NodeId) where
     Items = λ items. Unit {0};
     Done = λ k epoch parts horizon. PartsRefer refs parts;
     Log = λ s. Unit {0};
-    Flies = λ l flight. IfSome flight (λ (f : FlightState). refs.part (writer.part_at l (end_from f.segment)));
+    Flies = λ l flight. IfSome flight (λ (f : FlightState). refs.part (writer.part_at l (end_of f.segment)));
     Settles = λ l end. refs.part (writer.part_at l end);
     Tells = λ said. BodyRefers refs node said;
     takes = λ k a given told h. h;

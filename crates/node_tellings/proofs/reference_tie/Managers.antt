@@ -1,8 +1,8 @@
 -- Whatever happens to a manager, what it refers to, in what it holds and sends, it was told of or had in flight.
 use Rattle.std.proofs.Common.{ℕ, ◌==◌, List}
-use Rattle.manager_map.specs.Slots.{start_entries, entry_at}
+use Rattle.manager_map.specs.Slots.{manager_map_start, entry_at}
 use Rattle.manager_node.specs.declared.manager.Manager.{Manager}
-use Rattle.manager_node.specs.Events.{first_manager, manager_step, happens}
+use Rattle.manager_node.specs.Events.{manager_start, manager_step, happens}
 use Rattle.manager_node.specs.Phases.{lasting_of}
 use Rattle.manager_slots.specs.declared.slot_phase.SlotPhase.TheVariants as phase
 use Rattle.manager_slots.specs.Slots.{first_active}
@@ -23,18 +23,18 @@ use Rattle.node_moves.proofs.manager_walk.Events.{manager_goes, packets_so}
 
 module _ (refs : References) where
   -- no checkpoint was written
-  first_refer : (number : ℕ) (setup : Setup) (works : List Work) → ManagerRefers refs (first_manager number setup works)
+  first_refer : (number : ℕ) (setup : Setup) (works : List Work) → ManagerRefers refs (manager_start number setup works)
   first_refer number setup works =
       record { slots = (one 0, (one 1, (one 2, (one 3, (one 4, (one 5, (one 6, (one 7, tt)))))))); writer = tt; checkpoint = tt }
     where
-      one : (slot : ℕ) → SlotRefers refs (first_phase number (start_entries setup.managers) slot)
+      one : (slot : ℕ) → SlotRefers refs (first_phase number (manager_map_start setup.managers) slot)
       one slot =
-          by_test (SlotRefers refs) ((entry_at (start_entries setup.managers) (slot_of slot)).manager == number) first_active (phase.Away 1)
+          by_test (SlotRefers refs) ((entry_at (manager_map_start setup.managers) (slot_of slot)).manager == number) first_active (phase.Away 1)
           (λ _. tt) (λ _. tt)
 
 -- ---- the laws
 
-pub managers_start : (r : References) (number : ℕ) (setup : Setup) (works : List Work) → ManagerRefers r (first_manager number setup works)
+pub managers_start : (r : References) (number : ℕ) (setup : Setup) (works : List Work) → ManagerRefers r (manager_start number setup works)
 managers_start r number setup works = first_refer r number setup works
 
 pub managers_keep : (r : References) (m : Manager) (what : Do) → ManagerRefers r m → PhaseFlies r m.phase → DoRefers r what

@@ -3,7 +3,7 @@ use Rattle.std.proofs.Common.{ℕ, zero, suc, List, [], ◌∷◌, subst}
 use Rattle.std.specs.Prelude.{slice_set}
 use Rattle.std.specs.List.{AllByRecursion}
 use Rattle.node_base.specs.declared.effects.Effect.{Effect}
-use Rattle.registry.specs.Board.{all_news}
+use Rattle.registry.specs.Board.{board_slots}
 use Rattle.registry.specs.BoardState.{BoardState}
 use Rattle.registry.specs.Checkpoints.{parts_at}
 use Rattle.registry.specs.declared.checkpoint.Checkpoint.{Checkpoint}
@@ -38,7 +38,7 @@ module _ (refs : References) where
   abbrev Tells : BoardState → Effect → Type 0
   Tells now e = Says (λ said. BodyRefers refs Registry said) e
 
-  news_refer : (s : BoardState) → BoardRefers s → AllByRecursion (NewsRefer refs) (all_news s)
+  news_refer : (s : BoardState) → BoardRefers s → AllByRecursion (NewsRefer refs) (board_slots s)
   news_refer s h = (h 0, (h 1, (h 2, (h 3, (h 4, (h 5, (h 6, (h 7, tt))))))))
 
   tells_so : (node : RegistryNode) (what : Do) (now : BoardState) (e : Effect) → BoardRefers now → Said node what now e → Tells now e

@@ -7,7 +7,7 @@ use Rattle.node_moves.proofs.client_walk.Frames as steps
 use Rattle.node_moves.proofs.client_walk.Laws.{Walk, all_read, all_tell}
 use Rattle.token_client.specs.Transition as client
 use Rattle.xfs_base.specs.declared.segment.End.{End}
-use Rattle.node_tellings.proofs.reference_tie.Feeding.{pushes_all_say, pushes_say}
+use Rattle.node_tellings.proofs.reference_tie.Feeding.{push_all_say, pushes_say}
 use Rattle.node_tellings.proofs.reference_tie.Reporting as frames
 
 module _ (told : End) where
@@ -52,7 +52,7 @@ module _ (told : End) where
     asks = λ inc ask. tt;
     reports = λ s slot epoch owed h. owed;
     pushed = λ s slot h. pushes_say told s.managers s.feed slot;
-    all_pushed = λ s h. pushes_all_say told s.managers s.feed;
+    all_pushed = λ s h. push_all_say told s.managers s.feed;
     answers = λ item a. tt;
     loses = λ name. tt;
     has_read = λ node block ver value. tt;

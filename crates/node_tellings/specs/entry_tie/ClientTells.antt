@@ -2,12 +2,12 @@
 use Rattle.std.specs.Prelude.{◌≡◌, ℕ, List, Contains, Option, Some, None, IfSome}
 use Rattle.std.specs.List.{AllByRecursion}
 use Rattle.client_log.specs.LogState.{LogState}
-use Rattle.client_log.specs.Transition.{end_from}
+use Rattle.client_log.specs.Transition.{end_of}
 use Rattle.client_node.specs.declared.client.Client.{Client}
 use Rattle.client_node.specs.declared.phase.Phase.TheVariants.{Down, Opening, Serving as Serves}
 use Rattle.client_node.specs.declared.phase.Phase.{Phase}
 use Rattle.client_node.specs.Phases.{client_step}
-use Rattle.client_node.specs.Starting.{first_client}
+use Rattle.client_node.specs.Starting.{client_start}
 use Rattle.client_call.specs.Reads.{reading_in}
 use Rattle.client_serving.specs.declared.serving.Serving.{Serving}
 use Rattle.client_serving.specs.Lasting.{log_of}
@@ -83,7 +83,7 @@ ClientHolds told client = PhaseHolds told client.phase
 -- the segment that its log has in flight, where it is acted to be filed, says what is told
 abbrev pub FlightOwed : Told → List Act → LogId → LogState → Type 0
 FlightOwed told acts log s =
-    (flight : FlightState) → s.flight ≡ Some flight → Contains acts (Filed (name_of log (end_from flight.segment))) → RowsTold told (rows_of flight.segment)
+    (flight : FlightState) → s.flight ≡ Some flight → Contains acts (Filed (name_of log (end_of flight.segment))) → RowsTold told (rows_of flight.segment)
 
 -- so does a segment that was read back
 abbrev pub SegmentOwed : Told → List Act → Segment → Type 0
@@ -106,7 +106,7 @@ ClientOwed told client what acts = PhaseOwed told acts client.phase
 
 -- a client at its start holds nothing
 abbrev pub ClientStartsTold : Type 0
-ClientStartsTold = (rows : FiledRows) (number : ℕ) (setup : Setup) (works : List Work) → ClientHolds (told_by_rows rows) (first_client number setup works)
+ClientStartsTold = (rows : FiledRows) (number : ℕ) (setup : Setup) (works : List Work) → ClientHolds (told_by_rows rows) (client_start number setup works)
 
 -- what filed segments said they say later too
 abbrev pub ClientHoldsRise : Type 0

@@ -9,7 +9,7 @@ use Rattle.log_owner.specs.Sending.{server_in}
 use Rattle.manager_node.specs.declared.manager.Manager.{Manager}
 use Rattle.manager_node.specs.declared.phase.Phase.{Phase}
 use Rattle.manager_node.specs.declared.phase.Phase.TheVariants.{Down, Waiting, Serving as Serves}
-use Rattle.manager_node.specs.Events.{first_manager, manager_step}
+use Rattle.manager_node.specs.Events.{manager_start, manager_step}
 use Rattle.manager_slots.specs.declared.slot_phase.SlotPhase.{SlotPhase}
 use Rattle.manager_slots.specs.declared.slot_phase.SlotPhase.TheVariants as phase
 use Rattle.manager_slots.specs.Slots.{fetch_of}
@@ -17,7 +17,7 @@ use Rattle.manager_serving.specs.declared.serving.Serving.{Serving}
 use Rattle.segment_format.specs.declared.segment.Item.{Item}
 use Rattle.segment_format.specs.declared.segment.Item.TheVariants.{Block, Delta, Part}
 use Rattle.segment_format.specs.declared.segment.Segment.{Segment}
-use Rattle.segment_reading.specs.Reading.{ReadingState, on_answer}
+use Rattle.segment_reading.specs.Reading.{ReadingState, reading_take}
 use Rattle.stripe_code.specs.declared.round.Told.{Told as Answered}
 use Rattle.stripe_code.specs.declared.round.Told.TheVariants as answered
 use Rattle.takeover.specs.Course.{segment_of}
@@ -93,7 +93,7 @@ ManagerHolds told manager = PhaseHolds told manager.phase
 abbrev pub TakeOwed : Told → TakeState → ℕ → ℕ → Answered → Type 0
 TakeOwed told take ask server answer =
     (present : Present) (reading : ReadingState) (segment : Segment) → take.present ≡ Some present → present.reading ≡ Some reading
-    → segment_of (on_answer reading take.groups ask server answer).next ≡ Some segment → RowsTold told (told_of take.news.slot segment)
+    → segment_of (reading_take reading take.groups ask server answer).next ≡ Some segment → RowsTold told (told_of take.news.slot segment)
 
 abbrev pub PhaseOwed : Told → ℕ → ℕ → Answered → SlotPhase → Type 0
 PhaseOwed told ask server answer (phase.Taking taking) = TakeOwed told taking.take ask server answer
@@ -130,7 +130,7 @@ ManagerOwed told manager what acts = DoOwed told manager.phase what
 
 -- a manager at its start holds nothing
 abbrev pub ManagerStartsTold : Type 0
-ManagerStartsTold = (rows : FiledRows) (number : ℕ) (setup : Setup) (works : List Work) → ManagerHolds (told_by_rows rows) (first_manager number setup works)
+ManagerStartsTold = (rows : FiledRows) (number : ℕ) (setup : Setup) (works : List Work) → ManagerHolds (told_by_rows rows) (manager_start number setup works)
 
 -- what filed segments said they say later too
 abbrev pub ManagerHoldsRise : Type 0

@@ -4,7 +4,7 @@ use Rattle.client_node.specs.declared.client.Client.{Client}
 use Rattle.client_node.specs.declared.phase.Phase.TheVariants.{Down, Opening, Serving as Serves}
 use Rattle.client_node.specs.declared.phase.Phase.{Phase}
 use Rattle.client_node.specs.Phases.{client_step}
-use Rattle.client_node.specs.Starting.{first_client}
+use Rattle.client_node.specs.Starting.{client_start}
 use Rattle.client_serving.specs.declared.serving.Serving.{Serving}
 use Rattle.version_model.specs.declared.work.Work.{Work}
 use Rattle.xfs_base.specs.declared.setup.Setup.{Setup}
@@ -26,7 +26,7 @@ ClientReaches reach client = PhaseReaches reach client.phase
 
 -- a client at its start holds nothing
 abbrev pub ClientStartsReaching : Type 0
-ClientStartsReaching = (reach : Reach) (number : ℕ) (setup : Setup) (works : List Work) → ClientReaches reach (first_client number setup works)
+ClientStartsReaching = (reach : Reach) (number : ℕ) (setup : Setup) (works : List Work) → ClientReaches reach (client_start number setup works)
 
 -- what was filed stays so
 abbrev pub ClientReachRises : Type 0

@@ -2,7 +2,7 @@
 use Rattle.std.specs.Prelude.{ℕ, suc, ◌≤◌, min, List}
 use Rattle.std.specs.List.{AllByRecursion}
 use Rattle.manager_node.specs.declared.manager.Manager.{Manager}
-use Rattle.manager_node.specs.Events.{first_manager, manager_step}
+use Rattle.manager_node.specs.Events.{manager_start, manager_step}
 use Rattle.slot_beliefs.specs.Recalls.{applied_of}
 use Rattle.registry_node.specs.declared.node.RegistryNode.{RegistryNode}
 use Rattle.registry_node.specs.Events.{registry_start, registry_step}
@@ -38,7 +38,7 @@ ManagerAbove floor manager = ManagerBounded (above floor) manager
 abbrev pub ManagerStartsAbove : Type 0
 ManagerStartsAbove =
     (floor : Floor) (number : ℕ) (setup : Setup) (works : List Work) → ((slot log : ℕ) → floor slot 1 log ≤ 1)
-    → ManagerAbove floor (first_manager number setup works)
+    → ManagerAbove floor (manager_start number setup works)
 
 -- what a manager has after an event, and sends in it, is above the floor
 pub record StaysAbove (floor : Floor) (manager : Manager) (what : Do) : Type 0 where

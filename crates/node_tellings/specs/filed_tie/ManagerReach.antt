@@ -1,7 +1,7 @@
 -- What a manager holds of what was filed of the logs of the clients and of the cleaner.
 use Rattle.std.specs.Prelude.{ℕ, List}
 use Rattle.manager_node.specs.declared.manager.Manager.{Manager}
-use Rattle.manager_node.specs.Events.{first_manager, manager_step}
+use Rattle.manager_node.specs.Events.{manager_start, manager_step}
 use Rattle.version_model.specs.declared.work.Work.{Work}
 use Rattle.xfs_base.specs.declared.setup.Setup.{Setup}
 use Rattle.node_tellings.specs.filed_tie.Bounds.{Bounds, ManagerBounded}
@@ -20,7 +20,7 @@ ManagerReaches reach manager = ManagerBounded (filed reach) manager
 
 -- a manager at its start holds nothing
 abbrev pub ManagerStartsReaching : Type 0
-ManagerStartsReaching = (reach : Reach) (number : ℕ) (setup : Setup) (works : List Work) → ManagerReaches reach (first_manager number setup works)
+ManagerStartsReaching = (reach : Reach) (number : ℕ) (setup : Setup) (works : List Work) → ManagerReaches reach (manager_start number setup works)
 
 -- what a manager holds was filed later too
 abbrev pub ManagerReachRises : Type 0

@@ -5,13 +5,13 @@ use Rattle.std.specs.List.{AllByRecursion}
 use Rattle.checkpoint.specs.Transition.{part_at}
 use Rattle.checkpoint.specs.WriterState.{WorkState}
 use Rattle.client_log.specs.LogState.{LogState}
-use Rattle.client_log.specs.Transition.{end_from}
+use Rattle.client_log.specs.Transition.{end_of}
 use Rattle.log_flight.specs.Flights.{FlightState}
 use Rattle.log_owner.specs.Sending.{name_of}
 use Rattle.manager_node.specs.declared.manager.Manager.{Manager}
 use Rattle.manager_node.specs.declared.phase.Phase.{Phase}
 use Rattle.manager_node.specs.declared.phase.Phase.TheVariants.{Down, Waiting, Serving as Serves}
-use Rattle.manager_node.specs.Events.{first_manager, manager_step}
+use Rattle.manager_node.specs.Events.{manager_start, manager_step}
 use Rattle.manager_slots.specs.declared.slot_phase.SlotPhase.{SlotPhase}
 use Rattle.manager_slots.specs.Lasting.{log_of}
 use Rattle.manager_serving.specs.declared.checkpointing.Checkpointing.{Checkpointing}
@@ -58,7 +58,7 @@ ManagerNames known manager = PhaseNames known manager.phase
 -- What its log has in flight, which the writer names once it is settled: where it is among the acts of an event, to be filed.
 abbrev pub FlightNames : Known → List Act → ℕ → LogId → LogState → Type 0
 FlightNames known acts number log s =
-    (f : FlightState) → s.flight ≡ Some f → Contains acts (Filed (name_of (log_of number) (end_from f.segment))) → known (part_at log (end_from f.segment))
+    (f : FlightState) → s.flight ≡ Some f → Contains acts (Filed (name_of (log_of number) (end_of f.segment))) → known (part_at log (end_of f.segment))
 
 abbrev pub PhaseFlies : Known → List Act → Phase → Type 0
 PhaseFlies known acts (Down kept) = Unit {0}
@@ -70,7 +70,7 @@ PhaseFlies known acts (Serves s) = FlightNames known acts s.lasting.number s.wri
 -- a manager at its start names nothing
 abbrev pub ManagersStartNaming : Type 0
 ManagersStartNaming =
-    (refs : List SegRef) (number : ℕ) (setup : Setup) (works : List Work) → ManagerNames (named_by refs) (first_manager number setup works)
+    (refs : List SegRef) (number : ℕ) (setup : Setup) (works : List Work) → ManagerNames (named_by refs) (manager_start number setup works)
 
 -- Where more may be named, it names none but that still.
 abbrev pub ManagerNamesRise : Type 0

@@ -1,7 +1,7 @@
 -- What the cleaner that reads the segment in its hand holds, and what it reads.
 use Rattle.std.specs.Prelude.{◌≡◌, ℕ, List, Option, Some, None}
 use Rattle.cleaner_serving.specs.declared.emptying.Emptying.{Emptying}
-use Rattle.cleaner_serving.specs.Jobs.{told_by}
+use Rattle.cleaner_serving.specs.Jobs.{emptying_hear}
 use Rattle.cleaner_node.specs.CleanerEvents.{cleaner_start, cleaner_step}
 use Rattle.cleaner_node.specs.declared.cleaner.Cleaner.{Cleaner}
 use Rattle.cleaner_node.specs.declared.cleaner.Phase.{Phase}
@@ -9,7 +9,7 @@ use Rattle.cleaner_node.specs.declared.cleaner.Phase.TheVariants.{Down, Opening,
 use Rattle.cleaner_job.specs.declared.hand.Hand.{Hand}
 use Rattle.cleaner_job.specs.Jobs.{hand_of}
 use Rattle.group_map.specs.GroupMapState.{GroupMapState}
-use Rattle.group_map.specs.Groups.{started}
+use Rattle.group_map.specs.Groups.{group_map_start}
 use Rattle.segment_format.specs.declared.segment.Segment.{Segment}
 use Rattle.segment_reading.specs.declared.reading.Next.TheVariants.{Read}
 use Rattle.segment_reading.specs.Reading.{ReadingState}
@@ -67,7 +67,7 @@ ReadsHand came striped (Some hand) segment = ReadsJoined came striped hand.seg s
 -- at its start the cleaner has no job, and knows the groups of the setup
 abbrev pub CleanerStarts : Type 0
 CleanerStarts =
-    (packets : List Packet) (to : NodeId) (cuts : Cuts) (setup : Setup) (works : List Work) → MapStriped (cut_by cuts) (started setup.servers setup.groups)
+    (packets : List Packet) (to : NodeId) (cuts : Cuts) (setup : Setup) (works : List Work) → MapStriped (cut_by cuts) (group_map_start setup.servers setup.groups)
     → CleanerHolds (answered_in packets to) (cut_by cuts) (cleaner_start setup works)
 
 abbrev pub CleanerHoldsRise : Type 0
@@ -82,5 +82,5 @@ abbrev pub CleanerReadsWhatCame : Type 0
 CleanerReadsWhatCame =
     (packets : List Packet) (to : NodeId) (cuts : Cuts) (e : Emptying) (ask server : ℕ) (told : Answered) (segment : Segment)
     → ServesSo (answered_in packets to) (cut_by cuts) e
-    → AnsweredIn packets to ask server told → (told_by e ask server told).next ≡ Read segment
+    → AnsweredIn packets to ask server told → (emptying_hear e ask server told).next ≡ Read segment
     → ReadsHand (answered_in packets to) (cut_by cuts) (hand_of e.job) segment

@@ -4,11 +4,11 @@ use Rattle.client_node.specs.declared.client.Client.{Client}
 use Rattle.client_node.specs.declared.phase.Phase.TheVariants.{Down, Opening, Serving as Serves}
 use Rattle.client_node.specs.declared.phase.Phase.{Phase}
 use Rattle.client_node.specs.Phases.{client_step}
-use Rattle.client_node.specs.Starting.{first_client}
-use Rattle.client_call.specs.Reads.{heard, reading_in}
+use Rattle.client_node.specs.Starting.{client_start}
+use Rattle.client_call.specs.Reads.{hear_reading, reading_in}
 use Rattle.client_serving.specs.declared.serving.Serving.{Serving}
 use Rattle.group_map.specs.GroupMapState.{GroupMapState}
-use Rattle.group_map.specs.Groups.{started}
+use Rattle.group_map.specs.Groups.{group_map_start}
 use Rattle.segment_format.specs.declared.segment.Segment.{Segment}
 use Rattle.segment_reading.specs.declared.reading.Next.TheVariants.{Read}
 use Rattle.segment_reading.specs.Reading.{ReadingState}
@@ -52,8 +52,8 @@ ReadsPlace came striped (Some r) segment = ReadsTarget came striped r.target seg
 abbrev pub ClientStarts : Type 0
 ClientStarts =
     (packets : List Packet) (to : NodeId) (cuts : Cuts) (number : ℕ) (setup : Setup) (works : List Work)
-    → MapStriped (cut_by cuts) (started setup.servers setup.groups)
-    → ClientHolds (answered_in packets to) (cut_by cuts) (first_client number setup works)
+    → MapStriped (cut_by cuts) (group_map_start setup.servers setup.groups)
+    → ClientHolds (answered_in packets to) (cut_by cuts) (client_start number setup works)
 
 abbrev pub ClientHoldsRise : Type 0
 ClientHoldsRise = HoldsRise Client ClientHolds
@@ -67,5 +67,5 @@ abbrev pub ClientsReadWhatCame : Type 0
 ClientsReadWhatCame =
     (packets : List Packet) (to : NodeId) (cuts : Cuts) (s : Serving) (ask server : ℕ) (told : Answered) (segment : Segment)
     → ServesSo (answered_in packets to) (cut_by cuts) s
-    → AnsweredIn packets to ask server told → (heard (reading_in s.call) s.maps.groups ask server told).next ≡ Read segment
+    → AnsweredIn packets to ask server told → (hear_reading (reading_in s.call) s.maps.groups ask server told).next ≡ Read segment
     → ReadsPlace (answered_in packets to) (cut_by cuts) (reading_in s.call) segment

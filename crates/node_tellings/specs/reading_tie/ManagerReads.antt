@@ -2,11 +2,11 @@
 use Rattle.std.specs.Prelude.{ℕ, List, Option}
 use Rattle.std.specs.List.{AllByRecursion}
 use Rattle.group_map.specs.GroupMapState.{GroupMapState}
-use Rattle.group_map.specs.Groups.{started}
+use Rattle.group_map.specs.Groups.{group_map_start}
 use Rattle.manager_node.specs.declared.manager.Manager.{Manager}
 use Rattle.manager_node.specs.declared.phase.Phase.{Phase}
 use Rattle.manager_node.specs.declared.phase.Phase.TheVariants.{Down, Waiting, Serving as Serves}
-use Rattle.manager_node.specs.Events.{first_manager, manager_step}
+use Rattle.manager_node.specs.Events.{manager_start, manager_step}
 use Rattle.manager_slots.specs.declared.slot_phase.SlotPhase.{SlotPhase}
 use Rattle.manager_slots.specs.declared.slot_phase.SlotPhase.TheVariants as phase
 use Rattle.manager_serving.specs.declared.serving.Serving.{Serving}
@@ -45,8 +45,8 @@ ManagerHolds came striped manager = PhaseHolds came striped manager.phase
 abbrev pub ManagerStarts : Type 0
 ManagerStarts =
     (packets : List Packet) (to : NodeId) (cuts : Cuts) (number : ℕ) (setup : Setup) (works : List Work)
-    → MapStriped (cut_by cuts) (started setup.servers setup.groups)
-    → ManagerHolds (answered_in packets to) (cut_by cuts) (first_manager number setup works)
+    → MapStriped (cut_by cuts) (group_map_start setup.servers setup.groups)
+    → ManagerHolds (answered_in packets to) (cut_by cuts) (manager_start number setup works)
 
 abbrev pub ManagerHoldsRise : Type 0
 ManagerHoldsRise = HoldsRise Manager ManagerHolds

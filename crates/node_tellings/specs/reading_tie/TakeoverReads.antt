@@ -2,7 +2,7 @@
 use Rattle.std.specs.Prelude.{◌≡◌, ℕ, List, [], ◌∷◌, Contains, Option, Some, None}
 use Rattle.std.specs.List.{AllByRecursion}
 use Rattle.segment_format.specs.declared.segment.Segment.{Segment}
-use Rattle.segment_reading.specs.Reading.{ReadingState, on_answer}
+use Rattle.segment_reading.specs.Reading.{ReadingState, reading_take}
 use Rattle.stripe_code.specs.declared.round.Told.{Told as Answered}
 use Rattle.takeover.specs.Course.{segment_of}
 use Rattle.takeover.specs.declared.source.Present.{Present}
@@ -75,4 +75,4 @@ TakeoversReadWhatCame =
     (packets : List Packet) (to : NodeId) (cuts : Cuts) (s : TakeState) (p : Present) (r : ReadingState) (ask own server : ℕ) (told : Answered)
     (segment : Segment)
     → TakeHolds (answered_in packets to) (cut_by cuts) s → s.present ≡ Some p → p.reading ≡ Some r → AnsweredIn packets to ask server told
-    → segment_of (on_answer r s.groups own server told).next ≡ Some segment → ReadsJoined (to_any (answered_in packets to)) (cut_by cuts) p.source.seg segment
+    → segment_of (reading_take r s.groups own server told).next ≡ Some segment → ReadsJoined (to_any (answered_in packets to)) (cut_by cuts) p.source.seg segment

@@ -3,12 +3,12 @@ use Rattle.std.specs.Prelude.{ℕ, List, Option, IfSome}
 use Rattle.std.specs.List.{AllByRecursion}
 use Rattle.checkpoint.specs.Transition.{part_at}
 use Rattle.checkpoint.specs.WriterState.{WorkState, WriterState}
-use Rattle.client_log.specs.Transition.{end_from}
+use Rattle.client_log.specs.Transition.{end_of}
 use Rattle.log_flight.specs.Flights.{FlightState}
 use Rattle.manager_node.specs.declared.manager.Manager.{Manager}
 use Rattle.manager_node.specs.declared.phase.Phase.{Phase}
 use Rattle.manager_node.specs.declared.phase.Phase.TheVariants.{Down, Waiting, Serving as Serves}
-use Rattle.manager_node.specs.Events.{first_manager, manager_step}
+use Rattle.manager_node.specs.Events.{manager_start, manager_step}
 use Rattle.manager_slots.specs.declared.slot_phase.SlotPhase.{SlotPhase}
 use Rattle.manager_serving.specs.declared.checkpointing.Checkpointing.{Checkpointing}
 use Rattle.manager_serving.specs.declared.serving.Serving.{Serving}
@@ -68,7 +68,7 @@ ManagerRefers r manager = PhaseRefers r manager.phase
 
 -- once the segment in flight is settled it is a part that may be named
 abbrev pub FlightRefers : References → Serving → Type 0
-FlightRefers r s = IfSome s.log.flight (λ (f : FlightState). r.part (part_at s.writer.log (end_from f.segment)))
+FlightRefers r s = IfSome s.log.flight (λ (f : FlightState). r.part (part_at s.writer.log (end_of f.segment)))
 
 abbrev pub PhaseFlies : References → Phase → Type 0
 PhaseFlies r (Down kept) = Unit {0}
@@ -86,7 +86,7 @@ pub record RefersThen {N : Type 0} (Refers : References → N → Type 0) (r : R
 abbrev pub ManagersStartReferring : Type 0
 ManagersStartReferring =
     (parts : List SegRef) (ends : List (NodeId × End)) (number : ℕ) (setup : Setup) (works : List Work)
-    → ManagerRefers (listed parts ends) (first_manager number setup works)
+    → ManagerRefers (listed parts ends) (manager_start number setup works)
 
 -- Whatever happens to a manager: where it, the packet that comes, and the segment that it has in flight refer to these, it does then, and so does each packet
 -- that it sends.

@@ -1,18 +1,18 @@
 -- What the open call of a client answers, and what that stands on.
 use Rattle.std.proofs.Common.{◌≡◌, ℕ, zero, suc, ◌+◌, ◌==◌, cond, Bool, true, false, List, [], ◌∷◌, ◌++◌, append-nil, append_assoc, Option, Some, None, is_some, inl, refl, sym, ap, subst, ◌∙◌}
-use Rattle.client_call.specs.Calls.{after_answer, answer_of, call_of, going, going_by, may_make}
+use Rattle.client_call.specs.Calls.{plan_answered, answer_of, call_of, stands_by, going_by, may_make}
 use Rattle.client_call.specs.declared.call.Call.{Call}
 use Rattle.client_call.specs.declared.call.Going.{Going}
 use Rattle.client_call.specs.declared.call.Going.TheVariants.{On, Ends}
 use Rattle.client_call.specs.declared.call.Plan.{Plan}
 use Rattle.client_call.specs.declared.call.Plan.TheVariants.{One, File}
 use Rattle.client_call.specs.Fitting.{put_fits}
-use Rattle.client_running.specs.Blocks.{Made, changed, changes, changes_if_fits, got, gets, held_back, is_settled, makes, needs, puts, puts_again, puts_at, synced_acts, synced_answer, syncs}
-use Rattle.client_running.specs.Opens.{begins_call, call_at, opens}
-use Rattle.client_running.specs.Running.{Ran, answers_call, goes_on, most_steps, runs, runs_call, runs_once, runs_upto}
+use Rattle.client_running.specs.Blocks.{Made, changed, changes, blocks_change, got, blocks_get, held_back, is_settled, blocks_make, blocks_need, blocks_put, puts_again, blocks_put_at, synced_acts, synced_answer, blocks_sync}
+use Rattle.client_running.specs.Opens.{begin_call, call_at, opens}
+use Rattle.client_running.specs.Running.{Ran, take_answer, running_go_on, most_steps, run, runs_call, run_once, run_upto}
 use Rattle.client_serving.specs.declared.serving.Serving.{Serving}
 use Rattle.client_serving.specs.Flights.{held_at}
-use Rattle.client_serving.specs.Follow.{seals}
+use Rattle.client_serving.specs.Follow.{serving_seal}
 use Rattle.client_serving.specs.Sends.{Done, gives}
 use Rattle.file_plan.specs.declared.block_call.BlockAnswer.{BlockAnswer}
 use Rattle.file_plan.specs.declared.block_call.BlockAnswer.TheVariants.{Got, Changed, Synced}
@@ -23,7 +23,7 @@ use Rattle.file_plan.specs.declared.block_call.Next.{Next}
 use Rattle.file_plan.specs.declared.block_call.Next.TheVariants.{Step, Reply}
 use Rattle.file_plan.specs.declared.state.PlanState.{PlanState}
 use Rattle.file_plan.specs.Plan as plan
-use Rattle.node_base.specs.Beginning.{waiting, work_at}
+use Rattle.node_base.specs.Beginning.{items_wait, work_at}
 use Rattle.node_base.specs.declared.effects.Effect.{Effect}
 use Rattle.node_base.specs.declared.effects.Effect.TheVariants.{Answer as Answers, Does}
 use Rattle.node_base.specs.Effects.{acts_of}
@@ -92,58 +92,58 @@ ActedFor client _ outs (Some _) = ⊥
 abbrev pub MadeFor : ℕ → BlockCall → Made → Type 0
 MadeFor client step m = ActedFor client step m.done.outs m.answer
 
-gets_acted : (s : Serving) (block : BlockId) → MadeFor s.lasting.number (Get block) (gets s block)
-unfolding gets
+gets_acted : (s : Serving) (block : BlockId) → MadeFor s.lasting.number (Get block) (blocks_get s block)
+unfolding blocks_get
 gets_acted s block =
-    by_test (MadeFor s.lasting.number (Get block)) (is_nothing (held_at s block).mode) (needs s block _) (got s block (held_at s block)) (λ _. tt)
+    by_test (MadeFor s.lasting.number (Get block)) (is_nothing (held_at s block).mode) (blocks_need s block _) (got s block (held_at s block)) (λ _. tt)
     (λ _. inl refl)
 
-changes_acted : (s : Serving) (block : BlockId) (value : Option (List ℕ)) → MadeFor s.lasting.number (Put block value) (changes_if_fits s block value)
-unfolding changes_if_fits changes
+changes_acted : (s : Serving) (block : BlockId) (value : Option (List ℕ)) → MadeFor s.lasting.number (Put block value) (blocks_change s block value)
+unfolding blocks_change changes
 changes_acted s block value =
     by_test (MadeFor s.lasting.number (Put block value)) (put_fits block ((held_at s block).ver + 1) value) (changes s block value) (held_back s block)
     (λ _. inl refl) (λ _. tt)
 
-puts_acted : (s : Serving) (block : BlockId) (value : Option (List ℕ)) → MadeFor s.lasting.number (Put block value) (puts s block value)
-unfolding puts
+puts_acted : (s : Serving) (block : BlockId) (value : Option (List ℕ)) → MadeFor s.lasting.number (Put block value) (blocks_put s block value)
+unfolding blocks_put
 puts_acted s block value =
-    by_test (MadeFor s.lasting.number (Put block value)) (may_write (held_at s block)) (changes_if_fits s block value) (needs s block _)
+    by_test (MadeFor s.lasting.number (Put block value)) (may_write (held_at s block)) (blocks_change s block value) (blocks_need s block _)
     (λ _. changes_acted s block value) (λ _. tt)
 
 named_acted : (s : Serving) (block : BlockId) (ver : ℕ) (value : Option (List ℕ))
-    → MadeFor s.lasting.number (PutAt block ver value) (changes_if_fits s block value)
-unfolding changes_if_fits changes
+    → MadeFor s.lasting.number (PutAt block ver value) (blocks_change s block value)
+unfolding blocks_change changes
 named_acted s block ver value =
     by_test (MadeFor s.lasting.number (PutAt block ver value)) (put_fits block ((held_at s block).ver + 1) value) (changes s block value)
     (held_back s block) (λ _. inl refl) (λ _. tt)
 
 again_acted : (s : Serving) (block : BlockId) (ver : ℕ) (value : Option (List ℕ)) → MadeFor s.lasting.number (PutAt block ver value) (puts_again s block ver value)
 again_acted s block ver value =
-    by_test (MadeFor s.lasting.number (PutAt block ver value)) ((held_at s block).ver == ver) (changes_if_fits s block value) (changed s block)
+    by_test (MadeFor s.lasting.number (PutAt block ver value)) ((held_at s block).ver == ver) (blocks_change s block value) (changed s block)
     (λ _. named_acted s block ver value) (λ _. tt)
 
-puts_at_acted : (s : Serving) (block : BlockId) (ver : ℕ) (value : Option (List ℕ)) → MadeFor s.lasting.number (PutAt block ver value) (puts_at s block ver value)
-unfolding puts_at
-puts_at_acted s block ver value =
-    by_test (MadeFor s.lasting.number (PutAt block ver value)) (may_write (held_at s block)) (puts_again s block ver value) (needs s block _)
+blocks_put_at_acted : (s : Serving) (block : BlockId) (ver : ℕ) (value : Option (List ℕ)) → MadeFor s.lasting.number (PutAt block ver value) (blocks_put_at s block ver value)
+unfolding blocks_put_at
+blocks_put_at_acted s block ver value =
+    by_test (MadeFor s.lasting.number (PutAt block ver value)) (may_write (held_at s block)) (puts_again s block ver value) (blocks_need s block _)
     (λ _. again_acted s block ver value) (λ _. tt)
 
-syncs_acted : (s : Serving) → MadeFor s.lasting.number Sync (syncs s)
-unfolding syncs
+syncs_acted : (s : Serving) → MadeFor s.lasting.number Sync (blocks_sync s)
+unfolding blocks_sync
 syncs_acted s =
-    let d : Done = seals s in
+    let d : Done = serving_seal s in
     subst (λ n. ActedFor n Sync (d.outs ++ synced_acts d.state) (synced_answer d.state)) (seals_go s).does.its_number (by (is_settled d.state))
   where
     by : (t : Bool)
-        → ActedFor (seals s).state.lasting.number Sync ((seals s).outs ++ cond t (Does (act.Synced (seals s).state.lasting.number) ∷ []) []) (cond t (Some Synced) None)
-    by true = effect_behind (Does (act.Synced (seals s).state.lasting.number)) (seals s).outs _ (inl refl)
+        → ActedFor (serving_seal s).state.lasting.number Sync ((serving_seal s).outs ++ cond t (Does (act.Synced (serving_seal s).state.lasting.number) ∷ []) []) (cond t (Some Synced) None)
+    by true = effect_behind (Does (act.Synced (serving_seal s).state.lasting.number)) (serving_seal s).outs _ (inl refl)
     by false = tt
 
-pub makes_acted : (s : Serving) (step : BlockCall) → MadeFor s.lasting.number step (makes s step)
-unfolding makes
+pub makes_acted : (s : Serving) (step : BlockCall) → MadeFor s.lasting.number step (blocks_make s step)
+unfolding blocks_make
 makes_acted s (Get block) = gets_acted s block
 makes_acted s (Put block value) = puts_acted s block value
-makes_acted s (PutAt block ver value) = puts_at_acted s block ver value
+makes_acted s (PutAt block ver value) = blocks_put_at_acted s block ver value
 makes_acted s Sync = syncs_acted s
 
 -- what its acts say of its answer
@@ -249,7 +249,7 @@ module _ (Began : ℕ → List Act → Type 0) (client : ℕ) (works : List Work
   -- its call on blocks is the one that the item asks for, or the next one of the plan of the call on files that it asks for
   abbrev pub PlanFits : List Act → ℕ → Plan → BlockCall → Option Work → Type 0
   PlanFits said item One step w = StepFits step w
-  PlanFits said item (File p) step w = (plan.next_call p ≡ Step step) × Trailed Began client item w (first ++ said) p
+  PlanFits said item (File p) step w = (plan.file_plan_next p ≡ Step step) × Trailed Began client item w (first ++ said) p
 
   more_fits : (said more : List Act) (item : ℕ) (p : Plan) (step : BlockCall) (w : Option Work) → PlanFits said item p step w
       → PlanFits (said ++ more) item p step w
@@ -263,10 +263,10 @@ module _ (Began : ℕ → List Act → Type 0) (client : ℕ) (works : List Work
   GoingFits said item w (Ends a) = For w item said (DoneIn []) a
 
   file_going : (said : List Act) (item : ℕ) (w : Option Work) (p : PlanState) → EndsWell p → Trailed Began client item w (first ++ said) p
-      → GoingFits said item w (going p)
-  file_going said item w p well t = by (plan.next_call p) refl
+      → GoingFits said item w (stands_by p)
+  file_going said item w p well t = by (plan.file_plan_next p) refl
     where
-      by : (next : Next) → plan.next_call p ≡ next → GoingFits said item w (going_by p next)
+      by : (next : Next) → plan.file_plan_next p ≡ next → GoingFits said item w (going_by p next)
       by (Step step) e = (e, t)
       by (Reply a) e =
           let reply : IsFileReply a = replies_well p a well e in (
@@ -280,15 +280,15 @@ module _ (Began : ℕ → List Act → Type 0) (client : ℕ) (works : List Work
   trailed_well _ item acts p t = absurd t
 
   after_fits : (said : List Act) (outs : List Effect) (item : ℕ) (w : Option Work) (p : Plan) (step : BlockCall) (a : BlockAnswer)
-      → ActedFor client step outs (Some a) → PlanFits said item p step w → GoingFits (acted me said outs) item w (after_answer p a)
+      → ActedFor client step outs (Some a) → PlanFits said item p step w → GoingFits (acted me said outs) item w (plan_answered p a)
   after_fits said outs item w One step a among fits =
       (one_founded w step a said outs fits among (DoneIn []), one_by_plan w step a item (first ++ acted me said outs) fits)
   after_fits said outs item w (File p) step a among fits =
-      file_going (acted me said outs) item w (plan.after_answer p a) (trailed_well w item (first ++ acted me said outs) (plan.after_answer p a) now) now
+      file_going (acted me said outs) item w (plan.file_plan_answered p a) (trailed_well w item (first ++ acted me said outs) (plan.file_plan_answered p a) now) now
     where
-      now : Trailed Began client item w (first ++ acted me said outs) (plan.after_answer p a)
+      now : Trailed Began client item w (first ++ acted me said outs) (plan.file_plan_answered p a)
       now =
-          subst (λ acts. Trailed Began client item w acts (plan.after_answer p a)) (append_assoc first said (acts_of me outs))
+          subst (λ acts. Trailed Began client item w acts (plan.file_plan_answered p a)) (append_assoc first said (acts_of me outs))
           (next_trailed Began client item w (first ++ said) (acts_of me outs) p step a fits.0 (answer_acted client step a outs among) fits.1)
 
   -- ---- a client that serves
@@ -349,23 +349,23 @@ module _ (Began : ℕ → List Act → Type 0) (client : ℕ) (works : List Work
   -- ---- the open call runs
 
   -- it goes on, or its item is answered
-  goes_on_runs : (said : List Act) (s : Serving) (g : Going) → s.lasting.number ≡ client → s.lasting.items.works ≡ works
-      → ((item : ℕ) → IsOpen s item → GoingFits said item (asked_at works item) g) → Runs said (goes_on s g)
-  unfolding goes_on
-  goes_on_runs said s (On call) number its fits = rests said (record s { call = Some call }) (record { number = number; its = its; fits = by })
+  running_go_on_runs : (said : List Act) (s : Serving) (g : Going) → s.lasting.number ≡ client → s.lasting.items.works ≡ works
+      → ((item : ℕ) → IsOpen s item → GoingFits said item (asked_at works item) g) → Runs said (running_go_on s g)
+  unfolding running_go_on
+  running_go_on_runs said s (On call) number its fits = rests said (record s { call = Some call }) (record { number = number; its = its; fits = by })
     where
       by : CallFits said (record s { call = Some call })
       by item waits other fact =
           let same : call ≡ other = cc in
           subst (λ (k : Call). PlanFits said item k.plan k.step (asked_at works item)) same (fits item waits)
-  goes_on_runs said s (Ends a) number its fits = record {
+  running_go_on_runs said s (Ends a) number its fits = record {
     holds = record { number = number; its = its; fits = λ item waits call fact. absurd (no_item item waits) };
     founded = open_founded me F grow said s.lasting.items.unanswered a fits;
   }
 
   answers_run : (said : List Act) (outs : List Effect) (s : Serving) (call : Call) (a : Option BlockAnswer) → s.lasting.number ≡ client
       → s.lasting.items.works ≡ works → ActedFor client call.step outs a
-      → ((item : ℕ) → IsOpen s item → PlanFits said item call.plan call.step (asked_at works item)) → Runs (acted me said outs) (answers_call s call a).done
+      → ((item : ℕ) → IsOpen s item → PlanFits said item call.plan call.step (asked_at works item)) → Runs (acted me said outs) (take_answer s call a).done
   answers_run said outs s call None number its among fits = rests (acted me said outs) (record s { call = Some call }) (record { number = number; its = its; fits = by })
     where
       by : CallFits (acted me said outs) (record s { call = Some call })
@@ -374,7 +374,7 @@ module _ (Began : ℕ → List Act → Type 0) (client : ℕ) (works : List Work
           more_fits said (acts_of me outs) item other.plan other.step (asked_at works item)
           (subst (λ (k : Call). PlanFits said item k.plan k.step (asked_at works item)) same (fits item waits))
   answers_run said outs s call (Some a) number its among fits =
-      goes_on_runs (acted me said outs) s (after_answer call.plan a) number its
+      running_go_on_runs (acted me said outs) s (plan_answered call.plan a) number its
       (λ item waits. after_fits said outs item (asked_at works item) call.plan call.step a among (fits item waits))
 
   without_call : (said : List Act) (s : Serving) → Holds said s → Holds said (record s { call = None })
@@ -387,29 +387,29 @@ module _ (Began : ℕ → List Act → Type 0) (client : ℕ) (works : List Work
   call_runs said s None at h = rests said s h
   call_runs said s (Some call) at h =
       let u : Serving = record s { call = None } in
-      let m : Made = makes u call.step in
+      let m : Made = blocks_make u call.step in
       let g : Goes u m.done = makes_go u call.step in
       let r : Runs said m.done = goes_run said u m.done g (without_call said s h) in
-      then_runs said m.done (answers_call m.done.state call m.answer).done r
+      then_runs said m.done (take_answer m.done.state call m.answer).done r
       (answers_run said m.done.outs m.done.state call m.answer r.holds.number r.holds.its
       (subst (λ n. ActedFor n call.step m.done.outs m.answer) h.number (makes_acted u call.step))
       (λ item waits. h.fits item ((items_stay u m.done g).waits item waits) call at))
 
-  pub once_runs : (said : List Act) (s : Serving) → Holds said s → Runs said (runs_once s).done
-  unfolding runs_once
+  pub once_runs : (said : List Act) (s : Serving) → Holds said s → Runs said (run_once s).done
+  unfolding run_once
   once_runs said s h = call_runs said s s.call refl h
 
-  upto_runs : (said : List Act) (k : ℕ) (s : Serving) → Holds said s → Runs said (runs_upto k s)
-  unfolding runs_upto
+  upto_runs : (said : List Act) (k : ℕ) (s : Serving) → Holds said s → Runs said (run_upto k s)
+  unfolding run_upto
   upto_runs said zero s h = rests said s h
   upto_runs said (suc k) s h =
-      let r : Ran = runs_once s in
+      let r : Ran = run_once s in
       let one : Runs said r.done = once_runs said s h in
-      by_test (Runs said) r.goes (saying r.done.outs (runs_upto k r.done.state)) r.done
-      (λ _. then_runs said r.done (runs_upto k r.done.state) one (upto_runs (acted me said r.done.outs) k r.done.state one.holds)) (λ _. one)
+      by_test (Runs said) r.goes (saying r.done.outs (run_upto k r.done.state)) r.done
+      (λ _. then_runs said r.done (run_upto k r.done.state) one (upto_runs (acted me said r.done.outs) k r.done.state one.holds)) (λ _. one)
 
-  pub all_run : (said : List Act) (s : Serving) → Holds said s → Runs said (runs s)
-  unfolding runs
+  pub all_run : (said : List Act) (s : Serving) → Holds said s → Runs said (run s)
+  unfolding run
   all_run said s h = upto_runs said most_steps s h
 
   -- ---- a call begins
@@ -427,7 +427,7 @@ module _ (Began : ℕ → List Act → Type 0) (client : ℕ) (works : List Work
   file_begins : (c : ℕ) (call : FileCall) (number : ℕ) (said : List Act) → Began number first
       → BeginsFor (Some (work.File c call)) number said (call_of (work.File c call) number client)
   file_begins c call number said began =
-      by_test (BeginsFor (Some (work.File c call)) number said) (may_make number client) (Some (going (plan.start call (plan.made_by number client)))) None
+      by_test (BeginsFor (Some (work.File c call)) number said) (may_make number client) (Some (stands_by (plan.start call (plan.made_by number client)))) None
       (λ room. file_going said number (Some (work.File c call)) (plan.start call (plan.made_by number client))
       (start_well call (plan.made_by number client)) (begins_trailed Began client number c call first said began room))
       (λ none. (tt, subst (λ room. IsGiven Began client number call room (first ++ said) answer.Done) (sym none) refl))
@@ -445,28 +445,28 @@ module _ (Began : ℕ → List Act → Type 0) (client : ℕ) (works : List Work
   begins_for (Some _) s number said its began none = (tt, tt)
 
   pub begun_runs : (said : List Act) (s : Serving) (number : ℕ) (g : Going) → Holds said s → BeginsFor (asked_at works number) number said (Some g)
-      → Runs said (goes_on (record s { lasting = record s.lasting { items = waiting s.lasting.items number } }) g)
+      → Runs said (running_go_on (record s { lasting = record s.lasting { items = items_wait s.lasting.items number } }) g)
   begun_runs said s number g h its =
-      goes_on_runs said (record s { lasting = record s.lasting { items = waiting s.lasting.items number } }) g h.number h.its
+      running_go_on_runs said (record s { lasting = record s.lasting { items = items_wait s.lasting.items number } }) g h.number h.its
       (λ item waits. subst (λ n. GoingFits said n (asked_at works n) g) (one_number number item waits) its)
 
   begins_run : (said : List Act) (s : Serving) (number : ℕ) (o : Option Going) → Holds said s → BeginsFor (asked_at works number) number said o
-      → Runs said (begins_call s number o)
+      → Runs said (begin_call s number o)
   begins_run said s number None h its = record { holds = more_holds said (act.Answered me number answer.Done ∷ []) s h; founded = (its, tt) }
   begins_run said s number (Some g) h its =
-      let d : Done = goes_on (record s { lasting = record s.lasting { items = waiting s.lasting.items number } }) g in
+      let d : Done = running_go_on (record s { lasting = record s.lasting { items = items_wait s.lasting.items number } }) g in
       let one : Runs said d = begun_runs said s number g h its in
-      then_runs said d (runs d.state) one (all_run (acted me said d.outs) d.state one.holds)
+      then_runs said d (run d.state) one (all_run (acted me said d.outs) d.state one.holds)
 
   pub opens_run : (said : List Act) (s : Serving) (number : ℕ) → Holds said s → Began number first → IsNoRestart (asked_at works number)
       → Runs said (opens s number)
   unfolding opens
   opens_run said s number h began none =
       by_test (Runs said) (is_some s.lasting.items.unanswered) (gives s (Answers number answer.Busy ∷ []))
-      (begins_call s number (call_at s number (work_at s.lasting.items number)))
+      (begin_call s number (call_at s number (work_at s.lasting.items number)))
       (λ _. record { holds = more_holds said (act.Answered me number answer.Busy ∷ []) s h; founded = ((tt, tt), tt) })
       (λ _.
-      subst (λ w. Runs said (begins_call s number (call_at s number w))) (sym asked)
+      subst (λ w. Runs said (begin_call s number (call_at s number w))) (sym asked)
       (begins_run said s number (call_at s number (asked_at works number)) h
       (begins_for (asked_at works number) s number said h.number began none)))
     where

@@ -1,7 +1,7 @@
 -- What an event of the cleaner answers is founded, and the item that is open while it opens its log is a restart.
 use Rattle.std.proofs.Common.{◌≡◌, ℕ, List, [], ◌∷◌, ◌++◌, Option, Some, None, inl, refl, sym, ap, subst, ◌∙◌}
 use Rattle.cleaner_job.specs.declared.lasting.Lasting.{Lasting}
-use Rattle.cleaner_node.specs.CleanerEvents.{Went_to, after_opening, begun_life, crashes, down_at, down_wishes, happens, hears, lasting_of, on_begin, on_deliver, on_time, opened_on, opening_at, opening_wishes, phase_room, restarts, serves_on, serving_at, serving_wishes, takes, wish_of}
+use Rattle.cleaner_node.specs.CleanerEvents.{Went_to, after_opening, begun_life, crash, down_at, down_wishes, happens, cleaner_hear, lasting_of, on_begin, on_deliver, on_time, opened_on, opening_at, opening_wishes, phase_has_room, restart, serves_on, serving_at, serving_wishes, takes, wish_of}
 use Rattle.cleaner_node.specs.declared.cleaner.Cleaner.{Cleaner}
 use Rattle.cleaner_node.specs.declared.cleaner.Phase.{Phase}
 use Rattle.cleaner_node.specs.declared.cleaner.Phase.TheVariants.{Down, Opening, Serving}
@@ -16,8 +16,8 @@ use Rattle.log_owner.specs.declared.opened.Progress.TheVariants as progress
 use Rattle.log_owner.specs.declared.opening.Opening as openings
 use Rattle.log_owner.specs.Opening as opening
 use Rattle.log_owner.specs.Opening.{Went}
-use Rattle.log_owner.specs.Sending.{name_of, pushes_all}
-use Rattle.node_base.specs.Beginning.{answers_unanswered, next_item, work_at, waiting}
+use Rattle.log_owner.specs.Sending.{name_of, push_all}
+use Rattle.node_base.specs.Beginning.{answers_unanswered, next_item, work_at, items_wait}
 use Rattle.node_base.specs.declared.effects.Effect.{Effect}
 use Rattle.node_base.specs.declared.effects.Effect.TheVariants.{Answer as Answers, Does}
 use Rattle.node_base.specs.declared.peers.Peers.{Peers}
@@ -145,7 +145,7 @@ module _ (Is : ℕ → Type 0) (works : List Work) where
         by (progress.Opened r) owner filed = record {
           holds = record { its = h.its; fits = tt };
           founded = founded_then ACleaner Its its_grow [] w.effects _ first
-              (back_founded filed.0 (pushes_all r.promised.managers r.feed) (subst Is (sym (filed.1.0 ∙ h.fits.1.0)) is) (all_pushed_plain Answering r.promised.managers r.feed) (acted ACleaner [] w.effects)
+              (back_founded filed.0 (push_all r.promised.managers r.feed) (subst Is (sym (filed.1.0 ∙ h.fits.1.0)) is) (all_pushed_plain Answering r.promised.managers r.feed) (acted ACleaner [] w.effects)
               (acted_by ACleaner (act.Filed (name_of cleaner_log filed.0)) [] w.effects
               (subst (λ (log : LogId). In (Does (act.Filed (name_of log filed.0))) w.effects) h.fits.0 filed.1.1)));
         }
@@ -158,8 +158,8 @@ module _ (Is : ℕ → Type 0) (works : List Work) where
   -- ---- an item begins
 
   module _ (number : ℕ) (l : Lasting) (its : l.items.works ≡ works) where
-    crash_so : (node : NodeId) → asked_at works number ≡ Some (work.Crash node) → Turned (crashes l number)
-    unfolding crashes
+    crash_so : (node : NodeId) → asked_at works number ≡ Some (work.Crash node) → Turned (crash l number)
+    unfolding crash
     crash_so node asked = record { holds = record { its = its; fits = tt }; founded = by l.items.unanswered }
       where
         done : (said : List Act) → IsReopened Is (asked_at works number) said
@@ -172,8 +172,8 @@ module _ (Is : ℕ → Type 0) (works : List Work) where
         by None = (done [], tt)
         by (Some item) = ((number, (falls, inl refl)), (done _, tt))
 
-    restart_so : (servers : ℕ) (node : NodeId) → asked_at works number ≡ Some (work.Restart node) → Turned (restarts servers l number)
-    unfolding restarts
+    restart_so : (servers : ℕ) (node : NodeId) → asked_at works number ≡ Some (work.Restart node) → Turned (restart servers l number)
+    unfolding restart
     restart_so servers node asked = record {
       holds = record { its = its; fits = (refl, (refl, (tt, λ item waits. subst (λ n. IsRestart (asked_at works n)) (one_number number item waits) restart))) };
       founded = tt;
@@ -206,7 +206,7 @@ module _ (Is : ℕ → Type 0) (works : List Work) where
         (busy_founded number (acted ACleaner [] first) (DoneIn more) a busy, plain_founded ACleaner Its its_grow _ more (all_plain_more Silent more rest)),
   )
   begun_so before after number outs its (Waits made) =
-      ((moves_stay Silent IsCount (waiting before number) after outs made).works ∙ its, moves_so (waiting before number) after outs made)
+      ((moves_stay Silent IsCount (items_wait before number) after outs made).works ∙ its, moves_so (items_wait before number) after outs made)
 
   module _ (number : ℕ) (e : Emptying) (its : e.lasting.items.works ≡ works) where
     clean_so : (count : ℕ) → Turned (serves_on (on_clean e number count))
@@ -256,11 +256,11 @@ module _ (Is : ℕ → Type 0) (works : List Work) where
 
   -- ---- packets and time
 
-  hears_turned : (p : Phase) (packet : Packet) → Is (lasting_of p).inc → PhaseHolds works p → Turned (hears p packet)
-  unfolding hears
+  hears_turned : (p : Phase) (packet : Packet) → Is (lasting_of p).inc → PhaseHolds works p → Turned (cleaner_hear p packet)
+  unfolding cleaner_hear
   hears_turned (Down l) packet is h = unmoved (Down l) h
   hears_turned (Opening l o) packet is h =
-      opened_so l o is h (opening.on_packet o l.questions packet) (behaving.packet_so o l.questions packet)
+      opened_so l o is h (opening.opening_take o l.questions packet) (behaving.packet_so o l.questions packet)
       (filing.packet_so o l.questions packet h.fits.1.1.0)
   hears_turned (Serving e) packet is h = served e (on_packet e packet) h.its (emptied.packet_goes e packet)
 
@@ -275,10 +275,10 @@ module _ (Is : ℕ → Type 0) (works : List Work) where
   unfolding on_deliver
   happens_turned peers p Begin is h = begin_turned peers.servers p h
   happens_turned peers p (Deliver packet) is h =
-      by_test Turned (is_well_formed peers packet) (hears p packet) (still p) (λ _. hears_turned p packet is h) (λ _. unmoved p h)
+      by_test Turned (is_well_formed peers packet) (cleaner_hear p packet) (still p) (λ _. hears_turned p packet is h) (λ _. unmoved p h)
   happens_turned peers p Tick is h = time_turned p is h
 
   pub cleaner_answers : (c : Cleaner) (what : Do) → Is (lasting_of c.phase).inc → PhaseHolds works c.phase → Turned (takes c.peers c.phase what)
   cleaner_answers c what is h =
-      by_test Turned (phase_room c.phase) (happens c.peers c.phase what) (still c.phase) (λ _. happens_turned c.peers c.phase what is h)
+      by_test Turned (phase_has_room c.phase) (happens c.peers c.phase what) (still c.phase) (λ _. happens_turned c.peers c.phase what is h)
       (λ _. unmoved c.phase h)

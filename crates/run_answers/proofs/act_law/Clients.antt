@@ -3,12 +3,12 @@ use Rattle.std.proofs.Common.{◌≡◌, ℕ, List, [], ◌∷◌, ◌++◌, Opt
 use Rattle.client_node.specs.declared.client.Client.{Client}
 use Rattle.client_node.specs.declared.phase.Phase.{Phase}
 use Rattle.client_node.specs.declared.phase.Phase.TheVariants.{Down, Opening, Serving as Serves}
-use Rattle.client_node.specs.Phases.{Went_to, after_opening, begins_item, client_room, down_begins, happens, item_begins, lasting_of, on_begin, on_deliver, on_time, opened_on, opening_begins, serving_begins, takes, then_runs, wish_of, with_begun}
+use Rattle.client_node.specs.Phases.{Went_to, phase_after, begins_item, client_has_room, down_begins, happens, item_begins, lasting_of, on_begin, on_deliver, client_tick, opened_on, opening_begins, serving_begins, takes, then_runs, wish_of, with_begun}
 use Rattle.client_running.specs.Opens.{opens}
-use Rattle.client_running.specs.Running.{runs}
+use Rattle.client_running.specs.Running.{run}
 use Rattle.client_serving.specs.declared.lasting.Lasting.{Lasting}
 use Rattle.client_serving.specs.declared.serving.Serving.{Serving}
-use Rattle.client_serving.specs.Packets.{on_packet, on_tick}
+use Rattle.client_serving.specs.Packets.{serving_take, on_tick}
 use Rattle.client_serving.specs.Sends.{Done}
 use Rattle.log_owner.proofs.Behaving as behaving
 use Rattle.log_owner.specs.declared.opened.Progress.{Progress}
@@ -16,8 +16,8 @@ use Rattle.log_owner.specs.declared.opened.Progress.TheVariants as progress
 use Rattle.log_owner.specs.declared.opening.Opening as openings
 use Rattle.log_owner.specs.Opening as opening
 use Rattle.log_owner.specs.Opening.{Went}
-use Rattle.log_owner.specs.Sending.{pushes_all}
-use Rattle.node_base.specs.Beginning.{answers_unanswered, begun, next_item, work_at}
+use Rattle.log_owner.specs.Sending.{push_all}
+use Rattle.node_base.specs.Beginning.{answers_unanswered, items_begin, next_item, work_at}
 use Rattle.node_base.specs.declared.effects.Effect.{Effect}
 use Rattle.node_base.specs.declared.effects.Effect.TheVariants.{Answer as Answers}
 use Rattle.node_base.specs.declared.items.Items.{Items}
@@ -117,7 +117,7 @@ module _ (Began : ℕ → List Act → Type 0) (client : ℕ) (works : List Work
         before : Founded me F [] w.effects
         before = plain_founded me F grow [] w.effects plain
 
-        by : (p : Progress) → Turned (saying w.effects (after_opening (record l { questions = w.questions }) capacity p))
+        by : (p : Progress) → Turned (saying w.effects (phase_after (record l { questions = w.questions }) capacity p))
         by (progress.Opening r) = record {
           holds = record { number = h.number; its = h.its; fits = h.fits };
           founded = founded_then me F grow [] w.effects [] before tt;
@@ -126,7 +126,7 @@ module _ (Began : ℕ → List Act → Type 0) (client : ℕ) (works : List Work
           holds = record { number = h.number; its = h.its; fits = λ item waits call fact. absurd (no_item item waits) };
           founded = founded_then me F grow [] w.effects _ before (
             tt,
-            back_founded r.chain (pushes_all r.promised.managers r.feed) (all_pushed_plain Answering r.promised.managers r.feed) (acted me [] w.effects),
+            back_founded r.chain (push_all r.promised.managers r.feed) (all_pushed_plain Answering r.promised.managers r.feed) (acted me [] w.effects),
           );
         }
         by (progress.Lost name) = record {
@@ -154,7 +154,7 @@ module _ (Began : ℕ → List Act → Type 0) (client : ℕ) (works : List Work
 
   module _ (l : Lasting) (number : ℕ) (numbered : l.number ≡ client) (its : l.items.works ≡ works) where
     abbrev m : Lasting
-    m = record l { items = begun l.items }
+    m = record l { items = items_begin l.items }
 
     its_begun : m.items.works ≡ works
     its_begun = begun_works l.items ∙ its
@@ -191,7 +191,7 @@ module _ (Began : ℕ → List Act → Type 0) (client : ℕ) (works : List Work
 
   -- its next item has begun
   pub begun_holds : (s : Serving) → Holds Began client works first [] s
-      → Holds Began client works first [] (record s { lasting = record s.lasting { items = begun s.lasting.items } })
+      → Holds Began client works first [] (record s { lasting = record s.lasting { items = items_begin s.lasting.items } })
   begun_holds s h = record {
     number = h.number;
     its = begun_works s.lasting.items ∙ h.its;
@@ -200,7 +200,7 @@ module _ (Began : ℕ → List Act → Type 0) (client : ℕ) (works : List Work
 
   module _ (s : Serving) (number : ℕ) (began : Began number first) (h : Holds Began client works first [] s) where
     abbrev t : Serving
-    t = record s { lasting = record s.lasting { items = begun s.lasting.items } }
+    t = record s { lasting = record s.lasting { items = items_begin s.lasting.items } }
 
     t_holds : Holds Began client works first [] t
     t_holds = begun_holds s h
@@ -228,7 +228,7 @@ module _ (Began : ℕ → List Act → Type 0) (client : ℕ) (works : List Work
   item_so servers (Opening l o) number wanted began h asked = opening_so l number h.number h.its o h.fits wanted asked
   item_so servers (Serves s) number wanted began h asked = serving_so s number began (serves [] s h) wanted asked
 
-  begun_items : (p : Phase) → (lasting_of (with_begun p)).items ≡ begun (lasting_of p).items
+  begun_items : (p : Phase) → (lasting_of (with_begun p)).items ≡ items_begin (lasting_of p).items
   begun_items (Down l) = refl
   begun_items (Opening l o) = refl
   begun_items (Serves s) = refl
@@ -255,19 +255,19 @@ module _ (Began : ℕ → List Act → Type 0) (client : ℕ) (works : List Work
   runs_then : (s : Serving) (d : Done) → Holds Began client works first [] s → Goes s d → Turned (then_runs d)
   runs_then s d h g =
       let r : Runs Began client works first [] d = goes_run Began client works first [] s d g h in
-      served (saying d.outs (runs d.state))
-      (runs_behind Began client works first [] d (runs d.state) r (all_run Began client works first (acts_of me d.outs) d.state r.holds))
+      served (saying d.outs (run d.state))
+      (runs_behind Began client works first [] d (run d.state) r (all_run Began client works first (acts_of me d.outs) d.state r.holds))
 
   deliver_turned : (capacity : ℕ) (p : Phase) (packet : Packet) → PhaseHolds [] p → Turned (on_deliver capacity p packet)
   unfolding on_deliver
   deliver_turned capacity (Down l) packet h = unmoved (Down l) h
   deliver_turned capacity (Opening l o) packet h =
-      opened_so l o capacity h (opening.on_packet o l.questions packet)
-      (behaves_plain o.known.owner (opening.on_packet o l.questions packet) (behaving.packet_so o l.questions packet))
-  deliver_turned capacity (Serves s) packet h = runs_then s (on_packet s packet) (serves [] s h) (packet_goes s packet)
+      opened_so l o capacity h (opening.opening_take o l.questions packet)
+      (behaves_plain o.known.owner (opening.opening_take o l.questions packet) (behaving.packet_so o l.questions packet))
+  deliver_turned capacity (Serves s) packet h = runs_then s (serving_take s packet) (serves [] s h) (packet_goes s packet)
 
-  time_turned : (capacity : ℕ) (p : Phase) → PhaseHolds [] p → Turned (on_time capacity p)
-  unfolding on_time
+  time_turned : (capacity : ℕ) (p : Phase) → PhaseHolds [] p → Turned (client_tick capacity p)
+  unfolding client_tick
   time_turned capacity (Down l) h = unmoved (Down l) h
   time_turned capacity (Opening l o) h =
       opened_so l o capacity h (opening.on_tick o l.questions)
@@ -283,7 +283,7 @@ module _ (Began : ℕ → List Act → Type 0) (client : ℕ) (works : List Work
 
   pub client_answers : (c : Client) (what : Do) → (what ≡ Begin → BeginsNext c.phase) → PhaseHolds [] c.phase → Turned (takes c what)
   client_answers c what next h =
-      by_test Turned (client_room c) (happens c what) (still c.phase) (λ _. happens_turned c what next h) (λ _. unmoved c.phase h)
+      by_test Turned (client_has_room c) (happens c what) (still c.phase) (λ _. happens_turned c what next h) (λ _. unmoved c.phase h)
 
 -- ---- from event to event
 

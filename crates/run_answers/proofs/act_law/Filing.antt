@@ -17,7 +17,7 @@ use Rattle.log_owner.specs.declared.opening.Scanning.{Scanning}
 use Rattle.log_owner.specs.declared.opening.Settling.{Settling}
 use Rattle.log_owner.specs.declared.opening.Stage.{Stage}
 use Rattle.log_owner.specs.declared.opening.Stage.TheVariants as stage
-use Rattle.log_owner.specs.Opening.{Moved, Went, at_scan, behind, follows, logged, on_packet, on_tick, opens, said, scanned, scans_on, settles_over, welcomed, welcomed_with, writes, written, wrote_one}
+use Rattle.log_owner.specs.Opening.{Moved, Went, known_scanning, behind, known_follow, logged, opening_take, on_tick, known_go_on, sent_send, scanned, scans_on, settles_over, welcomed, welcomed_with, known_write, written, send_one}
 use Rattle.log_owner.specs.Opened.{filed}
 use Rattle.log_owner.specs.Sending.{name_of}
 use Rattle.log_scan.specs.declared.input.In.{In as ScanIn}
@@ -30,7 +30,7 @@ use Rattle.node_base.specs.declared.effects.Effect.{Effect}
 use Rattle.node_base.specs.declared.effects.Effect.TheVariants.{Does}
 use Rattle.node_base.specs.declared.questions.Asked.{Asked}
 use Rattle.node_base.specs.declared.questions.Questions.{Questions}
-use Rattle.node_base.specs.Maps.{taken}
+use Rattle.node_base.specs.Maps.{maps_take}
 use Rattle.node_base.specs.Shape.{is_log}
 use Rattle.token_protocol.specs.Basics.{In}
 use Rattle.version_model.specs.declared.act.Act.TheVariants as act
@@ -76,39 +76,39 @@ abbrev EndIn : ℕ → Option End → Type 0
 EndIn inc o = IfSome o (λ (end : End). end.pass.inc ≡ inc)
 
 written_end : (inc : ℕ) (before : Option End) (outs : List LogOut) → EndIn inc before → AllByRecursion (EndsIn inc) outs
-    → EndIn inc (steps wrote_one before outs).state
-unfolding wrote_one
+    → EndIn inc (steps send_one before outs).state
+unfolding send_one
 written_end inc before [] h all = h
 written_end inc before (log_out.Send fragment member ∷ outs) h all = written_end inc before outs h all.1
 written_end inc before (log_out.Settled end rows ∷ outs) h all = written_end inc (Some end) outs all.0 all.1
 
-opens_so : (k : Known) (s : Settling) (settled : Option End) → IsOwn k.owner.inc s.log → EndIn k.owner.inc settled → MovedSo k.owner (opens k s settled)
-opens_so k s None own ended = own
-opens_so k s (Some end) own ended = (end, (ended, effect_behind (Does (act.Filed (name_of k.owner.log end))) (map filed s.chain) _ (inl refl)))
+known_go_on_so : (k : Known) (s : Settling) (settled : Option End) → IsOwn k.owner.inc s.log → EndIn k.owner.inc settled → MovedSo k.owner (known_go_on k s settled)
+known_go_on_so k s None own ended = own
+known_go_on_so k s (Some end) own ended = (end, (ended, effect_behind (Does (act.Filed (name_of k.owner.log end))) (map filed s.chain) _ (inl refl)))
 
 logged_so : (k : Known) (s : Settling) (r : log.Done) → Keeps k.owner.inc r → MovedSo k.owner (logged k s r)
 logged_so k s r keeps =
-    said_after k.owner (written r.outs).outs (opens k (record s { log = r.state }) (written r.outs).state)
-    (opens_so k (record s { log = r.state }) (written r.outs).state keeps.own (written_end k.owner.inc None r.outs tt keeps.ends))
+    said_after k.owner (written r.outs).outs (known_go_on k (record s { log = r.state }) (written r.outs).state)
+    (known_go_on_so k (record s { log = r.state }) (written r.outs).state keeps.own (written_end k.owner.inc None r.outs tt keeps.ends))
 
-writes_so : (k : Known) (s : Settling) (i : LogIn) → IsOpening i → IsOwn k.owner.inc s.log → MovedSo k.owner (writes k s i)
-unfolding writes
-writes_so k s i opening own = logged_so k s (log.transition s.log i) (takes_keep k.owner.inc s.log i opening own)
+known_write_so : (k : Known) (s : Settling) (i : LogIn) → IsOpening i → IsOwn k.owner.inc s.log → MovedSo k.owner (known_write k s i)
+unfolding known_write
+known_write_so k s i opening own = logged_so k s (log.transition s.log i) (takes_keep k.owner.inc s.log i opening own)
 
 settles_so : (k : Known) (s : Scanning) (chain : _) (groups : Option GroupMapState) → MovedSo k.owner (settles_over k s chain groups)
 settles_so k s chain None = tt
 settles_so k s chain (Some groups) =
-    by_test (MovedSo k.owner) (is_log k.owner.log.0) (writes k (behind k chain groups) (log_in.Parts [])) (still (at_scan k s))
-    (λ _. writes_so k (behind k chain groups) (log_in.Parts []) tt (record { its = refl; flies = tt })) (λ _. tt)
+    by_test (MovedSo k.owner) (is_log k.owner.log.0) (known_write k (behind k chain groups) (log_in.Parts [])) (still (known_scanning k s))
+    (λ _. known_write_so k (behind k chain groups) (log_in.Parts []) tt (record { its = refl; flies = tt })) (λ _. tt)
 
-none_ended : (k : Known) (s : Scanning) → MovedSo k.owner (follows k s None)
-unfolding follows
+none_ended : (k : Known) (s : Scanning) → MovedSo k.owner (known_follow k s None)
+unfolding known_follow
 none_ended k s = tt
 
 -- whatever the scan said
-ended_so : (its : Owner) (low : ℕ) (a : Asked) (p : Questions) (e : _) (outs : List Out) → ((k : Known) (s : Scanning) → MovedSo k.owner (follows k s e))
-    → (k : Known) (s : Scanning) → MovedSo k.owner (follows k s (steps (said its low) (record { asked = a; questions = p; ended = e }) outs).state.ended)
-unfolding follows said
+ended_so : (its : Owner) (low : ℕ) (a : Asked) (p : Questions) (e : _) (outs : List Out) → ((k : Known) (s : Scanning) → MovedSo k.owner (known_follow k s e))
+    → (k : Known) (s : Scanning) → MovedSo k.owner (known_follow k s (steps (sent_send its low) (record { asked = a; questions = p; ended = e }) outs).state.ended)
+unfolding known_follow sent_send
 ended_so its low a p e [] ends = ends
 ended_so its low a p e (out.Hello own ∷ outs) ends = ended_so its low (asked_as a p own) (drawn_for a p own) e outs ends
 ended_so its low a p e (out.Fence server ∷ outs) ends = ended_so its low a p e outs ends
@@ -122,7 +122,7 @@ scans_on_so k q s i =
     let d = scan.transition s.scan i in
     let r = scanned k.owner d.state.opening.low s.asked q d.outs in
     let next : Scanning = record { scan = d.state; asked = r.state.asked } in
-    said_after k.owner r.outs (follows k next r.state.ended) (ended_so k.owner d.state.opening.low s.asked q None d.outs none_ended k next)
+    said_after k.owner r.outs (known_follow k next r.state.ended) (ended_so k.owner d.state.opening.low s.asked q None d.outs none_ended k next)
 
 -- ---- the events
 
@@ -132,7 +132,7 @@ with_so k q s news own (Some groups) = scans_on_so _ q _ (input.Welcome own news
 
 welcomed_so : (k : Known) (q : Questions) (s : Scanning) (news : News) (own : ℕ) → WentSo k.owner (welcomed k q s news own)
 unfolding welcomed
-welcomed_so k q s news own = with_so (record k { maps = taken k.maps news }) q s news own (taken k.maps news).groups
+welcomed_so k q s news own = with_so (record k { maps = maps_take k.maps news }) q s news own (maps_take k.maps news).groups
 
 -- what an opening has of its stage
 abbrev pub Owns : Opening → Type 0
@@ -146,7 +146,7 @@ walk = record {
   rests = λ o q own. own;
   asks = λ o q own. own;
   scan = λ k q s i comes own. scans_on_so k q s i;
-  log = λ k q s i heard own. writes_so k s i (heard_opens i heard) own;
+  log = λ k q s i heard own. known_write_so k s i (heard_opens i heard) own;
   welcome = λ from k q s m asked said own. welcomed_so k q s m.news asked;
   newer = λ from k news q at w said fact. fact;
 }
@@ -154,5 +154,5 @@ walk = record {
 pub tick_so : (o : Opening) (q : Questions) → Owns o → WentSo o.known.owner (on_tick o q)
 tick_so o q = walks.tick_so Any Holds walk o q
 
-pub packet_so : (o : Opening) (q : Questions) (p : Packet) → Owns o → WentSo o.known.owner (on_packet o q p)
+pub packet_so : (o : Opening) (q : Questions) (p : Packet) → Owns o → WentSo o.known.owner (opening_take o q p)
 packet_so o q p = walks.packet_so Any Holds walk o q p tt

@@ -7,12 +7,12 @@ use Rattle.client_log.specs.declared.input.In.TheVariants.{Parts, Acked, Maps, T
 use Rattle.client_log.specs.declared.output.Out.{Out}
 use Rattle.client_log.specs.declared.output.Out.TheVariants.{Send, Settled}
 use Rattle.client_log.specs.LogState.{LogState}
-use Rattle.client_log.specs.Transition.{Done, all_sends, can_follow, followed, has_next, if_full, is_full, is_idle, landed, launched, looked_at, next_attempt, next_name, on_acked, on_maps, on_parts, on_tick, prior_from, restriped, sealed, settled, transition, writes}
+use Rattle.client_log.specs.Transition.{Done, sending_send, can_follow, followed, has_next, log_go_on, is_full, is_idle, landed, log_launch, looked_at, next_attempt, next_name, on_acked, on_maps, on_parts, on_tick, prior_from, restriped, log_seal, settled, transition, log_write}
 use Rattle.group_map.specs.GroupMapState.{GroupMapState}
 use Rattle.log_flight.specs.declared.flight.Fate.{Fate}
 use Rattle.log_flight.specs.declared.flight.Fate.TheVariants.{Restripe, Settle, Wait}
 use Rattle.log_flight.specs.Fate.{fate_of}
-use Rattle.log_flight.specs.Flights.{FlightState, flown, group_for, is_of, noting}
+use Rattle.log_flight.specs.Flights.{FlightState, flown, group_for, is_of, flight_note}
 use Rattle.log_flight.specs.Items.{items_of}
 use Rattle.log_flight.specs.Texts.{has_text}
 use Rattle.segment_format.specs.declared.segment.Item.{Item}
@@ -47,34 +47,34 @@ module _ (inc : ℕ) where
   still_keeps : (s : LogState) → IsOwn s → Keeps (still s)
   still_keeps s h = record { own = h; ends = tt }
 
-  launched_keeps : (s : LogState) (name : SegName) (prior : Prior) (items : List Item) → s.inc ≡ inc → name.pass.inc ≡ inc → Keeps (launched s name prior items)
-  unfolding launched
+  launched_keeps : (s : LogState) (name : SegName) (prior : Prior) (items : List Item) → s.inc ≡ inc → name.pass.inc ≡ inc → Keeps (log_launch s name prior items)
+  unfolding log_launch
   launched_keeps s name prior items its named = record {
     own = record { its = its; flies = named };
-    ends = sent_ends (all_sends (flown name prior items (group_for s.groups s.log.0 name.seq)))
+    ends = sent_ends (sending_send (flown name prior items (group_for s.groups s.log.0 name.seq)))
         (all_sent (flown name prior items (group_for s.groups s.log.0 name.seq)));
   }
 
-  sealed_keeps : (s : LogState) → s.inc ≡ inc → Keeps (sealed s)
-  unfolding sealed
+  sealed_keeps : (s : LogState) → s.inc ≡ inc → Keeps (log_seal s)
+  unfolding log_seal
   sealed_keeps s its =
       let t : LogState = record s { dirty = drop segment_blocks s.dirty } in
       launched_keeps t (next_name t) (prior_from s.end) (items_of 0 (take segment_blocks s.dirty)) its its
 
-  full_keeps : (s : LogState) → IsOwn s → Keeps (if_full s)
-  unfolding if_full
-  full_keeps s h = by_test Keeps (is_full s) (sealed s) (still s) (λ _. sealed_keeps s h.its) (λ _. still_keeps s h)
+  full_keeps : (s : LogState) → IsOwn s → Keeps (log_go_on s)
+  unfolding log_go_on
+  full_keeps s h = by_test Keeps (is_full s) (log_seal s) (still s) (λ _. sealed_keeps s h.its) (λ _. still_keeps s h)
 
   parts_keep : (s : LogState) (items : List Item) → IsOwn s → Keeps (on_parts s items)
   unfolding on_parts
   parts_keep s items h =
-      by_test Keeps (is_idle s && has_next s.end.seq && has_text items) (writes s items) (still s)
+      by_test Keeps (is_idle s && has_next s.end.seq && has_text items) (log_write s items) (still s)
       (λ _. launched_keeps s (next_name s) (prior_from s.end) items h.its h.its) (λ _. still_keeps s h)
 
   settled_keeps : (s : LogState) (f : FlightState) → IsOwn s → f.segment.name.pass.inc ≡ inc → Keeps (settled s f)
   unfolding settled
   settled_keeps s f h named =
-      let k : Keeps (if_full (landed s f)) = full_keeps (landed s f) (record { its = h.its; flies = tt }) in
+      let k : Keeps (log_go_on (landed s f)) = full_keeps (landed s f) (record { its = h.its; flies = tt }) in
       record { own = k.own; ends = (named, k.ends) }
 
   follows_keep : (s : LogState) (f : FlightState) (fate : Fate) → IsOwn s → f.segment.name.pass.inc ≡ inc → Keeps (followed s f fate)
@@ -96,10 +96,10 @@ module _ (inc : ℕ) where
   unfolding on_acked
   acked_keeps s name index generation h =
       elim s.flight as
-      (λ o. Flies o → Keeps (elim o [ None ↦ still s | Some f ↦ cond (is_of f name index generation) (looked_at s s (noting f index)) (still s) ])) [
+      (λ o. Flies o → Keeps (elim o [ None ↦ still s | Some f ↦ cond (is_of f name index generation) (looked_at s s (flight_note f index)) (still s) ])) [
         | None ↦ λ _. still_keeps s h
-        | Some f ↦ λ named. by_test Keeps (is_of f name index generation) (looked_at s s (noting f index)) (still s)
-            (λ _. looks_keep s s (noting f index) h h named) (λ _. still_keeps s h)
+        | Some f ↦ λ named. by_test Keeps (is_of f name index generation) (looked_at s s (flight_note f index)) (still s)
+            (λ _. looks_keep s s (flight_note f index) h h named) (λ _. still_keeps s h)
       ] h.flies
 
   maps_keep : (s : LogState) (groups : GroupMapState) → IsOwn s → Keeps (on_maps s groups)
@@ -113,9 +113,9 @@ module _ (inc : ℕ) where
   tick_keeps : (s : LogState) → IsOwn s → Keeps (on_tick s)
   unfolding on_tick
   tick_keeps s h =
-      elim s.flight as (λ o. Keeps (elim o [ None ↦ still s | Some f ↦ record { state = s; outs = all_sends f } ])) [
+      elim s.flight as (λ o. Keeps (elim o [ None ↦ still s | Some f ↦ record { state = s; outs = sending_send f } ])) [
         | None ↦ still_keeps s h
-        | Some f ↦ record { own = h; ends = sent_ends (all_sends f) (all_sent f) }
+        | Some f ↦ record { own = h; ends = sent_ends (sending_send f) (all_sent f) }
       ]
 
   pub takes_keep : (s : LogState) (i : Input) → IsOpening i → IsOwn s → Keeps (transition s i)

@@ -4,12 +4,12 @@ use Rattle.client_node.specs.Crash.{falls}
 use Rattle.client_node.specs.declared.client.Client.{Client}
 use Rattle.client_node.specs.declared.phase.Phase.{Phase}
 use Rattle.client_node.specs.declared.phase.Phase.TheVariants.{Down, Opening, Serving as Serves}
-use Rattle.client_node.specs.Phases.{Went_to, after_opening, begins_item, client_room, crashed, down_begins, happens, item_begins, lasting_of, on_begin, on_deliver, on_time, opened_on, opening_begins, serving_begins, takes, then_runs, wish_of, with_begun}
-use Rattle.client_running.specs.Running.{runs}
+use Rattle.client_node.specs.Phases.{Went_to, phase_after, begins_item, client_has_room, cut, down_begins, happens, item_begins, lasting_of, on_begin, on_deliver, client_tick, opened_on, opening_begins, serving_begins, takes, then_runs, wish_of, with_begun}
+use Rattle.client_running.specs.Running.{run}
 use Rattle.client_serving.specs.declared.lasting.Lasting.{Lasting}
 use Rattle.client_serving.specs.declared.serving.Serving.{Serving}
-use Rattle.client_serving.specs.Lasting.{next_life}
-use Rattle.client_serving.specs.Packets.{on_packet, on_tick}
+use Rattle.client_serving.specs.Lasting.{live_on}
+use Rattle.client_serving.specs.Packets.{serving_take, on_tick}
 use Rattle.client_serving.specs.Sends.{Done}
 use Rattle.log_owner.proofs.Behaving as behaving
 use Rattle.log_owner.specs.declared.opened.Progress.{Progress}
@@ -17,9 +17,9 @@ use Rattle.log_owner.specs.declared.opened.Progress.TheVariants as progress
 use Rattle.log_owner.specs.declared.opening.Opening as openings
 use Rattle.log_owner.specs.Opening as opening
 use Rattle.log_owner.specs.Opening.{Went}
-use Rattle.log_owner.specs.Sending.{hello, pushes_all}
+use Rattle.log_owner.specs.Sending.{hello, push_all}
 use Rattle.node_base.specs.Asking.{next_ask}
-use Rattle.node_base.specs.Beginning.{answers_unanswered, begun, next_item, work_at}
+use Rattle.node_base.specs.Beginning.{answers_unanswered, items_begin, next_item, work_at}
 use Rattle.node_base.specs.declared.effects.Effect.{Effect}
 use Rattle.node_base.specs.declared.effects.Effect.TheVariants.{Answer as Answers, Does}
 use Rattle.node_base.specs.Shape.{is_well_formed}
@@ -89,16 +89,16 @@ module _ (Began : ℕ → List Act → Type 0) (client : ℕ) (works : List Work
       before : NoVersion w.effects
       before = no_plain w.effects plain
 
-      by : (p : Progress) → IsVersedIn (saying w.effects (after_opening (record l { questions = w.questions }) capacity p))
+      by : (p : Progress) → IsVersedIn (saying w.effects (phase_after (record l { questions = w.questions }) capacity p))
       by (progress.Opening r) item ver among = absurd (no_both w.effects [] before (λ item ver among. among) item ver among)
       by (progress.Opened r) item ver among =
           absurd
-          (no_both w.effects (Does (act.Back l.number r.chain) ∷ pushes_all r.promised.managers r.feed ++ answers_unanswered l.items.unanswered answer.Done)
+          (no_both w.effects (Does (act.Back l.number r.chain) ∷ push_all r.promised.managers r.feed ++ answers_unanswered l.items.unanswered answer.Done)
           before
-          (no_both (Does (act.Back l.number r.chain) ∷ []) (pushes_all r.promised.managers r.feed ++ answers_unanswered l.items.unanswered answer.Done)
+          (no_both (Does (act.Back l.number r.chain) ∷ []) (push_all r.promised.managers r.feed ++ answers_unanswered l.items.unanswered answer.Done)
           (no_plain (Does (act.Back l.number r.chain) ∷ []) (tt, tt))
-          (no_both (pushes_all r.promised.managers r.feed) (answers_unanswered l.items.unanswered answer.Done)
-          (no_plain (pushes_all r.promised.managers r.feed) (all_pushed_plain Answering r.promised.managers r.feed)) (no_open l.items.unanswered answer.Done tt)))
+          (no_both (push_all r.promised.managers r.feed) (answers_unanswered l.items.unanswered answer.Done)
+          (no_plain (push_all r.promised.managers r.feed) (all_pushed_plain Answering r.promised.managers r.feed)) (no_open l.items.unanswered answer.Done tt)))
           item ver among)
       by (progress.Lost name) item ver among =
           absurd
@@ -112,7 +112,7 @@ module _ (Began : ℕ → List Act → Type 0) (client : ℕ) (works : List Work
   down_versed : (servers : ℕ) (l : Lasting) (number : ℕ) (wanted : Option Work) → IsVersedIn (down_begins servers l number (wish_of wanted))
   down_versed servers l number None item ver among = absurd (no_one number answer.Down tt item ver among)
   down_versed servers l number (Some (work.Restart node)) item ver among =
-      absurd (no_plain (hello (next_life l number).inc (next_ask l.questions) ∷ []) (tt, tt) item ver among)
+      absurd (no_plain (hello (live_on l number).inc (next_ask l.questions) ∷ []) (tt, tt) item ver among)
   down_versed servers l number (Some (work.Crash node)) item ver among = absurd (no_one number answer.Down tt item ver among)
   down_versed servers l number (Some other) item ver among = absurd (no_one number answer.Down tt item ver among)
 
@@ -128,7 +128,7 @@ module _ (Began : ℕ → List Act → Type 0) (client : ℕ) (works : List Work
       opens_versed Began client works first s number h began (subst (IsNoRestart Began client works first) (sym asked) tt) item ver among
   serving_versed s number h began (Some (work.Crash node)) asked item ver among =
       absurd
-      (no_both (falls s ∷ []) (crashed s.lasting number).outs (no_plain (falls s ∷ []) (tt, tt)) (crash_none s.lasting.items.unanswered number) item ver
+      (no_both (falls s ∷ []) (cut s.lasting number).outs (no_plain (falls s ∷ []) (tt, tt)) (crash_none s.lasting.items.unanswered number) item ver
       among)
   serving_versed s number h began (Some (work.Restart node)) asked item ver among = absurd (no_one number answer.Up tt item ver among)
   serving_versed s number h began (Some other) asked item ver among =
@@ -136,10 +136,10 @@ module _ (Began : ℕ → List Act → Type 0) (client : ℕ) (works : List Work
 
   item_versed : (servers : ℕ) (p : Phase) (number : ℕ) (wanted : Option Work) → Began number first → PhaseHolds Began client works first [] p
       → asked_at works number ≡ wanted → IsVersedIn (item_begins servers (with_begun p) number (wish_of wanted))
-  item_versed servers (Down l) number wanted began h asked = down_versed servers (record l { items = begun l.items }) number wanted
-  item_versed servers (Opening l o) number wanted began h asked = opening_versed (record l { items = begun l.items }) o number wanted
+  item_versed servers (Down l) number wanted began h asked = down_versed servers (record l { items = items_begin l.items }) number wanted
+  item_versed servers (Opening l o) number wanted began h asked = opening_versed (record l { items = items_begin l.items }) o number wanted
   item_versed servers (Serves s) number wanted began h asked =
-      serving_versed (record s { lasting = record s.lasting { items = begun s.lasting.items } }) number
+      serving_versed (record s { lasting = record s.lasting { items = items_begin s.lasting.items } }) number
       (begun_holds Began client works first s (serves Began client works first [] s h)) began wanted asked
 
   begun_asks : (p : Phase) (number : ℕ) → (lasting_of p).items.works ≡ works → asked_at works number ≡ work_at (lasting_of (with_begun p)).items number
@@ -159,20 +159,20 @@ module _ (Began : ℕ → List Act → Type 0) (client : ℕ) (works : List Work
 
   runs_versed : (s : Serving) (d : Done) → Holds Began client works first [] s → Goes s d → IsVersedIn (then_runs d)
   runs_versed s d h g =
-      behind_versed Began client works first s d (runs d.state) g
+      behind_versed Began client works first s d (run d.state) g
       (all_versed Began client works first _ d.state (goes_run Began client works first [] s d g h).holds)
 
   deliver_versed : (capacity : ℕ) (p : Phase) (packet : Packet) → PhaseHolds Began client works first [] p → IsVersedIn (on_deliver capacity p packet)
   unfolding on_deliver
   deliver_versed capacity (Down l) packet h item ver among = absurd among
   deliver_versed capacity (Opening l o) packet h item ver among =
-      opened_versed l capacity (opening.on_packet o l.questions packet)
-      (behaves_plain o.known.owner (opening.on_packet o l.questions packet) (behaving.packet_so o l.questions packet)) item ver among
+      opened_versed l capacity (opening.opening_take o l.questions packet)
+      (behaves_plain o.known.owner (opening.opening_take o l.questions packet) (behaving.packet_so o l.questions packet)) item ver among
   deliver_versed capacity (Serves s) packet h item ver among =
-      runs_versed s (on_packet s packet) (serves Began client works first [] s h) (packet_goes s packet) item ver among
+      runs_versed s (serving_take s packet) (serves Began client works first [] s h) (packet_goes s packet) item ver among
 
-  time_versed : (capacity : ℕ) (p : Phase) → PhaseHolds Began client works first [] p → IsVersedIn (on_time capacity p)
-  unfolding on_time
+  time_versed : (capacity : ℕ) (p : Phase) → PhaseHolds Began client works first [] p → IsVersedIn (client_tick capacity p)
+  unfolding client_tick
   time_versed capacity (Down l) h item ver among = absurd among
   time_versed capacity (Opening l o) h item ver among =
       opened_versed l capacity (opening.on_tick o l.questions)
@@ -190,5 +190,5 @@ module _ (Began : ℕ → List Act → Type 0) (client : ℕ) (works : List Work
   pub client_versed : (c : Client) (what : Do) → (what ≡ Begin → BeginsNext Began client works first c.phase) → PhaseHolds Began client works first [] c.phase
       → IsVersedIn (takes c what)
   client_versed c what next h =
-      by_test IsVersedIn (client_room c) (happens c what) (still c.phase) (λ _. happens_versed c what next h)
+      by_test IsVersedIn (client_has_room c) (happens c what) (still c.phase) (λ _. happens_versed c what next h)
       (λ _ item ver among. absurd among)

@@ -3,7 +3,7 @@ use Rattle.std.proofs.Common.{◌≡◌, ℕ, List, [], ◌∷◌, ◌++◌, Opt
 use Rattle.manager_node.specs.declared.manager.Manager.{Manager}
 use Rattle.manager_node.specs.Events as manager
 use Rattle.manager_node.specs.Phases.{lasting_of}
-use Rattle.node_base.specs.Beginning.{answers_unanswered, begun, waiting}
+use Rattle.node_base.specs.Beginning.{answers_unanswered, items_begin, items_wait}
 use Rattle.node_base.specs.declared.effects.Effect.{Effect}
 use Rattle.node_base.specs.declared.effects.Effect.TheVariants.{Answer as Answers}
 use Rattle.registry_node.specs.declared.node.RegistryNode.{RegistryNode}
@@ -77,17 +77,17 @@ module _ (me : NodeId) (works : List Work) where
     begun_so before after number outs (AtOnce a first more so plain rest) =
         behind first (Answers number a ∷ more) plain
         (prompt_founded number (acted me [] first) (DoneIn more) a so, plain_founded me Its its_grow _ more (all_plain_more losses more rest))
-    begun_so before after number outs (Waits made) = moves_so (waiting before number) after outs made
+    begun_so before after number outs (Waits made) = moves_so (items_wait before number) after outs made
 
     event_so : (before after : Items) (what : Do) (outs : List Effect) → before.works ≡ works → Event losses J IsPrompt before what outs after
         → Founded me Its [] outs
     event_so before after what outs its (GoesOn made) = moves_so before after outs made
     event_so before after what outs its (Idles is) = tt
-    event_so before after what outs its (Begins number is next made) = begun_so (begun before) after number outs made
+    event_so before after what outs its (Begins number is next made) = begun_so (items_begin before) after number outs made
     event_so before after what outs its (Cuts number first more is next falls plain rest) =
-        behind first (answers_unanswered (begun before).unanswered answer.Cut ++ Answers number answer.Done ∷ more) plain
-        (cuts_founded (acted me [] first) (begun before).unanswered number
-        (subst Falls (sym (asked_is (begun before).works number (begun_works before ∙ its))) falls) more
+        behind first (answers_unanswered (items_begin before).unanswered answer.Cut ++ Answers number answer.Done ∷ more) plain
+        (cuts_founded (acted me [] first) (items_begin before).unanswered number
+        (subst Falls (sym (asked_is (items_begin before).works number (begun_works before ∙ its))) falls) more
         (all_plain_more losses more rest))
 
   count_prompt : (a : Answer) → IsCount a → IsPrompt a

@@ -68,9 +68,9 @@ module _ (client : ℕ) where
 
 -- ---- a plan
 
-after_one : (s : PlanState) (answers : List BlockAnswer) (a : BlockAnswer) → plan.after_all s (answers ++ a ∷ []) ≡ plan.after_answer (plan.after_all s answers) a
+after_one : (s : PlanState) (answers : List BlockAnswer) (a : BlockAnswer) → plan.after_all s (answers ++ a ∷ []) ≡ plan.file_plan_answered (plan.after_all s answers) a
 after_one s [] a = refl
-after_one s (b ∷ answers) a = after_one (plan.after_answer s b) answers a
+after_one s (b ∷ answers) a = after_one (plan.file_plan_answered s b) answers a
 
 module _ (Began : ℕ → List Act → Type 0) (client item : ℕ) where
   -- behind these acts the plan of the call stands here
@@ -100,19 +100,19 @@ module _ (Began : ℕ → List Act → Type 0) (client item : ℕ) where
     stands = t.stands;
   }
 
-  next_trail : (call : FileCall) (acts more : List Act) (p : PlanState) (step : BlockCall) (a : BlockAnswer) → plan.next_call p ≡ Step step
-      → IsActed client step a more → Trail call acts p → Trail call (acts ++ more) (plan.after_answer p a)
+  next_trail : (call : FileCall) (acts more : List Act) (p : PlanState) (step : BlockCall) (a : BlockAnswer) → plan.file_plan_next p ≡ Step step
+      → IsActed client step a more → Trail call acts p → Trail call (acts ++ more) (plan.file_plan_answered p a)
   next_trail call acts more p step a next now t = record {
     first = t.first;
     since = t.since ++ more;
     all = ap (λ (xs : List Act). xs ++ more) t.all ∙ append_assoc t.first t.since more;
     begins = t.begins;
     answers = t.answers ++ a ∷ [];
-    acted = then_acted client (plan.plan call item client) [] t.answers a step t.since more (ap plan.next_call t.stands ∙ next) now t.acted;
-    stands = after_one (plan.start call (plan.made_by item client)) t.answers a ∙ ap (λ (q : PlanState). plan.after_answer q a) t.stands;
+    acted = then_acted client (plan.plan call item client) [] t.answers a step t.since more (ap plan.file_plan_next t.stands ∙ next) now t.acted;
+    stands = after_one (plan.start call (plan.made_by item client)) t.answers a ∙ ap (λ (q : PlanState). plan.file_plan_answered q a) t.stands;
   }
 
-  planned : (call : FileCall) (acts : List Act) (p : PlanState) (a : Answer) → plan.next_call p ≡ Reply a → Trail call acts p
+  planned : (call : FileCall) (acts : List Act) (p : PlanState) (a : Answer) → plan.file_plan_next p ≡ Reply a → Trail call acts p
       → IsPlanned Began client item call acts a
   planned call acts p a next t = record {
     first = t.first;
@@ -121,7 +121,7 @@ module _ (Began : ℕ → List Act → Type 0) (client item : ℕ) where
     begins = t.begins;
     answers = t.answers;
     acted = t.acted;
-    replies = ap plan.next_call t.stands ∙ next;
+    replies = ap plan.file_plan_next t.stands ∙ next;
   }
 
   -- ---- the plan of what is asked for
@@ -139,13 +139,13 @@ module _ (Began : ℕ → List Act → Type 0) (client item : ℕ) where
   more_trailed (Some (work.File c call)) acts more p t = (t.0, more_trail call acts more p t.1)
   more_trailed _ acts more p t = absurd t
 
-  pub next_trailed : (w : Option Work) (acts more : List Act) (p : PlanState) (step : BlockCall) (a : BlockAnswer) → plan.next_call p ≡ Step step
-      → IsActed client step a more → Trailed w acts p → Trailed w (acts ++ more) (plan.after_answer p a)
+  pub next_trailed : (w : Option Work) (acts more : List Act) (p : PlanState) (step : BlockCall) (a : BlockAnswer) → plan.file_plan_next p ≡ Step step
+      → IsActed client step a more → Trailed w acts p → Trailed w (acts ++ more) (plan.file_plan_answered p a)
   next_trailed (Some (work.File c call)) acts more p step a next now t = (t.0, next_trail call acts more p step a next now t.1)
   next_trailed _ acts more p step a next now t = absurd t
 
   -- what it replies is the answer
-  pub replies_so : (w : Option Work) (acts : List Act) (p : PlanState) (a : Answer) → plan.next_call p ≡ Reply a → Trailed w acts p
+  pub replies_so : (w : Option Work) (acts : List Act) (p : PlanState) (a : Answer) → plan.file_plan_next p ≡ Reply a → Trailed w acts p
       → IsCallsAnswer Began client item w acts a
   replies_so (Some (work.File c call)) acts p a next t =
       subst (λ room. IsGiven Began client item call room acts a) (sym t.0) (planned call acts p a next t.1)

@@ -1,14 +1,14 @@
 -- Where an event of a client answers a version, that is the last word of it: the client serves behind it, and holds the block that it wrote, with this version.
 use Rattle.std.proofs.Common.{◌≡◌, ◌⊎◌, ℕ, zero, suc, cond, List, [], ◌∷◌, ◌++◌, Option, Some, None, is_some, inl, inr, refl, sym, ap, subst}
-use Rattle.client_call.specs.Calls.{after_answer, answer_of, going_by}
+use Rattle.client_call.specs.Calls.{plan_answered, answer_of, going_by}
 use Rattle.client_call.specs.declared.call.Call.{Call}
 use Rattle.client_call.specs.declared.call.Going.{Going}
 use Rattle.client_call.specs.declared.call.Going.TheVariants.{On, Ends}
 use Rattle.client_call.specs.declared.call.Plan.{Plan}
 use Rattle.client_call.specs.declared.call.Plan.TheVariants.{One, File}
-use Rattle.client_running.specs.Blocks.{Made, makes, puts}
-use Rattle.client_running.specs.Opens.{begins_call, call_at, opens}
-use Rattle.client_running.specs.Running.{Ran, answers_call, goes_on, most_steps, runs, runs_call, runs_once, runs_upto}
+use Rattle.client_running.specs.Blocks.{Made, blocks_make, blocks_put}
+use Rattle.client_running.specs.Opens.{begin_call, call_at, opens}
+use Rattle.client_running.specs.Running.{Ran, take_answer, running_go_on, most_steps, run, runs_call, run_once, run_upto}
 use Rattle.client_serving.specs.declared.serving.Serving.{Serving}
 use Rattle.client_serving.specs.Sends.{Done, gives}
 use Rattle.file_plan.specs.declared.block_call.BlockAnswer.{BlockAnswer}
@@ -19,7 +19,7 @@ use Rattle.file_plan.specs.declared.block_call.BlockCall.TheVariants.{Get, Put, 
 use Rattle.file_plan.specs.declared.block_call.Next.{Next}
 use Rattle.file_plan.specs.declared.block_call.Next.TheVariants.{Step, Reply}
 use Rattle.file_plan.specs.Plan as plan
-use Rattle.node_base.specs.Beginning.{answers_unanswered, waiting, work_at}
+use Rattle.node_base.specs.Beginning.{answers_unanswered, items_wait, work_at}
 use Rattle.node_base.specs.declared.effects.Effect.{Effect}
 use Rattle.node_base.specs.declared.effects.Effect.TheVariants.{Send, Answer as Answers, Lose, Does}
 use Rattle.token_client.specs.State.{TokensState}
@@ -115,14 +115,14 @@ one_version v ver e = cc
 
 -- a call on blocks that is answered by a version is a write
 written_so : (client : ℕ) (s : Serving) (step : BlockCall) (a : BlockAnswer) (outs : List Effect) (w : Option Work) (ver : ℕ) → StepFits step w
-    → ActedFor client step outs (Some a) → (makes s step).answer ≡ Some a → answer_of a ≡ answer.Version ver → HasWritten (makes s step).done.state.tokens w ver
-unfolding makes
+    → ActedFor client step outs (Some a) → (blocks_make s step).answer ≡ Some a → answer_of a ≡ answer.Version ver → HasWritten (blocks_make s step).done.state.tokens w ver
+unfolding blocks_make
 written_so client s (Get block) (Got v value) outs w ver fits among made same = absurd (got_apart v value ver same)
 written_so client s (Put block value) (Written v) outs (Some (work.Bput c b x)) ver fits among made same =
     let version : v ≡ ver = one_version v ver same in
-    subst (λ k. IsWritten (puts s block value).done.state.tokens k x ver) (sym fits.0)
-    (subst (λ y. IsWritten (puts s block value).done.state.tokens block y ver) (sym fits.1)
-    (subst (λ n. IsWritten (puts s block value).done.state.tokens block value n) version (puts_put s block value v made)))
+    subst (λ k. IsWritten (blocks_put s block value).done.state.tokens k x ver) (sym fits.0)
+    (subst (λ y. IsWritten (blocks_put s block value).done.state.tokens block y ver) (sym fits.1)
+    (subst (λ n. IsWritten (blocks_put s block value).done.state.tokens block value n) version (puts_put s block value v made)))
 written_so client s (Put block value) (Written v) outs _ ver fits among made same = absurd fits
 written_so client s (PutAt block named value) a outs w ver fits among made same = absurd fits
 written_so client s Sync Synced outs w ver fits among made same = absurd (done_apart ver same)
@@ -136,10 +136,10 @@ none_stays (Some call) stays = (let old = stays call refl in absurd (none old.0 
     none c fact = cc
 
 -- without a call nothing is done
-idle_upto : (k : ℕ) (s : Serving) → s.call ≡ None → (runs_upto k s).state ≡ s
-unfolding runs_upto runs_once
+idle_upto : (k : ℕ) (s : Serving) → s.call ≡ None → (run_upto k s).state ≡ s
+unfolding run_upto run_once
 idle_upto zero s none = refl
-idle_upto (suc k) s none = subst (λ call. (cond (runs_call s call).goes (saying (runs_call s call).done.outs (runs_upto k (runs_call s call).done.state)) (runs_call s call).done).state ≡ s) (sym none) refl
+idle_upto (suc k) s none = subst (λ call. (cond (runs_call s call).goes (saying (runs_call s call).done.outs (run_upto k (runs_call s call).done.state)) (runs_call s call).done).state ≡ s) (sym none) refl
 
 none_written : (client : ℕ) (w : Option Work) → founded_IsWritten client w [] → ⊥
 none_written client (Some (work.Bput c block value)) f = f
@@ -173,34 +173,34 @@ module _ (Began : ℕ → List Act → Type 0) (client : ℕ) (works : List Work
       by (inr f) = more item ver f
 
   -- a call on blocks is answered: its version is the answer, and a plan replies no version
-  rest_over : (said : List Act) (p : Plan) (step : BlockCall) (a : BlockAnswer) (s : Serving) → (makes s step).answer ≡ Some a
-      → ActedFor client step (makes s step).done.outs (Some a)
-      → ((item : ℕ) → IsOpen (makes s step).done.state item → PlanFits Began client works first said item p step (asked_at works item))
-      → (makes s step).done.state.call ≡ None → IsOver (goes_on (makes s step).done.state (after_answer p a))
-  unfolding goes_on
+  rest_over : (said : List Act) (p : Plan) (step : BlockCall) (a : BlockAnswer) (s : Serving) → (blocks_make s step).answer ≡ Some a
+      → ActedFor client step (blocks_make s step).done.outs (Some a)
+      → ((item : ℕ) → IsOpen (blocks_make s step).done.state item → PlanFits Began client works first said item p step (asked_at works item))
+      → (blocks_make s step).done.state.call ≡ None → IsOver (running_go_on (blocks_make s step).done.state (plan_answered p a))
+  unfolding running_go_on
   rest_over said One step a s made among fits none item ver answers =
-      let o = open_answers (makes s step).done.state.lasting.items.unanswered (answer_of a) item (answer.Version ver) answers in
-      record { written = written_so client s step a (makes s step).done.outs (asked_at works item) ver (fits item o.waits) among made o.same; call = none }
-  rest_over said (File q) step a s made among fits none item ver answers = absurd (by (plan.next_call (plan.after_answer q a)) refl answers)
+      let o = open_answers (blocks_make s step).done.state.lasting.items.unanswered (answer_of a) item (answer.Version ver) answers in
+      record { written = written_so client s step a (blocks_make s step).done.outs (asked_at works item) ver (fits item o.waits) among made o.same; call = none }
+  rest_over said (File q) step a s made among fits none item ver answers = absurd (by (plan.file_plan_next (plan.file_plan_answered q a)) refl answers)
     where
-      by : (next : Next) → plan.next_call (plan.after_answer q a) ≡ next
-          → In (Answers item (answer.Version ver)) (goes_on (makes s step).done.state (going_by (plan.after_answer q a) next)).outs → ⊥
+      by : (next : Next) → plan.file_plan_next (plan.file_plan_answered q a) ≡ next
+          → In (Answers item (answer.Version ver)) (running_go_on (blocks_make s step).done.state (going_by (plan.file_plan_answered q a) next)).outs → ⊥
       by (Step other) e f = f
       by (Reply b) e f =
-          let o = open_answers (makes s step).done.state.lasting.items.unanswered b item (answer.Version ver) f in
+          let o = open_answers (blocks_make s step).done.state.lasting.items.unanswered b item (answer.Version ver) f in
           subst IsFileReply o.same
-          (replies_well (plan.after_answer q a) b
+          (replies_well (plan.file_plan_answered q a) b
           (answered_well q (trailed_well Began client works first (asked_at works item) item (first ++ said) q (fits item o.waits).1) a) e)
 
   call_over : (said : List Act) (s : Serving) (call : Option Call) → s.call ≡ call → Holds Began client works first said s → IsOver (runs_call s call).done
   call_over said s None at h item ver among = absurd among
-  call_over said s (Some call) at h item ver among = by (effect_either (Answers item (answer.Version ver)) m.done.outs (answers_call m.done.state call m.answer).done.outs among)
+  call_over said s (Some call) at h item ver among = by (effect_either (Answers item (answer.Version ver)) m.done.outs (take_answer m.done.state call m.answer).done.outs among)
     where
       u : Serving
       u = record s { call = None }
 
       m : Made
-      m = makes u call.step
+      m = blocks_make u call.step
 
       g : Goes u m.done
       g = makes_go u call.step
@@ -208,39 +208,39 @@ module _ (Began : ℕ → List Act → Type 0) (client : ℕ) (works : List Work
       its : (n : ℕ) → IsOpen m.done.state n → PlanFits Began client works first said n call.plan call.step (asked_at works n)
       its n waits = h.fits n ((items_stay u m.done g).waits n waits) call at
 
-      rest : (a : Option BlockAnswer) → m.answer ≡ a → In (Answers item (answer.Version ver)) (answers_call m.done.state call a).done.outs
-          → Over (answers_call m.done.state call a).done.state item ver
+      rest : (a : Option BlockAnswer) → m.answer ≡ a → In (Answers item (answer.Version ver)) (take_answer m.done.state call a).done.outs
+          → Over (take_answer m.done.state call a).done.state item ver
       rest None e f = absurd f
       rest (Some a) e f =
           rest_over said call.plan call.step a u e
           (subst (λ n. ActedFor n call.step m.done.outs (Some a)) h.number (subst (ActedFor u.lasting.number call.step m.done.outs) e (makes_acted u call.step)))
           its (none_stays m.done.state.call g.calls) item ver f
 
-      by : In (Answers item (answer.Version ver)) m.done.outs ⊎ In (Answers item (answer.Version ver)) (answers_call m.done.state call m.answer).done.outs
-          → Over (answers_call m.done.state call m.answer).done.state item ver
+      by : In (Answers item (answer.Version ver)) m.done.outs ⊎ In (Answers item (answer.Version ver)) (take_answer m.done.state call m.answer).done.outs
+          → Over (take_answer m.done.state call m.answer).done.state item ver
       by (inl f) = absurd (goes_none u m.done g item ver f)
       by (inr f) = rest m.answer refl f
 
-  once_over : (said : List Act) (s : Serving) → Holds Began client works first said s → IsOver (runs_once s).done
-  unfolding runs_once
+  once_over : (said : List Act) (s : Serving) → Holds Began client works first said s → IsOver (run_once s).done
+  unfolding run_once
   once_over said s h = call_over said s s.call refl h
 
   none_upto : (s : Serving) → IsVersed (still s)
   none_upto s item ver among = absurd among
 
-  upto_versed : (said : List Act) (k : ℕ) (s : Serving) → Holds Began client works first said s → IsVersed (runs_upto k s)
-  unfolding runs_upto
+  upto_versed : (said : List Act) (k : ℕ) (s : Serving) → Holds Began client works first said s → IsVersed (run_upto k s)
+  unfolding run_upto
   upto_versed said zero s h = none_upto s
   upto_versed said (suc k) s h =
-      let r : Ran = runs_once s in
-      let more : IsVersed (runs_upto k r.done.state) =
+      let r : Ran = run_once s in
+      let more : IsVersed (run_upto k r.done.state) =
       upto_versed (acted (nodes.Client client) said r.done.outs) k r.done.state (once_runs Began client works first said s h).holds in
-      by_test IsVersed r.goes (saying r.done.outs (runs_upto k r.done.state)) r.done
-      (λ _. then_versed r.done (runs_upto k r.done.state) (once_over said s h) (idle_upto k r.done.state) more)
+      by_test IsVersed r.goes (saying r.done.outs (run_upto k r.done.state)) r.done
+      (λ _. then_versed r.done (run_upto k r.done.state) (once_over said s h) (idle_upto k r.done.state) more)
       (λ _ item ver among. (once_over said s h item ver among).written)
 
-  pub all_versed : (said : List Act) (s : Serving) → Holds Began client works first said s → IsVersed (runs s)
-  unfolding runs
+  pub all_versed : (said : List Act) (s : Serving) → Holds Began client works first said s → IsVersed (run s)
+  unfolding run
   all_versed said s h = upto_versed said most_steps s h
 
   -- behind what answers none
@@ -255,8 +255,8 @@ module _ (Began : ℕ → List Act → Type 0) (client : ℕ) (works : List Work
 
   -- no item is answered by a version as it begins
   begins_none : (s : Serving) (number : ℕ) (g : Going) → BeginsFor Began client works first (asked_at works number) number [] (Some g) → (item ver : ℕ)
-      → In (Answers item (answer.Version ver)) (goes_on (record s { lasting = record s.lasting { items = waiting s.lasting.items number } }) g).outs → ⊥
-  unfolding goes_on
+      → In (Answers item (answer.Version ver)) (running_go_on (record s { lasting = record s.lasting { items = items_wait s.lasting.items number } }) g).outs → ⊥
+  unfolding running_go_on
   begins_none s number (On call) its item ver among = among
   begins_none s number (Ends a) its item ver among =
       let o = open_answers (Some number) a item (answer.Version ver) among in
@@ -267,18 +267,18 @@ module _ (Began : ℕ → List Act → Type 0) (client : ℕ) (works : List Work
       version_founded b same f = subst (IsFounded client works (asked_at works number) [] (DoneIn [])) same f
 
   begins_versed : (s : Serving) (number : ℕ) (o : Option Going) → Holds Began client works first [] s
-      → BeginsFor Began client works first (asked_at works number) number [] o → IsVersed (begins_call s number o)
+      → BeginsFor Began client works first (asked_at works number) number [] o → IsVersed (begin_call s number o)
   begins_versed s number None h its item ver among = absurd (done_apart ver (one_answer number item answer.Done (answer.Version ver) among))
-  begins_versed s number (Some g) h its item ver among = by (effect_either (Answers item (answer.Version ver)) d.outs (runs d.state).outs among)
+  begins_versed s number (Some g) h its item ver among = by (effect_either (Answers item (answer.Version ver)) d.outs (run d.state).outs among)
     where
       t : Serving
-      t = record s { lasting = record s.lasting { items = waiting s.lasting.items number } }
+      t = record s { lasting = record s.lasting { items = items_wait s.lasting.items number } }
 
       d : Done
-      d = goes_on t g
+      d = running_go_on t g
 
-      by : In (Answers item (answer.Version ver)) d.outs ⊎ In (Answers item (answer.Version ver)) (runs d.state).outs
-          → HasWritten (runs d.state).state.tokens (asked_at works item) ver
+      by : In (Answers item (answer.Version ver)) d.outs ⊎ In (Answers item (answer.Version ver)) (run d.state).outs
+          → HasWritten (run d.state).state.tokens (asked_at works item) ver
       by (inl f) = absurd (begins_none s number g its item ver f)
       by (inr f) =
           all_versed (acted (nodes.Client client) [] d.outs) d.state (begun_runs Began client works first [] s number g h its).holds item ver f
@@ -288,10 +288,10 @@ module _ (Began : ℕ → List Act → Type 0) (client : ℕ) (works : List Work
   unfolding opens
   opens_versed s number h began none =
       by_test IsVersed (is_some s.lasting.items.unanswered) (gives s (Answers number answer.Busy ∷ []))
-      (begins_call s number (call_at s number (work_at s.lasting.items number)))
+      (begin_call s number (call_at s number (work_at s.lasting.items number)))
       (λ _ item ver among. absurd (busy_apart ver (one_answer number item answer.Busy (answer.Version ver) among)))
       (λ _.
-      subst (λ w. IsVersed (begins_call s number (call_at s number w))) (sym asked)
+      subst (λ w. IsVersed (begin_call s number (call_at s number w))) (sym asked)
       (begins_versed s number (call_at s number (asked_at works number)) h
       (begins_for Began client works first (asked_at works number) s number [] h.number began none)))
     where

@@ -6,22 +6,22 @@ use Rattle.client_log.specs.declared.input.In.TheVariants as log_in
 use Rattle.client_log.specs.declared.output.Out.{Out}
 use Rattle.client_log.specs.declared.output.Out.TheVariants.{Send, Settled}
 use Rattle.client_log.specs.LogState.{LogState}
-use Rattle.client_log.specs.Transition.{all_sends, can_go_on, if_full, is_full, launched, next_name, on_put, prior_from, sealed, send_at, sends, waits}
+use Rattle.client_log.specs.Transition.{sending_send, can_go_on, log_go_on, is_full, log_launch, next_name, on_put, prior_from, log_seal, send_at, sends, waits}
 use Rattle.client_log.specs.Transition as log
-use Rattle.client_running.specs.Blocks.{Made, changes, changes_if_fits, held_back, needs, put_of, puts, wrote}
+use Rattle.client_running.specs.Blocks.{Made, changes, blocks_change, held_back, blocks_need, put_of, blocks_put, wrote}
 use Rattle.client_serving.specs.declared.serving.Serving.{Serving}
-use Rattle.client_serving.specs.Flights.{held_at, seals_again, writes, writes_one}
+use Rattle.client_serving.specs.Flights.{held_at, seals_again, serving_write, write_one}
 use Rattle.file_plan.specs.declared.block_call.BlockAnswer.TheVariants.{Put as Written}
 use Rattle.log_flight.specs.declared.dirty.Change.{Change}
 use Rattle.log_flight.specs.Flights.{FlightState, flown, group_for, is_noted}
-use Rattle.log_flight.specs.Fragments.{piece}
+use Rattle.log_flight.specs.Fragments.{flight_fragment}
 use Rattle.log_flight.specs.Items.{items_of}
 use Rattle.group_map.specs.declared.group.Member.{Member}
 use Rattle.log_owner.specs.Sealing.{is_settling}
 use Rattle.segment_format.specs.declared.segment.Item.{Item}
 use Rattle.token_client.proofs.Tables.{held_of-put_itself}
 use Rattle.token_client.specs.declared.held.Held.{Held}
-use Rattle.token_client.specs.Held.{may_write, written}
+use Rattle.token_client.specs.Held.{may_write, held_write}
 use Rattle.token_client.specs.State.{TokensState, held_of, with_held}
 use Rattle.token_client.specs.Transition.{on_wrote}
 use Rattle.xfs_base.proofs.Alls.{all_append}
@@ -49,34 +49,34 @@ each_sends : (f : FlightState) (members : List Member) (place : ℕ) → AllByRe
 each_sends f [] place = tt
 each_sends f (m ∷ members) place =
     all_append IsSend (send_at f m place) (sends f members (place + 1))
-    (by_test (AllByRecursion IsSend) (is_noted f.noted place) [] (Send (piece f.segment f.group place) m ∷ []) (λ _. tt) (λ _. (tt, tt)))
+    (by_test (AllByRecursion IsSend) (is_noted f.noted place) [] (Send (flight_fragment f.segment f.group place) m ∷ []) (λ _. tt) (λ _. (tt, tt)))
     (each_sends f members (place + 1))
 
-pub all_sent : (f : FlightState) → AllByRecursion IsSend (all_sends f)
-unfolding all_sends
+pub all_sent : (f : FlightState) → AllByRecursion IsSend (sending_send f)
+unfolding sending_send
 all_sent f = each_sends f f.group.members 0
 
-launched_sends : (s : LogState) (name : SegName) (prior : Prior) (items : List Item) → Sends (launched s name prior items)
-unfolding launched
+launched_sends : (s : LogState) (name : SegName) (prior : Prior) (items : List Item) → Sends (log_launch s name prior items)
+unfolding log_launch
 launched_sends s name prior items = all_sent (flown name prior items (group_for s.groups s.log.0 name.seq))
 
-sealed_sends : (s : LogState) → Sends (sealed s)
-unfolding sealed
+sealed_sends : (s : LogState) → Sends (log_seal s)
+unfolding log_seal
 sealed_sends s =
     let t : LogState = record s { dirty = drop segment_blocks s.dirty } in
     launched_sends t (next_name t) (prior_from s.end) (items_of 0 (take segment_blocks s.dirty))
 
-full_sends : (s : LogState) → Sends (if_full s)
-unfolding if_full
-full_sends s = by_test Sends (is_full s) (sealed s) (still s) (λ _. sealed_sends s) (λ _. tt)
+full_sends : (s : LogState) → Sends (log_go_on s)
+unfolding log_go_on
+full_sends s = by_test Sends (is_full s) (log_seal s) (still s) (λ _. sealed_sends s) (λ _. tt)
 
 put_sends : (s : LogState) (block : BlockId) (change : Change) → Sends (on_put s block change)
 unfolding on_put
 put_sends s block change =
-    by_test Sends (can_go_on (waits s block change)) (if_full (waits s block change)) (still s) (λ _. full_sends (waits s block change)) (λ _. tt)
+    by_test Sends (can_go_on (waits s block change)) (log_go_on (waits s block change)) (still s) (λ _. full_sends (waits s block change)) (λ _. tt)
 
-sent_state : (s : Serving) (outs : List Out) → AllByRecursion IsSend outs → (steps writes_one s outs).state ≡ s
-unfolding writes_one
+sent_state : (s : Serving) (outs : List Out) → AllByRecursion IsSend outs → (steps write_one s outs).state ≡ s
+unfolding write_one
 sent_state s [] all = refl
 sent_state s (Send fragment member ∷ outs) all = sent_state s outs all.1
 sent_state s (Settled end rows ∷ outs) all = absurd all.0
@@ -86,12 +86,12 @@ none_settles [] all = refl
 none_settles (Send fragment member ∷ outs) all = none_settles outs all.1
 none_settles (Settled end rows ∷ outs) all = absurd all.0
 
-put_tokens : (s : Serving) (block : BlockId) (entry : Entry) (value : Option (List ℕ)) → (writes s (log_in.Put block entry value)).state.tokens ≡ s.tokens
-unfolding writes
+put_tokens : (s : Serving) (block : BlockId) (entry : Entry) (value : Option (List ℕ)) → (serving_write s (log_in.Put block entry value)).state.tokens ≡ s.tokens
+unfolding serving_write
 put_tokens s block entry value =
     let r : log.Done = on_put s.log block (record { entry = entry; value = value }) in
     let sent : Sends r = put_sends s.log block (record { entry = entry; value = value }) in
-    let now : Serving = (steps writes_one (record s { log = r.state }) r.outs).state in
+    let now : Serving = (steps write_one (record s { log = r.state }) r.outs).state in
     ap (λ settling. (seals_again now settling).state.tokens) (none_settles r.outs sent)
     ∙ ap (λ (t : Serving). t.tokens) (sent_state (record s { log = r.state }) r.outs sent)
 
@@ -108,12 +108,12 @@ own_is_held Copy own = refl
 own_is_held Own own = refl
 
 wrote_held : (s : Serving) (block : BlockId) (value : Option (List ℕ)) → may_write (held_at s block) ≡ true
-    → held_at (wrote s block value) block ≡ written (held_at s block) value
+    → held_at (wrote s block value) block ≡ held_write (held_at s block) value
 unfolding on_wrote
 wrote_held s block value may =
-    by_test (λ d. held_of d.state.blocks block ≡ written (held_at s block) value) (may_write (held_at s block))
-    (still (with_held s.tokens block (written (held_at s block) value))) (still s.tokens)
-    (λ _. held_of-put_itself block (written (held_at s block) value) s.tokens.blocks) (λ none. contrary (sym may ∙ none))
+    by_test (λ d. held_of d.state.blocks block ≡ held_write (held_at s block) value) (may_write (held_at s block))
+    (still (with_held s.tokens block (held_write (held_at s block) value))) (still s.tokens)
+    (λ _. held_of-put_itself block (held_write (held_at s block) value) s.tokens.blocks) (λ none. contrary (sym may ∙ none))
   where
     contrary : {A : Type 0} → true ≡ false → A
     contrary e = absurd cc
@@ -135,16 +135,16 @@ changes_put s block value may ver answers = record {
     same : held_at (put_of w block value).state block ≡ held_at w block
     same = ap (λ (t : TokensState). held_of t.blocks block) (put_tokens w block (record { ver = (held_at w block).ver; hop = 0; place = None }) value)
 
-    now : held_at (put_of w block value).state block ≡ written (held_at s block) value
+    now : held_at (put_of w block value).state block ≡ held_write (held_at s block) value
     now = same ∙ wrote_held s block value may
 
     version_is : (v : ℕ) → Some (Written v) ≡ Some (Written ver) → v ≡ ver
     version_is v e = cc
 
-pub puts_put : (s : Serving) (block : BlockId) (value : Option (List ℕ)) → Puts block value (puts s block value)
-unfolding puts changes_if_fits
+pub puts_put : (s : Serving) (block : BlockId) (value : Option (List ℕ)) → Puts block value (blocks_put s block value)
+unfolding blocks_put blocks_change
 puts_put s block value =
-    by_test (Puts block value) (may_write (held_at s block)) (changes_if_fits s block value) (needs s block Own)
+    by_test (Puts block value) (may_write (held_at s block)) (blocks_change s block value) (blocks_need s block Own)
     (λ may.
     by_test (Puts block value) (put_fits block ((held_at s block).ver + 1) value) (changes s block value) (held_back s block)
     (λ _. changes_put s block value may) (λ _ ver none. absurd cc))

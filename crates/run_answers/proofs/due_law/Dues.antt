@@ -21,7 +21,7 @@ use Rattle.core_world.specs.AnyNode.{as_any}
 use Rattle.core_world.specs.declared.any_node.AnyNode.{AnyNode}
 use Rattle.core_world.specs.declared.any_node.AnyNode.TheVariants as any
 use Rattle.log_owner.specs.declared.opening.Opening as openings
-use Rattle.manager_map.specs.Slots.{after_move, entry_at}
+use Rattle.manager_map.specs.Slots.{manager_map_advance, entry_at}
 use Rattle.manager_node.specs.declared.manager.Manager.{Manager}
 use Rattle.manager_node.specs.declared.phase.Phase as manager_phase
 use Rattle.manager_node.specs.declared.phase.Phase.TheVariants as manager
@@ -30,11 +30,11 @@ use Rattle.manager_node.specs.Phases as managers
 use Rattle.manager_serving.specs.Checkpoints as checkpoints
 use Rattle.manager_serving.specs.declared.serving.Serving.{Serving as ManagerServing}
 use Rattle.manager_slots.specs.declared.lasting.Lasting.{Lasting as Life}
-use Rattle.node_base.specs.Beginning.{answers_unanswered, begun, work_at}
+use Rattle.node_base.specs.Beginning.{answers_unanswered, items_begin, work_at}
 use Rattle.node_base.specs.declared.effects.Effect.{Effect}
 use Rattle.node_base.specs.declared.effects.Effect.TheVariants.{Answer as Answers}
 use Rattle.node_base.specs.declared.items.Items.{Items}
-use Rattle.node_base.specs.Effects.{acts_of, packets_of, sends_to}
+use Rattle.node_base.specs.Effects.{acts_of, packets_of, send_each}
 use Rattle.node_base.specs.Nodes.{others}
 use Rattle.node_base.specs.Room.{has_room}
 use Rattle.registry.specs.Board.{Made, can_move, moved, reassign}
@@ -68,10 +68,10 @@ use Rattle.headline.specs.Items.{IsOpen, asked_at}
 
 -- what is cut, and then the item is done
 pub cut_begun : (me : NodeId) (items : Items) (number : ℕ) (more : List Effect)
-    → acts_of me (answers_unanswered (begun items).unanswered answer.Cut ++ Answers number answer.Done ∷ more)
+    → acts_of me (answers_unanswered (items_begin items).unanswered answer.Cut ++ Answers number answer.Done ∷ more)
     ≡ cut_open me items.unanswered ++ act.Answered me number answer.Done ∷ acts_of me more
 cut_begun me items number more =
-    by (begun items).unanswered ∙ ap (λ o. cut_open me o ++ act.Answered me number answer.Done ∷ acts_of me more) (begun_open items)
+    by (items_begin items).unanswered ∙ ap (λ o. cut_open me o ++ act.Answered me number answer.Done ∷ acts_of me more) (begun_open items)
   where
     by : (o : Option ℕ) → acts_of me (answers_unanswered o answer.Cut ++ Answers number answer.Done ∷ more) ≡ cut_open me o ++ act.Answered me number answer.Done ∷ acts_of me more
     by None = refl
@@ -83,18 +83,18 @@ cut_silent me None number = refl
 cut_silent me (Some item) number = refl
 
 -- nothing is acted by what is sent to nodes
-sends_silent : (me : NodeId) (to : List NodeId) (b : Body) (more : List Effect) → acts_of me (sends_to to b ++ more) ≡ acts_of me more
+sends_silent : (me : NodeId) (to : List NodeId) (b : Body) (more : List Effect) → acts_of me (send_each to b ++ more) ≡ acts_of me more
 sends_silent me [] b more = refl
 sends_silent me (one ∷ to) b more = sends_silent me to b more
 
 -- the open item waits still, once the next has begun
-waits_still : (items : Items) (item : ℕ) → IsOpen items item → is_some (begun items).unanswered ≡ true
+waits_still : (items : Items) (item : ℕ) → IsOpen items item → is_some (items_begin items).unanswered ≡ true
 waits_still items item waits = ap is_some (begun_open items ∙ waits)
 
 none_waits : (o : Option ℕ) (item : ℕ) → o ≡ None → o ≡ Some item → ⊥
 none_waits o item none waits = (let clash : None ≡ Some item = sym none ∙ waits in cc)
 
-asked_so : (items : Items) (number : ℕ) (wanted : Option Work) → asked_at items.works number ≡ wanted → wanted ≡ work_at (begun items) number
+asked_so : (items : Items) (number : ℕ) (wanted : Option Work) → asked_at items.works number ≡ wanted → wanted ≡ work_at (items_begin items) number
 asked_so items number wanted asked = sym (sym (asked_begun items number) ∙ asked)
 
 -- ---- clients
@@ -107,7 +107,7 @@ module _ (c : Client) (number : ℕ) where
   ClientDue p wanted w = IsDue (client_in p) number (as_any any.Client (clients.stepped (record c { phase = p }) w)) wanted
 
   client_down : (l : Lasting) (wanted : Work) → actor_of wanted ≡ Some (nodes.Client l.number)
-      → ClientDue (client.Down l) wanted (clients.down_begins c.peers.servers (record l { items = begun l.items }) number (clients.wish_of (Some wanted)))
+      → ClientDue (client.Down l) wanted (clients.down_begins c.peers.servers (record l { items = items_begin l.items }) number (clients.wish_of (Some wanted)))
   client_down l (work.Crash node) own = λ _. (λ fallen. record { acts = refl; packets = refl; stands = refl }, λ apart. absurd (apart refl))
   client_down l (work.Restart node) own = λ _. (λ fallen. (refl, (refl, refl)), λ apart. absurd (apart refl))
   client_down l (work.Lose server) own = absurd cc
@@ -115,13 +115,13 @@ module _ (c : Client) (number : ℕ) where
   client_down l _ own = (λ apart. record { acts = refl; packets = refl; stands = refl }, λ item serves waits. absurd cc)
 
   client_opening : (l : Lasting) (o : openings.Opening) (wanted : Work) → actor_of wanted ≡ Some (nodes.Client l.number)
-      → ClientDue (client.Opening l o) wanted (clients.opening_begins (record l { items = begun l.items }) o number (clients.wish_of (Some wanted)))
+      → ClientDue (client.Opening l o) wanted (clients.opening_begins (record l { items = items_begin l.items }) o number (clients.wish_of (Some wanted)))
   client_opening l o (work.Crash node) own =
       λ _. (
         λ fallen. absurd cc,
         λ apart. record {
           acts = cut_begun (nodes.Client l.number) l.items number [];
-          packets = cut_silent (nodes.Client l.number) (begun l.items).unanswered number;
+          packets = cut_silent (nodes.Client l.number) (items_begin l.items).unanswered number;
           falls = refl;
         },
       )
@@ -132,14 +132,14 @@ module _ (c : Client) (number : ℕ) where
 
   module _ (s : Serving) where
     abbrev s_begun : Serving
-    s_begun = record s { lasting = record s.lasting { items = begun s.lasting.items } }
+    s_begun = record s { lasting = record s.lasting { items = items_begin s.lasting.items } }
 
     client_crashes : CrashIsDone (client_in (client.Serving s)) number
         (as_any any.Client (clients.stepped (record c { phase = client.Serving s }) (clients.serving_crashes s_begun number)))
     unfolding fall_of
     client_crashes = record {
       acts = ap (λ (xs : List Act). client_fell (client.Serving s) ++ xs) (cut_begun (nodes.Client s.lasting.number) s.lasting.items number []);
-      packets = cut_silent (nodes.Client s.lasting.number) (begun s.lasting.items).unanswered number;
+      packets = cut_silent (nodes.Client s.lasting.number) (items_begin s.lasting.items).unanswered number;
       falls = refl;
     }
 
@@ -151,7 +151,7 @@ module _ (c : Client) (number : ℕ) where
         by_test
         (λ (d : ClientDone).
         Refuses (client_in (client.Serving s)) number (as_any any.Client (clients.stepped (record c { phase = client.Serving s }) (clients.serves_on d))) answer.Busy)
-        (is_some (begun s.lasting.items).unanswered) (gives s_begun (Answers number answer.Busy ∷ [])) _
+        (is_some (items_begin s.lasting.items).unanswered) (gives s_begun (Answers number answer.Busy ∷ [])) _
         (λ _. record { acts = refl; packets = refl; stands = refl }) (λ no. contrary (sym no ∙ waits_still s.lasting.items item waits))
 
     client_serving : (wanted : Work) → actor_of wanted ≡ Some (nodes.Client s.lasting.number)
@@ -168,21 +168,21 @@ module _ (c : Client) (number : ℕ) where
     unfolding clients.on_begin
     client_begins (client.Down l) own begins =
         subst (λ o. ClientDue (client.Down l) wanted (clients.begins_item c.peers.servers (client.Down l) o)) (sym begins.next)
-        (subst (λ o. ClientDue (client.Down l) wanted (clients.down_begins c.peers.servers (record l { items = begun l.items }) number (clients.wish_of o)))
+        (subst (λ o. ClientDue (client.Down l) wanted (clients.down_begins c.peers.servers (record l { items = items_begin l.items }) number (clients.wish_of o)))
         (asked_so l.items number (Some wanted) begins.asked) (client_down l wanted own))
     client_begins (client.Opening l o) own begins =
         subst (λ i. ClientDue (client.Opening l o) wanted (clients.begins_item c.peers.servers (client.Opening l o) i)) (sym begins.next)
-        (subst (λ w. ClientDue (client.Opening l o) wanted (clients.opening_begins (record l { items = begun l.items }) o number (clients.wish_of w)))
+        (subst (λ w. ClientDue (client.Opening l o) wanted (clients.opening_begins (record l { items = items_begin l.items }) o number (clients.wish_of w)))
         (asked_so l.items number (Some wanted) begins.asked) (client_opening l o wanted own))
     client_begins (client.Serving s) own begins =
         subst (λ i. ClientDue (client.Serving s) wanted (clients.begins_item c.peers.servers (client.Serving s) i)) (sym begins.next)
         (subst (λ w. ClientDue (client.Serving s) wanted (clients.serving_begins (s_begun s) number (clients.wish_of w)))
         (asked_so s.lasting.items number (Some wanted) begins.asked) (client_serving s wanted own))
 
-    client_due : clients.client_room c ≡ true → actor_of wanted ≡ Some (nodes.Client (clients.lasting_of c.phase).number)
+    client_due : clients.client_has_room c ≡ true → actor_of wanted ≡ Some (nodes.Client (clients.lasting_of c.phase).number)
         → BeginsWork (any.Client c) Begin number (Some wanted) → ClientDue c.phase wanted (clients.takes c Begin)
     client_due room own begins =
-        by_test (ClientDue c.phase wanted) (clients.client_room c) (clients.happens c Begin) (still c.phase) (λ _. client_begins c.phase own begins)
+        by_test (ClientDue c.phase wanted) (clients.client_has_room c) (clients.happens c Begin) (still c.phase) (λ _. client_begins c.phase own begins)
         (λ no. contrary (sym no ∙ room))
 
 -- ---- managers
@@ -202,11 +202,11 @@ module _ (m : Manager) (number : ℕ) where
     l_begun = managers.with_begun l
 
     -- it falls from this phase, in which it has this
-    manager_crashes : (p : manager_phase.Phase) → managers.lasting_of p ≡ l → CrashIsDone (manager_in p) number (manager_after p (managers.crashes l_begun number))
-    unfolding managers.crashes
+    manager_crashes : (p : manager_phase.Phase) → managers.lasting_of p ≡ l → CrashIsDone (manager_in p) number (manager_after p (managers.crash l_begun number))
+    unfolding managers.crash
     manager_crashes p has = record {
       acts = cut_begun me l.items number [] ∙ ap (λ (k : Life). cut_open me k.items.unanswered ++ act.Answered me number answer.Done ∷ []) (sym has);
-      packets = cut_silent me (begun l.items).unanswered number;
+      packets = cut_silent me (items_begin l.items).unanswered number;
       falls = refl;
     }
       where
@@ -215,7 +215,7 @@ module _ (m : Manager) (number : ℕ) where
 
     manager_down : (wanted : Work) → actor_of wanted ≡ Some (nodes.Manager l.number)
         → ManagerDue (manager.Down l) wanted (managers.down_wish l_begun number (managers.wish_at (Some wanted)))
-    unfolding managers.restarts
+    unfolding managers.restart
     manager_down (work.Crash node) own = λ _. (λ fallen. record { acts = refl; packets = refl; stands = refl }, λ apart. absurd (apart refl))
     manager_down (work.Restart node) own = λ _. (λ fallen. (refl, refl), λ apart. absurd (apart refl))
     manager_down (work.Lose server) own = absurd cc
@@ -239,7 +239,7 @@ module _ (m : Manager) (number : ℕ) where
     unfolding checkpoints.on_checkpoint
     manager_busy item waits =
         by_test (λ (d : checkpoints.Done). Refuses (manager_in (manager.Serving s)) number (manager_after (manager.Serving s) (managers.serves d)) answer.Busy)
-        (is_some (begun s.lasting.items).unanswered) (checkpoints.gives t_begun (Answers number answer.Busy ∷ [])) _
+        (is_some (items_begin s.lasting.items).unanswered) (checkpoints.gives t_begun (Answers number answer.Busy ∷ [])) _
         (λ _. record { acts = refl; packets = refl; stands = refl }) (λ no. contrary (sym no ∙ waits_still s.lasting.items item waits))
 
     manager_serving : (wanted : Work) → actor_of wanted ≡ Some (nodes.Manager s.lasting.number)
@@ -290,18 +290,18 @@ module _ (c : Cleaner) (number : ℕ) where
     abbrev life_begun : CleanerLasting
     life_begun = cleaning.begun_life l
 
-    cleaner_crashes : (p : cleaner_phase.Phase) → cleaning.lasting_of p ≡ l → CrashIsDone (cleaner_in p) number (cleaner_after p (cleaning.crashes life_begun number))
-    unfolding cleaning.crashes
+    cleaner_crashes : (p : cleaner_phase.Phase) → cleaning.lasting_of p ≡ l → CrashIsDone (cleaner_in p) number (cleaner_after p (cleaning.crash life_begun number))
+    unfolding cleaning.crash
     cleaner_crashes p has = record {
       acts = cut_begun nodes.Cleaner l.items number []
           ∙ ap (λ (k : CleanerLasting). cut_open nodes.Cleaner k.items.unanswered ++ act.Answered nodes.Cleaner number answer.Done ∷ []) (sym has);
-      packets = cut_silent nodes.Cleaner (begun l.items).unanswered number;
+      packets = cut_silent nodes.Cleaner (items_begin l.items).unanswered number;
       falls = refl;
     }
 
     cleaner_down : (wanted : Work) → actor_of wanted ≡ Some nodes.Cleaner
         → CleanerDue (cleaner.Down l) wanted (cleaning.down_wishes c.peers.servers life_begun number (cleaning.wish_of (Some wanted)))
-    unfolding cleaning.restarts
+    unfolding cleaning.restart
     cleaner_down (work.Crash node) own = λ _. (λ fallen. record { acts = refl; packets = refl; stands = refl }, λ apart. absurd (apart refl))
     cleaner_down (work.Restart node) own = λ _. (λ fallen. (refl, (refl, refl)), λ apart. absurd (apart refl))
     cleaner_down (work.Lose server) own = absurd cc
@@ -325,7 +325,7 @@ module _ (c : Cleaner) (number : ℕ) where
     unfolding emptying.on_clean
     cleaner_busy count item waits =
         by_test (λ (d : CleanerDone). Refuses (cleaner_in (cleaner.Serving e)) number (cleaner_after (cleaner.Serving e) (cleaning.serves_on d)) answer.Busy)
-        (is_some (begun e.lasting.items).unanswered) (record { state = e_begun; outs = Answers number answer.Busy ∷ [] }) _
+        (is_some (items_begin e.lasting.items).unanswered) (record { state = e_begun; outs = Answers number answer.Busy ∷ [] }) _
         (λ _. record { acts = refl; packets = refl; stands = refl }) (λ no. contrary (sym no ∙ waits_still e.lasting.items item waits))
 
     cleaner_serving : (wanted : Work) → actor_of wanted ≡ Some nodes.Cleaner
@@ -354,10 +354,10 @@ module _ (c : Cleaner) (number : ℕ) where
         (subst (λ w. CleanerDue (cleaner.Serving e) wanted (cleaning.serving_wishes (e_begun e) number (cleaning.wish_of w)))
         (asked_so e.lasting.items number (Some wanted) begins.asked) (cleaner_serving e wanted own))
 
-    cleaner_due : cleaning.phase_room c.phase ≡ true → actor_of wanted ≡ Some nodes.Cleaner → BeginsWork (any.Cleaner c) Begin number (Some wanted)
+    cleaner_due : cleaning.phase_has_room c.phase ≡ true → actor_of wanted ≡ Some nodes.Cleaner → BeginsWork (any.Cleaner c) Begin number (Some wanted)
         → CleanerDue c.phase wanted (cleaning.takes c.peers c.phase Begin)
     cleaner_due room own begins =
-        by_test (CleanerDue c.phase wanted) (cleaning.phase_room c.phase) (cleaning.happens c.peers c.phase Begin) (still c.phase)
+        by_test (CleanerDue c.phase wanted) (cleaning.phase_has_room c.phase) (cleaning.happens c.peers c.phase Begin) (still c.phase)
         (λ _. cleaner_begins c.phase own begins) (λ no. contrary (sym no ∙ room))
 
 -- ---- storage servers
@@ -367,7 +367,7 @@ module _ (v : StoreServer) (number : ℕ) where
   ServerDue wanted d = IsDue (any.Server v) number (as_any any.Server (storing.seen v.number d)) wanted
 
   abbrev v_begun : StoreServer
-  v_begun = record v { items = begun v.items }
+  v_begun = record v { items = items_begin v.items }
 
   server_loses : LossIsDone (any.Server v) number (as_any any.Server (storing.seen v.number (storing.on_lose v_begun number)))
   unfolding storing.on_lose
@@ -377,7 +377,7 @@ module _ (v : StoreServer) (number : ℕ) where
       → Refuses (any.Server v) number (as_any any.Server (storing.seen v.number (storing.on_rebuild v_begun number))) answer.Busy
   unfolding storing.on_rebuild
   server_busy item waits =
-      by_test (λ (d : ServerDone). Refuses (any.Server v) number (as_any any.Server (storing.seen v.number d)) answer.Busy) (is_some (begun v.items).unanswered)
+      by_test (λ (d : ServerDone). Refuses (any.Server v) number (as_any any.Server (storing.seen v.number d)) answer.Busy) (is_some (items_begin v.items).unanswered)
       (storing.tells v_begun (Answers number answer.Busy ∷ [])) _ (λ _. record { acts = refl; packets = refl; stands = refl })
       (λ no. contrary (sym no ∙ waits_still v.items item waits))
 
@@ -409,13 +409,13 @@ module _ (r : RegistryNode) (number : ℕ) where
   RegistryDue wanted d = IsDue (any.Registry r) number (as_any any.Registry (registering.seen d)) wanted
 
   abbrev r_begun : RegistryNode
-  r_begun = record r { items = begun r.items }
+  r_begun = record r { items = items_begin r.items }
 
   registry_moves : (slot k : ℕ) → can_move r.board slot ≡ true
       → MoveIsDone (any.Registry r) number (as_any any.Registry (registering.seen (registering.on_move r_begun number slot k))) slot k
   unfolding registering.on_move reassign
   registry_moves slot k can =
-      let epoch : ℕ = (entry_at (after_move r.board.entries slot k) slot).epoch in
+      let epoch : ℕ = (entry_at (manager_map_advance r.board.entries slot k) slot).epoch in
       by_test (λ (made : Made). MoveIsDone (any.Registry r) number (as_any any.Registry (registering.seen (registering.after_move r_begun number made))) slot k)
       (can_move r.board slot) (record { state = moved r.board slot k; outs = Changed ∷ Epoch epoch ∷ [] }) (still r.board)
       (λ _. record { epoch = epoch; acts = sends_silent nodes.Registry (others r.peers nodes.Registry) (body.MapNews (registering.news_of (moved r.board slot k))) (Answers number (answer.Epoch epoch) ∷ []); gives = (refl, refl) })

@@ -17,7 +17,7 @@ use Rattle.world_base.specs.declared.event.Event.{Event}
 use Rattle.world_base.specs.declared.world.World.{World}
 use Rattle.world_base.specs.Events.{node_of, what_of}
 use Rattle.world_base.specs.Items.{actor_of, items_of}
-use Rattle.world_base.specs.NextWorld.{after_turn, at_place, clock_at, happened, happened_at, next_world, start_world, turn_by, turn_of, turned}
+use Rattle.world_base.specs.NextWorld.{after_turn, at_place, clock_at, world_happen, happen_at, next_world, start_world, turn_by, turn_of, turned}
 use Rattle.xfs_base.specs.declared.node.NodeId.{NodeId}
 use Rattle.xfs_base.specs.declared.node.NodeId.TheVariants as nodes
 use Rattle.run_answers.proofs.act_law.Runs.{moment_first}
@@ -54,7 +54,7 @@ record Idle (w : World AnyNode) (event : Event) : Type 0 where
   stays : next_world any_step w event ≡ w
 
 turns_or_ends : (w : World AnyNode) (event : Event) (x : AnyNode) → node_named w (node_of event) ≡ Some x → Idle w event ⊎ Turned w event x
-unfolding happened happened_at turn_of
+unfolding world_happen happen_at turn_of
 turns_or_ends w event x = by (place_of w.cluster (node_of event)) refl
   where
     at : (place : ℕ) → place_of w.cluster (node_of event) ≡ Some place → slice_get w.nodes place ≡ Some x → (clock : Option ℕ)

@@ -1,7 +1,7 @@
 -- How a node stands behind an event, shown by what is known of it before and behind.
 use Rattle.std.proofs.Common.{◌≡◌, ◌⊎◌, ℕ, List, [], ◌∷◌, ◌++◌, Option, Some, None, inl, inr, refl, sym, ap, ◌∙◌}
 use Rattle.core_world.specs.declared.any_node.AnyNode.{AnyNode}
-use Rattle.node_base.specs.Beginning.{answers_unanswered, begun}
+use Rattle.node_base.specs.Beginning.{answers_unanswered, items_begin}
 use Rattle.node_base.specs.declared.effects.Effect.{Effect}
 use Rattle.node_base.specs.declared.effects.Effect.TheVariants.{Send, Answer as Answers, Lose, Does}
 use Rattle.node_base.specs.declared.items.Items.{Items}
@@ -34,7 +34,7 @@ opens_serves : (s : Standing) → s ≡ Opens → s ≡ Serves → ⊥
 opens_serves s opens serves = (let clash : Opens ≡ Serves = sym opens ∙ serves in cc)
 
 -- what an item asks for is not changed by its Begin
-pub asked_begun : (items : Items) (number : ℕ) → asked_at items.works number ≡ asked_at (begun items).works number
+pub asked_begun : (items : Items) (number : ℕ) → asked_at items.works number ≡ asked_at (items_begin items).works number
 asked_begun items number = sym (ap (λ (ws : List Work). asked_at ws number) (begun_works items))
 
 -- what is done is among the acts, behind what is cut

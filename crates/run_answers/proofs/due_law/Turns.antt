@@ -28,8 +28,8 @@ use Rattle.manager_node.specs.Events as managing
 use Rattle.manager_node.specs.Phases as managers
 use Rattle.manager_serving.specs.declared.serving.Serving.{Serving as ManagerServing}
 use Rattle.manager_slots.specs.declared.lasting.Lasting.{Lasting as Life}
-use Rattle.log_owner.specs.Sending.{pushes_all}
-use Rattle.node_base.specs.Beginning.{answers_unanswered, begun, next_item, work_at}
+use Rattle.log_owner.specs.Sending.{push_all}
+use Rattle.node_base.specs.Beginning.{answers_unanswered, items_begin, next_item, work_at}
 use Rattle.node_base.specs.declared.effects.Effect.{Effect}
 use Rattle.node_base.specs.declared.effects.Effect.TheVariants.{Does}
 use Rattle.node_base.specs.declared.items.Items.{Items}
@@ -78,7 +78,7 @@ module _ (c : Client) where
   client_still (client.Serving s) what = serves_on (client_in (client.Serving s)) what _ refl refl tt
 
   client_opened : (l m : Lasting) (o : openings.Opening) (what : Do) → m.items ≡ l.items → (w : Went) (p : Progress)
-      → ClientKeeps (client.Opening l o) what (saying w.effects (clients.after_opening m c.cache p))
+      → ClientKeeps (client.Opening l o) what (saying w.effects (clients.phase_after m c.cache p))
   client_opened l m o what same w (progress.Opening r) = opens_on (client_in (client.Opening l o)) what _ refl refl tt
   client_opened l m o what same w (progress.Opened r) =
       opens_so (client_in (client.Opening l o)) what _ refl
@@ -86,8 +86,8 @@ module _ (c : Client) where
         refl,
         λ item waits.
             subst (λ (es : List Effect). In (act.Answered me item answer.Done) (acts_of me es))
-            (append_assoc w.effects (Does (act.Back m.number r.chain) ∷ pushes_all r.promised.managers r.feed) (answers_unanswered m.items.unanswered answer.Done))
-            (answer_among me (w.effects ++ Does (act.Back m.number r.chain) ∷ pushes_all r.promised.managers r.feed) m.items.unanswered answer.Done item
+            (append_assoc w.effects (Does (act.Back m.number r.chain) ∷ push_all r.promised.managers r.feed) (answers_unanswered m.items.unanswered answer.Done))
+            (answer_among me (w.effects ++ Does (act.Back m.number r.chain) ∷ push_all r.promised.managers r.feed) m.items.unanswered answer.Done item
             (ap (λ (i : Items). i.unanswered) same ∙ waits)),
       )))) tt
     where
@@ -108,11 +108,11 @@ module _ (c : Client) where
   unfolding clients.on_deliver
   client_hears (client.Down l) packet = client_still (client.Down l) (Deliver packet)
   client_hears (client.Opening l o) packet =
-      (let w : Went = opening.on_packet o l.questions packet in client_opened l (record l { questions = w.questions }) o (Deliver packet) refl w w.progress)
+      (let w : Went = opening.opening_take o l.questions packet in client_opened l (record l { questions = w.questions }) o (Deliver packet) refl w w.progress)
   client_hears (client.Serving s) packet = serves_on (client_in (client.Serving s)) (Deliver packet) _ refl refl tt
 
-  client_time : (p : client_phase.Phase) → ClientKeeps p Tick (clients.on_time c.cache p)
-  unfolding clients.on_time
+  client_time : (p : client_phase.Phase) → ClientKeeps p Tick (clients.client_tick c.cache p)
+  unfolding clients.client_tick
   client_time (client.Down l) = client_still (client.Down l) Tick
   client_time (client.Opening l o) =
       (let w : Went = opening.on_tick o l.questions in client_opened l (record l { questions = w.questions }) o Tick refl w w.progress)
@@ -120,7 +120,7 @@ module _ (c : Client) where
 
   module _ (l : Lasting) (number : ℕ) where
     client_down : (wanted : Option Work) → BeginsWork (client_in (client.Down l)) Begin number wanted
-        → ClientKeeps (client.Down l) Begin (clients.down_begins c.peers.servers (record l { items = begun l.items }) number (clients.wish_of wanted))
+        → ClientKeeps (client.Down l) Begin (clients.down_begins c.peers.servers (record l { items = items_begin l.items }) number (clients.wish_of wanted))
     client_down None begins = down_begins (client_in (client.Down l)) Begin _ refl number None begins (inl refl) (λ rests. begun_open l.items ∙ rests)
     client_down (Some (work.Restart node)) begins =
         down_begins (client_in (client.Down l)) Begin _ refl number (Some (work.Restart node)) begins (inr (record { number = number; named = node; begins = begins }))
@@ -129,7 +129,7 @@ module _ (c : Client) where
         down_begins (client_in (client.Down l)) Begin _ refl number (Some other) begins (inl refl) (λ rests. begun_open l.items ∙ rests)
 
     client_opening : (o : openings.Opening) (wanted : Option Work) → BeginsWork (client_in (client.Opening l o)) Begin number wanted
-        → ClientKeeps (client.Opening l o) Begin (clients.opening_begins (record l { items = begun l.items }) o number (clients.wish_of wanted))
+        → ClientKeeps (client.Opening l o) Begin (clients.opening_begins (record l { items = items_begin l.items }) o number (clients.wish_of wanted))
     client_opening o None begins = opens_on (client_in (client.Opening l o)) Begin _ refl refl tt
     client_opening o (Some (work.Crash node)) begins =
         opens_so (client_in (client.Opening l o)) Begin _ refl
@@ -137,7 +137,7 @@ module _ (c : Client) where
           number = number;
           named = node;
           begins = begins;
-          done = done_among (nodes.Client l.number) (begun l.items).unanswered number [];
+          done = done_among (nodes.Client l.number) (items_begin l.items).unanswered number [];
           falls = refl;
         })))
         refl
@@ -145,7 +145,7 @@ module _ (c : Client) where
 
   module _ (s : Serving) (number : ℕ) where
     abbrev s_begun : Serving
-    s_begun = record s { lasting = record s.lasting { items = begun s.lasting.items } }
+    s_begun = record s { lasting = record s.lasting { items = items_begin s.lasting.items } }
 
     client_serving : (wanted : Option Work) → BeginsWork (client_in (client.Serving s)) Begin number wanted
         → ClientKeeps (client.Serving s) Begin (clients.serving_begins s_begun number (clients.wish_of wanted))
@@ -168,10 +168,10 @@ module _ (c : Client) where
       by : (p : client_phase.Phase) (item : Option ℕ) → next_item (clients.lasting_of p).items ≡ item → ClientKeeps p Begin (clients.begins_item c.peers.servers p item)
       by p None fact = client_still p Begin
       by (client.Down l) (Some number) fact =
-          client_down l number (work_at (begun l.items) number) (record { begin = refl; next = fact; asked = asked_begun l.items number })
-      by (client.Opening l o) (Some number) fact = client_opening l number o (work_at (begun l.items) number) (record { begin = refl; next = fact; asked = asked_begun l.items number })
+          client_down l number (work_at (items_begin l.items) number) (record { begin = refl; next = fact; asked = asked_begun l.items number })
+      by (client.Opening l o) (Some number) fact = client_opening l number o (work_at (items_begin l.items) number) (record { begin = refl; next = fact; asked = asked_begun l.items number })
       by (client.Serving s) (Some number) fact =
-          client_serving s number (work_at (begun s.lasting.items) number) (record { begin = refl; next = fact; asked = asked_begun s.lasting.items number })
+          client_serving s number (work_at (items_begin s.lasting.items) number) (record { begin = refl; next = fact; asked = asked_begun s.lasting.items number })
 
   client_happens : (what : Do) → ClientKeeps c.phase what (clients.happens c what)
   client_happens Begin = client_begins c.phase
@@ -182,7 +182,7 @@ module _ (c : Client) where
 
   client_keeps : (what : Do) → ClientKeeps c.phase what (clients.takes c what)
   client_keeps what =
-      by_test (ClientKeeps c.phase what) (clients.client_room c) (clients.happens c what) (still c.phase) (λ _. client_happens what) (λ _. client_still c.phase what)
+      by_test (ClientKeeps c.phase what) (clients.client_has_room c) (clients.happens c what) (still c.phase) (λ _. client_happens what) (λ _. client_still c.phase what)
 
 -- ---- managers
 
@@ -221,8 +221,8 @@ module _ (m : Manager) where
     l_begun = managers.with_begun l
 
     manager_crashes : (p : manager_phase.Phase) (node : NodeId) → standing (manager_in p) ≡ Serves → BeginsWork (manager_in p) Begin number (Some (work.Crash node))
-        → ManagerKeeps p Begin (managers.crashes l_begun number)
-    unfolding managers.crashes
+        → ManagerKeeps p Begin (managers.crash l_begun number)
+    unfolding managers.crash
     manager_crashes p node serves begins =
         falls_so (manager_in p) Begin _ serves
         (record {
@@ -235,7 +235,7 @@ module _ (m : Manager) where
 
     manager_down : (wanted : Option Work) → BeginsWork (manager_in (manager.Down l)) Begin number wanted
         → ManagerKeeps (manager.Down l) Begin (managers.down_wish l_begun number (managers.wish_at wanted))
-    unfolding managers.restarts
+    unfolding managers.restart
     manager_down None begins = down_begins (manager_in (manager.Down l)) Begin _ refl number None begins (inl refl) (λ rests. begun_open l.items ∙ rests)
     manager_down (Some (work.Restart node)) begins =
         down_begins (manager_in (manager.Down l)) Begin _ refl number (Some (work.Restart node)) begins (inr (record { number = number; named = node; begins = begins }))
@@ -263,23 +263,23 @@ module _ (m : Manager) where
       by : (item : Option ℕ) → next_item l.items ≡ item → ManagerKeeps (manager.Down l) Begin (managers.down_item (managers.with_begun l) item)
       by None fact = down_still (manager_in (manager.Down l)) Begin _ refl refl refl refl (λ rests. begun_open l.items ∙ rests)
       by (Some number) fact =
-          manager_down l number (work_at (begun l.items) number) (record { begin = refl; next = fact; asked = asked_begun l.items number })
+          manager_down l number (work_at (items_begin l.items) number) (record { begin = refl; next = fact; asked = asked_begun l.items number })
   manager_begins (manager.Waiting l hello) = by (next_item l.items) refl
     where
       by : (item : Option ℕ) → next_item l.items ≡ item → ManagerKeeps (manager.Waiting l hello) Begin (managers.waiting_item (managers.with_begun l) hello item)
       by None fact = serves_so (manager_in (manager.Waiting l hello)) Begin _ refl refl (λ rests. begun_open l.items ∙ rests)
       by (Some number) fact =
-          manager_waiting l number hello (work_at (begun l.items) number) (record { begin = refl; next = fact; asked = asked_begun l.items number })
+          manager_waiting l number hello (work_at (items_begin l.items) number) (record { begin = refl; next = fact; asked = asked_begun l.items number })
   manager_begins (manager.Serving s) = by (next_item s.lasting.items) refl
     where
       by : (item : Option ℕ) → next_item s.lasting.items ≡ item
           → ManagerKeeps (manager.Serving s) Begin (managers.serving_item (record s { lasting = managers.with_begun s.lasting }) item)
       by None fact = serves_on (manager_in (manager.Serving s)) Begin _ refl refl tt
       by (Some number) fact =
-          manager_serving s number (work_at (begun s.lasting.items) number) (record { begin = refl; next = fact; asked = asked_begun s.lasting.items number })
+          manager_serving s number (work_at (items_begin s.lasting.items) number) (record { begin = refl; next = fact; asked = asked_begun s.lasting.items number })
 
   manager_event : (what : Do) → ManagerKeeps m.phase what (managing.on_event m.peers m.phase what)
-  unfolding managing.on_deliver
+  unfolding managing.manager_deliver
   manager_event Begin = manager_begins m.phase
   manager_event (Deliver packet) =
       by_test (ManagerKeeps m.phase (Deliver packet)) (is_well_formed m.peers packet) (managing.on_packet m.peers m.phase packet) (still m.phase)
@@ -316,8 +316,8 @@ module _ (c : Cleaner) where
         refl,
         λ item waits.
             subst (λ (es : List Effect). In (act.Answered nodes.Cleaner item answer.Done) (acts_of nodes.Cleaner es))
-            (append_assoc w.effects (pushes_all r.promised.managers r.feed) (answers_unanswered m.items.unanswered answer.Done))
-            (answer_among nodes.Cleaner (w.effects ++ pushes_all r.promised.managers r.feed) m.items.unanswered answer.Done item
+            (append_assoc w.effects (push_all r.promised.managers r.feed) (answers_unanswered m.items.unanswered answer.Done))
+            (answer_among nodes.Cleaner (w.effects ++ push_all r.promised.managers r.feed) m.items.unanswered answer.Done item
             (ap (λ (i : Items). i.unanswered) same ∙ waits)),
       )))) tt
   cleaner_opened l m o what same w (progress.Lost name) =
@@ -331,11 +331,11 @@ module _ (c : Cleaner) where
         ),
       )))) refl
 
-  cleaner_hears : (p : cleaner_phase.Phase) (packet : Packet) → CleanerKeeps p (Deliver packet) (cleaning.hears p packet)
-  unfolding cleaning.hears
+  cleaner_hears : (p : cleaner_phase.Phase) (packet : Packet) → CleanerKeeps p (Deliver packet) (cleaning.cleaner_hear p packet)
+  unfolding cleaning.cleaner_hear
   cleaner_hears (cleaner.Down l) packet = cleaner_still (cleaner.Down l) (Deliver packet)
   cleaner_hears (cleaner.Opening l o) packet =
-      (let w : Went = opening.on_packet o l.questions packet in cleaner_opened l (record l { questions = w.questions }) o (Deliver packet) refl w w.progress)
+      (let w : Went = opening.opening_take o l.questions packet in cleaner_opened l (record l { questions = w.questions }) o (Deliver packet) refl w w.progress)
   cleaner_hears (cleaner.Serving e) packet = serves_on (cleaner_in (cleaner.Serving e)) (Deliver packet) _ refl refl tt
 
   cleaner_time : (p : cleaner_phase.Phase) → CleanerKeeps p Tick (cleaning.on_time p)
@@ -351,7 +351,7 @@ module _ (c : Cleaner) where
 
     cleaner_down : (wanted : Option Work) → BeginsWork (cleaner_in (cleaner.Down l)) Begin number wanted
         → CleanerKeeps (cleaner.Down l) Begin (cleaning.down_wishes c.peers.servers life_begun number (cleaning.wish_of wanted))
-    unfolding cleaning.restarts
+    unfolding cleaning.restart
     cleaner_down None begins = down_begins (cleaner_in (cleaner.Down l)) Begin _ refl number None begins (inl refl) (λ rests. begun_open l.items ∙ rests)
     cleaner_down (Some (work.Restart node)) begins =
         down_begins (cleaner_in (cleaner.Down l)) Begin _ refl number (Some (work.Restart node)) begins (inr (record { number = number; named = node; begins = begins }))
@@ -361,7 +361,7 @@ module _ (c : Cleaner) where
 
     cleaner_opening : (o : openings.Opening) (wanted : Option Work) → BeginsWork (cleaner_in (cleaner.Opening l o)) Begin number wanted
         → CleanerKeeps (cleaner.Opening l o) Begin (cleaning.opening_wishes life_begun o number (cleaning.wish_of wanted))
-    unfolding cleaning.crashes
+    unfolding cleaning.crash
     cleaner_opening o None begins = opens_on (cleaner_in (cleaner.Opening l o)) Begin _ refl refl tt
     cleaner_opening o (Some (work.Crash node)) begins =
         opens_so (cleaner_in (cleaner.Opening l o)) Begin _ refl
@@ -369,7 +369,7 @@ module _ (c : Cleaner) where
           number = number;
           named = node;
           begins = begins;
-          done = done_among nodes.Cleaner (begun l.items).unanswered number [];
+          done = done_among nodes.Cleaner (items_begin l.items).unanswered number [];
           falls = refl;
         })))
         refl
@@ -377,7 +377,7 @@ module _ (c : Cleaner) where
 
   cleaner_serving : (e : Emptying) (number : ℕ) (wanted : Option Work) → BeginsWork (cleaner_in (cleaner.Serving e)) Begin number wanted
       → CleanerKeeps (cleaner.Serving e) Begin (cleaning.serving_wishes (record e { lasting = cleaning.begun_life e.lasting }) number (cleaning.wish_of wanted))
-  unfolding cleaning.crashes
+  unfolding cleaning.crash
   cleaner_serving e number None begins = serves_on (cleaner_in (cleaner.Serving e)) Begin _ refl refl tt
   cleaner_serving e number (Some (work.Crash node)) begins =
       falls_so (cleaner_in (cleaner.Serving e)) Begin _ refl
@@ -385,7 +385,7 @@ module _ (c : Cleaner) where
         number = number;
         named = node;
         begins = begins;
-        done = done_among nodes.Cleaner (begun e.lasting.items).unanswered number [];
+        done = done_among nodes.Cleaner (items_begin e.lasting.items).unanswered number [];
         falls = refl;
       }) refl
   cleaner_serving e number (Some other) begins = serves_on (cleaner_in (cleaner.Serving e)) Begin _ refl refl tt
@@ -397,32 +397,32 @@ module _ (c : Cleaner) where
       by : (item : Option ℕ) → next_item l.items ≡ item → CleanerKeeps (cleaner.Down l) Begin (cleaning.down_at c.peers.servers (cleaning.begun_life l) item)
       by None fact = down_still (cleaner_in (cleaner.Down l)) Begin _ refl refl refl refl (λ rests. begun_open l.items ∙ rests)
       by (Some number) fact =
-          cleaner_down l number (work_at (begun l.items) number) (record { begin = refl; next = fact; asked = asked_begun l.items number })
+          cleaner_down l number (work_at (items_begin l.items) number) (record { begin = refl; next = fact; asked = asked_begun l.items number })
   cleaner_begins (cleaner.Opening l o) = by (next_item l.items) refl
     where
       by : (item : Option ℕ) → next_item l.items ≡ item → CleanerKeeps (cleaner.Opening l o) Begin (cleaning.opening_at (cleaning.begun_life l) o item)
       by None fact = opens_on (cleaner_in (cleaner.Opening l o)) Begin _ refl refl tt
       by (Some number) fact =
-          cleaner_opening l number o (work_at (begun l.items) number) (record { begin = refl; next = fact; asked = asked_begun l.items number })
+          cleaner_opening l number o (work_at (items_begin l.items) number) (record { begin = refl; next = fact; asked = asked_begun l.items number })
   cleaner_begins (cleaner.Serving e) = by (next_item e.lasting.items) refl
     where
       by : (item : Option ℕ) → next_item e.lasting.items ≡ item
           → CleanerKeeps (cleaner.Serving e) Begin (cleaning.serving_at (record e { lasting = cleaning.begun_life e.lasting }) item)
       by None fact = serves_on (cleaner_in (cleaner.Serving e)) Begin _ refl refl tt
       by (Some number) fact =
-          cleaner_serving e number (work_at (begun e.lasting.items) number) (record { begin = refl; next = fact; asked = asked_begun e.lasting.items number })
+          cleaner_serving e number (work_at (items_begin e.lasting.items) number) (record { begin = refl; next = fact; asked = asked_begun e.lasting.items number })
 
   cleaner_happens : (p : cleaner_phase.Phase) (what : Do) → CleanerKeeps p what (cleaning.happens c.peers p what)
   unfolding cleaning.on_deliver
   cleaner_happens p Begin = cleaner_begins p
   cleaner_happens p (Deliver packet) =
-      by_test (CleanerKeeps p (Deliver packet)) (is_well_formed c.peers packet) (cleaning.hears p packet) (still p)
+      by_test (CleanerKeeps p (Deliver packet)) (is_well_formed c.peers packet) (cleaning.cleaner_hear p packet) (still p)
       (λ _. cleaner_hears p packet) (λ _. cleaner_still p (Deliver packet))
   cleaner_happens p Tick = cleaner_time p
 
   cleaner_keeps : (what : Do) → CleanerKeeps c.phase what (cleaning.takes c.peers c.phase what)
   cleaner_keeps what =
-      by_test (CleanerKeeps c.phase what) (cleaning.phase_room c.phase) (cleaning.happens c.peers c.phase what) (still c.phase) (λ _. cleaner_happens c.phase what)
+      by_test (CleanerKeeps c.phase what) (cleaning.phase_has_room c.phase) (cleaning.happens c.peers c.phase what) (still c.phase) (λ _. cleaner_happens c.phase what)
       (λ _. cleaner_still c.phase what)
 
 -- ---- all kinds

@@ -9,8 +9,8 @@ use Rattle.std.proofs.lemmas.Cmp.{nat_cmp_total, on_total, then_total}
 use Rattle.std.proofs.lemmas.Map.Lookups.{exact_unsigned}
 use Rattle.transcript.specs.declared.replies.ItemName.{ItemName}
 use Rattle.transcript.specs.declared.replies.Reply.{Reply}
-use Rattle.transcript.specs.Falls.{started}
-use Rattle.transcript.specs.Replies.{RepliesState, answer_by, handed_out, item_cmp, reply_of, with_act, with_acts}
+use Rattle.transcript.specs.Falls.{falls_start}
+use Rattle.transcript.specs.Replies.{RepliesState, answer_by, handed_out, item_cmp, reply_of, gathering_take, with_acts}
 use Rattle.version_model.specs.declared.act.Act.{Act}
 use Rattle.version_model.specs.declared.act.Act.TheVariants as act
 use Rattle.version_model.specs.declared.answer.Answer.{Answer}
@@ -64,7 +64,7 @@ kept : (acts : List Act) (r : RepliesState) (k : ℕ) (node : NodeId) (item : �
 kept [] r k node item none = refl
 kept (act.Answered n i b ∷ acts) r k node item none =
     let reply : Reply = record { place = k; fallen = handed_out r.falls n } in
-    kept acts (with_act r k (act.Answered n i b)) (k + 1) node item (λ a among. none a (inr among))
+    kept acts (gathering_take r k (act.Answered n i b)) (k + 1) node item (λ a among. none a (inr among))
     ∙ (lookup-insert_entry item_total (item_name node item) (item_name n i) reply r.table
     ∙ ap (λ t. cond t (Some reply) (reply_of r.table (item_name node item))) (other_item node n item i apart))
   where
@@ -92,13 +92,13 @@ found (act.Answered n i b ∷ acts) r k once zero node item a fact =
         let first : Reply = record { place = k; fallen = handed_out r.falls n } in
         record {
           reply = first;
-          there = kept acts (with_act r k (act.Answered n i b)) (k + 1) n i once.0
+          there = kept acts (gathering_take r k (act.Answered n i b)) (k + 1) n i once.0
               ∙ (lookup-insert_entry item_total (item_name n i) (item_name n i) first r.table
               ∙ ap (λ t. cond t (Some first) (reply_of r.table (item_name n i))) (same_item n i));
           at = omega arith;
         }
 found (act.Answered n i b ∷ acts) r k once (suc place) node item a fact =
-    let f = found acts (with_act r k (act.Answered n i b)) (k + 1) once.1 place node item a fact in
+    let f = found acts (gathering_take r k (act.Answered n i b)) (k + 1) once.1 place node item a fact in
     record { reply = f.reply; there = f.there; at = (let at = f.at in omega arith) }
 found (_ ∷ acts) r k once zero node item a fact = absurd cc
 found (_ ∷ acts) r k once (suc place) node item a fact =
@@ -108,9 +108,9 @@ found (_ ∷ acts) r k once (suc place) node item a fact =
 pub is_shown : (acts : List Act) → AnswersOnce acts → (place : ℕ) (node : NodeId) (item : ℕ) (a : Answer)
     → slice_get acts place ≡ Some (act.Answered node item a) → IsShown acts node item a
 is_shown acts once place node item a fact =
-    let f = found acts (record { table = []; falls = started }) 0 once place node item a fact in
+    let f = found acts (record { table = []; falls = falls_start }) 0 once place node item a fact in
     let at : f.reply.place ≡ place = (let p = f.at in omega arith) in
     (f.reply, (f.there, ap (λ p. answer_by (slice_get acts p)) at ∙ ap answer_by fact))
 
 pub is_not_shown : (acts : List Act) (node : NodeId) (item : ℕ) → IsUnanswered acts node item → IsShownOpen acts node item
-is_not_shown acts node item none = kept acts (record { table = []; falls = started }) 0 node item none
+is_not_shown acts node item none = kept acts (record { table = []; falls = falls_start }) 0 node item none

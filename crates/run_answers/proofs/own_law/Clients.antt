@@ -7,12 +7,12 @@ use Rattle.client_node.specs.declared.client.Client.{Client}
 use Rattle.client_node.specs.declared.phase.Phase.{Phase}
 use Rattle.client_node.specs.declared.phase.Phase.TheVariants.{Down, Opening, Serving as Serves}
 use Rattle.client_node.specs.Crash.{fall_of, flight_of}
-use Rattle.client_node.specs.Phases.{Went_to, after_opening, begins_item, client_room, down_begins, happens, item_begins, lasting_of, on_begin, on_deliver, on_time, opened_on, opening_begins, serving_begins, takes, then_runs, wish_of, with_begun}
-use Rattle.client_running.specs.Opens.{begins_call, call_at, opens}
-use Rattle.client_running.specs.Running.{runs}
+use Rattle.client_node.specs.Phases.{Went_to, phase_after, begins_item, client_has_room, down_begins, happens, item_begins, lasting_of, on_begin, on_deliver, client_tick, opened_on, opening_begins, serving_begins, takes, then_runs, wish_of, with_begun}
+use Rattle.client_running.specs.Opens.{begin_call, call_at, opens}
+use Rattle.client_running.specs.Running.{run}
 use Rattle.client_serving.specs.declared.lasting.Lasting.{Lasting}
 use Rattle.client_serving.specs.declared.serving.Serving.{Serving}
-use Rattle.client_serving.specs.Packets.{on_packet, on_tick}
+use Rattle.client_serving.specs.Packets.{serving_take, on_tick}
 use Rattle.client_serving.specs.Sends.{Done, gives}
 use Rattle.log_owner.proofs.Behaving as behaving
 use Rattle.log_owner.specs.Behaves.{Behaves, MayDo}
@@ -21,8 +21,8 @@ use Rattle.log_owner.specs.declared.opened.Progress.TheVariants as progress
 use Rattle.log_owner.specs.declared.opening.Opening as openings
 use Rattle.log_owner.specs.Opening as opening
 use Rattle.log_owner.specs.Opening.{Went}
-use Rattle.log_owner.specs.Sending.{pushes_all}
-use Rattle.node_base.specs.Beginning.{answers_unanswered, begun, next_item, waiting, work_at}
+use Rattle.log_owner.specs.Sending.{push_all}
+use Rattle.node_base.specs.Beginning.{answers_unanswered, items_begin, next_item, items_wait, work_at}
 use Rattle.node_base.specs.declared.effects.Effect.{Effect}
 use Rattle.node_base.specs.declared.effects.Effect.TheVariants.{Send, Answer as Answers, Lose, Does}
 use Rattle.node_base.specs.declared.items.Items.{Items}
@@ -52,7 +52,7 @@ use Rattle.run_answers.specs.own_law.Events.{EachClientActsForItems}
 use Rattle.headline.specs.Calls.{Acts, CallHasItem, IsAnswerTo, IsBegun, IsRefusal, Stretch, answered_so, call_in, open_in, told}
 use Rattle.headline.specs.Calls.Acts.{Rests, Passes, AtOnce, GoesOn, Begins, Loses, Falls, Stops, Returns}
 use Rattle.headline.specs.Calls.Stretch.{Waits, Told}
-use Rattle.client_call.specs.Calls.{after_answer}
+use Rattle.client_call.specs.Calls.{plan_answered}
 use Rattle.client_call.specs.declared.call.Plan.{Plan}
 use Rattle.file_plan.specs.declared.block_call.BlockCall.{BlockCall}
 use Rattle.std.specs.List.{AllByRecursion}
@@ -63,7 +63,7 @@ use Rattle.version_model.specs.declared.act.Fall.{Fall}
 use Rattle.headline.specs.Items.{asked_at}
 use Rattle.log_owner.specs.declared.ended.Owner.{Owner}
 use Rattle.client_node.specs.Phases.{owner_of}
-use Rattle.client_serving.specs.Lasting.{next_life}
+use Rattle.client_serving.specs.Lasting.{live_on}
 
 one_call : (a b : Call) → Some a ≡ Some b → a ≡ b
 one_call a b fact = cc
@@ -104,7 +104,7 @@ module _ (client : ℕ) where
   reads_on {item} {acts} {after} call new plan step (Told {acts = rest} a fits st) =
       subst (λ (t : BlockCall). Stretch client item (On call) (told client t a ++ rest) after) (sym step)
       (Told a (subst (λ (t : BlockCall). IsAnswerTo t a) step fits)
-      (subst (λ (p : Plan). Stretch client item (after_answer p a) rest after) plan st))
+      (subst (λ (p : Plan). Stretch client item (plan_answered p a) rest after) plan st))
 
   -- ---- while it serves
 
@@ -121,29 +121,29 @@ module _ (client : ℕ) where
   module _ (s : Serving) (what : Do) (its : s.lasting.number ≡ client) (sound : CallHasItem (Serves s)) (d : Done) where
     none_runs : IsCalm s d → s.call ≡ None → Turned (Serves s) what (then_runs d)
     none_runs c none =
-        turned (Serves s) what (then_runs d) [] (behind_still me d.outs (runs d.state).outs c.still ∙ ap (λ (x : Done). its_acts me x.outs) quiet)
-        (Rests none after) (none_sound (Serves (runs d.state).state) after)
+        turned (Serves s) what (then_runs d) [] (behind_still me d.outs (run d.state).outs c.still ∙ ap (λ (x : Done). its_acts me x.outs) quiet)
+        (Rests none after) (none_sound (Serves (run d.state).state) after)
       where
         over : d.state.call ≡ None
         over = none_kept s d.state c.kept none
 
-        quiet : runs d.state ≡ still d.state
+        quiet : run d.state ≡ still d.state
         quiet = no_runs client d.state over
 
-        after : (runs d.state).state.call ≡ None
+        after : (run d.state).state.call ≡ None
         after = ap (λ (x : Done). x.state.call) quiet ∙ over
 
     call_runs : IsCalm s d → (call : Call) → s.call ≡ Some call → Turned (Serves s) what (then_runs d)
     call_runs c call is =
-        turned (Serves s) what (then_runs d) (its_acts me (runs d.state).outs) (behind_still me d.outs (runs d.state).outs c.still)
+        turned (Serves s) what (then_runs d) (its_acts me (run d.state).outs) (behind_still me d.outs (run d.state).outs c.still)
         (GoesOn call is
         (λ n fact. ap (λ (i : Items). i.unanswered) (st.items ∙ (ap (λ (o : Option Call). items_after o d.state.lasting.items) fact ∙ c.kept.items))) same)
-        (stretch_sound d.state (runs d.state).state st.items (sound call is).0 (ap (λ (i : Items). i.unanswered) c.kept.items ∙ (sound call is).1))
+        (stretch_sound d.state (run d.state).state st.items (sound call is).0 (ap (λ (i : Items). i.unanswered) c.kept.items ∙ (sound call is).1))
       where
         new : (n : Call) × (d.state.call ≡ Some n)
         new = c.kept.lasts call is
 
-        st : Stretched client d.state (On new.0) (runs d.state)
+        st : Stretched client d.state (On new.0) (run d.state)
         st = open_runs client d.state new.0 (c.kept.number ∙ its) new.1
 
         stays : (old : Call) × ((s.call ≡ Some old) × ((new.0.plan ≡ old.plan) × (new.0.step ≡ old.step)))
@@ -152,9 +152,9 @@ module _ (client : ℕ) where
         one : stays.0 ≡ call
         one = one_call stays.0 call (sym stays.1.0 ∙ is)
 
-        same : Stretch client s.lasting.items.unanswered (On call) (its_acts me (runs d.state).outs) (runs d.state).state.call
+        same : Stretch client s.lasting.items.unanswered (On call) (its_acts me (run d.state).outs) (run d.state).state.call
         same =
-            subst (λ (items : Items). Stretch client items.unanswered (On call) (its_acts me (runs d.state).outs) (runs d.state).state.call) c.kept.items
+            subst (λ (items : Items). Stretch client items.unanswered (On call) (its_acts me (run d.state).outs) (run d.state).state.call) c.kept.items
             (reads_on call new.0 (stays.1.1.0 ∙ ap (λ (x : Call). x.plan) one) (stays.1.1.1 ∙ ap (λ (x : Call). x.step) one) st.acts)
 
     lost_runs : HasLost me s d → Turned (Serves s) what (then_runs d)
@@ -162,12 +162,12 @@ module _ (client : ℕ) where
         turned (Serves s) what (then_runs d) (answered_so me s.lasting.items.unanswered (answer.Lost l.name))
         (ap (λ (x : Done). its_acts me (d.outs ++ x.outs)) quiet ∙ (ap (its_acts me) (append-nil d.outs) ∙ l.acts))
         (Loses l.name after (ap (λ (x : Done). x.state.lasting.items.unanswered) quiet ∙ ap (λ (i : Items). i.unanswered) l.items))
-        (none_sound (Serves (runs d.state).state) after)
+        (none_sound (Serves (run d.state).state) after)
       where
-        quiet : runs d.state ≡ still d.state
+        quiet : run d.state ≡ still d.state
         quiet = no_runs client d.state l.over
 
-        after : (runs d.state).state.call ≡ None
+        after : (run d.state).state.call ≡ None
         after = ap (λ (x : Done). x.state.call) quiet ∙ l.over
 
     runs_so : Comes s d → Turned (Serves s) what (then_runs d)
@@ -198,13 +198,13 @@ module _ (client : ℕ) where
       m : Lasting
       m = record l { questions = w.questions }
 
-      by : (x : Progress) → Turned (Opening l o) what (saying w.effects (after_opening m capacity x))
+      by : (x : Progress) → Turned (Opening l o) what (saying w.effects (phase_after m capacity x))
       by (progress.Opening r) =
-          turned (Opening l o) what (saying w.effects (after_opening m capacity (progress.Opening r))) [] (behind_opening o.known.owner w.effects [] b.does)
+          turned (Opening l o) what (saying w.effects (phase_after m capacity (progress.Opening r))) [] (behind_opening o.known.owner w.effects [] b.does)
           (Rests refl refl) (none_sound (Opening m r) refl)
       by (progress.Opened r) =
-          let pushed : List Effect = pushes_all r.promised.managers r.feed in
-          let went : Went_to = after_opening m capacity (progress.Opened r) in
+          let pushed : List Effect = push_all r.promised.managers r.feed in
+          let went : Went_to = phase_after m capacity (progress.Opened r) in
           turned (Opening l o) what (saying w.effects went) (act.Back client r.chain ∷ answered_so me l.items.unanswered answer.Done)
           (behind_opening o.known.owner w.effects went.outs b.does
           ∙ (ap (λ (acts : List Act). act.Back l.number r.chain ∷ acts)
@@ -213,7 +213,7 @@ module _ (client : ℕ) where
           ∙ ap (λ (n : ℕ). act.Back n r.chain ∷ answered_so me l.items.unanswered answer.Done) its))
           (Returns r.chain tt tt refl refl) (none_sound went.state refl)
       by (progress.Lost name) =
-          let went : Went_to = after_opening m capacity (progress.Lost name) in
+          let went : Went_to = phase_after m capacity (progress.Lost name) in
           turned (Opening l o) what (saying w.effects went) (answered_so me l.items.unanswered (answer.Lost name))
           (behind_opening o.known.owner w.effects went.outs b.does ∙ answered_are me l.items.unanswered (answer.Lost name)) (Loses name refl refl)
           (none_sound went.state refl)
@@ -228,7 +228,7 @@ module _ (client : ℕ) where
 
   module _ (l : Lasting) (number : ℕ) (next : next_item l.items ≡ Some number) where
     abbrev m : Lasting
-    m = record l { items = begun l.items }
+    m = record l { items = items_begin l.items }
 
     asks_same : (wanted : Option Work) → work_at m.items number ≡ wanted → work_at l.items number ≡ wanted
     asks_same wanted asked = ap (λ (ws : List Work). asked_at ws number) (sym (begun_works l.items)) ∙ asked
@@ -248,7 +248,7 @@ module _ (client : ℕ) where
         by None e = down None e
         by (Some (work.Crash node)) e = down (Some (work.Crash node)) e
         by (Some (work.Restart node)) e =
-            let n : Lasting = next_life m number in
+            let n : Lasting = live_on m number in
             let went : Went = opening.on_start (owner_of n) servers n.questions in
             turned (Down l) Begin (down_begins servers m number (wish_of (Some (work.Restart node)))) [] (opening_none (owner_of n) went.effects (behaving.begin_so (owner_of n) servers n.questions).does)
             (Rests refl refl) (none_sound (down_begins servers m number (wish_of (Some (work.Restart node)))).state refl)
@@ -281,7 +281,7 @@ module _ (client : ℕ) where
 
   module _ (s : Serving) (its : s.lasting.number ≡ client) (sound : CallHasItem (Serves s)) (number : ℕ) (next : next_item s.lasting.items ≡ Some number) where
     abbrev t : Serving
-    t = record s { lasting = record s.lasting { items = begun s.lasting.items } }
+    t = record s { lasting = record s.lasting { items = items_begin s.lasting.items } }
 
     is_begun : (w : Option Work) → work_at t.lasting.items number ≡ w → IsBegun (Serves s) Begin number w
     is_begun w e = record { begins = refl; next = next; asks = asks_same s.lasting number next w e }
@@ -311,18 +311,18 @@ module _ (client : ℕ) where
     as_phase d = record { state = Serves d.state; outs = d.outs }
 
     begins_so : (w : Option Work) → work_at t.lasting.items number ≡ w → s.lasting.items.unanswered ≡ None
-        → Turned (Serves s) Begin (as_phase (begins_call t number (call_at t number w)))
+        → Turned (Serves s) Begin (as_phase (begin_call t number (call_at t number w)))
     begins_so w e free = by (call_at t number w) refl
       where
         u : Serving
-        u = record t { lasting = record t.lasting { items = waiting t.lasting.items number } }
+        u = record t { lasting = record t.lasting { items = items_wait t.lasting.items number } }
 
-        by : (o : Option Going) → call_at t number w ≡ o → Turned (Serves s) Begin (as_phase (begins_call t number o))
+        by : (o : Option Going) → call_at t number w ≡ o → Turned (Serves s) Begin (as_phase (begin_call t number o))
         by None made =
             turned (Serves s) Begin (record { state = Serves t; outs = Answers number answer.Done ∷ [] }) (act.Answered me number answer.Done ∷ []) refl
             (Passes number w refl (is_begun w e) free made refl (begun_open s.lasting.items)) t_sound
         by (Some going) made =
-            let d : Done = begins_call t number (Some going) in
+            let d : Done = begin_call t number (Some going) in
             let st : Stretched client u going d = going_runs client u going its (over free) in
             turned (Serves s) Begin (as_phase d) (its_acts me d.outs) refl (Begins number w going refl (is_begun w e) free made
             (λ n fact. ap (λ (i : Items). i.unanswered) (st.items ∙ ap (λ (o : Option Call). items_after o u.lasting.items) fact)) st.acts)
@@ -332,9 +332,9 @@ module _ (client : ℕ) where
     unfolding opens
     opens_so w e =
         by_test (λ (d : Done). Turned (Serves s) Begin (as_phase d)) (is_some t.lasting.items.unanswered) (gives t (Answers number answer.Busy ∷ []))
-        (begins_call t number (call_at t number (work_at t.lasting.items number)))
+        (begin_call t number (call_at t number (work_at t.lasting.items number)))
         (λ _. at_once w answer.Busy tt e)
-        (λ fact. subst (λ (x : Option Work). Turned (Serves s) Begin (as_phase (begins_call t number (call_at t number x)))) (sym e)
+        (λ fact. subst (λ (x : Option Work). Turned (Serves s) Begin (as_phase (begin_call t number (call_at t number x)))) (sym e)
         (begins_so w e (sym (begun_open s.lasting.items) ∙ not_open t.lasting.items.unanswered fact)))
 
     serving_so : (wanted : Option Work) → work_at t.lasting.items number ≡ wanted → Turned (Serves s) Begin (serving_begins t number (wish_of wanted))
@@ -375,11 +375,11 @@ module _ (client : ℕ) where
   unfolding on_deliver
   deliver_so capacity (Down l) packet its sound = unmoved (Down l) (Deliver packet) sound
   deliver_so capacity (Opening l o) packet its sound =
-      opened_so l o (Deliver packet) capacity its (opening.on_packet o l.questions packet) (behaving.packet_so o l.questions packet)
-  deliver_so capacity (Serves s) packet its sound = runs_so s (Deliver packet) its sound (on_packet s packet) (packet_goes s packet)
+      opened_so l o (Deliver packet) capacity its (opening.opening_take o l.questions packet) (behaving.packet_so o l.questions packet)
+  deliver_so capacity (Serves s) packet its sound = runs_so s (Deliver packet) its sound (serving_take s packet) (packet_goes s packet)
 
-  time_so : (capacity : ℕ) (p : Phase) → (lasting_of p).number ≡ client → CallHasItem p → Turned p Tick (on_time capacity p)
-  unfolding on_time
+  time_so : (capacity : ℕ) (p : Phase) → (lasting_of p).number ≡ client → CallHasItem p → Turned p Tick (client_tick capacity p)
+  unfolding client_tick
   time_so capacity (Down l) its sound = unmoved (Down l) Tick sound
   time_so capacity (Opening l o) its sound =
       opened_so l o Tick capacity its (opening.on_tick o l.questions) (behaving.tick_so o l.questions)
@@ -394,7 +394,7 @@ module _ (client : ℕ) where
 
   pub client_turned : (c : Client) (what : Do) → (lasting_of c.phase).number ≡ client → CallHasItem c.phase → Turned c.phase what (takes c what)
   client_turned c what its sound =
-      by_test (Turned c.phase what) (client_room c) (happens c what) (still c.phase) (λ _. happens_so c what its sound) (λ _. unmoved c.phase what sound)
+      by_test (Turned c.phase what) (client_has_room c) (happens c what) (still c.phase) (λ _. happens_so c what its sound) (λ _. unmoved c.phase what sound)
 
 pub each_acts : EachClientActsForItems
 each_acts c what sound =

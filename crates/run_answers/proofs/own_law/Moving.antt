@@ -1,13 +1,13 @@
 -- What the moves of a client that serves make of its call and items, and which acts of items they are: none, or the answer that a segment is lost.
 use Rattle.std.proofs.Common.{◌≡◌, ◌⊎◌, ℕ, List, [], ◌++◌, Option, Some, None, inl, inr, refl, sym, ap, subst, ◌∙◌}
 use Rattle.client_call.specs.declared.call.Call.{Call}
-use Rattle.client_running.specs.Blocks.{Made, makes}
+use Rattle.client_running.specs.Blocks.{Made, blocks_make}
 use Rattle.client_serving.specs.declared.serving.Serving.{Serving}
 use Rattle.client_serving.specs.Reads.{loses}
 use Rattle.client_serving.specs.Sends.{Done}
 use Rattle.file_plan.specs.declared.block_call.BlockAnswer.{BlockAnswer}
 use Rattle.file_plan.specs.declared.block_call.BlockCall.{BlockCall}
-use Rattle.node_base.specs.Beginning.{answered}
+use Rattle.node_base.specs.Beginning.{items_answer}
 use Rattle.node_base.specs.declared.effects.Effect.{Effect}
 use Rattle.node_base.specs.declared.items.Items.{Items}
 use Rattle.serving_moves.proofs.client_moves.Blocks.{makes_go}
@@ -61,7 +61,7 @@ module _ (me : NodeId) where
     pub name : SegName
     pub number : d.state.lasting.number ≡ s.lasting.number
     pub over : d.state.call ≡ None
-    pub items : d.state.lasting.items ≡ answered s.lasting.items
+    pub items : d.state.lasting.items ≡ items_answer s.lasting.items
     pub acts : its_acts me d.outs ≡ answered_so me s.lasting.items.unanswered (answer.Lost name)
 
   loss : (s : Serving) (block : BlockId) (name : SegName) → HasLost s (loses s block name)
@@ -83,7 +83,7 @@ module _ (me : NodeId) where
     name = b.name;
     number = b.number ∙ a.kept.number;
     over = b.over;
-    items = b.items ∙ ap answered a.kept.items;
+    items = b.items ∙ ap items_answer a.kept.items;
     acts = behind_still me d.outs x.outs a.still
         ∙ (b.acts ∙ ap (λ (items : Items). answered_so me items.unanswered (answer.Lost b.name)) a.kept.items);
   }
@@ -131,21 +131,21 @@ module _ (me : NodeId) where
     pub acts : its_acts me m.done.outs ≡ tells_acts s.lasting.number call m.answer
     pub fits : Fits call m.answer
 
-  pub has_made : (s : Serving) (call : BlockCall) → s.call ≡ None → HasMade s call (makes s call)
+  pub has_made : (s : Serving) (call : BlockCall) → s.call ≡ None → HasMade s call (blocks_make s call)
   has_made s call none = record {
     kept = subst (λ (d : Done). Kept s d.state) (sym m.all) (then_kept s m.first.state m.last.state first.kept last.kept);
     none = ap (λ (d : Done). d.state.call) m.all ∙ none_kept m.first.state m.last.state last.kept (none_kept s m.first.state first.kept none);
     acts = ap (λ (d : Done). its_acts me d.outs) m.all
         ∙ (behind_still me m.first.outs (said ++ m.last.outs) first.still
-        ∙ (before_still me said m.last.outs last.still ∙ tells_are s.lasting.number call (makes s call).answer));
+        ∙ (before_still me said m.last.outs last.still ∙ tells_are s.lasting.number call (blocks_make s call).answer));
     fits = m.fits;
   }
     where
-      m : MakesSo s call (makes s call)
+      m : MakesSo s call (blocks_make s call)
       m = makes_go s call
 
       said : List Effect
-      said = tells s.lasting.number call (makes s call).answer
+      said = tells s.lasting.number call (blocks_make s call).answer
 
       first : IsCalm s m.first
       first = calm s m.first m.firstly none

@@ -9,7 +9,7 @@ use Rattle.log_owner.specs.declared.opening.Stage.{Stage}
 use Rattle.log_owner.specs.declared.opening.Stage.TheVariants as stage
 use Rattle.manager_node.specs.Events as manager
 use Rattle.manager_node.specs.Phases as managers
-use Rattle.node_base.specs.Beginning.{answers_unanswered, begun, waiting}
+use Rattle.node_base.specs.Beginning.{answers_unanswered, items_begin, items_wait}
 use Rattle.node_base.specs.declared.effects.Effect.{Effect}
 use Rattle.node_base.specs.declared.effects.Effect.TheVariants.{Send, Answer as Answers, Lose, Does}
 use Rattle.node_base.specs.declared.items.Items.{Items}
@@ -86,16 +86,16 @@ module _ (losses : Losses) (aside : (a : Act) → MayAct losses a → IsAside a)
   begun_bare : (before after : Items) (number : ℕ) (outs : List Effect) → Begun losses J K before number outs after → AllBare outs
   begun_bare before after number outs (AtOnce a first more so plain rest) =
       both_bare first (Answers number a ∷ more) (plain_bare first plain) (tt, plain_bare more rest)
-  begun_bare before after number outs (Waits made) = moves_bare (waiting before number) after outs made
+  begun_bare before after number outs (Waits made) = moves_bare (items_wait before number) after outs made
 
   event_bare : (before after : Items) (what : Do) (outs : List Effect) → Event losses J K before what outs after → AllBare outs
   event_bare before after what outs (GoesOn made) = moves_bare before after outs made
   event_bare before after what outs (Idles is) = tt
-  event_bare before after what outs (Begins number is next made) = begun_bare (begun before) after number outs made
+  event_bare before after what outs (Begins number is next made) = begun_bare (items_begin before) after number outs made
   event_bare before after what outs (Cuts number first more is next falls plain rest) =
-      both_bare first (answers_unanswered (begun before).unanswered answer.Cut ++ Answers number answer.Done ∷ more) (plain_bare first plain)
-      (both_bare (answers_unanswered (begun before).unanswered answer.Cut) (Answers number answer.Done ∷ more)
-      (answers_bare (begun before).unanswered answer.Cut) (tt, plain_bare more rest))
+      both_bare first (answers_unanswered (items_begin before).unanswered answer.Cut ++ Answers number answer.Done ∷ more) (plain_bare first plain)
+      (both_bare (answers_unanswered (items_begin before).unanswered answer.Cut) (Answers number answer.Done ∷ more)
+      (answers_bare (items_begin before).unanswered answer.Cut) (tt, plain_bare more rest))
 
 log_aside : (at : Stage) (a : Act) → MayAct (log_losses at) a → IsAside a
 log_aside (stage.Scanning s) a may = may

@@ -1,15 +1,15 @@
 -- The open call runs: a stretch of it.
 use Rattle.std.proofs.Common.{◌≡◌, ℕ, zero, suc, false, List, [], ◌++◌, append-nil, append_assoc, Option, Some, None, refl, sym, ap, subst, ◌∙◌}
-use Rattle.client_call.specs.Calls.{after_answer}
+use Rattle.client_call.specs.Calls.{plan_answered}
 use Rattle.client_call.specs.declared.call.Call.{Call}
 use Rattle.client_call.specs.declared.call.Going.{Going}
 use Rattle.client_call.specs.declared.call.Going.TheVariants.{On, Ends}
-use Rattle.client_running.specs.Blocks.{Made, makes}
-use Rattle.client_running.specs.Running.{Ran, goes_on, if_goes, most_steps, ran, runs, runs_call, runs_once, runs_upto}
+use Rattle.client_running.specs.Blocks.{Made, blocks_make}
+use Rattle.client_running.specs.Running.{Ran, running_go_on, if_goes, most_steps, ran, run, runs_call, run_once, run_upto}
 use Rattle.client_serving.specs.declared.serving.Serving.{Serving}
 use Rattle.client_serving.specs.Sends.{Done}
 use Rattle.file_plan.specs.declared.block_call.BlockAnswer.{BlockAnswer}
-use Rattle.node_base.specs.Beginning.{answered}
+use Rattle.node_base.specs.Beginning.{items_answer}
 use Rattle.node_base.specs.declared.effects.Effect.{Effect}
 use Rattle.node_base.specs.declared.items.Items.{Items}
 use Rattle.serving_moves.specs.client_moves.Moves.{Fits}
@@ -24,16 +24,16 @@ use Rattle.headline.specs.Calls.Stretch.{Waits, Told, Finishes}
 
 -- the items behind: while a call is open its item is
 abbrev pub items_after : Option Call → Items → Items
-items_after None items = answered items
+items_after None items = items_answer items
 items_after (Some call) items = items
 
 -- with no call open nothing runs
-pub none_run : (k : ℕ) (s : Serving) → s.call ≡ None → runs_upto k s ≡ still s
-unfolding runs_upto runs_once
+pub none_run : (k : ℕ) (s : Serving) → s.call ≡ None → run_upto k s ≡ still s
+unfolding run_upto run_once
 none_run zero s none = refl
-none_run (suc k) s none = ap (λ (r : Ran). if_goes r (runs_upto k)) once
+none_run (suc k) s none = ap (λ (r : Ran). if_goes r (run_upto k)) once
   where
-    once : runs_once s ≡ record { done = still s; goes = false }
+    once : run_once s ≡ record { done = still s; goes = false }
     once = ap (runs_call s) none
 
 module _ (client : ℕ) where
@@ -48,11 +48,11 @@ module _ (client : ℕ) where
 
   -- it goes on, and then runs, so often at most
   abbrev on_and_runs : ℕ → Serving → Going → Done
-  on_and_runs k s g = saying (goes_on s g).outs (runs_upto k (goes_on s g).state)
+  on_and_runs k s g = saying (running_go_on s g).outs (run_upto k (running_go_on s g).state)
 
   -- the acts that are told first
   told_then : (s t : Serving) (call : Call) (a : BlockAnswer) (outs : List Effect) (d : Done) → IsAnswerTo call.step a
-      → its_acts me outs ≡ told client call.step a → t.lasting.items ≡ s.lasting.items → Stretched t (after_answer call.plan a) d
+      → its_acts me outs ≡ told client call.step a → t.lasting.items ≡ s.lasting.items → Stretched t (plan_answered call.plan a) d
       → Stretched s (On call) (saying outs d)
   told_then s t call a outs d fits acted same st = record {
     number = st.number;
@@ -60,18 +60,18 @@ module _ (client : ℕ) where
     acts = subst (λ (acts : List Act). Stretch client s.lasting.items.unanswered (On call) acts d.state.call)
         (ap (λ (acts : List Act). acts ++ its_acts me d.outs) (sym acted) ∙ sym (acts_then me outs d.outs))
         (Told a fits
-        (subst (λ (items : Items). Stretch client items.unanswered (after_answer call.plan a) (its_acts me d.outs) d.state.call) same st.acts));
+        (subst (λ (items : Items). Stretch client items.unanswered (plan_answered call.plan a) (its_acts me d.outs) d.state.call) same st.acts));
   }
 
   stretched : (k : ℕ) (s : Serving) (g : Going) → s.lasting.number ≡ client → s.call ≡ None → Stretched s g (on_and_runs k s g)
-  unfolding goes_on runs_upto runs_once
+  unfolding running_go_on run_upto run_once
   stretched k s (Ends a) its none = subst (Stretched s (Ends a)) (ap (saying outs) (sym (none_run k t none))) now
     where
       t : Serving
-      t = (goes_on s (Ends a)).state
+      t = (running_go_on s (Ends a)).state
 
       outs : List Effect
-      outs = (goes_on s (Ends a)).outs
+      outs = (running_go_on s (Ends a)).outs
 
       now : Stretched s (Ends a) (saying outs (still t))
       now = record {
@@ -91,20 +91,20 @@ module _ (client : ℕ) where
       u = record s { call = None }
 
       m : Made
-      m = makes u call.step
+      m = blocks_make u call.step
 
       made : HasMade me u call.step m
       made = has_made me u call.step refl
 
       -- the first turn
-      once : (a : Option BlockAnswer) → m.answer ≡ a → runs_once t ≡ ran call (record { done = m.done; answer = a })
+      once : (a : Option BlockAnswer) → m.answer ≡ a → run_once t ≡ ran call (record { done = m.done; answer = a })
       once a is = ap (λ (x : Option BlockAnswer). ran call (record { done = m.done; answer = x })) is
 
-      upto : (a : Option BlockAnswer) → m.answer ≡ a → runs_upto (suc k) t ≡ if_goes (ran call (record { done = m.done; answer = a })) (runs_upto k)
-      upto a is = ap (λ (r : Ran). if_goes r (runs_upto k)) (once a is)
+      upto : (a : Option BlockAnswer) → m.answer ≡ a → run_upto (suc k) t ≡ if_goes (ran call (record { done = m.done; answer = a })) (run_upto k)
+      upto a is = ap (λ (r : Ran). if_goes r (run_upto k)) (once a is)
 
       by : ((t : Serving) (g : Going) → t.lasting.number ≡ client → t.call ≡ None → Stretched t g (on_and_runs k t g)) → (a : Option BlockAnswer) → m.answer ≡ a
-          → Stretched s (On call) (saying [] (runs_upto (suc k) t))
+          → Stretched s (On call) (saying [] (run_upto (suc k) t))
       by rest None is = subst (Stretched s (On call)) (sym (upto None is)) (record {
         number = made.kept.number ∙ its;
         items = made.kept.items;
@@ -113,33 +113,33 @@ module _ (client : ℕ) where
       })
       by rest (Some a) is =
           subst (Stretched s (On call)) (sym (upto (Some a) is ∙ again))
-          (told_then s m.done.state call a m.done.outs (on_and_runs k m.done.state (after_answer call.plan a)) (subst (Fits call.step) is made.fits)
+          (told_then s m.done.state call a m.done.outs (on_and_runs k m.done.state (plan_answered call.plan a)) (subst (Fits call.step) is made.fits)
           (made.acts ∙ (ap (tells_acts me s.lasting.number call.step) is ∙ ap (λ (n : ℕ). told n call.step a) its)) made.kept.items
-          (rest m.done.state (after_answer call.plan a) (made.kept.number ∙ its) made.none))
+          (rest m.done.state (plan_answered call.plan a) (made.kept.number ∙ its) made.none))
         where
           g : Done
-          g = goes_on m.done.state (after_answer call.plan a)
+          g = running_go_on m.done.state (plan_answered call.plan a)
 
-          again : if_goes (ran call (record { done = m.done; answer = Some a })) (runs_upto k)
-              ≡ saying m.done.outs (on_and_runs k m.done.state (after_answer call.plan a))
-          again = ap (λ (outs : List Effect). record { state = (runs_upto k g.state).state; outs = outs }) (append_assoc m.done.outs g.outs (runs_upto k g.state).outs)
+          again : if_goes (ran call (record { done = m.done; answer = Some a })) (run_upto k)
+              ≡ saying m.done.outs (on_and_runs k m.done.state (plan_answered call.plan a))
+          again = ap (λ (outs : List Effect). record { state = (run_upto k g.state).state; outs = outs }) (append_assoc m.done.outs g.outs (run_upto k g.state).outs)
 
   -- it goes on so, and runs
-  pub going_runs : (s : Serving) (g : Going) → s.lasting.number ≡ client → s.call ≡ None → Stretched s g (saying (goes_on s g).outs (runs (goes_on s g).state))
-  unfolding runs
+  pub going_runs : (s : Serving) (g : Going) → s.lasting.number ≡ client → s.call ≡ None → Stretched s g (saying (running_go_on s g).outs (run (running_go_on s g).state))
+  unfolding run
   going_runs s g its none = stretched most_steps s g its none
 
   -- the open call runs
-  pub open_runs : (s : Serving) (call : Call) → s.lasting.number ≡ client → s.call ≡ Some call → Stretched s (On call) (runs s)
-  unfolding runs goes_on
+  pub open_runs : (s : Serving) (call : Call) → s.lasting.number ≡ client → s.call ≡ Some call → Stretched s (On call) (run s)
+  unfolding run running_go_on
   open_runs s call its is =
       let u : Serving = record s { call = None } in
-      let whole : Stretched u (On call) (runs_upto most_steps (record s { call = Some call })) = stretched most_steps u (On call) its refl in
+      let whole : Stretched u (On call) (run_upto most_steps (record s { call = Some call })) = stretched most_steps u (On call) its refl in
       let same : record s { call = Some call } ≡ s = ap (λ (o : Option Call). record s { call = o }) (sym is) in
-      subst (λ (t : Serving). Stretched s (On call) (runs_upto most_steps t)) same
+      subst (λ (t : Serving). Stretched s (On call) (run_upto most_steps t)) same
       (record { number = whole.number; items = whole.items; acts = whole.acts })
 
   -- none does
-  pub no_runs : (s : Serving) → s.call ≡ None → runs s ≡ still s
-  unfolding runs
+  pub no_runs : (s : Serving) → s.call ≡ None → run s ≡ still s
+  unfolding run
   no_runs s none = none_run most_steps s none

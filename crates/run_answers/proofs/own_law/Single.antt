@@ -1,7 +1,7 @@
 -- An act of blocks in an event of a client is for an item: where the item's one call on blocks is answered, or by a call on files.
 use Rattle.std.proofs.Common.{◌≡◌, ◌⊎◌, ℕ, List, [], ◌∷◌, ◌++◌, Option, Some, None, inl, inr, refl, sym, subst}
 use Rattle.std.specs.List.{AllByRecursion}
-use Rattle.client_call.specs.Calls.{after_answer, answer_of, call_of, going, going_by, may_make}
+use Rattle.client_call.specs.Calls.{plan_answered, answer_of, call_of, stands_by, going_by, may_make}
 use Rattle.client_running.specs.Opens.{call_at}
 use Rattle.client_serving.specs.declared.serving.Serving.{Serving}
 use Rattle.file_plan.specs.declared.block_call.Next.{Next}
@@ -154,7 +154,7 @@ module _ (client : ℕ) where
   one_for One call same own (Waits p q) a is among = absurd among
   one_for {item} {w} {after = after} One call same own (Told {acts = rest} x fits more) a is among =
       let end : rest ≡ answered_so me (Some item) (answer_of x) =
-      ends_with (subst (λ (p : Plan). Stretch client (Some item) (after_answer p x) rest after) same more) in
+      ends_with (subst (λ (p : Plan). Stretch client (Some item) (plan_answered p x) rest after) same more) in
       subst (λ (acts : List Act). IsFor client item w (told client call.step x ++ acts) a) (sym end)
       (one_told item w call.step x own fits a is (subst (λ (acts : List Act). In a (told client call.step x ++ acts)) end among))
 
@@ -186,8 +186,8 @@ module _ (client : ℕ) where
   begins_own (work.Bput c block value) number self = (refl, refl)
   begins_own (work.Sync c) number self = tt
   begins_own (work.File c call) number self =
-      by_test (BeginsOwn (Some (work.File c call))) (may_make number self) (Some (going (plan.start call (plan.made_by number self)))) None
-      (λ _. file_going (Some (work.File c call)) tt (plan.start call (plan.made_by number self)) (plan.next_call (plan.start call (plan.made_by number self))))
+      by_test (BeginsOwn (Some (work.File c call))) (may_make number self) (Some (stands_by (plan.start call (plan.made_by number self)))) None
+      (λ _. file_going (Some (work.File c call)) tt (plan.start call (plan.made_by number self)) (plan.file_plan_next (plan.start call (plan.made_by number self))))
       (λ _. tt)
   begins_own _ number self = tt
 

@@ -1,12 +1,12 @@
 -- The calls of a client, and what they answer: what their plans reply.
 use Rattle.std.proofs.Common.{◌≡◌, ℕ, Option, Some, None, refl}
-use Rattle.client_call.specs.Calls.{after_answer, answer_of, call_of, going, going_by, may_make}
+use Rattle.client_call.specs.Calls.{plan_answered, answer_of, call_of, stands_by, going_by, may_make}
 use Rattle.client_call.specs.declared.call.Call.{Call}
 use Rattle.client_call.specs.declared.call.Going.{Going}
 use Rattle.client_call.specs.declared.call.Plan.{Plan}
 use Rattle.client_call.specs.declared.call.Plan.TheVariants.{One, File}
 use Rattle.client_running.specs.Opens.{call_at}
-use Rattle.client_running.specs.Running.{goes_on, runs}
+use Rattle.client_running.specs.Running.{running_go_on, run}
 use Rattle.client_serving.specs.declared.serving.Serving.{Serving}
 use Rattle.client_serving.specs.Sends.{Done}
 use Rattle.file_plan.specs.declared.block_call.BlockAnswer.{BlockAnswer}
@@ -16,7 +16,7 @@ use Rattle.file_plan.specs.declared.block_call.Next.{Next}
 use Rattle.file_plan.specs.declared.block_call.Next.TheVariants.{Step, Reply}
 use Rattle.file_plan.specs.declared.state.PlanState.{PlanState}
 use Rattle.file_plan.specs.Plan as plan
-use Rattle.serving_moves.proofs.item_moves.Calling.{BeginsSo, CallSo, GoingSo, Went, goes_on_went, then_runs_went, went}
+use Rattle.serving_moves.proofs.item_moves.Calling.{BeginsSo, CallSo, GoingSo, Went, running_go_on_went, then_runs_went, went}
 use Rattle.serving_moves.proofs.item_moves.ClientServing.{Goes}
 use Rattle.serving_moves.proofs.item_moves.Plans.{EndsWell, IsFileReply, answered_well, replies_well, start_well}
 use Rattle.version_model.specs.declared.answer.Answer.{Answer}
@@ -68,23 +68,23 @@ GoingWell = GoingSo PlanWell IsReply
 abbrev pub BeginsWell : Option Going → Type 0
 BeginsWell = BeginsSo PlanWell IsReply
 
-file_well : (p : PlanState) → EndsWell p → GoingWell (going p)
-file_well p well = by (plan.next_call p) refl
+file_well : (p : PlanState) → EndsWell p → GoingWell (stands_by p)
+file_well p well = by (plan.file_plan_next p) refl
   where
-    by : (next : Next) → plan.next_call p ≡ next → GoingWell (going_by p next)
+    by : (next : Next) → plan.file_plan_next p ≡ next → GoingWell (going_by p next)
     by (Step step) e = well
     by (Reply a) e = file_replies a (replies_well p a well e)
 
-after_well : (p : Plan) (a : BlockAnswer) → PlanWell p → GoingWell (after_answer p a)
+after_well : (p : Plan) (a : BlockAnswer) → PlanWell p → GoingWell (plan_answered p a)
 after_well One a well = one_replies a
-after_well (File p) a well = file_well (plan.after_answer p a) (answered_well p well a)
+after_well (File p) a well = file_well (plan.file_plan_answered p a) (answered_well p well a)
 
 work_well : (w : Work) (number self : ℕ) → BeginsWell (call_of w number self)
 work_well (work.Bput c block value) number self = tt
 work_well (work.Bget c block) number self = tt
 work_well (work.Sync c) number self = tt
 work_well (work.File c call) number self =
-    by_test BeginsWell (may_make number self) (Some (going (plan.start call (plan.made_by number self)))) None
+    by_test BeginsWell (may_make number self) (Some (stands_by (plan.start call (plan.made_by number self)))) None
     (λ _. file_well (plan.start call (plan.made_by number self)) (start_well call (plan.made_by number self))) (λ _. tt)
 work_well _ number self = tt
 
@@ -93,9 +93,9 @@ begins_well s number None = tt
 begins_well s number (Some w) = work_well w number s.lasting.number
 
 -- what is done, and then the open call runs
-pub behind_well : (s : Serving) (d : Done) → CallWell s.call → Goes s d → Went PlanWell IsReply s (saying d.outs (runs d.state))
+pub behind_well : (s : Serving) (d : Done) → CallWell s.call → Goes s d → Went PlanWell IsReply s (saying d.outs (run d.state))
 behind_well s d well g = then_runs_went PlanWell IsReply after_well work_well s d well (went PlanWell IsReply s d g)
 
 -- a call that has begun
-pub going_well : (s : Serving) (g : Going) → CallWell s.call → GoingWell g → Went PlanWell IsReply s (saying (goes_on s g).outs (runs (goes_on s g).state))
-going_well s g calls well = then_runs_went PlanWell IsReply after_well work_well s (goes_on s g) calls (goes_on_went PlanWell IsReply s g well)
+pub going_well : (s : Serving) (g : Going) → CallWell s.call → GoingWell g → Went PlanWell IsReply s (saying (running_go_on s g).outs (run (running_go_on s g).state))
+going_well s g calls well = then_runs_went PlanWell IsReply after_well work_well s (running_go_on s g) calls (running_go_on_went PlanWell IsReply s g well)

@@ -1,12 +1,12 @@
 -- What an event of the cleaner answers it may answer, and its open item stays one that it may have open.
 use Rattle.std.proofs.Common.{◌≡◌, ℕ, List, [], ◌∷◌, ◌++◌, Option, Some, None, is_some, refl, sym, ap, subst, ◌∙◌}
 use Rattle.cleaner_job.specs.declared.lasting.Lasting.{Lasting}
-use Rattle.cleaner_node.specs.CleanerEvents.{Went_to, after_opening, begun_life, crashes, down_at, down_wishes, happens, hears, lasting_of, on_begin, on_deliver, on_time, opened_on, opening_at, opening_wishes, phase_room, restarts, serves_on, serving_at, serving_wishes, takes, wish_of}
+use Rattle.cleaner_node.specs.CleanerEvents.{Went_to, after_opening, begun_life, crash, down_at, down_wishes, happens, cleaner_hear, lasting_of, on_begin, on_deliver, on_time, opened_on, opening_at, opening_wishes, phase_has_room, restart, serves_on, serving_at, serving_wishes, takes, wish_of}
 use Rattle.cleaner_node.specs.declared.cleaner.Cleaner.{Cleaner}
 use Rattle.cleaner_node.specs.declared.cleaner.Phase.{Phase}
 use Rattle.cleaner_node.specs.declared.cleaner.Phase.TheVariants.{Down, Opening, Serving}
 use Rattle.cleaner_serving.specs.declared.emptying.Emptying.{Emptying}
-use Rattle.cleaner_serving.specs.EmptyingEvents.{begins_job, on_clean, on_packet, on_tick, with_new_job}
+use Rattle.cleaner_serving.specs.EmptyingEvents.{begin_job, on_clean, on_packet, on_tick, with_new_job}
 use Rattle.cleaner_serving.specs.Jobs.{Done}
 use Rattle.core_world.specs.declared.any_node.AnyNode.{AnyNode}
 use Rattle.core_world.specs.declared.any_node.AnyNode.TheVariants as any
@@ -16,8 +16,8 @@ use Rattle.log_owner.specs.declared.opened.Progress.TheVariants as progress
 use Rattle.log_owner.specs.declared.opening.Opening as openings
 use Rattle.log_owner.specs.Opening as opening
 use Rattle.log_owner.specs.Opening.{Went}
-use Rattle.log_owner.specs.Sending.{pushes_all}
-use Rattle.node_base.specs.Beginning.{answered, answers_unanswered, next_item, work_at}
+use Rattle.log_owner.specs.Sending.{push_all}
+use Rattle.node_base.specs.Beginning.{items_answer, answers_unanswered, next_item, work_at}
 use Rattle.node_base.specs.declared.effects.Effect.{Effect}
 use Rattle.node_base.specs.declared.effects.Effect.TheVariants.{Answer as Answers}
 use Rattle.node_base.specs.declared.peers.Peers.{Peers}
@@ -94,7 +94,7 @@ module _ (works : List Work) where
             record { asks = asks; meets = all_append (Meets (Now (Opening now r))) w.effects [] (plain_meets (Now (Opening now r)) Answering w.effects plain) tt }
         by (progress.Opened r) =
             let q : Phase = (after_opening now (progress.Opened r)).state in
-            let pushed : List Effect = pushes_all r.promised.managers r.feed in
+            let pushed : List Effect = push_all r.promised.managers r.feed in
             record {
               asks = λ item waits. absurd (none_open item waits);
               meets = all_append (Meets (Now q)) w.effects (pushed ++ answers_unanswered l.items.unanswered answer.Done) (plain_meets (Now q) Answering w.effects plain)
@@ -122,7 +122,7 @@ module _ (works : List Work) where
           subst (λ n. IsRestart (asked_at works n)) (one_number number item waits) (subst IsRestart (sym asked) tt)
 
       down_so : (servers : ℕ) (wanted : Option Work) → asked_at works number ≡ wanted → Turned (Down l) (down_wishes servers now number (wish_of wanted))
-      unfolding restarts
+      unfolding restart
       down_so servers (Some (work.Restart node)) asked = record { asks = restarting node asked; meets = (tt, tt) }
       down_so servers (Some (work.Crash node)) asked =
           record { asks = tt; meets = at_once works (in_phase (Down l)) (in_phase (Down now)) number (Some (work.Crash node)) answer.Down asked (next, (refl, refl)) }
@@ -132,10 +132,10 @@ module _ (works : List Work) where
 
       opening_so : (o : openings.Opening) → Asks (Opening l o) → (wanted : Option Work) → asked_at works number ≡ wanted
           → Turned (Opening l o) (opening_wishes now o number (wish_of wanted))
-      unfolding crashes
+      unfolding crash
       opening_so o asks (Some (work.Crash node)) asked = record {
         asks = tt;
-        meets = falls_meet works (in_phase (Opening l o)) (in_phase (Down (record now { items = answered now.items }))) now.items.unanswered number (Some (work.Crash node))
+        meets = falls_meet works (in_phase (Opening l o)) (in_phase (Down (record now { items = items_answer now.items }))) now.items.unanswered number (Some (work.Crash node))
             (λ item waits. sym (begun_open l.items) ∙ waits) refl asked (next, (λ e. cc, refl)) Answering [] tt;
       }
       opening_so o asks (Some (work.Restart node)) asked = record {
@@ -160,7 +160,7 @@ module _ (works : List Work) where
       unfolding on_clean
       clean_so count asked =
           by_test (λ (d : Done). Turned (Serving e) (serves_on d)) (is_some f.lasting.items.unanswered) (record { state = f; outs = Answers number answer.Busy ∷ [] })
-          (begins_job f number count) (λ waits. busy (is_open f.lasting.items.unanswered waits)) (λ _. begins)
+          (begin_job f number count) (λ waits. busy (is_open f.lasting.items.unanswered waits)) (λ _. begins)
         where
           counted : IsCounted (asked_at works number)
           counted = subst IsCounted (sym asked) tt
@@ -172,16 +172,16 @@ module _ (works : List Work) where
                 (next, ((tt, refl), (other.0, (sym (begun_open e.lasting.items) ∙ other.1, other.1))));
           }
 
-          begins : Turned (Serving e) (serves_on (begins_job f number count))
+          begins : Turned (Serving e) (serves_on (begin_job f number count))
           begins =
-              served e (with_new_job f number count) (begins_job f number count)
+              served e (with_new_job f number count) (begin_job f number count)
               (λ item waits. subst (λ n. IsCounted (asked_at works n)) (one_number number item waits) counted) (begins_go f number count).moves
 
       serving_so : (wanted : Option Work) → asked_at works number ≡ wanted → Turned (Serving e) (serving_wishes f number (wish_of wanted))
-      unfolding crashes
+      unfolding crash
       serving_so (Some (work.Crash node)) asked = record {
         asks = tt;
-        meets = falls_meet works (in_phase (Serving e)) (in_phase (Down (record f.lasting { items = answered f.lasting.items }))) f.lasting.items.unanswered number
+        meets = falls_meet works (in_phase (Serving e)) (in_phase (Down (record f.lasting { items = items_answer f.lasting.items }))) f.lasting.items.unanswered number
             (Some (work.Crash node)) (λ item waits. sym (begun_open e.lasting.items) ∙ waits) refl asked (next, (λ e. cc, refl)) Answering [] tt;
       }
       serving_so (Some (work.Restart node)) asked = record {
@@ -218,13 +218,13 @@ module _ (works : List Work) where
 
     -- ---- packets and time
 
-    hears_so : (p : Phase) (packet : Packet) → Asks p → Turned p (hears p packet)
-    unfolding hears
-    hears_so (Down l) packet asks = unmoved (Down l) asks
-    hears_so (Opening l o) packet asks =
-        opened_so l o asks (opening.on_packet o l.questions packet)
-        (behaves_plain o.known.owner (opening.on_packet o l.questions packet) (behaving.packet_so o l.questions packet))
-    hears_so (Serving e) packet asks = served e e (on_packet e packet) asks (packet_goes e packet).moves
+    cleaner_hear_so : (p : Phase) (packet : Packet) → Asks p → Turned p (cleaner_hear p packet)
+    unfolding cleaner_hear
+    cleaner_hear_so (Down l) packet asks = unmoved (Down l) asks
+    cleaner_hear_so (Opening l o) packet asks =
+        opened_so l o asks (opening.opening_take o l.questions packet)
+        (behaves_plain o.known.owner (opening.opening_take o l.questions packet) (behaving.packet_so o l.questions packet))
+    cleaner_hear_so (Serving e) packet asks = served e e (on_packet e packet) asks (packet_goes e packet).moves
 
     time_so : (p : Phase) → Asks p → Turned p (on_time p)
     unfolding on_time
@@ -238,10 +238,10 @@ module _ (works : List Work) where
     unfolding on_deliver
     happens_so peers p Begin has own asks = begin_so peers.servers p has own asks
     happens_so peers p (Deliver packet) has own asks =
-        by_test (Turned p) (is_well_formed peers packet) (hears p packet) (still p) (λ _. hears_so p packet asks) (λ _. unmoved p asks)
+        by_test (Turned p) (is_well_formed peers packet) (cleaner_hear p packet) (still p) (λ _. cleaner_hear_so p packet asks) (λ _. unmoved p asks)
     happens_so peers p Tick has own asks = time_so p asks
 
     pub cleaner_fits : (what : Do) → (lasting_of c.phase).items.works ≡ works → Own c.phase → Asks c.phase → Turned c.phase (takes c.peers c.phase what)
     cleaner_fits what has own asks =
-        by_test (Turned c.phase) (phase_room c.phase) (happens c.peers c.phase what) (still c.phase) (λ _. happens_so c.peers c.phase what has own asks)
+        by_test (Turned c.phase) (phase_has_room c.phase) (happens c.peers c.phase what) (still c.phase) (λ _. happens_so c.peers c.phase what has own asks)
         (λ _. unmoved c.phase asks)

@@ -3,12 +3,12 @@ use Rattle.std.proofs.Common.{◌≡◌, ℕ, List, [], ◌∷◌, ◌++◌, Opt
 use Rattle.client_node.specs.declared.client.Client.{Client}
 use Rattle.client_node.specs.declared.phase.Phase.{Phase}
 use Rattle.client_node.specs.declared.phase.Phase.TheVariants.{Down, Opening, Serving as Serves}
-use Rattle.client_node.specs.Phases.{Went_to, after_opening, begins_item, client_room, down_begins, happens, item_begins, lasting_of, on_begin, on_deliver, on_time, opened_on, opening_begins, serving_begins, takes, then_runs, wish_of, with_begun}
-use Rattle.client_running.specs.Opens.{begins_call, call_at, opens}
-use Rattle.client_running.specs.Running.{runs}
+use Rattle.client_node.specs.Phases.{Went_to, phase_after, begins_item, client_has_room, down_begins, happens, item_begins, lasting_of, on_begin, on_deliver, client_tick, opened_on, opening_begins, serving_begins, takes, then_runs, wish_of, with_begun}
+use Rattle.client_running.specs.Opens.{begin_call, call_at, opens}
+use Rattle.client_running.specs.Running.{run}
 use Rattle.client_serving.specs.declared.lasting.Lasting.{Lasting}
 use Rattle.client_serving.specs.declared.serving.Serving.{Serving}
-use Rattle.client_serving.specs.Packets.{on_packet, on_tick}
+use Rattle.client_serving.specs.Packets.{serving_take, on_tick}
 use Rattle.client_serving.specs.Sends.{Done, gives}
 use Rattle.client_call.specs.declared.call.Going.{Going}
 use Rattle.core_world.specs.declared.any_node.AnyNode.{AnyNode}
@@ -19,8 +19,8 @@ use Rattle.log_owner.specs.declared.opened.Progress.TheVariants as progress
 use Rattle.log_owner.specs.declared.opening.Opening as openings
 use Rattle.log_owner.specs.Opening as opening
 use Rattle.log_owner.specs.Opening.{Went}
-use Rattle.log_owner.specs.Sending.{pushes_all}
-use Rattle.node_base.specs.Beginning.{answered, answers_unanswered, begun, next_item, waiting, work_at}
+use Rattle.log_owner.specs.Sending.{push_all}
+use Rattle.node_base.specs.Beginning.{items_answer, answers_unanswered, items_begin, next_item, items_wait, work_at}
 use Rattle.node_base.specs.declared.effects.Effect.{Effect}
 use Rattle.node_base.specs.declared.effects.Effect.TheVariants.{Answer as Answers, Does}
 use Rattle.node_base.specs.declared.items.Items.{Items}
@@ -105,12 +105,12 @@ module _ (works : List Work) where
           first : (P : ℕ → Answer → Type 0) → AllMeet P w.effects
           first P = plain_meets P Answering w.effects plain
 
-          by : (p : Progress) → Turned (Opening l o) (saying w.effects (after_opening now capacity p))
+          by : (p : Progress) → Turned (Opening l o) (saying w.effects (phase_after now capacity p))
           by (progress.Opening r) =
               record { asks = asks; meets = all_append (Meets (May (Opening l o) (Opening now r))) w.effects [] (first (May (Opening l o) (Opening now r))) tt }
           by (progress.Opened r) =
-              let q : Phase = (after_opening now capacity (progress.Opened r)).state in
-              let pushed : List Effect = pushes_all r.promised.managers r.feed in
+              let q : Phase = (phase_after now capacity (progress.Opened r)).state in
+              let pushed : List Effect = push_all r.promised.managers r.feed in
               record {
                 asks = (tt, λ item waits. absurd (none_open item waits));
                 meets = all_append (Meets (May (Opening l o) q)) w.effects (Does (act.Back l.number r.chain) ∷ pushed ++ answers_unanswered l.items.unanswered answer.Done)
@@ -123,7 +123,7 @@ module _ (works : List Work) where
                     );
               }
           by (progress.Lost name) =
-              let q : Phase = (after_opening now capacity (progress.Lost name)).state in
+              let q : Phase = (phase_after now capacity (progress.Lost name)).state in
               record {
                 asks = tt;
                 meets = all_append (Meets (May (Opening l o) q)) w.effects (answers_unanswered l.items.unanswered (answer.Lost name)) (first (May (Opening l o) q))
@@ -134,7 +134,7 @@ module _ (works : List Work) where
 
     module _ (l : Lasting) (number : ℕ) (next : next_item l.items ≡ Some number) where
       abbrev m : Lasting
-      m = record l { items = begun l.items }
+      m = record l { items = items_begin l.items }
 
       restarts : (node : NodeId) → asked_at works number ≡ Some (work.Restart node) → (item : ℕ) → Some number ≡ Some item → IsRestart (asked_at works item)
       restarts node asked item waits =
@@ -161,7 +161,7 @@ module _ (works : List Work) where
               record { asks = still_asks; meets = at_once works (in_phase (Opening l o)) (in_phase (Opening m o)) number None answer.Down is (next, (λ e. cc, refl)) }
           by (Some (work.Crash node)) is = record {
             asks = tt;
-            meets = falls_meet works (in_phase (Opening l o)) (in_phase (Down (record m { items = answered m.items }))) m.items.unanswered number (Some (work.Crash node))
+            meets = falls_meet works (in_phase (Opening l o)) (in_phase (Down (record m { items = items_answer m.items }))) m.items.unanswered number (Some (work.Crash node))
                 (λ item waits. sym (begun_open l.items) ∙ waits) refl is (next, (λ e. cc, refl)) Answering [] tt;
           }
           by (Some (work.Restart node)) is = record {
@@ -173,7 +173,7 @@ module _ (works : List Work) where
 
     module _ (s : Serving) (number : ℕ) (next : next_item s.lasting.items ≡ Some number) (asks : Asks (Serves s)) where
       abbrev t : Serving
-      t = record s { lasting = record s.lasting { items = begun s.lasting.items } }
+      t = record s { lasting = record s.lasting { items = items_begin s.lasting.items } }
 
       still_asks : Asks (Serves t)
       still_asks = (asks.0, λ item waits. asks.1 item (sym (begun_open s.lasting.items) ∙ waits))
@@ -183,7 +183,7 @@ module _ (works : List Work) where
       unfolding opens
       opens_so wanted asked called =
           by_test (λ (d : Done). Turned (Serves s) (record { state = Serves d.state; outs = d.outs })) (is_some t.lasting.items.unanswered)
-          (gives t (Answers number answer.Busy ∷ [])) (begins_call t number (call_at t number (work_at t.lasting.items number)))
+          (gives t (Answers number answer.Busy ∷ [])) (begin_call t number (call_at t number (work_at t.lasting.items number)))
           (λ waits. busy (is_open t.lasting.items.unanswered waits)) (λ _. begins (call_at t number (work_at t.lasting.items number)) (begins_well t number (work_at t.lasting.items number)))
         where
           calls : IsCall (asked_at works number)
@@ -196,15 +196,15 @@ module _ (works : List Work) where
           }
 
           begins : (o : Option Going) → BeginsWell o
-              → Turned (Serves s) (record { state = Serves (begins_call t number o).state; outs = (begins_call t number o).outs })
+              → Turned (Serves s) (record { state = Serves (begin_call t number o).state; outs = (begin_call t number o).outs })
           begins None well = record {
             asks = still_asks;
             meets = (reply_may (in_phase (Serves s)) (in_phase (Serves t)) number (asked_at works number) answer.Done tt calls refl, tt);
           }
           begins (Some g) well =
-              let u : Serving = record t { lasting = record t.lasting { items = waiting t.lasting.items number } } in
-              let w : Called PlanWell IsReply u (begins_call t number (Some g)) = going_well u g asks.0 well in
-              served s u (begins_call t number (Some g)) (λ item waits. subst (λ n. IsCall (asked_at works n)) (one_number number item waits) calls)
+              let u : Serving = record t { lasting = record t.lasting { items = items_wait t.lasting.items number } } in
+              let w : Called PlanWell IsReply u (begin_call t number (Some g)) = going_well u g asks.0 well in
+              served s u (begin_call t number (Some g)) (λ item waits. subst (λ n. IsCall (asked_at works n)) (one_number number item waits) calls)
               (w.calls asks.0) w.does.moves
 
       serving_so : IsClients (asked_at works number) → (wanted : Option Work) → asked_at works number ≡ wanted
@@ -214,7 +214,7 @@ module _ (works : List Work) where
         asks = tt;
         meets = (
           tt,
-          falls_meet works (in_phase (Serves s)) (in_phase (Down (record t.lasting { items = answered t.lasting.items }))) t.lasting.items.unanswered number
+          falls_meet works (in_phase (Serves s)) (in_phase (Down (record t.lasting { items = items_answer t.lasting.items }))) t.lasting.items.unanswered number
               (Some (work.Crash node)) (λ item waits. sym (begun_open s.lasting.items) ∙ waits) refl asked (next, (λ e. cc, refl)) Answering [] tt,
         );
       }
@@ -236,7 +236,7 @@ module _ (works : List Work) where
     item_so servers (Opening l o) number wanted next own asks asked = opening_so l number next o asks wanted asked
     item_so servers (Serves s) number wanted next own asks asked = serving_so s number next asks (own number next) wanted asked
 
-    begun_items : (p : Phase) → (lasting_of (with_begun p)).items ≡ begun (lasting_of p).items
+    begun_items : (p : Phase) → (lasting_of (with_begun p)).items ≡ items_begin (lasting_of p).items
     begun_items (Down l) = refl
     begun_items (Opening l o) = refl
     begun_items (Serves s) = refl
@@ -255,26 +255,26 @@ module _ (works : List Work) where
 
     -- ---- packets and time
 
-    runs_so : (s : Serving) (d : Done) → Asks (Serves s) → Goes s d → Turned (Serves s) (then_runs d)
-    runs_so s d asks g =
-        let w : Called PlanWell IsReply s (saying d.outs (runs d.state)) = behind_well s d asks.0 g in
-        served s s (saying d.outs (runs d.state)) asks.1 (w.calls asks.0) w.does.moves
+    run_so : (s : Serving) (d : Done) → Asks (Serves s) → Goes s d → Turned (Serves s) (then_runs d)
+    run_so s d asks g =
+        let w : Called PlanWell IsReply s (saying d.outs (run d.state)) = behind_well s d asks.0 g in
+        served s s (saying d.outs (run d.state)) asks.1 (w.calls asks.0) w.does.moves
 
     deliver_so : (capacity : ℕ) (p : Phase) (packet : Packet) → Asks p → Turned p (on_deliver capacity p packet)
     unfolding on_deliver
     deliver_so capacity (Down l) packet asks = unmoved (Down l) asks
     deliver_so capacity (Opening l o) packet asks =
-        opened_so l o capacity asks (opening.on_packet o l.questions packet)
-        (behaves_plain o.known.owner (opening.on_packet o l.questions packet) (behaving.packet_so o l.questions packet))
-    deliver_so capacity (Serves s) packet asks = runs_so s (on_packet s packet) asks (packet_goes s packet)
+        opened_so l o capacity asks (opening.opening_take o l.questions packet)
+        (behaves_plain o.known.owner (opening.opening_take o l.questions packet) (behaving.packet_so o l.questions packet))
+    deliver_so capacity (Serves s) packet asks = run_so s (serving_take s packet) asks (packet_goes s packet)
 
-    time_so : (capacity : ℕ) (p : Phase) → Asks p → Turned p (on_time capacity p)
-    unfolding on_time
+    time_so : (capacity : ℕ) (p : Phase) → Asks p → Turned p (client_tick capacity p)
+    unfolding client_tick
     time_so capacity (Down l) asks = unmoved (Down l) asks
     time_so capacity (Opening l o) asks =
         opened_so l o capacity asks (opening.on_tick o l.questions)
         (behaves_plain o.known.owner (opening.on_tick o l.questions) (behaving.tick_so o l.questions))
-    time_so capacity (Serves s) asks = runs_so s (on_tick s) asks (tick_goes s)
+    time_so capacity (Serves s) asks = run_so s (on_tick s) asks (tick_goes s)
 
     happens_so : (what : Do) → (lasting_of c.phase).items.works ≡ works → Own c.phase → Asks c.phase → Turned c.phase (happens c what)
     happens_so Begin has own asks = begin_so c.peers.servers c.phase has own asks
@@ -285,4 +285,4 @@ module _ (works : List Work) where
 
     pub client_fits : (what : Do) → (lasting_of c.phase).items.works ≡ works → Own c.phase → Asks c.phase → Turned c.phase (takes c what)
     client_fits what has own asks =
-        by_test (Turned c.phase) (client_room c) (happens c what) (still c.phase) (λ _. happens_so what has own asks) (λ _. unmoved c.phase asks)
+        by_test (Turned c.phase) (client_has_room c) (happens c what) (still c.phase) (λ _. happens_so what has own asks) (λ _. unmoved c.phase asks)

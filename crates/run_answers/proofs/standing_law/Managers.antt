@@ -6,13 +6,13 @@ use Rattle.manager_node.specs.declared.manager.Manager.{Manager}
 use Rattle.manager_node.specs.declared.phase.Phase.{Phase}
 use Rattle.manager_node.specs.declared.phase.Phase.TheVariants.{Down, Waiting, Serving as Serves}
 use Rattle.manager_node.specs.Events as manager
-use Rattle.manager_node.specs.Phases.{Went_to, begin_down, begin_serving, begin_waiting, crashes, down_item, down_wish, lasting_of, on_begin, phase_has_room, restarts, serves, serving_item, serving_wish, waiting_item, waiting_wish, wish_at, with_begun}
+use Rattle.manager_node.specs.Phases.{Went_to, begin_down, begin_serving, begin_waiting, crash, down_item, down_wish, lasting_of, on_begin, phase_has_room, restart, serves, serving_item, serving_wish, waiting_item, waiting_wish, wish_at, with_begun}
 use Rattle.manager_serving.specs.Checkpoints as checkpoints
 use Rattle.manager_serving.specs.Checkpoints.{Done}
 use Rattle.manager_serving.specs.declared.serving.Serving.{Serving}
 use Rattle.manager_serving.specs.Serving as serving
 use Rattle.manager_slots.specs.declared.lasting.Lasting.{Lasting as Life}
-use Rattle.manager_slots.specs.Lasting.{with_answer}
+use Rattle.manager_slots.specs.Lasting.{lasting_answer}
 use Rattle.node_base.specs.Beginning.{next_item, work_at}
 use Rattle.node_base.specs.declared.effects.Effect.TheVariants.{Answer as Answers}
 use Rattle.node_base.specs.declared.peers.Peers.{Peers}
@@ -81,19 +81,19 @@ module _ (works : List Work) where
 
       -- what was open is cut
       crash_so : (p : Phase) → ((item : ℕ) → IsOpen life.items item → IsOpen (lasting_of p).items item) → (node : NodeId) → asked_at works number ≡ Some (work.Crash node)
-          → IsDone (in_phase p) (in_phase (Down (with_answer now))) number (Some (work.Crash node)) → Turned p (crashes now number)
-      unfolding crashes
+          → IsDone (in_phase p) (in_phase (Down (lasting_answer now))) number (Some (work.Crash node)) → Turned p (crash now number)
+      unfolding crash
       crash_so p opens node asked done = record {
         asks = λ item waits. absurd (none_open item waits);
-        meets = falls_meet works (in_phase p) (in_phase (Down (with_answer now))) now.items.unanswered number (Some (work.Crash node))
+        meets = falls_meet works (in_phase p) (in_phase (Down (lasting_answer now))) now.items.unanswered number (Some (work.Crash node))
             (λ item waits. opens item (sym (begun_open life.items) ∙ waits)) refl asked done Telling [] tt;
       }
 
       down_so : (wanted : Option Work) → asked_at works number ≡ wanted → Turned (Down life) (down_wish now number (wish_at wanted))
-      unfolding restarts
+      unfolding restart
       down_so (Some (work.Restart node)) asked = record {
         asks = still_asks;
-        meets = (subst (λ w. IsDone (in_phase (Down life)) (in_phase (restarts now number).state) number w) (sym asked) (λ e. cc, refl), (tt, tt));
+        meets = (subst (λ w. IsDone (in_phase (Down life)) (in_phase (restart now number).state) number w) (sym asked) (λ e. cc, refl), (tt, tt));
       }
       down_so (Some (work.Crash node)) asked = record {
         asks = still_asks;
@@ -202,7 +202,7 @@ module _ (works : List Work) where
     gets_so peers (Down life) packet asks = unmoved (Down life) asks
     gets_so peers (Waiting life hello) packet asks = awaited_so peers life hello packet.body asks
     gets_so peers (Serves s) packet asks =
-        served (Serves s) s (serving.hears s peers.clients packet) refl asks (packet_goes s peers.clients packet)
+        served (Serves s) s (serving.serving_hear s peers.clients packet) refl asks (packet_goes s peers.clients packet)
 
     time_so : (p : Phase) → Asks p → Turned p (manager.on_time p)
     unfolding manager.on_time
@@ -211,7 +211,7 @@ module _ (works : List Work) where
     time_so (Serves s) asks = served (Serves s) s (serving.on_tick s) refl asks (tick_goes s)
 
     event_so : (p : Phase) (what : Do) → (lasting_of p).items.works ≡ works → Own p → Asks p → Turned p (manager.on_event m.peers p what)
-    unfolding manager.on_deliver
+    unfolding manager.manager_deliver
     event_so p Begin has own asks = begin_so p has own asks
     event_so p (Deliver packet) has own asks =
         by_test (Turned p) (is_well_formed m.peers packet) (manager.on_packet m.peers p packet) (still p) (λ _. gets_so m.peers p packet asks)

@@ -1,15 +1,15 @@
 -- What an event of the registry answers it may answer: only the item that begins, by which a slot goes to a manager, with its next epoch.
 use Rattle.std.proofs.Common.{◌≡◌, ℕ, List, [], ◌∷◌, Option, Some, None, refl, sym, ap, subst, ◌∙◌}
 use Rattle.core_world.specs.declared.any_node.AnyNode.TheVariants as any
-use Rattle.manager_map.specs.Slots.{after_move, entry_at}
-use Rattle.node_base.specs.Beginning.{begun, next_item, work_at}
+use Rattle.manager_map.specs.Slots.{manager_map_advance, entry_at}
+use Rattle.node_base.specs.Beginning.{items_begin, next_item, work_at}
 use Rattle.node_base.specs.declared.effects.Effect.TheVariants.{Answer as Answers}
 use Rattle.node_base.specs.Room.{has_room}
 use Rattle.registry.specs.Board.{Made, can_move, moved, reassign}
 use Rattle.registry.specs.declared.output.Out.TheVariants.{Changed, Epoch}
 use Rattle.registry_node.specs.declared.node.RegistryNode.{RegistryNode}
 use Rattle.registry_node.specs.Events as events
-use Rattle.registry_node.specs.Events.{Done, move_of, takes, tells_all}
+use Rattle.registry_node.specs.Events.{Done, move_of, takes, tell_all}
 use Rattle.serving_moves.proofs.item_moves.Registries.{all_told, registry_turned}
 use Rattle.serving_moves.specs.item_moves.Moves.{IsNone}
 use Rattle.serving_moves.specs.item_moves.Moves.Losses.{Silent}
@@ -33,16 +33,16 @@ module _ (works : List Work) (r : RegistryNode) where
 
   module _ (number : ℕ) (next : next_item r.items ≡ Some number) where
     abbrev w : RegistryNode
-    w = record r { items = begun r.items }
+    w = record r { items = items_begin r.items }
 
     -- the maps are told, and the slot's new epoch is the answer
     moved_so : (slot manager : ℕ) → asked_at works number ≡ Some (work.Move slot manager)
-        → Fits (events.after_move w number (record { state = moved w.board slot manager; outs = Changed ∷ Epoch (entry_at (after_move w.board.entries slot manager) slot).epoch ∷ [] }))
+        → Fits (events.after_move w number (record { state = moved w.board slot manager; outs = Changed ∷ Epoch (entry_at (manager_map_advance w.board.entries slot manager) slot).epoch ∷ [] }))
     moved_so slot manager asked =
         let now : RegistryNode = record w { board = moved w.board slot manager } in
-        let epoch : ℕ = (entry_at (after_move w.board.entries slot manager) slot).epoch in
-        all_append (Meets (May works (any.Registry r) (any.Registry now))) (tells_all now) (Answers number (answer.Epoch epoch) ∷ [])
-        (plain_meets (May works (any.Registry r) (any.Registry now)) Silent (tells_all now) (all_told now))
+        let epoch : ℕ = (entry_at (manager_map_advance w.board.entries slot manager) slot).epoch in
+        all_append (Meets (May works (any.Registry r) (any.Registry now))) (tell_all now) (Answers number (answer.Epoch epoch) ∷ [])
+        (plain_meets (May works (any.Registry r) (any.Registry now)) Silent (tell_all now) (all_told now))
         (subst (λ wanted. MayAnswer (any.Registry r) (any.Registry now) number wanted (answer.Epoch epoch)) (sym asked) (next, (refl, refl)), tt)
 
     move_so : (slot manager : ℕ) → asked_at works number ≡ Some (work.Move slot manager) → Fits (events.on_move w number slot manager)
@@ -59,10 +59,10 @@ module _ (works : List Work) (r : RegistryNode) where
   unfolding events.on_begin
   begin_so has = by (next_item r.items) refl
     where
-      by : (item : Option ℕ) → next_item r.items ≡ item → Fits (events.at_item (record r { items = begun r.items }) item)
+      by : (item : Option ℕ) → next_item r.items ≡ item → Fits (events.at_item (record r { items = items_begin r.items }) item)
       by None fact = tt
       by (Some number) fact =
-          wish_so number fact (work_at (begun r.items) number) (sym (ap (λ (ws : List Work). asked_at ws number) (begun_works r.items ∙ has)))
+          wish_so number fact (work_at (items_begin r.items) number) (sym (ap (λ (ws : List Work). asked_at ws number) (begun_works r.items ∙ has)))
 
   -- where none begins nothing is answered
   quiet_so : (what : Do) → (what ≡ Begin → ⊥) → Fits (takes r what)

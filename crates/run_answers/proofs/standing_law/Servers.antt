@@ -3,9 +3,9 @@ use Rattle.std.proofs.Common.{◌≡◌, ℕ, List, [], ◌∷◌, Option, Some,
 use Rattle.core_world.specs.declared.any_node.AnyNode.TheVariants as any
 use Rattle.group_map.specs.GroupMapState.{GroupMapState}
 use Rattle.group_rebuild.specs.declared.input.In.TheVariants as input
-use Rattle.group_rebuild.specs.RebuildState.{started}
-use Rattle.node_base.specs.Asking.{drawn, next_ask}
-use Rattle.node_base.specs.Beginning.{begun, next_item, waiting, work_at}
+use Rattle.group_rebuild.specs.RebuildState.{rebuild_start}
+use Rattle.node_base.specs.Asking.{draw, next_ask}
+use Rattle.node_base.specs.Beginning.{items_begin, next_item, items_wait, work_at}
 use Rattle.node_base.specs.declared.effects.Effect.TheVariants.{Answer as Answers}
 use Rattle.serving_moves.proofs.item_moves.Servers.{Goes, packet_goes, rebuilds_go, tick_goes}
 use Rattle.serving_moves.specs.item_moves.Moves.Losses.{Silent}
@@ -44,7 +44,7 @@ module _ (works : List Work) where
 
     module _ (number : ℕ) (next : next_item v.items ≡ Some number) (asks : Asks v) where
       abbrev w : Node
-      w = record v { items = begun v.items }
+      w = record v { items = items_begin v.items }
 
       still_asks : (item : ℕ) → IsOpen w.items item → IsRebuild (asked_at works item)
       still_asks item waits = asks item (sym (begun_open v.items) ∙ waits)
@@ -65,9 +65,9 @@ module _ (works : List Work) where
       begins_so server asked None = idle
       begins_so server asked (Some groups) =
           let u : Node = record w {
-            items = waiting w.items number;
-            questions = drawn w.questions;
-            rebuilding = Some (record { rebuild = started w.number groups; lists = next_ask w.questions; fetches = record { own = 0; ask = 0 } });
+            items = items_wait w.items number;
+            questions = draw w.questions;
+            rebuilding = Some (record { rebuild = rebuild_start w.number groups; lists = next_ask w.questions; fetches = record { own = 0; ask = 0 } });
           } in
           stored u (rebuilds u input.Tick)
           (λ item waits. subst (λ n. IsRebuild (asked_at works n)) (one_number number item waits) (subst IsRebuild (sym asked) tt)) (rebuilds_go u input.Tick)
@@ -96,10 +96,10 @@ module _ (works : List Work) where
     unfolding events.on_begin
     begin_so has asks = by (next_item v.items) refl
       where
-        by : (item : Option ℕ) → next_item v.items ≡ item → Turned (events.at_item (record v { items = begun v.items }) item)
+        by : (item : Option ℕ) → next_item v.items ≡ item → Turned (events.at_item (record v { items = items_begin v.items }) item)
         by None fact = record { asks = λ item waits. asks item (sym (begun_open v.items) ∙ waits); meets = tt }
         by (Some number) fact =
-            wish_so number fact asks (work_at (begun v.items) number) (sym (ap (λ (ws : List Work). asked_at ws number) (begun_works v.items ∙ has)))
+            wish_so number fact asks (work_at (items_begin v.items) number) (sym (ap (λ (ws : List Work). asked_at ws number) (begun_works v.items ∙ has)))
 
     event_so : (what : Do) → v.items.works ≡ works → Asks v → Turned (events.on_event v what)
     event_so Begin has asks = begin_so has asks

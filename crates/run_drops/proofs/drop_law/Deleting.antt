@@ -15,7 +15,7 @@ use Rattle.loss_law.proofs.Growing.{Base}
 use Rattle.loss_law.proofs.Interval.{passed}
 use Rattle.node_logs.specs.node_log_tie.RegistryEvents.{RegistrySeen}
 use Rattle.node_logs.specs.node_log_tie.Sight.{BodySeen, DeleteSeen}
-use Rattle.registry.specs.Board.{all_news}
+use Rattle.registry.specs.Board.{board_slots}
 use Rattle.registry.specs.BoardState.{BoardState}
 use Rattle.segment_format.specs.declared.segment.Segment.{Segment}
 use Rattle.token_protocol.specs.Basics.{In}
@@ -54,7 +54,7 @@ module _ (base : Setting) (e : Estate AnyNode) (lines : HasLines base e) (r : Ro
   -- below the least horizon that this board has of the log, where the small world sees that
   pub deleted_below : (b : BoardState) → RegistrySeen (setting base e r) ((lines r there).scene count).net b → (name : SegName)
       → name.log ≡ record { 0 = log_by r } → (p : Packet) (d : Delete) → In p (moment e count).sent → p.body ≡ body.Delete d → d.name ≡ name
-      → name.seq < least_horizon (log_by r) (all_news b)
+      → name.seq < least_horizon (log_by r) (board_slots b)
   deleted_below b seen name own p d among fact same =
       let told : BodySeen (setting base e r) (asker_by r ((lines r there).scene count)) ((lines r there).scene count).net p.from p.to p.body =
       ((lines r there).stands count).facts p among in

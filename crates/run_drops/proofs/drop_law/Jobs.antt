@@ -3,13 +3,13 @@ use Rattle.std.proofs.Common.{◌≡◌, ◌++◌, ◌==◌, not, ℕ, Bool, tru
 use Rattle.std.specs.List.{AllByRecursion}
 use Rattle.cleaner_job.specs.declared.hand.Hand.{Hand}
 use Rattle.cleaner_job.specs.declared.job.Job.{Job}
-use Rattle.cleaner_job.specs.Hands.{checks, checks_under, fetches, fetches_for, is_in_hand, kept_ask, taken_over, takes_in_hand}
-use Rattle.cleaner_job.specs.Jobs.{dropped, drops, hand_checks_in, hand_moved, hand_of, is_whole, job_checks, job_moved}
+use Rattle.cleaner_job.specs.Hands.{hand_check, checks_under, fetches, hand_fetch, is_in_hand, kept_ask, take_over, take_in_hand}
+use Rattle.cleaner_job.specs.Jobs.{dropped, act_dropped, hand_checks_in, hand_moved, hand_of, is_whole, job_check, note_moved}
 use Rattle.cleaner_job.specs.Starting.{cleaner_log}
 use Rattle.cleaner_node.specs.CleanerEvents.{serves_on}
 use Rattle.cleaner_serving.specs.declared.emptying.Emptying.{Emptying}
-use Rattle.cleaner_serving.specs.EmptyingEvents.{fed, settles, writes, writes_one}
-use Rattle.cleaner_serving.specs.Jobs.{Done, asks_check, asks_list, asks_maps, asks_usage, check_sent, checked_in, checks_block, cleans, deletes, finishes, holds, holds_in, job_takes, moves, puts, puts_block, reads, says, takes_in}
+use Rattle.cleaner_serving.specs.EmptyingEvents.{fed, emptying_settle, emptying_write, write_one}
+use Rattle.cleaner_serving.specs.Jobs.{Done, ask_check, ask_list, ask_maps, ask_usage, check_sent, checked_in, emptying_check, emptying_clean, emptying_delete, emptying_finish, emptying_hold, holds_in, emptying_take, move_all, emptying_put, put_block, emptying_read, says, takes_in}
 use Rattle.client_log.specs.declared.input.In.{In as LogIn}
 use Rattle.client_log.specs.declared.input.In.TheVariants as log_in
 use Rattle.client_log.specs.declared.output.Out.{Out as LogOut}
@@ -18,18 +18,18 @@ use Rattle.client_log.specs.Transition as log
 use Rattle.delta_feed.specs.declared.output.Out.{Out as FeedOut}
 use Rattle.delta_feed.specs.declared.output.Out.TheVariants.{Range}
 use Rattle.delta_feed.specs.FeedState.{FeedState}
-use Rattle.delta_feed.specs.Transition.{ticked}
+use Rattle.delta_feed.specs.Transition.{feed_tick}
 use Rattle.group_map.specs.declared.group.Group.{Group}
 use Rattle.group_map.specs.GroupMapState.{GroupMapState}
 use Rattle.group_map.specs.Groups.{known_group}
 use Rattle.log_owner.specs.declared.promised.Managers.{Managers}
 use Rattle.log_owner.specs.Opening.{stored}
-use Rattle.log_owner.specs.Sending.{fetch, name_of, pushes_all, range}
+use Rattle.log_owner.specs.Sending.{fetch, name_of, push_all, range}
 use Rattle.node_base.specs.Beginning.{answers_unanswered}
 use Rattle.node_base.specs.declared.effects.Effect.{Effect}
 use Rattle.node_base.specs.declared.effects.Effect.TheVariants.{Send, Does}
 use Rattle.node_base.specs.declared.questions.Questions.{Questions}
-use Rattle.segment_reading.specs.Reading.{ReadingState, to_ask}
+use Rattle.segment_reading.specs.Reading.{ReadingState, reading_unanswered}
 use Rattle.stripe_cleaner.specs.declared.input.In.{In}
 use Rattle.stripe_cleaner.specs.declared.input.In.TheVariants as input
 use Rattle.stripe_cleaner.specs.declared.output.Out.{Out}
@@ -108,15 +108,15 @@ module _ (acted : Acted) (seg : SegRef) where
     flag : FlagSo acted hand
     other : NoOtherInHand hand seg.name
 
-  taken_fresh : (q : Questions) (group : Option Group) → Takes (taken_over q seg group).hand
+  taken_fresh : (q : Questions) (group : Option Group) → Takes (take_over q seg group).hand
   taken_fresh q None = record { flag = tt; other = tt }
   taken_fresh q (Some group) = record { flag = λ fact. absurd (let clash : false ≡ true = fact in absurd (cc)); other = refl }
 
-  takes : (groups : Option GroupMapState) (q : Questions) (hand : Option Hand) → FlagSo acted hand → Takes (takes_in_hand groups q hand seg).hand
-  unfolding takes_in_hand
+  takes : (groups : Option GroupMapState) (q : Questions) (hand : Option Hand) → FlagSo acted hand → Takes (take_in_hand groups q hand seg).hand
+  unfolding take_in_hand
   takes groups q None flag = taken_fresh q (known_group groups seg.group)
   takes groups q (Some hand) flag =
-      by_test (λ t. Takes t.hand) (is_in_hand (Some hand) seg) (record { hand = Some hand; questions = q }) (taken_over q seg (known_group groups seg.group))
+      by_test (λ t. Takes t.hand) (is_in_hand (Some hand) seg) (record { hand = Some hand; questions = q }) (take_over q seg (known_group groups seg.group))
       (λ t. record { flag = flag; other = one_name hand.seg.name seg.name (and_first (same_name hand.seg.name seg.name) (hand.seg.group == seg.group) t) })
       (λ _. taken_fresh q (known_group groups seg.group))
 
@@ -126,9 +126,9 @@ fetches_quiet : (hand : Option Hand) → AllByRecursion Quiet (fetches hand)
 fetches_quiet None = tt
 fetches_quiet (Some hand) = each hand.reading
   where
-    each : (r : Option ReadingState) → AllByRecursion Quiet (fetches_for hand.seg.name r)
+    each : (r : Option ReadingState) → AllByRecursion Quiet (hand_fetch hand.seg.name r)
     each None = tt
-    each (Some r) = all_map Quiet (fetch hand.seg.name r.ask) (λ server. tt) (to_ask r)
+    each (Some r) = all_map Quiet (fetch hand.seg.name r.ask) (λ server. tt) (reading_unanswered r)
 
 pub hand_fetches : (hand : Option Hand) → AllByRecursion Quiet (fetches hand)
 hand_fetches hand = fetches_quiet hand
@@ -144,8 +144,8 @@ answers_quiet (Some number) answer = (tt, tt)
 range_quiet : (managers : Managers) (o : FeedOut) → Quiet (range managers o)
 range_quiet managers (Range slot past upto rows) = tt
 
-pub pushes_quiet : (managers : Managers) (feed : FeedState) → AllByRecursion Quiet (pushes_all managers feed)
-pushes_quiet managers feed = all_map Quiet (range managers) (range_quiet managers) (ticked feed)
+pub pushes_quiet : (managers : Managers) (feed : FeedState) → AllByRecursion Quiet (push_all managers feed)
+pushes_quiet managers feed = all_map Quiet (range managers) (range_quiet managers) (feed_tick feed)
 
 -- ---- what the job says
 
@@ -180,7 +180,7 @@ module _ (acted : Acted) (p : phases.Phase) where
       → Says acted p (record { state = holds_in e (Some job) seg; outs = fetches (hand_of (holds_in e (Some job) seg).job) })
   segment_read e seg reads job flag at =
       let t = takes acted seg e.maps.groups e.lasting.questions job.hand flag in
-      let hand : Option Hand = (takes_in_hand e.maps.groups e.lasting.questions job.hand seg).hand in
+      let hand : Option Hand = (take_in_hand e.maps.groups e.lasting.questions job.hand seg).hand in
       quiet_says _
       (record {
         so = record { flag = t.flag; phase = read_phase hand seg job.cleaning.phase (subst (λ q. Reads q seg) (sym at) reads) t.other };
@@ -189,19 +189,19 @@ module _ (acted : Acted) (p : phases.Phase) where
       (fetches_quiet hand)
 
   module _ (e : Emptying) (its : SaidJob acted p e.job) where
-    maps_asked : (o : Option Job) → SaidJob acted p o → Says acted p (asks_maps e o)
+    maps_asked : (o : Option Job) → SaidJob acted p o → Says acted p (ask_maps e o)
     maps_asked None k = quiet_says (still e) its tt
-    maps_asked (Some job) k = quiet_says (asks_maps e (Some job)) (record { so = record { flag = k.so.flag; phase = k.so.phase }; at = k.at }) (tt, tt)
+    maps_asked (Some job) k = quiet_says (ask_maps e (Some job)) (record { so = record { flag = k.so.flag; phase = k.so.phase }; at = k.at }) (tt, tt)
 
-    list_asked : (o : Option Job) (server : ℕ) → SaidJob acted p o → Says acted p (asks_list e o server)
+    list_asked : (o : Option Job) (server : ℕ) → SaidJob acted p o → Says acted p (ask_list e o server)
     list_asked None server k = quiet_says (still e) its tt
     list_asked (Some job) server k =
-        quiet_says (asks_list e (Some job) server) (record { so = record { flag = k.so.flag; phase = k.so.phase }; at = k.at }) (tt, tt)
+        quiet_says (ask_list e (Some job) server) (record { so = record { flag = k.so.flag; phase = k.so.phase }; at = k.at }) (tt, tt)
 
-    usage_asked : (o : Option Job) (slot : ℕ) → SaidJob acted p o → Says acted p (asks_usage e o slot)
+    usage_asked : (o : Option Job) (slot : ℕ) → SaidJob acted p o → Says acted p (ask_usage e o slot)
     usage_asked None slot k = quiet_says (still e) its tt
     usage_asked (Some job) slot k =
-        quiet_says (asks_usage e (Some job) slot) (record { so = record { flag = k.so.flag; phase = k.so.phase }; at = k.at }) (tt, tt)
+        quiet_says (ask_usage e (Some job) slot) (record { so = record { flag = k.so.flag; phase = k.so.phase }; at = k.at }) (tt, tt)
 
     -- a segment is read
     reads_said : (seg : SegRef) → Reads p seg → (o : Option Job) → SaidJob acted p o
@@ -219,11 +219,11 @@ module _ (acted : Acted) (p : phases.Phase) where
 
     job_checked : (job : Job) (q : Questions) (block : BlockId) (hand : Option Hand) → job.hand ≡ hand → JobSo acted job
         → JobSo acted (hand_checks_in job q hand block).job
-    unfolding checks
+    unfolding hand_check
     job_checked job q block None same k = k
     job_checked job q block (Some hand) same k =
-        job_same acted job (Some (checks hand q block).hand)
-        (subst (λ g. SameHand g (Some (checks hand q block).hand)) (sym same) (same_checked hand q block (kept_ask hand block))) k
+        job_same acted job (Some (hand_check hand q block).hand)
+        (subst (λ g. SameHand g (Some (hand_check hand q block).hand)) (sym same) (same_checked hand q block (kept_ask hand block))) k
 
     phase_checked : (job : Job) (q : Questions) (block : BlockId) (hand : Option Hand)
         → (hand_checks_in job q hand block).job.cleaning.phase ≡ job.cleaning.phase
@@ -236,7 +236,7 @@ module _ (acted : Acted) (p : phases.Phase) where
 
     check_asked : (block : BlockId) (place : Place) (o : Option Job) → SaidJob acted p o
         → Says acted p (check_sent (checked_in e o block).state block place (checked_in e o block).ask)
-    unfolding job_checks
+    unfolding job_check
     check_asked block place None k = quiet_says (still e) its tt
     check_asked block place (Some job) k =
         sent_check (checked_in e (Some job) block).state block place (checked_in e (Some job) block).ask (record {
@@ -260,7 +260,7 @@ module _ (acted : Acted) (p : phases.Phase) where
       word = Send (Server server) (body.Delete (record { name = name })) ∷ []
 
       abbrev deleted_by : Option Hand → Bool → Done
-      deleted_by hand whole = record { state = record e { job = Some (record job { hand = dropped hand }) }; outs = drops whole name ++ word }
+      deleted_by hand whole = record { state = record e { job = Some (record job { hand = dropped hand }) }; outs = act_dropped whole name ++ word }
 
       same_dropped : (hand : Hand) (q : phases.Phase) → PhaseSo (Some hand) q → PhaseSo (Some (record hand { dropped = true })) q
       same_dropped hand Greeting k = tt
@@ -289,7 +289,7 @@ module _ (acted : Acted) (p : phases.Phase) where
       by_hand None own k flag = absurd own
       by_hand (Some hand) own k flag = by_flag hand own k flag hand.dropped refl
 
-    segment_deleted : (server : ℕ) (name : SegName) → Deletes p name → (o : Option Job) → SaidJob acted p o → Says acted p (deletes e o server name)
+    segment_deleted : (server : ℕ) (name : SegName) → Deletes p name → (o : Option Job) → SaidJob acted p o → Says acted p (emptying_delete e o server name)
     segment_deleted server name deleted None k = quiet_says (still e) its tt
     segment_deleted server name deleted (Some job) k = record {
       goes = by_hand job server name job.hand (in_hand job.hand name p deleted (subst (PhaseSo job.hand) k.at k.so.phase)) k.so.phase k.so.flag;
@@ -298,9 +298,9 @@ module _ (acted : Acted) (p : phases.Phase) where
 
   -- ---- live blocks are moved
 
-  put_said : (e : Emptying) (i : LogIn) → SaidJob acted p e.job → Says acted p (puts e i)
-  unfolding puts
-  put_said e i h = quiet_says (puts e i) h (all_flat_map Quiet stored stored_quiet (log.transition e.log i).outs)
+  put_said : (e : Emptying) (i : LogIn) → SaidJob acted p e.job → Says acted p (emptying_put e i)
+  unfolding emptying_put
+  put_said e i h = quiet_says (emptying_put e i) h (all_flat_map Quiet stored stored_quiet (log.transition e.log i).outs)
 
 -- one thing after the other
 says_on : (acted : Acted) (p : phases.Phase) (d f : Done) → Says acted p d
@@ -310,24 +310,24 @@ says_on acted p d f g next =
     record { goes = goes_on acted (serves_on d) (serves_on f) g.goes k.goes; at = k.at }
 
 puts_said : (p : phases.Phase) (blocks : List (BlockId × Entry × Option (List ℕ))) (acted : Acted) (e : Emptying) → SaidJob acted p e.job
-    → Says acted p (steps puts_block e blocks)
-unfolding puts_block
+    → Says acted p (steps put_block e blocks)
+unfolding put_block
 puts_said p [] acted e h = quiet_says acted p (still e) h tt
 puts_said p (one ∷ blocks) acted e h =
-    says_on acted p (puts_block e one) (steps puts_block (puts_block e one).state blocks) (put_said acted p e (log_in.Put one.0 one.1 one.2) h)
-    (λ more k. puts_said p blocks more (puts_block e one).state k)
+    says_on acted p (put_block e one) (steps put_block (put_block e one).state blocks) (put_said acted p e (log_in.Put one.0 one.1 one.2) h)
+    (λ more k. puts_said p blocks more (put_block e one).state k)
 
 moves_said : (acted : Acted) (p : phases.Phase) (e : Emptying) (blocks : List (BlockId × Entry × Option (List ℕ))) → SaidJob acted p e.job
-    → Says acted p (moves e blocks)
-unfolding moves
+    → Says acted p (move_all e blocks)
+unfolding move_all
 moves_said acted p e blocks h =
-    says_on acted p (steps puts_block e blocks) (puts (steps puts_block e blocks).state log_in.Seal) (puts_said p blocks acted e h)
-    (λ more k. put_said more p (steps puts_block e blocks).state log_in.Seal k)
+    says_on acted p (steps put_block e blocks) (emptying_put (steps put_block e blocks).state log_in.Seal) (puts_said p blocks acted e h)
+    (λ more k. put_said more p (steps put_block e blocks).state log_in.Seal k)
 
 -- ---- all that it says
 
 one_said : (acted : Acted) (p : phases.Phase) (e : Emptying) (o : Out) → SaidJob acted p e.job → OutSo p o → Says acted p (says e o)
-unfolding says reads holds asks_check checks_block
+unfolding says emptying_read emptying_hold ask_check emptying_check
 one_said acted p e out.Hello h due = maps_asked acted p e h e.job h
 one_said acted p e (out.List server) h due = list_asked acted p e h e.job server h
 one_said acted p e (out.UsageAsk slot) h due = usage_asked acted p e h e.job slot h
@@ -336,7 +336,7 @@ one_said acted p e (out.Check block place) h due = check_asked acted p e h block
 one_said acted p e (out.Move blocks) h due = moves_said acted p e blocks h
 one_said acted p e (out.Delete server name) h due = segment_deleted acted p e h server name due e.job h
 one_said acted p e (out.Finished count) h due =
-    quiet_says acted p (finishes e count) (record { so = tt; at = tt }) (answers_quiet e.lasting.items.unanswered _)
+    quiet_says acted p (emptying_finish e count) (record { so = tt; at = tt }) (answers_quiet e.lasting.items.unanswered _)
 
 all_said : (p : phases.Phase) (outs : List Out) → AllByRecursion (OutSo p) outs → (acted : Acted) (e : Emptying) → SaidJob acted p e.job
     → Says acted p (steps says e outs)
@@ -354,7 +354,7 @@ module _ (acted : Acted) (e : Emptying) (its : JobIn acted e.job) (given : In) w
   -- a further segment begins to be read
   begun : (p : phases.Phase) (job : Job) (outs : List Out) → FlagSo acted job.hand → job.cleaning.phase ≡ p → AllByRecursion (OutSo p) outs
       → (seg : SegRef) → outs ≡ out.Fetch seg ∷ [] → Goes acted (serves_on (steps says (record e { job = Some job }) outs))
-  unfolding says reads holds
+  unfolding says emptying_read emptying_hold
   begun p job outs flag at due seg said =
       subst (λ os. AllByRecursion (OutSo p) os → Goes acted (serves_on (steps says (record e { job = Some job }) os))) (sym said)
       (λ fetched. let f : Emptying = record e { job = Some job } in
@@ -375,13 +375,13 @@ module _ (acted : Acted) (e : Emptying) (its : JobIn acted e.job) (given : In) w
         | inr begins ↦ begun r.state.phase f r.outs k.flag refl t.outs begins.seg begins.said
       ]
 
-  pub cleaned : InputIn e.job given → Goes acted (serves_on (cleans e given))
-  unfolding cleans job_takes
+  pub cleaned : InputIn e.job given → Goes acted (serves_on (emptying_clean e given))
+  unfolding emptying_clean emptying_take
   cleaned one = taken_goes e.job its one
 
 -- ---- the log takes an input
 
-pub moved_job : (acted : Acted) (o : Option Job) → JobIn acted o → JobIn acted (job_moved o)
+pub moved_job : (acted : Acted) (o : Option Job) → JobIn acted o → JobIn acted (note_moved o)
 moved_job acted None k = tt
 moved_job acted (Some job) k = job_same acted job (hand_moved job.hand) (same_moved job.hand) k
   where
@@ -389,31 +389,31 @@ moved_job acted (Some job) k = job_same acted job (hand_moved job.hand) (same_mo
     same_moved None = tt
     same_moved (Some h) = (refl, refl)
 
-settled_goes : (acted : Acted) (e : Emptying) (end : End) (rows : List (BlockId × Entry)) → JobIn acted e.job → Goes acted (serves_on (settles e end rows))
-unfolding settles
+settled_goes : (acted : Acted) (e : Emptying) (end : End) (rows : List (BlockId × Entry)) → JobIn acted e.job → Goes acted (serves_on (emptying_settle e end rows))
+unfolding emptying_settle
 settled_goes acted e end rows h =
     let f : Emptying = fed e end rows in
-    let said : List Effect = Does (Filed (name_of cleaner_log end)) ∷ pushes_all f.promised.managers f.feed in
+    let said : List Effect = Does (Filed (name_of cleaner_log end)) ∷ push_all f.promised.managers f.feed in
     let first = quiet_goes acted (serves_on (record { state = f; outs = said })) (moved_job acted e.job h) (tt, pushes_quiet f.promised.managers f.feed) in
-    goes_on acted (serves_on (record { state = f; outs = said })) (serves_on (cleans f input.Moved)) first
+    goes_on acted (serves_on (record { state = f; outs = said })) (serves_on (emptying_clean f input.Moved)) first
     (cleaned (Also acted said) f first.state input.Moved (moved_in f.job))
   where
     moved_in : (o : Option Job) → InputIn o input.Moved
     moved_in None = tt
     moved_in (Some job) = tt
 
-one_written : (acted : Acted) (e : Emptying) (o : LogOut) → JobIn acted e.job → Goes acted (serves_on (writes_one e o))
-unfolding writes_one
-one_written acted e (log_out.Send fragment member) h = quiet_goes acted (serves_on (writes_one e (log_out.Send fragment member))) h (tt, tt)
+one_written : (acted : Acted) (e : Emptying) (o : LogOut) → JobIn acted e.job → Goes acted (serves_on (write_one e o))
+unfolding write_one
+one_written acted e (log_out.Send fragment member) h = quiet_goes acted (serves_on (write_one e (log_out.Send fragment member))) h (tt, tt)
 one_written acted e (log_out.Settled end rows) h = settled_goes acted e end rows h
 
-all_written : (outs : List LogOut) (acted : Acted) (e : Emptying) → JobIn acted e.job → Goes acted (serves_on (steps writes_one e outs))
+all_written : (outs : List LogOut) (acted : Acted) (e : Emptying) → JobIn acted e.job → Goes acted (serves_on (steps write_one e outs))
 all_written [] acted e h = quiet_goes acted (serves_on (still e)) h tt
 all_written (o ∷ outs) acted e h =
     let g = one_written acted e o h in
-    goes_on acted (serves_on (writes_one e o)) (serves_on (steps writes_one (writes_one e o).state outs)) g
-    (all_written outs (Also acted (writes_one e o).outs) (writes_one e o).state g.state)
+    goes_on acted (serves_on (write_one e o)) (serves_on (steps write_one (write_one e o).state outs)) g
+    (all_written outs (Also acted (write_one e o).outs) (write_one e o).state g.state)
 
-pub written : (acted : Acted) (e : Emptying) (i : LogIn) → JobIn acted e.job → Goes acted (serves_on (writes e i))
-unfolding writes
+pub written : (acted : Acted) (e : Emptying) (i : LogIn) → JobIn acted e.job → Goes acted (serves_on (emptying_write e i))
+unfolding emptying_write
 written acted e i h = (let r = log.transition e.log i in all_written r.outs acted (record e { log = r.state }) h)

@@ -4,15 +4,15 @@ use Rattle.std.specs.List.{AllByRecursion}
 use Rattle.cleaner_job.specs.declared.hand.Hand.{Hand}
 use Rattle.cleaner_job.specs.declared.job.Job.{Job}
 use Rattle.cleaner_job.specs.declared.lasting.Lasting.{Lasting}
-use Rattle.cleaner_job.specs.Hands.{confirmed_by, hand_confirmed, hand_hears, hears_by}
-use Rattle.cleaner_job.specs.Jobs.{greeted, hand_confirmed_in, hand_hears_in, hand_of, job_confirmed, job_hears, job_read, read_over}
-use Rattle.cleaner_node.specs.CleanerEvents.{Went_to, restarts, takes}
+use Rattle.cleaner_job.specs.Hands.{confirmed_by, hand_confirmed, hand_hear, hears_by}
+use Rattle.cleaner_job.specs.Jobs.{note_greeted, hand_confirmed_in, hand_hears_in, hand_of, job_confirmed, job_hear, note_read, read_over}
+use Rattle.cleaner_node.specs.CleanerEvents.{Went_to, restart, takes}
 use Rattle.cleaner_node.specs.declared.cleaner.Cleaner.{Cleaner}
 use Rattle.cleaner_node.specs.declared.cleaner.Phase.{Phase}
 use Rattle.cleaner_node.specs.declared.cleaner.Phase.TheVariants.{Down, Opening, Serving}
 use Rattle.cleaner_serving.specs.declared.emptying.Emptying.{Emptying}
-use Rattle.cleaner_serving.specs.EmptyingEvents.{promises}
-use Rattle.cleaner_serving.specs.Jobs.{confirmed, confirmed_in, told_by, told_in, with_questions}
+use Rattle.cleaner_serving.specs.EmptyingEvents.{emptying_promise}
+use Rattle.cleaner_serving.specs.Jobs.{confirmed, confirmed_in, emptying_hear, told_in, with_questions}
 use Rattle.delta_feed.specs.Transition.{new_epoch}
 use Rattle.group_map.specs.GroupMapState.{GroupMapState}
 use Rattle.log_owner.proofs.Behaving as behaving
@@ -23,7 +23,7 @@ use Rattle.log_owner.specs.declared.opened.Progress.TheVariants as progress
 use Rattle.log_owner.specs.declared.opening.Opening as openings
 use Rattle.log_owner.specs.Opening.{Went}
 use Rattle.log_owner.specs.Promised.{epoch_of}
-use Rattle.node_base.specs.Asking.{drawn, next_ask}
+use Rattle.node_base.specs.Asking.{draw, next_ask}
 use Rattle.node_base.specs.declared.effects.Effect.{Effect}
 use Rattle.node_base.specs.declared.effects.Effect.TheVariants.{Send, Answer as Answers, Lose, Does}
 use Rattle.node_base.specs.declared.items.Items.{Items}
@@ -64,15 +64,15 @@ confirmed_same hand (Some r) ask = (refl, refl)
 module _ (acted : Acted) where
   heard_in : (job : Job) (hand : Option Hand) (groups : GroupMapState) (ask server : ℕ) (t : Told) → job.hand ≡ hand → JobSo acted job
       → JobSo acted (hand_hears_in job hand groups ask server t).state
-  unfolding hand_hears
+  unfolding hand_hear
   heard_in job None groups ask server t same k = k
   heard_in job (Some hand) groups ask server t same k =
-      job_same acted job (Some (hand_hears hand groups ask server t).state)
-      (subst (λ h. SameHand h (Some (hand_hears hand groups ask server t).state)) (sym same) (heard_same hand hand.reading groups ask server t)) k
+      job_same acted job (Some (hand_hear hand groups ask server t).state)
+      (subst (λ h. SameHand h (Some (hand_hear hand groups ask server t).state)) (sym same) (heard_same hand hand.reading groups ask server t)) k
 
   told_so : (e : Emptying) (o : Option Job) (groups : Option GroupMapState) (ask server : ℕ) (t : Told) → JobIn acted e.job → JobIn acted o
       → JobIn acted (told_in e o groups ask server t).state.job
-  unfolding job_hears
+  unfolding job_hear
   told_so e None groups ask server t its k = its
   told_so e (Some job) None ask server t its k = its
   told_so e (Some job) (Some groups) ask server t its k = heard_in job job.hand groups ask server t refl k
@@ -89,7 +89,7 @@ module _ (acted : Acted) where
   confirmed_so e None ask its k = its
   confirmed_so e (Some job) ask its k = confirmed_hand job job.hand ask refl k
 
-  read_so : (o : Option Job) → JobIn acted o → JobIn acted (job_read o)
+  read_so : (o : Option Job) → JobIn acted o → JobIn acted (note_read o)
   read_so None k = tt
   read_so (Some job) k = job_same acted job (read_over job.hand) (over job.hand) k
     where
@@ -97,9 +97,9 @@ module _ (acted : Acted) where
       over None = tt
       over (Some h) = (refl, refl)
 
-  greeted_so : (o : Option Job) → JobIn acted o → JobIn acted (greeted o)
-  greeted_so None k = tt
-  greeted_so (Some job) k = record { flag = k.flag; phase = k.phase }
+  note_greeted_so : (o : Option Job) → JobIn acted o → JobIn acted (note_greeted o)
+  note_greeted_so None k = tt
+  note_greeted_so (Some job) k = record { flag = k.flag; phase = k.phase }
 
 -- ---- what is read is of the segment in hand
 
@@ -107,7 +107,7 @@ abbrev HasIn : Option Job → Type 0
 HasIn None = ⊥
 HasIn (Some job) = HasOne job.hand
 
-read_has : (o : Option Job) → HasIn o → HasIn (job_read o)
+read_has : (o : Option Job) → HasIn o → HasIn (note_read o)
 read_has None one = absurd one
 read_has (Some job) one = over job.hand one
   where
@@ -122,7 +122,7 @@ hand_has job (Some hand) groups ask server t s fact = tt
 
 told_has : (e : Emptying) (o : Option Job) (groups : Option GroupMapState) (ask server : ℕ) (t : Told) (s : Segment)
     → (told_in e o groups ask server t).next ≡ next.Read s → HasIn (told_in e o groups ask server t).state.job
-unfolding job_hears
+unfolding job_hear
 told_has e None groups ask server t s fact = (let clash : next.Wait ≡ next.Read s = fact in absurd (cc))
 told_has e (Some job) None ask server t s fact = (let clash : next.Wait ≡ next.Read s = fact in absurd (cc))
 told_has e (Some job) (Some groups) ask server t s fact = hand_has job job.hand groups ask server t s fact
@@ -144,10 +144,10 @@ none_in (Some job) _ none = tt
 
 module _ (first : Cleaner) (what : Do) where
   given_so : (e : Emptying) (given : In) → Given first what e given → InputIn e.job given
-  unfolding told_by
+  unfolding emptying_hear
   given_so e given (SegmentRead {before = before} ask server t segment tells fact) =
-      one_in (job_read (told_by before ask server t).state.job) segment
-      (read_has (told_by before ask server t).state.job (told_has before before.job before.maps.groups ask server t segment fact))
+      one_in (note_read (emptying_hear before ask server t).state.job) segment
+      (read_has (emptying_hear before ask server t).state.job (told_has before before.job before.maps.groups ask server t segment fact))
   given_so e given SegmentLost = none_in e.job (input.Read None) tt
   given_so e given _ = none_in e.job given tt
 
@@ -184,19 +184,19 @@ module _ (first : Cleaner) (what : Do) where
     items_so (Opening l o) items h = tt
     items_so (Serving e) items h = h
 
-    promised_so : (e : Emptying) (slot epoch manager : ℕ) → JobIn acted e.job → JobIn acted (promises e slot epoch manager).job
-    unfolding promises
+    promised_so : (e : Emptying) (slot epoch manager : ℕ) → JobIn acted e.job → JobIn acted (emptying_promise e slot epoch manager).job
+    unfolding emptying_promise
     promised_so e slot epoch manager h =
         by_test (λ (r : Emptying). JobIn acted r.job) (nat_lt (epoch_of e.promised slot) epoch) (record e { feed = new_epoch e.feed slot }) e (λ _. h) (λ _. h)
 
-    restarted : (servers : ℕ) (l : Lasting) (number : ℕ) → Goes acted (restarts servers l number)
-    unfolding restarts
+    restarted : (servers : ℕ) (l : Lasting) (number : ℕ) → Goes acted (restart servers l number)
+    unfolding restart
     restarted servers l number = quiet_goes acted _ tt (tt, tt)
 
     -- ---- each move
 
     move_goes : (phase : Phase) (d : Went_to) → Move first what phase d → So acted phase → Goes acted d
-    unfolding told_by confirmed
+    unfolding emptying_hear confirmed
     move_goes phase d (NotesItems items for) h = quiet_goes acted d (items_so phase items h) tt
     move_goes phase d (AnswersItem number a due) h = quiet_goes acted d h (tt, tt)
     move_goes phase d Falls h = quiet_goes acted d tt tt
@@ -210,14 +210,14 @@ module _ (first : Cleaner) (what : Do) where
     move_goes phase d (Promises {e = e} slot epoch manager by above) h = quiet_goes acted d (promised_so e slot epoch manager h) tt
     move_goes phase d (Reports packet manager m same came from above) h = quiet_goes acted d h (tt, tt)
     move_goes phase d (Acknowledges packet m came) h = quiet_goes acted d h tt
-    move_goes phase d (IsGreeted {e = e}) h = quiet_goes acted d (greeted_so acted e.job h) tt
+    move_goes phase d (IsGreeted {e = e}) h = quiet_goes acted d (note_greeted_so acted e.job h) tt
     move_goes phase d (AsksForMaps taken same) h = quiet_goes acted d h (tt, tt)
     move_goes phase d (TellsDeltas {e = e}) h = quiet_goes acted d h (pushes_quiet e.promised.managers e.feed)
     move_goes phase d (HearsServer {e = e} ask server t tells) h = quiet_goes acted d (told_so acted e e.job e.maps.groups ask server t h h) tt
     move_goes phase d (LeavesReading {e = e}) h = quiet_goes acted d (read_so acted e.job h) tt
     move_goes phase d (ReadsOn {e = e}) h =
         quiet_goes acted d
-        (confirmed_so acted (with_questions e (drawn e.lasting.questions)) e.job (next_ask e.lasting.questions) h h) tt
+        (confirmed_so acted (with_questions e (draw e.lasting.questions)) e.job (next_ask e.lasting.questions) h h) tt
     move_goes phase d (Fetches {e = e}) h = quiet_goes acted d h (hand_fetches (hand_of e.job))
 
   moves_go : (acted : Acted) (phase : Phase) (d : Went_to) → Moves first what phase d → So acted phase → Goes acted d

@@ -5,7 +5,7 @@ use Rattle.std.specs.List.{AllByRecursion, cons_option}
 use Rattle.cleaner_job.specs.declared.hand.Hand.{Hand}
 use Rattle.group_map.specs.GroupMapState.{GroupMapState}
 use Rattle.segment_format.specs.declared.segment.Segment.{Segment}
-use Rattle.stripe_cleaner.specs.Checks.{all_dead, any_asked, checks_from, dead_at, is_awaited, live_at, moved_at, place_in, questions}
+use Rattle.stripe_cleaner.specs.Checks.{all_dead, any_asked, checks_of, dead_at, is_awaited, live_at, moved_at, place_in, questions}
 use Rattle.stripe_cleaner.specs.CleaningState.{CleaningState}
 use Rattle.stripe_cleaner.specs.Counting.{CountingState, all_slots, awaited_slots, chosen, has_usage, is_counted}
 use Rattle.stripe_cleaner.specs.declared.checks.Check.{Check}
@@ -18,7 +18,7 @@ use Rattle.stripe_cleaner.specs.declared.phase.Phase.TheVariants.{Greeting, List
 use Rattle.stripe_cleaner.specs.Job as job
 use Rattle.stripe_cleaner.specs.Job.{Turn, is_moving, same_name}
 use Rattle.stripe_cleaner.specs.JobState.{JobState}
-use Rattle.stripe_cleaner.specs.Listing.{ListingState, begun, is_among, without}
+use Rattle.stripe_cleaner.specs.Listing.{ListingState, listing_begin, is_among, without}
 use Rattle.stripe_cleaner.specs.Promises.{is_above, is_promised}
 use Rattle.stripe_cleaner.specs.Transition as transitions
 use Rattle.xfs_base.proofs.Alls.{all_map}
@@ -100,10 +100,10 @@ module _ (hand : Option Hand) where
   next_so [] j = record { phase = inl tt; outs = (tt, tt) }
   next_so (segment ∷ left) j = record { phase = inr (record { seg = segment; said = refl }); outs = (refl, tt) }
 
-  deleting_so : (j : JobState) (segment : SegRef) → IsInHand hand segment.name → TurnSo (job.deleting j segment)
-  deleting_so j segment h = record {
+  job_delete_so : (j : JobState) (segment : SegRef) → IsInHand hand segment.name → TurnSo (job.job_delete j segment)
+  job_delete_so j segment h = record {
     phase = inl h;
-    outs = all_map (OutSo (job.deleting j segment).state) (λ server. out.Delete server segment.name) (λ server. refl) (job.servers_of j.groups segment);
+    outs = all_map (OutSo (job.job_delete j segment).state) (λ server. out.Delete server segment.name) (λ server. refl) (job.servers_of j.groups segment);
   }
 
   asks_of : (p : Phase) (segment : SegRef) (checks : List Check) → AllByRecursion (OutSo p) (questions segment checks)
@@ -115,29 +115,29 @@ module _ (hand : Option Hand) where
   deleted_so : (server : ℕ) (name : SegName) (j : JobState) (segment : SegRef) (servers : List ℕ) → IsInHand hand segment.name
       → TurnSo (job.on_deleted server name j segment servers)
   deleted_so server name j segment servers h =
-      by_test TurnSo (same_name name segment.name && is_among servers server) (job.left_to_delete j segment (without servers server))
+      by_test TurnSo (same_name name segment.name && is_among servers server) (job.job_go_on j segment (without servers server))
       (still (Deleting j segment servers))
       (λ _. by_test TurnSo (length (without servers server) == 0) (job.next (job.counted j)) (still (Deleting j segment (without servers server)))
       (λ _. next_so j.left (job.counted j)) (λ _. stays (Deleting j segment (without servers server)) h))
       (λ _. stays (Deleting j segment servers) h)
 
-  checking_so : (j : JobState) (segment : SegRef) (checks : List Check) → IsInHand hand segment.name → TurnSo (job.checking j segment checks)
-  unfolding job.checking
-  checking_so j segment checks h =
-      by_test TurnSo (all_dead checks) (job.deleting j segment) (record { state = Checking j segment checks; outs = questions segment checks })
-      (λ _. deleting_so j segment h) (λ _. record { phase = inl h; outs = asks_of (Checking j segment checks) segment checks })
+  job_check_so : (j : JobState) (segment : SegRef) (checks : List Check) → IsInHand hand segment.name → TurnSo (job.job_check j segment checks)
+  unfolding job.job_check
+  job_check_so j segment checks h =
+      by_test TurnSo (all_dead checks) (job.job_delete j segment) (record { state = Checking j segment checks; outs = questions segment checks })
+      (λ _. job_delete_so j segment h) (λ _. record { phase = inl h; outs = asks_of (Checking j segment checks) segment checks })
 
   read_so : (read : Option Segment) (j : JobState) (segment : SegRef) → ReadSo read → NoOtherInHand hand segment.name → TurnSo (job.on_read read j segment)
   read_so None j segment one h = next_so j.left j
   read_so (Some read) j segment one h =
-      by_test TurnSo (same_name read.name segment.name) (job.checking j segment (checks_from 0 read.items)) (still (Reading j segment))
-      (λ _. checking_so j segment (checks_from 0 read.items) (that_one hand segment.name one h)) (λ _. stays (Reading j segment) h)
+      by_test TurnSo (same_name read.name segment.name) (job.job_check j segment (checks_of 0 read.items)) (still (Reading j segment))
+      (λ _. job_check_so j segment (checks_of 0 read.items) (that_one hand segment.name one h)) (λ _. stays (Reading j segment) h)
 
   looked_so : (j : JobState) (segment : SegRef) (was_asked : Bool) (checks : List Check) → IsInHand hand segment.name
-      → TurnSo (job.looked_at j segment was_asked checks)
-  unfolding job.looked_at
+      → TurnSo (job.job_look j segment was_asked checks)
+  unfolding job.job_look
   looked_so j segment was_asked checks h =
-      by_test TurnSo (all_dead checks) (job.deleting j segment) _ (λ _. deleting_so j segment h)
+      by_test TurnSo (all_dead checks) (job.job_delete j segment) _ (λ _. job_delete_so j segment h)
       (λ _. by_test TurnSo (was_asked && not (any_asked checks)) _ (still (Checking j segment checks)) (λ _. record { phase = inl h; outs = (tt, tt) })
       (λ _. stays (Checking j segment checks) h))
 
@@ -164,7 +164,7 @@ module _ (hand : Option Hand) where
   mapped_so groups (Deleting j segment servers) h = record { phase = inl h; outs = tt }
   mapped_so groups Over h = stays Over tt
 
-  heard_so : (l : ListingState) → TurnSo (transitions.listed l)
+  heard_so : (l : ListingState) → TurnSo (transitions.listing_go_on l)
   heard_so l =
       by_test TurnSo (length l.awaited == 0)
       (record {
@@ -178,21 +178,21 @@ module _ (hand : Option Hand) where
             all_slots;
       }) (λ _. stays (Listing l) tt)
 
-  listed_so : (server : ℕ) (held : List FragMeta) (p : Phase) → PhaseSo hand p → TurnSo (transitions.listed_in server held p)
-  listed_so server held (Listing l) h =
-      by_test TurnSo (is_among l.awaited server) (transitions.listed (transitions.heard l server held)) (still (Listing l))
-      (λ _. heard_so (transitions.heard l server held)) (λ _. stays (Listing l) tt)
-  listed_so server held p h = stays p h
+  listing_go_on_so : (server : ℕ) (held : List FragMeta) (p : Phase) → PhaseSo hand p → TurnSo (transitions.listed_in server held p)
+  listing_go_on_so server held (Listing l) h =
+      by_test TurnSo (is_among l.awaited server) (transitions.listing_go_on (transitions.listing_hear l server held)) (still (Listing l))
+      (λ _. heard_so (transitions.listing_hear l server held)) (λ _. stays (Listing l) tt)
+  listing_go_on_so server held p h = stays p h
 
-  counted_so : (count : ℕ) (c : CountingState) → TurnSo (transitions.counted count c)
-  counted_so count c =
+  counting_go_on_so : (count : ℕ) (c : CountingState) → TurnSo (transitions.counting_go_on count c)
+  counting_go_on_so count c =
       by_test TurnSo (is_counted c.usages) (job.next (record { groups = c.groups; left = chosen count c; deleted = 0 })) (still (Counting c))
       (λ _. next_so (chosen count c) (record { groups = c.groups; left = chosen count c; deleted = 0 })) (λ _. stays (Counting c) tt)
 
   counted_in_so : (count slot : ℕ) (counts : List (SegName × ℕ)) (p : Phase) → PhaseSo hand p → TurnSo (transitions.counted_in count slot counts p)
   counted_in_so count slot counts (Counting c) h =
-      by_test TurnSo (has_usage c.usages slot) (still (Counting c)) (transitions.counted count (transitions.usage_with slot counts c))
-      (λ _. stays (Counting c) tt) (λ _. counted_so count (transitions.usage_with slot counts c))
+      by_test TurnSo (has_usage c.usages slot) (still (Counting c)) (transitions.counting_go_on count (transitions.counting_hear slot counts c))
+      (λ _. stays (Counting c) tt) (λ _. counting_go_on_so count (transitions.counting_hear slot counts c))
   counted_in_so count slot counts p h = stays p h
 
   read_in_so : (read : Option Segment) (p : Phase) → ReadSo read → PhaseSo hand p → TurnSo (transitions.read_in read p)
@@ -216,14 +216,14 @@ module _ (hand : Option Hand) where
   deleted_in_so server name (Deleting j segment servers) h = deleted_so server name j segment servers h
   deleted_in_so server name p h = stays p h
 
-  awaits_so : (p : Phase) → AllByRecursion (OutSo p) (transitions.awaits p)
-  awaits_so Greeting = (tt, tt)
-  awaits_so (Listing l) = all_map (OutSo (Listing l)) (λ server. out.List server) (λ server. tt) l.awaited
-  awaits_so (Counting c) = all_map (OutSo (Counting c)) (λ slot. out.UsageAsk slot) (λ slot. tt) (awaited_slots c.usages)
-  awaits_so (Reading j segment) = (refl, tt)
-  awaits_so (Checking j segment checks) = asks_of (Checking j segment checks) segment checks
-  awaits_so (Deleting j segment servers) = all_map (OutSo (Deleting j segment servers)) (λ server. out.Delete server segment.name) (λ server. refl) servers
-  awaits_so Over = tt
+  phase_asking_so : (p : Phase) → AllByRecursion (OutSo p) (transitions.phase_asking p)
+  phase_asking_so Greeting = (tt, tt)
+  phase_asking_so (Listing l) = all_map (OutSo (Listing l)) (λ server. out.List server) (λ server. tt) l.awaited
+  phase_asking_so (Counting c) = all_map (OutSo (Counting c)) (λ slot. out.UsageAsk slot) (λ slot. tt) (awaited_slots c.usages)
+  phase_asking_so (Reading j segment) = (refl, tt)
+  phase_asking_so (Checking j segment checks) = asks_of (Checking j segment checks) segment checks
+  phase_asking_so (Deleting j segment servers) = all_map (OutSo (Deleting j segment servers)) (λ server. out.Delete server segment.name) (λ server. refl) servers
+  phase_asking_so Over = tt
 
   -- ---- all inputs
 
@@ -234,19 +234,19 @@ module _ (hand : Option Hand) where
   unfolding transitions.on_welcome transitions.on_promise transitions.on_usage transitions.on_live transitions.on_dead
   taken_so s (input.Welcome slots groups) one h =
       by_test DoneSo (transitions.is_greeting s.phase && (length slots == 8)) (transitions.welcomed s slots groups) (still s)
-      (λ _. record { phase = inl tt; outs = all_map (OutSo (Listing (begun slots groups))) (λ server. out.List server) (λ server. tt) (begun slots groups).awaited }) (λ _. stays s.phase h)
+      (λ _. record { phase = inl tt; outs = all_map (OutSo (Listing (listing_begin slots groups))) (λ server. out.List server) (λ server. tt) (listing_begin slots groups).awaited }) (λ _. stays s.phase h)
   taken_so s (input.Promise slot epoch) one h =
       by_test DoneSo (is_above s.promised slot epoch) _ (still s) (λ _. forgetting_so slot s.phase h) (λ _. stays s.phase h)
   taken_so s (input.Maps groups) one h = mapped_so groups s.phase h
-  taken_so s (input.Listed server held) one h = listed_so server held s.phase h
+  taken_so s (input.Listed server held) one h = listing_go_on_so server held s.phase h
   taken_so s (input.Usage slot epoch counts) one h =
       by_test DoneSo (is_promised s.promised slot epoch) _ (still s) (λ _. counted_in_so s.count slot counts s.phase h) (λ _. stays s.phase h)
   taken_so s (input.Read read) one h = read_in_so read s.phase one h
   taken_so s (input.Live block epoch entry) one h =
-      by_test DoneSo (transitions.is_heard s.promised block epoch && transitions.may_move entry) _ (still s)
+      by_test DoneSo (transitions.cleaning_hears s.promised block epoch && transitions.may_move entry) _ (still s)
       (λ _. answered_so (live_at block entry) s.phase h) (λ _. stays s.phase h)
   taken_so s (input.Dead block epoch) one h =
-      by_test DoneSo (transitions.is_heard s.promised block epoch) _ (still s) (λ _. answered_so (dead_at block) s.phase h) (λ _. stays s.phase h)
+      by_test DoneSo (transitions.cleaning_hears s.promised block epoch) _ (still s) (λ _. answered_so (dead_at block) s.phase h) (λ _. stays s.phase h)
   taken_so s input.Moved one h = moved_in_so s.phase h
   taken_so s (input.Deleted server name) one h = deleted_in_so server name s.phase h
-  taken_so s input.Tick one h = record { phase = inl h; outs = awaits_so s.phase }
+  taken_so s input.Tick one h = record { phase = inl h; outs = phase_asking_so s.phase }

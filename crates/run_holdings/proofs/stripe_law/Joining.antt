@@ -5,19 +5,19 @@ use Rattle.std.proofs.lemmas.List.{length-append, length-replicate}
 use Rattle.std.proofs.lemmas.List.Elements.{All-append, All-cons, All-head, All-nil, All-tail}
 use Rattle.fragment_sums.proofs.Gone.{length-sum_onto, plain_keeps, weighted_keeps}
 use Rattle.fragment_sums.specs.Sums.{parities, plain, sum_onto, weighted, zeros}
-use Rattle.stripe_code.proofs.Pieces.{length-pieces, pieces_long}
-use Rattle.stripe_code.specs.Joined.{AreOf, HasLengths, excess}
-use Rattle.stripe_code.specs.Stripe.{IsCut, part_of, pieces, stripe_of}
+use Rattle.stripe_code.proofs.Pieces.{length-cut_pieces, pieces_long}
+use Rattle.stripe_code.specs.Joined.{AreOf, HasLengths, too_many}
+use Rattle.stripe_code.specs.Stripe.{IsCut, part_len, cut_pieces, stripe_of}
 use Rattle.xfs_base.proofs.Booleans.{by_test}
 
 -- ---- the stripe of a text
 
 module _ (text : List ℕ) (n parity : ℕ) where
   abbrev part : ℕ
-  part = part_of (length text) (n - parity)
+  part = part_len (length text) (n - parity)
 
   abbrev its : List (List ℕ)
-  its = pieces (n - parity) part text
+  its = cut_pieces (n - parity) part text
 
   abbrev Long : List ℕ → Type 0
   Long f = length f ≡ part
@@ -28,7 +28,7 @@ module _ (text : List ℕ) (n parity : ℕ) where
   length_stripe cut = length-append its (parities parity part its) ∙ by parity cut refl
     where
       count : length its ≡ n - parity
-      count = length-pieces (n - parity) part text
+      count = length-cut_pieces (n - parity) part text
 
       by : (p : ℕ) → IsCut n p → parity ≡ p → length its + length (parities p part its) ≡ n
       by zero c same = absurd (let a = c.some in omega arith)
@@ -75,7 +75,7 @@ long_at size (p ∷ ps) (d ∷ ds) are long =
     here (Some g) fact = ap length fact ∙ All-head (λ (f : List ℕ). length f ≡ size) d ds long
 
 -- where no more are missing than the parity makes good, nothing is refused
-pub none_in_excess : (parity : ℕ) → 1 ≤ parity → parity ≤ 2 → (gone : List ℕ) → length gone ≤ parity → excess parity gone ≡ None
+pub none_in_excess : (parity : ℕ) → 1 ≤ parity → parity ≤ 2 → (gone : List ℕ) → length gone ≤ parity → too_many parity gone ≡ None
 none_in_excess zero some limit gone few = absurd (omega arith)
 none_in_excess (suc zero) some limit [] few = refl
 none_in_excess (suc zero) some limit (a ∷ []) few = refl

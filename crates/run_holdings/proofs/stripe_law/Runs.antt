@@ -41,7 +41,7 @@ use Rattle.segment_format.specs.Text.{text_of}
 use Rattle.stripe_code.proofs.Given.{gives_back}
 use Rattle.stripe_code.specs.Fragments.{fragment_at}
 use Rattle.stripe_code.specs.Joined.{AreOf, HasLengths, missing_from}
-use Rattle.stripe_code.specs.Stripe.{IsCut, part_of, stripe_of}
+use Rattle.stripe_code.specs.Stripe.{IsCut, part_len, stripe_of}
 use Rattle.token_protocol.specs.Basics.{In}
 use Rattle.version_model.specs.declared.act.Act.TheVariants as act
 use Rattle.world_base.specs.Cluster.{cluster_of, place_of}
@@ -116,10 +116,10 @@ module _ (w : World AnyNode) (s : Segment) (group : Group) (cut : IsCut (length 
   cut_so : IsCut (length parts) group.parity
   cut_so = subst (λ k. IsCut k group.parity) (sym many) cut
 
-  lengths : HasLengths (part_of (length (text_of s)) (length parts - group.parity)) parts
+  lengths : HasLengths (part_len (length (text_of s)) (length parts - group.parity)) parts
   lengths =
-      subst (λ k. HasLengths (part_of (length (text_of s)) (k - group.parity)) parts) (sym many)
-      (long_at (part_of (length (text_of s)) (length group.members - group.parity)) parts stripe are
+      subst (λ k. HasLengths (part_len (length (text_of s)) (k - group.parity)) parts) (sym many)
+      (long_at (part_len (length (text_of s)) (length group.members - group.parity)) parts stripe are
       (stripe_long (text_of s) (length group.members) group.parity))
 
   read_back : IsWritten s → lacking w s.name group ≤ group.parity → IsReadBack w s group

@@ -8,7 +8,7 @@ use Rattle.index_tie.specs.Net.{Net, Runs, opening}
 use Rattle.headline.specs.Indexes.{of_log}
 use Rattle.log_scan.specs.Transition.{horizon_of, least_horizon}
 use Rattle.node_slots.specs.node_index_tie.RegistryEvents.{RegistryAgrees}
-use Rattle.registry.specs.Board.{all_news, slot_news}
+use Rattle.registry.specs.Board.{board_slots, slot_news}
 use Rattle.registry.specs.BoardState.{BoardState}
 use Rattle.registry_node.specs.declared.node.RegistryNode.{RegistryNode}
 use Rattle.run_laws.specs.epoch_law.Polls.{HorizonsStay}
@@ -46,7 +46,7 @@ horizon_is x l some limit from_one =
 
 -- ---- the registry's news of the slot
 
-news_among : (b : BoardState) (part : ℕ) → part < slot_count → In (slot_news b part) (all_news b)
+news_among : (b : BoardState) (part : ℕ) → part < slot_count → In (slot_news b part) (board_slots b)
 news_among b zero less = inl refl
 news_among b (suc zero) less = inr (inl refl)
 news_among b (suc (suc zero)) less = inr (inr (inl refl))
@@ -62,11 +62,11 @@ up_to a b c h g = omega arith
 
 -- the registry's horizon of a log is at or above the least one
 pub least_kept : (part : ℕ) (n : Net) (r : RegistryNode) → part < slot_count → RegistryAgrees part n r → (l : ℕ) → 0 < l → l ≤ block_logs
-    → least_horizon l (all_news r.board) ≤ of_log (n.horizon n.epoch) l
+    → least_horizon l (board_slots r.board) ≤ of_log (n.horizon n.epoch) l
 least_kept part n r of_eight agreed l some limit =
     let x = slot_news r.board part in
-    subst (λ (h : List ℕ). least_horizon l (all_news r.board) ≤ of_log h l) agreed.horizon
-    (up_to (least_horizon l (all_news r.board)) (horizon_of l x) (of_log x.horizon l) (least_below l (all_news r.board) x (news_among r.board part of_eight))
+    subst (λ (h : List ℕ). least_horizon l (board_slots r.board) ≤ of_log h l) agreed.horizon
+    (up_to (least_horizon l (board_slots r.board)) (horizon_of l x) (of_log x.horizon l) (least_below l (board_slots r.board) x (news_among r.board part of_eight))
     (horizon_is x l some limit (subst (λ (h : List ℕ). 0 < of_log h l) (sym agreed.horizon) (agreed.horizon_fits.from_one l some limit))))
 
 -- ---- epochs at which nobody is active
@@ -87,9 +87,9 @@ module _ (stay : HorizonsStay) (part : ℕ) (holds : SegRef → Rows) (first : �
 
   -- the horizon of the last epoch at which somebody may be active is at or above the least one
   pub least_since : limit ≤ n.epoch → (r : RegistryNode) → RegistryAgrees part n r → (l : ℕ) → 0 < l → l ≤ block_logs
-      → least_horizon l (all_news r.board) ≤ of_log (n.horizon limit) l
+      → least_horizon l (board_slots r.board) ≤ of_log (n.horizon limit) l
   least_since within r agreed l some less =
-      subst (λ (h : List ℕ). least_horizon l (all_news r.board) ≤ of_log h l) (ap n.horizon (sym end) ∙ same_horizon (n.epoch - limit) (omega arith))
+      subst (λ (h : List ℕ). least_horizon l (board_slots r.board) ≤ of_log h l) (ap n.horizon (sym end) ∙ same_horizon (n.epoch - limit) (omega arith))
       (least_kept part n r of_eight agreed l some less)
     where
       end : limit + (n.epoch - limit) ≡ n.epoch

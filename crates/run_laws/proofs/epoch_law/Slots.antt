@@ -35,8 +35,8 @@ use Rattle.run_laws.specs.epoch_law.Slots.{BothGo, SameSlots, SlotsStartSame, Sl
 
 pub slots_start_same : SlotsStartSame
 slots_start_same first e none =
-    put_each (λ d o. tokens.opening.slots d ≡ None → o ≡ None) (λ d. None) 1 (Some (slot.started 1 [] [] index.zeros))
-    (λ absent. absurd (some_none (slot.started 1 [] [] index.zeros) absent)) (λ d other absent. refl) e none
+    put_each (λ d o. tokens.opening.slots d ≡ None → o ≡ None) (λ d. None) 1 (Some (slot.slot_start 1 [] [] index.zeros))
+    (λ absent. absurd (some_none (slot.slot_start 1 [] [] index.zeros) absent)) (λ d other absent. refl) e none
 
 -- ---- an event
 

@@ -6,7 +6,7 @@ use Rattle.core_world.specs.declared.any_node.AnyNode.{AnyNode}
 use Rattle.core_world.specs.declared.any_node.AnyNode.TheVariants as any
 use Rattle.log_protocol.specs.Tables.{In}
 use Rattle.log_scan.specs.Transition.{least_horizon}
-use Rattle.registry.specs.Board.{slot_news, all_news}
+use Rattle.registry.specs.Board.{slot_news, board_slots}
 use Rattle.script_text.specs.declared.script.Script.{Script}
 use Rattle.registry_node.specs.declared.node.RegistryNode.{RegistryNode}
 use Rattle.version_model.specs.declared.act.Act.{Act}
@@ -151,15 +151,15 @@ module _ (laws : NodeLaws) where
 -- ---- horizons
 
 module _ (reach : Reach) (registry : RegistryNode) (h : RegistryReaches reach registry) where
-  news_reach : SlotsReach reach (all_news registry.board)
+  news_reach : SlotsReach reach (board_slots registry.board)
   news_reach =
       let upper : SlotsReach reach (map (slot_news registry.board) (4 ∷ 5 ∷ 6 ∷ 7 ∷ [])) =
       (h 4 (omega arith), (h 5 (omega arith), (h 6 (omega arith), (h 7 (omega arith), tt))))
       in
       (h 0 (omega arith), (h 1 (omega arith), (h 2 (omega arith), (h 3 (omega arith), upper))))
 
-  pub low_reached : (log : ℕ) → 1 ≤ log → least_horizon log (all_news registry.board) ≤ suc (reach log)
-  low_reached log some = least_low reach log (all_news registry.board) some (omega arith) news_reach
+  pub low_reached : (log : ℕ) → 1 ≤ log → least_horizon log (board_slots registry.board) ≤ suc (reach log)
+  low_reached log some = least_low reach log (board_slots registry.board) some (omega arith) news_reach
 
 pub was_filed : (acts : List Act) (log low : ℕ) → low ≤ suc (filed_upto acts log) → IsFiledUpto acts log → HorizonWasFiled acts log low
 was_filed acts log low upto (inl none) = inl (omega (arith, upto, none))
@@ -167,6 +167,6 @@ was_filed acts log low upto (inr f) = inr (record { name = f.name; among = f.amo
 
 pub horizons_filed : ToldHorizonsWereFiled
 horizons_filed w told registry log among some =
-    was_filed w.acts log (least_horizon log (all_news registry.board))
+    was_filed w.acts log (least_horizon log (board_slots registry.board))
     (low_reached (filed_upto w.acts) registry (all_among (AnyReaches (filed_upto w.acts)) w.nodes (any.Registry registry) told.nodes among) log some)
     (is_filed w.acts log)

@@ -2,7 +2,7 @@
 use Rattle.std.proofs.Common.{◌≡◌, ℕ, true, Some, None, sym, ap, subst, ◌∙◌, arith}
 use Rattle.delta_index.specs.Index.{entry_of, merged_all}
 use Rattle.index_tie.specs.Net as index
-use Rattle.index_tie.proofs.Slots.{rows-indexed_all}
+use Rattle.index_tie.proofs.Slots.{rows-merge_all}
 use Rattle.manager_slots.specs.declared.slot_phase.SlotPhase.{SlotPhase}
 use Rattle.manager_slots.specs.declared.slot_phase.SlotPhase.TheVariants as phase
 use Rattle.node_slots.specs.node_index_tie.ManagerEvents as places
@@ -10,7 +10,7 @@ use Rattle.node_slots.specs.node_index_tie.Pages.{Desk}
 use Rattle.node_slots.specs.node_index_tie.Sight.{DeltasKnown, held_in}
 use Rattle.headline.specs.Filed.{Texts}
 use Rattle.node_slots.specs.node_tie.ManagerEvents as owners
-use Rattle.slot_beliefs.specs.Index.{indexed_all}
+use Rattle.slot_beliefs.specs.Index.{merge_all}
 use Rattle.slot_beliefs.specs.Recalls.{applied_of}
 use Rattle.token_client.specs.State.{is_in_slot}
 use Rattle.token_law.specs.Net as tokens
@@ -49,12 +49,12 @@ module _ (members part : ℕ) (texts : Texts) (t : tokens.Net) (i : index.Net) (
       here : joins_on (applied_of s.applied l) m.first m.upto ≡ true
       here = subst (λ xs. joins_on (applied_of xs l) m.first m.upto ≡ true) (ap (λ (x : SlotState). x.applied) pages) joins
 
-      each_block : (b : BlockId) → is_in_slot part b ≡ true → Covers t.books b l m.upto (entry_at z b) (entry_of (indexed_all z.index m.rows).rows b)
+      each_block : (b : BlockId) → is_in_slot part b ≡ true → Covers t.books b l m.upto (entry_at z b) (entry_of (merge_all z.index m.rows).rows b)
       each_block b inside =
           let holds = held_in part texts in
           let of = of_slot part b inside in
           let v = (good members part holds t i tied).views b of in
-          subst (λ rs. Covers t.books b l m.upto (entry_at z b) (entry_of rs b)) (sym (rows-indexed_all z.index m.rows))
+          subst (λ rs. Covers t.books b l m.upto (entry_at z b) (entry_of rs b)) (sym (rows-merge_all z.index m.rows))
           (subst (λ rs. Covers t.books b l m.upto (entry_of rs b) (entry_of (merged_all rs m.rows) b)) (sym rows)
           (covers t.books i.filed (same members part holds t i tied) (begins members part holds t i tied) b v.state v.reached v.tells s l m.first m.upto m.rows
           (v.slots e s at)

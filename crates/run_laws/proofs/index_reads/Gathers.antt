@@ -35,7 +35,7 @@ use Rattle.token_law.specs.Books.{row_in, said, IsFiled}
 use Rattle.token_law.specs.Net as tokens
 use Rattle.token_law.specs.Owed.{Gathered}
 use Rattle.token_manager.specs.SlotState.{SlotState}
-use Rattle.token_manager.specs.Transition.{started, entry_at}
+use Rattle.token_manager.specs.Transition.{slot_start, entry_at}
 use Rattle.token_protocol.specs.Basics.{In}
 use Rattle.xfs_base.specs.declared.block.BlockId.{BlockId}
 use Rattle.xfs_base.specs.declared.entry.Entry.{Entry}
@@ -71,9 +71,9 @@ module _ (members part : ℕ) (texts : Texts) (t : tokens.Net) (i : index.Net) (
   -- ---- a slot that starts with this index, with what these reports name, and what lies below this horizon
 
   module _ (e : ℕ) (rows : List (BlockId × Entry)) (horizon : List ℕ) (reports : List Heard)
-      (good : Good part (held_in part texts) (with_slot i e (started e rows (beliefs_of reports) (applied_of horizon reports)))) where
+      (good : Good part (held_in part texts) (with_slot i e (slot_start e rows (beliefs_of reports) (applied_of horizon reports)))) where
     abbrev slot : SlotState
-    slot = started e rows (beliefs_of reports) (applied_of horizon reports)
+    slot = slot_start e rows (beliefs_of reports) (applied_of horizon reports)
 
     abbrev applied : ℕ → ℕ
     applied l = applied_in_slot (applied_of horizon reports) l

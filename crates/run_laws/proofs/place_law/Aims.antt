@@ -2,7 +2,7 @@
 use Rattle.std.proofs.Common.{◌≡◌, ◌==◌, ◌&&◌, ℕ, Bool, true, Option, None, Some, refl, sym, ap, subst, ◌∙◌}
 use Rattle.std.specs.List.{AllByRecursion}
 use Rattle.std.proofs.lemmas.Bool.{eqb-true}
-use Rattle.client_call.specs.Reads.{heard, is_fetched, kept_while, same_at, same_target, target_of}
+use Rattle.client_call.specs.Reads.{hear_reading, is_fetched, kept_while, same_at, same_target, target_of}
 use Rattle.node_tellings.proofs.entry_tie.ClientReads.{OutTold, tokens_say}
 use Rattle.node_tellings.proofs.entry_tie.ClientTokens.{FetchesTold, InputTold, tokens_so}
 use Rattle.node_tellings.specs.entry_tie.ClientTells.{FetchTold}
@@ -15,12 +15,12 @@ use Rattle.segment_reading.specs.declared.reading.Stage.{Stage}
 use Rattle.segment_reading.specs.declared.reading.Stage.TheVariants.{Asking, Between, Doubted, Over}
 use Rattle.segment_reading.specs.declared.target.BlockAt.{BlockAt}
 use Rattle.segment_reading.specs.declared.target.Target.{Target}
-use Rattle.segment_reading.specs.Reading.{ReadingState, Step, counts, goes_on, judged, on_answer, on_confirmed, read_as}
+use Rattle.segment_reading.specs.Reading.{ReadingState, Step, counts, goes_on, reading_judge, reading_take, on_confirmed, reading_reads}
 use Rattle.stripe_code.specs.declared.round.RoundState.{RoundState}
 use Rattle.stripe_code.specs.declared.round.RoundState.TheVariants as rounds
 use Rattle.stripe_code.specs.declared.round.Told.{Told as Answered}
 use Rattle.xfs_base.specs.Segments.{same_name}
-use Rattle.stripe_code.specs.Round.{state_of, taken}
+use Rattle.stripe_code.specs.Round.{state_of, round_take}
 use Rattle.token_client.specs.declared.held.Fetch.{Fetch}
 use Rattle.token_client.specs.declared.input.In.{In}
 use Rattle.token_client.specs.declared.input.In.TheVariants as input
@@ -74,21 +74,21 @@ its_place x t block place target has y at f fact its fetch =
 
 -- ---- what is told leaves the target
 
-read_as-target : (r : ReadingState) (found : Option Segment) → (read_as r found).state.target ≡ r.target
-read_as-target r None = refl
-read_as-target r (Some s) = refl
+reading_reads-target : (r : ReadingState) (found : Option Segment) → (reading_reads r found).state.target ≡ r.target
+reading_reads-target r None = refl
+reading_reads-target r (Some s) = refl
 
-judged-target : (r : ReadingState) (groups : GroupMapState) (now : RoundState) → (judged r groups now).state.target ≡ r.target
-judged-target r groups (rounds.Read bytes) = read_as-target r _
-judged-target r groups (rounds.Short pairs) = refl
-judged-target r groups rounds.Waiting = refl
+reading_judge-target : (r : ReadingState) (groups : GroupMapState) (now : RoundState) → (reading_judge r groups now).state.target ≡ r.target
+reading_judge-target r groups (rounds.Read bytes) = reading_reads-target r _
+reading_judge-target r groups (rounds.Short pairs) = refl
+reading_judge-target r groups rounds.Waiting = refl
 
-answered-target : (r : ReadingState) (groups : GroupMapState) (ask server : ℕ) (t : Answered) → (on_answer r groups ask server t).state.target ≡ r.target
-unfolding on_answer
+answered-target : (r : ReadingState) (groups : GroupMapState) (ask server : ℕ) (t : Answered) → (reading_take r groups ask server t).state.target ≡ r.target
+unfolding reading_take
 answered-target r groups ask server t =
     by_test (λ (x : Step). x.state.target ≡ r.target) (counts r ask server t)
-    (judged (record r { round = taken r.round server t }) groups (state_of (taken r.round server t))) (record { state = r; next = next.Wait })
-    (λ _. judged-target (record r { round = taken r.round server t }) groups (state_of (taken r.round server t))) (λ _. refl)
+    (reading_judge (record r { round = round_take r.round server t }) groups (state_of (round_take r.round server t))) (record { state = r; next = next.Wait })
+    (λ _. reading_judge-target (record r { round = round_take r.round server t }) groups (state_of (round_take r.round server t))) (λ _. refl)
 
 pub confirmed-target : (r : ReadingState) (ask : ℕ) → (on_confirmed r ask).state.target ≡ r.target
 unfolding on_confirmed
@@ -101,10 +101,10 @@ confirmed-target r ask = at_stage r.stage
     at_stage Over = refl
 
 pub its_heard : (r : Option ReadingState) (groups : Option GroupMapState) (ask server : ℕ) (a : Answered) (t : TokensState) → Its r t
-    → Its (heard r groups ask server a).reading t
+    → Its (hear_reading r groups ask server a).reading t
 its_heard None groups ask server a t h = its_none t
 its_heard (Some r) None ask server a t h = h
-its_heard (Some r) (Some groups) ask server a t h = its_same r (on_answer r groups ask server a).state t (answered-target r groups ask server a) h
+its_heard (Some r) (Some groups) ask server a t h = its_same r (reading_take r groups ask server a).state t (answered-target r groups ask server a) h
 
 -- ---- targets
 

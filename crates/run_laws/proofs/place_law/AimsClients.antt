@@ -3,19 +3,19 @@ use Rattle.std.proofs.Common.{ℕ, Option, Some, None, is_some, [], ◌∷◌, �
 use Rattle.client_node.specs.declared.client.Client.{Client}
 use Rattle.client_node.specs.declared.phase.Phase.TheVariants.{Down, Opening, Serving as Serves}
 use Rattle.client_node.specs.declared.phase.Phase.{Phase}
-use Rattle.client_node.specs.Phases.{Went_to, after_opening, opened_on, wish_of, down_begins, opening_begins, serving_begins, lasting_of, begins_item, on_begin, on_deliver, on_time, delivers, happens, client_room}
+use Rattle.client_node.specs.Phases.{Went_to, phase_after, opened_on, wish_of, down_begins, opening_begins, serving_begins, lasting_of, begins_item, on_begin, on_deliver, client_tick, client_deliver, happens, client_has_room}
 use Rattle.client_call.specs.declared.call.Going.{Going}
 use Rattle.client_serving.specs.declared.lasting.Lasting.{Lasting}
 use Rattle.client_serving.specs.declared.serving.Serving.{Serving}
-use Rattle.client_running.specs.Opens.{begins_call, call_at, opens}
-use Rattle.client_running.specs.Running.{goes_on}
+use Rattle.client_running.specs.Opens.{begin_call, call_at, opens}
+use Rattle.client_running.specs.Running.{running_go_on}
 use Rattle.client_serving.specs.Sends.{Done, gives}
 use Rattle.log_owner.specs.declared.opened.Progress.{Progress}
 use Rattle.log_owner.specs.declared.opened.Progress.TheVariants as progress
 use Rattle.log_owner.specs.declared.opening.Opening as openings
 use Rattle.log_owner.specs.Opening as opening
 use Rattle.log_owner.specs.Opening.{Went}
-use Rattle.node_base.specs.Beginning.{next_item, begun, work_at, waiting}
+use Rattle.node_base.specs.Beginning.{next_item, items_begin, work_at, items_wait}
 use Rattle.node_base.specs.declared.effects.Effect.TheVariants.{Answer as Answers}
 use Rattle.node_base.specs.declared.peers.Peers.{Peers}
 use Rattle.node_base.specs.Shape.{is_well_formed}
@@ -40,21 +40,21 @@ aimed_so s h = record { other = its_none s.tokens; own = h }
 
 -- ---- openings
 
-after_opening_so : (l : Lasting) (capacity : ℕ) (p : Progress) → Goes (after_opening l capacity p)
-after_opening_so l capacity (progress.Opening o) = tt
-after_opening_so l capacity (progress.Opened o) = λ r at f fact block fetch. absurd (let clash : None ≡ Some r = fact in cc)
-after_opening_so l capacity (progress.Lost seg) = tt
+phase_after_so : (l : Lasting) (capacity : ℕ) (p : Progress) → Goes (phase_after l capacity p)
+phase_after_so l capacity (progress.Opening o) = tt
+phase_after_so l capacity (progress.Opened o) = λ r at f fact block fetch. absurd (let clash : None ≡ Some r = fact in cc)
+phase_after_so l capacity (progress.Lost seg) = tt
 
 opened_on_so : (l : Lasting) (capacity : ℕ) (w : Went) → Goes (opened_on l capacity w)
-opened_on_so l capacity w = after_opening_so (record l { questions = w.questions }) capacity w.progress
+opened_on_so l capacity w = phase_after_so (record l { questions = w.questions }) capacity w.progress
 
 -- ---- the next item begins
 
-begins_so : (s : Serving) (number : ℕ) (going : Option Going) → AnyGoingNew going → Aimed None s → Aimed None (begins_call s number going).state
+begins_so : (s : Serving) (number : ℕ) (going : Option Going) → AnyGoingNew going → Aimed None s → Aimed None (begin_call s number going).state
 begins_so s number None fact h = h
 begins_so s number (Some x) fact h =
-    let t : Serving = record s { lasting = record s.lasting { items = waiting s.lasting.items number } } in
-    serving.runs_so (goes_on t x).state (serving.goes_on_so t x fact (record { other = h.other; own = h.own }))
+    let t : Serving = record s { lasting = record s.lasting { items = items_wait s.lasting.items number } } in
+    serving.run_so (running_go_on t x).state (serving.running_go_on_so t x fact (record { other = h.other; own = h.own }))
 
 call_begun : (s : Serving) (number : ℕ) (wanted : Option Work) → AnyGoingNew (call_at s number wanted)
 call_begun s number None = tt
@@ -64,7 +64,7 @@ opens_so : (s : Serving) (number : ℕ) → Aimed None s → Aimed None (opens s
 unfolding opens
 opens_so s number h =
     by_test (λ (d : Done). Aimed None d.state) (is_some s.lasting.items.unanswered) (gives s (Answers number answer.Busy ∷ []))
-    (begins_call s number (call_at s number (work_at s.lasting.items number))) (λ _. h)
+    (begin_call s number (call_at s number (work_at s.lasting.items number))) (λ _. h)
     (λ _. begins_so s number (call_at s number (work_at s.lasting.items number)) (call_begun s number (work_at s.lasting.items number)) h)
 
 down_so : (servers number : ℕ) (l : Lasting) (wanted : Option Work) → Goes (down_begins servers l number (wish_of wanted))
@@ -86,11 +86,11 @@ serving_so s number None h = (opens_so s number h).own
 
 item_so : (servers : ℕ) (p : Phase) (item : Option ℕ) → PhaseReadsItsFetch p → Goes (begins_item servers p item)
 item_so servers p None h = h
-item_so servers (Down l) (Some number) h = down_so servers number (record l { items = begun l.items }) (work_at (begun l.items) number)
-item_so servers (Opening l o) (Some number) h = opening_so (record l { items = begun l.items }) o number (work_at (begun l.items) number)
+item_so servers (Down l) (Some number) h = down_so servers number (record l { items = items_begin l.items }) (work_at (items_begin l.items) number)
+item_so servers (Opening l o) (Some number) h = opening_so (record l { items = items_begin l.items }) o number (work_at (items_begin l.items) number)
 item_so servers (Serves s) (Some number) h =
-    let t : Serving = record s { lasting = record s.lasting { items = begun s.lasting.items } } in
-    serving_so t number (work_at (begun s.lasting.items) number) (aimed_so t h)
+    let t : Serving = record s { lasting = record s.lasting { items = items_begin s.lasting.items } } in
+    serving_so t number (work_at (items_begin s.lasting.items) number) (aimed_so t h)
 
 -- ---- the events
 
@@ -101,27 +101,27 @@ on_begin_so servers p h = item_so servers p (next_item (lasting_of p).items) h
 on_deliver_so : (capacity : ℕ) (p : Phase) (packet : Packet) → PhaseReadsItsFetch p → Goes (on_deliver capacity p packet)
 unfolding on_deliver
 on_deliver_so capacity (Down l) packet h = tt
-on_deliver_so capacity (Opening l o) packet h = opened_on_so l capacity (opening.on_packet o l.questions packet)
+on_deliver_so capacity (Opening l o) packet h = opened_on_so l capacity (opening.opening_take o l.questions packet)
 on_deliver_so capacity (Serves s) packet h = (serving.packet_so s packet (aimed_so s h)).own
 
-delivers_so : (peers : Peers) (capacity : ℕ) (p : Phase) (packet : Packet) → PhaseReadsItsFetch p → Goes (delivers peers capacity p packet)
-delivers_so peers capacity p packet h =
+client_deliver_so : (peers : Peers) (capacity : ℕ) (p : Phase) (packet : Packet) → PhaseReadsItsFetch p → Goes (client_deliver peers capacity p packet)
+client_deliver_so peers capacity p packet h =
     by_test Goes (is_well_formed peers packet) (on_deliver capacity p packet) (still p) (λ _. on_deliver_so capacity p packet h) (λ _. h)
 
-on_time_so : (capacity : ℕ) (p : Phase) → PhaseReadsItsFetch p → Goes (on_time capacity p)
-unfolding on_time
-on_time_so capacity (Down l) h = tt
-on_time_so capacity (Opening l o) h = opened_on_so l capacity (opening.on_tick o l.questions)
-on_time_so capacity (Serves s) h = (serving.time_so s (aimed_so s h)).own
+client_tick_so : (capacity : ℕ) (p : Phase) → PhaseReadsItsFetch p → Goes (client_tick capacity p)
+unfolding client_tick
+client_tick_so capacity (Down l) h = tt
+client_tick_so capacity (Opening l o) h = opened_on_so l capacity (opening.on_tick o l.questions)
+client_tick_so capacity (Serves s) h = (serving.time_so s (aimed_so s h)).own
 
 happens_so : (client : Client) (what : Do) → PhaseReadsItsFetch client.phase → Goes (happens client what)
 happens_so client Begin h = on_begin_so client.peers.servers client.phase h
-happens_so client (Deliver packet) h = delivers_so client.peers client.cache client.phase packet h
-happens_so client Tick h = on_time_so client.cache client.phase h
+happens_so client (Deliver packet) h = client_deliver_so client.peers client.cache client.phase packet h
+happens_so client Tick h = client_tick_so client.cache client.phase h
 
 pub clients_keep_so : ClientsKeepSo
 clients_keep_so client what h =
-    by_test Goes (client_room client) (happens client what) (still client.phase) (λ _. happens_so client what h) (λ _. h)
+    by_test Goes (client_has_room client) (happens client what) (still client.phase) (λ _. happens_so client what h) (λ _. h)
 
 pub clients_start_so : ClientsStartSo
 clients_start_so number setup works = λ r at f fact block fetch. absurd (let clash : None ≡ Some r = fact in cc)

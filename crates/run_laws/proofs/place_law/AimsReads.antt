@@ -2,20 +2,20 @@
 use Rattle.std.proofs.Common.{◌≡◌, ℕ, Bool, true, List, [], ◌∷◌, Option, Some, None, is_none, unwrap_or, refl, sym, ap, ◌∙◌}
 use Rattle.std.specs.List.{AllByRecursion}
 use Rattle.std.specs.Prelude.{fold}
-use Rattle.client_call.specs.Calls.{going_by, after_answer, may_make, file_call, call_of}
+use Rattle.client_call.specs.Calls.{going_by, plan_answered, may_make, file_call, call_of}
 use Rattle.client_call.specs.declared.call.Call.{Call}
 use Rattle.client_call.specs.declared.call.Going.TheVariants.{On, Ends}
 use Rattle.client_call.specs.declared.call.Going.{Going}
 use Rattle.client_call.specs.declared.call.Plan.TheVariants.{One, File}
 use Rattle.client_call.specs.declared.call.Plan.{Plan}
-use Rattle.client_call.specs.Reads.{reading_in, call_with, kept_while, target_of, same_target}
+use Rattle.client_call.specs.Reads.{reading_in, set_reading, kept_while, target_of, same_target}
 use Rattle.client_serving.specs.declared.serving.Serving.{Serving}
-use Rattle.client_serving.specs.Follow.{evicts, notes_clean, notes_gone, notes_copy, seals, follows_one, follows, hands, takes_back}
-use Rattle.client_serving.specs.Reads.{ends_reading, with_reading, draws, loses, loses_at, group_in, begins_over, begins, confirmed_next, ask_after, drawn_after, confirms, reads_over, reads}
+use Rattle.client_serving.specs.Follow.{evicts, note_clean, note_gone, note_copy, serving_seal, follow_one, serving_follow, hand, take_back}
+use Rattle.client_serving.specs.Reads.{ends_reading, with_reading, draws, loses, lose_at, group_in, begins_over, begin_reading, go_on_reading, ask_after, drawn_after, serving_confirm, reads_over, serving_read}
 use Rattle.client_serving.specs.Sends.{Done}
 use Rattle.coop_cache.specs.declared.output.Out as cache_out
 use Rattle.coop_cache.specs.declared.output.Out.TheVariants.{Victim}
-use Rattle.coop_cache.specs.Transition.{cleaned, left}
+use Rattle.coop_cache.specs.Transition.{cache_clean, cache_leave}
 use Rattle.file_plan.specs.declared.block_call.BlockAnswer.{BlockAnswer}
 use Rattle.file_plan.specs.declared.block_call.Next.{Next as Planned}
 use Rattle.file_plan.specs.declared.block_call.Next.TheVariants.{Step as Steps, Reply}
@@ -29,7 +29,7 @@ use Rattle.segment_reading.specs.declared.reading.Stage.{Stage}
 use Rattle.segment_reading.specs.declared.reading.Stage.TheVariants.{Asking, Between, Doubted, Over}
 use Rattle.segment_reading.specs.declared.target.BlockAt.{BlockAt}
 use Rattle.segment_reading.specs.declared.target.Target.{Target}
-use Rattle.segment_reading.specs.Reading.{ReadingState, Step, begun, on_confirmed}
+use Rattle.segment_reading.specs.Reading.{ReadingState, Step, reading_start, on_confirmed}
 use Rattle.token_client.specs.declared.input.In as inputs
 use Rattle.token_client.specs.declared.input.In.TheVariants as input
 use Rattle.token_client.specs.declared.output.Out as outputs
@@ -53,7 +53,7 @@ use Rattle.node_tellings.proofs.entry_tie.ClientReads.{OutTold}
 use Rattle.run_laws.proofs.place_law.Aims.{Its, HasPlace, NoGrant, Nowhere, confirmed-target, its_kept, its_none, its_place, its_taken, reads_nothing, target_exact}
 use Rattle.token_client.specs.declared.held.Fetch.{Fetch}
 use Rattle.token_client.specs.declared.held.Held.{Held}
-use Rattle.token_client.specs.Held.{fetched_from}
+use Rattle.token_client.specs.Held.{fetch_from}
 use Rattle.token_client.proofs.Tables.{held_of-put_itself}
 
 -- the reading of the open call is of the fetch, and so is this one
@@ -79,13 +79,13 @@ going_new : (p : PlanState) (n : Planned) → GoingNew (going_by p n)
 going_new p (Steps step) = refl
 going_new p (Reply answer) = tt
 
-pub next_new : (plan : Plan) (a : BlockAnswer) → GoingNew (after_answer plan a)
+pub next_new : (plan : Plan) (a : BlockAnswer) → GoingNew (plan_answered plan a)
 next_new One a = tt
-next_new (File p) a = going_new (plans.after_answer p a) (plans.next_call (plans.after_answer p a))
+next_new (File p) a = going_new (plans.file_plan_answered p a) (plans.file_plan_next (plans.file_plan_answered p a))
 
 file_new : (call : FileCall) (number self : ℕ) → AnyGoingNew (file_call call number self)
 file_new call number self =
-    by_test AnyGoingNew (may_make number self) _ None (λ _. going_new _ (plans.next_call (plans.start call (plans.made_by number self)))) (λ _. tt)
+    by_test AnyGoingNew (may_make number self) _ None (λ _. going_new _ (plans.file_plan_next (plans.start call (plans.made_by number self)))) (λ _. tt)
 
 pub begun_new : (w : Work) (number self : ℕ) → AnyGoingNew (call_of w number self)
 begun_new (work.Bput client block value) number self = refl
@@ -95,7 +95,7 @@ begun_new (work.File client call) number self = file_new call number self
 begun_new _ number self = tt
 
 -- the open call reads this
-call_so : (call : Option Call) (r : Option ReadingState) (t : TokensState) → Its r t → Its (reading_in (call_with call r)) t
+call_so : (call : Option Call) (r : Option ReadingState) (t : TokensState) → Its r t → Its (reading_in (set_reading call r)) t
 call_so None r t fact = its_none t
 call_so (Some call) r t fact = fact
 
@@ -127,56 +127,56 @@ module _ (r : Option ReadingState) where
   unfolding evicts
   evicts_so s (Victim block) h = taken_so s (input.Evict block) tt h
 
-  pub notes_clean_so : (s : Serving) (block : BlockId) → Aimed r s → Aimed r (notes_clean s block)
-  unfolding notes_clean
-  notes_clean_so s block h =
-      fold_keeps At evicts evicts_so (record s { cache = (cleaned s.cache block).state }) (cleaned s.cache block).outs
+  pub note_clean_so : (s : Serving) (block : BlockId) → Aimed r s → Aimed r (note_clean s block)
+  unfolding note_clean
+  note_clean_so s block h =
+      fold_keeps At evicts evicts_so (record s { cache = (cache_clean s.cache block).state }) (cache_clean s.cache block).outs
       (record { other = h.other; own = h.own })
 
-  pub notes_gone_so : (s : Serving) (block : BlockId) → Aimed r s → Aimed r (notes_gone s block)
-  unfolding notes_gone
-  notes_gone_so s block h =
-      by_test At (is_nothing (held_of s.tokens.blocks block).mode) (record s { cache = left s.cache block }) s
+  pub note_gone_so : (s : Serving) (block : BlockId) → Aimed r s → Aimed r (note_gone s block)
+  unfolding note_gone
+  note_gone_so s block h =
+      by_test At (is_nothing (held_of s.tokens.blocks block).mode) (record s { cache = cache_leave s.cache block }) s
       (λ _. record { other = h.other; own = h.own }) (λ _. h)
 
-  notes_copy_so : (s : Serving) (block : BlockId) → At s → At (notes_copy s block)
-  unfolding notes_copy
-  notes_copy_so s block h =
-      by_test At (same_mode (held_of s.tokens.blocks block).mode Copy) (notes_clean s block) s (λ _. notes_clean_so s block h) (λ _. h)
+  note_copy_so : (s : Serving) (block : BlockId) → At s → At (note_copy s block)
+  unfolding note_copy
+  note_copy_so s block h =
+      by_test At (same_mode (held_of s.tokens.blocks block).mode Copy) (note_clean s block) s (λ _. note_clean_so s block h) (λ _. h)
 
   -- ---- the log
 
-  pub seals_so : (s : Serving) → Aimed r s → Aimed r (seals s).state
-  unfolding seals
-  seals_so s h = record { other = h.other; own = h.own }
+  pub serving_seal_so : (s : Serving) → Aimed r s → Aimed r (serving_seal s).state
+  unfolding serving_seal
+  serving_seal_so s h = record { other = h.other; own = h.own }
 
   -- ---- what the tokens say, where nothing is to be read
 
-  follows_one_so : (s : Serving) (o : outputs.Out) → OutTold Nowhere o → At s → Goes (follows_one s o)
-  unfolding follows_one
-  follows_one_so s (output.Want block req again mode) fact h = h
-  follows_one_so s (output.Gave block stamp) fact h = h
-  follows_one_so s (output.Flush block) fact h = seals_so s h
-  follows_one_so s (output.Read block place) fact h = absurd (let e = fact.there.place_told in cc)
-  follows_one_so s (output.Ready block) fact h = notes_copy_so s block h
-  follows_one_so s (output.Supply block ver value) fact h = h
+  follow_one_so : (s : Serving) (o : outputs.Out) → OutTold Nowhere o → At s → Goes (follow_one s o)
+  unfolding follow_one
+  follow_one_so s (output.Want block req again mode) fact h = h
+  follow_one_so s (output.Gave block stamp) fact h = h
+  follow_one_so s (output.Flush block) fact h = serving_seal_so s h
+  follow_one_so s (output.Read block place) fact h = absurd (let e = fact.there.place_told in cc)
+  follow_one_so s (output.Ready block) fact h = note_copy_so s block h
+  follow_one_so s (output.Supply block ver value) fact h = h
 
-  pub follows_so : (s : Serving) (outs : List outputs.Out) → AllByRecursion (OutTold Nowhere) outs → Aimed r s → Aimed r (follows s outs).state
-  unfolding follows
-  follows_so s [] all h = h
-  follows_so s (o ∷ outs) all h = follows_so (follows_one s o).state outs all.1 (follows_one_so s o all.0 h)
+  pub serving_follow_so : (s : Serving) (outs : List outputs.Out) → AllByRecursion (OutTold Nowhere) outs → Aimed r s → Aimed r (serving_follow s outs).state
+  unfolding serving_follow
+  serving_follow_so s [] all h = h
+  serving_follow_so s (o ∷ outs) all h = serving_follow_so (follow_one s o).state outs all.1 (follow_one_so s o all.0 h)
 
-  pub hands_so : (s : Serving) (i : inputs.In) → NoGrant i → Aimed r s → Aimed r (hands s i).state
-  unfolding hands
-  hands_so s i none h =
+  pub hand_so : (s : Serving) (i : inputs.In) → NoGrant i → Aimed r s → Aimed r (hand s i).state
+  unfolding hand
+  hand_so s i none h =
       let d : client.Done = client.transition s.tokens i in
-      follows_so (ends_reading (record s { tokens = d.state })) d.outs (reads_nothing s.tokens i none)
+      serving_follow_so (ends_reading (record s { tokens = d.state })) d.outs (reads_nothing s.tokens i none)
       (ends_so (record s { tokens = d.state }) (taken_so s i none h))
 
-  pub takes_back_so : (s : Serving) (block : BlockId) (stamp : Stamp) (keep : Bool) → Aimed r s → Aimed r (takes_back s block stamp keep).state
-  unfolding takes_back
-  takes_back_so s block stamp keep h =
-      notes_gone_so (hands s (input.Recalled block stamp keep)).state block (hands_so s (input.Recalled block stamp keep) tt h)
+  pub take_back_so : (s : Serving) (block : BlockId) (stamp : Stamp) (keep : Bool) → Aimed r s → Aimed r (take_back s block stamp keep).state
+  unfolding take_back
+  take_back_so s block stamp keep h =
+      note_gone_so (hand s (input.Recalled block stamp keep)).state block (hand_so s (input.Recalled block stamp keep) tt h)
 
   -- ---- a segment is lost
 
@@ -202,91 +202,91 @@ module _ (block : BlockId) (place : Place) where
   begins_over_so : (s : Serving) (group : Option Group) → HasPlace s.tokens block place → Alone s → AloneDone (begins_over s target group)
   begins_over_so s None has h = h
   begins_over_so s (Some group) has h =
-      read_so None (draws s) (Some (begun target group (next_ask s.lasting.questions)))
-      (its_place (begun target group (next_ask s.lasting.questions)) s.tokens block place refl has) (record { other = h.other; own = h.own })
+      read_so None (draws s) (Some (reading_start target group (next_ask s.lasting.questions)))
+      (its_place (reading_start target group (next_ask s.lasting.questions)) s.tokens block place refl has) (record { other = h.other; own = h.own })
 
-  begins_so : (s : Serving) → HasPlace s.tokens block place → Alone s → AloneDone (begins s target)
-  unfolding begins
-  begins_so s has h = begins_over_so s (group_in s.maps.groups target.seg.group) has h
+  begin_reading_so : (s : Serving) → HasPlace s.tokens block place → Alone s → AloneDone (begin_reading s target)
+  unfolding begin_reading
+  begin_reading_so s has h = begins_over_so s (group_in s.maps.groups target.seg.group) has h
 
-  loses_at_so : (s : Serving) (at : Option BlockAt) (seg : SegName) → Alone s → AloneDone (loses_at s at seg)
-  loses_at_so s None seg h = h
-  loses_at_so s (Some at) seg h = loses_so None s at.block seg h
+  lose_at_so : (s : Serving) (at : Option BlockAt) (seg : SegName) → Alone s → AloneDone (lose_at s at seg)
+  lose_at_so s None seg h = h
+  lose_at_so s (Some at) seg h = loses_so None s at.block seg h
 
-  confirmed_next_so : (s : Serving) (x : ReadingState) (n : Next) → Its (Some x) s.tokens → Alone s → AloneDone (confirmed_next s x n)
-  confirmed_next_so s x next.Lost fact h = loses_at_so s x.target.block x.target.seg.name h
-  confirmed_next_so s x next.Ask fact h = read_so None s (Some x) fact h
-  confirmed_next_so s x next.Wait fact h = read_so None s (Some x) fact h
-  confirmed_next_so s x next.Again fact h = read_so None s (Some x) fact h
-  confirmed_next_so s x (next.Read segment) fact h = read_so None s (Some x) fact h
+  go_on_reading_so : (s : Serving) (x : ReadingState) (n : Next) → Its (Some x) s.tokens → Alone s → AloneDone (go_on_reading s x n)
+  go_on_reading_so s x next.Lost fact h = lose_at_so s x.target.block x.target.seg.name h
+  go_on_reading_so s x next.Ask fact h = read_so None s (Some x) fact h
+  go_on_reading_so s x next.Wait fact h = read_so None s (Some x) fact h
+  go_on_reading_so s x next.Again fact h = read_so None s (Some x) fact h
+  go_on_reading_so s x (next.Read segment) fact h = read_so None s (Some x) fact h
 
   drawn_after_so : (s : Serving) (x : ReadingState) (n : Next) (stage : Stage) → Its (Some x) s.tokens → Alone s
-      → AloneDone (confirmed_next (drawn_after s stage) x n)
-  drawn_after_so s x n Between fact h = confirmed_next_so (draws s) x n fact (record { other = h.other; own = h.own })
-  drawn_after_so s x n Asking fact h = confirmed_next_so s x n fact h
-  drawn_after_so s x n Doubted fact h = confirmed_next_so s x n fact h
-  drawn_after_so s x n Over fact h = confirmed_next_so s x n fact h
+      → AloneDone (go_on_reading (drawn_after s stage) x n)
+  drawn_after_so s x n Between fact h = go_on_reading_so (draws s) x n fact (record { other = h.other; own = h.own })
+  drawn_after_so s x n Asking fact h = go_on_reading_so s x n fact h
+  drawn_after_so s x n Doubted fact h = go_on_reading_so s x n fact h
+  drawn_after_so s x n Over fact h = go_on_reading_so s x n fact h
 
-  confirms_so : (s : Serving) (x : ReadingState) → x.target ≡ target → HasPlace s.tokens block place → Alone s → AloneDone (confirms s x)
-  unfolding confirms
-  confirms_so s x fact has h =
+  serving_confirm_so : (s : Serving) (x : ReadingState) → x.target ≡ target → HasPlace s.tokens block place → Alone s → AloneDone (serving_confirm s x)
+  unfolding serving_confirm
+  serving_confirm_so s x fact has h =
       let step : Step = on_confirmed x (ask_after s x.ask x.stage) in
       drawn_after_so s step.state step.next x.stage
       (its_place step.state s.tokens block place (confirmed-target x (ask_after s x.ask x.stage) ∙ fact) has) h
 
   reads_over_so : (s : Serving) (reading : Option ReadingState) → HasPlace s.tokens block place → Alone s → AloneDone (reads_over s target reading)
-  reads_over_so s None has h = begins_so s has h
+  reads_over_so s None has h = begin_reading_so s has h
   reads_over_so s (Some x) has h =
-      by_test AloneDone (same_target x.target target) (confirms s x) (begins s target)
-      (λ t. confirms_so s x (target_exact x.target block place t) has h) (λ _. begins_so s has h)
+      by_test AloneDone (same_target x.target target) (serving_confirm s x) (begin_reading s target)
+      (λ t. serving_confirm_so s x (target_exact x.target block place t) has h) (λ _. begin_reading_so s has h)
 
   -- whatever was read before
-  reads_so : (s : Serving) → HasPlace s.tokens block place → AloneDone (reads s block place)
-  unfolding reads
-  reads_so s has =
+  serving_read_so : (s : Serving) → HasPlace s.tokens block place → AloneDone (serving_read s block place)
+  unfolding serving_read
+  serving_read_so s has =
       by_test AloneDone (is_none s.call) (still s) (reads_over (with_reading s None) target (reading_in s.call))
       (λ t. alone_so s (unread s.call s.tokens t))
       (λ _. reads_over_so (with_reading s None) (reading_in s.call) has (alone_so (with_reading s None) (call_so s.call None s.tokens (its_none s.tokens))))
 
 module _ (s : Serving) (h : Alone s) (block : BlockId) (stamp : Stamp) (inc req : ℕ) where
   -- a grant to own gives no place
-  own_granted : (entry : Entry) → AloneDone (hands s (input.Granted block stamp inc req Own entry))
-  unfolding hands client.on_granted
-  own_granted entry = hands_so None s (input.Granted block stamp inc req Own (record entry { place = None })) refl h
+  own_granted : (entry : Entry) → AloneDone (hand s (input.Granted block stamp inc req Own entry))
+  unfolding hand client.on_granted
+  own_granted entry = hand_so None s (input.Granted block stamp inc req Own (record entry { place = None })) refl h
 
   -- a copy that lies at a place is read there
   there : (ver : ℕ) (place : Place)
-      → AloneDone (follows (ends_reading (record s { tokens = with_held s.tokens block (fetched_from (held_of s.tokens.blocks block) stamp ver place) }))
+      → AloneDone (serving_follow (ends_reading (record s { tokens = with_held s.tokens block (fetch_from (held_of s.tokens.blocks block) stamp ver place) }))
       (output.Read block place ∷ []))
-  unfolding follows follows_one
+  unfolding serving_follow follow_one
   there ver place =
-      let g : Held = fetched_from (held_of s.tokens.blocks block) stamp ver place in
+      let g : Held = fetch_from (held_of s.tokens.blocks block) stamp ver place in
       let t : TokensState = with_held s.tokens block g in
       let now : held_of t.blocks block ≡ g = held_of-put_itself block g s.tokens.blocks in
-      reads_so block place (ends_reading (record s { tokens = t }))
+      serving_read_so block place (ends_reading (record s { tokens = t }))
       (λ f fact. ap (λ (o : Option Fetch). (unwrap_or o f).place) (sym fact ∙ ap (λ (x : Held). x.fetch) now))
 
-  copied : (ver hop : ℕ) (place : Option Place) → AloneDone (hands s (input.Granted block stamp inc req Copy (record { ver = ver; hop = hop; place = place })))
-  unfolding hands client.on_granted follows
-  copied ver hop None = hands_so None s (input.Granted block stamp inc req Copy (record { ver = ver; hop = hop; place = None })) refl h
+  copied : (ver hop : ℕ) (place : Option Place) → AloneDone (hand s (input.Granted block stamp inc req Copy (record { ver = ver; hop = hop; place = place })))
+  unfolding hand client.on_granted serving_follow
+  copied ver hop None = hand_so None s (input.Granted block stamp inc req Copy (record { ver = ver; hop = hop; place = None })) refl h
   copied ver hop (Some place) =
-      by_test (λ (d : client.Done). AloneDone (follows (ends_reading (record s { tokens = d.state })) d.outs))
+      by_test (λ (d : client.Done). AloneDone (serving_follow (ends_reading (record s { tokens = d.state })) d.outs))
       (client.accepts s.tokens block stamp inc req Copy)
-      (record { state = with_held s.tokens block (fetched_from (held_of s.tokens.blocks block) stamp ver place); outs = output.Read block place ∷ [] })
+      (record { state = with_held s.tokens block (fetch_from (held_of s.tokens.blocks block) stamp ver place); outs = output.Read block place ∷ [] })
       (still s.tokens) (λ _. there ver place) (λ _. ends_so None s h)
 
   -- and so it is of one of nothing, which no manager grants
   nothing_granted : (ver hop : ℕ) (place : Option Place)
-      → AloneDone (hands s (input.Granted block stamp inc req Nothing (record { ver = ver; hop = hop; place = place })))
-  unfolding hands client.on_granted follows
-  nothing_granted ver hop None = hands_so None s (input.Granted block stamp inc req Nothing (record { ver = ver; hop = hop; place = None })) refl h
+      → AloneDone (hand s (input.Granted block stamp inc req Nothing (record { ver = ver; hop = hop; place = place })))
+  unfolding hand client.on_granted serving_follow
+  nothing_granted ver hop None = hand_so None s (input.Granted block stamp inc req Nothing (record { ver = ver; hop = hop; place = None })) refl h
   nothing_granted ver hop (Some place) =
-      by_test (λ (d : client.Done). AloneDone (follows (ends_reading (record s { tokens = d.state })) d.outs))
+      by_test (λ (d : client.Done). AloneDone (serving_follow (ends_reading (record s { tokens = d.state })) d.outs))
       (client.accepts s.tokens block stamp inc req Nothing)
-      (record { state = with_held s.tokens block (fetched_from (held_of s.tokens.blocks block) stamp ver place); outs = output.Read block place ∷ [] })
+      (record { state = with_held s.tokens block (fetch_from (held_of s.tokens.blocks block) stamp ver place); outs = output.Read block place ∷ [] })
       (still s.tokens) (λ _. there ver place) (λ _. ends_so None s h)
 
-  pub granted_so : (mode : Mode) (entry : Entry) → Aimed None (hands s (input.Granted block stamp inc req mode entry)).state
+  pub granted_so : (mode : Mode) (entry : Entry) → Aimed None (hand s (input.Granted block stamp inc req mode entry)).state
   granted_so Own entry = own_granted entry
   granted_so Copy entry = copied entry.ver entry.hop entry.place
   granted_so Nothing entry = nothing_granted entry.ver entry.hop entry.place

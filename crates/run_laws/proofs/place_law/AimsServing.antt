@@ -7,30 +7,30 @@ use Rattle.client_log.specs.declared.input.In.TheVariants as log_in
 use Rattle.client_log.specs.declared.output.Out.{Out as LogOut}
 use Rattle.client_log.specs.declared.output.Out.TheVariants as log_out
 use Rattle.client_log.specs.Transition as log
-use Rattle.client_call.specs.Calls.{after_answer}
+use Rattle.client_call.specs.Calls.{plan_answered}
 use Rattle.client_call.specs.declared.call.Call.{Call}
 use Rattle.client_call.specs.declared.call.Going.TheVariants.{On, Ends}
 use Rattle.client_call.specs.declared.call.Going.{Going}
 use Rattle.client_call.specs.Fitting.{put_fits}
-use Rattle.client_call.specs.Reads.{block_read, Heard, heard, reading_in, value_at}
-use Rattle.client_running.specs.Blocks.{Made, needs, got, gets, wrote, changes, held_back, changes_if_fits, puts, lets_go, changed, puts_again, puts_at, syncs, makes}
+use Rattle.client_call.specs.Reads.{block_read, Heard, hear_reading, reading_in, value_at}
+use Rattle.client_running.specs.Blocks.{Made, blocks_need, got, blocks_get, wrote, changes, held_back, blocks_change, blocks_put, blocks_let_go, changed, puts_again, blocks_put_at, blocks_sync, blocks_make}
 use Rattle.client_serving.specs.declared.serving.Serving.{Serving}
-use Rattle.client_serving.specs.Flights.{held_at, notes_settled, keeps_clean, gives_up, gives_if_clean, feeds, settled_rows, settles, writes_one, seals_again, writes}
-use Rattle.client_serving.specs.Follow.{follows, notes_clean, notes_gone, seals, hands, takes_back}
+use Rattle.client_serving.specs.Flights.{held_at, notes_settled, keep_row, gives_up, give_if_clean, feeds, settle_rows, serving_settle, write_one, seals_again, serving_write}
+use Rattle.client_serving.specs.Follow.{serving_follow, note_clean, note_gone, serving_seal, hand, take_back}
 use Rattle.client_serving.specs.Grants.{is_stamp}
-use Rattle.client_serving.specs.Packets.{on_grant, on_supply, on_forward, says_again, on_recall, is_gone, on_gone, is_acked, on_ack, ends_fetch, told_at, told_by, on_told, renews, promises, reports, may_report, polled, on_poll, promised_in, is_news, hears, regroups, takes_news, on_news, on_welcome, on_tick, on_body, asks_for_maps, on_packet}
+use Rattle.client_serving.specs.Packets.{on_grant, on_supply, on_forward, says_again, on_recall, is_gone, on_gone, is_acked, on_ack, end_fetch, told_at, told_by, on_told, serving_renew, serving_promise, reports, may_report, polled, on_poll, promised_in, is_news, serving_hear, regroups, takes_news, on_news, on_welcome, on_tick, take_body, asks_for_maps, serving_take}
 use Rattle.client_serving.specs.Reads.{with_reading, loses}
-use Rattle.client_running.specs.Running.{goes_on, Ran, answers_call, ran, runs_call, runs_once, runs_upto, runs, most_steps}
+use Rattle.client_running.specs.Running.{running_go_on, Ran, take_answer, ran, runs_call, run_once, run_upto, run, most_steps}
 use Rattle.client_serving.specs.Sends.{Done}
 use Rattle.delta_feed.specs.Transition.{acknowledged, new_epoch}
 use Rattle.file_plan.specs.declared.block_call.BlockAnswer.{BlockAnswer}
 use Rattle.file_plan.specs.declared.block_call.BlockCall.{BlockCall}
 use Rattle.file_plan.specs.declared.block_call.BlockCall.TheVariants.{Get, Put, PutAt, Sync}
 use Rattle.group_map.specs.GroupMapState.{GroupMapState}
-use Rattle.log_owner.specs.Promised.{manager_set}
+use Rattle.log_owner.specs.Promised.{managers_set}
 use Rattle.log_owner.specs.Sealing.{is_settling}
-use Rattle.node_base.specs.Known.{names_known}
-use Rattle.node_base.specs.Maps.{fits, is_older, taken}
+use Rattle.node_base.specs.Known.{names_known_groups}
+use Rattle.node_base.specs.Maps.{fits, is_older, maps_take}
 use Rattle.node_base.specs.Room.{has_long_room}
 use Rattle.segment_reading.specs.declared.reading.Next.{Next}
 use Rattle.segment_reading.specs.declared.reading.Next.TheVariants as next
@@ -69,7 +69,7 @@ use Rattle.xfs_base.specs.Modes.{is_held, is_nothing, is_own}
 use Rattle.xfs_base.specs.Steps.{still, saying, steps}
 use Rattle.node_tellings.proofs.entry_tie.ClientReads.{OutTold}
 use Rattle.run_laws.proofs.place_law.Aims.{Nowhere, Its, its_heard, its_none, reads_nothing}
-use Rattle.run_laws.proofs.place_law.AimsReads.{Aimed, GoingNew, ends_so, fold_keeps, follows_so, granted_so, hands_so, loses_so, next_new, notes_clean_so, notes_gone_so, read_so, seals_so, taken_so, takes_back_so}
+use Rattle.run_laws.proofs.place_law.AimsReads.{Aimed, GoingNew, ends_so, fold_keeps, serving_follow_so, granted_so, hand_so, loses_so, next_new, note_clean_so, note_gone_so, read_so, serving_seal_so, taken_so, take_back_so}
 
 module _ (r : Option ReadingState) where
   abbrev At : Serving → Type 0
@@ -84,96 +84,96 @@ module _ (r : Option ReadingState) where
   unfolding notes_settled
   notes_settled_so s row h = taken_so r s (input.Settled row.0 row.1.ver) tt h
 
-  keeps_clean_so : (s : Serving) (row : BlockId × Entry) → At s → At (keeps_clean s row)
-  unfolding keeps_clean
-  keeps_clean_so s row h =
-      by_test At (not (is_dirty (held_at s row.0)) && is_held (held_at s row.0).mode) (notes_clean s row.0) s
-      (λ _. notes_clean_so r s row.0 h) (λ _. h)
+  keep_row_so : (s : Serving) (row : BlockId × Entry) → At s → At (keep_row s row)
+  unfolding keep_row
+  keep_row_so s row h =
+      by_test At (not (is_dirty (held_at s row.0)) && is_held (held_at s row.0).mode) (note_clean s row.0) s
+      (λ _. note_clean_so r s row.0 h) (λ _. h)
 
   gives_up_so : (s : Serving) (block : BlockId) (giving : Option Giving) → At s → Goes (gives_up s block giving)
   gives_up_so s block None h = h
-  gives_up_so s block (Some giving) h = takes_back_so r s block giving.stamp giving.keep h
+  gives_up_so s block (Some giving) h = take_back_so r s block giving.stamp giving.keep h
 
-  gives_if_clean_so : (s : Serving) (block : BlockId) → At s → Goes (gives_if_clean s block)
-  unfolding gives_if_clean
-  gives_if_clean_so s block h =
+  give_if_clean_so : (s : Serving) (block : BlockId) → At s → Goes (give_if_clean s block)
+  unfolding give_if_clean
+  give_if_clean_so s block h =
       by_test Goes (is_dirty (held_at s block)) (still s) (gives_up s block (held_at s block).giving) (λ _. h)
       (λ _. gives_up_so s block (held_at s block).giving h)
 
-  settles_so : (s : Serving) (end : End) (rows : List (BlockId × Entry)) → At s → Goes (settles s end rows)
-  unfolding settles
-  settles_so s end rows h =
-      let kept : At (settled_rows s rows) =
-      fold_keeps At keeps_clean keeps_clean_so (fold notes_settled s rows) rows (fold_keeps At notes_settled notes_settled_so s rows h)
+  serving_settle_so : (s : Serving) (end : End) (rows : List (BlockId × Entry)) → At s → Goes (serving_settle s end rows)
+  unfolding serving_settle
+  serving_settle_so s end rows h =
+      let kept : At (settle_rows s rows) =
+      fold_keeps At keep_row keep_row_so (fold notes_settled s rows) rows (fold_keeps At notes_settled notes_settled_so s rows h)
       in
-      steps_keep gives_if_clean At gives_if_clean_so (feeds (settled_rows s rows) end rows) (dirty_in s.tokens.blocks)
+      steps_keep give_if_clean At give_if_clean_so (feeds (settle_rows s rows) end rows) (dirty_in s.tokens.blocks)
       (record { other = kept.other; own = kept.own })
 
-  writes_one_so : (s : Serving) (o : LogOut) → At s → Goes (writes_one s o)
-  unfolding writes_one
-  writes_one_so s (log_out.Send fragment member) h = h
-  writes_one_so s (log_out.Settled end rows) h = settles_so s end rows h
+  write_one_so : (s : Serving) (o : LogOut) → At s → Goes (write_one s o)
+  unfolding write_one
+  write_one_so s (log_out.Send fragment member) h = h
+  write_one_so s (log_out.Settled end rows) h = serving_settle_so s end rows h
 
   seals_again_so : (s : Serving) (settling : Bool) → At s → Goes (seals_again s settling)
   seals_again_so s settling h =
-      by_test Goes (settling && is_giving s.tokens) (seals s) (still s) (λ _. seals_so r s h) (λ _. h)
+      by_test Goes (settling && is_giving s.tokens) (serving_seal s) (still s) (λ _. serving_seal_so r s h) (λ _. h)
 
-  pub writes_so : (s : Serving) (i : LogIn) → Aimed r s → Aimed r (writes s i).state
-  unfolding writes
-  writes_so s i h =
+  pub serving_write_so : (s : Serving) (i : LogIn) → Aimed r s → Aimed r (serving_write s i).state
+  unfolding serving_write
+  serving_write_so s i h =
       let d : log.Done = log.transition s.log i in
-      seals_again_so (steps writes_one (record s { log = d.state }) d.outs).state (list_any is_settling d.outs)
-      (steps_keep writes_one At writes_one_so (record s { log = d.state }) d.outs (record { other = h.other; own = h.own }))
+      seals_again_so (steps write_one (record s { log = d.state }) d.outs).state (list_any is_settling d.outs)
+      (steps_keep write_one At write_one_so (record s { log = d.state }) d.outs (record { other = h.other; own = h.own }))
 
   -- ---- calls on blocks
 
-  gets_so : (s : Serving) (block : BlockId) → At s → Goes (gets s block).done
-  unfolding gets
-  gets_so s block h =
-      by_test (λ (m : Made). Goes m.done) (is_nothing (held_at s block).mode) (needs s block Copy) (got s block (held_at s block))
-      (λ _. hands_so r s (input.Need block Copy) tt h) (λ _. record { other = h.other; own = h.own })
+  blocks_get_so : (s : Serving) (block : BlockId) → At s → Goes (blocks_get s block).done
+  unfolding blocks_get
+  blocks_get_so s block h =
+      by_test (λ (m : Made). Goes m.done) (is_nothing (held_at s block).mode) (blocks_need s block Copy) (got s block (held_at s block))
+      (λ _. hand_so r s (input.Need block Copy) tt h) (λ _. record { other = h.other; own = h.own })
 
   changes_so : (s : Serving) (block : BlockId) (value : Option (List ℕ)) → At s → Goes (changes s block value).done
   unfolding changes
   changes_so s block value h =
-      writes_so (wrote s block value) (log_in.Put block (record { ver = (held_at (wrote s block value) block).ver; hop = 0; place = None }) value)
+      serving_write_so (wrote s block value) (log_in.Put block (record { ver = (held_at (wrote s block value) block).ver; hop = 0; place = None }) value)
       (let k : At (record s { tokens = (client.on_wrote s.tokens block value).state }) = taken_so r s (input.Wrote block value) tt h in
       record { other = k.other; own = k.own })
 
-  lets_go_so : (s : Serving) (block : BlockId) → At s → At (lets_go s block)
-  lets_go_so s block h =
-      by_test At (is_none (held_at s block).value) (notes_gone (record s { tokens = (client.on_evict s.tokens block).state }) block) s
-      (λ _. notes_gone_so r (record s { tokens = (client.on_evict s.tokens block).state }) block (taken_so r s (input.Evict block) tt h)) (λ _. h)
+  blocks_let_go_so : (s : Serving) (block : BlockId) → At s → At (blocks_let_go s block)
+  blocks_let_go_so s block h =
+      by_test At (is_none (held_at s block).value) (note_gone (record s { tokens = (client.on_evict s.tokens block).state }) block) s
+      (λ _. note_gone_so r (record s { tokens = (client.on_evict s.tokens block).state }) block (taken_so r s (input.Evict block) tt h)) (λ _. h)
 
-  changes_if_fits_so : (s : Serving) (block : BlockId) (value : Option (List ℕ)) → At s → Goes (changes_if_fits s block value).done
-  unfolding changes_if_fits
-  changes_if_fits_so s block value h =
+  blocks_change_so : (s : Serving) (block : BlockId) (value : Option (List ℕ)) → At s → Goes (blocks_change s block value).done
+  unfolding blocks_change
+  blocks_change_so s block value h =
       by_test (λ (m : Made). Goes m.done) (put_fits block ((held_at s block).ver + 1) value) (changes s block value) (held_back s block)
-      (λ _. changes_so s block value h) (λ _. lets_go_so s block h)
+      (λ _. changes_so s block value h) (λ _. blocks_let_go_so s block h)
 
-  puts_so : (s : Serving) (block : BlockId) (value : Option (List ℕ)) → At s → Goes (puts s block value).done
-  unfolding puts
-  puts_so s block value h =
-      by_test (λ (m : Made). Goes m.done) (may_write (held_at s block)) (changes_if_fits s block value) (needs s block Own)
-      (λ _. changes_if_fits_so s block value h) (λ _. hands_so r s (input.Need block Own) tt h)
+  blocks_put_so : (s : Serving) (block : BlockId) (value : Option (List ℕ)) → At s → Goes (blocks_put s block value).done
+  unfolding blocks_put
+  blocks_put_so s block value h =
+      by_test (λ (m : Made). Goes m.done) (may_write (held_at s block)) (blocks_change s block value) (blocks_need s block Own)
+      (λ _. blocks_change_so s block value h) (λ _. hand_so r s (input.Need block Own) tt h)
 
   puts_again_so : (s : Serving) (block : BlockId) (ver : ℕ) (value : Option (List ℕ)) → At s → Goes (puts_again s block ver value).done
   puts_again_so s block ver value h =
-      by_test (λ (m : Made). Goes m.done) ((held_at s block).ver == ver) (changes_if_fits s block value) (changed s block)
-      (λ _. changes_if_fits_so s block value h) (λ _. lets_go_so s block h)
+      by_test (λ (m : Made). Goes m.done) ((held_at s block).ver == ver) (blocks_change s block value) (changed s block)
+      (λ _. blocks_change_so s block value h) (λ _. blocks_let_go_so s block h)
 
-  puts_at_so : (s : Serving) (block : BlockId) (ver : ℕ) (value : Option (List ℕ)) → At s → Goes (puts_at s block ver value).done
-  unfolding puts_at
-  puts_at_so s block ver value h =
-      by_test (λ (m : Made). Goes m.done) (may_write (held_at s block)) (puts_again s block ver value) (needs s block Own)
-      (λ _. puts_again_so s block ver value h) (λ _. hands_so r s (input.Need block Own) tt h)
+  blocks_put_at_so : (s : Serving) (block : BlockId) (ver : ℕ) (value : Option (List ℕ)) → At s → Goes (blocks_put_at s block ver value).done
+  unfolding blocks_put_at
+  blocks_put_at_so s block ver value h =
+      by_test (λ (m : Made). Goes m.done) (may_write (held_at s block)) (puts_again s block ver value) (blocks_need s block Own)
+      (λ _. puts_again_so s block ver value h) (λ _. hand_so r s (input.Need block Own) tt h)
 
-  pub makes_so : (s : Serving) (call : BlockCall) → Aimed r s → Aimed r (makes s call).done.state
-  unfolding makes syncs
-  makes_so s (Get block) h = gets_so s block h
-  makes_so s (Put block value) h = puts_so s block value h
-  makes_so s (PutAt block ver value) h = puts_at_so s block ver value h
-  makes_so s Sync h = seals_so r s h
+  pub blocks_make_so : (s : Serving) (call : BlockCall) → Aimed r s → Aimed r (blocks_make s call).done.state
+  unfolding blocks_make blocks_sync
+  blocks_make_so s (Get block) h = blocks_get_so s block h
+  blocks_make_so s (Put block value) h = blocks_put_so s block value h
+  blocks_make_so s (PutAt block ver value) h = blocks_put_at_so s block ver value h
+  blocks_make_so s Sync h = serving_seal_so r s h
 
 -- ---- the open call
 
@@ -186,54 +186,54 @@ AloneDone d = Alone d.state
 alone_so : (s : Serving) → Its (reading_in s.call) s.tokens → Alone s
 alone_so s h = record { other = its_none s.tokens; own = h }
 
-pub goes_on_so : (s : Serving) (going : Going) → GoingNew going → Aimed None s → Aimed None (goes_on s going).state
-unfolding goes_on
-goes_on_so s (On call) fact h = alone_so (record s { call = Some call }) (subst (λ o. Its o s.tokens) (sym fact) (its_none s.tokens))
-goes_on_so s (Ends answer) fact h = record { other = h.other; own = h.own }
+pub running_go_on_so : (s : Serving) (going : Going) → GoingNew going → Aimed None s → Aimed None (running_go_on s going).state
+unfolding running_go_on
+running_go_on_so s (On call) fact h = alone_so (record s { call = Some call }) (subst (λ o. Its o s.tokens) (sym fact) (its_none s.tokens))
+running_go_on_so s (Ends answer) fact h = record { other = h.other; own = h.own }
 
-answers_call_so : (s : Serving) (call : Call) (answer : Option BlockAnswer) → Its call.reading s.tokens → Alone s → AloneDone (answers_call s call answer).done
-answers_call_so s call None fact h = alone_so (record s { call = Some call }) fact
-answers_call_so s call (Some a) fact h = goes_on_so s (after_answer call.plan a) (next_new call.plan a) h
+take_answer_so : (s : Serving) (call : Call) (answer : Option BlockAnswer) → Its call.reading s.tokens → Alone s → AloneDone (take_answer s call answer).done
+take_answer_so s call None fact h = alone_so (record s { call = Some call }) fact
+take_answer_so s call (Some a) fact h = running_go_on_so s (plan_answered call.plan a) (next_new call.plan a) h
 
 ran_so : (call : Call) (made : Made) → Aimed call.reading made.done.state → AloneDone (ran call made).done
-ran_so call made h = answers_call_so made.done.state call made.answer h.other (alone_so made.done.state h.own)
+ran_so call made h = take_answer_so made.done.state call made.answer h.other (alone_so made.done.state h.own)
 
 runs_call_so : (s : Serving) (call : Option Call) → Its (reading_in call) s.tokens → Alone s → AloneDone (runs_call s call).done
 runs_call_so s None fact h = h
 runs_call_so s (Some call) fact h =
-    ran_so call (makes (record s { call = None }) call.step)
-    (makes_so call.reading (record s { call = None }) call.step (record { other = fact; own = its_none s.tokens }))
+    ran_so call (blocks_make (record s { call = None }) call.step)
+    (blocks_make_so call.reading (record s { call = None }) call.step (record { other = fact; own = its_none s.tokens }))
 
-runs_once_so : (s : Serving) → Alone s → AloneDone (runs_once s).done
-unfolding runs_once
-runs_once_so s h = runs_call_so s s.call h.own h
+run_once_so : (s : Serving) → Alone s → AloneDone (run_once s).done
+unfolding run_once
+run_once_so s h = runs_call_so s s.call h.own h
 
-turns_from : (k : ℕ) (s : Serving) → ((t : Serving) → Alone t → AloneDone (runs_upto k t)) → AloneDone (runs_once s).done → AloneDone (runs_upto (suc k) s)
-unfolding runs_upto
+turns_from : (k : ℕ) (s : Serving) → ((t : Serving) → Alone t → AloneDone (run_upto k t)) → AloneDone (run_once s).done → AloneDone (run_upto (suc k) s)
+unfolding run_upto
 turns_from k s rest p =
-    let d : Ran = runs_once s in
-    by_test AloneDone d.goes (saying d.done.outs (runs_upto k d.done.state)) d.done (λ _. rest d.done.state p) (λ _. p)
+    let d : Ran = run_once s in
+    by_test AloneDone d.goes (saying d.done.outs (run_upto k d.done.state)) d.done (λ _. rest d.done.state p) (λ _. p)
 
-runs_upto_so : (k : ℕ) (s : Serving) → Alone s → AloneDone (runs_upto k s)
-unfolding runs_upto
-runs_upto_so zero s h = h
-runs_upto_so (suc k) s h = turns_from k s (runs_upto_so k) (runs_once_so s h)
+run_upto_so : (k : ℕ) (s : Serving) → Alone s → AloneDone (run_upto k s)
+unfolding run_upto
+run_upto_so zero s h = h
+run_upto_so (suc k) s h = turns_from k s (run_upto_so k) (run_once_so s h)
 
-pub runs_so : (s : Serving) → Aimed None s → Aimed None (runs s).state
-unfolding runs
-runs_so s h = runs_upto_so most_steps s h
+pub run_so : (s : Serving) → Aimed None s → Aimed None (run s).state
+unfolding run
+run_so s h = run_upto_so most_steps s h
 
 -- ---- tokens
 
 on_grant_so : (s : Serving) (m : Grant) → Alone s → AloneDone (on_grant s m)
 unfolding on_grant
 on_grant_so s m h =
-    by_test AloneDone (is_own m.mode && not (has_long_room m.entry.ver)) (still s) (hands s (input.Granted m.block m.stamp m.inc m.req m.mode m.entry)) (λ _. h)
+    by_test AloneDone (is_own m.mode && not (has_long_room m.entry.ver)) (still s) (hand s (input.Granted m.block m.stamp m.inc m.req m.mode m.entry)) (λ _. h)
     (λ _. granted_so s h m.block m.stamp m.inc m.req m.mode m.entry)
 
 on_supply_so : (s : Serving) (m : Supply) → Alone s → AloneDone (on_supply s m)
 unfolding on_supply
-on_supply_so s m h = hands_so None s (input.Supplied m.block m.stamp m.inc m.req m.ver m.value) tt h
+on_supply_so s m h = hand_so None s (input.Supplied m.block m.stamp m.inc m.req m.ver m.value) tt h
 
 on_forward_so : (s : Serving) (m : Forward) → Alone s → AloneDone (on_forward s m)
 unfolding on_forward
@@ -243,8 +243,8 @@ on_recall_so : (s : Serving) (m : Recall) → Alone s → AloneDone (on_recall s
 unfolding on_recall
 on_recall_so s m h =
     by_test AloneDone (is_stamp (held_at s m.block).stamp m.stamp) (says_again s m (client.on_recalled s.tokens m.block m.stamp m.keep))
-    (takes_back s m.block m.stamp m.keep) (λ _. taken_so None s (input.Recalled m.block m.stamp m.keep) tt h)
-    (λ _. takes_back_so None s m.block m.stamp m.keep h)
+    (take_back s m.block m.stamp m.keep) (λ _. taken_so None s (input.Recalled m.block m.stamp m.keep) tt h)
+    (λ _. take_back_so None s m.block m.stamp m.keep h)
 
 on_gone_so : (s : Serving) (m : Gone) → Alone s → AloneDone (on_gone s m)
 unfolding on_gone
@@ -257,21 +257,21 @@ on_ack_so s a h =
 
 -- ---- fragments
 
-ends_fetch_so : (s : Serving) (at : BlockAt) (x : Next) → Alone s → AloneDone (ends_fetch s at x)
-ends_fetch_so s at next.Again h = hands_so None s (input.Reask at.block) tt h
-ends_fetch_so s at (next.Read segment) h = hands_so None s (input.Fetched at.block (value_at segment at.item)) tt h
-ends_fetch_so s at next.Wait h = h
-ends_fetch_so s at next.Ask h = h
-ends_fetch_so s at next.Lost h = h
+end_fetch_so : (s : Serving) (at : BlockAt) (x : Next) → Alone s → AloneDone (end_fetch s at x)
+end_fetch_so s at next.Again h = hand_so None s (input.Reask at.block) tt h
+end_fetch_so s at (next.Read segment) h = hand_so None s (input.Fetched at.block (value_at segment at.item)) tt h
+end_fetch_so s at next.Wait h = h
+end_fetch_so s at next.Ask h = h
+end_fetch_so s at next.Lost h = h
 
 told_at_so : (s : Serving) (at : Option BlockAt) (x : Heard) → Its x.reading s.tokens → Alone s → AloneDone (told_at s at x)
 told_at_so s None x fact h = h
-told_at_so s (Some at) x fact h = ends_fetch_so (with_reading s x.reading) at x.next (read_so None s x.reading fact h)
+told_at_so s (Some at) x fact h = end_fetch_so (with_reading s x.reading) at x.next (read_so None s x.reading fact h)
 
 told_by_so : (s : Serving) (server ask : ℕ) (t : Answered) → Alone s → AloneDone (told_by s server ask t)
 unfolding told_by
 told_by_so s server ask t h =
-    told_at_so s (block_read (reading_in s.call)) (heard (reading_in s.call) s.maps.groups ask server t)
+    told_at_so s (block_read (reading_in s.call)) (hear_reading (reading_in s.call) s.maps.groups ask server t)
     (its_heard (reading_in s.call) s.maps.groups ask server t s.tokens h.own) h
 
 on_told_so : (s : Serving) (from : NodeId) (ask : ℕ) (t : Answered) → Alone s → AloneDone (on_told s from ask t)
@@ -283,34 +283,34 @@ on_told_so s node.Registry ask t h = h
 
 -- ---- promises
 
-renews_so : (s : Serving) (slot epoch : ℕ) → Alone s → Alone (renews s slot epoch)
-unfolding renews
-renews_so s slot epoch h =
+serving_renew_so : (s : Serving) (slot epoch : ℕ) → Alone s → Alone (serving_renew s slot epoch)
+unfolding serving_renew
+serving_renew_so s slot epoch h =
     by_test Alone (nat_lt _ epoch) (record s { feed = new_epoch s.feed slot }) s (λ _. record { other = h.other; own = h.own }) (λ _. h)
 
-promises_so : (s : Serving) (slot epoch manager : ℕ) → Alone s → Alone (promises s slot epoch manager).state
-unfolding promises
-promises_so s slot epoch manager h =
-    let t : Serving = renews s slot epoch in
-    let u : Serving = record t { managers = manager_set t.managers slot manager; tokens = (client.on_promise t.tokens slot epoch).state } in
+serving_promise_so : (s : Serving) (slot epoch manager : ℕ) → Alone s → Alone (serving_promise s slot epoch manager).state
+unfolding serving_promise
+serving_promise_so s slot epoch manager h =
+    let t : Serving = serving_renew s slot epoch in
+    let u : Serving = record t { managers = managers_set t.managers slot manager; tokens = (client.on_promise t.tokens slot epoch).state } in
     let k : Alone (record t { tokens = (client.on_promise t.tokens slot epoch).state }) =
-    taken_so None t (input.Promise slot epoch) tt (renews_so s slot epoch h) in
+    taken_so None t (input.Promise slot epoch) tt (serving_renew_so s slot epoch h) in
     ends_so None u (record { other = k.other; own = k.own })
 
-nothing_read : (s : Serving) (slot epoch manager : ℕ) → AllByRecursion (OutTold Nowhere) (promises s slot epoch manager).outs
-unfolding promises
-nothing_read s slot epoch manager = reads_nothing (renews s slot epoch).tokens (input.Promise slot epoch) tt
+nothing_read : (s : Serving) (slot epoch manager : ℕ) → AllByRecursion (OutTold Nowhere) (serving_promise s slot epoch manager).outs
+unfolding serving_promise
+nothing_read s slot epoch manager = reads_nothing (serving_renew s slot epoch).tokens (input.Promise slot epoch) tt
 
 follows_promise : (s : Serving) (slot epoch manager : ℕ) → Alone s
-    → AloneDone (follows (promises s slot epoch manager).state (promises s slot epoch manager).outs)
+    → AloneDone (serving_follow (serving_promise s slot epoch manager).state (serving_promise s slot epoch manager).outs)
 follows_promise s slot epoch manager h =
-    follows_so None (promises s slot epoch manager).state (promises s slot epoch manager).outs (nothing_read s slot epoch manager)
-    (promises_so s slot epoch manager h)
+    serving_follow_so None (serving_promise s slot epoch manager).state (serving_promise s slot epoch manager).outs (nothing_read s slot epoch manager)
+    (serving_promise_so s slot epoch manager h)
 
 polled_so : (s : Serving) (manager : ℕ) (p : Poll) → Alone s → AloneDone (polled s manager p)
 unfolding polled
 polled_so s manager p h =
-    by_test AloneDone (may_report s p) (reports p.slot p.epoch (promises s p.slot p.epoch manager)) (still s)
+    by_test AloneDone (may_report s p) (reports p.slot p.epoch (serving_promise s p.slot p.epoch manager)) (still s)
     (λ _. follows_promise s p.slot p.epoch manager h) (λ _. h)
 
 on_poll_so : (s : Serving) (from : NodeId) (p : Poll) → Alone s → AloneDone (on_poll s from p)
@@ -322,20 +322,20 @@ on_poll_so s node.Registry p h = h
 
 -- ---- maps
 
-hears_so : (s : Serving) (news : SlotNews) → Alone s → AloneDone (hears s news)
-unfolding hears
-hears_so s news h =
+serving_hear_so : (s : Serving) (news : SlotNews) → Alone s → AloneDone (serving_hear s news)
+unfolding serving_hear
+serving_hear_so s news h =
     by_test AloneDone (is_news s news) (promised_in s news) (still s) (λ _. follows_promise s news.slot news.epoch news.manager h) (λ _. h)
 
 regroups_so : (s : Serving) (newer : Bool) (m : GroupMapState) → Alone s → AloneDone (regroups s newer m)
-regroups_so s newer m h = by_test AloneDone newer (writes s (log_in.Maps m)) (still s) (λ _. writes_so None s (log_in.Maps m) h) (λ _. h)
+regroups_so s newer m h = by_test AloneDone newer (serving_write s (log_in.Maps m)) (still s) (λ _. serving_write_so None s (log_in.Maps m) h) (λ _. h)
 
 takes_news_so : (s : Serving) (news : News) → Alone s → AloneDone (takes_news s news)
 unfolding takes_news
 takes_news_so s news h =
-    let t : Serving = record s { maps = taken s.maps news } in
-    regroups_so (steps hears t news.slots).state (is_older s.maps news) news.groups
-    (steps_keep hears Alone hears_so t news.slots (record { other = h.other; own = h.own }))
+    let t : Serving = record s { maps = maps_take s.maps news } in
+    regroups_so (steps serving_hear t news.slots).state (is_older s.maps news) news.groups
+    (steps_keep serving_hear Alone serving_hear_so t news.slots (record { other = h.other; own = h.own }))
 
 on_news_so : (s : Serving) (news : News) → Alone s → AloneDone (on_news s news)
 on_news_so s news h = by_test AloneDone (fits s.maps news) (takes_news s news) (still s) (λ _. takes_news_so s news h) (λ _. h)
@@ -346,7 +346,7 @@ on_welcome_so s m h = by_test AloneDone (m.inc == s.lasting.inc) (on_news s m.ne
 
 -- ---- a packet, and time
 
-body_so : (s : Serving) (from : NodeId) (b : Body) → Alone s → AloneDone (on_body s from b)
+body_so : (s : Serving) (from : NodeId) (b : Body) → Alone s → AloneDone (take_body s from b)
 body_so s from (body.Grant m) h = on_grant_so s m h
 body_so s from (body.Supply m) h = on_supply_so s m h
 body_so s from (body.Forward m) h = on_forward_so s m h
@@ -354,20 +354,20 @@ body_so s from (body.Recall m) h = on_recall_so s m h
 body_so s from (body.Gone m) h = on_gone_so s m h
 body_so s from (body.DeltaAck m) h = on_ack_so s m h
 body_so s from (body.Poll m) h = on_poll_so s from m h
-body_so s from (body.Stored m) h = writes_so None s (log_in.Acked m.name m.index m.generation) h
+body_so s from (body.Stored m) h = serving_write_so None s (log_in.Acked m.name m.index m.generation) h
 body_so s from (body.Fragment m) h = on_told_so s from m.ask (answered.Held m.fragment) h
 body_so s from (body.Missing m) h = on_told_so s from m.ask (answered.Missing m.generation) h
 body_so s from (body.MapNews m) h = on_news_so s m h
 body_so s from (body.Welcome m) h = on_welcome_so s m h
 body_so s from _ h = h
 
-pub packet_so : (s : Serving) (p : Packet) → Aimed None s → Aimed None (runs (on_packet s p).state).state
-unfolding on_packet asks_for_maps
+pub packet_so : (s : Serving) (p : Packet) → Aimed None s → Aimed None (run (serving_take s p).state).state
+unfolding serving_take asks_for_maps
 packet_so s p h =
-    runs_so (on_packet s p).state
-    (by_test AloneDone (names_known s.maps p.body) (on_body s p.from p.body) (asks_for_maps s) (λ _. body_so s p.from p.body h)
+    run_so (serving_take s p).state
+    (by_test AloneDone (names_known_groups s.maps p.body) (take_body s p.from p.body) (asks_for_maps s) (λ _. body_so s p.from p.body h)
     (λ _. record { other = h.other; own = h.own }))
 
-pub time_so : (s : Serving) → Aimed None s → Aimed None (runs (on_tick s).state).state
+pub time_so : (s : Serving) → Aimed None s → Aimed None (run (on_tick s).state).state
 unfolding on_tick
-time_so s h = runs_so (on_tick s).state (writes_so None (hands s input.Tick).state log_in.Tick (hands_so None s input.Tick tt h))
+time_so s h = run_so (on_tick s).state (serving_write_so None (hand s input.Tick).state log_in.Tick (hand_so None s input.Tick tt h))

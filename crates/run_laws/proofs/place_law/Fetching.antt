@@ -1,6 +1,6 @@
 -- What a client reads of the place of its fetch is what the filed segment there says.
 use Rattle.std.proofs.Common.{◌≡◌, ℕ, List, Option, None, Some, refl, sym, ap, subst, ◌∙◌}
-use Rattle.client_call.specs.Reads.{block_read, heard, reading_in, value_at}
+use Rattle.client_call.specs.Reads.{block_read, hear_reading, reading_in, value_at}
 use Rattle.client_serving.specs.declared.serving.Serving.{Serving}
 use Rattle.node_tellings.specs.entry_tie.ClientTells.{FetchTold}
 use Rattle.node_tellings.specs.entry_tie.Told.{PlaceTold, told_by_rows}
@@ -82,11 +82,11 @@ module _ (texts : Texts) (packets : List Packet) (to : NodeId) (cuts : Cuts) (f 
     tells node.Registry ask t came = tt
     tells (node.Server server) ask t came = by (reading_in s.call) refl
       where
-        by : (o : Option ReadingState) → reading_in s.call ≡ o → BringsRead k s (block_read o) (heard o s.maps.groups ask server t).next
+        by : (o : Option ReadingState) → reading_in s.call ≡ o → BringsRead k s (block_read o) (hear_reading o s.maps.groups ask server t).next
         by None fact = tt
-        by (Some r) fact = brings r fact r.target.block (heard (Some r) s.maps.groups ask server t).next refl
+        by (Some r) fact = brings r fact r.target.block (hear_reading (Some r) s.maps.groups ask server t).next refl
             (λ segment done. subst (λ (o : Option ReadingState). ReadsPlace (answered_in packets to) (cut_by cuts) o segment) fact
-            (reads packets to cuts s ask server t segment well.came (came server refl) (ap (λ o. (heard o s.maps.groups ask server t).next) fact ∙ done)))
+            (reads packets to cuts s ask server t segment well.came (came server refl) (ap (λ o. (hear_reading o s.maps.groups ask server t).next) fact ∙ done)))
 
     -- a packet that was sent
     module _ (p : Packet) (among : In p packets) (own : p.to ≡ to) (part limit c : ℕ) (n : tokens.Net) (its : n.books ≡ k) where

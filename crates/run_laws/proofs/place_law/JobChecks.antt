@@ -18,7 +18,7 @@ use Rattle.log_protocol.specs.Tables.{In}
 use Rattle.segment_format.specs.declared.segment.Item.{Item}
 use Rattle.segment_format.specs.declared.segment.Item.TheVariants as item
 use Rattle.segment_format.specs.declared.segment.Segment.{Segment}
-use Rattle.stripe_cleaner.specs.Checks.{all_dead, any_asked, after_dead, after_live, after_moved, check_of, checks_from, dead_at, live_at, moved_at}
+use Rattle.stripe_cleaner.specs.Checks.{all_dead, any_asked, after_dead, after_live, after_moved, check_of, checks_of, dead_at, live_at, moved_at}
 use Rattle.stripe_cleaner.specs.CleaningState.{CleaningState}
 use Rattle.stripe_cleaner.specs.Counting.{has_usage, is_counted}
 use Rattle.stripe_cleaner.specs.declared.checks.Check.{Check}
@@ -28,12 +28,12 @@ use Rattle.stripe_cleaner.specs.declared.input.In as inputs
 use Rattle.stripe_cleaner.specs.declared.input.In.TheVariants as input
 use Rattle.stripe_cleaner.specs.declared.phase.Phase.{Phase}
 use Rattle.stripe_cleaner.specs.declared.phase.Phase.TheVariants.{Greeting, Listing, Counting, Reading, Checking, Deleting, Over}
-use Rattle.stripe_cleaner.specs.Job.{Turn, checking, counted, deleting, is_moving, left_to_delete, looked_at, next, next_of, same_name}
+use Rattle.stripe_cleaner.specs.Job.{Turn, job_check, counted, job_delete, is_moving, job_go_on, job_look, next, next_of, same_name}
 use Rattle.stripe_cleaner.specs.JobState.{JobState}
 use Rattle.stripe_cleaner.specs.Listing.{is_among, without}
 use Rattle.stripe_cleaner.specs.Promises.{is_above, is_promised}
 use Rattle.stripe_cleaner.specs.Transition as steps
-use Rattle.stripe_cleaner.specs.Transition.{Done, answered_in, counted_in, deleted_in, forgetting, heard, is_greeting, is_heard, listed, listed_in, mapped, may_move, moved_in, on_dead, on_live, on_promise, on_usage, on_welcome, read_in, transition, usage_with, welcomed}
+use Rattle.stripe_cleaner.specs.Transition.{Done, answered_in, counted_in, deleted_in, forgetting, listing_hear, is_greeting, cleaning_hears, listing_go_on, listed_in, mapped, may_move, moved_in, on_dead, on_live, on_promise, on_usage, on_welcome, read_in, transition, counting_hear, welcomed}
 use Rattle.xfs_base.proofs.Booleans.{by_test}
 use Rattle.xfs_base.proofs.Orders.{seg_cmp_exact}
 use Rattle.xfs_base.specs.Blocks.{same_block}
@@ -114,10 +114,10 @@ module _ (s : Segment) where
   AreFrom number items = (k : ℕ) (i : Item) → slice_get items k ≡ Some i → slice_get s.items (number + k) ≡ Some i
 
   all_begun : (number : ℕ) (items : List Item) → ((i : Item) → In i items → In i s.items) → AreFrom number items
-      → AllByRecursion (CheckLies s) (checks_from number items)
+      → AllByRecursion (CheckLies s) (checks_of number items)
   all_begun number [] sub from = tt
   all_begun number (i ∷ rest) sub from =
-      all_append (CheckLies s) (check_of number i) (checks_from (number + 1) rest)
+      all_append (CheckLies s) (check_of number i) (checks_of (number + 1) rest)
       (one_begun number i (sub i (inl refl)) (ap (slice_get s.items) (none_more number) ∙ from 0 i refl))
       (all_begun (number + 1) rest (λ j h. sub j (inr h)) (λ k j at. ap (slice_get s.items) (one_more number k) ∙ from (suc k) j at))
     where
@@ -128,7 +128,7 @@ module _ (s : Segment) where
       one_more n k = omega arith
 
   -- so it is of all
-  whole_begun : AllByRecursion (CheckLies s) (checks_from 0 s.items)
+  whole_begun : AllByRecursion (CheckLies s) (checks_of 0 s.items)
   whole_begun = all_begun 0 s.items (λ i h. h) (λ k i at. ap (slice_get s.items) (from_none k) ∙ at)
     where
       from_none : (k : ℕ) → 0 + k ≡ k
@@ -152,15 +152,15 @@ module _ (f : Filed) where
       by [] = tt
       by (segment ∷ left) = tt
 
-  checking_keeps : (j : JobState) (segment : SegRef) (checks : List Check) → ChecksLie f segment.name checks → Keeps (checking j segment checks)
-  unfolding checking
-  checking_keeps j segment checks all = by_test Keeps (all_dead checks) (deleting j segment) _ (λ t. tt) (λ t. all)
+  checking_keeps : (j : JobState) (segment : SegRef) (checks : List Check) → ChecksLie f segment.name checks → Keeps (job_check j segment checks)
+  unfolding job_check
+  checking_keeps j segment checks all = by_test Keeps (all_dead checks) (job_delete j segment) _ (λ t. tt) (λ t. all)
 
   looked_keeps : (j : JobState) (segment : SegRef) (was_asked : Bool) (checks : List Check) → ChecksLie f segment.name checks
-      → Keeps (looked_at j segment was_asked checks)
-  unfolding looked_at
+      → Keeps (job_look j segment was_asked checks)
+  unfolding job_look
   looked_keeps j segment was_asked checks all =
-      by_test Keeps (all_dead checks) (deleting j segment) _ (λ t. tt) (λ t. by_test Keeps (was_asked && not (any_asked checks)) _ _ (λ u. all) (λ u. all))
+      by_test Keeps (all_dead checks) (job_delete j segment) _ (λ t. tt) (λ t. by_test Keeps (was_asked && not (any_asked checks)) _ _ (λ u. all) (λ u. all))
 
   forgetting_keeps : (slot : ℕ) (p : Phase) → PhaseLies f p → Keeps (forgetting slot p)
   forgetting_keeps slot (Counting c) h = by_test Keeps (has_usage c.usages slot) _ (still (Counting c)) (λ t. tt) (λ t. tt)
@@ -177,14 +177,14 @@ module _ (f : Filed) where
 
   listed_keeps : (server : ℕ) (held : List FragMeta) (p : Phase) → PhaseLies f p → Keeps (listed_in server held p)
   listed_keeps server held (Listing l) h =
-      by_test Keeps (is_among l.awaited server) (listed (heard l server held)) (still (Listing l))
-      (λ t. by_test Keeps (length (heard l server held).awaited == 0) _ _ (λ u. tt) (λ u. tt)) (λ t. tt)
+      by_test Keeps (is_among l.awaited server) (listing_go_on (listing_hear l server held)) (still (Listing l))
+      (λ t. by_test Keeps (length (listing_hear l server held).awaited == 0) _ _ (λ u. tt) (λ u. tt)) (λ t. tt)
   listed_keeps server held p h = h
 
   counted_keeps : (count slot : ℕ) (counts : List (SegName × ℕ)) (p : Phase) → PhaseLies f p → Keeps (counted_in count slot counts p)
   counted_keeps count slot counts (Counting c) h =
-      by_test Keeps (has_usage c.usages slot) (still (Counting c)) (steps.counted count (usage_with slot counts c)) (λ t. tt)
-      (λ t. by_test Keeps (is_counted (usage_with slot counts c).usages) _ _ (λ u. next_keeps _) (λ u. tt))
+      by_test Keeps (has_usage c.usages slot) (still (Counting c)) (steps.counting_go_on count (counting_hear slot counts c)) (λ t. tt)
+      (λ t. by_test Keeps (is_counted (counting_hear slot counts c).usages) _ _ (λ u. next_keeps _) (λ u. tt))
   counted_keeps count slot counts p h = h
 
   answered_keeps : (g : Check → Check) → ((s : Segment) (c : Check) → CheckLies s c → CheckLies s (g c)) → (p : Phase) → PhaseLies f p → Keeps (answered_in g p)
@@ -198,7 +198,7 @@ module _ (f : Filed) where
 
   deleted_keeps : (server : ℕ) (name : SegName) (p : Phase) → PhaseLies f p → Keeps (deleted_in server name p)
   deleted_keeps server name (Deleting j segment servers) h =
-      by_test Keeps (same_name name segment.name && is_among servers server) (left_to_delete j segment (without servers server))
+      by_test Keeps (same_name name segment.name && is_among servers server) (job_go_on j segment (without servers server))
       (still (Deleting j segment servers))
       (λ t. by_test Keeps (length (without servers server) == 0) (next (counted j)) _ (λ u. next_keeps (counted j)) (λ u. tt)) (λ t. tt)
   deleted_keeps server name p h = h
@@ -206,14 +206,14 @@ module _ (f : Filed) where
   read_keeps : (read : Option Segment) (p : Phase) → ReadFor f read p → PhaseLies f p → Keeps (read_in read p)
   read_keeps None (Reading j segment) owed h = next_keeps j
   read_keeps (Some read) (Reading j segment) owed h =
-      by_test Keeps (same_name read.name segment.name) (checking j segment (checks_from 0 read.items)) (still (Reading j segment))
-      (λ t. checking_keeps j segment (checks_from 0 read.items) (begun (tells_apart seg_cmp_exact read.name segment.name t))) (λ t. tt)
+      by_test Keeps (same_name read.name segment.name) (job_check j segment (checks_of 0 read.items)) (still (Reading j segment))
+      (λ t. checking_keeps j segment (checks_of 0 read.items) (begun (tells_apart seg_cmp_exact read.name segment.name t))) (λ t. tt)
     where
-      begun : read.name ≡ segment.name → ChecksLie f segment.name (checks_from 0 read.items)
+      begun : read.name ≡ segment.name → ChecksLie f segment.name (checks_of 0 read.items)
       begun named = record {
         within = owed.0;
         lie = λ fact.
-            subst (λ s. AllByRecursion (CheckLies s) (checks_from 0 read.items)) (owed.1 fact named) (whole_begun read);
+            subst (λ s. AllByRecursion (CheckLies s) (checks_of 0 read.items)) (owed.1 fact named) (whole_begun read);
       }
   read_keeps read (Counting c) owed h = tt
   read_keeps read (Listing l) owed h = tt
@@ -242,10 +242,10 @@ module _ (f : Filed) where
       by_test KeepsOn (is_promised s.promised slot epoch) _ (still s) (λ t. counted_keeps s.count slot counts s.phase h) (λ t. h)
   taken s (input.Read read) fact h = read_keeps read s.phase fact h
   taken s (input.Live block epoch entry) fact h =
-      by_test KeepsOn (is_heard s.promised block epoch && may_move entry) _ (still s)
+      by_test KeepsOn (cleaning_hears s.promised block epoch && may_move entry) _ (still s)
       (λ t. answered_keeps (live_at block entry) (λ z c here. live_lies z block entry c here) s.phase h) (λ t. h)
   taken s (input.Dead block epoch) fact h =
-      by_test KeepsOn (is_heard s.promised block epoch) _ (still s)
+      by_test KeepsOn (cleaning_hears s.promised block epoch) _ (still s)
       (λ t. answered_keeps (dead_at block) (λ z c here. dead_lies z block c here) s.phase h) (λ t. h)
   taken s input.Moved fact h = moved_keeps s.phase h
   taken s (input.Deleted server name) fact h = deleted_keeps server name s.phase h

@@ -18,7 +18,7 @@ use Rattle.stripe_code.specs.declared.round.RoundState.{RoundState}
 use Rattle.stripe_code.specs.declared.round.RoundState.TheVariants.{Read, Short, Waiting}
 use Rattle.stripe_code.specs.declared.round.Told.{Told}
 use Rattle.stripe_code.specs.declared.round.Told.TheVariants.{Held, Missing}
-use Rattle.stripe_code.specs.Round.{RoundSoFar, IsRound, bytes_in, bytes_told, count_of, have_answered, is_enough, len_in, missing_in, parts_in, state_of}
+use Rattle.stripe_code.specs.Round.{RoundSoFar, IsRound, bytes_in, bytes_told, count_of, all_answered, is_enough, len_in, missing_in, parts_in, state_of}
 use Rattle.stripe_code.specs.Joined as joins
 use Rattle.wire_msg.specs.declared.packet.Packet.{Packet}
 use Rattle.xfs_base.proofs.Booleans.{by_test, equal_itself}
@@ -56,8 +56,8 @@ unfolding state_of
 reads_enough r text fact =
     by_test (λ (s : RoundState). s ≡ Read text → is_enough r ≡ true) (is_enough r)
     (Read (joins.joined (parts_in r.n r.answers) r.parity (unwrap_or (len_in r.answers) 0)))
-    (cond (have_answered r.answers r.servers) (Short (missing_in r.answers)) Waiting) (λ t h. t)
-    (λ _. by_test (λ (s : RoundState). s ≡ Read text → is_enough r ≡ true) (have_answered r.answers r.servers) (Short (missing_in r.answers)) Waiting
+    (cond (all_answered r.answers r.servers) (Short (missing_in r.answers)) Waiting) (λ t h. t)
+    (λ _. by_test (λ (s : RoundState). s ≡ Read text → is_enough r ≡ true) (all_answered r.answers r.servers) (Short (missing_in r.answers)) Waiting
     (λ _ x. absurd (cc)) (λ _ x. absurd (cc)))
     fact
 

@@ -9,7 +9,7 @@ use Rattle.manager_node.specs.Phases.{Went_to, serves}
 use Rattle.manager_serving.specs.Checkpoints.{Done}
 use Rattle.manager_serving.specs.declared.serving.Serving.{Serving}
 use Rattle.manager_serving.specs.Serving as serving
-use Rattle.node_base.specs.Known.{names_known}
+use Rattle.node_base.specs.Known.{names_known_groups}
 use Rattle.node_base.specs.Shape.{is_well_formed}
 use Rattle.wire_msg.specs.declared.body.Body.{Body}
 use Rattle.wire_msg.specs.declared.body.Body.TheVariants as body
@@ -57,20 +57,20 @@ module _ (A : Live → Type 0) where
   own_so s clients from (body.Check m) may asks = checks_say A s.slots m may
   own_so s clients from _ may asks = absurd asks
 
-  hears_so : (s : Serving) (clients : ℕ) (packet : Packet) → ((l : Live) → AnswersBody packet.body l → A l)
-      → AllSay (IfLive A) (serving.hears s clients packet).outs
-  unfolding serving.hears serving.asks_for_maps
-  hears_so s clients packet may =
-      by_test (λ (d : Done). AllSay (IfLive A) d.outs) (names_known s.maps packet.body) (serving.on_body s clients packet.from packet.body) _
+  serving_hear_so : (s : Serving) (clients : ℕ) (packet : Packet) → ((l : Live) → AnswersBody packet.body l → A l)
+      → AllSay (IfLive A) (serving.serving_hear s clients packet).outs
+  unfolding serving.serving_hear serving.ask_for_maps
+  serving_hear_so s clients packet may =
+      by_test (λ (d : Done). AllSay (IfLive A) d.outs) (names_known_groups s.maps packet.body) (serving.on_body s clients packet.from packet.body) _
       (λ t. body_so (IfLive A) silent s clients packet.from packet.body (own_so s clients packet.from packet.body may)) (λ t. (tt, tt))
 
   packet_so : (peers : _) (p : Phase) (packet : Packet) → ((l : Live) → AnswersBody packet.body l → A l) → AllSay (IfLive A) (events.on_packet peers p packet).outs
   packet_so peers (Down kept) packet may = tt
   packet_so peers (Waiting kept hello) packet may = waits_so (IfLive A) silent peers kept hello packet.body
-  packet_so peers (Serves s) packet may = hears_so s peers.clients packet may
+  packet_so peers (Serves s) packet may = serving_hear_so s peers.clients packet may
 
   event_so : (peers : _) (p : Phase) (what : Do) → ((l : Live) → AnswersDo what l → A l) → AllSay (IfLive A) (events.on_event peers p what).outs
-  unfolding events.on_deliver
+  unfolding events.manager_deliver
   event_so peers p Begin may = begins_so (IfLive A) silent p
   event_so peers p (Deliver packet) may =
       by_test (λ (w : Went_to). AllSay (IfLive A) w.outs) (is_well_formed peers packet) (events.on_packet peers p packet) (still p)

@@ -26,7 +26,7 @@ use Rattle.manager_serving.specs.declared.serving.Serving.{Serving}
 use Rattle.manager_serving.specs.Serving as serving
 use Rattle.node_base.specs.Beginning.{next_item, work_at}
 use Rattle.node_base.specs.declared.effects.Effect.{Effect}
-use Rattle.node_base.specs.Maps.{fits, forgotten, is_older, taken}
+use Rattle.node_base.specs.Maps.{fits, forgotten, is_older, maps_take}
 use Rattle.segment_format.specs.declared.segment.Item.{Item}
 use Rattle.version_model.specs.declared.answer.Answer.TheVariants as answer
 use Rattle.version_model.specs.declared.work.Work.{Work}
@@ -61,27 +61,27 @@ module _ (Is : Body → Type 0) (silent : IsOfEntries Is) where
 
   -- ---- the log
 
-  stored_so : (o : LogOut) → AllSay Is (checkpoints.stored o)
-  unfolding checkpoints.stored
-  stored_so (log_out.Send f member) = (silent _ tt, tt)
-  stored_so (log_out.Settled end rows) = tt
+  checkpointing_store_so : (o : LogOut) → AllSay Is (checkpoints.checkpointing_store o)
+  unfolding checkpoints.checkpointing_store
+  checkpointing_store_so (log_out.Send f member) = (silent _ tt, tt)
+  checkpointing_store_so (log_out.Settled end rows) = tt
 
-  parts_so : (s : Serving) (items : List Item) → AllSay Is (checkpoints.gives_parts s items).outs
-  unfolding checkpoints.gives_parts
-  parts_so s items = all_flat_map (Says Is) checkpoints.stored stored_so (log.transition s.log (log_in.Parts items)).outs
+  parts_so : (s : Serving) (items : List Item) → AllSay Is (checkpoints.give_parts s items).outs
+  unfolding checkpoints.give_parts
+  parts_so s items = all_flat_map (Says Is) checkpoints.checkpointing_store checkpointing_store_so (log.transition s.log (log_in.Parts items)).outs
 
   -- ---- the writer
 
-  says_so : (s : Serving) (o : Out) → AllSay Is (checkpoints.says s o).outs
-  unfolding checkpoints.says checkpoints.registers
-  says_so s (out.Parts items) = parts_so s items
-  says_so s (out.Done slot epoch parts horizon) = (silent _ tt, tt)
-  says_so s out.Kept = tt
-  says_so s (out.Stale epoch) = tt
+  writer_says_so : (s : Serving) (o : Out) → AllSay Is (checkpoints.writer_says s o).outs
+  unfolding checkpoints.writer_says checkpoints.register
+  writer_says_so s (out.Parts items) = parts_so s items
+  writer_says_so s (out.Done slot epoch parts horizon) = (silent _ tt, tt)
+  writer_says_so s out.Kept = tt
+  writer_says_so s (out.Stale epoch) = tt
 
   takes_so : (s : Serving) (given : In) → AllSay Is (checkpoints.writer_takes s given).outs
-  unfolding checkpoints.writer_takes checkpoints.says_each
-  takes_so s given = (let r = writer.transition s.writer given in steps_say Is checkpoints.says says_so (record s { writer = r.state }) r.outs)
+  unfolding checkpoints.writer_takes checkpoints.writer_says_each
+  takes_so s given = (let r = writer.transition s.writer given in steps_say Is checkpoints.writer_says writer_says_so (record s { writer = r.state }) r.outs)
 
   log_so : (s : Serving) (o : LogOut) → AllSay Is (checkpoints.log_says s o).outs
   unfolding checkpoints.log_says checkpoints.on_settled
@@ -89,9 +89,9 @@ module _ (Is : Body → Type 0) (silent : IsOfEntries Is) where
   log_so s (log_out.Settled end rows) =
       says_after (checkpoints.filed s end) (checkpoints.writer_takes s (input.Settled end)) (tt, tt) (takes_so s (input.Settled end))
 
-  writes_so : (s : Serving) (given : LogIn) → AllSay Is (checkpoints.writes s given).outs
-  unfolding checkpoints.writes checkpoints.log_says_each
-  writes_so s given =
+  serving_write_so : (s : Serving) (given : LogIn) → AllSay Is (checkpoints.serving_write s given).outs
+  unfolding checkpoints.serving_write checkpoints.log_says_each
+  serving_write_so s given =
       steps_say Is checkpoints.log_says log_so (record s { log = (log.transition s.log given).state }) (log.transition s.log given).outs
 
   -- ---- checkpoints
@@ -101,7 +101,7 @@ module _ (Is : Body → Type 0) (silent : IsOfEntries Is) where
   slot_so s (Some given) = takes_so s given
 
   next_at : (s : Serving) (job : Checkpointing) (slot : Option ℕ) → AllSay Is (checkpoints.next_from s job slot).outs
-  unfolding checkpoints.begins_slot
+  unfolding checkpoints.begin_slot
   next_at s job None = answers_say Is s.lasting.items.unanswered (answer.Count job.count)
   next_at s job (Some slot) = slot_so (record s { checkpoint = _; slots = _ }) (table.begin_at s.slots slot)
 
@@ -126,16 +126,16 @@ module _ (Is : Body → Type 0) (silent : IsOfEntries Is) where
       let r = writer.transition s.writer (input.Ack ack.epoch s.dones) in
       by_test (λ (d : Done). AllSay Is d.outs) (checkpoints.awaits s.checkpoint ack.ask) (checkpoints.answered_by s r) (still s)
       (λ t. by_test (λ (d : Done). AllSay Is d.outs) (length r.outs == 0) (still (record s { writer = r.state }))
-      (checkpoints.next_slot (record s { writer = r.state; checkpoint = fold checkpoints.counted s.checkpoint r.outs }))
+      (checkpoints.next_slot (record s { writer = r.state; checkpoint = fold checkpoints.checkpointing_count s.checkpoint r.outs }))
       (λ u. tt)
-      (λ u. next_so (record s { writer = r.state; checkpoint = fold checkpoints.counted s.checkpoint r.outs })))
+      (λ u. next_so (record s { writer = r.state; checkpoint = fold checkpoints.checkpointing_count s.checkpoint r.outs })))
       (λ t. tt)
 
-  again_so : (job : Option Checkpointing) → AllSay Is (checkpoints.told_again job)
+  again_so : (job : Option Checkpointing) → AllSay Is (checkpoints.checkpointing_tell_again job)
   again_so None = tt
   again_so (Some job) = by job.done
     where
-      by : (o : Option CkptDone) → AllSay Is (checkpoints.done_again o)
+      by : (o : Option CkptDone) → AllSay Is (checkpoints.send_done o)
       by None = tt
       by (Some done) = (silent _ tt, tt)
 
@@ -146,9 +146,9 @@ module _ (Is : Body → Type 0) (silent : IsOfEntries Is) where
   hears_with_so s clients slots None = tt
   hears_with_so s clients slots (Some groups) = hears_say Is silent (serving.hearer_of s clients groups) (serving.asker_of s) slots
 
-  hears_slots_so : (s : Serving) (clients : ℕ) (slots : List SlotNews) → AllSay Is (serving.hears_slots s clients slots).outs
-  unfolding serving.hears_slots
-  hears_slots_so s clients slots = hears_with_so s clients slots s.maps.groups
+  hear_slots_so : (s : Serving) (clients : ℕ) (slots : List SlotNews) → AllSay Is (serving.hear_slots s clients slots).outs
+  unfolding serving.hear_slots
+  hear_slots_so s clients slots = hears_with_so s clients slots s.maps.groups
 
   regroups_so : (s : Serving) (groups : GroupMapState) → AllSay Is (serving.regroups s groups).outs
   unfolding serving.regroups
@@ -158,17 +158,17 @@ module _ (Is : Body → Type 0) (silent : IsOfEntries Is) where
   unfolding serving.on_newer
   newer_so s clients news =
       let a : Done = serving.regroups s news.groups in
-      let b : Done = serving.and_then a (λ t. serving.hears_slots t clients news.slots) in
-      says_after b.outs (checkpoints.writes b.state (log_in.Maps news.groups))
-      (says_after a.outs (serving.hears_slots a.state clients news.slots) (regroups_so s news.groups) (hears_slots_so a.state clients news.slots))
-      (writes_so b.state (log_in.Maps news.groups))
+      let b : Done = serving.and_then a (λ t. serving.hear_slots t clients news.slots) in
+      says_after b.outs (checkpoints.serving_write b.state (log_in.Maps news.groups))
+      (says_after a.outs (serving.hear_slots a.state clients news.slots) (regroups_so s news.groups) (hear_slots_so a.state clients news.slots))
+      (serving_write_so b.state (log_in.Maps news.groups))
 
   news_so : (s : Serving) (clients : ℕ) (news : News) → AllSay Is (serving.on_news s clients news).outs
   unfolding serving.on_news
   news_so s clients news =
-      by_test (λ (d : Done). AllSay Is d.outs) (is_older s.maps news) (serving.on_newer (record s { maps = taken s.maps news }) clients news)
-      (serving.hears_slots s clients news.slots)
-      (λ t. newer_so (record s { maps = taken s.maps news }) clients news) (λ t. hears_slots_so s clients news.slots)
+      by_test (λ (d : Done). AllSay Is d.outs) (is_older s.maps news) (serving.on_newer (record s { maps = maps_take s.maps news }) clients news)
+      (serving.hear_slots s clients news.slots)
+      (λ t. newer_so (record s { maps = maps_take s.maps news }) clients news) (λ t. hear_slots_so s clients news.slots)
 
   fitting_so : (s : Serving) (clients : ℕ) (news : News) → AllSay Is (serving.on_fitting_news s clients news).outs
   fitting_so s clients news =
@@ -182,7 +182,7 @@ module _ (Is : Body → Type 0) (silent : IsOfEntries Is) where
   -- ---- packets
 
   answered_so : (s : Serving) (which : Option (ℕ × ℕ)) (given : ℕ → _) → AllSay Is (serving.answered_by s which given).outs
-  unfolding serving.takes
+  unfolding serving.serving_take
   answered_so s None given = tt
   answered_so s (Some which) given = takes_say Is silent (serving.asker_of s) which.0 (given which.1)
 
@@ -209,33 +209,33 @@ module _ (Is : Body → Type 0) (silent : IsOfEntries Is) where
   body_so s clients from (body.Report m) own = reports_say Is silent (serving.asker_of s) from m
   body_so s clients from (body.Fragment m) own = found_so s _ m
   body_so s clients from (body.Missing m) own = missing_so s _ m
-  body_so s clients from (body.Stored m) own = writes_so s (log_in.Acked m.name m.index m.generation)
+  body_so s clients from (body.Stored m) own = serving_write_so s (log_in.Acked m.name m.index m.generation)
   body_so s clients from (body.CkptAck m) own = ack_so s m
   body_so s clients from _ own = tt
 
   tick_so : (s : Serving) → AllSay Is (serving.on_tick s).outs
-  unfolding serving.on_tick serving.recalls_again serving.asks_again checkpoints.tells_again
+  unfolding serving.on_tick serving.recalls_again serving.serving_ask_again checkpoints.serving_tell_again
   tick_so s =
       let a : Done = serving.recalls_again s in
-      let b : Done = serving.and_then a (λ t. serving.asks_again t true) in
-      let c : Done = serving.and_then b (λ t. serving.asks_again t false) in
-      let d : Done = serving.and_then c (λ t. checkpoints.writes t log_in.Tick) in
-      says_after d.outs (checkpoints.tells_again d.state)
-      (says_after c.outs (checkpoints.writes c.state log_in.Tick)
-      (says_after b.outs (serving.asks_again b.state false)
-      (says_after a.outs (serving.asks_again a.state true) (recalls_say Is silent s.slots) (asks_say Is silent true (serving.asker_of a.state)))
+      let b : Done = serving.and_then a (λ t. serving.serving_ask_again t true) in
+      let c : Done = serving.and_then b (λ t. serving.serving_ask_again t false) in
+      let d : Done = serving.and_then c (λ t. checkpoints.serving_write t log_in.Tick) in
+      says_after d.outs (checkpoints.serving_tell_again d.state)
+      (says_after c.outs (checkpoints.serving_write c.state log_in.Tick)
+      (says_after b.outs (serving.serving_ask_again b.state false)
+      (says_after a.outs (serving.serving_ask_again a.state true) (recalls_say Is silent s.slots) (asks_say Is silent true (serving.asker_of a.state)))
       (asks_say Is silent false (serving.asker_of b.state)))
-      (writes_so c.state log_in.Tick))
+      (serving_write_so c.state log_in.Tick))
       (again_so d.state.checkpoint)
 
   -- ---- phases
 
-  crash_so : (kept : Kept) (number : ℕ) → AllSay Is (phases.crashes kept number).outs
-  unfolding phases.crashes
+  crash_so : (kept : Kept) (number : ℕ) → AllSay Is (phases.crash kept number).outs
+  unfolding phases.crash
   crash_so kept number = all_append (Says Is) _ _ (answers_say Is kept.items.unanswered answer.Cut) (tt, tt)
 
-  restart_so : (kept : Kept) (number : ℕ) → AllSay Is (phases.restarts kept number).outs
-  unfolding phases.restarts
+  restart_so : (kept : Kept) (number : ℕ) → AllSay Is (phases.restart kept number).outs
+  unfolding phases.restart
   restart_so kept number = (tt, (silent _ tt, tt))
 
   down_so : (kept : Kept) (number : ℕ) (asked : Option Work) → AllSay Is (phases.down_wish kept number (phases.wish_at asked)).outs

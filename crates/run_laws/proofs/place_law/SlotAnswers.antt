@@ -47,38 +47,38 @@ is_at (Some at) place h =
 module _ (A : Live → Type 0) where
   -- ---- one slot
 
-  said_so : (slot epoch : ℕ) (o : Out) → AllSay (IfLive A) (tokens.said slot epoch o)
-  unfolding tokens.said
-  said_so slot epoch (out.Grant client block stamp inc req mode entry) = (tt, tt)
-  said_so slot epoch (out.Forward client block stamp to inc req ver) = (tt, tt)
-  said_so slot epoch (out.Recall client block stamp keep) = (tt, tt)
-  said_so slot epoch (out.Applied log applied) = (tt, tt)
-  said_so slot epoch (out.Live entry) = tt
-  said_so slot epoch out.Dead = tt
+  tokens_say_so : (slot epoch : ℕ) (o : Out) → AllSay (IfLive A) (tokens.tokens_say slot epoch o)
+  unfolding tokens.tokens_say
+  tokens_say_so slot epoch (out.Grant client block stamp inc req mode entry) = (tt, tt)
+  tokens_say_so slot epoch (out.Forward client block stamp to inc req ver) = (tt, tt)
+  tokens_say_so slot epoch (out.Recall client block stamp keep) = (tt, tt)
+  tokens_say_so slot epoch (out.Applied log applied) = (tt, tt)
+  tokens_say_so slot epoch (out.Live entry) = tt
+  tokens_say_so slot epoch out.Dead = tt
 
-  takes_so : (p : SlotPhase) (slot : ℕ) (given : In) → AllSay (IfLive A) (tokens.takes p slot given).outs
-  unfolding tokens.takes
-  takes_so (phase.Active a) slot given =
-      all_flat_map (Says (IfLive A)) (tokens.said slot a.slot.epoch) (said_so slot a.slot.epoch) (transition a.slot given).outs
-  takes_so (phase.Away epoch) slot given = tt
-  takes_so (phase.Taking t) slot given = tt
-  takes_so (phase.Broken epoch seg) slot given = tt
+  tokens_take_so : (p : SlotPhase) (slot : ℕ) (given : In) → AllSay (IfLive A) (tokens.tokens_take p slot given).outs
+  unfolding tokens.tokens_take
+  tokens_take_so (phase.Active a) slot given =
+      all_flat_map (Says (IfLive A)) (tokens.tokens_say slot a.slot.epoch) (tokens_say_so slot a.slot.epoch) (transition a.slot given).outs
+  tokens_take_so (phase.Away epoch) slot given = tt
+  tokens_take_so (phase.Taking t) slot given = tt
+  tokens_take_so (phase.Broken epoch seg) slot given = tt
 
   want_so : (client : ℕ) (want : Want) (p : SlotPhase) → AllSay (IfLive A) (tokens.on_want p client want).outs
   unfolding tokens.on_want
-  want_so client want (phase.Active a) = takes_so (phase.Active a) (slot_of want.block.ino.0) (tokens.want_input client want)
-  want_so client want (phase.Away epoch) = takes_so (phase.Away epoch) (slot_of want.block.ino.0) (tokens.want_input client want)
-  want_so client want (phase.Taking t) = takes_so (phase.Taking t) (slot_of want.block.ino.0) (tokens.want_input client want)
+  want_so client want (phase.Active a) = tokens_take_so (phase.Active a) (slot_of want.block.ino.0) (tokens.want_input client want)
+  want_so client want (phase.Away epoch) = tokens_take_so (phase.Away epoch) (slot_of want.block.ino.0) (tokens.want_input client want)
+  want_so client want (phase.Taking t) = tokens_take_so (phase.Taking t) (slot_of want.block.ino.0) (tokens.want_input client want)
   want_so client want (phase.Broken epoch seg) = (tt, tt)
 
   -- a Check is answered Live where the entry of the block is at its place
   module _ (check : Check) (may : (m : Live) → AnswersCheck check m → A m) where
-    found_so : (epoch : ℕ) (entry : Entry) → AllSay (IfLive A) (flat_map (tokens.check_said check epoch) (slot.found entry check.place ∷ []))
-    unfolding tokens.check_said
+    found_so : (epoch : ℕ) (entry : Entry) → AllSay (IfLive A) (flat_map (tokens.tokens_answer check epoch) (slot.found entry check.place ∷ []))
+    unfolding tokens.tokens_answer
     found_so epoch entry = by (is_place entry.place check.place) refl
       where
         by : (t : Bool) → is_place entry.place check.place ≡ t
-            → AllSay (IfLive A) (flat_map (tokens.check_said check epoch) (cond t (out.Live entry) out.Dead ∷ []))
+            → AllSay (IfLive A) (flat_map (tokens.tokens_answer check epoch) (cond t (out.Live entry) out.Dead ∷ []))
         by true fact = (
           may (record { block = check.block; ask = check.ask; epoch = epoch; entry = entry })
               (record { block = refl; ask = refl; place = is_at entry.place check.place fact }),
@@ -105,12 +105,12 @@ module _ (A : Live → Type 0) where
   unfolding table.on_gave
   gaves_say t client gave =
       in_slot_so (IfLive A) t (slot_of gave.block.ino.0) (λ p. tokens.on_gave p client gave)
-      (λ p. takes_so p (slot_of gave.block.ino.0) (tokens.gave_input client gave)) (slice_get t (slot_of gave.block.ino.0))
+      (λ p. tokens_take_so p (slot_of gave.block.ino.0) (tokens.gave_input client gave)) (slice_get t (slot_of gave.block.ino.0))
 
   pub deltas_say : (t : Table) (log : LogId) (deltas : Deltas) → AllSay (IfLive A) (table.on_deltas t log deltas).outs
   unfolding table.on_deltas
   deltas_say t log deltas =
-      in_slot_so (IfLive A) t deltas.slot (λ p. tokens.on_deltas p log deltas) (λ p. takes_so p deltas.slot (tokens.deltas_input log deltas))
+      in_slot_so (IfLive A) t deltas.slot (λ p. tokens.on_deltas p log deltas) (λ p. tokens_take_so p deltas.slot (tokens.deltas_input log deltas))
       (slice_get t deltas.slot)
 
   pub checks_say : (t : Table) (check : Check) → ((m : Live) → AnswersCheck check m → A m) → AllSay (IfLive A) (table.on_check t check).outs

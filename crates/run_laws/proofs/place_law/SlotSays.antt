@@ -5,7 +5,7 @@ use Rattle.std.proofs.lemmas.Grind.{flat_map-append}
 use Rattle.std.specs.List.{flat_map}
 use Rattle.slot_beliefs.specs.declared.job.Awaited.{Awaited}
 use Rattle.slot_beliefs.specs.declared.job.Job.{Job}
-use Rattle.token_manager.specs.Recalls.{all_sent, recall_of, sent}
+use Rattle.token_manager.specs.Recalls.{send_all, recall_of, send_recalls}
 use Rattle.xfs_base.proofs.Booleans.{by_test}
 use Rattle.xfs_base.specs.declared.block.BlockId.{BlockId}
 use Rattle.group_map.specs.GroupMapState.{GroupMapState}
@@ -44,23 +44,23 @@ module _ (Is : Body → Type 0) (silent : IsOfEntries Is) where
   -- ---- one slot
 
   -- recalls that are sent again
-  again_of : (slot epoch : ℕ) (block : BlockId) (awaited : List Awaited) → AllSay Is (flat_map (tokens.said slot epoch) (sent block awaited))
-  unfolding tokens.said
+  again_of : (slot epoch : ℕ) (block : BlockId) (awaited : List Awaited) → AllSay Is (flat_map (tokens.tokens_say slot epoch) (send_recalls block awaited))
+  unfolding tokens.tokens_say
   again_of slot epoch block [] = tt
   again_of slot epoch block (a ∷ rest) =
-      elim (is_some a.end) as (λ t. AllSay Is (flat_map (tokens.said slot epoch) (cond t (sent block rest) (recall_of block a ∷ sent block rest)))) [
+      elim (is_some a.end) as (λ t. AllSay Is (flat_map (tokens.tokens_say slot epoch) (cond t (send_recalls block rest) (recall_of block a ∷ send_recalls block rest)))) [
         | true ↦ again_of slot epoch block rest
         | false ↦ (silent _ tt, again_of slot epoch block rest)
       ]
 
-  all_again : (slot epoch : ℕ) (jobs : List (BlockId × Job)) → AllSay Is (flat_map (tokens.said slot epoch) (all_sent jobs))
+  all_again : (slot epoch : ℕ) (jobs : List (BlockId × Job)) → AllSay Is (flat_map (tokens.tokens_say slot epoch) (send_all jobs))
   all_again slot epoch [] = tt
   all_again slot epoch (e ∷ es) =
-      subst (AllSay Is) (sym (flat_map-append (tokens.said slot epoch) (sent e.0 e.1.awaited) (all_sent es)))
+      subst (AllSay Is) (sym (flat_map-append (tokens.tokens_say slot epoch) (send_recalls e.0 e.1.awaited) (send_all es)))
       (all_append (Says Is) _ _ (again_of slot epoch e.0 e.1.awaited) (all_again slot epoch es))
 
   tick_so : (p : SlotPhase) (slot : ℕ) → AllSay Is (tokens.on_tick p slot).outs
-  unfolding tokens.takes
+  unfolding tokens.tokens_take
   tick_so (phase.Active a) slot = all_again slot a.slot.epoch a.slot.jobs
   tick_so (phase.Away epoch) slot = tt
   tick_so (phase.Taking t) slot = tt
@@ -83,50 +83,50 @@ module _ (Is : Body → Type 0) (silent : IsOfEntries Is) where
       by None = tt
       by (Some p) = usage_so asked p
 
-  pub recalls_say : (t : Table) → AllSay Is (table.recalls_all t).outs
-  unfolding table.recalls
-  recalls_say t = steps_say Is table.recalls one t table.all_slots
+  pub recalls_say : (t : Table) → AllSay Is (table.recall_again t).outs
+  unfolding table.slot_table_recall
+  recalls_say t = steps_say Is table.slot_table_recall one t table.all_slots
     where
-      one : (t : Table) (slot : ℕ) → AllSay Is (table.recalls t slot).outs
+      one : (t : Table) (slot : ℕ) → AllSay Is (table.slot_table_recall t slot).outs
       one t slot = in_slot_so Is t slot (λ p. tokens.on_tick p slot) (λ p. tick_so p slot) (slice_get t slot)
 
   -- ---- takeovers
 
-  fetch_so : (p : SlotPhase) (q : Questions) (server : ℕ) (name : SegName) (own : ℕ) → AllSay Is (takeovers.fetches p q server name own).outs
+  fetch_so : (p : SlotPhase) (q : Questions) (server : ℕ) (name : SegName) (own : ℕ) → AllSay Is (takeovers.takeovers_fetch p q server name own).outs
   fetch_so (phase.Taking t) q server name own = (silent _ tt, tt)
   fetch_so (phase.Away epoch) q server name own = tt
   fetch_so (phase.Active a) q server name own = tt
   fetch_so (phase.Broken epoch seg) q server name own = tt
 
-  says_so : (slot : ℕ) (a : Asker) (o : Told) → AllSay Is (takeovers.says slot a o).outs
-  unfolding takeovers.says
-  says_so slot a (told.Poll to) = (silent _ tt, tt)
-  says_so slot a (told.Fetch server name own) = fetch_so a.phase a.questions server name own
-  says_so slot a (told.Active epoch index beliefs applied) = tt
-  says_so slot a (told.Lost seg) = (tt, tt)
+  takeovers_say_so : (slot : ℕ) (a : Asker) (o : Told) → AllSay Is (takeovers.takeovers_say slot a o).outs
+  unfolding takeovers.takeovers_say
+  takeovers_say_so slot a (told.Poll to) = (silent _ tt, tt)
+  takeovers_say_so slot a (told.Fetch server name own) = fetch_so a.phase a.questions server name own
+  takeovers_say_so slot a (told.Active epoch index beliefs applied) = tt
+  takeovers_say_so slot a (told.Lost seg) = (tt, tt)
 
-  each_so : (slot : ℕ) (a : Asker) (outs : List Told) → AllSay Is (takeovers.says_each slot a outs).outs
-  unfolding takeovers.says_each
-  each_so slot a outs = steps_say Is (takeovers.says slot) (says_so slot) a outs
+  each_so : (slot : ℕ) (a : Asker) (outs : List Told) → AllSay Is (takeovers.say_each slot a outs).outs
+  unfolding takeovers.say_each
+  each_so slot a outs = steps_say Is (takeovers.takeovers_say slot) (takeovers_say_so slot) a outs
 
-  taken_so : (a : Asker) (slot : ℕ) (given : Given) → AllSay Is (takeovers.takes a slot given).outs
-  unfolding takeovers.takes
-  taken_so a slot given = each_so slot (record a { phase = (takeovers.heard a.phase given).state }) (takeovers.heard a.phase given).outs
+  taken_so : (a : Asker) (slot : ℕ) (given : Given) → AllSay Is (takeovers.takeovers_take a slot given).outs
+  unfolding takeovers.takeovers_take
+  taken_so a slot given = each_so slot (record a { phase = (takeovers.outs_of a.phase given).state }) (takeovers.outs_of a.phase given).outs
 
-  again_so : (a : Asker) (slot : ℕ) (polls : Bool) → AllSay Is (takeovers.asks_again a slot polls).outs
-  unfolding takeovers.asks_again
+  again_so : (a : Asker) (slot : ℕ) (polls : Bool) → AllSay Is (takeovers.takeovers_ask_again a slot polls).outs
+  unfolding takeovers.takeovers_ask_again
   again_so a slot polls =
-      each_so slot (record a { phase = (takeovers.heard a.phase given_in.Tick).state })
-      (filter (takeovers.is_wanted polls) (takeovers.heard a.phase given_in.Tick).outs)
+      each_so slot (record a { phase = (takeovers.outs_of a.phase given_in.Tick).state })
+      (filter (takeovers.is_wanted polls) (takeovers.outs_of a.phase given_in.Tick).outs)
 
   in_taken_so : (a : TableAsker) (slot : ℕ) (event : Asker → Stepped Asker Effect) → ((one : Asker) → AllSay Is (event one).outs) → (o : Option SlotPhase)
       → AllSay Is (table.in_taken a slot event o).outs
   in_taken_so a slot event each None = tt
   in_taken_so a slot event each (Some p) = each (takeovers.asker p a.questions)
 
-  pub takes_say : (a : TableAsker) (slot : ℕ) (given : Given) → AllSay Is (table.takes a slot given).outs
-  unfolding table.takes
-  takes_say a slot given = in_taken_so a slot (λ one. takeovers.takes one slot given) (λ one. taken_so one slot given) (slice_get a.table slot)
+  pub takes_say : (a : TableAsker) (slot : ℕ) (given : Given) → AllSay Is (table.slot_table_take a slot given).outs
+  unfolding table.slot_table_take
+  takes_say a slot given = in_taken_so a slot (λ one. takeovers.takeovers_take one slot given) (λ one. taken_so one slot given) (slice_get a.table slot)
 
   pub reports_say : (a : TableAsker) (from : NodeId) (report : Report) → AllSay Is (table.on_report a from report).outs
   unfolding table.on_report
@@ -134,28 +134,28 @@ module _ (Is : Body → Type 0) (silent : IsOfEntries Is) where
     where
       one : (one : Asker) → AllSay Is (takeovers.on_report one from report).outs
       one x = by_test (λ (d : takeovers.Done). AllSay Is d.outs) (report.epoch == epoch_of x.phase)
-          (takeovers.takes x report.slot (takeovers.report_input from report)) _
+          (takeovers.takeovers_take x report.slot (takeovers.report_input from report)) _
           (λ t. taken_so x report.slot (takeovers.report_input from report)) (λ t. tt)
 
-  pub asks_say : (polls : Bool) (a : TableAsker) → AllSay Is (table.asks_all polls a).outs
-  unfolding table.asks
-  asks_say polls a = steps_say Is (table.asks polls) one a table.all_slots
+  pub asks_say : (polls : Bool) (a : TableAsker) → AllSay Is (table.slot_table_ask_again polls a).outs
+  unfolding table.slot_table_ask
+  asks_say polls a = steps_say Is (table.slot_table_ask polls) one a table.all_slots
     where
-      one : (a : TableAsker) (slot : ℕ) → AllSay Is (table.asks polls a slot).outs
-      one a slot = in_taken_so a slot (λ x. takeovers.asks_again x slot polls) (λ x. again_so x slot polls) (slice_get a.table slot)
+      one : (a : TableAsker) (slot : ℕ) → AllSay Is (table.slot_table_ask polls a slot).outs
+      one a slot = in_taken_so a slot (λ x. takeovers.takeovers_ask_again x slot polls) (λ x. again_so x slot polls) (slice_get a.table slot)
 
-  pub regroups_say : (groups : GroupMapState) (a : TableAsker) → AllSay Is (table.regroups_all groups a).outs
-  regroups_say groups a = steps_say Is (table.regroups groups) (λ a slot. takes_say a slot (given_in.Maps groups)) a table.all_slots
+  pub regroups_say : (groups : GroupMapState) (a : TableAsker) → AllSay Is (table.slot_table_regroup groups a).outs
+  regroups_say groups a = steps_say Is (table.regroup_one groups) (λ a slot. takes_say a slot (given_in.Maps groups)) a table.all_slots
 
-  pub hears_say : (h : Hearer) (a : TableAsker) (slots : List SlotNews) → AllSay Is (table.hears_all h a slots).outs
-  unfolding table.hears table.hears_of
-  hears_say h a slots = steps_say Is (table.hears h) one a slots
+  pub hears_say : (h : Hearer) (a : TableAsker) (slots : List SlotNews) → AllSay Is (table.hear_each h a slots).outs
+  unfolding table.slot_table_hear table.hear_of
+  hears_say h a slots = steps_say Is (table.slot_table_hear h) one a slots
     where
-      heard : (news : SlotNews) (x : Asker) → AllSay Is (table.hears_of h news x).outs
+      heard : (news : SlotNews) (x : Asker) → AllSay Is (table.hear_of h news x).outs
       heard news x =
           by_test (λ (d : takeovers.Done). AllSay Is d.outs) (nat_lt (epoch_of x.phase) news.epoch)
-          (takeovers.takes (record x { phase = takeovers.phase_of h.ears.number news h.groups h.ears.clients }) news.slot given_in.Tick) _
+          (takeovers.takeovers_take (record x { phase = takeovers.phase_of h.ears.number news h.groups h.ears.clients }) news.slot given_in.Tick) _
           (λ t. taken_so (record x { phase = takeovers.phase_of h.ears.number news h.groups h.ears.clients }) news.slot given_in.Tick) (λ t. tt)
 
-      one : (a : TableAsker) (news : SlotNews) → AllSay Is (table.hears h a news).outs
-      one a news = in_taken_so a news.slot (table.hears_of h news) (heard news) (slice_get a.table news.slot)
+      one : (a : TableAsker) (news : SlotNews) → AllSay Is (table.slot_table_hear h a news).outs
+      one a news = in_taken_so a news.slot (table.hear_of h news) (heard news) (slice_get a.table news.slot)

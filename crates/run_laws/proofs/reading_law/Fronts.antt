@@ -93,11 +93,11 @@ module _ (below : Below) (e : Estate AnyNode) (ok : IsSetup e.script.setup) (run
       board_has_map (node_named (start_world any_start e.script) Registry) (registry_start setup (items_of e.script.lines Registry)).board first_registry
       (first_map setup ok (items_of e.script.lines Registry))
 
-  start_map : MapStriped (cut_by cuts) (groups.started setup.servers setup.groups)
+  start_map : MapStriped (cut_by cuts) (groups.group_map_start setup.servers setup.groups)
   unfolding start_world
   start_map =
       registry_so below e.world k (start_world any_start e.script) refl (in_run below.groups e.events (start_world any_start e.script) e.world run) has_map
-      (groups.started setup.servers setup.groups)
+      (groups.group_map_start setup.servers setup.groups)
       (ap groups_of (first_stands e.script Registry (setup.clients + setup.managers + setup.servers + 1) refl))
 
   start_node : (name : NodeId) (x : AnyNode) → node_in (first_nodes any_start e.script k) (place_of k name) ≡ Some x → NodeSo below.nodes cuts [] name x

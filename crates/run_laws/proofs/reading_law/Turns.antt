@@ -48,7 +48,7 @@ pub record NodeLaws : Type 0 where
   pub met : OfKind CleanerStartsMet CleanerMeetsRise CleanerEventsMeet
 
 module _ (laws : NodeLaws) (cuts : Cuts) where
-  pub any_starts : (name : NodeId) (setup : Setup) (items : List Work) → MapStriped (cut_by cuts) (groups.started setup.servers setup.groups)
+  pub any_starts : (name : NodeId) (setup : Setup) (items : List Work) → MapStriped (cut_by cuts) (groups.group_map_start setup.servers setup.groups)
       → AnyHolds [] name cuts (any_start name setup items)
   any_starts (nodes.Client c) setup items fact = laws.client.starts [] (nodes.Client c) cuts c setup items fact
   any_starts (nodes.Manager j) setup items fact = laws.manager.starts [] (nodes.Manager j) cuts j setup items fact

@@ -4,7 +4,7 @@ use Rattle.std.specs.List.{AllByRecursion}
 use Rattle.client_node.specs.declared.client.Client.{Client as AClient}
 use Rattle.client_node.specs.declared.phase.Phase.TheVariants as phase
 use Rattle.client_node.specs.declared.phase.Phase.{Phase}
-use Rattle.client_node.specs.Phases.{Went_to, after_opening, begins_item, client_room, happens, on_begin, on_deliver, on_event, on_time, opening_begins, served, takes, wish_of}
+use Rattle.client_node.specs.Phases.{Went_to, phase_after, begins_item, client_has_room, happens, on_begin, on_deliver, on_event, client_tick, opening_begins, served, takes, wish_of}
 use Rattle.client_serving.specs.declared.lasting.Lasting.{Lasting}
 use Rattle.client_serving.specs.declared.serving.Serving.{Serving}
 use Rattle.delta_feed.specs.FeedState.{FeedState}
@@ -16,11 +16,11 @@ use Rattle.log_owner.specs.declared.opened.Progress.TheVariants as progress
 use Rattle.log_owner.specs.declared.opening.Opening.{Opening}
 use Rattle.log_owner.specs.Opening as opens
 use Rattle.log_owner.specs.Opening.{Went}
-use Rattle.log_owner.specs.Sending.{pushes_all, range}
+use Rattle.log_owner.specs.Sending.{push_all, range}
 use Rattle.log_owner.specs.declared.promised.Managers.{Managers}
-use Rattle.delta_feed.specs.Transition.{ticked}
+use Rattle.delta_feed.specs.Transition.{feed_tick}
 use Rattle.delta_feed.specs.declared.output.Out.TheVariants.{Range}
-use Rattle.node_base.specs.Beginning.{answers_unanswered, begun, next_item, work_at}
+use Rattle.node_base.specs.Beginning.{answers_unanswered, items_begin, next_item, work_at}
 use Rattle.node_base.specs.declared.effects.Effect.{Effect}
 use Rattle.node_base.specs.declared.effects.Effect.TheVariants.{Send, Answer as Answers, Lose, Does}
 use Rattle.node_base.specs.declared.peers.Peers.{Peers}
@@ -69,8 +69,8 @@ answers_no_back : (item : Option ℕ) (a : Answer) → AllByRecursion IsNoBack (
 answers_no_back None a = tt
 answers_no_back (Some number) a = (tt, tt)
 
-pushes_no_back : (managers : Managers) (feed : FeedState) → AllByRecursion IsNoBack (pushes_all managers feed)
-pushes_no_back managers feed = each (ticked feed)
+pushes_no_back : (managers : Managers) (feed : FeedState) → AllByRecursion IsNoBack (push_all managers feed)
+pushes_no_back managers feed = each (feed_tick feed)
   where
     each : (outs : List _) → AllByRecursion IsNoBack (map (range managers) outs)
     each [] = tt
@@ -86,7 +86,7 @@ module _ (c : ℕ) (l : Lasting) (o : Opening) (s : Serving) where
   same_log r t e = cc
 
   progress_comes : (what : Do) (m : Lasting) (capacity : ℕ) (p : Progress) (effects : List Effect) → AllByRecursion IsNoBack effects
-      → comes_to o l.questions what ≡ p → Comes what (saying effects (after_opening m capacity p))
+      → comes_to o l.questions what ≡ p → Comes what (saying effects (phase_after m capacity p))
   progress_comes what m capacity (progress.Opening x) effects none fact e = absurd cc
   progress_comes what m capacity (progress.Lost seg) effects none fact e = absurd cc
   progress_comes what m capacity (progress.Opened r) effects none fact e = record {
@@ -98,7 +98,7 @@ module _ (c : ℕ) (l : Lasting) (o : Opening) (s : Serving) where
   }
     where
       rest : List Effect
-      rest = pushes_all r.promised.managers r.feed ++ answers_unanswered m.items.unanswered answer.Done
+      rest = push_all r.promised.managers r.feed ++ answers_unanswered m.items.unanswered answer.Done
 
       one_chain : (chain : List SegName) → Does (act.Back c chain) ≡ Does (act.Back m.number r.chain) → chain ≡ r.chain
       one_chain chain same = cc
@@ -106,9 +106,9 @@ module _ (c : ℕ) (l : Lasting) (o : Opening) (s : Serving) where
       its : (chain : List SegName) → In (Does (act.Back c chain)) (Does (act.Back m.number r.chain) ∷ rest) → chain ≡ r.chain
       its chain (inl same) = one_chain chain same
       its chain (inr fact) = absurd
-          (⊎_elim (none_back (pushes_all r.promised.managers r.feed) (pushes_no_back r.promised.managers r.feed) c chain)
+          (⊎_elim (none_back (push_all r.promised.managers r.feed) (pushes_no_back r.promised.managers r.feed) c chain)
           (none_back (answers_unanswered m.items.unanswered answer.Done) (answers_no_back m.items.unanswered answer.Done) c chain)
-          (in_append (pushes_all r.promised.managers r.feed) (answers_unanswered m.items.unanswered answer.Done) (Does (act.Back c chain)) fact))
+          (in_append (push_all r.promised.managers r.feed) (answers_unanswered m.items.unanswered answer.Done) (Does (act.Back c chain)) fact))
 
   wish_comes : (m : Lasting) (number : ℕ) (wanted : Option Work) → Comes Begin (opening_begins m o number (wish_of wanted))
   wish_comes m number (Some (work.Crash node)) e = absurd cc
@@ -118,20 +118,20 @@ module _ (c : ℕ) (l : Lasting) (o : Opening) (s : Serving) where
 
   item_comes : (servers : ℕ) (item : Option ℕ) → Comes Begin (begins_item servers (phase.Opening l o) item)
   item_comes servers None e = absurd cc
-  item_comes servers (Some number) e = wish_comes (record l { items = begun l.items }) number (work_at (begun l.items) number) e
+  item_comes servers (Some number) e = wish_comes (record l { items = items_begin l.items }) number (work_at (items_begin l.items) number) e
 
   still_comes : (what : Do) → Comes what (still (phase.Opening l o))
   still_comes what e = absurd cc
 
   event_comes : (peers : Peers) (capacity : ℕ) (what : Do) → Comes what (on_event peers capacity (phase.Opening l o) what)
-  unfolding on_begin on_deliver on_time
+  unfolding on_begin on_deliver client_tick
   event_comes peers capacity Begin = item_comes peers.servers (next_item l.items)
   event_comes peers capacity Tick =
       let x : Went = opens.on_tick o l.questions in
       progress_comes Tick (record l { questions = x.questions }) capacity x.progress x.effects
       (opening_no_back o.known.owner x.effects (behaving.tick_so o l.questions).does) refl
   event_comes peers capacity (Deliver packet) =
-      let x : Went = opens.on_packet o l.questions packet in
+      let x : Went = opens.opening_take o l.questions packet in
       by_test (Comes (Deliver packet)) (is_well_formed peers packet) (on_deliver capacity (phase.Opening l o) packet) (still (phase.Opening l o))
       (λ t. progress_comes (Deliver packet) (record l { questions = x.questions }) capacity x.progress x.effects
       (opening_no_back o.known.owner x.effects (behaving.packet_so o l.questions packet).does) refl)
@@ -139,7 +139,7 @@ module _ (c : ℕ) (l : Lasting) (o : Opening) (s : Serving) where
 
   taken_comes : (client : AClient) (what : Do) → client.phase ≡ phase.Opening l o → Comes what (takes client what)
   taken_comes client what fact =
-      by_test (Comes what) (client_room client) (happens client what) (still client.phase)
+      by_test (Comes what) (client_has_room client) (happens client what) (still client.phase)
       (λ t. subst (λ p. Comes what (on_event client.peers client.cache p what)) (sym fact) (event_comes client.peers client.cache what))
       (λ t. subst (λ (p : Phase). Comes what (still p)) (sym fact) (still_comes what))
 

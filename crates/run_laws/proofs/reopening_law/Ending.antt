@@ -27,16 +27,16 @@ use Rattle.log_owner.specs.declared.opening.Settling.{Settling}
 use Rattle.log_owner.specs.declared.opening.Stage.{Stage}
 use Rattle.log_owner.specs.declared.opening.Stage.TheVariants as stage
 use Rattle.log_owner.specs.Opened.{names_in}
-use Rattle.log_owner.specs.Opening.{Went, by_server, drops, fenced_by, found_by, is_fenced, missing_by, on_body, on_fenced, on_found, on_missing, on_news, on_packet, on_stored, on_tick, on_welcome, opens, regrouped, scans, went, writes, written}
+use Rattle.log_owner.specs.Opening.{Went, by_server, drops, fenced_by, found_by, is_fenced, missing_by, on_body, on_fenced, on_found, on_missing, on_news, opening_take, on_stored, on_tick, on_welcome, known_go_on, regrouped, scans, went, known_write, written}
 use Rattle.log_owner.specs.Sending.{hello, server_in}
 use Rattle.log_scan.specs.declared.input.In.TheVariants as input
 use Rattle.log_scan.specs.ScanState.{ScanState}
 use Rattle.log_scan.specs.Transition as scan
 use Rattle.log_tie.specs.Setting.{Setting}
-use Rattle.node_base.specs.Asking.{drawn, next_ask}
+use Rattle.node_base.specs.Asking.{draw, next_ask}
 use Rattle.node_base.specs.declared.questions.Questions.{Questions}
-use Rattle.node_base.specs.Known.{names_known}
-use Rattle.node_base.specs.Maps.{fits, is_older, taken}
+use Rattle.node_base.specs.Known.{names_known_groups}
+use Rattle.node_base.specs.Maps.{fits, is_older, maps_take}
 use Rattle.segment_format.specs.declared.segment.Segment.{Segment}
 use Rattle.wire_msg.specs.declared.body.Body.{Body}
 use Rattle.wire_msg.specs.declared.body.Body.TheVariants as body
@@ -56,12 +56,12 @@ HasChain chain (progress.Lost seg) = Unit {0}
 HasChain chain (progress.Opened r) = r.chain ≡ names_in chain
 
 module _ (q : Questions) (s : Settling) where
-  opens_chain : (k : Known) (t : Settling) → t.chain ≡ s.chain → (end : Option End) → HasChain s.chain (opens k t end).state
+  opens_chain : (k : Known) (t : Settling) → t.chain ≡ s.chain → (end : Option End) → HasChain s.chain (known_go_on k t end).state
   opens_chain k t same None = tt
   opens_chain k t same (Some end) = ap names_in same
 
-  writes_chain : (k : Known) (i : LogIn) → HasChain s.chain (writes k s i).state
-  unfolding writes
+  writes_chain : (k : Known) (i : LogIn) → HasChain s.chain (known_write k s i).state
+  unfolding known_write
   writes_chain k i = opens_chain k (record s { log = (log.transition s.log i).state }) refl (written (log.transition s.log i).outs).state
 
   module _ (o : Opening) where
@@ -77,8 +77,8 @@ module _ (q : Questions) (s : Settling) where
     unfolding on_news
     news_chain news =
         by_test (λ (x : Went). HasChain s.chain x.progress) (fits o.known.maps news && is_older o.known.maps news)
-        (regrouped (record o.known { maps = taken o.known.maps news }) q news.groups (stage.Settling s)) (drops at q)
-        (λ t. writes_chain (record o.known { maps = taken o.known.maps news }) (log_in.Maps news.groups)) (λ t. tt)
+        (regrouped (record o.known { maps = maps_take o.known.maps news }) q news.groups (stage.Settling s)) (drops at q)
+        (λ t. writes_chain (record o.known { maps = maps_take o.known.maps news }) (log_in.Maps news.groups)) (λ t. tt)
 
     server_chain : (f : ℕ → Went) (server : Option ℕ) → ((n : ℕ) → HasChain s.chain (f n).progress) → HasChain s.chain (by_server at q f server).progress
     server_chain f None each = tt
@@ -97,11 +97,11 @@ module _ (q : Questions) (s : Settling) where
     body_chain from (body.Stored m) = writes_chain o.known (log_in.Acked m.name m.index m.generation)
     body_chain from _ = tt
 
-    packet_chain : (p : Packet) → HasChain s.chain (on_packet at q p).progress
-    unfolding on_packet
+    packet_chain : (p : Packet) → HasChain s.chain (opening_take at q p).progress
+    unfolding opening_take
     packet_chain p =
-        by_test (λ (x : Went). HasChain s.chain x.progress) (names_known o.known.maps p.body) (on_body at q p.from p.body)
-        (went (progress.Opening at) (drawn q) (hello o.known.owner.inc (next_ask q) ∷ [])) (λ t. body_chain p.from p.body) (λ t. tt)
+        by_test (λ (x : Went). HasChain s.chain x.progress) (names_known_groups o.known.maps p.body) (on_body at q p.from p.body)
+        (went (progress.Opening at) (draw q) (hello o.known.owner.inc (next_ask q) ∷ [])) (λ t. body_chain p.from p.body) (λ t. tt)
 
 -- ---- one thing that happens
 
@@ -189,9 +189,9 @@ module _ (g : Setting) (c : ℕ) (o : Opening) where
 
 pub openings_end_by_one : OpeningsEndByOne
 openings_end_by_one g c o q = (
-  λ p. ends_so g c o (on_packet o q p).progress (
+  λ p. ends_so g c o (opening_take o q p).progress (
     λ waits. packet_empty o q p waits,
-    λ s fact. subst (λ (at : Stage). HasChain s.chain (on_packet (record o { stage = at }) q p).progress) (sym fact) (packet_chain q s o p),
+    λ s fact. subst (λ (at : Stage). HasChain s.chain (opening_take (record o { stage = at }) q p).progress) (sym fact) (packet_chain q s o p),
   ),
   ends_so g c o (on_tick o q).progress (
     λ waits. tick_empty o q waits,

@@ -7,11 +7,11 @@ use Rattle.act_tie.proofs.Falling.{settled_told}
 use Rattle.client_node.specs.declared.client.Client.{Client as AClient}
 use Rattle.client_node.specs.declared.phase.Phase.TheVariants.{Down, Opening, Serving as Serves}
 use Rattle.client_node.specs.declared.phase.Phase.{Phase}
-use Rattle.client_node.specs.Phases.{Went_to, after_opening, begins_item, client_room, crashed, down_begins, happens, lasting_of, on_begin, on_deliver, on_time, opening_begins, owner_of, restarted, serving_begins, wish_of}
+use Rattle.client_node.specs.Phases.{Went_to, phase_after, begins_item, client_has_room, cut, down_begins, happens, lasting_of, on_begin, on_deliver, client_tick, opening_begins, owner_of, restart, serving_begins, wish_of}
 use Rattle.client_node.specs.Crash.{falls, fall_of, flight_of}
 use Rattle.client_serving.specs.declared.lasting.Lasting.{Lasting}
 use Rattle.client_serving.specs.declared.serving.Serving.{Serving}
-use Rattle.client_serving.specs.Lasting.{next_life}
+use Rattle.client_serving.specs.Lasting.{live_on}
 use Rattle.log_flight.specs.Flights.{FlightState}
 use Rattle.log_owner.proofs.Behaving as behaving
 use Rattle.log_owner.specs.Behaves.{MayAct, MayDo}
@@ -21,7 +21,7 @@ use Rattle.log_owner.specs.declared.opened.Progress.TheVariants as progress
 use Rattle.log_owner.specs.declared.opening.Opening as openings
 use Rattle.log_owner.specs.Opening as opening
 use Rattle.log_owner.specs.Opening.{Went}
-use Rattle.node_base.specs.Beginning.{answered, answers_unanswered, begun, next_item, work_at}
+use Rattle.node_base.specs.Beginning.{items_answer, answers_unanswered, items_begin, next_item, work_at}
 use Rattle.node_base.specs.declared.effects.Effect.{Effect}
 use Rattle.node_base.specs.declared.effects.Effect.TheVariants.{Send, Answer as Answers, Lose, Does}
 use Rattle.node_base.specs.Effects.{acts_of}
@@ -145,31 +145,31 @@ module _ (acts : List Act) (c : ℕ) (flight : Option FlightState) where
   still_tells (Opening l o) known = away_tells (Opening l o) [] known tt
   still_tells (Serves s) known = tt
 
-  crash_quiet : (l : Lasting) (number : ℕ) → AllByRecursion (IsQuiet c) (crashed l number).outs
+  crash_quiet : (l : Lasting) (number : ℕ) → AllByRecursion (IsQuiet c) (cut l number).outs
   crash_quiet l number =
       quiet_both c (answers_unanswered l.items.unanswered answer.Cut) (Answers number answer.Done ∷ []) (answers_quiet c l.items.unanswered answer.Cut) (tt, tt)
 
   -- ---- one that is away
 
   progress_tells : (l : Lasting) (capacity : ℕ) (p : Progress) (effects : List Effect) → AllByRecursion (IsQuiet c) effects → FellWith acts c flight
-      → Tells (saying effects (after_opening l capacity p))
+      → Tells (saying effects (phase_after l capacity p))
   progress_tells l capacity (progress.Opening o) effects quiet fell = away_tells (Opening l o) (effects ++ []) fell (quiet_both c effects [] quiet tt)
   progress_tells l capacity (progress.Opened r) effects quiet fell = tt
   progress_tells l capacity (progress.Lost seg) effects quiet fell =
-      away_tells (Down (record l { items = answered l.items })) (effects ++ answers_unanswered l.items.unanswered (answer.Lost seg)) fell
+      away_tells (Down (record l { items = items_answer l.items })) (effects ++ answers_unanswered l.items.unanswered (answer.Lost seg)) fell
       (quiet_both c effects (answers_unanswered l.items.unanswered (answer.Lost seg)) quiet (answers_quiet c l.items.unanswered (answer.Lost seg)))
 
   down_tells : (servers number : ℕ) (l : Lasting) (wanted : Option Work) → FellWith acts c flight → Tells (down_begins servers l number (wish_of wanted))
   down_tells servers number l (Some (work.Restart node)) fell =
-      let next : Lasting = next_life l number in
-      away_tells (restarted servers next).state (restarted servers next).outs fell
-      (opening_quiet c (owner_of next) (restarted servers next).outs (behaving.begin_so (owner_of next) servers next.questions).does)
+      let next : Lasting = live_on l number in
+      away_tells (restart servers next).state (restart servers next).outs fell
+      (opening_quiet c (owner_of next) (restart servers next).outs (behaving.begin_so (owner_of next) servers next.questions).does)
   down_tells servers number l (Some _) fell = away_tells (Down l) (Answers number answer.Down ∷ []) fell (tt, tt)
   down_tells servers number l None fell = away_tells (Down l) (Answers number answer.Down ∷ []) fell (tt, tt)
 
   opening_tells : (l : Lasting) (o : openings.Opening) (number : ℕ) (wanted : Option Work) → FellWith acts c flight
       → Tells (opening_begins l o number (wish_of wanted))
-  opening_tells l o number (Some (work.Crash node)) fell = away_tells (crashed l number).state (crashed l number).outs fell (crash_quiet l number)
+  opening_tells l o number (Some (work.Crash node)) fell = away_tells (cut l number).state (cut l number).outs fell (crash_quiet l number)
   opening_tells l o number (Some (work.Restart node)) fell = away_tells (Opening l o) (Answers number answer.Up ∷ []) fell (tt, tt)
   opening_tells l o number (Some _) fell = away_tells (Opening l o) (Answers number answer.Down ∷ []) fell (tt, tt)
   opening_tells l o number None fell = away_tells (Opening l o) (Answers number answer.Down ∷ []) fell (tt, tt)
@@ -178,12 +178,12 @@ module _ (acts : List Act) (c : ℕ) (flight : Option FlightState) where
 
   -- it falls
   crash_tells : (s : Serving) (number : ℕ) → s.lasting.number ≡ c → FallKnown acts c flight (Serves s)
-      → Tells (saying (falls s ∷ []) (crashed s.lasting number))
+      → Tells (saying (falls s ∷ []) (cut s.lasting number))
   crash_tells s number its known = record {
     fall = told;
-    waits = ap (λ (h : History). h.told c) (history_through acts (acts_of (Client c) (falls s ∷ (crashed s.lasting number).outs)) nothing_yet)
-        ∙ (all_told c (acts_of (Client c) (crashed s.lasting number).outs) (after_act its_act (history_after acts nothing_yet))
-        (quiet_acts c (crashed s.lasting number).outs (crash_quiet s.lasting number))
+    waits = ap (λ (h : History). h.told c) (history_through acts (acts_of (Client c) (falls s ∷ (cut s.lasting number).outs)) nothing_yet)
+        ∙ (all_told c (acts_of (Client c) (cut s.lasting number).outs) (after_act its_act (history_after acts nothing_yet))
+        (quiet_acts c (cut s.lasting number).outs (crash_quiet s.lasting number))
         ∙ (ap (λ (d : ℕ). (after_act (act.Fell d told.flight told.falls) (history_after acts nothing_yet)).told c) its
         ∙ (ap (λ (y : Bool). if y then (history_after acts nothing_yet).told c ++ told ∷ [] else (history_after acts nothing_yet).told c) (equal_itself c)
         ∙ ap (λ (ts : List FallTold). ts ++ told ∷ []) known.0)));
@@ -207,11 +207,11 @@ module _ (acts : List Act) (c : ℕ) (flight : Option FlightState) where
   item_tells : (servers : ℕ) (p : Phase) (item : Option ℕ) → (lasting_of p).number ≡ c → FallKnown acts c flight p → Tells (begins_item servers p item)
   item_tells servers p None its known = still_tells p known
   item_tells servers (Down l) (Some number) its known =
-      down_tells servers number (record l { items = begun l.items }) (work_at (begun l.items) number) known
+      down_tells servers number (record l { items = items_begin l.items }) (work_at (items_begin l.items) number) known
   item_tells servers (Opening l o) (Some number) its known =
-      opening_tells (record l { items = begun l.items }) o number (work_at (begun l.items) number) known
+      opening_tells (record l { items = items_begin l.items }) o number (work_at (items_begin l.items) number) known
   item_tells servers (Serves s) (Some number) its known =
-      serving_tells (record s { lasting = record s.lasting { items = begun s.lasting.items } }) number (work_at (begun s.lasting.items) number) its known
+      serving_tells (record s { lasting = record s.lasting { items = items_begin s.lasting.items } }) number (work_at (items_begin s.lasting.items) number) its known
 
   begin_tells : (servers : ℕ) (p : Phase) → (lasting_of p).number ≡ c → FallKnown acts c flight p → Tells (on_begin servers p)
   unfolding on_begin
@@ -221,13 +221,13 @@ module _ (acts : List Act) (c : ℕ) (flight : Option FlightState) where
   unfolding on_deliver
   deliver_tells capacity (Down l) packet known = still_tells (Down l) known
   deliver_tells capacity (Opening l o) packet known =
-      let x : Went = opening.on_packet o l.questions packet in
+      let x : Went = opening.opening_take o l.questions packet in
       progress_tells (record l { questions = x.questions }) capacity x.progress x.effects
       (opening_quiet c o.known.owner x.effects (behaving.packet_so o l.questions packet).does) known
   deliver_tells capacity (Serves s) packet known = tt
 
-  time_tells : (capacity : ℕ) (p : Phase) → FallKnown acts c flight p → Tells (on_time capacity p)
-  unfolding on_time
+  time_tells : (capacity : ℕ) (p : Phase) → FallKnown acts c flight p → Tells (client_tick capacity p)
+  unfolding client_tick
   time_tells capacity (Down l) known = still_tells (Down l) known
   time_tells capacity (Opening l o) known =
       let x : Went = opening.on_tick o l.questions in
@@ -244,5 +244,5 @@ module _ (acts : List Act) (c : ℕ) (flight : Option FlightState) where
 
 pub falls_go_on : FallsGoOn
 falls_go_on acts c flight client what its known =
-    by_test (Tells acts c flight) (client_room client) (happens client what) (still client.phase)
+    by_test (Tells acts c flight) (client_has_room client) (happens client what) (still client.phase)
     (λ t. happens_tells acts c flight client what its known) (λ t. still_tells acts c flight client.phase known)

@@ -2,7 +2,7 @@
 use Rattle.std.proofs.Common.{◌≡◌, ℕ, zero, suc, ◌+◌, ◌-◌, ◌<◌, ◌≤◌, ◌==◌, true, List, [], ◌∷◌, Option, Some, length, map, nat_lt, find, replicate, slice_index, refl, sym, ap, subst, ◌∙◌, arith}
 use Rattle.group_map.specs.declared.group.Group.{Group}
 use Rattle.group_map.specs.GroupMapState.{GroupMapState}
-use Rattle.group_map.specs.Groups.{first_layout, first_members, group_of, numbered, started}
+use Rattle.group_map.specs.Groups.{first_layout, first_members, group_of, numbered, group_map_start}
 use Rattle.group_map.specs.WellFormed.{IsServer}
 use Rattle.log_flight.specs.Flights.{generation_of}
 use Rattle.node_moves.proofs.registry_moves.Keeping.{Keeps, event_keeps}
@@ -50,7 +50,7 @@ numbered_first first id (g ∷ groups) group fact =
     same : (a b : Group) → Some a ≡ Some b → a ≡ b
     same a b h = cc
 
-pub group_is_first : (servers : ℕ) (groups : List GroupSetup) (id : ℕ) (group : Group) → group_of (started servers groups) id ≡ Some group
+pub group_is_first : (servers : ℕ) (groups : List GroupSetup) (id : ℕ) (group : Group) → group_of (group_map_start servers groups) id ≡ Some group
     → IsFirstGroup group
 group_is_first servers groups id group fact = numbered_first 1 id groups group fact
 
@@ -58,7 +58,7 @@ group_is_first servers groups id group fact = numbered_first 1 id groups group f
 
 module _ (servers : ℕ) (groups : List GroupSetup) where
   abbrev pub KeepsGroups : BoardState → Type 0
-  KeepsGroups b = b.groups ≡ started servers groups
+  KeepsGroups b = b.groups ≡ group_map_start servers groups
 
   -- a Hello of a server tells of no loss
   abbrev pub TellsNone : NodeId → ℕ → Type 0
@@ -66,10 +66,10 @@ module _ (servers : ℕ) (groups : List GroupSetup) where
 
   no_loss : (b : BoardState) (v inc : ℕ) → KeepsGroups b → TellsNone (Server v) inc → hears_server b v inc ≡ true → ⊥
   no_loss b v inc fact none hears =
-      let may : may_lose (started servers groups) v inc ≡ true =
+      let may : may_lose (group_map_start servers groups) v inc ≡ true =
       ap (λ (m : GroupMapState). may_lose m v inc) (sym fact) ∙ and_second (nat_lt b.version u32_end) _ hears in
-      let there : IsServer servers v = loss_exists (started servers groups) v inc may in
-      let newer = loss_newer (started servers groups) v inc may in
+      let there : IsServer servers v = loss_exists (group_map_start servers groups) v inc may in
+      let newer = loss_newer (group_map_start servers groups) v inc may in
       let some = there.0 in
       let within = there.1 in
       let one = ones servers (v - 1) (omega arith) in

@@ -8,7 +8,7 @@ use Rattle.core_world.specs.declared.any_node.AnyNode.TheVariants as any
 use Rattle.fragment_store.specs.ShelfState.{ShelfState}
 use Rattle.group_map.specs.declared.group.Group.{Group}
 use Rattle.group_map.specs.GroupMapState.{GroupMapState}
-use Rattle.group_map.specs.Groups.{known_group as group_in, group_of, started}
+use Rattle.group_map.specs.Groups.{known_group as group_in, group_of, group_map_start}
 use Rattle.group_map.specs.WellFormed.{IsServer}
 use Rattle.log_tie.specs.Exist.{SomeSetting}
 use Rattle.log_tie.specs.Setting.{Setting}
@@ -86,7 +86,7 @@ module _ (base : Setting) (e : Estate AnyNode) (run : IsRun any_step any_start e
   k = cluster_of e.script.setup
 
   abbrev first : GroupMapState
-  first = started e.script.setup.servers e.script.setup.groups
+  first = group_map_start e.script.setup.servers e.script.setup.groups
 
   -- ---- what comes to the registry
 

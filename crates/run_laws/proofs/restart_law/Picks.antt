@@ -2,7 +2,7 @@
 -- while the owner opens its log in one boot.
 use Rattle.std.proofs.Common.{◌≡◌, ◌⊎◌, ⊎_elim, ℕ, zero, suc, ◌+◌, ◌-◌, ◌≤◌, ◌&&◌, Bool, true, false, cond, List, [], Option, Some, None, length, slice_get, inl, inr, refl, sym, ap, ◌∙◌, arith}
 use Rattle.std.specs.Prelude.{IfSome}
-use Rattle.client_log.specs.LogState.{LogState, started as new_log}
+use Rattle.client_log.specs.LogState.{LogState, log_start as new_log}
 use Rattle.client_log.specs.Transition as log
 use Rattle.node_logs.specs.client_log_tie.ClientEvents.{IsOnce, has_picked}
 use Rattle.node_logs.specs.client_log_tie.Owner.{Scene}
@@ -61,9 +61,9 @@ reads_down Over low fact = contrary fact
 
 -- the first segment leaves the end of the log
 parts_end : (s : LogState) → (log.on_parts s []).state.end ≡ s.end
-unfolding log.on_parts log.launched
+unfolding log.on_parts log.log_launch
 parts_end s =
-    by_test (λ (d : log.Done). d.state.end ≡ s.end) (log.is_idle s && log.has_next s.end.seq && true) (log.writes s []) (still s) (λ t. refl)
+    by_test (λ (d : log.Done). d.state.end ≡ s.end) (log.is_idle s && log.has_next s.end.seq && true) (log.log_write s []) (still s) (λ t. refl)
     (λ t. refl)
 
 module _ (g : Setting) (n : Net) where

@@ -1,6 +1,6 @@
 -- A server whose items lose no disk keeps its first generation, in each of its events: so do all servers of a script without such an item.
 use Rattle.std.proofs.Common.{◌≡◌, ℕ, zero, suc, ◌-◌, List, [], ◌∷◌, Option, Some, None, nat_lt, slice_get, inl, inr, refl, ◌∙◌}
-use Rattle.fragment_store.specs.Calls.{kept, on_fence, on_fill}
+use Rattle.fragment_store.specs.Calls.{shelf_store, on_fence, on_fill}
 use Rattle.fragment_store.specs.ShelfState.{ShelfState, is_held, is_marked}
 use Rattle.group_rebuild.specs.declared.output.Out.{Out}
 use Rattle.group_rebuild.specs.RebuildState.{RebuildState}
@@ -24,11 +24,11 @@ pub record Quiet (node : Node) : Type 0 where
 
 -- ---- shelves
 
-kept_same : (s : ShelfState) (f : _) → (kept s f).generation ≡ s.generation
+kept_same : (s : ShelfState) (f : _) → (shelf_store s f).generation ≡ s.generation
 kept_same s f = by_test (λ (x : ShelfState). x.generation ≡ s.generation) (is_held s f.meta.name) s _ (λ t. refl) (λ t. refl)
 
 fill_same : (s : ShelfState) (f : _) → (on_fill s f).generation ≡ s.generation
-fill_same s f = by_test (λ (x : ShelfState). x.generation ≡ s.generation) (is_marked s.marks f.meta.name) s (kept s f) (λ t. refl) (λ t. kept_same s f)
+fill_same s f = by_test (λ (x : ShelfState). x.generation ≡ s.generation) (is_marked s.marks f.meta.name) s (shelf_store s f) (λ t. refl) (λ t. kept_same s f)
 
 fence_same : (s : ShelfState) (log : _) (pass : _) → (on_fence s log pass).generation ≡ s.generation
 fence_same s log pass = by_test (λ (x : ShelfState). x.generation ≡ s.generation) _ _ s (λ t. refl) (λ t. refl)

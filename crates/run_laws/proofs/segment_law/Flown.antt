@@ -5,7 +5,7 @@ use Rattle.std.specs.List.{AllByRecursion}
 use Rattle.client_log.specs.declared.input.In.{In as Input}
 use Rattle.client_log.specs.declared.input.In.TheVariants.{Put, Parts, Seal, Acked, Maps, Tick}
 use Rattle.client_log.specs.History.{state_after}
-use Rattle.client_log.specs.LogState.{LogState, started}
+use Rattle.client_log.specs.LogState.{LogState, log_start}
 use Rattle.client_log.specs.Transition.{transition}
 use Rattle.node_logs.specs.client_log_tie.ClientEvents.{IsOnce, NeverServes}
 use Rattle.node_logs.specs.client_log_tie.Puts.{LogTook, PutsOwn, flown_after}
@@ -104,7 +104,7 @@ module _ (g : Setting) (n : Net) (h : IsOriginalLog n) where
   told_so s d (Some t) None = record { owner = tt; flew = h.flew }
   told_so s d (Some t) (Some m) =
       let first : WritesNothing (first_write g n.inc t.end m).state =
-      openings.log_so (started g.log n.inc t.end m) (Parts []) refl (record { clear = refl; flies = tt }) in
+      openings.log_so (log_start g.log n.inc t.end m) (Parts []) refl (record { clear = refl; flies = tt }) in
       record {
         owner = first;
         flew = flies_so (first_write g n.inc t.end m).state.flight n.flown (empty_flies (first_write g n.inc t.end m).state.flight first.flies) h.flew;

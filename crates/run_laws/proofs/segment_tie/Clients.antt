@@ -9,18 +9,18 @@ use Rattle.client_log.specs.declared.output.Out.TheVariants.{Send, Settled}
 use Rattle.client_log.specs.LogState.{LogState}
 use Rattle.client_log.specs.Transition as log
 use Rattle.node_slots.proofs.client_law.Happening.{AnyBlock, AnyMap, OpensSo, PhaseHolds, Reopens, Starts, arrives_any, brings_any, takes-so}
-use Rattle.node_slots.proofs.client_law.Keeping.{Fact, IsOuter, Keeps, TakesKeep, notes_gone-keeps, seals-keeps, takes_back-keeps}
+use Rattle.node_slots.proofs.client_law.Keeping.{Fact, IsOuter, Keeps, TakesKeep, note_gone-keeps, serving_seal-keeps, take_back-keeps}
 use Rattle.client_node.specs.declared.phase.Phase.TheVariants.{Down, Opening, Serving as Serves}
 use Rattle.client_node.specs.declared.phase.Phase.{Phase}
 use Rattle.client_node.specs.Phases.{takes}
 use Rattle.client_running.specs.Blocks.{changes, wrote}
 use Rattle.client_serving.specs.declared.serving.Serving.{Serving}
-use Rattle.client_serving.specs.Flights.{feeds, gives_if_clean, gives_up, held_at, keeps_clean, notes_settled, settled_rows, settles, writes, writes_one}
-use Rattle.client_serving.specs.Follow.{evicts, notes_clean, notes_gone, seals}
+use Rattle.client_serving.specs.Flights.{feeds, give_if_clean, gives_up, held_at, keep_row, notes_settled, settle_rows, serving_settle, serving_write, write_one}
+use Rattle.client_serving.specs.Follow.{evicts, note_clean, note_gone, serving_seal}
 use Rattle.client_serving.specs.Sends as client
 use Rattle.coop_cache.specs.declared.output.Out as cache_out
 use Rattle.coop_cache.specs.declared.output.Out.TheVariants.{Victim}
-use Rattle.coop_cache.specs.Transition.{cleaned}
+use Rattle.coop_cache.specs.Transition.{cache_clean}
 use Rattle.log_owner.specs.declared.opened.Progress.{Progress}
 use Rattle.log_owner.specs.declared.opened.Progress.TheVariants as progress
 use Rattle.log_owner.specs.declared.opening.Opening as openings
@@ -71,18 +71,18 @@ unfolding evicts
 all_evicted s [] p = p
 all_evicted s (Victim block ∷ outs) p = all_evicted (evicts s (Victim block)) outs p
 
-clean_noted : (s : Serving) (block : BlockId) → So s → So (notes_clean s block)
-unfolding notes_clean
-clean_noted s block p = all_evicted (record s { cache = (cleaned s.cache block).state }) (cleaned s.cache block).outs p
+clean_noted : (s : Serving) (block : BlockId) → So s → So (note_clean s block)
+unfolding note_clean
+clean_noted s block p = all_evicted (record s { cache = (cache_clean s.cache block).state }) (cache_clean s.cache block).outs p
 
-clean_kept : (s : Serving) (row : BlockId × Entry) → So s → So (keeps_clean s row)
-unfolding keeps_clean
+clean_kept : (s : Serving) (row : BlockId × Entry) → So s → So (keep_row s row)
+unfolding keep_row
 clean_kept s row p =
-    by_test So (not (is_dirty (held_at s row.0)) && is_held (held_at s row.0).mode) (notes_clean s row.0) s (λ x. clean_noted s row.0 p) (λ x. p)
+    by_test So (not (is_dirty (held_at s row.0)) && is_held (held_at s row.0).mode) (note_clean s row.0) s (λ x. clean_noted s row.0 p) (λ x. p)
 
-rows_kept : (s : Serving) (rows : List (BlockId × Entry)) → So s → So (fold keeps_clean s rows)
+rows_kept : (s : Serving) (rows : List (BlockId × Entry)) → So s → So (fold keep_row s rows)
 rows_kept s [] p = p
-rows_kept s (row ∷ rows) p = rows_kept (keeps_clean s row) rows (clean_kept s row p)
+rows_kept s (row ∷ rows) p = rows_kept (keep_row s row) rows (clean_kept s row p)
 
 -- ---- a segment is settled
 
@@ -93,37 +93,37 @@ rows_noted s (row ∷ rows) p = rows_noted (notes_settled s row) rows p
 
 given_up : (s : Serving) (block : BlockId) (g : Option Giving) → So s → So (gives_up s block g).state
 given_up s block None p = p
-given_up s block (Some g) p = takes_back-keeps (P 0) (takes_keep 0) s p block g.stamp g.keep
+given_up s block (Some g) p = take_back-keeps (P 0) (takes_keep 0) s p block g.stamp g.keep
 
-given_if_clean : (s : Serving) (block : BlockId) → So s → So (gives_if_clean s block).state
-unfolding gives_if_clean
+given_if_clean : (s : Serving) (block : BlockId) → So s → So (give_if_clean s block).state
+unfolding give_if_clean
 given_if_clean s block p =
     by_test (λ (d : client.Done). So d.state) (is_dirty (held_at s block)) (still s) (gives_up s block (held_at s block).giving) (λ x. p)
     (λ x. given_up s block (held_at s block).giving p)
 
-all_given : (s : Serving) (blocks : List BlockId) → So s → So (steps gives_if_clean s blocks).state
+all_given : (s : Serving) (blocks : List BlockId) → So s → So (steps give_if_clean s blocks).state
 all_given s [] p = p
-all_given s (block ∷ blocks) p = all_given (gives_if_clean s block).state blocks (given_if_clean s block p)
+all_given s (block ∷ blocks) p = all_given (give_if_clean s block).state blocks (given_if_clean s block p)
 
-settled_so : (s : Serving) (end : End) (rows : List (BlockId × Entry)) → So s → So (settles s end rows).state
-unfolding settles
+settled_so : (s : Serving) (end : End) (rows : List (BlockId × Entry)) → So s → So (serving_settle s end rows).state
+unfolding serving_settle
 settled_so s end rows p =
-    all_given (feeds (settled_rows s rows) end rows) (dirty_in s.tokens.blocks) (rows_kept (fold notes_settled s rows) rows (rows_noted s rows p))
+    all_given (feeds (settle_rows s rows) end rows) (dirty_in s.tokens.blocks) (rows_kept (fold notes_settled s rows) rows (rows_noted s rows p))
 
-all_done : (s : Serving) (outs : List log_out.Out) → So s → So (steps writes_one s outs).state
-unfolding writes_one
+all_done : (s : Serving) (outs : List log_out.Out) → So s → So (steps write_one s outs).state
+unfolding write_one
 all_done s [] p = p
 all_done s (Send fragment member ∷ outs) p = all_done s outs p
-all_done s (Settled end rows ∷ outs) p = all_done (settles s end rows).state outs (settled_so s end rows p)
+all_done s (Settled end rows ∷ outs) p = all_done (serving_settle s end rows).state outs (settled_so s end rows p)
 
 -- the log took an input, and what it says is done
-wrote_so : (s : Serving) (i : log_in.In) → WritesOriginals (log.transition s.log i).state → So (writes s i).state
-unfolding writes
+wrote_so : (s : Serving) (i : log_in.In) → WritesOriginals (log.transition s.log i).state → So (serving_write s i).state
+unfolding serving_write
 wrote_so s i p =
     let outs : List log_out.Out = (log.transition s.log i).outs in
-    let u : Serving = (steps writes_one (record s { log = (log.transition s.log i).state }) outs).state in
-    by_test (λ (d : client.Done). So d.state) (list_any is_settling outs && is_giving u.tokens) (seals u) (still u)
-    (λ x. seals-keeps (P 0) (takes_keep 0) u (all_done (record s { log = (log.transition s.log i).state }) outs p))
+    let u : Serving = (steps write_one (record s { log = (log.transition s.log i).state }) outs).state in
+    by_test (λ (d : client.Done). So d.state) (list_any is_settling outs && is_giving u.tokens) (serving_seal u) (still u)
+    (λ x. serving_seal-keeps (P 0) (takes_keep 0) u (all_done (record s { log = (log.transition s.log i).state }) outs p))
     (λ x. all_done (record s { log = (log.transition s.log i).state }) outs p)
 
 outer_so : (s : LogState) (i : log_in.In) → IsOuter AnyMap i → WritesOriginals s → WritesOriginals (log.transition s i).state
@@ -142,8 +142,8 @@ changed_so s block value may p =
     (logs.log_so IsFirstHand IsOriginal originals w.log (log_ins.Put block entry value)
     (record { version = written_some s.tokens block value may; hop = refl }) p)
 
-gone_so : (s : Serving) (block : BlockId) → So s → So (notes_gone s block)
-gone_so s block p = notes_gone-keeps (P 0) (takes_keep 0) s block p
+gone_so : (s : Serving) (block : BlockId) → So s → So (note_gone s block)
+gone_so s block p = note_gone-keeps (P 0) (takes_keep 0) s block p
 
 keeps : Keeps AnyBlock AnyMap B P (λ block. P 0)
 keeps = record {

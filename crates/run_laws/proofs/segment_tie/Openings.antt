@@ -20,7 +20,7 @@ use Rattle.log_owner.specs.declared.opened.Progress.TheVariants as progress
 use Rattle.log_owner.specs.declared.opening.Opening.{Opening}
 use Rattle.log_owner.specs.declared.opening.Stage.{Stage}
 use Rattle.log_owner.specs.declared.opening.Stage.TheVariants as stage
-use Rattle.log_owner.specs.Opening.{Went, on_packet, on_tick as opening_tick}
+use Rattle.log_owner.specs.Opening.{Went, opening_take, on_tick as opening_tick}
 use Rattle.node_base.specs.declared.effects.Effect.{Effect}
 use Rattle.node_base.specs.declared.questions.Questions.{Questions}
 use Rattle.node_base.specs.Effects.{acts_of}
@@ -108,9 +108,9 @@ module _ (done : List Act) where
 acted : (es : List Effect) → frames.AllActed any_told (acts_of Cleaner es) es
 acted es = frames.acts_acted any_told (acts_of Cleaner es) Cleaner es (contains_all (acts_of Cleaner es))
 
-pub packet_writes : (o : Opening) (q : Questions) (p : Packet) → StageWrites o.stage → ProgressWrites (on_packet o q p).progress
+pub packet_writes : (o : Opening) (q : Questions) (p : Packet) → StageWrites o.stage → ProgressWrites (opening_take o q p).progress
 packet_writes o q p h =
-    let w : Went = on_packet o q p in
+    let w : Went = opening_take o q p in
     let done : List Act = acts_of Cleaner w.effects in
     progressed done w.progress
     (events.packet_goes any_told done WritesNothing opening_log o q p (any_owed done o.stage) (kept done o.stage h) (acted w.effects)).0

@@ -2,11 +2,11 @@
 use Rattle.std.proofs.Common.{◌≡◌, ◌==◌, ℕ, Bool, true, false, List, [], ◌∷◌, Option, None, Some, inl, inr, refl, sym, ap, subst, ◌∙◌}
 use Rattle.std.specs.List.{AllByRecursion, flat_map}
 use Rattle.cleaner_serving.specs.declared.emptying.Emptying.{Emptying}
-use Rattle.cleaner_serving.specs.Jobs.{cleans, deletes, finishes, holds, holds_in, job_takes, moves, puts, puts_block, reads, says, takes_in}
+use Rattle.cleaner_serving.specs.Jobs.{emptying_clean, emptying_delete, emptying_finish, emptying_hold, holds_in, emptying_take, move_all, emptying_put, put_block, emptying_read, says, takes_in}
 use Rattle.cleaner_job.specs.declared.hand.Hand.{Hand}
 use Rattle.cleaner_job.specs.declared.job.Job.{Job}
-use Rattle.cleaner_job.specs.Hands.{Taken, asked_of, fetches, fetches_for, is_in_hand, known_group, taken_over, takes_in_hand}
-use Rattle.cleaner_job.specs.Jobs.{drops, dropped, hand_of, is_whole}
+use Rattle.cleaner_job.specs.Hands.{Taken, asked_of, fetches, hand_fetch, is_in_hand, known_group, take_over, take_in_hand}
+use Rattle.cleaner_job.specs.Jobs.{act_dropped, dropped, hand_of, is_whole}
 use Rattle.client_log.specs.declared.input.In.{In as LogIn}
 use Rattle.client_log.specs.declared.input.In.TheVariants as log_in
 use Rattle.client_log.specs.declared.output.Out.{Out as LogOut}
@@ -18,7 +18,7 @@ use Rattle.log_owner.specs.Sending.{fetch}
 use Rattle.node_base.specs.Beginning.{answers_unanswered}
 use Rattle.node_base.specs.declared.effects.Effect.TheVariants.{Send}
 use Rattle.node_base.specs.declared.questions.Questions.{Questions}
-use Rattle.segment_reading.specs.Reading.{ReadingState, to_ask}
+use Rattle.segment_reading.specs.Reading.{ReadingState, reading_unanswered}
 use Rattle.stripe_cleaner.specs.declared.input.In.{In}
 use Rattle.stripe_cleaner.specs.declared.output.Out.{Out}
 use Rattle.stripe_cleaner.specs.declared.output.Out.TheVariants as out
@@ -58,9 +58,9 @@ pub fetches_silent : (hand : Option Hand) → AllSilent (fetches hand)
 fetches_silent None = tt
 fetches_silent (Some hand) = by hand.reading
   where
-    by : (r : Option ReadingState) → AllSilent (fetches_for hand.seg.name r)
+    by : (r : Option ReadingState) → AllSilent (hand_fetch hand.seg.name r)
     by None = tt
-    by (Some r) = all_map _ (fetch hand.seg.name r.ask) (λ server. tt) (to_ask r)
+    by (Some r) = all_map _ (fetch hand.seg.name r.ask) (λ server. tt) (reading_unanswered r)
 
 -- ---- a segment is taken in hand
 
@@ -86,7 +86,7 @@ module _ (book : Book) (q : Questions) (drawn_so : IsDrawn book q) (j : JobState
     drawn : IsDrawn book t.questions
     hand : HandIn book t.questions (Reading j segment) t.hand
 
-  fresh_so : (group : Option Group) → TakenSo (taken_over q segment group)
+  fresh_so : (group : Option Group) → TakenSo (take_over q segment group)
   fresh_so None = record { drawn = drawn_so; hand = tt }
   fresh_so (Some group) = record {
     drawn = drawn_more book q _ (below_next q) drawn_so;
@@ -106,10 +106,10 @@ module _ (book : Book) (q : Questions) (drawn_so : IsDrawn book q) (j : JobState
     job = sym (one_name hand.seg.name segment.name (and_first (same_name hand.seg.name segment.name) (hand.seg.group == segment.group) fact));
   }
 
-  takes_so : (groups : _) (o : Option Hand) → HandOnly book q o → TakenSo (takes_in_hand groups q o segment)
-  unfolding takes_in_hand
+  takes_so : (groups : _) (o : Option Hand) → HandOnly book q o → TakenSo (take_in_hand groups q o segment)
+  unfolding take_in_hand
   takes_so groups o h =
-      by_test TakenSo (is_in_hand o segment) (record { hand = o; questions = q }) (taken_over q segment (known_group groups segment.group))
+      by_test TakenSo (is_in_hand o segment) (record { hand = o; questions = q }) (take_over q segment (known_group groups segment.group))
       (λ fact. record { drawn = drawn_so; hand = held_so o h fact }) (λ _. fresh_so (known_group groups segment.group))
 
 module _ (book : Book) (e : Emptying) (j : JobState) (segment : SegRef) where
@@ -123,30 +123,30 @@ module _ (book : Book) (e : Emptying) (j : JobState) (segment : SegRef) where
   held None same drawn_so only fact = record { drawn = drawn_so; job = subst (JobAsks book e.lasting.questions) (sym same) tt }
   held (Some job) same drawn_so only fact =
       let t = takes_so book e.lasting.questions drawn_so j segment e.maps.groups job.hand only in
-      let taken = takes_in_hand e.maps.groups e.lasting.questions job.hand segment in
+      let taken = take_in_hand e.maps.groups e.lasting.questions job.hand segment in
       record { drawn = t.drawn; job = subst (λ p. HandIn book taken.questions p taken.hand) (sym fact) t.hand }
 
-  reads_so : IsDrawn book e.lasting.questions → JobOnly book e.lasting.questions e.job → Reads e.job → Kept book (reads e segment)
-  unfolding reads holds
-  reads_so drawn_so only fact =
+  emptying_read_so : IsDrawn book e.lasting.questions → JobOnly book e.lasting.questions e.job → Reads e.job → Kept book (emptying_read e segment)
+  unfolding emptying_read emptying_hold
+  emptying_read_so drawn_so only fact =
       quiet book (holds_in e e.job segment) (fetches (hand_of (holds_in e e.job segment).job)) (fetches_silent (hand_of (holds_in e e.job segment).job))
       (held e.job refl drawn_so only fact)
 
 -- ---- what else it does
 
-puts_so : (book : Book) (e : Emptying) (i : LogIn) → At book e → Kept book (puts e i)
-unfolding puts
-puts_so book e i h = (let r = log.transition e.log i in quiet book (record e { log = r.state }) (flat_map stored r.outs) (stored_silent r.outs) h)
+emptying_put_so : (book : Book) (e : Emptying) (i : LogIn) → At book e → Kept book (emptying_put e i)
+unfolding emptying_put
+emptying_put_so book e i h = (let r = log.transition e.log i in quiet book (record e { log = r.state }) (flat_map stored r.outs) (stored_silent r.outs) h)
 
-put_so : (book : Book) (e : Emptying) (one : BlockId × Entry × Option (List ℕ)) → At book e → Kept book (puts_block e one)
-unfolding puts_block
-put_so book e one h = puts_so book e (log_in.Put one.0 one.1 one.2) h
+put_so : (book : Book) (e : Emptying) (one : BlockId × Entry × Option (List ℕ)) → At book e → Kept book (put_block e one)
+unfolding put_block
+put_so book e one h = emptying_put_so book e (log_in.Put one.0 one.1 one.2) h
 
-moves_so : (book : Book) (e : Emptying) (blocks : List (BlockId × Entry × Option (List ℕ))) → At book e → Kept book (moves e blocks)
-unfolding moves
-moves_so book e blocks h =
-    let d = steps puts_block e blocks in
-    went_on book d (puts d.state log_in.Seal) (all_steps puts_block put_so book e blocks h) (λ b k. puts_so b d.state log_in.Seal k)
+move_all_so : (book : Book) (e : Emptying) (blocks : List (BlockId × Entry × Option (List ℕ))) → At book e → Kept book (move_all e blocks)
+unfolding move_all
+move_all_so book e blocks h =
+    let d = steps put_block e blocks in
+    went_on book d (emptying_put d.state log_in.Seal) (all_steps put_block put_so book e blocks h) (λ b k. emptying_put_so b d.state log_in.Seal k)
 
 -- the same segment stays in hand, and nothing else is asked of it
 pub rehand : (book : Book) (q : Questions) (phase : Phase) (hand later : Hand) → later.seg ≡ hand.seg → later.checks ≡ hand.checks
@@ -164,24 +164,24 @@ dropped_so : (book : Book) (q : Questions) (phase : Phase) (o : Option Hand) →
 dropped_so book q phase None h = tt
 dropped_so book q phase (Some hand) h = rehand book q phase hand (record hand { dropped = true }) refl refl h
 
-drops_silent : (is_first : Bool) (name : SegName) → AllSilent (drops is_first name)
+drops_silent : (is_first : Bool) (name : SegName) → AllSilent (act_dropped is_first name)
 drops_silent true name = (tt, tt)
 drops_silent false name = tt
 
-deletes_so : (book : Book) (e : Emptying) (o : Option Job) (server : ℕ) (name : SegName) → e.job ≡ o → At book e → Kept book (deletes e o server name)
-deletes_so book e None server name same h = quiet book e [] tt h
-deletes_so book e (Some job) server name same h =
-    quiet book (deletes e (Some job) server name).state (deletes e (Some job) server name).outs
-    (all_append _ (drops (is_whole job.hand) name) (Send (Server server) (body.Delete (record { name = name })) ∷ []) (drops_silent (is_whole job.hand) name)
+emptying_delete_so : (book : Book) (e : Emptying) (o : Option Job) (server : ℕ) (name : SegName) → e.job ≡ o → At book e → Kept book (emptying_delete e o server name)
+emptying_delete_so book e None server name same h = quiet book e [] tt h
+emptying_delete_so book e (Some job) server name same h =
+    quiet book (emptying_delete e (Some job) server name).state (emptying_delete e (Some job) server name).outs
+    (all_append _ (act_dropped (is_whole job.hand) name) (Send (Server server) (body.Delete (record { name = name })) ∷ []) (drops_silent (is_whole job.hand) name)
     (tt, tt))
     (record {
       drawn = h.drawn;
       job = dropped_so book e.lasting.questions job.cleaning.phase job.hand (subst (AsksSo book e.lasting.questions) same h).job;
     })
 
-finishes_so : (book : Book) (e : Emptying) (count : ℕ) → At book e → Kept book (finishes e count)
-finishes_so book e count h =
-    quiet book (finishes e count).state (finishes e count).outs (answers_silent e.lasting.items.unanswered _) (record { drawn = h.drawn; job = tt })
+emptying_finish_so : (book : Book) (e : Emptying) (count : ℕ) → At book e → Kept book (emptying_finish e count)
+emptying_finish_so book e count h =
+    quiet book (emptying_finish e count).state (emptying_finish e count).outs (answers_silent e.lasting.items.unanswered _) (record { drawn = h.drawn; job = tt })
 
 -- what neither reads nor checks
 calm_so : (book : Book) (e : Emptying) (o : Out) → IsCalm o → At book e → Kept book (says e o)
@@ -191,9 +191,9 @@ calm_so book e (out.List server) calm h = list_so book e e.job server refl h
 calm_so book e (out.UsageAsk slot) calm h = usage_so book e e.job slot refl h
 calm_so book e (out.Fetch seg) calm h = absurd calm
 calm_so book e (out.Check block place) calm h = absurd calm
-calm_so book e (out.Move blocks) calm h = moves_so book e blocks h
-calm_so book e (out.Delete server name) calm h = deletes_so book e e.job server name refl h
-calm_so book e (out.Finished count) calm h = finishes_so book e count h
+calm_so book e (out.Move blocks) calm h = move_all_so book e blocks h
+calm_so book e (out.Delete server name) calm h = emptying_delete_so book e e.job server name refl h
+calm_so book e (out.Finished count) calm h = emptying_finish_so book e count h
 
 all_calm : (book : Book) (e : Emptying) (outs : List Out) → AllByRecursion IsCalm outs → At book e → Kept book (steps says e outs)
 all_calm book e [] calm h = quiet book e [] tt h
@@ -224,9 +224,9 @@ module _ (book : Book) (e : Emptying) (its : Job) (h : AsksSo book e.lasting.que
   reads_next : ReadsSo d.state.phase d.outs → Kept book (steps says then_e d.outs)
   unfolding says
   reads_next r = subst (λ outs. Kept book (steps says then_e outs)) (sym r.says)
-      (went_on book (reads then_e r.segment) (still (reads then_e r.segment).state)
-      (reads_so book then_e r.job r.segment h.drawn (hand_only book e.lasting.questions its.cleaning.phase its.hand h.job) r.becomes)
-      (λ b k. quiet b (reads then_e r.segment).state [] tt k))
+      (went_on book (emptying_read then_e r.segment) (still (emptying_read then_e r.segment).state)
+      (emptying_read_so book then_e r.job r.segment h.drawn (hand_only book e.lasting.questions its.cleaning.phase its.hand h.job) r.becomes)
+      (λ b k. quiet b (emptying_read then_e r.segment).state [] tt k))
 
   checks_on : ChecksSo its.cleaning.phase d.state.phase d.outs → Kept book (steps says then_e d.outs)
   checks_on c =
@@ -240,9 +240,9 @@ module _ (book : Book) (e : Emptying) (its : Job) (h : AsksSo book e.lasting.que
     | inr more ↦ elim more [ inl r ↦ reads_next r | inr c ↦ checks_on c ]
   ]
 
-pub cleans_so : (book : Book) (e : Emptying) (i : In) → At book e → Kept book (cleans e i)
-unfolding cleans job_takes
-cleans_so book e i h = by e.job refl
+pub emptying_clean_so : (book : Book) (e : Emptying) (i : In) → At book e → Kept book (emptying_clean e i)
+unfolding emptying_clean emptying_take
+emptying_clean_so book e i h = by e.job refl
   where
     by : (o : Option Job) → e.job ≡ o → Kept book (steps says (takes_in e o i).state (takes_in e o i).outs)
     by None same = quiet book e [] tt h

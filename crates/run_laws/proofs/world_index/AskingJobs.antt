@@ -3,7 +3,7 @@ use Rattle.std.proofs.Common.{◌≡◌, ◌⊎◌, ◌==◌, ◌&&◌, not, ℕ
 use Rattle.std.specs.List.{AllByRecursion, cons_option}
 use Rattle.group_map.specs.GroupMapState.{GroupMapState}
 use Rattle.segment_format.specs.declared.segment.Segment.{Segment}
-use Rattle.stripe_cleaner.specs.Checks.{all_dead, any_asked, checks_from, dead_at, is_awaited, live_at, place_in, questions}
+use Rattle.stripe_cleaner.specs.Checks.{all_dead, any_asked, checks_of, dead_at, is_awaited, live_at, place_in, questions}
 use Rattle.stripe_cleaner.specs.CleaningState.{CleaningState}
 use Rattle.stripe_cleaner.specs.Counting.{CountingState, all_slots, awaited_slots, chosen, has_usage, is_counted}
 use Rattle.stripe_cleaner.specs.declared.checks.Check.{Check}
@@ -78,8 +78,8 @@ next_so : (old : Phase) (left : List SegRef) (j : JobState) → TurnSo old (job.
 next_so old [] j = calm old Over _ (λ name h. tt) (tt, tt)
 next_so old (segment ∷ left) j = inr (inl (record { job = record j { left = left }; segment = segment; becomes = refl; says = refl }))
 
-deleting_so : (old : Phase) (j : JobState) (segment : SegRef) → TurnSo old (job.deleting j segment)
-deleting_so old j segment = calm old _ _ (λ name h. tt)
+job_delete_so : (old : Phase) (j : JobState) (segment : SegRef) → TurnSo old (job.job_delete j segment)
+job_delete_so old j segment = calm old _ _ (λ name h. tt)
     (all_map IsCalm (λ server. out.Delete server segment.name) (λ server. tt) (job.servers_of j.groups segment))
 
 asks_of : (segment : SegRef) (checks : List Check) → AllByRecursion (IsCheckOf segment) (questions segment checks)
@@ -96,12 +96,12 @@ deleted_so server name j segment servers =
     (λ _. calm (Deleting j segment servers) _ [] (λ name h. tt) tt))
     (λ _. stays (Deleting j segment servers))
 
-checking_so : (j : JobState) (segment : SegRef) (checks : List Check) → TurnSo (Reading j segment) (job.checking j segment checks)
-unfolding job.checking
-checking_so j segment checks =
-    by_test (TurnSo (Reading j segment)) (all_dead checks) (job.deleting j segment)
+job_check_so : (j : JobState) (segment : SegRef) (checks : List Check) → TurnSo (Reading j segment) (job.job_check j segment checks)
+unfolding job.job_check
+job_check_so j segment checks =
+    by_test (TurnSo (Reading j segment)) (all_dead checks) (job.job_delete j segment)
     (record { state = Checking j segment checks; outs = questions segment checks })
-    (λ _. deleting_so (Reading j segment) j segment)
+    (λ _. job_delete_so (Reading j segment) j segment)
     (λ _. inr (inr (record {
       job = j;
       segment = segment;
@@ -114,14 +114,14 @@ checking_so j segment checks =
 read_so : (read : Option Segment) (j : JobState) (segment : SegRef) → TurnSo (Reading j segment) (job.on_read read j segment)
 read_so None j segment = next_so (Reading j segment) j.left j
 read_so (Some read) j segment =
-    by_test (TurnSo (Reading j segment)) (same_name read.name segment.name) (job.checking j segment (checks_from 0 read.items)) (still (Reading j segment))
-    (λ _. checking_so j segment (checks_from 0 read.items)) (λ _. stays (Reading j segment))
+    by_test (TurnSo (Reading j segment)) (same_name read.name segment.name) (job.job_check j segment (checks_of 0 read.items)) (still (Reading j segment))
+    (λ _. job_check_so j segment (checks_of 0 read.items)) (λ _. stays (Reading j segment))
 
 looked_so : (j : JobState) (segment : SegRef) (was : List Check) (was_asked : Bool) (checks : List Check)
-    → TurnSo (Checking j segment was) (job.looked_at j segment was_asked checks)
-unfolding job.looked_at
+    → TurnSo (Checking j segment was) (job.job_look j segment was_asked checks)
+unfolding job.job_look
 looked_so j segment was was_asked checks =
-    by_test (TurnSo (Checking j segment was)) (all_dead checks) (job.deleting j segment) _ (λ _. deleting_so (Checking j segment was) j segment)
+    by_test (TurnSo (Checking j segment was)) (all_dead checks) (job.job_delete j segment) _ (λ _. job_delete_so (Checking j segment was) j segment)
     (λ _. by_test (TurnSo (Checking j segment was)) (was_asked && not (any_asked checks)) _ (still (Checking j segment checks))
     (λ _. calm (Checking j segment was) _ _ (λ name h. h) (tt, tt)) (λ _. calm (Checking j segment was) _ [] (λ name h. h) tt))
 
@@ -159,7 +159,7 @@ mapped_so groups (Checking j segment checks) = calm (Checking j segment checks) 
 mapped_so groups (Deleting j segment servers) = calm (Deleting j segment servers) _ [] (λ name h. tt) tt
 mapped_so groups Over = stays Over
 
-heard_so : (old : Phase) (l : ListingState) → TurnSo old (transitions.listed l)
+heard_so : (old : Phase) (l : ListingState) → TurnSo old (transitions.listing_go_on l)
 heard_so old l =
     by_test (TurnSo old) (length l.awaited == 0)
     (record {
@@ -173,8 +173,8 @@ heard_so old l =
 
 listed_in_so : (server : ℕ) (held : List FragMeta) (p : Phase) → TurnSo p (transitions.listed_in server held p)
 listed_in_so server held (Listing l) =
-    by_test (TurnSo (Listing l)) (is_among l.awaited server) (transitions.listed (transitions.heard l server held)) (still (Listing l))
-    (λ _. heard_so (Listing l) (transitions.heard l server held)) (λ _. stays (Listing l))
+    by_test (TurnSo (Listing l)) (is_among l.awaited server) (transitions.listing_go_on (transitions.listing_hear l server held)) (still (Listing l))
+    (λ _. heard_so (Listing l) (transitions.listing_hear l server held)) (λ _. stays (Listing l))
 listed_in_so server held Greeting = stays Greeting
 listed_in_so server held (Counting c) = stays (Counting c)
 listed_in_so server held (Reading j segment) = stays (Reading j segment)
@@ -182,15 +182,15 @@ listed_in_so server held (Checking j segment checks) = stays (Checking j segment
 listed_in_so server held (Deleting j segment servers) = stays (Deleting j segment servers)
 listed_in_so server held Over = stays Over
 
-counted_so : (old : Phase) (count : ℕ) (c : CountingState) → TurnSo old (transitions.counted count c)
-counted_so old count c =
+counting_go_on_so : (old : Phase) (count : ℕ) (c : CountingState) → TurnSo old (transitions.counting_go_on count c)
+counting_go_on_so old count c =
     by_test (TurnSo old) (is_counted c.usages) (job.next (record { groups = c.groups; left = chosen count c; deleted = 0 })) (still (Counting c))
     (λ _. next_so old (chosen count c) (record { groups = c.groups; left = chosen count c; deleted = 0 })) (λ _. calm old (Counting c) [] (λ name h. tt) tt)
 
 counted_in_so : (count slot : ℕ) (counts : List (SegName × ℕ)) (p : Phase) → TurnSo p (transitions.counted_in count slot counts p)
 counted_in_so count slot counts (Counting c) =
-    by_test (TurnSo (Counting c)) (has_usage c.usages slot) (still (Counting c)) (transitions.counted count (transitions.usage_with slot counts c))
-    (λ _. stays (Counting c)) (λ _. counted_so (Counting c) count (transitions.usage_with slot counts c))
+    by_test (TurnSo (Counting c)) (has_usage c.usages slot) (still (Counting c)) (transitions.counting_go_on count (transitions.counting_hear slot counts c))
+    (λ _. stays (Counting c)) (λ _. counting_go_on_so (Counting c) count (transitions.counting_hear slot counts c))
 counted_in_so count slot counts Greeting = stays Greeting
 counted_in_so count slot counts (Listing l) = stays (Listing l)
 counted_in_so count slot counts (Reading j segment) = stays (Reading j segment)
@@ -234,16 +234,16 @@ deleted_in_so server name (Reading j segment) = stays (Reading j segment)
 deleted_in_so server name (Checking j segment checks) = stays (Checking j segment checks)
 deleted_in_so server name Over = stays Over
 
-awaits_so : (p : Phase) → TurnSo p (record { state = p; outs = transitions.awaits p })
-awaits_so Greeting = calm Greeting Greeting _ (λ name h. h) (tt, tt)
-awaits_so (Listing l) = calm (Listing l) (Listing l) _ (λ name h. h) (all_map IsCalm (λ server. out.List server) (λ server. tt) l.awaited)
-awaits_so (Counting c) = calm (Counting c) (Counting c) _ (λ name h. h) (all_map IsCalm (λ slot. out.UsageAsk slot) (λ slot. tt) (awaited_slots c.usages))
-awaits_so (Reading j segment) = inr (inl (record { job = j; segment = segment; becomes = refl; says = refl }))
-awaits_so (Checking j segment checks) =
+phase_asking_so : (p : Phase) → TurnSo p (record { state = p; outs = transitions.phase_asking p })
+phase_asking_so Greeting = calm Greeting Greeting _ (λ name h. h) (tt, tt)
+phase_asking_so (Listing l) = calm (Listing l) (Listing l) _ (λ name h. h) (all_map IsCalm (λ server. out.List server) (λ server. tt) l.awaited)
+phase_asking_so (Counting c) = calm (Counting c) (Counting c) _ (λ name h. h) (all_map IsCalm (λ slot. out.UsageAsk slot) (λ slot. tt) (awaited_slots c.usages))
+phase_asking_so (Reading j segment) = inr (inl (record { job = j; segment = segment; becomes = refl; says = refl }))
+phase_asking_so (Checking j segment checks) =
     inr (inr (record { job = j; segment = segment; checks = checks; becomes = refl; follows = λ name h. h; of = asks_of segment checks }))
-awaits_so (Deleting j segment servers) = calm (Deleting j segment servers) (Deleting j segment servers) _ (λ name h. h)
+phase_asking_so (Deleting j segment servers) = calm (Deleting j segment servers) (Deleting j segment servers) _ (λ name h. h)
     (all_map IsCalm (λ server. out.Delete server segment.name) (λ server. tt) servers)
-awaits_so Over = stays Over
+phase_asking_so Over = stays Over
 
 -- ---- all inputs
 
@@ -263,10 +263,10 @@ transition_so s (input.Usage slot epoch counts) =
     by_test (DoneSo s) (is_promised s.promised slot epoch) _ (still s) (λ _. counted_in_so s.count slot counts s.phase) (λ _. stays s.phase)
 transition_so s (input.Read read) = read_in_so read s.phase
 transition_so s (input.Live block epoch entry) =
-    by_test (DoneSo s) (transitions.is_heard s.promised block epoch && transitions.may_move entry) _ (still s) (λ _. answered_so (live_at block entry) s.phase)
+    by_test (DoneSo s) (transitions.cleaning_hears s.promised block epoch && transitions.may_move entry) _ (still s) (λ _. answered_so (live_at block entry) s.phase)
     (λ _. stays s.phase)
 transition_so s (input.Dead block epoch) =
-    by_test (DoneSo s) (transitions.is_heard s.promised block epoch) _ (still s) (λ _. answered_so (dead_at block) s.phase) (λ _. stays s.phase)
+    by_test (DoneSo s) (transitions.cleaning_hears s.promised block epoch) _ (still s) (λ _. answered_so (dead_at block) s.phase) (λ _. stays s.phase)
 transition_so s input.Moved = moved_in_so s.phase
 transition_so s (input.Deleted server name) = deleted_in_so server name s.phase
-transition_so s input.Tick = awaits_so s.phase
+transition_so s input.Tick = phase_asking_so s.phase

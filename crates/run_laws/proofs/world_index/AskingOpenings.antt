@@ -7,18 +7,18 @@ use Rattle.log_owner.specs.declared.opening.Opening.{Opening}
 use Rattle.log_owner.specs.declared.opening.Scanning.{Scanning}
 use Rattle.log_owner.specs.declared.opening.Stage.{Stage}
 use Rattle.log_owner.specs.declared.opening.Stage.TheVariants as stage
-use Rattle.log_owner.specs.Opening.{Went, answers, at_scan, by_server, drops, fenced_by, found_by, is_fenced, is_meant, missing_by, on_body, on_fenced, on_found, on_missing, on_news, on_packet, on_stored, on_tick, on_welcome, own_in, regrouped, said, scans, scans_at, scans_on, stays, welcomed, welcomed_as, welcomed_with}
+use Rattle.log_owner.specs.Opening.{Went, answers, known_scanning, by_server, drops, fenced_by, found_by, is_fenced, is_meant, missing_by, on_body, on_fenced, on_found, on_missing, on_news, opening_take, on_stored, on_tick, on_welcome, own_in, regrouped, sent_send, scans, scans_at, scans_on, stays, welcomed, welcomed_as, welcomed_with}
 use Rattle.log_owner.specs.Sending.{server_in}
 use Rattle.log_scan.specs.declared.input.In.{In}
 use Rattle.log_scan.specs.declared.input.In.TheVariants as input
 use Rattle.log_scan.specs.declared.output.Out.{Out}
 use Rattle.log_scan.specs.declared.output.Out.TheVariants as out
 use Rattle.log_scan.specs.Transition as scan
-use Rattle.node_base.specs.Asking.{asked_as, drawn, drawn_for, own_of}
+use Rattle.node_base.specs.Asking.{asked_as, draw, drawn_for, own_of}
 use Rattle.node_base.specs.declared.questions.Asked.{Asked}
 use Rattle.node_base.specs.declared.questions.Questions.{Questions}
-use Rattle.node_base.specs.Known.{names_known}
-use Rattle.node_base.specs.Maps.{fits, is_older, taken}
+use Rattle.node_base.specs.Known.{names_known_groups}
+use Rattle.node_base.specs.Maps.{fits, is_older, maps_take}
 use Rattle.wire_msg.specs.declared.body.Body.{Body}
 use Rattle.wire_msg.specs.declared.body.Body.TheVariants as body
 use Rattle.wire_msg.specs.declared.packet.Packet.{Packet}
@@ -36,11 +36,11 @@ still_rises : (q : Questions) → q.last ≤ q.last
 still_rises q = let l = q.last in omega arith
 
 for_more : (a : Asked) (q : Questions) (own : ℕ) → q.last ≤ (drawn_for a q own).last
-for_more a q own = by_test (λ (r : Questions). q.last ≤ r.last) (own == a.own) q (drawn q) (λ _. still_rises q) (λ _. below_next q)
+for_more a q own = by_test (λ (r : Questions). q.last ≤ r.last) (own == a.own) q (draw q) (λ _. still_rises q) (λ _. below_next q)
 
 said_more : (owner : Owner) (low : ℕ) (a : Asked) (q : Questions) (e : _) (outs : List Out)
-    → q.last ≤ (steps (said owner low) (record { asked = a; questions = q; ended = e }) outs).state.questions.last
-unfolding said
+    → q.last ≤ (steps (sent_send owner low) (record { asked = a; questions = q; ended = e }) outs).state.questions.last
+unfolding sent_send
 said_more owner low a q e [] = still_rises q
 said_more owner low a q e (out.Hello own ∷ outs) =
     let more = for_more a q own in let rest = said_more owner low (asked_as a q own) (drawn_for a q own) e outs in omega arith
@@ -68,7 +68,7 @@ hear_more k q s news own (Some groups) = scan_more _ q _ (input.Welcome own news
 welcomed_more : (k : Known) (q : Questions) (s : Scanning) (news : News) (own : Option ℕ) → Rises q (welcomed_as k q s news own)
 unfolding welcomed
 welcomed_more k q s news None = still_rises q
-welcomed_more k q s news (Some own) = hear_more (record k { maps = taken k.maps news }) q s news own (taken k.maps news).groups
+welcomed_more k q s news (Some own) = hear_more (record k { maps = maps_take k.maps news }) q s news own (maps_take k.maps news).groups
 
 welcome_more : (o : Opening) (q : Questions) (w : Welcome) → Rises q (on_welcome o q w)
 unfolding on_welcome
@@ -76,7 +76,7 @@ welcome_more o q w = by_stage o.stage
   where
     by_stage : (at : Stage) → Rises q (on_welcome (record o { stage = at }) q w)
     by_stage (stage.Scanning s) =
-        by_test (Rises q) (is_meant o.known w) (welcomed_as o.known q s w.news (own_of s.asked w.ask)) (stays (at_scan o.known s) q)
+        by_test (Rises q) (is_meant o.known w) (welcomed_as o.known q s w.news (own_of s.asked w.ask)) (stays (known_scanning o.known s) q)
         (λ _. welcomed_more o.known q s w.news (own_of s.asked w.ask)) (λ _. still_rises q)
     by_stage (stage.Settling s) = still_rises q
 
@@ -87,7 +87,7 @@ regroup_more k q groups (stage.Settling s) = still_rises q
 news_more : (o : Opening) (q : Questions) (news : News) → Rises q (on_news o q news)
 unfolding on_news
 news_more o q news =
-    let newer : Known = record o.known { maps = taken o.known.maps news } in
+    let newer : Known = record o.known { maps = maps_take o.known.maps news } in
     by_test (Rises q) (fits o.known.maps news && is_older o.known.maps news) (regrouped newer q news.groups o.stage) (drops o q)
     (λ _. regroup_more newer q news.groups o.stage) (λ _. still_rises q)
 
@@ -129,6 +129,6 @@ body_more o q from (body.Missing m) =
 body_more o q from (body.Stored s) = stored_more o q s
 body_more o q from _ = still_rises q
 
-pub packet_more : (o : Opening) (q : Questions) (p : Packet) → Rises q (on_packet o q p)
-unfolding on_packet
-packet_more o q p = by_test (Rises q) (names_known o.known.maps p.body) (on_body o q p.from p.body) _ (λ _. body_more o q p.from p.body) (λ _. below_next q)
+pub packet_more : (o : Opening) (q : Questions) (p : Packet) → Rises q (opening_take o q p)
+unfolding opening_take
+packet_more o q p = by_test (Rises q) (names_known_groups o.known.maps p.body) (on_body o q p.from p.body) _ (λ _. body_more o q p.from p.body) (λ _. below_next q)

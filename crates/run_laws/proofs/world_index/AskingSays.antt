@@ -8,12 +8,12 @@ use Rattle.std.specs.Ordering.{match_ordering}
 use Rattle.std.specs.declared.cmp.Ordering.{Ordering}
 use Rattle.std.specs.declared.cmp.Ordering.TheVariants.{Less, Equal, Greater}
 use Rattle.cleaner_serving.specs.declared.emptying.Emptying.{Emptying}
-use Rattle.cleaner_serving.specs.Jobs.{Done, asks_check, asks_list, asks_maps, asks_usage, check_sent, checked_in, checked_with, checks_block, says}
+use Rattle.cleaner_serving.specs.Jobs.{Done, ask_check, ask_list, ask_maps, ask_usage, check_sent, checked_in, checked_with, emptying_check, says}
 use Rattle.cleaner_job.specs.declared.hand.Hand.{Hand}
 use Rattle.cleaner_job.specs.declared.job.Job.{Job}
-use Rattle.cleaner_job.specs.Hands.{asked_of, checks_under, checks, kept_ask}
-use Rattle.cleaner_job.specs.Jobs.{drawn_unless, hand_checks_in, job_checked, job_checks, JobChecking}
-use Rattle.node_base.specs.Asking.{drawn, next_ask}
+use Rattle.cleaner_job.specs.Hands.{asked_of, checks_under, hand_check, kept_ask}
+use Rattle.cleaner_job.specs.Jobs.{drawn_unless, hand_checks_in, job_checked, job_check, JobChecking}
+use Rattle.node_base.specs.Asking.{draw, next_ask}
 use Rattle.node_base.specs.declared.effects.Effect.{Effect}
 use Rattle.node_base.specs.declared.effects.Effect.TheVariants.{Send, Answer, Lose, Does}
 use Rattle.node_base.specs.declared.questions.Questions.{Questions}
@@ -131,8 +131,8 @@ past_last q = by_test (λ (n : ℕ). n < u32_end → q.last < n) (nat_lt q.last 
 pub so_more : (book : Book) (q r : Questions) → q.last ≤ r.last → (o : Option Job) → AsksSo book q o → AsksSo book r o
 so_more book q r more o h = record { drawn = drawn_more book q r more h.drawn; job = job_more book q r more o h.job }
 
-pub so_drawn : (book : Book) (q : Questions) (o : Option Job) → AsksSo book q o → AsksSo book (drawn q) o
-so_drawn book q o h = so_more book q (drawn q) (below_next q) o h
+pub so_drawn : (book : Book) (q : Questions) (o : Option Job) → AsksSo book q o → AsksSo book (draw q) o
+so_drawn book q o h = so_more book q (draw q) (below_next q) o h
 
 unless_more : (o : Option ℕ) (q : Questions) → q.last ≤ (drawn_unless o q).last
 unless_more None q = below_next q
@@ -145,26 +145,26 @@ module _ (book : Book) (e : Emptying) where
   same_hand : (job : Job) → At book e → e.job ≡ Some job → AsksSo book e.lasting.questions (Some job)
   same_hand job h same = subst (AsksSo book e.lasting.questions) same h
 
-  pub maps_so : (o : Option Job) → e.job ≡ o → At book e → Kept book (asks_maps e o)
+  pub maps_so : (o : Option Job) → e.job ≡ o → At book e → Kept book (ask_maps e o)
   maps_so None same h = quiet book e [] tt h
   maps_so (Some job) same h =
       let k = so_more book e.lasting.questions (drawn_unless job.hello e.lasting.questions) (unless_more job.hello e.lasting.questions) (Some job)
       (same_hand job h same) in
-      quiet book (asks_maps e (Some job)).state (asks_maps e (Some job)).outs (tt, tt) (record { drawn = k.drawn; job = k.job })
+      quiet book (ask_maps e (Some job)).state (ask_maps e (Some job)).outs (tt, tt) (record { drawn = k.drawn; job = k.job })
 
-  pub list_so : (o : Option Job) (server : ℕ) → e.job ≡ o → At book e → Kept book (asks_list e o server)
+  pub list_so : (o : Option Job) (server : ℕ) → e.job ≡ o → At book e → Kept book (ask_list e o server)
   list_so None server same h = quiet book e [] tt h
   list_so (Some job) server same h =
       let k = so_more book e.lasting.questions (drawn_unless job.lists e.lasting.questions) (unless_more job.lists e.lasting.questions) (Some job)
       (same_hand job h same) in
-      quiet book (asks_list e (Some job) server).state (asks_list e (Some job) server).outs (tt, tt) (record { drawn = k.drawn; job = k.job })
+      quiet book (ask_list e (Some job) server).state (ask_list e (Some job) server).outs (tt, tt) (record { drawn = k.drawn; job = k.job })
 
-  pub usage_so : (o : Option Job) (slot : ℕ) → e.job ≡ o → At book e → Kept book (asks_usage e o slot)
+  pub usage_so : (o : Option Job) (slot : ℕ) → e.job ≡ o → At book e → Kept book (ask_usage e o slot)
   usage_so None slot same h = quiet book e [] tt h
   usage_so (Some job) slot same h =
       let k = so_more book e.lasting.questions (drawn_unless job.usages e.lasting.questions) (unless_more job.usages e.lasting.questions) (Some job)
       (same_hand job h same) in
-      quiet book (asks_usage e (Some job) slot).state (asks_usage e (Some job) slot).outs (tt, tt) (record { drawn = k.drawn; job = k.job })
+      quiet book (ask_usage e (Some job) slot).state (ask_usage e (Some job) slot).outs (tt, tt) (record { drawn = k.drawn; job = k.job })
 
 -- ---- its checks
 
@@ -261,10 +261,10 @@ module _ (book : Book) (q : Questions) (phase : Phase) (hand : Hand) (h : HandSe
     | inr old ↦ (let low = h.asks.drawn (was_room room) b ask old in let up = below_next q in omega arith)
   ]
 
-  pub new_hand : HandSeen (then_book new) (drawn q) phase then_hand
+  pub new_hand : HandSeen (then_book new) (draw q) phase then_hand
   new_hand = record { asks = record { drawn = new_drawn; named = new_named }; job = h.job }
 
-  pub new_book : IsDrawn (then_book new) (drawn q)
+  pub new_book : IsDrawn (then_book new) (draw q)
   new_book room ask name (inl was) = (let low = drawn_so (was_room room) ask name was in let up = below_next q in omega arith)
   new_book room ask name (inr (inl asks)) = (let same = asks.0 in omega arith)
   new_book room ask name (inr (inr none)) = absurd none
@@ -295,8 +295,8 @@ module _ (book : Book) (e : Emptying) (block : BlockId) (place : Place) where
 
   -- a block of the segment in hand is checked, under a number that it has, or a new one
   checks_hand : (job : Job) (hand : Hand) → HandSeen book e.lasting.questions job.cleaning.phase hand → IsDrawn book e.lasting.questions
-      → place.seg.name ≡ hand.seg.name → ChecksOn (with_checks (job_checked job (checks hand e.lasting.questions block)))
-  unfolding checks
+      → place.seg.name ≡ hand.seg.name → ChecksOn (with_checks (job_checked job (hand_check hand e.lasting.questions block)))
+  unfolding hand_check
   checks_hand job hand seen drawn_so at = by (kept_ask hand block) refl
     where
       q : Questions
@@ -338,12 +338,12 @@ module _ (book : Book) (e : Emptying) (block : BlockId) (place : Place) where
 
   checks_by : (o : Option Job) → e.job ≡ o → At book e → SegOf place.seg o
       → ChecksOn (check_sent (checked_in e o block).state block place (checked_in e o block).ask)
-  unfolding job_checks
+  unfolding job_check
   checks_by None same h seg = record { kept = quiet book e [] tt h; seg = subst (SegOf place.seg) (sym same) tt }
   checks_by (Some job) same h seg = checks_in job job.hand refl h same seg
 
-  pub check_so : At book e → SegOf place.seg e.job → ChecksOn (asks_check e block place)
-  unfolding asks_check checks_block
+  pub check_so : At book e → SegOf place.seg e.job → ChecksOn (ask_check e block place)
+  unfolding ask_check emptying_check
   check_so h seg = checks_by e.job refl h seg
 
 -- all Checks of one segment
@@ -353,8 +353,8 @@ unfolding says
 all_checks book e segment [] of h seg = quiet book e [] tt h
 all_checks book e segment (out.Check block place ∷ outs) of h seg =
     let c = check_so book e block place h (subst (λ s. SegOf s e.job) (sym of.0) seg) in
-    went_on book (asks_check e block place) (steps says (asks_check e block place).state outs) c.kept
-    (λ b k. all_checks b (asks_check e block place).state segment outs of.1 k (subst (λ s. SegOf s (asks_check e block place).state.job) of.0 c.seg))
+    went_on book (ask_check e block place) (steps says (ask_check e block place).state outs) c.kept
+    (λ b k. all_checks b (ask_check e block place).state segment outs of.1 k (subst (λ s. SegOf s (ask_check e block place).state.job) of.0 c.seg))
 all_checks book e segment (out.Hello ∷ outs) of h seg = absurd of.0
 all_checks book e segment (out.List server ∷ outs) of h seg = absurd of.0
 all_checks book e segment (out.UsageAsk slot ∷ outs) of h seg = absurd of.0

@@ -7,7 +7,7 @@ use Rattle.cleaner_node.specs.declared.cleaner.Phase.{Phase}
 use Rattle.cleaner_node.specs.declared.cleaner.Phase.TheVariants.{Down, Opening, Serving}
 use Rattle.cleaner_node.specs.declared.cleaner.Wish.{Wish}
 use Rattle.cleaner_node.specs.declared.cleaner.Wish.TheVariants.{Crash, Restart, Clean}
-use Rattle.cleaner_node.specs.CleanerEvents.{Went_to, after_opening, answers, back, begun_life, crashes, down_at, down_wishes, happens, hears, next_life, on_begin, on_deliver, on_time, opened_on, opening_at, opening_wishes, owner_of, phase_room, restarts, serves_on, serving_at, serving_wishes, takes, wish_at}
+use Rattle.cleaner_node.specs.CleanerEvents.{Went_to, after_opening, cleaner_answer, back, begun_life, crash, down_at, down_wishes, happens, cleaner_hear, next_life, on_begin, on_deliver, on_time, opened_on, opening_at, opening_wishes, owner_of, phase_has_room, restart, serves_on, serving_at, serving_wishes, takes, wish_at}
 use Rattle.cleaner_job.specs.declared.lasting.Lasting.{Lasting}
 use Rattle.log_owner.proofs.Behaving as behaving
 use Rattle.log_owner.specs.Behaves.{MayDo, MaySay}
@@ -18,7 +18,7 @@ use Rattle.log_owner.specs.declared.opened.Progress.TheVariants as progress
 use Rattle.log_owner.specs.declared.opening.Opening as openings
 use Rattle.log_owner.specs.Opening as opening
 use Rattle.log_owner.specs.Opening.{Went}
-use Rattle.log_owner.specs.Sending.{pushes_all}
+use Rattle.log_owner.specs.Sending.{push_all}
 use Rattle.node_base.specs.Beginning.{answers_unanswered, next_item}
 use Rattle.node_base.specs.declared.effects.Effect.{Effect}
 use Rattle.node_base.specs.declared.effects.Effect.TheVariants.{Send, Answer as Answers, Lose, Does}
@@ -70,18 +70,18 @@ crash_silent l number =
     all_append IsSilent (answers_unanswered l.items.unanswered answer.Cut) (Answers number answer.Done ∷ [])
     (answers_silent l.items.unanswered answer.Cut) (tt, tt)
 
-crashes_so : (book : Book) (l : Lasting) (number : ℕ) → IsDrawn book l.questions → PhaseKept book (crashes l number)
-unfolding crashes
-crashes_so book l number h = drawn_silent book l.questions (crashes l number).outs (crash_silent l number) h
+crash_so : (book : Book) (l : Lasting) (number : ℕ) → IsDrawn book l.questions → PhaseKept book (crash l number)
+unfolding crash
+crash_so book l number h = drawn_silent book l.questions (crash l number).outs (crash_silent l number) h
 
-restarts_so : (book : Book) (servers : ℕ) (l : Lasting) (number : ℕ) → IsDrawn book l.questions → PhaseKept book (restarts servers l number)
-unfolding restarts
-restarts_so book servers l number h =
+restart_so : (book : Book) (servers : ℕ) (l : Lasting) (number : ℕ) → IsDrawn book l.questions → PhaseKept book (restart servers l number)
+unfolding restart
+restart_so book servers l number h =
     let q = (opening.on_start (owner_of (next_life l number)) servers l.questions).questions in
-    drawn_silent book q (restarts servers l number).outs (tt, tt) (drawn_more book l.questions q (below_next l.questions) h)
+    drawn_silent book q (restart servers l number).outs (tt, tt) (drawn_more book l.questions q (below_next l.questions) h)
 
-answers_so : (book : Book) (p : Phase) (number : ℕ) (a : Answer) → CleanerAsks book p → PhaseKept book (answers p number a)
-answers_so book p number a h = phase_silent p (Answers number a ∷ []) (tt, tt) h
+cleaner_answer_so : (book : Book) (p : Phase) (number : ℕ) (a : Answer) → CleanerAsks book p → PhaseKept book (cleaner_answer p number a)
+cleaner_answer_so book p number a h = phase_silent p (Answers number a ∷ []) (tt, tt) h
   where
     phase_silent : (r : Phase) (es : List Effect) → AllSilent es → CleanerAsks book r → CleanerAsks (book_with book es) r
     phase_silent (Down l) es silent k = drawn_silent book l.questions es silent k
@@ -103,7 +103,7 @@ module _ (book : Book) (l : Lasting) (h : IsDrawn book l.questions) (before : Li
   both es more = all_append IsSilent before es silent more
 
   back_silent : (o : Opened) → AllSilent (back l o).outs
-  back_silent o = all_append IsSilent (pushes_all o.promised.managers o.feed) _ (pushes_silent o.promised.managers o.feed)
+  back_silent o = all_append IsSilent (push_all o.promised.managers o.feed) _ (pushes_silent o.promised.managers o.feed)
       (answers_silent l.items.unanswered answer.Done)
 
   after_opening_so : (p : Progress) → CleanerAsks (book_with book (before ++ (after_opening l p).outs)) (after_opening l p).state
@@ -124,19 +124,19 @@ opened_on_so book owner l w h more may =
 
 down_wish : (book : Book) (servers : ℕ) (l : Lasting) (number : ℕ) (wish : Wish) → IsDrawn book l.questions
     → PhaseKept book (down_wishes servers l number wish)
-down_wish book servers l number Restart h = restarts_so book servers l number h
-down_wish book servers l number Crash h = answers_so book (Down l) number answer.Down h
-down_wish book servers l number (Clean count) h = answers_so book (Down l) number answer.Down h
+down_wish book servers l number Restart h = restart_so book servers l number h
+down_wish book servers l number Crash h = cleaner_answer_so book (Down l) number answer.Down h
+down_wish book servers l number (Clean count) h = cleaner_answer_so book (Down l) number answer.Down h
 
 opening_wish : (book : Book) (l : Lasting) (o : openings.Opening) (number : ℕ) (wish : Wish) → IsDrawn book l.questions
     → PhaseKept book (opening_wishes l o number wish)
-opening_wish book l o number Crash h = crashes_so book l number h
-opening_wish book l o number Restart h = answers_so book (Opening l o) number answer.Up h
-opening_wish book l o number (Clean count) h = answers_so book (Opening l o) number answer.Down h
+opening_wish book l o number Crash h = crash_so book l number h
+opening_wish book l o number Restart h = cleaner_answer_so book (Opening l o) number answer.Up h
+opening_wish book l o number (Clean count) h = cleaner_answer_so book (Opening l o) number answer.Down h
 
 serving_wish : (book : Book) (e : Emptying) (number : ℕ) (wish : Wish) → At book e → PhaseKept book (serving_wishes e number wish)
-serving_wish book e number Crash h = crashes_so book e.lasting number h.drawn
-serving_wish book e number Restart h = answers_so book (Serving e) number answer.Up h
+serving_wish book e number Crash h = crash_so book e.lasting number h.drawn
+serving_wish book e number Restart h = cleaner_answer_so book (Serving e) number answer.Up h
 serving_wish book e number (Clean count) h = serving.clean_so book e number count h
 
 down_item : (book : Book) (servers : ℕ) (l : Lasting) (item : Option ℕ) → IsDrawn book l.questions → PhaseKept book (down_at servers l item)
@@ -160,13 +160,13 @@ begin_so book servers (Serving e) h =
 
 -- ---- packets and time
 
-hears_so : (book : Book) (p : Phase) (packet : Packet) → CleanerAsks book p → PhaseKept book (hears p packet)
-unfolding hears
-hears_so book (Down l) packet h = stays_so book (Down l) h
-hears_so book (Opening l o) packet h =
-    opened_on_so book o.known.owner l (opening.on_packet o l.questions packet) h (packet_more o l.questions packet)
+cleaner_hear_so : (book : Book) (p : Phase) (packet : Packet) → CleanerAsks book p → PhaseKept book (cleaner_hear p packet)
+unfolding cleaner_hear
+cleaner_hear_so book (Down l) packet h = stays_so book (Down l) h
+cleaner_hear_so book (Opening l o) packet h =
+    opened_on_so book o.known.owner l (opening.opening_take o l.questions packet) h (packet_more o l.questions packet)
     (behaving.packet_so o l.questions packet).does
-hears_so book (Serving e) packet h = serving.packet_so book e packet h
+cleaner_hear_so book (Serving e) packet h = serving.packet_so book e packet h
 
 time_so : (book : Book) (p : Phase) → CleanerAsks book p → PhaseKept book (on_time p)
 unfolding on_time
@@ -179,10 +179,10 @@ happens_so : (book : Book) (peers : Peers) (p : Phase) (what : Do) → CleanerAs
 unfolding on_deliver
 happens_so book peers p Begin h = begin_so book peers.servers p h
 happens_so book peers p (Deliver packet) h =
-    by_test (PhaseKept book) (is_well_formed peers packet) (hears p packet) (still p) (λ _. hears_so book p packet h) (λ _. stays_so book p h)
+    by_test (PhaseKept book) (is_well_formed peers packet) (cleaner_hear p packet) (still p) (λ _. cleaner_hear_so book p packet h) (λ _. stays_so book p h)
 happens_so book peers p Tick h = time_so book p h
 
 pub asks_kept : (book : Book) (peers : Peers) (p : Phase) (what : Do) → CleanerAsks book p
     → CleanerAsks (book_with book (takes peers p what).outs) (takes peers p what).state
 asks_kept book peers p what h =
-    by_test (PhaseKept book) (phase_room p) (happens peers p what) (still p) (λ _. happens_so book peers p what h) (λ _. stays_so book p h)
+    by_test (PhaseKept book) (phase_has_room p) (happens peers p what) (still p) (λ _. happens_so book peers p what h) (λ _. stays_so book p h)

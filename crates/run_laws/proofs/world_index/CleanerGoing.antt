@@ -3,12 +3,12 @@ use Rattle.std.proofs.Common.{◌≡◌, ◌==◌, ◌-◌, ℕ, ◌<◌, Bool, 
 use Rattle.std.proofs.lemmas.Bool.{eqb-true, leb-true}
 use Rattle.std.proofs.lemmas.Bool.Decides.{nat_tests}
 use Rattle.std.specs.List.{AllByRecursion}
-use Rattle.cleaner_node.specs.CleanerEvents.{lasting_of, phase_room, happens, takes}
+use Rattle.cleaner_node.specs.CleanerEvents.{lasting_of, phase_has_room, happens, takes}
 use Rattle.cleaner_node.specs.declared.cleaner.Cleaner.{Cleaner as CleanerNode}
 use Rattle.cleaner_node.specs.declared.cleaner.Phase.{Phase}
 use Rattle.cleaner_node.specs.declared.cleaner.Phase.TheVariants.{Down, Opening, Serving}
 use Rattle.cleaner_job.specs.declared.lasting.Lasting.{Lasting}
-use Rattle.cleaner_job.specs.Lasting.{lasting_room}
+use Rattle.cleaner_job.specs.Lasting.{lasting_has_room}
 use Rattle.index_tie.proofs.Tables.{second_of}
 use Rattle.index_tie.specs.Net.{Net}
 use Rattle.index_tie.specs.Net.Runs.{Begun}
@@ -43,13 +43,13 @@ use Rattle.xfs_base.proofs.Booleans.{and_first, and_second}
 below_end : (x end room : ℕ) → nat_le x (end - room) ≡ true → 0 < room → 0 < end → x < end
 below_end x end room h some more = let limit = leb-true x (end - room) h in omega arith
 
-lasting_below : (l : Lasting) → lasting_room l ≡ true → l.questions.last < u32_end
+lasting_below : (l : Lasting) → lasting_has_room l ≡ true → l.questions.last < u32_end
 lasting_below l h = below_end l.questions.last u32_end counter_room (and_second (has_room l.inc) (has_room l.questions.last) h) (omega arith) (omega arith)
 
-room_below : (p : Phase) → phase_room p ≡ true → (lasting_of p).questions.last < u32_end
+room_below : (p : Phase) → phase_has_room p ≡ true → (lasting_of p).questions.last < u32_end
 room_below (Down l) h = lasting_below l h
-room_below (Opening l o) h = lasting_below l (and_first (lasting_room l) _ h)
-room_below (Serving e) h = lasting_below e.lasting (and_first (lasting_room e.lasting) _ h)
+room_below (Opening l o) h = lasting_below l (and_first (lasting_has_room l) _ h)
+room_below (Serving e) h = lasting_below e.lasting (and_first (lasting_has_room e.lasting) _ h)
 
 module _ (part : ℕ) (texts : Texts) (asked : Questions) (n : Net) where
   -- ---- the event
@@ -81,9 +81,9 @@ module _ (part : ℕ) (texts : Texts) (asked : Questions) (n : Net) where
       → ((q : Packet) → what ≡ Deliver q → SentBy part n asked q.from q.body × IsSentBy q.from q.body)
       → CleanerTold part texts n cleaner.phase what (takes cleaner.peers cleaner.phase what)
       → CleanerGoes part texts asked n (takes cleaner.peers cleaner.phase what)
-  cleaner_goes law of_eight cleaner what agreed asks fact owed = by (phase_room cleaner.phase) refl
+  cleaner_goes law of_eight cleaner what agreed asks fact owed = by (phase_has_room cleaner.phase) refl
     where
-      by : (t : Bool) → phase_room cleaner.phase ≡ t → CleanerGoes part texts asked n (takes cleaner.peers cleaner.phase what)
+      by : (t : Bool) → phase_has_room cleaner.phase ≡ t → CleanerGoes part texts asked n (takes cleaner.peers cleaner.phase what)
       by true premise = law part texts asked n cleaner what of_eight agreed
           (record {
             files = owed.files;
@@ -93,7 +93,7 @@ module _ (part : ℕ) (texts : Texts) (asked : Questions) (n : Net) where
             writes = owed.writes;
           })
       by false premise = subst (CleanerGoes part texts asked n)
-          (sym (second_of (phase_room cleaner.phase) (happens cleaner.peers cleaner.phase what) (still cleaner.phase) premise))
+          (sym (second_of (phase_has_room cleaner.phase) (happens cleaner.peers cleaner.phase what) (still cleaner.phase) premise))
           (rests cleaner.phase agreed)
 
   -- ---- what it asked

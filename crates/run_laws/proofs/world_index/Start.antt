@@ -1,11 +1,11 @@
 -- The start of a run stands to the opening of the small world.
 use Rattle.std.proofs.Common.{ℕ, ◌+◌, ◌-◌, ◌≤◌, ◌<◌, List, [], refl, arith}
-use Rattle.client_node.specs.Starting.{first_client}
+use Rattle.client_node.specs.Starting.{client_start}
 use Rattle.cleaner_node.specs.CleanerEvents.{cleaner_start}
 use Rattle.core_world.specs.AnyNode.{any_start}
 use Rattle.index_tie.specs.Net.{opening}
 use Rattle.index_tie.specs.Net.Runs.{Begun}
-use Rattle.manager_node.specs.Events.{first_manager}
+use Rattle.manager_node.specs.Events.{manager_start}
 use Rattle.node_slots.specs.node_index_tie.ManagerEvents.{FirstManagerAgrees}
 use Rattle.node_slots.specs.node_index_tie.RegistryEvents.{RegistryStarts}
 use Rattle.headline.specs.Filed.{Texts}
@@ -36,8 +36,8 @@ module _ (client_starts : FirstClientAgrees) (manager_starts : FirstManagerAgree
   start_scene = record {
     net = opening first;
     asked = [];
-    client = λ c. first_client c script.setup (items_of script.lines (Client c));
-    manager = λ j. first_manager j script.setup (items_of script.lines (Manager j));
+    client = λ c. client_start c script.setup (items_of script.lines (Client c));
+    manager = λ j. manager_start j script.setup (items_of script.lines (Manager j));
     cleaner = cleaner_start script.setup (items_of script.lines Cleaner);
     registry = registry_start script.setup (items_of script.lines Registry);
   }

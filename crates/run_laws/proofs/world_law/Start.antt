@@ -7,10 +7,10 @@ use Rattle.std.proofs.Common.{true, false, cond, Bool, ◌&&◌, ◌==◌, nat_l
 use Rattle.std.proofs.Math.Nat.{mod-lt}
 use Rattle.std.proofs.lemmas.Bool.Decides.{nat_tests}
 use Rattle.std.proofs.lemmas.Bool.{eqb-true}
-use Rattle.client_node.specs.Starting.{first_client}
+use Rattle.client_node.specs.Starting.{client_start}
 use Rattle.core_world.specs.AnyNode.{any_start}
-use Rattle.manager_map.specs.Slots.{entry_at, start_entries}
-use Rattle.manager_node.specs.Events.{first_manager}
+use Rattle.manager_map.specs.Slots.{entry_at, manager_map_start}
+use Rattle.manager_node.specs.Events.{manager_start}
 use Rattle.manager_slots.specs.declared.slot_phase.SlotPhase.TheVariants as phase
 use Rattle.manager_slots.specs.Slots.{first_active}
 use Rattle.node_slots.proofs.node_tie.ClientStart.{client_starts}
@@ -96,8 +96,8 @@ module _ (logs : Bool) (first_asks : StartsAsking) (first_agrees : FirstManagerA
   abbrev pub start_scene : Scene
   start_scene = record {
     net = opening;
-    client = λ c. first_client c script.setup (items_of script.lines (Client c));
-    manager = λ j. first_manager j script.setup (items_of script.lines (Manager j));
+    client = λ c. client_start c script.setup (items_of script.lines (Client c));
+    manager = λ j. manager_start j script.setup (items_of script.lines (Manager j));
     cleaner = cleaner_start script.setup (items_of script.lines Cleaner);
     registry = registry_start script.setup (items_of script.lines Registry);
     lord = λ e. manager_in (registry_start script.setup (items_of script.lines Registry)).board part;
@@ -129,7 +129,7 @@ module _ (logs : Bool) (first_asks : StartsAsking) (first_agrees : FirstManagerA
   first_epoch (suc (suc (suc (suc (suc (suc (suc zero))))))) = omega arith
   first_epoch (suc (suc (suc (suc (suc (suc (suc (suc n)))))))) = omega arith
 
-  client_agrees : (c : ℕ) → ClientAgrees logs part c opening (first_client c script.setup (items_of script.lines (Client c))).phase
+  client_agrees : (c : ℕ) → ClientAgrees logs part c opening (client_start c script.setup (items_of script.lines (Client c))).phase
   client_agrees c = (client_starts logs part 1 c of_eight (omega arith) script.setup (items_of script.lines (Client c))).agrees
 
   -- the slot's first manager is one of the run
@@ -137,16 +137,16 @@ module _ (logs : Bool) (first_asks : StartsAsking) (first_agrees : FirstManagerA
   one_of_them = (let m = begun.manager in let less = mod-lt part {m = script.setup.managers} (omega arith) in (omega arith, omega arith))
 
   -- who holds the slot at the start is its first manager
-  mine : (j e : ℕ) (t : Bool) → ((entry_at (start_entries script.setup.managers) (slot_of part)).manager == j) ≡ t
+  mine : (j e : ℕ) (t : Bool) → ((entry_at (manager_map_start script.setup.managers) (slot_of part)).manager == j) ≡ t
       → HeldAt (cond t first_active (phase.Away 1)) e → manager_now k part start_scene ≡ j
-  mine j e true test held = eqb-true (entry_at (start_entries script.setup.managers) (slot_of part)).manager j test
+  mine j e true test held = eqb-true (entry_at (manager_map_start script.setup.managers) (slot_of part)).manager j test
   mine j e false test held = absurd held
 
-  sees : (j : ℕ) → 0 < j → ManagerSees k part start_scene j (first_manager j script.setup (items_of script.lines (Manager j))).phase
+  sees : (j : ℕ) → 0 < j → ManagerSees k part start_scene j (manager_start j script.setup (items_of script.lines (Manager j))).phase
   sees j some = (let f = first_agrees (members k part) part j script.setup (items_of script.lines (Manager j)) of_eight in record {
     agrees = f.agrees;
     within = (let a = f.epoch in let b = begun.epoch in omega arith);
-    owns = λ e held. (mine j e ((entry_at (start_entries script.setup.managers) (slot_of part)).manager == j) refl (subst (λ p. HeldAt p e) f.slot held), refl);
+    owns = λ e held. (mine j e ((entry_at (manager_map_start script.setup.managers) (slot_of part)).manager == j) refl (subst (λ p. HeldAt p e) f.slot held), refl);
     fresh = λ serves e less within mine. (let a = f.epoch in let b = begun.epoch in absurd (omega arith));
     known = λ serves. (let a = begun.incarnations j in omega arith);
     told = (let a = begun.incarnations j in omega arith);
@@ -154,7 +154,7 @@ module _ (logs : Bool) (first_asks : StartsAsking) (first_agrees : FirstManagerA
 
   -- at the start that manages it, at epoch 1
   abbrev first_lord : ℕ
-  first_lord = (entry_at (start_entries script.setup.managers) (slot_of part)).manager
+  first_lord = (entry_at (manager_map_start script.setup.managers) (slot_of part)).manager
 
   first_managed : ManagedIn k part (first_nodes any_start script k) 1
   first_managed =
@@ -178,12 +178,12 @@ module _ (logs : Bool) (first_asks : StartsAsking) (first_agrees : FirstManagerA
 
   entered : (e : ℕ) (z : SlotState) → opening.slots e ≡ Some z
       → (e ≤ epoch_now k part start_scene) × (0 < manager_now k part start_scene) × (manager_now k part start_scene ≤ script.setup.managers)
-      × PastAt k part (first_manager (manager_now k part start_scene) script.setup (items_of script.lines (Manager (manager_now k part start_scene)))).phase 1 e
+      × PastAt k part (manager_start (manager_now k part start_scene) script.setup (items_of script.lines (Manager (manager_now k part start_scene)))).phase 1 e
       × (e ≤ 1)
   entered = put_each
       (λ e o. (z : SlotState) → o ≡ Some z
       → (e ≤ epoch_now k part start_scene) × (0 < manager_now k part start_scene) × (manager_now k part start_scene ≤ script.setup.managers)
-      × PastAt k part (first_manager (manager_now k part start_scene) script.setup (items_of script.lines (Manager (manager_now k part start_scene)))).phase 1 e
+      × PastAt k part (manager_start (manager_now k part start_scene) script.setup (items_of script.lines (Manager (manager_now k part start_scene)))).phase 1 e
       × (e ≤ 1))
       (λ e. None) 1 (opening.slots 1)
       (λ z fact. (

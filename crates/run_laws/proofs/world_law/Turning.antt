@@ -5,7 +5,7 @@ use Rattle.world_base.specs.Cluster.{place_of}
 use Rattle.world_base.specs.declared.event.Event.{Event}
 use Rattle.world_base.specs.declared.world.World.{World}
 use Rattle.world_base.specs.Events.{node_of, what_of}
-use Rattle.world_base.specs.NextWorld.{after_turn, at_place, clock_at, happened, happened_at, next_world, sent_at, turn_by, turn_of, turned}
+use Rattle.world_base.specs.NextWorld.{after_turn, at_place, clock_at, world_happen, happen_at, next_world, sent_at, turn_by, turn_of, turned}
 use Rattle.wire_msg.specs.declared.packet.Do.{Do}
 use Rattle.wire_msg.specs.declared.packet.Packet.{Packet}
 use Rattle.wire_msg.specs.NodeStep.{NodeStep}
@@ -32,7 +32,7 @@ module _ {N : Type 0} (step : N → Do → NodeStep N) (P : List N → List Pack
       → ((place : ℕ) (node : N) (clock : ℕ) → o ≡ Some place → slice_get w.nodes place ≡ Some node
       → P (slice_set w.nodes place (step node what).node) (w.sent ++ map (sent_at clock) (step node what).packets) (w.acts ++ (step node what).acts))
       → Holds (at_place step w what o)
-  unfolding happened_at
+  unfolding happen_at
   by_place None turns = still
   by_place (Some place) turns = by_clock place (λ node clock fact. turns place node clock refl fact) (clock_at w place what)
 
@@ -43,7 +43,7 @@ pub next_keeps : {N : Type 0} (step : N → Do → NodeStep N) (P : List N → L
     → P (slice_set w.nodes place (step node (what_of event)).node) (w.sent ++ map (sent_at clock) (step node (what_of event)).packets)
     (w.acts ++ (step node (what_of event)).acts))
     → P (next_world step w event).nodes (next_world step w event).sent (next_world step w event).acts
-unfolding happened
+unfolding world_happen
 next_keeps step P w event still turns = by_place step P w (what_of event) still (place_of w.cluster (node_of event)) turns
 
 -- the cluster stays
@@ -53,10 +53,10 @@ cluster_turned step w place what None = refl
 cluster_turned step w place what (Some clock) = refl
 
 cluster_placed : {N : Type 0} (step : N → Do → NodeStep N) (w : World N) (what : Do) (o : Option ℕ) → (at_place step w what o).cluster ≡ w.cluster
-unfolding happened_at
+unfolding happen_at
 cluster_placed step w what None = refl
 cluster_placed step w what (Some place) = cluster_turned step w place what (clock_at w place what)
 
 pub next_cluster : {N : Type 0} (step : N → Do → NodeStep N) (w : World N) (event : Event) → (next_world step w event).cluster ≡ w.cluster
-unfolding happened
+unfolding world_happen
 next_cluster step w event = cluster_placed step w (what_of event) (place_of w.cluster (node_of event))

@@ -162,11 +162,11 @@ serves_so g c w p s fact sees = (subst (ClientAgrees g c w) fact sees).1.owner
 
 pub clients_file_their_flights : WhatIsHeldFlew → WhatFlewIsWritten → WhatFliesIsNext → ClientsFileFlights → ClientsFileTheirFlights
 clients_file_their_flights held written next flights part texts g c w n node what s some below sure room says sees fact agrees gets =
-    by_test (λ (t : clients.Went_to). (MayLand c s.log → AllSo (IsFlight s.log) t.outs) → FilesItsFlight w.net s.log t.outs) (clients.client_room node)
+    by_test (λ (t : clients.Went_to). (MayLand c s.log → AllSo (IsFlight s.log) t.outs) → FilesItsFlight w.net s.log t.outs) (clients.client_has_room node)
     (clients.happens node what) (still node.phase)
     (λ has. files_its_flight held written next texts c g w.net sure s.log (serves_so g c w node.phase s fact sees) says room
     (client_fits g c w node.phase sees
-    (and_second (has_room (clients.lasting_of node.phase).questions.last) (clients.phase_room node.phase)
+    (and_second (has_room (clients.lasting_of node.phase).questions.last) (clients.phase_has_room node.phase)
     (and_second (has_room (clients.lasting_of node.phase).inc) _ has))) (clients.happens node what).outs)
     (λ _ goes. nothing_filed w.net s.log) (flights part texts n c node what s some below fact agrees gets)
 
@@ -176,7 +176,7 @@ emptying_so g w p e fact sees = (subst (cleaner_log.CleanerAgrees g w) fact sees
 
 pub cleaner_files_its_flights : WhatIsHeldFlew → WhatFlewIsWritten → WhatFliesIsNext → CleanerFilesFlights → CleanerFilesItsFlights
 cleaner_files_its_flights held written next flights part texts g w n node what e small sure room says sees fact agrees gets asks =
-    by_test (λ (t : cleaners.Went_to). (MayLand cleaners_number e.log → AllSo (IsFlight e.log) t.outs) → FilesItsFlight w.net e.log t.outs) (cleaners.phase_room node.phase)
+    by_test (λ (t : cleaners.Went_to). (MayLand cleaners_number e.log → AllSo (IsFlight e.log) t.outs) → FilesItsFlight w.net e.log t.outs) (cleaners.phase_has_room node.phase)
     (cleaners.happens node.peers node.phase what) (still node.phase)
     (λ has. files_its_flight held written next texts cleaners_number g w.net sure e.log (emptying_so g w node.phase e fact sees) says room
     (cleaner_fits g w node.phase sees has)

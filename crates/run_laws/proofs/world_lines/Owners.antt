@@ -7,7 +7,7 @@ use Rattle.node_logs.specs.cleaner_log_tie.Owner as cleaner_log
 use Rattle.cleaner_node.specs.CleanerEvents as cleaners
 use Rattle.cleaner_node.specs.declared.cleaner.Phase.{Phase as CleanerPhase}
 use Rattle.cleaner_node.specs.declared.cleaner.Phase.TheVariants as cleaning
-use Rattle.cleaner_job.specs.Lasting.{lasting_room}
+use Rattle.cleaner_job.specs.Lasting.{lasting_has_room}
 use Rattle.client_log.specs.LogState.{LogState}
 use Rattle.client_log.specs.Transition.{has_next}
 use Rattle.node_logs.specs.client_log_tie.Owner.{Scene, ClientAgrees, SeesStage}
@@ -22,7 +22,7 @@ use Rattle.log_law.specs.Laws.{LogsStayWhole}
 use Rattle.log_law.specs.Net.{Net, Owner}
 use Rattle.log_law.specs.Net.Owner.{Down, Opening, Serving, Writing}
 use Rattle.log_law.specs.Openings.{NothingFiledOpening, next_number}
-use Rattle.log_owner.specs.Opening.{attempt_of, log_room, opening_room, stage_room}
+use Rattle.log_owner.specs.Opening.{attempt_of, log_has_room, opening_has_room, stage_has_room}
 use Rattle.log_owner.specs.declared.known.Known.{Known}
 use Rattle.log_owner.specs.declared.opening.Opening.{Opening as Openings}
 use Rattle.log_owner.specs.declared.opening.Stage as stages
@@ -84,7 +84,7 @@ first_next k none = grind (arith, nat_tests)
 room_next : (k n : ℕ) → has_room k ≡ true → n ≤ k + 1 → has_next n ≡ true
 room_next k n room le = grind (arith, nat_tests)
 
-log_next : (s : LogState) → log_room s ≡ true → (k : ℕ) → k ≤ s.end.seq + 1 → has_next k ≡ true
+log_next : (s : LogState) → log_has_room s ≡ true → (k : ℕ) → k ≤ s.end.seq + 1 → has_next k ≡ true
 log_next s room k le = room_next s.end.seq k (and_first (has_room s.end.seq) (has_room (attempt_of s.flight)) room) le
 
 -- whose owner is the one of its phase
@@ -92,50 +92,50 @@ abbrev owner_at : stages.Stage → Owner
 owner_at (stage.Scanning s) = Opening s.scan
 owner_at (stage.Settling s) = Writing s.chain s.log
 
-stage_next : (at : stages.Stage) → stage_room at ≡ true → NextFits (owner_at at)
+stage_next : (at : stages.Stage) → stage_has_room at ≡ true → NextFits (owner_at at)
 stage_next (stage.Scanning s) room k le = first_next k le
 stage_next (stage.Settling s) room k le = log_next s.log room k le
 
-opening_next : (o : Openings) → opening_room o ≡ true → NextFits (owner_at o.stage)
+opening_next : (o : Openings) → opening_has_room o ≡ true → NextFits (owner_at o.stage)
 opening_next o room =
-    stage_next o.stage (and_second (list_all has_room o.known.promised.epochs) (stage_room o.stage) (and_second (has_room o.known.maps.version) _ room))
+    stage_next o.stage (and_second (list_all has_room o.known.promised.epochs) (stage_has_room o.stage) (and_second (has_room o.known.maps.version) _ room))
 
 module _ (g : Setting) (c : ℕ) (w : Scene) where
   stage_fits : (k : Known) (last : ℕ) (at : stages.Stage) → SeesStage g c w k last at → NextFits (owner_at at) → NextFits w.net.owner
   stage_fits k last (stage.Scanning s) sees fits = subst NextFits (sym sees.owner) fits
   stage_fits k last (stage.Settling s) sees fits = subst NextFits (sym sees.owner) fits
 
-  pub client_fits : (p : Phase) → ClientAgrees g c w p → clients.phase_room p ≡ true → NextFits w.net.owner
+  pub client_fits : (p : Phase) → ClientAgrees g c w p → clients.phase_has_room p ≡ true → NextFits w.net.owner
   client_fits (client.Down l) sees room = subst NextFits (sym sees.1) first_next
   client_fits (client.Opening l o) sees room = stage_fits o.known l.questions.last o.stage sees.1 (opening_next o room)
   client_fits (client.Serving s) sees room = subst NextFits (sym sees.1.owner)
       (log_next s.log
-      (and_first (log_room s.log) (tokens_room s)
-      (and_second (has_room s.tokens.req) (log_room s.log && tokens_room s) (and_second (has_room s.maps.version) _ room))))
+      (and_first (log_has_room s.log) (tokens_room s)
+      (and_second (has_room s.tokens.req) (log_has_room s.log && tokens_room s) (and_second (has_room s.maps.version) _ room))))
 
-pub cleaner_fits : (g : Setting) (w : Scene) (p : CleanerPhase) → cleaner_log.CleanerAgrees g w p → cleaners.phase_room p ≡ true → NextFits w.net.owner
+pub cleaner_fits : (g : Setting) (w : Scene) (p : CleanerPhase) → cleaner_log.CleanerAgrees g w p → cleaners.phase_has_room p ≡ true → NextFits w.net.owner
 cleaner_fits g w (cleaning.Down l) sees room = subst NextFits (sym sees.1) first_next
 cleaner_fits g w (cleaning.Opening l o) sees room =
     stage_fits g cleaner_log.its_number w o.known l.questions.last o.stage sees.sees
-    (opening_next o (and_second (lasting_room l) (opening_room o) room))
+    (opening_next o (and_second (lasting_has_room l) (opening_has_room o) room))
 cleaner_fits g w (cleaning.Serving e) sees room = subst NextFits (sym sees.log.owner)
     (log_next e.log
-    (and_first (log_room e.log) (list_all has_room e.promised.epochs)
-    (and_second (has_room e.maps.version) (log_room e.log && list_all has_room e.promised.epochs) (and_second (lasting_room e.lasting) _ room))))
+    (and_first (log_has_room e.log) (list_all has_room e.promised.epochs)
+    (and_second (has_room e.maps.version) (log_has_room e.log && list_all has_room e.promised.epochs) (and_second (lasting_has_room e.lasting) _ room))))
 
 pub clients_file_short : ClientsFileShort
 clients_file_short g c w node what sees room =
-    by_test (λ (t : clients.Went_to). AllSo (HasFlown w.net) t.outs → AllSo (λ name. has_next name.seq ≡ true) t.outs) (clients.client_room node)
+    by_test (λ (t : clients.Went_to). AllSo (HasFlown w.net) t.outs → AllSo (λ name. has_next name.seq ≡ true) t.outs) (clients.client_has_room node)
     (clients.happens node what) (still node.phase)
     (λ has. short_all w.net room
     (client_fits g c w node.phase sees
-    (and_second (has_room (clients.lasting_of node.phase).questions.last) (clients.phase_room node.phase)
+    (and_second (has_room (clients.lasting_of node.phase).questions.last) (clients.phase_has_room node.phase)
     (and_second (has_room (clients.lasting_of node.phase).inc) _ has))) (clients.happens node what).outs)
     (λ _ none. tt)
 
 pub cleaner_files_short : CleanerFilesShort
 cleaner_files_short g w node what sees room =
-    by_test (λ (t : cleaners.Went_to). AllSo (HasFlown w.net) t.outs → AllSo (λ name. has_next name.seq ≡ true) t.outs) (cleaners.phase_room node.phase)
+    by_test (λ (t : cleaners.Went_to). AllSo (HasFlown w.net) t.outs → AllSo (λ name. has_next name.seq ≡ true) t.outs) (cleaners.phase_has_room node.phase)
     (cleaners.happens node.peers node.phase what) (still node.phase)
     (λ has. short_all w.net room (cleaner_fits g w node.phase sees has) (cleaners.happens node.peers node.phase what).outs) (λ _ none. tt)
 

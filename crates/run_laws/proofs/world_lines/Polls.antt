@@ -29,7 +29,7 @@ use Rattle.node_slots.proofs.owner_index_tie.Growing.{head_is, next_files, segme
 use Rattle.node_slots.specs.owner_index_tie.ClientEvents.{BodyGets}
 use Rattle.node_slots.specs.owner_index_tie.Filing.{after_act, after_effect, filed_after, with_name}
 use Rattle.node_slots.specs.owner_index_tie.Owners.{IsLastFiled}
-use Rattle.registry.specs.Board.{all_news, slot_news}
+use Rattle.registry.specs.Board.{board_slots, slot_news}
 use Rattle.registry.specs.BoardState.{BoardState}
 use Rattle.registry.specs.Checkpoints.{horizon_at}
 use Rattle.registry.specs.Slots.{all_slots}
@@ -113,7 +113,7 @@ present_is_linked give part texts l g m n r small some limit sure line seen agre
 
     least : m.low ≤ of_log (n.horizon e) l
     least =
-        let own : m.low ≡ least_horizon l (all_news b) = seen.low ∙ ap (λ (x : LogId). least_horizon x.0 (all_news b)) sure.own in
+        let own : m.low ≡ least_horizon l (board_slots b) = seen.low ∙ ap (λ (x : LogId). least_horizon x.0 (board_slots b)) sure.own in
         let below = least_of l part b all_slots (of_eight part small) in
         let same = its in omega (arith, own, below, same)
 

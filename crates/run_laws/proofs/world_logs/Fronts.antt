@@ -16,7 +16,7 @@ use Rattle.log_tie.specs.Setting.{Setting}
 use Rattle.node_base.specs.Setups.{IsSetup}
 use Rattle.node_logs.specs.node_log_tie.RegistryEvents.{NamesGroups}
 use Rattle.node_slots.specs.node_tie.RegistryEvents.{RegistrySound}
-use Rattle.registry.specs.Board.{all_news}
+use Rattle.registry.specs.Board.{board_slots}
 use Rattle.registry.specs.BoardState.{BoardState}
 use Rattle.registry_node.specs.declared.node.RegistryNode.{RegistryNode}
 use Rattle.token_protocol.specs.Basics.{In}
@@ -91,7 +91,7 @@ module _ (laws : NodeLaws) (stay : GroupsStay) (base : Setting) (end : World Any
     says = h.says;
     named = h.named;
     reached = λ board fact r there keeps.
-        subst (λ acts. Reached acts (least_horizon (log_by r) (all_news board))) (same (log_by r)) (h.reached board fact r there keeps);
+        subst (λ acts. Reached acts (least_horizon (log_by r) (board_slots board))) (same (log_by r)) (h.reached board fact r there keeps);
   }
 
   -- ---- one event
@@ -154,7 +154,7 @@ module _ (laws : NodeLaws) (stay : GroupsStay) (base : Setting) (end : World Any
   HorizonsFrom events_ w told = (n : ℕ) (r : Role) → There r → renews r ≡ false → (b : BoardState)
       → board_of (node_in (fold (next_world any_step) w (take n events_)).nodes (place_of (fold (next_world any_step) w (take n events_)).cluster Registry))
       ≡ Some b
-      → Reached (told (log_by r) ++ acts_by (log_by r) w (take n events_)) (least_horizon (log_by r) (all_news b))
+      → Reached (told (log_by r) ++ acts_by (log_by r) w (take n events_)) (least_horizon (log_by r) (board_slots b))
 
   pub named_so : (w : World AnyNode) → w.cluster ≡ k → StayIn stay w end → (b : BoardState) → board_of (node_in w.nodes (place_of k Registry)) ≡ Some b
       → (r : Role) → NamesGroups (g r) b.groups
@@ -165,7 +165,7 @@ module _ (laws : NodeLaws) (stay : GroupsStay) (base : Setting) (end : World Any
 
   known_now : (w : World AnyNode) → w.cluster ≡ k → Tokens w → StayIn stay w end → (told : ℕ → List Act)
       → ((r : Role) → There r → renews r ≡ false → (b : BoardState) → board_of (node_in w.nodes (place_of w.cluster Registry)) ≡ Some b
-      → Reached (told (log_by r)) (least_horizon (log_by r) (all_news b)))
+      → Reached (told (log_by r)) (least_horizon (log_by r) (board_slots b)))
       → Known laws base end setup ok few w.nodes w.sent told
   known_now w cluster tok stays told reached = record {
     says = λ p h. may_say k 0 tok.0 p (tok.1.facts p h);
@@ -197,7 +197,7 @@ module _ (laws : NodeLaws) (stay : GroupsStay) (base : Setting) (end : World Any
       tokens = tokens.event_keeps laws.tokens k 0 (omega arith) w from.cluster event from.leads.0 from.tokens;
       low = λ n r there keeps b fact.
           (let c = log_by r in
-          subst (λ acts. Reached acts (least_horizon c (all_news b))) (sym (append_assoc (told c) (acts_of c w event) (acts_by c next (take n more))))
+          subst (λ acts. Reached acts (least_horizon c (board_slots b))) (sym (append_assoc (told c) (acts_of c w event) (acts_by c next (take n more))))
           (from.low (suc n) r there keeps b fact));
     }
 
@@ -205,7 +205,7 @@ module _ (laws : NodeLaws) (stay : GroupsStay) (base : Setting) (end : World Any
     first_led good =
         event_leads w from.cluster told event from.leads.0 from.tokens good
         (known_now next from_next.cluster from_next.tokens (in_run stay more next end from.leads.1) now
-        (λ r there keeps b fact. subst (λ acts. Reached acts (least_horizon (log_by r) (all_news b))) (append-nil (now (log_by r)))
+        (λ r there keeps b fact. subst (λ acts. Reached acts (least_horizon (log_by r) (board_slots b))) (append-nil (now (log_by r)))
         (from_next.low 0 r there keeps b fact)))
 
     abbrev next_good : GoodNow w told → GoodNow next now

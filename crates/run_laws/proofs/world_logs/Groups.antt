@@ -4,7 +4,7 @@ use Rattle.std.specs.Prelude.{IsSomeAnd}
 use Rattle.core_world.specs.AnyNode.{any_step}
 use Rattle.core_world.specs.declared.any_node.AnyNode.{AnyNode}
 use Rattle.core_world.specs.declared.any_node.AnyNode.TheVariants as any
-use Rattle.group_map.proofs.WellFormedMaps.{IsGroupMap-started}
+use Rattle.group_map.proofs.WellFormedMaps.{IsGroupMap-group_map_start}
 use Rattle.group_map.specs.declared.group.Group.{Group}
 use Rattle.group_map.specs.Groups.{known_group as group_in, group_of}
 use Rattle.group_map.specs.GroupMapState.{GroupMapState}
@@ -76,7 +76,7 @@ board_has_map (Some (any.Registry node)) b fact ok m at =
 -- the one of the setup
 pub first_map : (setup : Setup) → IsSetup setup → (items : List Work) → IsGroupMap (registry_start setup items).board.groups
 first_map setup ok items =
-    IsGroupMap-started setup.servers setup.groups ok.count.0 (let c = ok.count.1 in omega arith) ok.sizes ok.exist ok.differ ok.parity
+    IsGroupMap-group_map_start setup.servers setup.groups ok.count.0 (let c = ok.count.1 in omega arith) ok.sizes ok.exist ok.differ ok.parity
 
 module _ (law : GroupsStay) where
   lost_stay : (m : GroupMapState) (server generation : ℕ) → Stay m (after_losses m (record { server = server; generation = generation } ∷ []))

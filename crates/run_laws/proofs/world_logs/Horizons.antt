@@ -15,7 +15,7 @@ use Rattle.node_tellings.specs.filed_tie.Reach.{DoTells, PacketTells, Reach}
 use Rattle.log_protocol.specs.Tables as tables
 use Rattle.log_scan.specs.Transition.{least_horizon}
 use Rattle.node_base.specs.Setups.{IsSetup}
-use Rattle.registry.specs.Board.{all_news}
+use Rattle.registry.specs.Board.{board_slots}
 use Rattle.registry.specs.BoardState.{BoardState}
 use Rattle.script_text.specs.declared.script.Script.{Script}
 use Rattle.registry_node.specs.declared.node.RegistryNode.{RegistryNode}
@@ -141,7 +141,7 @@ pub horizons_reached : tokens.NodeLaws → filed.NodeLaws → (e : Estate AnyNod
     → HorizonsReached e
 unfolding start_world
 horizons_reached laws below e ok run count c opened b fact =
-    reached own c (least_horizon c (all_news b)) (telling.was_filed own c (least_horizon c (all_news b)) upto (is_filed own c))
+    reached own c (least_horizon c (board_slots b)) (telling.was_filed own c (least_horizon c (board_slots b)) upto (is_filed own c))
   where
     k : Cluster
     k = cluster_of e.script.setup
@@ -171,10 +171,10 @@ horizons_reached laws below e ok run count c opened b fact =
     same : registry.board ≡ b
     same = tokens.one_node registry.board b (sym (ap board_of there) ∙ fact)
 
-    low : least_horizon c (all_news registry.board) ≤ suc (owned c own w.acts c)
+    low : least_horizon c (board_slots registry.board) ≤ suc (owned c own w.acts c)
     low = telling.low_reached (owned c own w.acts) registry
         (at_place (owned c own w.acts) w.nodes stands.0 (place_of w.cluster Registry) (any.Registry registry) there) c some
 
-    upto : least_horizon c (all_news b) ≤ suc (filed_upto own c)
-    upto = subst (λ (x : BoardState). least_horizon c (all_news x) ≤ suc (filed_upto own c)) same
-        (subst (λ n. least_horizon c (all_news registry.board) ≤ suc n) (owned_itself c own w.acts) low)
+    upto : least_horizon c (board_slots b) ≤ suc (filed_upto own c)
+    upto = subst (λ (x : BoardState). least_horizon c (board_slots x) ≤ suc (filed_upto own c)) same
+        (subst (λ n. least_horizon c (board_slots registry.board) ≤ suc n) (owned_itself c own w.acts) low)

@@ -96,7 +96,7 @@ module _ (laws : NodeLaws) (stay : GroupsStay) (base : Setting) (e : Estate AnyN
       (board_has_map (node_named (start_world any_start e.script) Registry) (registry_start setup (items_of e.script.lines Registry)).board first_board
       (first_map setup ok (items_of e.script.lines Registry)))) id group fact
 
-  first_named : (r : Role) → NamesGroups (g r) (groups.started setup.servers setup.groups)
+  first_named : (r : Role) → NamesGroups (g r) (groups.group_map_start setup.servers setup.groups)
   unfolding start_world
   first_named r =
       named_so laws stay base e.world setup ok few (start_world any_start e.script) refl

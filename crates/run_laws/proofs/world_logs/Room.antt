@@ -9,7 +9,7 @@ use Rattle.cleaner_node.specs.CleanerEvents as cleaner_events
 use Rattle.cleaner_node.specs.declared.cleaner.Cleaner.{Cleaner as CleanerNode}
 use Rattle.cleaner_node.specs.declared.cleaner.Phase.{Phase as CleanerPhase}
 use Rattle.cleaner_node.specs.declared.cleaner.Phase.TheVariants as cleaners
-use Rattle.cleaner_job.specs.Lasting.{lasting_room}
+use Rattle.cleaner_job.specs.Lasting.{lasting_has_room}
 use Rattle.client_log.specs.LogState.{LogState}
 use Rattle.client_log.specs.Transition.{has_next}
 use Rattle.node_logs.specs.client_log_tie.ClientEvents.{ClientGoes, FliesInBoot}
@@ -17,7 +17,7 @@ use Rattle.node_logs.specs.client_log_tie.Owner.{Scene, ClientAgrees, SeesStage}
 use Rattle.client_node.specs.declared.client.Client.{Client as ClientNode}
 use Rattle.client_node.specs.declared.phase.Phase.TheVariants as clients
 use Rattle.client_node.specs.declared.phase.Phase.{Phase}
-use Rattle.client_node.specs.Phases.{client_room, client_step, happens, lasting_of, phase_room, takes}
+use Rattle.client_node.specs.Phases.{client_has_room, client_step, happens, lasting_of, phase_has_room, takes}
 use Rattle.client_node.specs.Room.{tokens_room}
 use Rattle.log_law.specs.Events.{Runs}
 use Rattle.log_law.specs.Laws.{Moment}
@@ -27,7 +27,7 @@ use Rattle.log_law.specs.Openings.{AllHaveNext, FliesNext, next_number}
 use Rattle.log_owner.specs.declared.known.Known.{Known}
 use Rattle.log_owner.specs.declared.opening.Stage as stages
 use Rattle.log_owner.specs.declared.opening.Stage.TheVariants as stage
-use Rattle.log_owner.specs.Opening.{attempt_of, log_room, opening_room, stage_room}
+use Rattle.log_owner.specs.Opening.{attempt_of, log_has_room, opening_has_room, stage_has_room}
 use Rattle.log_protocol.specs.Tables.{In}
 use Rattle.log_scan.specs.ScanState.{ScanState}
 use Rattle.log_tie.specs.Setting.{Setting}
@@ -48,7 +48,7 @@ first_next n none = grind (arith, nat_tests)
 abbrev pub NextFits : Net → Type 0
 NextFits n = (k : ℕ) → k ≤ next_number n.owner → has_next k ≡ true
 
-log_next : (s : LogState) → log_room s ≡ true → (k : ℕ) → k ≤ s.end.seq + 1 → has_next k ≡ true
+log_next : (s : LogState) → log_has_room s ≡ true → (k : ℕ) → k ≤ s.end.seq + 1 → has_next k ≡ true
 log_next s room k le = room_next s.end.seq k (and_first (has_room s.end.seq) (has_room (attempt_of s.flight)) room) le
 
 -- ---- the owner's turn
@@ -84,18 +84,18 @@ owner_by (clients.Down l) = Down
 owner_by (clients.Opening l o) = owner_at o.stage
 owner_by (clients.Serving s) = Serving s.log
 
-stage_next : (at : stages.Stage) → stage_room at ≡ true → (k : ℕ) → k ≤ next_number (owner_at at) → has_next k ≡ true
+stage_next : (at : stages.Stage) → stage_has_room at ≡ true → (k : ℕ) → k ≤ next_number (owner_at at) → has_next k ≡ true
 stage_next (stage.Scanning s) room k le = first_next k le
 stage_next (stage.Settling s) room k le = log_next s.log room k le
 
-phase_next : (p : Phase) → phase_room p ≡ true → (k : ℕ) → k ≤ next_number (owner_by p) → has_next k ≡ true
+phase_next : (p : Phase) → phase_has_room p ≡ true → (k : ℕ) → k ≤ next_number (owner_by p) → has_next k ≡ true
 phase_next (clients.Down l) room k le = first_next k le
 phase_next (clients.Opening l o) room k le =
-    stage_next o.stage (and_second (list_all has_room o.known.promised.epochs) (stage_room o.stage) (and_second (has_room o.known.maps.version) _ room)) k le
+    stage_next o.stage (and_second (list_all has_room o.known.promised.epochs) (stage_has_room o.stage) (and_second (has_room o.known.maps.version) _ room)) k le
 phase_next (clients.Serving s) room k le =
     log_next s.log
-    (and_first (log_room s.log) (tokens_room s)
-    (and_second (has_room s.tokens.req) (log_room s.log && tokens_room s) (and_second (has_room s.maps.version) _ room))) k le
+    (and_first (log_has_room s.log) (tokens_room s)
+    (and_second (has_room s.tokens.req) (log_has_room s.log && tokens_room s) (and_second (has_room s.maps.version) _ room))) k le
 
 module _ (g : Setting) (c : ℕ) (w : Scene) where
   stage_owner : (k : Known) (last : ℕ) (at : stages.Stage) → SeesStage g c w k last at → w.net.owner ≡ owner_at at
@@ -110,12 +110,12 @@ module _ (g : Setting) (c : ℕ) (w : Scene) where
 pub client_leaves_room : FliesNext → (g : Setting) (c : ℕ) (w : Scene) → Moment g w.net → (node : ClientNode) (what : Do) → ClientAgrees g c w node.phase
     → (go : ClientGoes g c w (client_step node what)) → IsRoomy w.net → IsRoomy go.next.net
 client_leaves_room law g c w at node what sees go room =
-    turn_leaves_room law g w.net go.next.net at go.grown.runs go.flies (by (client_room node) refl) room
+    turn_leaves_room law g w.net go.next.net at go.grown.runs go.flies (by (client_has_room node) refl) room
   where
-    by : (t : Bool) → client_room node ≡ t → (go.next.net.owner ≡ w.net.owner) ⊎ NextFits w.net
+    by : (t : Bool) → client_has_room node ≡ t → (go.next.net.owner ≡ w.net.owner) ⊎ NextFits w.net
     by true e = inr (λ k le.
         phase_next node.phase
-        (and_second (has_room (lasting_of node.phase).questions.last) (phase_room node.phase) (and_second (has_room (lasting_of node.phase).inc) _ e)) k
+        (and_second (has_room (lasting_of node.phase).questions.last) (phase_has_room node.phase) (and_second (has_room (lasting_of node.phase).inc) _ e)) k
         (let same = ap next_number (its_owner g c w node.phase sees) in omega arith))
     by false e =
         let same : (takes node what).state ≡ node.phase = ap (λ t. (if t then happens node what else still node.phase).state) e in
@@ -128,16 +128,16 @@ cleaner_by (cleaners.Down l) = Down
 cleaner_by (cleaners.Opening l o) = owner_at o.stage
 cleaner_by (cleaners.Serving e) = Serving e.log
 
-cleaner_next : (p : CleanerPhase) → cleaner_events.phase_room p ≡ true → (k : ℕ) → k ≤ next_number (cleaner_by p) → has_next k ≡ true
+cleaner_next : (p : CleanerPhase) → cleaner_events.phase_has_room p ≡ true → (k : ℕ) → k ≤ next_number (cleaner_by p) → has_next k ≡ true
 cleaner_next (cleaners.Down l) room k le = first_next k le
 cleaner_next (cleaners.Opening l o) room k le =
     stage_next o.stage
-    (and_second (list_all has_room o.known.promised.epochs) (stage_room o.stage)
-    (and_second (has_room o.known.maps.version) _ (and_second (lasting_room l) (opening_room o) room))) k le
+    (and_second (list_all has_room o.known.promised.epochs) (stage_has_room o.stage)
+    (and_second (has_room o.known.maps.version) _ (and_second (lasting_has_room l) (opening_has_room o) room))) k le
 cleaner_next (cleaners.Serving e) room k le =
     log_next e.log
-    (and_first (log_room e.log) (list_all has_room e.promised.epochs)
-    (and_second (has_room e.maps.version) (log_room e.log && list_all has_room e.promised.epochs) (and_second (lasting_room e.lasting) _ room))) k le
+    (and_first (log_has_room e.log) (list_all has_room e.promised.epochs)
+    (and_second (has_room e.maps.version) (log_has_room e.log && list_all has_room e.promised.epochs) (and_second (lasting_has_room e.lasting) _ room))) k le
 
 cleaner_owner : (g : Setting) (w : Scene) (p : CleanerPhase) → CleanerAgrees g w p → w.net.owner ≡ cleaner_by p
 cleaner_owner g w (cleaners.Down l) sees = sees.1
@@ -147,9 +147,9 @@ cleaner_owner g w (cleaners.Serving e) sees = sees.log.owner
 pub cleaner_leaves_room : FliesNext → (g : Setting) (w : Scene) → Moment g w.net → (node : CleanerNode) (what : Do) → CleanerAgrees g w node.phase
     → (go : OwnerGoes g w (cleaner_events.cleaner_step node what)) → IsRoomy w.net → IsRoomy go.next.net
 cleaner_leaves_room law g w at node what sees go room =
-    turn_leaves_room law g w.net go.next.net at go.grown.runs go.flies (by (cleaner_events.phase_room node.phase) refl) room
+    turn_leaves_room law g w.net go.next.net at go.grown.runs go.flies (by (cleaner_events.phase_has_room node.phase) refl) room
   where
-    by : (t : Bool) → cleaner_events.phase_room node.phase ≡ t → (go.next.net.owner ≡ w.net.owner) ⊎ NextFits w.net
+    by : (t : Bool) → cleaner_events.phase_has_room node.phase ≡ t → (go.next.net.owner ≡ w.net.owner) ⊎ NextFits w.net
     by true e = inr (λ k le. cleaner_next node.phase e k (let same = ap next_number (cleaner_owner g w node.phase sees) in omega arith))
     by false e =
         let same : (cleaner_events.takes node.peers node.phase what).state ≡ node.phase =

@@ -6,7 +6,7 @@ use Rattle.node_logs.specs.client_log_tie.Texts.{MapFits}
 use Rattle.core_world.specs.declared.any_node.AnyNode.{AnyNode}
 use Rattle.group_map.specs.declared.group.Group.{Group}
 use Rattle.group_map.specs.GroupMapState.{GroupMapState}
-use Rattle.group_map.specs.Groups.{chosen, known_group as group_in, group_of}
+use Rattle.group_map.specs.Groups.{group_map_choose, known_group as group_in, group_of}
 use Rattle.group_map.specs.WellFormed.{IsGroupMap, IsNumbered}
 use Rattle.log_flight.specs.Flights.{group_for, no_group}
 use Rattle.log_tie.specs.Setting.{Setting, Stripe}
@@ -73,12 +73,12 @@ ids_fit o map id group fact = by (groups_of o) refl fact
 module _ (base : Setting) (end : World AnyNode) (servers : ℕ) (r : Role) (few : (id : ℕ) (group : Group) → group_at end id ≡ Some group → id < 2 ^ 32) where
   pub names_fit : (m : GroupMapState) → NamesStripes (setting_of base end servers r) m → MapFits m
   unfolding group_for
-  names_fit m names log seq = by (group_of m (chosen m.groups log seq)) refl
+  names_fit m names log seq = by (group_of m (group_map_choose m.groups log seq)) refl
     where
-      by : (o : Option Group) → group_of m (chosen m.groups log seq) ≡ o → (unwrap_or o no_group).id < 2 ^ 32
+      by : (o : Option Group) → group_of m (group_map_choose m.groups log seq) ≡ o → (unwrap_or o no_group).id < 2 ^ 32
       by None at = omega arith
       by (Some group) at =
-          let id : ℕ = chosen m.groups log seq in
+          let id : ℕ = group_map_choose m.groups log seq in
           let cut = (names.cut id group at).least in
           let same = names.named id group at in
           let found = striped base end servers (group_at end id) (let e = ap (λ (s : Stripe). length s.members) same in omega arith) in

@@ -6,7 +6,7 @@ use Rattle.cleaner_node.specs.CleanerEvents.{cleaner_start}
 use Rattle.node_logs.specs.client_log_tie.ClientEvents.{ClientBegins, ClientStarts}
 use Rattle.node_logs.specs.client_log_tie.Owner.{Scene}
 use Rattle.node_logs.specs.client_log_tie.Texts.{MapFits}
-use Rattle.client_node.specs.Starting.{first_client}
+use Rattle.client_node.specs.Starting.{client_start}
 use Rattle.core_world.specs.AnyNode.{any_start}
 use Rattle.core_world.specs.declared.any_node.AnyNode.{AnyNode}
 use Rattle.group_map.specs.GroupMapState.{GroupMapState}
@@ -18,7 +18,7 @@ use Rattle.log_tie.specs.Setting.{Setting}
 use Rattle.node_logs.specs.manager_log_tie.Owner.{ManagerAgrees}
 use Rattle.node_logs.specs.manager_log_tie.OwnerEvents.{ManagerStarts}
 use Rattle.node_logs.specs.manager_log_tie.Servers.{ServersStartEmpty}
-use Rattle.manager_node.specs.Events.{first_manager}
+use Rattle.manager_node.specs.Events.{manager_start}
 use Rattle.node_base.specs.Setups.{IsSetup}
 use Rattle.node_base.specs.Shape.{is_log}
 use Rattle.node_logs.proofs.node_log_tie.WholeMaps.{whole_map}
@@ -61,12 +61,12 @@ first_asked (OfManager j) k = OfMaps
 module _ (clients : ClientStarts) (owner : OwnerStarts) (managers : ManagerStarts) (servers : ServerStarts) (cleaners : CleanerStarts)
     (registries : RegistryStarts) (script : Script) (ok : IsSetup script.setup)
     (g : Setting) (r : Role) (fact : IsOf g r) (size : script.setup.servers ≡ g.servers) (is_there : IsThere script.setup.clients script.setup.managers r)
-    (named : NamesGroups g (groups.started script.setup.servers script.setup.groups)) where
+    (named : NamesGroups g (groups.group_map_start script.setup.servers script.setup.groups)) where
   abbrev setup : Setup
   setup = script.setup
 
   abbrev map : GroupMapState
-  map = groups.started script.setup.servers script.setup.groups
+  map = groups.group_map_start script.setup.servers script.setup.groups
 
   abbrev pub scene_by : Role → Scene
   scene_by q = record { net = opening g map; asked = first_asked q }
@@ -84,15 +84,15 @@ module _ (clients : ClientStarts) (owner : OwnerStarts) (managers : ManagerStart
   fits = map_fits map (registry_so []).map
 
   owner_so : (c : ℕ) → g.log ≡ record { 0 = c } → 0 < c → c ≤ setup.clients → (items : List Work)
-      → OwnerSeen g (scene_by (OfClient c)) c (first_client c setup items).phase
+      → OwnerSeen g (scene_by (OfClient c)) c (client_start c setup items).phase
   owner_so c its some limit items =
       (let b : ClientBegins g c setup items = clients g c its (log_small c some (let m = ok.clients.1 in omega arith)) setup items in
       record { agrees = b.agrees; written = b.written fits; room = λ s among. absurd among })
 
   client_so : (q : Role) → IsOf g q → IsThere setup.clients setup.managers q → (d : ℕ) (items : List Work)
-      → ClientAs g (scene_by q) q d (first_client d setup items).phase
+      → ClientAs g (scene_by q) q d (client_start d setup items).phase
   client_so (OfClient c) of h d items = λ e.
-      subst (λ n. OwnerSeen g (scene_by (OfClient c)) c (first_client n setup items).phase) (sym e) (owner_so c of.0 h.0 h.1 items)
+      subst (λ n. OwnerSeen g (scene_by (OfClient c)) c (client_start n setup items).phase) (sym e) (owner_so c of.0 h.0 h.1 items)
   client_so OfCleaner of h d items = tt
   client_so (OfManager j) of h d items = tt
 
@@ -101,11 +101,11 @@ module _ (clients : ClientStarts) (owner : OwnerStarts) (managers : ManagerStart
   cleaner_so OfCleaner of items = record { agrees = owner g of.0 setup items fits; room = λ s among. absurd among }
   cleaner_so (OfManager j) of items = cleaners g (opening g map) setup items
 
-  manager_so : (q : Role) → IsOf g q → (j : ℕ) (items : List Work) → ManagerAs g (scene_by q) q j (first_manager j setup items).phase
+  manager_so : (q : Role) → IsOf g q → (j : ℕ) (items : List Work) → ManagerAs g (scene_by q) q j (manager_start j setup items).phase
   manager_so (OfClient c) of j items = tt
   manager_so OfCleaner of j items = tt
   manager_so (OfManager i) of j items = λ e.
-      subst (λ n. ManagerAgrees g i (scene_by (OfManager i)) (first_manager n setup items).phase) (sym e) (managers g i of.0 setup items fits)
+      subst (λ n. ManagerAgrees g i (scene_by (OfManager i)) (manager_start n setup items).phase) (sym e) (managers g i of.0 setup items fits)
 
   starts : (name : NodeId) (p : ℕ) → place_of (cluster_of script.setup) name ≡ Some p → (items : List Work)
       → Seen g r first_scene name (any_start name setup items)

@@ -3,7 +3,7 @@ use Rattle.std.proofs.Common.{◌≡◌, ◌⊎◌, ⊎_elim, ℕ, List, [], ◌
 use Rattle.std.specs.List.{AllByRecursion}
 use Rattle.client_node.specs.declared.client.Client.{Client as AClient}
 use Rattle.client_node.specs.declared.phase.Phase.TheVariants.{Down, Opening, Serving as Serves}
-use Rattle.client_node.specs.Phases.{Went_to, after_opening, back, begins_item, client_room, happens, on_begin, on_deliver, on_time, opening_begins, takes, wish_of}
+use Rattle.client_node.specs.Phases.{Went_to, phase_after, back, begins_item, client_has_room, happens, on_begin, on_deliver, client_tick, opening_begins, takes, wish_of}
 use Rattle.client_serving.specs.declared.lasting.Lasting.{Lasting}
 use Rattle.client_serving.specs.declared.serving.Serving.{Serving}
 use Rattle.delta_feed.specs.declared.output.Out as feed
@@ -17,8 +17,8 @@ use Rattle.log_owner.specs.declared.opened.Progress.TheVariants as progress
 use Rattle.log_owner.specs.declared.opening.Opening as openings
 use Rattle.log_owner.specs.declared.promised.Managers.{Managers}
 use Rattle.log_owner.specs.Opening as opening
-use Rattle.log_owner.specs.Sending.{pushes_all, range}
-use Rattle.node_base.specs.Beginning.{answers_unanswered, begun, next_item, work_at}
+use Rattle.log_owner.specs.Sending.{push_all, range}
+use Rattle.node_base.specs.Beginning.{answers_unanswered, items_begin, next_item, work_at}
 use Rattle.node_base.specs.declared.effects.Effect.{Effect}
 use Rattle.node_base.specs.declared.effects.Effect.TheVariants.{Send, Answer as Answers, Lose, Does}
 use Rattle.node_base.specs.declared.questions.Questions.{Questions}
@@ -40,7 +40,7 @@ use Rattle.run_laws.proofs.world_law.Sent.{in_append}
 -- an opening comes to this, by a packet or by time
 abbrev pub ComesTo : Questions → openings.Opening → Opened → Type 0
 ComesTo q o r =
-    ((packet : wire.Packet) × ((opening.on_packet o q packet).progress ≡ progress.Opened r)) ⊎ ((opening.on_tick o q).progress ≡ progress.Opened r)
+    ((packet : wire.Packet) × ((opening.opening_take o q packet).progress ≡ progress.Opened r)) ⊎ ((opening.on_tick o q).progress ≡ progress.Opened r)
 
 -- The opening ended: the client serves the log that it came to, and says that it is back by its chain alone.
 pub record CameBack (l : Lasting) (o : openings.Opening) (w : Went_to) (t : Serving) : Type 0 where
@@ -99,7 +99,7 @@ module _ (l : Lasting) (o : openings.Opening) where
   same_serving s t fact = cc
 
   progress_comes : (k : Lasting) (capacity : ℕ) (effects : List Effect) → AllByRecursion (MayDo o.known.owner) effects
-      → (p : Progress) → ((r : Opened) → p ≡ progress.Opened r → ComesTo l.questions o r) → Comes (saying effects (after_opening k capacity p))
+      → (p : Progress) → ((r : Opened) → p ≡ progress.Opened r → ComesTo l.questions o r) → Comes (saying effects (phase_after k capacity p))
   progress_comes k capacity effects may (progress.Opening x) from = not_open k x (effects ++ [])
   progress_comes k capacity effects may (progress.Lost seg) from = λ t fact. absurd cc
   progress_comes k capacity effects may (progress.Opened r) from = λ t fact. record {
@@ -109,11 +109,11 @@ module _ (l : Lasting) (o : openings.Opening) where
     says = λ c chain here. ⊎_elim (λ a. absurd (not_opening c chain o.known.owner effects may a))
         (λ b. ⊎_elim (λ same. same_chain c k.number chain r.chain same)
         (λ rest. ⊎_elim (λ a. absurd (not_pushes c chain r.promised.managers _ a)) (λ a. absurd (not_answers c chain k.items.unanswered answer.Done a))
-        (in_append (pushes_all r.promised.managers r.feed) (answers_unanswered k.items.unanswered answer.Done) (Does (act.Back c chain)) rest)) b)
+        (in_append (push_all r.promised.managers r.feed) (answers_unanswered k.items.unanswered answer.Done) (Does (act.Back c chain)) rest)) b)
         (in_append effects (back k capacity r).outs (Does (act.Back c chain)) here);
   }
 
-  opening_comes : (number : ℕ) (wanted : Option Work) → Comes (opening_begins (record l { items = begun l.items }) o number (wish_of wanted))
+  opening_comes : (number : ℕ) (wanted : Option Work) → Comes (opening_begins (record l { items = items_begin l.items }) o number (wish_of wanted))
   opening_comes number (Some (work.Crash node)) t fact = absurd cc
   opening_comes number (Some (work.Restart node)) t fact = absurd cc
   opening_comes number (Some _) t fact = absurd cc
@@ -121,7 +121,7 @@ module _ (l : Lasting) (o : openings.Opening) where
 
   item_comes : (servers : ℕ) (item : Option ℕ) → Comes (begins_item servers (Opening l o) item)
   item_comes servers None = not_open l o []
-  item_comes servers (Some number) = opening_comes number (work_at (begun l.items) number)
+  item_comes servers (Some number) = opening_comes number (work_at (items_begin l.items) number)
 
   begin_comes : (servers : ℕ) → Comes (on_begin servers (Opening l o))
   unfolding on_begin
@@ -130,12 +130,12 @@ module _ (l : Lasting) (o : openings.Opening) where
   deliver_comes : (capacity : ℕ) (packet : wire.Packet) → Comes (on_deliver capacity (Opening l o) packet)
   unfolding on_deliver
   deliver_comes capacity packet =
-      let x = opening.on_packet o l.questions packet in
+      let x = opening.opening_take o l.questions packet in
       progress_comes (record l { questions = x.questions }) capacity x.effects (behaving.packet_so o l.questions packet).does x.progress
       (λ r fact. inl (packet, fact))
 
-  time_comes : (capacity : ℕ) → Comes (on_time capacity (Opening l o))
-  unfolding on_time
+  time_comes : (capacity : ℕ) → Comes (client_tick capacity (Opening l o))
+  unfolding client_tick
   time_comes capacity =
       let x = opening.on_tick o l.questions in
       progress_comes (record l { questions = x.questions }) capacity x.effects (behaving.tick_so o l.questions).does x.progress (λ r fact. inr fact)
@@ -146,11 +146,11 @@ module _ (l : Lasting) (o : openings.Opening) where
       by_test Comes (is_well_formed client.peers packet) (on_deliver client.cache client.phase packet) (still client.phase)
       (λ t. subst (λ p. Comes (on_deliver client.cache p packet)) (sym fact) (deliver_comes client.cache packet))
       (λ t. subst (λ p. Comes (still p)) (sym fact) (not_open l o []))
-  happens_comes client Tick fact = subst (λ p. Comes (on_time client.cache p)) (sym fact) (time_comes client.cache)
+  happens_comes client Tick fact = subst (λ p. Comes (client_tick client.cache p)) (sym fact) (time_comes client.cache)
 
 -- a client that opened its log, and serves after the event
 pub came_back : (client : AClient) (what : Do) (l : Lasting) (o : openings.Opening) (t : Serving) → client.phase ≡ Opening l o
     → (takes client what).state ≡ Serves t → CameBack l o (takes client what) t
 came_back client what l o t fact =
-    by_test (Comes l o) (client_room client) (happens client what) (still client.phase) (λ _. happens_comes l o client what fact)
+    by_test (Comes l o) (client_has_room client) (happens client what) (still client.phase) (λ _. happens_comes l o client what fact)
     (λ _. subst (λ p. Comes l o (still p)) (sym fact) (not_open l o l o [])) t

@@ -4,7 +4,7 @@ use Rattle.std.specs.Prelude.{IfSome}
 use Rattle.cleaner_serving.specs.declared.emptying.Emptying.{Emptying}
 use Rattle.client_node.specs.Crash.{flight_of}
 use Rattle.node_logs.specs.cleaner_log_tie.Owner as log_tie
-use Rattle.cleaner_node.specs.CleanerEvents.{Went_to, after_opening, begun_life, crashes, happens, hears, on_begin, on_deliver, on_time, opening_at, opening_wishes, phase_room, takes, wish_at}
+use Rattle.cleaner_node.specs.CleanerEvents.{Went_to, after_opening, begun_life, crash, happens, cleaner_hear, on_begin, on_deliver, on_time, opening_at, opening_wishes, phase_has_room, takes, wish_at}
 use Rattle.cleaner_node.specs.declared.cleaner.Cleaner.{Cleaner as CleanerNode}
 use Rattle.cleaner_node.specs.declared.cleaner.Phase.{Phase}
 use Rattle.cleaner_node.specs.declared.cleaner.Phase.TheVariants.{Down, Opening, Serving as Serves}
@@ -89,7 +89,7 @@ module _ (l : Lasting) (o : openings.Opening) where
       λ t fact. record { opened = r; comes = from r refl; log = ap (λ (s : Emptying). s.log) (sym (same_emptying _ t fact)) }
 
   wish_comes : (number : ℕ) (wish : _) → Comes (opening_wishes (begun_life l) o number wish)
-  unfolding crashes
+  unfolding crash
   wish_comes number Crash t fact = absurd cc
   wish_comes number Restart t fact = absurd cc
   wish_comes number (Clean count) t fact = absurd cc
@@ -102,10 +102,10 @@ module _ (l : Lasting) (o : openings.Opening) where
   unfolding on_begin
   begin_comes servers = item_comes (next_item l.items)
 
-  hears_comes : (packet : wire.Packet) → Comes (hears (Opening l o) packet)
-  unfolding hears
+  hears_comes : (packet : wire.Packet) → Comes (cleaner_hear (Opening l o) packet)
+  unfolding cleaner_hear
   hears_comes packet =
-      let x = opening.on_packet o l.questions packet in
+      let x = opening.opening_take o l.questions packet in
       progress_comes (record l { questions = x.questions }) x.effects x.progress (λ r fact. inl (packet, fact))
 
   time_comes : Comes (on_time (Opening l o))
@@ -119,7 +119,7 @@ module _ (l : Lasting) (o : openings.Opening) where
   deliver_comes : (node : CleanerNode) (packet : wire.Packet) → Comes (on_deliver node.peers (Opening l o) packet)
   unfolding on_deliver
   deliver_comes node packet =
-      by_test Comes (is_well_formed node.peers packet) (hears (Opening l o) packet) (still (Opening l o)) (λ _. hears_comes packet) (λ _. stays_open)
+      by_test Comes (is_well_formed node.peers packet) (cleaner_hear (Opening l o) packet) (still (Opening l o)) (λ _. hears_comes packet) (λ _. stays_open)
 
   happens_comes : (node : CleanerNode) (what : Do) → Comes (happens node.peers (Opening l o) what)
   happens_comes node Begin = begin_comes node.peers.servers
@@ -127,7 +127,7 @@ module _ (l : Lasting) (o : openings.Opening) where
   happens_comes node Tick = time_comes
 
   takes_comes : (node : CleanerNode) (what : Do) → Comes (takes node.peers (Opening l o) what)
-  takes_comes node what = by_test Comes (phase_room (Opening l o)) (happens node.peers (Opening l o) what) (still (Opening l o))
+  takes_comes node what = by_test Comes (phase_has_room (Opening l o)) (happens node.peers (Opening l o) what) (still (Opening l o))
       (λ _. happens_comes node what) (λ _. stays_open)
 
 pub cleaner_back : (node : CleanerNode) (what : Do) (l : Lasting) (o : openings.Opening) (t : Emptying) → node.phase ≡ Opening l o

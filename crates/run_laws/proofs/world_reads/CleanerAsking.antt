@@ -30,11 +30,11 @@ use Rattle.run_laws.proofs.place_law.Lying.{one_of_nine}
 use Rattle.run_laws.specs.place_law.Hands.{AnswerReads}
 use Rattle.run_laws.specs.reading_law.Readings.{ReadingsCame}
 use Rattle.node_tellings.specs.reading_tie.CleanerMeets.{JobMet, PhaseMet, listed_in}
-use Rattle.registry.specs.Board.{all_news}
+use Rattle.registry.specs.Board.{board_slots}
 use Rattle.segment_format.specs.declared.segment.Item.{Item}
 use Rattle.segment_format.specs.declared.segment.Item.TheVariants.{Block, Delta, Part}
 use Rattle.segment_format.specs.declared.segment.Segment.{Segment}
-use Rattle.stripe_cleaner.specs.Checks.{all_dead, checks_from, place_in, questions}
+use Rattle.stripe_cleaner.specs.Checks.{all_dead, checks_of, place_in, questions}
 use Rattle.stripe_cleaner.specs.CleaningState.{CleaningState}
 use Rattle.stripe_cleaner.specs.declared.checks.Check.{Check}
 use Rattle.stripe_cleaner.specs.declared.input.In.TheVariants as input
@@ -83,7 +83,7 @@ each_where t P [] all = tt
 each_where t P (x ∷ xs) all = (λ premise. (all premise).0, each_where t P xs (λ premise. (all premise).1))
 
 -- of what has just been read each Block is asked for: where all were dead there would be none
-none_dead : (P : Check → Type 0) (number : ℕ) (items : List Item) → all_dead (checks_from number items) ≡ true → AllByRecursion P (checks_from number items)
+none_dead : (P : Check → Type 0) (number : ℕ) (items : List Item) → all_dead (checks_of number items) ≡ true → AllByRecursion P (checks_of number items)
 none_dead P number [] dead = tt
 none_dead P number (Block block value ∷ items) dead = absurd cc
 none_dead P number (Delta block ver hop item ∷ items) dead = none_dead P (number + 1) items dead
@@ -91,14 +91,14 @@ none_dead P number (Part slot rows ∷ items) dead = none_dead P (number + 1) it
 
 -- the job checks the segment that is read
 then_checks : (c : CleaningState) (j : JobState) (segment : SegRef) (s : Segment) → c.phase ≡ Reading j segment → same_name s.name segment.name ≡ true
-    → all_dead (checks_from 0 s.items) ≡ false → (transition c (input.Read (Some s))).state.phase ≡ Checking j segment (checks_from 0 s.items)
-unfolding turns.checking
+    → all_dead (checks_of 0 s.items) ≡ false → (transition c (input.Read (Some s))).state.phase ≡ Checking j segment (checks_of 0 s.items)
+unfolding turns.job_check
 then_checks c j segment s reads named some =
     ap (λ (p : Phase). (read_in (Some s) p).state) reads
-    ∙ (ap (λ (t : Bool). (if t then turns.checking j segment (checks_from 0 s.items) else still (Reading j segment)).state) named
-    ∙ ap (λ (t : Bool). (if t then turns.deleting j segment else record {
-      state = Checking j segment (checks_from 0 s.items);
-      outs = questions segment (checks_from 0 s.items);
+    ∙ (ap (λ (t : Bool). (if t then turns.job_check j segment (checks_of 0 s.items) else still (Reading j segment)).state) named
+    ∙ ap (λ (t : Bool). (if t then turns.job_delete j segment else record {
+      state = Checking j segment (checks_of 0 s.items);
+      outs = questions segment (checks_of 0 s.items);
     }).state) some)
 
 -- the law of places, and how long horizons stay
@@ -151,7 +151,7 @@ module _ (law : Below) (logged : LoggedRun) (part count : ℕ) (joint : Joint lo
         let p = least_promised law.tokens.epochs.horizons_stay part (held_in part texts.text) first n of_eight runs joint.idx.registry joint.index_stands.registry
         seg.name.log.0
         its_nine.0 its_nine.1 in
-        let low : seg.name.seq < least_horizon seg.name.log.0 (all_news joint.idx.registry.board) =
+        let low : seg.name.seq < least_horizon seg.name.log.0 (board_slots joint.idx.registry.board) =
         below logged part count law.logs.listed ours law.logs.written joint reached seg f drop in
         let up = p.above in
         record { epoch = p.epoch; promised = p.promised; within = its_within; below = omega arith; lies = lies }
@@ -187,8 +187,8 @@ module _ (law : Below) (logged : LoggedRun) (part count : ℕ) (joint : Joint lo
 
     -- and what it reads
     read_may : (j : JobState) (s : Segment) → n.job.phase ≡ Reading j seg → ReadFor n.filed (Some s) n.job.phase → s.name ≡ seg.name
-        → AllByRecursion (CheckMay may seg) (checks_from 0 s.items)
-    read_may j s premise owed same = by (all_dead (checks_from 0 s.items)) refl
+        → AllByRecursion (CheckMay may seg) (checks_of 0 s.items)
+    read_may j s premise owed same = by (all_dead (checks_of 0 s.items)) refl
       where
         passes : same_name s.name seg.name ≡ true
         passes = subst (λ (x : SegName). same_name s.name x ≡ true) same (itself s.name)
@@ -196,12 +196,12 @@ module _ (law : Below) (logged : LoggedRun) (part count : ℕ) (joint : Joint lo
             itself : (x : SegName) → same_name x x ≡ true
             itself x = grind (arith, nat_tests)
 
-        by : (t : Bool) → all_dead (checks_from 0 s.items) ≡ t → AllByRecursion (CheckMay may seg) (checks_from 0 s.items)
+        by : (t : Bool) → all_dead (checks_of 0 s.items) ≡ t → AllByRecursion (CheckMay may seg) (checks_of 0 s.items)
         by true dead = none_dead (CheckMay may seg) 0 s.items dead
         by false alive =
-            all_may (checks_from 0 s.items)
+            all_may (checks_of 0 s.items)
             (λ there. law.reads.places.checks_are_of_rows part (held_in part texts.text) first (with_job n (transition n.job (input.Read (Some s)))) j seg
-            (checks_from 0 s.items)
+            (checks_of 0 s.items)
             (On runs (JobReads (Some s) owed)) (λ l q low high some limit. (joint.tells l q some limit).plain) (all_named n.filed joint.tells)
             (then_checks n.job j seg s premise passes alive) there (grouped there))
 

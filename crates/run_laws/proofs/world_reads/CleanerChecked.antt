@@ -4,17 +4,17 @@ use Rattle.std.specs.List.{AllByRecursion}
 use Rattle.cleaner_job.specs.declared.hand.Hand.{Hand}
 use Rattle.cleaner_job.specs.declared.job.Job.{Job}
 use Rattle.cleaner_job.specs.declared.lasting.Lasting.{Lasting}
-use Rattle.cleaner_job.specs.Jobs.{hand_hears_in, job_hears, job_read}
-use Rattle.cleaner_node.specs.CleanerEvents.{restarts, takes}
+use Rattle.cleaner_job.specs.Jobs.{hand_hears_in, job_hear, note_read}
+use Rattle.cleaner_node.specs.CleanerEvents.{restart, takes}
 use Rattle.cleaner_node.specs.declared.cleaner.Cleaner.{Cleaner}
 use Rattle.cleaner_node.specs.declared.cleaner.Phase.{Phase}
 use Rattle.cleaner_node.specs.declared.cleaner.Phase.TheVariants.{Down, Opening, Serving}
 use Rattle.cleaner_serving.specs.declared.emptying.Emptying.{Emptying}
-use Rattle.cleaner_serving.specs.Jobs.{told_by, told_in}
+use Rattle.cleaner_serving.specs.Jobs.{emptying_hear, told_in}
 use Rattle.delta_feed.specs.declared.output.Out.{Out as FeedOut}
 use Rattle.delta_feed.specs.declared.output.Out.TheVariants.{Range}
 use Rattle.delta_feed.specs.FeedState.{FeedState}
-use Rattle.delta_feed.specs.Transition.{ticked}
+use Rattle.delta_feed.specs.Transition.{feed_tick}
 use Rattle.group_map.specs.GroupMapState.{GroupMapState}
 use Rattle.log_owner.proofs.Behaving as behaving
 use Rattle.log_owner.specs.Behaves.{MayDo, MaySay}
@@ -24,7 +24,7 @@ use Rattle.log_owner.specs.declared.opened.Progress.TheVariants as progress
 use Rattle.log_owner.specs.declared.opening.Opening as openings
 use Rattle.log_owner.specs.declared.promised.Managers.{Managers}
 use Rattle.log_owner.specs.Opening.{Went}
-use Rattle.log_owner.specs.Sending.{pushes_all, range, server_in}
+use Rattle.log_owner.specs.Sending.{push_all, range, server_in}
 use Rattle.node_base.specs.declared.effects.Effect.{Effect}
 use Rattle.node_base.specs.declared.effects.Effect.TheVariants.{Send, Answer as Answers, Lose, Does}
 use Rattle.node_base.specs.declared.items.Items.{Items}
@@ -84,7 +84,7 @@ module _ (may : May) where
   -- what an answer of a server makes the cleaner read
   abbrev pub ToldMay : Emptying → Option ℕ → ℕ → Told → Type 0
   ToldMay e None ask t = Unit {0}
-  ToldMay e (Some server) ask t = (s : Segment) → (told_by e ask server t).next ≡ next.Read s → InputAt e.job (input.Read (Some s))
+  ToldMay e (Some server) ask t = (s : Segment) → (emptying_hear e ask server t).next ≡ next.Read s → InputAt e.job (input.Read (Some s))
 
   abbrev pub BodyReadsMay : Emptying → NodeId → Body → Type 0
   BodyReadsMay e from (body.Fragment m) = ToldMay e (server_in from) m.ask (Held m.fragment)
@@ -109,12 +109,12 @@ module _ (may : May) where
 
   told_input : (e : Emptying) (o : Option Job) (groups : Option GroupMapState) (ask server : ℕ) (t : Told) (i : In) → InputAt o i → InputAt e.job i
       → InputAt (told_in e o groups ask server t).state.job i
-  unfolding job_hears
+  unfolding job_hear
   told_input e None groups ask server t i given owed = owed
   told_input e (Some job) None ask server t i given owed = owed
   told_input e (Some job) (Some groups) ask server t i given owed = hand_input job job.hand groups ask server t i given
 
-  read_input : (o : Option Job) (i : In) → InputAt o i → InputAt (job_read o) i
+  read_input : (o : Option Job) (i : In) → InputAt o i → InputAt (note_read o) i
   read_input None i owed = tt
   read_input (Some job) i owed = owed
 
@@ -139,10 +139,10 @@ module _ (may : May) where
         subst (λ v. ToldMay e v m.ask (Lacks m.generation)) from (subst (BodyReadsMay e packet.from) came.says (body_owed e packet same came.event))
 
     given_so : (e : Emptying) (given : In) → Given first what e given → InputAt e.job given
-    unfolding told_by
+    unfolding emptying_hear
     given_so e given (SegmentRead {before = before} ask server t segment tells fact) =
         let i : InputAt before.job (input.Read (Some segment)) = tells_may before ask server t tells segment fact in
-        read_input (told_by before ask server t).state.job (input.Read (Some segment))
+        read_input (emptying_hear before ask server t).state.job (input.Read (Some segment))
         (told_input before before.job before.maps.groups ask server t (input.Read (Some segment)) i i)
     given_so e given SegmentLost = no_input e.job (input.Read None) tt
     given_so e given _ = no_input e.job given tt
@@ -157,8 +157,8 @@ module _ (may : May) where
     noted_so (Opening l o) items h = tt
     noted_so (Serving e) items h = h
 
-    restarted : (servers : ℕ) (l : Lasting) (number : ℕ) → PhaseMay (restarts servers l number).state
-    unfolding restarts
+    restarted : (servers : ℕ) (l : Lasting) (number : ℕ) → PhaseMay (restart servers l number).state
+    unfolding restart
     restarted servers l number = tt
 
     comes_so : (l : Lasting) (p : Progress) → PhaseMay (came_to l p)
@@ -206,8 +206,8 @@ module _ (may : May) where
     range_so : (managers : Managers) (o : FeedOut) → EffectMay (range managers o)
     range_so managers (Range slot past upto rows) = tt
 
-    pushed : (managers : Managers) (feed : FeedState) → AllMay (pushes_all managers feed)
-    pushed managers feed = all_map EffectMay (range managers) (range_so managers) (ticked feed)
+    pushed : (managers : Managers) (feed : FeedState) → AllMay (push_all managers feed)
+    pushed managers feed = all_map EffectMay (range managers) (range_so managers) (feed_tick feed)
 
     gives : EffectKeeps first what PhaseMay (OutMay may) EffectMay
     gives = record {

@@ -4,7 +4,7 @@ use Rattle.std.proofs.lemmas.Map.Views.{tells_apart}
 use Rattle.std.specs.List.{AllByRecursion, cons_option}
 use Rattle.group_map.specs.GroupMapState.{GroupMapState}
 use Rattle.segment_format.specs.declared.segment.Segment.{Segment}
-use Rattle.stripe_cleaner.specs.Checks.{after_dead, after_live, all_dead, any_asked, checks_from, dead_at, is_awaited, live_at, moved_at, place_in, questions}
+use Rattle.stripe_cleaner.specs.Checks.{after_dead, after_live, all_dead, any_asked, checks_of, dead_at, is_awaited, live_at, moved_at, place_in, questions}
 use Rattle.stripe_cleaner.specs.CleaningState.{CleaningState}
 use Rattle.stripe_cleaner.specs.Counting.{CountingState, all_slots, awaited_slots, chosen, has_usage, is_counted}
 use Rattle.stripe_cleaner.specs.declared.checks.Check.{Check}
@@ -51,7 +51,7 @@ module _ (may : May) where
 
   -- and of each Block of the segment that is read
   abbrev pub FoundMay : Segment → Phase → Type 0
-  FoundMay read (Reading j segment) = read.name ≡ segment.name → AllByRecursion (CheckMay segment) (checks_from 0 read.items)
+  FoundMay read (Reading j segment) = read.name ≡ segment.name → AllByRecursion (CheckMay segment) (checks_of 0 read.items)
   FoundMay read _ = Unit {0}
 
   abbrev pub ReadMay : Option Segment → Phase → Type 0
@@ -90,8 +90,8 @@ module _ (may : May) where
   next_so [] j = record { phase = tt; outs = (tt, tt) }
   next_so (segment ∷ left) j = record { phase = tt; outs = (tt, tt) }
 
-  deleting_so : (j : JobState) (segment : SegRef) → TurnMay (job.deleting j segment)
-  deleting_so j segment = record {
+  job_delete_so : (j : JobState) (segment : SegRef) → TurnMay (job.job_delete j segment)
+  job_delete_so j segment = record {
     phase = tt;
     outs = all_map OutMay (λ server. out.Delete server segment.name) (λ server. tt) (job.servers_of j.groups segment);
   }
@@ -104,30 +104,30 @@ module _ (may : May) where
 
   deleted_so : (server : ℕ) (name : SegName) (j : JobState) (segment : SegRef) (servers : List ℕ) → TurnMay (job.on_deleted server name j segment servers)
   deleted_so server name j segment servers =
-      by_test TurnMay (same_name name segment.name && is_among servers server) (job.left_to_delete j segment (without servers server))
+      by_test TurnMay (same_name name segment.name && is_among servers server) (job.job_go_on j segment (without servers server))
       (still (Deleting j segment servers))
       (λ _. by_test TurnMay (length (without servers server) == 0) (job.next (job.counted j)) (still (Deleting j segment (without servers server)))
       (λ _. next_so j.left (job.counted j)) (λ _. stays (Deleting j segment (without servers server)) tt))
       (λ _. stays (Deleting j segment servers) tt)
 
-  checking_so : (j : JobState) (segment : SegRef) (checks : List Check) → AllByRecursion (CheckMay segment) checks → TurnMay (job.checking j segment checks)
-  unfolding job.checking
-  checking_so j segment checks all =
-      by_test TurnMay (all_dead checks) (job.deleting j segment) (record { state = Checking j segment checks; outs = questions segment checks })
-      (λ _. deleting_so j segment) (λ _. record { phase = all; outs = asks_of segment checks all })
+  job_check_so : (j : JobState) (segment : SegRef) (checks : List Check) → AllByRecursion (CheckMay segment) checks → TurnMay (job.job_check j segment checks)
+  unfolding job.job_check
+  job_check_so j segment checks all =
+      by_test TurnMay (all_dead checks) (job.job_delete j segment) (record { state = Checking j segment checks; outs = questions segment checks })
+      (λ _. job_delete_so j segment) (λ _. record { phase = all; outs = asks_of segment checks all })
 
   read_so : (read : Option Segment) (j : JobState) (segment : SegRef) → ReadMay read (Reading j segment) → TurnMay (job.on_read read j segment)
   read_so None j segment owed = next_so j.left j
   read_so (Some read) j segment owed =
-      by_test TurnMay (same_name read.name segment.name) (job.checking j segment (checks_from 0 read.items)) (still (Reading j segment))
-      (λ t. checking_so j segment (checks_from 0 read.items) (owed (tells_apart seg_cmp_exact read.name segment.name t)))
+      by_test TurnMay (same_name read.name segment.name) (job.job_check j segment (checks_of 0 read.items)) (still (Reading j segment))
+      (λ t. job_check_so j segment (checks_of 0 read.items) (owed (tells_apart seg_cmp_exact read.name segment.name t)))
       (λ _. stays (Reading j segment) tt)
 
   looked_so : (j : JobState) (segment : SegRef) (was_asked : Bool) (checks : List Check) → AllByRecursion (CheckMay segment) checks
-      → TurnMay (job.looked_at j segment was_asked checks)
-  unfolding job.looked_at
+      → TurnMay (job.job_look j segment was_asked checks)
+  unfolding job.job_look
   looked_so j segment was_asked checks all =
-      by_test TurnMay (all_dead checks) (job.deleting j segment) _ (λ _. deleting_so j segment)
+      by_test TurnMay (all_dead checks) (job.job_delete j segment) _ (λ _. job_delete_so j segment)
       (λ _. by_test TurnMay (was_asked && not (any_asked checks)) _ (still (Checking j segment checks)) (λ _. record { phase = all; outs = (tt, tt) })
       (λ _. stays (Checking j segment checks) all))
 
@@ -154,7 +154,7 @@ module _ (may : May) where
   mapped_so groups (Deleting j segment servers) h = record { phase = tt; outs = tt }
   mapped_so groups Over h = stays Over tt
 
-  heard_so : (l : ListingState) → TurnMay (transitions.listed l)
+  heard_so : (l : ListingState) → TurnMay (transitions.listing_go_on l)
   heard_so l =
       by_test TurnMay (length l.awaited == 0)
       (record {
@@ -163,21 +163,21 @@ module _ (may : May) where
       })
       (still (Listing l)) (λ _. record { phase = tt; outs = all_map OutMay (λ slot. out.UsageAsk slot) (λ slot. tt) all_slots }) (λ _. stays (Listing l) tt)
 
-  listed_so : (server : ℕ) (held : List FragMeta) (p : Phase) → PhaseMay p → TurnMay (transitions.listed_in server held p)
-  listed_so server held (Listing l) h =
-      by_test TurnMay (is_among l.awaited server) (transitions.listed (transitions.heard l server held)) (still (Listing l))
-      (λ _. heard_so (transitions.heard l server held)) (λ _. stays (Listing l) tt)
-  listed_so server held p h = stays p h
+  listing_go_on_so : (server : ℕ) (held : List FragMeta) (p : Phase) → PhaseMay p → TurnMay (transitions.listed_in server held p)
+  listing_go_on_so server held (Listing l) h =
+      by_test TurnMay (is_among l.awaited server) (transitions.listing_go_on (transitions.listing_hear l server held)) (still (Listing l))
+      (λ _. heard_so (transitions.listing_hear l server held)) (λ _. stays (Listing l) tt)
+  listing_go_on_so server held p h = stays p h
 
-  counted_so : (count : ℕ) (c : CountingState) → TurnMay (transitions.counted count c)
-  counted_so count c =
+  counting_go_on_so : (count : ℕ) (c : CountingState) → TurnMay (transitions.counting_go_on count c)
+  counting_go_on_so count c =
       by_test TurnMay (is_counted c.usages) (job.next (record { groups = c.groups; left = chosen count c; deleted = 0 })) (still (Counting c))
       (λ _. next_so (chosen count c) (record { groups = c.groups; left = chosen count c; deleted = 0 })) (λ _. stays (Counting c) tt)
 
   counted_in_so : (count slot : ℕ) (counts : List (SegName × ℕ)) (p : Phase) → PhaseMay p → TurnMay (transitions.counted_in count slot counts p)
   counted_in_so count slot counts (Counting c) h =
-      by_test TurnMay (has_usage c.usages slot) (still (Counting c)) (transitions.counted count (transitions.usage_with slot counts c))
-      (λ _. stays (Counting c) tt) (λ _. counted_so count (transitions.usage_with slot counts c))
+      by_test TurnMay (has_usage c.usages slot) (still (Counting c)) (transitions.counting_go_on count (transitions.counting_hear slot counts c))
+      (λ _. stays (Counting c) tt) (λ _. counting_go_on_so count (transitions.counting_hear slot counts c))
   counted_in_so count slot counts p h = stays p h
 
   read_in_so : (read : Option Segment) (p : Phase) → ReadMay read p → PhaseMay p → TurnMay (transitions.read_in read p)
@@ -203,14 +203,14 @@ module _ (may : May) where
   deleted_in_so server name (Deleting j segment servers) h = deleted_so server name j segment servers
   deleted_in_so server name p h = stays p h
 
-  awaits_so : (p : Phase) → PhaseMay p → AllByRecursion OutMay (transitions.awaits p)
-  awaits_so Greeting h = (tt, tt)
-  awaits_so (Listing l) h = all_map OutMay (λ server. out.List server) (λ server. tt) l.awaited
-  awaits_so (Counting c) h = all_map OutMay (λ slot. out.UsageAsk slot) (λ slot. tt) (awaited_slots c.usages)
-  awaits_so (Reading j segment) h = (tt, tt)
-  awaits_so (Checking j segment checks) h = asks_of segment checks h
-  awaits_so (Deleting j segment servers) h = all_map OutMay (λ server. out.Delete server segment.name) (λ server. tt) servers
-  awaits_so Over h = tt
+  phase_asking_so : (p : Phase) → PhaseMay p → AllByRecursion OutMay (transitions.phase_asking p)
+  phase_asking_so Greeting h = (tt, tt)
+  phase_asking_so (Listing l) h = all_map OutMay (λ server. out.List server) (λ server. tt) l.awaited
+  phase_asking_so (Counting c) h = all_map OutMay (λ slot. out.UsageAsk slot) (λ slot. tt) (awaited_slots c.usages)
+  phase_asking_so (Reading j segment) h = (tt, tt)
+  phase_asking_so (Checking j segment checks) h = asks_of segment checks h
+  phase_asking_so (Deleting j segment servers) h = all_map OutMay (λ server. out.Delete server segment.name) (λ server. tt) servers
+  phase_asking_so Over h = tt
 
   -- ---- all inputs
 
@@ -225,16 +225,16 @@ module _ (may : May) where
   taken_so s (input.Promise slot epoch) owed h =
       by_test DoneMay (is_above s.promised slot epoch) _ (still s) (λ _. forgetting_so slot s.phase h) (λ _. stays s.phase h)
   taken_so s (input.Maps groups) owed h = mapped_so groups s.phase h
-  taken_so s (input.Listed server held) owed h = listed_so server held s.phase h
+  taken_so s (input.Listed server held) owed h = listing_go_on_so server held s.phase h
   taken_so s (input.Usage slot epoch counts) owed h =
       by_test DoneMay (is_promised s.promised slot epoch) _ (still s) (λ _. counted_in_so s.count slot counts s.phase h) (λ _. stays s.phase h)
   taken_so s (input.Read read) owed h = read_in_so read s.phase owed h
   taken_so s (input.Live block epoch entry) owed h =
-      by_test DoneMay (transitions.is_heard s.promised block epoch && transitions.may_move entry) _ (still s)
+      by_test DoneMay (transitions.cleaning_hears s.promised block epoch && transitions.may_move entry) _ (still s)
       (λ _. answered_so (live_at block entry) (λ segment c k. live_so segment block entry c k) s.phase h) (λ _. stays s.phase h)
   taken_so s (input.Dead block epoch) owed h =
-      by_test DoneMay (transitions.is_heard s.promised block epoch) _ (still s)
+      by_test DoneMay (transitions.cleaning_hears s.promised block epoch) _ (still s)
       (λ _. answered_so (dead_at block) (λ segment c k. dead_so segment block c k) s.phase h) (λ _. stays s.phase h)
   taken_so s input.Moved owed h = moved_in_so s.phase h
   taken_so s (input.Deleted server name) owed h = deleted_in_so server name s.phase h
-  taken_so s input.Tick owed h = record { phase = h; outs = awaits_so s.phase h }
+  taken_so s input.Tick owed h = record { phase = h; outs = phase_asking_so s.phase h }

@@ -1,7 +1,7 @@
 -- What the cleaner gets: its log is linked from the horizon of an epoch that is polled, and the segment that it reads for its job is the filed one.
 use Rattle.std.proofs.Common.{◌≡◌, ◌≤◌, ℕ, false, List, Option, None, Some, refl, sym, ap, subst, ◌∙◌, arith}
 use Rattle.cleaner_serving.specs.declared.emptying.Emptying.{Emptying}
-use Rattle.cleaner_serving.specs.Jobs.{told_by, told_in}
+use Rattle.cleaner_serving.specs.Jobs.{emptying_hear, told_in}
 use Rattle.cleaner_node.specs.declared.cleaner.Cleaner.{Cleaner as CleanerNode}
 use Rattle.cleaner_node.specs.declared.cleaner.Phase as cleaning
 use Rattle.cleaner_node.specs.declared.cleaner.Phase.TheVariants.{Down, Opening, Serving}
@@ -19,7 +19,7 @@ use Rattle.run_laws.specs.reading_law.Readings.{ReadingsCame, cuts_at}
 use Rattle.node_tellings.specs.reading_tie.Arrivals.{answered_in, cut_by}
 use Rattle.node_tellings.specs.reading_tie.CleanerMeets.{AnyJobMet, HandMet, JobMet, NodeMet, PhaseMet, listed_in}
 use Rattle.node_tellings.specs.reading_tie.CleanerReads.{PhaseHolds, ServesSo}
-use Rattle.registry.specs.Board.{all_news}
+use Rattle.registry.specs.Board.{board_slots}
 use Rattle.segment_format.specs.declared.segment.Segment.{Segment}
 use Rattle.segment_reading.specs.declared.reading.Next.TheVariants as next
 use Rattle.stripe_cleaner.specs.CleaningState.{CleaningState}
@@ -59,12 +59,12 @@ module _ (below : Below) (logged : LoggedRun) (part count : ℕ) (joint : Joint 
   abbrev pub PollsAreLow : Type 0
   PollsAreLow = (v : Emptying) (p : Packet) (m : Poll) → node.phase ≡ Serving v → In p sent → p.body ≡ body.Poll m → m.slot ≡ part
       → epoch_of v.promised part ≤ m.epoch
-      → least_horizon 9 (all_news joint.idx.registry.board) ≤ of_log (joint.idx.net.horizon m.epoch) 9
+      → least_horizon 9 (board_slots joint.idx.registry.board) ≤ of_log (joint.idx.net.horizon m.epoch) 9
 
   -- horizons that the registry keeps are no further than what was filed
   abbrev pub AreReached : Type 0
   AreReached = (r : Role) → There logged part r → renews r ≡ false
-      → Reached (did e (log_by r) count) (least_horizon (log_by r) (all_news joint.idx.registry.board))
+      → Reached (did e (log_by r) count) (least_horizon (log_by r) (board_slots joint.idx.registry.board))
 
   module _ (sure : IsSureUpto logged part count) (low : PollsAreLow) where
     gives : LineGives 9 (its_scene logged part count).net joint.idx.net.filed
@@ -72,7 +72,7 @@ module _ (below : Below) (logged : LoggedRun) (part count : ℕ) (joint : Joint 
         joint.idx.net.filed
         (sure_at logged part count sure) (joint.lined OfCleaner tt refl)
 
-    low_is : (its_scene logged part count).net.low ≡ least_horizon 9 (all_news joint.idx.registry.board)
+    low_is : (its_scene logged part count).net.low ≡ least_horizon 9 (board_slots joint.idx.registry.board)
     low_is =
         (((its_line logged part).stands count).seen Registry (any.Registry joint.idx.registry) joint.index_stands.placed.registry).low
 
@@ -128,7 +128,7 @@ module _ (below : Below) (logged : LoggedRun) (part count : ℕ) (joint : Joint 
     waits (Some job) premise ask server t s done = absurd cc
 
     reads_nothing : v.job ≡ None → (o : Option ℕ) (ask : ℕ) (t : Told) → ReadGets part joint.idx.net v o ask t
-    unfolding told_by
+    unfolding emptying_hear
     reads_nothing none None ask t = tt
     reads_nothing none (Some server) ask t = λ s done. absurd (waits v.job none ask server t s done)
 

@@ -5,7 +5,7 @@ use Rattle.std.specs.Prelude.{IfSome}
 use Rattle.std.specs.List.{fold}
 use Rattle.cleaner_serving.specs.declared.emptying.Emptying.{Emptying}
 use Rattle.cleaner_node.specs.CleanerEvents as cleaners
-use Rattle.cleaner_node.specs.CleanerEvents.{phase_room}
+use Rattle.cleaner_node.specs.CleanerEvents.{phase_has_room}
 use Rattle.cleaner_node.specs.declared.cleaner.Cleaner.{Cleaner as CleanerNode}
 use Rattle.cleaner_node.specs.declared.cleaner.Phase.TheVariants.{Serving}
 use Rattle.cleaner_job.specs.declared.hand.Hand.{Hand}
@@ -320,12 +320,12 @@ module _ (laws : tokens.NodeLaws) (e : Estate AnyNode) (ok : IsSetup e.script.se
 
   -- what the cleaner awaits it asked of the segment in hand, where no counter is near its end
   pub asks_of_hand : (count : ℕ) (node : CleanerNode) → node_in (moment e count).nodes (place_of cluster Cleaner) ≡ Some (any.Cleaner node)
-      → (v : Emptying) → node.phase ≡ Serving v → phase_room node.phase ≡ true → AsksOfHand (moment e count).sent v
+      → (v : Emptying) → node.phase ≡ Serving v → phase_has_room node.phase ≡ true → AsksOfHand (moment e count).sent v
   asks_of_hand count node here_is v serves room block ask place awaited was =
       let asks : CleanerAsks (book_of (moment e count).sent) node.phase = (good_at count Cleaner (any.Cleaner node) here_is).asks in
       let its_asks : AsksSo (book_of (moment e count).sent) v.lasting.questions v.job = subst (CleanerAsks (book_of (moment e count).sent)) serves asks in
       of_job (book_of (moment e count).sent) v.lasting.questions
-      (room_below (Serving v) (subst (λ p. phase_room p ≡ true) serves room)) block ask place.seg.name
+      (room_below (Serving v) (subst (λ p. phase_has_room p ≡ true) serves room)) block ask place.seg.name
       (record {
         packet = was.packet;
         among = was.among;

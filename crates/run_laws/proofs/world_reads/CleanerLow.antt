@@ -12,7 +12,7 @@ use Rattle.log_protocol.proofs.IndexInduction.{index_in_bounds_always}
 use Rattle.log_protocol.specs.IndexBoundLaws.{IndexInBounds}
 use Rattle.log_scan.specs.Transition.{least_horizon}
 use Rattle.node_slots.specs.node_index_tie.RegistryEvents.{RegistryAgrees}
-use Rattle.registry.specs.Board.{all_news}
+use Rattle.registry.specs.Board.{board_slots}
 use Rattle.segment_format.specs.declared.segment.Segment.{Segment}
 use Rattle.registry_node.specs.declared.node.RegistryNode.{RegistryNode}
 use Rattle.token_manager.specs.SlotState.{SlotState}
@@ -52,10 +52,10 @@ module _ (stay : HorizonsStay) (part : ℕ) (holds : SegRef → Rows) (first : �
     pub promised : epoch ≤ n.promised
     pub above : low ≤ of_log (n.horizon epoch) l
 
-  pub least_promised : (r : RegistryNode) → RegistryAgrees part n r → (l : ℕ) → 0 < l → l ≤ 9 → IsPromisedAbove l (least_horizon l (all_news r.board))
+  pub least_promised : (r : RegistryNode) → RegistryAgrees part n r → (l : ℕ) → 0 < l → l ≤ 9 → IsPromisedAbove l (least_horizon l (board_slots r.board))
   least_promised r agreed l some limit = by (nat_le n.promised n.epoch) refl
     where
-      by : (t : Bool) → nat_le n.promised n.epoch ≡ t → IsPromisedAbove l (least_horizon l (all_news r.board))
+      by : (t : Bool) → nat_le n.promised n.epoch ≡ t → IsPromisedAbove l (least_horizon l (board_slots r.board))
       by true fact = record {
         epoch = n.promised;
         promised = omega arith;

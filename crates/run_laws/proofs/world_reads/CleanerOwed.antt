@@ -4,12 +4,12 @@ use Rattle.std.specs.List.{AllByRecursion}
 use Rattle.std.proofs.lemmas.Bool.{leb-true}
 use Rattle.cleaner_serving.specs.declared.emptying.Emptying.{Emptying}
 use Rattle.node_logs.specs.cleaner_log_tie.Owner as cleaner_log
-use Rattle.cleaner_node.specs.CleanerEvents.{Went_to, happens, lasting_of, phase_room, takes}
+use Rattle.cleaner_node.specs.CleanerEvents.{Went_to, happens, lasting_of, phase_has_room, takes}
 use Rattle.cleaner_node.specs.declared.cleaner.Cleaner.{Cleaner as CleanerNode}
 use Rattle.cleaner_node.specs.declared.cleaner.Phase as cleaning
 use Rattle.cleaner_node.specs.declared.cleaner.Phase.TheVariants.{Down, Opening, Serving}
 use Rattle.cleaner_job.specs.declared.lasting.Lasting.{Lasting}
-use Rattle.cleaner_job.specs.Lasting.{lasting_room}
+use Rattle.cleaner_job.specs.Lasting.{lasting_has_room}
 use Rattle.node_logs.specs.client_log_tie.ClientEvents.{ServesStraight}
 use Rattle.node_logs.specs.client_log_tie.Owner.{Scene, SeesStage}
 use Rattle.core_world.specs.declared.any_node.AnyNode.TheVariants as any
@@ -66,14 +66,14 @@ use Rattle.run_laws.specs.world_reads.LoggedRuns.{LoggedRun}
 below_end : (n end room : ℕ) → nat_le n (end - room) ≡ true → 0 < room → 0 < end → n < end
 below_end n end room h some more = (let limit = leb-true n (end - room) h in omega arith)
 
-lasting_below : (l : Lasting) → lasting_room l ≡ true → l.questions.last < u32_end
+lasting_below : (l : Lasting) → lasting_has_room l ≡ true → l.questions.last < u32_end
 lasting_below l h = below_end l.questions.last u32_end counter_room (and_second (has_room l.inc) (has_room l.questions.last) h) (omega arith) (omega arith)
 
 -- no question has the last number, where no counter is near its end
-pub room_below : (p : cleaning.Phase) → phase_room p ≡ true → (lasting_of p).questions.last < u32_end
+pub room_below : (p : cleaning.Phase) → phase_has_room p ≡ true → (lasting_of p).questions.last < u32_end
 room_below (Down l) h = lasting_below l h
-room_below (Opening l o) h = lasting_below l (and_first (lasting_room l) _ h)
-room_below (Serving v) h = lasting_below v.lasting (and_first (lasting_room v.lasting) _ h)
+room_below (Opening l o) h = lasting_below l (and_first (lasting_has_room l) _ h)
+room_below (Serving v) h = lasting_below v.lasting (and_first (lasting_has_room v.lasting) _ h)
 
 -- ---- the event
 
@@ -185,16 +185,16 @@ module _ (law : Below) (logged : LoggedRun) (part count : ℕ) (joint : Joint lo
     -- ---- what it files
 
     -- where a counter is near its end nothing happens
-    nothing : (t : Bool) → phase_room p ≡ t → (t ≡ true → FilesOwed (NewFor part texts.text joint.idx.net p) texts.text 9 joint.idx.net.filed outs)
+    nothing : (t : Bool) → phase_has_room p ≡ t → (t ≡ true → FilesOwed (NewFor part texts.text joint.idx.net p) texts.text 9 joint.idx.net.filed outs)
         → FilesOwed (NewFor part texts.text joint.idx.net p) texts.text 9 joint.idx.net.filed outs
     nothing true fact owed = owed refl
     nothing false fact owed =
         subst (λ (t : Went_to). FilesOwed (NewFor part texts.text joint.idx.net p) texts.text 9 joint.idx.net.filed t.outs)
-        (sym (second_of (phase_room p) (happens node.peers p what) (still p) fact)) tt
+        (sym (second_of (phase_has_room p) (happens node.peers p what) (still p) fact)) tt
 
     serving_so : (v : Emptying) → p ≡ Serving v → FilesOwed (NewFor part texts.text joint.idx.net p) texts.text 9 joint.idx.net.filed outs
     serving_so v fact =
-        nothing (phase_room p) refl
+        nothing (phase_has_room p) refl
         (λ room. serving_files law logged part count joint node what beside.steps beside.sure v fact beside.of_eight
         (event_gets (room_below p room)) asked)
 

@@ -19,7 +19,7 @@ use Rattle.log_law.specs.Net.{Net}
 use Rattle.node_logs.specs.node_log_tie.CleanerEvents.{CleanerSeen, DropOfLog, EmptyingSeen, JobPhaseSeen, JobSeen, MayDrop}
 use Rattle.run_laws.specs.place_law.Hands.{HandRefers, ReadsWithin}
 use Rattle.node_tellings.specs.reading_tie.CleanerMeets.{HandMet, PhaseMet, listed_in}
-use Rattle.registry.specs.Board.{all_news}
+use Rattle.registry.specs.Board.{board_slots}
 use Rattle.segment_format.specs.declared.segment.Segment.{Segment}
 use Rattle.stripe_cleaner.specs.declared.phase.Phase.{Phase}
 use Rattle.stripe_cleaner.specs.declared.phase.Phase.TheVariants.{Reading}
@@ -83,7 +83,7 @@ module _ (logged : LoggedRun) (part count : ℕ) where
 
     module _ (written : WhatFlewIsWritten) (joint : Joint logged part count)
         (reached : (r : Role) → There logged part r → renews r ≡ false
-        → Reached (did e (log_by r) count) (least_horizon (log_by r) (all_news joint.idx.registry.board))) where
+        → Reached (did e (log_by r) count) (least_horizon (log_by r) (board_slots joint.idx.registry.board))) where
       -- it may be dropped, as its log sees that
       abbrev pub MayBeDropped : SegName → Type 0
       MayBeDropped name = (r : Role) (there : There logged part r)
@@ -119,13 +119,13 @@ module _ (logged : LoggedRun) (part count : ℕ) where
             ((lines r f.of.there).stands count).moment f.segment f.among).seq
 
         -- below the least horizon, which is no further than what was filed
-        low_is : (log_at logged part r f.of.there count).low ≡ least_horizon (log_by r) (all_news joint.idx.registry.board)
+        low_is : (log_at logged part r f.of.there count).low ≡ least_horizon (log_by r) (board_slots joint.idx.registry.board)
         low_is = (((lines r f.of.there).stands count).seen Registry (any.Registry joint.idx.registry) joint.index_stands.placed.registry).low
 
         filed : seg.name.seq ≤ joint.idx.net.filed.head (log_by r)
         filed = by (reached r f.of.there keeps)
           where
-            by : Reached (did e (log_by r) count) (least_horizon (log_by r) (all_news joint.idx.registry.board))
+            by : Reached (did e (log_by r) count) (least_horizon (log_by r) (board_slots joint.idx.registry.board))
                 → seg.name.seq ≤ joint.idx.net.filed.head (log_by r)
             by (inl one) = (let b = drop.below in let s = some in let l = low_is in absurd (omega arith))
             by (inr (name, acted, upto)) =
@@ -136,8 +136,8 @@ module _ (logged : LoggedRun) (part count : ℕ) where
         within = record { some = some; filed = subst (λ x. seg.name.seq ≤ joint.idx.net.filed.head x) (sym its_number) filed }
 
         -- and it is below the least horizon that the registry keeps
-        pub below : seg.name.seq < least_horizon seg.name.log.0 (all_news joint.idx.registry.board)
-        below = subst (λ x. seg.name.seq < least_horizon x (all_news joint.idx.registry.board)) (sym its_number)
+        pub below : seg.name.seq < least_horizon seg.name.log.0 (board_slots joint.idx.registry.board)
+        below = subst (λ x. seg.name.seq < least_horizon x (board_slots joint.idx.registry.board)) (sym its_number)
             (subst (λ x. seg.name.seq < x) low_is drop.below)
 
       -- ---- the job

@@ -1,7 +1,7 @@
 -- Where the cleaner's log is open again: what it read back is what was filed, and the log is open as the books of tokens are.
 use Rattle.std.proofs.Common.{◌≡◌, ℕ, Bool, true, false, Option, None, Some, if◌then◌else◌, refl, sym, ap}
 use Rattle.cleaner_serving.specs.declared.emptying.Emptying.{Emptying}
-use Rattle.cleaner_node.specs.CleanerEvents.{after_opening, happens, hears, on_begin, on_deliver, on_time, opening_at, opening_wishes, phase_room, takes}
+use Rattle.cleaner_node.specs.CleanerEvents.{after_opening, happens, cleaner_hear, on_begin, on_deliver, on_time, opening_at, opening_wishes, phase_has_room, takes}
 use Rattle.cleaner_node.specs.CleanerEvents as events
 use Rattle.cleaner_node.specs.declared.cleaner.Phase.TheVariants.{Opening, Serving}
 use Rattle.cleaner_node.specs.declared.cleaner.Wish.{Wish}
@@ -47,7 +47,7 @@ module _ (v : Emptying) where
 
   module _ (l : Lasting) (o : openings.Opening) where
     wishes_not : (m : Lasting) (number : ℕ) (w : Wish) → (opening_wishes m o number w).state ≡ Serving v → ⊥
-    unfolding events.crashes
+    unfolding events.crash
     wishes_not m number Crash fact = absurd cc
     wishes_not m number Restart fact = absurd cc
     wishes_not m number (Clean count) fact = absurd cc
@@ -56,10 +56,10 @@ module _ (v : Emptying) where
     begins_not m None fact = absurd cc
     begins_not m (Some number) fact = wishes_not m number (events.wish_at m.items number) fact
 
-    by_form : (peers : Peers) (packet : Packet) (t : Bool) → (if t then hears (Opening l o) packet else still (Opening l o)).state ≡ Serving v
-        → ComesBack (opening.on_packet o l.questions packet).progress v
-    unfolding hears
-    by_form peers packet true fact = by_progress _ (opening.on_packet o l.questions packet).progress fact
+    by_form : (peers : Peers) (packet : Packet) (t : Bool) → (if t then cleaner_hear (Opening l o) packet else still (Opening l o)).state ≡ Serving v
+        → ComesBack (opening.opening_take o l.questions packet).progress v
+    unfolding cleaner_hear
+    by_form peers packet true fact = by_progress _ (opening.opening_take o l.questions packet).progress fact
     by_form peers packet false fact = absurd cc
 
     by_do : (peers : Peers) (what : Do) → (happens peers (Opening l o) what).state ≡ Serving v → ComesBack (comes_to o l.questions what) v
@@ -75,4 +75,4 @@ module _ (v : Emptying) where
 
   pub comes_back : (l : Lasting) (o : openings.Opening) (peers : Peers) (what : Do) → (takes peers (Opening l o) what).state ≡ Serving v
       → ComesBack (comes_to o l.questions what) v
-  comes_back l o peers what fact = by_room l o peers what (phase_room (Opening l o)) fact
+  comes_back l o peers what fact = by_room l o peers what (phase_has_room (Opening l o)) fact

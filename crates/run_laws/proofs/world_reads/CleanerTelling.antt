@@ -1,8 +1,8 @@
 -- What the small world of tokens is owed of the cleaner: where its log is opened again it is so as the books are, and what is answered Live is a copy.
 use Rattle.std.proofs.Common.{◌≡◌, ◌<◌, ℕ, suc, Bool, true, List, if◌then◌else◌, refl, sym, ap, subst, ◌∙◌}
 use Rattle.cleaner_serving.specs.declared.emptying.Emptying.{Emptying}
-use Rattle.cleaner_serving.specs.EmptyingEvents.{served}
-use Rattle.cleaner_node.specs.CleanerEvents.{after_opening, happens, hears, on_deliver, on_time, phase_room, says_back, takes}
+use Rattle.cleaner_serving.specs.EmptyingEvents.{emptying_back}
+use Rattle.cleaner_node.specs.CleanerEvents.{after_opening, happens, cleaner_hear, on_deliver, on_time, phase_has_room, say_back, takes}
 use Rattle.cleaner_node.specs.declared.cleaner.Cleaner.{Cleaner as CleanerNode}
 use Rattle.cleaner_node.specs.declared.cleaner.Phase as cleaning
 use Rattle.cleaner_node.specs.declared.cleaner.Phase.TheVariants.{Opening, Serving}
@@ -46,26 +46,26 @@ use Rattle.run_laws.specs.world_reads.LoggedRuns.{LoggedRun}
 
 -- no counter is near its end, and a packet that comes is well formed
 pub record IsTaken (peers : Peers) (p : cleaning.Phase) (what : Do) : Type 0 where
-  pub room : phase_room p ≡ true
+  pub room : phase_has_room p ≡ true
   pub formed : (q : Packet) → what ≡ Deliver q → is_well_formed peers q ≡ true
 
 -- the cleaner serves then
 abbrev pub ServesThen : Peers → cleaning.Phase → Do → Type 0
 ServesThen peers p what = (v : Emptying) × ((takes peers p what).state ≡ Serving v)
 
-by_progress : (l : Lasting) (p : Progress) (r : Opened) → p ≡ progress.Opened r → (after_opening l p).state ≡ Serving (says_back (served l r)).state
+by_progress : (l : Lasting) (p : Progress) (r : Opened) → p ≡ progress.Opened r → (after_opening l p).state ≡ Serving (say_back (emptying_back l r)).state
 unfolding after_opening
 by_progress l p r fact = ap (λ (x : Progress). (after_opening l x).state) fact
 
 module _ (l : Lasting) (o : openings.Opening) (peers : Peers) (r : Opened) where
   by_do : (what : Do) → ((q : Packet) → what ≡ Deliver q → is_well_formed peers q ≡ true) → comes_to o l.questions what ≡ progress.Opened r
       → (v : Emptying) × ((happens peers (Opening l o) what).state ≡ Serving v)
-  unfolding on_deliver on_time hears
+  unfolding on_deliver on_time cleaner_hear
   by_do Begin formed fact = absurd cc
   by_do (Deliver q) formed fact = (
     _,
-    ap (λ (t : Bool). (if t then hears (Opening l o) q else still (Opening l o)).state) (formed q refl)
-        ∙ by_progress _ (opening.on_packet o l.questions q).progress r fact,
+    ap (λ (t : Bool). (if t then cleaner_hear (Opening l o) q else still (Opening l o)).state) (formed q refl)
+        ∙ by_progress _ (opening.opening_take o l.questions q).progress r fact,
   )
   by_do Tick formed fact = (_, by_progress _ (opening.on_tick o l.questions).progress r fact)
 

@@ -30,7 +30,7 @@ use Rattle.node_slots.specs.node_index_tie.Sight.{RowsFit}
 use Rattle.node_logs.specs.node_log_tie.RegistryEvents.{RegistrySeen}
 use Rattle.node_slots.specs.owner_index_tie.ClientEvents.{BodyGets, ClientOwed, EventGets, PacketGets, PollGets, ReopensOn, WritesTexts}
 use Rattle.node_slots.specs.owner_index_tie.Owners.{EndOwed}
-use Rattle.registry.specs.Board.{all_news}
+use Rattle.registry.specs.Board.{board_slots}
 use Rattle.run_laws.specs.reopening_law.Reopens.{FiledOf, Reopens}
 use Rattle.segment_format.specs.declared.segment.Item.{Item}
 use Rattle.segment_format.specs.declared.segment.Item.TheVariants.{Block, Delta, Part}
@@ -110,7 +110,7 @@ module _ (logged : LoggedRun) (part : ℕ) (count c : ℕ) (there : There logged
   abbrev pub PollsAreLow : Type 0
   PollsAreLow =
       (packet : Packet) (m : Poll) (s : ServingClient) → what ≡ Deliver packet → packet.body ≡ body.Poll m → m.slot ≡ part → node.phase ≡ clients.Serving s
-      → epoch_of s.tokens.epochs part ≤ m.epoch → least_horizon c (all_news i.registry.board) ≤ of_log (i.net.horizon m.epoch) c
+      → epoch_of s.tokens.epochs part ≤ m.epoch → least_horizon c (board_slots i.registry.board) ≤ of_log (i.net.horizon m.epoch) c
 
   pub registry : RegistrySeen g w.net i.registry.board
   registry = ((lines (OfClient c) there).stands count).seen Registry (any.Registry i.registry) x.joint.index_stands.placed.registry

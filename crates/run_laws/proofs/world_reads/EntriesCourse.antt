@@ -7,10 +7,10 @@ use Rattle.group_map.specs.Groups.{group_of}
 use Rattle.segment_format.specs.declared.segment.Segment.{Segment}
 use Rattle.segment_reading.specs.declared.reading.Next.{Next}
 use Rattle.segment_reading.specs.declared.reading.Next.TheVariants as next
-use Rattle.segment_reading.specs.Reading.{ReadingState, begun, on_answer, on_confirmed}
+use Rattle.segment_reading.specs.Reading.{ReadingState, reading_start, reading_take, on_confirmed}
 use Rattle.stripe_code.specs.declared.round.Told.{Told}
 use Rattle.stripe_code.specs.declared.round.Told.TheVariants as told
-use Rattle.takeover.proofs.Readings.{IsNamed, named-on_answer, target-on_answer, target-on_confirmed}
+use Rattle.takeover.proofs.Readings.{IsNamed, named-reading_take, target-reading_take, target-on_confirmed}
 use Rattle.takeover.specs.Course.{Course, after_input, after_inputs, course_of, and_of, read_after, read_at, read_by, read_in, segment_of}
 use Rattle.takeover.specs.declared.input.In.{In as Input}
 use Rattle.takeover.specs.declared.input.In.TheVariants as input
@@ -20,8 +20,8 @@ use Rattle.takeover.specs.declared.source.Source.{Source}
 use Rattle.takeover.specs.ReadBack.{Read, and_read, nothing_read}
 use Rattle.takeover.specs.Rows.{told_of}
 use Rattle.takeover.specs.Sources.{back_from, goes_back, sources_of}
-use Rattle.takeover.specs.TakeState.{TakeState, started}
-use Rattle.takeover.specs.Transition.{Done, again, awaited, awaits, begun_if_all, can_ask, confirmed_as, go_on, goes_on_from, has_read, judged_as, next_of, on_maps, on_report, on_told, reads, sought, sought_again, sought_over, target_of, told_at, told_in, transition, waiting, waits_in, with_chain}
+use Rattle.takeover.specs.TakeState.{TakeState, take_start}
+use Rattle.takeover.specs.Transition.{Done, again, awaited, awaits, begin_if_all, can_ask, confirmed_as, go_on, go_on_from, has_read, take_follow, next_of, on_maps, on_report, on_told, take_read, seek, sought_again, sought_over, target_of, told_at, take_judge, transition, waiting, present_waiting, join_chain}
 use Rattle.node_tellings.proofs.part_tie.Same.{go_on_same, maps_same, told_same}
 use Rattle.xfs_base.proofs.Booleans.{by_test}
 use Rattle.xfs_base.specs.declared.news.SlotNews.{SlotNews}
@@ -59,7 +59,7 @@ module _ (So : Segment → Type 0) where
 
   abbrev CompletedIn : TakeState → Option ReadingState → ℕ → ℕ → Told → Type 0
   CompletedIn s None ask server t = Unit {0}
-  CompletedIn s (Some reading) ask server t = Completed (segment_of (on_answer reading s.groups ask server t).next)
+  CompletedIn s (Some reading) ask server t = Completed (segment_of (reading_take reading s.groups ask server t).next)
 
   abbrev CompletedAt : TakeState → Option Present → ℕ → ℕ → Told → Type 0
   CompletedAt s None ask server t = Unit {0}
@@ -77,7 +77,7 @@ module _ (So : Segment → Type 0) where
     where
       by : (o : Option ReadingState) → AllRead So (read_in s r p o ask server t) → CompletedIn s o ask server t × AllRead So r
       by None all = (tt, all)
-      by (Some reading) all = before_one r p (segment_of (on_answer reading s.groups ask server t).next) all
+      by (Some reading) all = before_one r p (segment_of (reading_take reading s.groups ask server t).next) all
 
   before_by : (s : TakeState) (r : Read) (ask server : ℕ) (t : Told) → AllRead So (read_by s r ask server t)
       → (can_ask s ≡ true → CompletedAt s s.present ask server t) × AllRead So r
@@ -100,7 +100,7 @@ module _ (Good : Report → Type 0) where
   earlier_report : (s : TakeState) (report : Report) → AllByRecursion Good (on_report s report).state.reports → AllByRecursion Good s.reports
   unfolding on_report
   earlier_report s report =
-      by_test (λ (d : Done). AllByRecursion Good d.state.reports → AllByRecursion Good s.reports) (can_ask s && awaits s report.from) (begun_if_all heard)
+      by_test (λ (d : Done). AllByRecursion Good d.state.reports → AllByRecursion Good s.reports) (can_ask s && awaits s report.from) (begin_if_all heard)
       (still s)
       (λ _. begins) (λ _ good. good)
     where
@@ -113,7 +113,7 @@ module _ (Good : Report → Type 0) where
       before : AllByRecursion Good heard.reports → AllByRecursion Good s.reports
       before good = (all_of_both Good s.reports (report ∷ []) good).0
 
-      begins : AllByRecursion Good (begun_if_all heard).state.reports → AllByRecursion Good s.reports
+      begins : AllByRecursion Good (begin_if_all heard).state.reports → AllByRecursion Good s.reports
       begins =
           by_test (λ (d : Done). AllByRecursion Good d.state.reports → AllByRecursion Good s.reports) (length (awaited heard) == 0) (go_on all) (still heard)
           (λ _ good. before (subst (AllByRecursion Good) (go_on_same all).1 good)) (λ _ good. before good)
@@ -150,17 +150,17 @@ module _ (SourceSo : Source → Type 0) (So : Segment → Type 0) (Good : Report
   abbrev Goes : Done → Type 0
   Goes d = SourcesSo d.state
 
-  reads_so : (s : TakeState) (source : Source) (r : Option ReadingState) → Ready s → SourceSo source → LooksFor source r → SourcesSo (reads s source r)
-  reads_so s source r ready so looks = record { of = ready.of; behind = ready.behind; present = (so, looks) }
+  take_read_so : (s : TakeState) (source : Source) (r : Option ReadingState) → Ready s → SourceSo source → LooksFor source r → SourcesSo (take_read s source r)
+  take_read_so s source r ready so looks = record { of = ready.of; behind = ready.behind; present = (so, looks) }
 
-  sought_on : (s : TakeState) (source : Source) → Ready s → SourceSo source → Goes (sought s source)
-  unfolding sought
+  sought_on : (s : TakeState) (source : Source) → Ready s → SourceSo source → Goes (seek s source)
+  unfolding seek
   sought_on s source ready so = by (group_of s.groups source.seg.group)
     where
       by : (group : Option Group) → Goes (sought_over s source group)
-      by None = reads_so s source None ready so tt
+      by None = take_read_so s source None ready so tt
       by (Some group) =
-          reads_so (record s { ask = s.ask + 1 }) source (Some (begun (target_of source) group (s.ask + 1)))
+          take_read_so (record s { ask = s.ask + 1 }) source (Some (reading_start (target_of source) group (s.ask + 1)))
           (record { of = ready.of; behind = ready.behind }) so refl
 
   go_on-on : (s : TakeState) → Ready s → Goes (go_on s)
@@ -181,9 +181,9 @@ module _ (SourceSo : Source → Type 0) (So : Segment → Type 0) (Good : Report
       more = record s { chain = told_of s.news.slot segment ∷ s.chain }
 
       by : (left : Option Source) → back_from source segment ≡ left
-          → Goes (goes_on_from (record s { chain = told_of s.news.slot segment ∷ s.chain }) left)
+          → Goes (go_on_from (record s { chain = told_of s.news.slot segment ∷ s.chain }) left)
       by None fact =
-          go_on-on (with_chain (record s { chain = told_of s.news.slot segment ∷ s.chain }))
+          go_on-on (join_chain (record s { chain = told_of s.news.slot segment ∷ s.chain }))
           (record { of = ready.of; behind = ready.behind })
       by (Some left) fact =
           sought_on (record s { chain = told_of s.news.slot segment ∷ s.chain }) left
@@ -195,19 +195,19 @@ module _ (SourceSo : Source → Type 0) (So : Segment → Type 0) (Good : Report
     where
       by : (q : ReadingState) (n : Next) → q.target ≡ target_of source → Goes (confirmed_as s source q n)
       by q next.Ask its =
-          reads_so (record s { ask = s.ask + 1 }) source (Some q) (record { of = ready.of; behind = ready.behind }) so its
+          take_read_so (record s { ask = s.ask + 1 }) source (Some q) (record { of = ready.of; behind = ready.behind }) so its
       by q next.Lost its = record { of = ready.of; behind = tt; present = tt }
-      by q next.Wait its = reads_so s source (Some q) ready so its
-      by q next.Again its = reads_so s source (Some q) ready so its
-      by q (next.Read segment) its = reads_so s source (Some q) ready so its
+      by q next.Wait its = take_read_so s source (Some q) ready so its
+      by q next.Again its = take_read_so s source (Some q) ready so its
+      by q (next.Read segment) its = take_read_so s source (Some q) ready so its
 
   judged_on : (s : TakeState) (source : Source) (q : ReadingState) (n : Next) → Ready s → SourceSo source → q.target ≡ target_of source
-      → IsNamed (target_of source) n → Completed So (segment_of n) → Goes (judged_as s source q n)
+      → IsNamed (target_of source) n → Completed So (segment_of n) → Goes (take_follow s source q n)
   judged_on s source q next.Again ready so looks named done = again_on s source q ready so looks
   judged_on s source q (next.Read segment) ready so looks named done = has_read-on s source segment ready so named (done segment refl)
-  judged_on s source q next.Wait ready so looks named done = reads_so s source (Some q) ready so looks
-  judged_on s source q next.Ask ready so looks named done = reads_so s source (Some q) ready so looks
-  judged_on s source q next.Lost ready so looks named done = reads_so s source (Some q) ready so looks
+  judged_on s source q next.Wait ready so looks named done = take_read_so s source (Some q) ready so looks
+  judged_on s source q next.Ask ready so looks named done = take_read_so s source (Some q) ready so looks
+  judged_on s source q next.Lost ready so looks named done = take_read_so s source (Some q) ready so looks
 
   told_on : (s : TakeState) (ask server : ℕ) (t : Told) → SourcesSo s → (can_ask s ≡ true → CompletedAt So s s.present ask server t)
       → Goes (on_told s ask server t)
@@ -219,12 +219,12 @@ module _ (SourceSo : Source → Type 0) (So : Segment → Type 0) (Good : Report
       ready = record { of = h.of; behind = h.behind }
 
       by_reading : (source : Source) (r : Option ReadingState) → SourceSo source → LooksFor source r → CompletedIn So s r ask server t
-          → Goes (told_in (record s { present = None }) source r ask server t)
-      by_reading source None so looks completes = reads_so (record s { present = None }) source None ready so tt
+          → Goes (take_judge (record s { present = None }) source r ask server t)
+      by_reading source None so looks completes = take_read_so (record s { present = None }) source None ready so tt
       by_reading source (Some r) so looks completes =
-          judged_on (record s { present = None }) source (on_answer r s.groups ask server t).state (on_answer r s.groups ask server t).next ready so
-          (target-on_answer r s.groups ask server t ∙ looks)
-          (subst (λ target. IsNamed target (on_answer r s.groups ask server t).next) looks (named-on_answer r s.groups ask server t)) completes
+          judged_on (record s { present = None }) source (reading_take r s.groups ask server t).state (reading_take r s.groups ask server t).next ready so
+          (target-reading_take r s.groups ask server t ∙ looks)
+          (subst (λ target. IsNamed target (reading_take r s.groups ask server t).next) looks (named-reading_take r s.groups ask server t)) completes
 
       by : (o : Option Present) → PresentSo o → CompletedAt So s o ask server t → Goes (told_at (record s { present = None }) o ask server t)
       by None so completes = record { of = h.of; behind = h.behind; present = tt }
@@ -237,9 +237,9 @@ module _ (SourceSo : Source → Type 0) (So : Segment → Type 0) (Good : Report
       kept : SourcesSo (record s { groups = groups })
       kept = record { of = h.of; behind = h.behind; present = h.present }
 
-      by_reading : (source : Source) (r : Option ReadingState) → SourceSo source → Goes (sought_again (record s { groups = groups }) (waits_in source r))
+      by_reading : (source : Source) (r : Option ReadingState) → SourceSo source → Goes (sought_again (record s { groups = groups }) (present_waiting source r))
       by_reading source None so =
-          by_test Goes (can_ask s) (sought (record s { groups = groups }) source) (still (record s { groups = groups }))
+          by_test Goes (can_ask s) (seek (record s { groups = groups }) source) (still (record s { groups = groups }))
           (λ _. sought_on (record s { groups = groups }) source (record { of = h.of; behind = h.behind }) so) (λ _. kept)
       by_reading source (Some r) so = kept
 
@@ -252,7 +252,7 @@ module _ (SourceSo : Source → Type 0) (So : Segment → Type 0) (Good : Report
   reports_on : (s : TakeState) (report : Report) → SourcesSo s → AllByRecursion Good (on_report s report).state.reports → Goes (on_report s report)
   unfolding on_report
   reports_on s report h =
-      by_test (λ (d : Done). AllByRecursion Good d.state.reports → Goes d) (can_ask s && awaits s report.from) (begun_if_all heard) (still s)
+      by_test (λ (d : Done). AllByRecursion Good d.state.reports → Goes d) (can_ask s && awaits s report.from) (begin_if_all heard) (still s)
       (λ _. begins) (λ _ _. h)
     where
       heard : TakeState
@@ -261,7 +261,7 @@ module _ (SourceSo : Source → Type 0) (So : Segment → Type 0) (Good : Report
       all : TakeState
       all = record heard { sources = sources_of heard.news heard.reports }
 
-      begins : AllByRecursion Good (begun_if_all heard).state.reports → Goes (begun_if_all heard)
+      begins : AllByRecursion Good (begin_if_all heard).state.reports → Goes (begin_if_all heard)
       begins =
           by_test (λ (d : Done). AllByRecursion Good d.state.reports → Goes d) (length (awaited heard) == 0) (go_on all) (still heard)
           (λ _ good. go_on-on all (record {
@@ -305,4 +305,4 @@ module _ (SourceSo : Source → Type 0) (So : Segment → Type 0) (Good : Report
   pub its_sources : (groups : GroupMapState) (clients : ℕ) (inputs : List Input) → CourseSo (course_of news groups clients inputs)
       → SourcesSo (course_of news groups clients inputs).state
   its_sources groups clients inputs =
-      course_so (record { state = started news groups clients; read = nothing_read }) inputs (record { of = refl; behind = tt; present = tt })
+      course_so (record { state = take_start news groups clients; read = nothing_read }) inputs (record { of = refl; behind = tt; present = tt })

@@ -33,10 +33,10 @@ use Rattle.segment_format.specs.Rows.{row_of, rows_of}
 use Rattle.segment_reading.specs.declared.reading.Next.{Next}
 use Rattle.segment_reading.specs.declared.reading.Next.TheVariants as next
 use Rattle.segment_reading.specs.declared.target.Target.{Target}
-use Rattle.segment_reading.specs.Reading.{on_answer}
+use Rattle.segment_reading.specs.Reading.{reading_take}
 use Rattle.stripe_code.specs.declared.round.Told.{Told as Answered}
 use Rattle.stripe_code.specs.declared.round.Told.TheVariants as answered
-use Rattle.takeover.proofs.Readings.{IsNamed, named-on_answer}
+use Rattle.takeover.proofs.Readings.{IsNamed, named-reading_take}
 use Rattle.takeover.specs.Course.{segment_of}
 use Rattle.takeover.specs.declared.source.Present.{Present}
 use Rattle.takeover.specs.declared.source.Source.{Source}
@@ -172,10 +172,10 @@ module _ (base : Setting) (e : Estate AnyNode) (lines : HasLines base e) (texts 
         λ present reading segment at fact done.
         (let there = reads_there slot texts.text k.net k.filed k.are_texts t.epoch t.take agrees present at in
         let looks : reading.target ≡ target_of present.source = subst (LooksFor present.source) fact there.looks in
-        let after = (on_answer reading t.take.groups own server answer).next in
+        let after = (reading_take reading t.take.groups own server answer).next in
         source_read t.epoch t.take agrees flew present at segment t.take.news.slot
         (completed_named (target_of present.source) after segment
-        (subst (λ target. IsNamed target after) looks (named-on_answer reading t.take.groups own server answer)) done)
+        (subst (λ target. IsNamed target after) looks (named-reading_take reading t.take.groups own server answer)) done)
         (completes t own segment refl fetched
         (subst (λ o. completes_at t.take o own server answer ≡ Some segment) (sym at)
         (subst (λ o. completes_in t.take o own server answer ≡ Some segment) (sym fact) done))).text)

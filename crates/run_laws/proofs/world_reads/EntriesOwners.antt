@@ -4,7 +4,7 @@ use Rattle.std.proofs.Common.{◌≡◌, ◌≤◌, ◌<◌, ℕ, suc, true, Lis
 use Rattle.std.specs.Prelude.{Contains, IfSome}
 use Rattle.std.specs.List.{AllByRecursion}
 use Rattle.client_log.specs.LogState.{LogState}
-use Rattle.client_log.specs.Transition.{end_from}
+use Rattle.client_log.specs.Transition.{end_of}
 use Rattle.core_world.specs.AnyNode.{any_step}
 use Rattle.core_world.specs.declared.any_node.AnyNode.{AnyNode}
 use Rattle.node_tellings.proofs.entry_tie.Frames.{contains_all}
@@ -129,7 +129,7 @@ module _ (logged : LoggedRun) (part count : ℕ) (r : Role) (there : There logge
         flew = subst (λ (o : Option FlightState). IfSome o (λ (f : FlightState). tables.In f.segment net.flown)) flies
             (subst (OwnerFlew net.flown) serves owner_flew)
 
-        named : name_of log (end_from flight.segment) ≡ flight.segment.name
+        named : name_of log (end_of flight.segment) ≡ flight.segment.name
         named = ap (λ (k : LogId). record { log = k; seq = flight.segment.name.seq; pass = flight.segment.name.pass })
             (own ∙ sym (x.sure.own) ∙ sym (of_log g net (line.stands count).moment flight.segment flew))
 

@@ -15,7 +15,7 @@ use Rattle.client_node.specs.Phases.{client_step}
 use Rattle.core_world.specs.AnyNode.{any_start, any_step}
 use Rattle.core_world.specs.declared.any_node.AnyNode.{AnyNode}
 use Rattle.core_world.specs.declared.any_node.AnyNode.TheVariants as any
-use Rattle.client_log.specs.Transition.{end_from}
+use Rattle.client_log.specs.Transition.{end_of}
 use Rattle.node_tellings.specs.entry_tie.CleanerTells as cleaner_entries
 use Rattle.node_tellings.specs.entry_tie.CleanerTells.{CleanerOwed}
 use Rattle.node_tellings.specs.entry_tie.ClientTells as client_entries
@@ -347,7 +347,7 @@ module _ (logged : LoggedRun) (part count : ℕ) where
                     let its_log : log_of s.lasting.number ≡ s.writer.log =
                     ap log_of its.lasts.number ∙ (sym its.log.own.log ∙ writes.same_log) in
                     subst (λ (l : LogId). In (act.Filed (record { log = l; seq = flight.segment.name.seq; pass = flight.segment.name.pass }))
-                    (did e (log_by (OfManager j)) (suc count))) its_log (done (name_of (log_of s.lasting.number) (end_from flight.segment)) acted);
+                    (did e (log_by (OfManager j)) (suc count))) its_log (done (name_of (log_of s.lasting.number) (end_of flight.segment)) acted);
               })
 
       any_flies : Flies node

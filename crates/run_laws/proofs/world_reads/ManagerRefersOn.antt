@@ -10,7 +10,7 @@ use Rattle.cleaner_node.specs.declared.cleaner.Cleaner.{Cleaner as CleanerNode}
 use Rattle.cleaner_node.specs.declared.cleaner.Phase as cleaning_phase
 use Rattle.cleaner_node.specs.declared.cleaner.Phase.TheVariants as cleaning
 use Rattle.client_log.specs.LogState.{LogState}
-use Rattle.client_log.specs.Transition.{end_from}
+use Rattle.client_log.specs.Transition.{end_of}
 use Rattle.node_logs.specs.client_log_tie.Owner as client_log
 use Rattle.node_logs.specs.client_log_tie.Owner.{Scene, SeesLog}
 use Rattle.client_node.specs.declared.client.Client.{Client as ClientNode}
@@ -280,7 +280,7 @@ module _ (logged : LoggedRun) (part count : ℕ) (laws : Below) (joint : Joint l
 
         by : (o : Option FlightState) → s.log.flight ≡ o → IfSome o (λ f. f.segment.name.log ≡ gm.log)
             → IfSome o (λ (f : FlightState). tables.In f.segment wm.net.flown)
-            → IfSome o (λ (f : FlightState). Flew logged part count (part_at s.writer.log (end_from f.segment)))
+            → IfSome o (λ (f : FlightState). Flew logged part count (part_at s.writer.log (end_of f.segment)))
         by None fact own flew = tt
         by (Some f) fact own flew = record {
           of = record { role = OfManager j; there = there; own = same };

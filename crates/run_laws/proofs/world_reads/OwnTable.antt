@@ -13,7 +13,7 @@ use Rattle.node_logs.specs.node_log_tie.RegistryEvents.{RegistrySeen}
 use Rattle.node_base.specs.Setups.{IsSetup}
 use Rattle.node_slots.specs.node_index_tie.Sight.{held_in}
 use Rattle.node_slots.specs.owner_index_tie.ServerEvents.{ServerEventGoes}
-use Rattle.registry.specs.Board.{all_news}
+use Rattle.registry.specs.Board.{board_slots}
 use Rattle.registry_node.specs.declared.node.RegistryNode.{RegistryNode}
 use Rattle.token_protocol.specs.Basics.{In}
 use Rattle.version_model.specs.declared.act.Act.TheVariants as act
@@ -82,7 +82,7 @@ module _ (give : LinesGive) (whole : LogsStayWhole) (one : OneNameOneText) (of_l
 
   abbrev Chained : ℕ → Type 0
   Chained l = (q : ℕ) (registry : RegistryNode) → node_named (moment e count) Registry ≡ Some (any.Registry registry) → 0 < q
-      → least_horizon l (all_news registry.board) ≤ q → q < f.head l
+      → least_horizon l (board_slots registry.board) ≤ q → q < f.head l
       → (f.segment l (suc q)).prior.pass ≡ (f.segment l q).name.pass
 
   module _ (r : Role) (there : There logged part r) (keeps : renews r ≡ false) where
@@ -118,7 +118,7 @@ module _ (give : LinesGive) (whole : LogsStayWhole) (one : OneNameOneText) (of_l
         let here : node_in (moment e count).nodes (place_of (cluster_of e.script.setup) Registry) ≡ Some (any.Registry registry) =
         subst (λ (k : Cluster). node_in (moment e count).nodes (place_of k Registry) ≡ Some (any.Registry registry)) (moment_cluster e count) at in
         let seen : RegistrySeen (setting base e r) net registry.board = ((lines r there).stands count).seen Registry (any.Registry registry) here in
-        let its_low : net.low ≡ least_horizon l (all_news registry.board) = seen.low in
+        let its_low : net.low ≡ least_horizon l (board_slots registry.board) = seen.low in
         gives.linked q (f.head l) some (omega (arith, its_low, low)) (omega arith) q (omega arith) limit
 
   -- ---- all logs

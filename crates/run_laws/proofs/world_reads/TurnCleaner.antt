@@ -3,12 +3,12 @@ use Rattle.std.proofs.Common.{◌≡◌, ℕ, suc, ◌≤◌, ◌<◌, inr, ◌-
 use Rattle.std.proofs.lemmas.Bool.{leb-true}
 use Rattle.cleaner_serving.specs.declared.emptying.Emptying.{Emptying}
 use Rattle.node_logs.specs.cleaner_log_tie.Owner as log_tie
-use Rattle.cleaner_node.specs.CleanerEvents.{Went_to, cleaner_step, happens, lasting_of, phase_room, takes}
+use Rattle.cleaner_node.specs.CleanerEvents.{Went_to, cleaner_step, happens, lasting_of, phase_has_room, takes}
 use Rattle.cleaner_node.specs.declared.cleaner.Cleaner.{Cleaner as CleanerNode}
 use Rattle.cleaner_node.specs.declared.cleaner.Phase.{Phase}
 use Rattle.cleaner_node.specs.declared.cleaner.Phase.TheVariants.{Down, Opening, Serving as Serves}
 use Rattle.cleaner_job.specs.declared.lasting.Lasting.{Lasting}
-use Rattle.cleaner_job.specs.Lasting.{lasting_room}
+use Rattle.cleaner_job.specs.Lasting.{lasting_has_room}
 use Rattle.node_logs.specs.client_log_tie.ClientEvents.{ServesStraight}
 use Rattle.node_logs.specs.client_log_tie.Owner.{Scene}
 use Rattle.core_world.specs.AnyNode.{any_step}
@@ -80,13 +80,13 @@ use Rattle.run_laws.specs.world_reads.LoggedRuns.{LoggedRun}
 below_end : (x end room : ℕ) → nat_le x (end - room) ≡ true → 0 < room → 0 < end → x < end
 below_end x end room h some more = (let limit = leb-true x (end - room) h in omega arith)
 
-lasting_below : (l : Lasting) → lasting_room l ≡ true → l.questions.last < u32_end
+lasting_below : (l : Lasting) → lasting_has_room l ≡ true → l.questions.last < u32_end
 lasting_below l h = below_end l.questions.last u32_end counter_room (and_second (has_room l.inc) (has_room l.questions.last) h) (omega arith) (omega arith)
 
-room_below : (p : Phase) → phase_room p ≡ true → (lasting_of p).questions.last < u32_end
+room_below : (p : Phase) → phase_has_room p ≡ true → (lasting_of p).questions.last < u32_end
 room_below (Down l) h = lasting_below l h
-room_below (Opening l o) h = lasting_below l (and_first (lasting_room l) _ h)
-room_below (Serves e) h = lasting_below e.lasting (and_first (lasting_room e.lasting) _ h)
+room_below (Opening l o) h = lasting_below l (and_first (lasting_has_room l) _ h)
+room_below (Serves e) h = lasting_below e.lasting (and_first (lasting_has_room e.lasting) _ h)
 
 module _ (laws : Below) (logged : LoggedRun) (part : ℕ) (of_eight : part < slot_count) (apart : TellsApart logged.base) (count : ℕ) (event : Event)
     (at_event : slice_get logged.estate.events count ≡ Some event) (cluster : (moment logged.estate count).cluster ≡ k logged part)
@@ -205,12 +205,12 @@ module _ (laws : Below) (logged : LoggedRun) (part : ℕ) (of_eight : part < slo
 
   -- what it acts to be filed is what it has in flight
   flights : IfSome (last_flight at.run) (λ f. IsCopies f.segment) → (v : Emptying) → x.phase ≡ Serves v → AllSo (IsFlight v.log) outs
-  flights kind v fact = by (phase_room x.phase) refl
+  flights kind v fact = by (phase_has_room x.phase) refl
     where
       flies : last_flight at.run ≡ v.log.flight
       flies = served_last g _ w.net at.run v.log (subst (log_tie.CleanerAgrees g w) fact sees).log.owner
 
-      by : (t : Bool) → phase_room x.phase ≡ t → AllSo (IsFlight v.log) outs
+      by : (t : Bool) → phase_has_room x.phase ≡ t → AllSo (IsFlight v.log) outs
       by true room = (laws.filing.cleaner_files_its_flights part texts.text g w b.idx.net x what v of_eight sure_before
           (now.cleaner_owns logged part count b).room
           (subst (λ (o : Option FlightState). IfSome o (λ f. SaysBlocks f.segment)) flies (says (last_flight at.run) kind)) sees fact indexed

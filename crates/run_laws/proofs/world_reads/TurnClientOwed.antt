@@ -3,7 +3,7 @@ use Rattle.std.proofs.Common.{◌≡◌, ℕ, suc, ◌<◌, Bool, true, Some, if
 use Rattle.client_node.specs.declared.client.Client.{Client as ClientNode}
 use Rattle.client_node.specs.declared.phase.Phase.TheVariants as clients
 use Rattle.client_node.specs.declared.phase.Phase.{Phase}
-use Rattle.client_node.specs.Phases.{after_opening, happens, on_deliver, on_time, takes}
+use Rattle.client_node.specs.Phases.{phase_after, happens, on_deliver, client_tick, takes}
 use Rattle.client_serving.specs.declared.lasting.Lasting.{Lasting}
 use Rattle.client_serving.specs.declared.serving.Serving.{Serving}
 use Rattle.core_world.specs.AnyNode.{any_start, any_step}
@@ -54,24 +54,24 @@ abbrev ServesThen : ClientNode → Do → Type 0
 ServesThen node what = (s : Serving) × ((takes node what).state ≡ clients.Serving s)
 
 by_progress : (l : Lasting) (capacity : ℕ) (p : Progress) (r : Opened) → p ≡ progress.Opened r
-    → (s : Serving) × ((after_opening l capacity p).state ≡ clients.Serving s)
-by_progress l capacity p r fact = (_, ap (λ (x : Progress). (after_opening l capacity x).state) fact)
+    → (s : Serving) × ((phase_after l capacity p).state ≡ clients.Serving s)
+by_progress l capacity p r fact = (_, ap (λ (x : Progress). (phase_after l capacity x).state) fact)
 
 module _ (node : ClientNode) (l : Lasting) (o : Opening) (opens : node.phase ≡ clients.Opening l o) (r : Opened) where
   delivered : (q : Packet) → comes_to o l.questions (Deliver q) ≡ progress.Opened r
       → (s : Serving) × ((on_deliver node.cache node.phase q).state ≡ clients.Serving s)
   unfolding on_deliver
   delivered q fact =
-      let x = opening.on_packet o l.questions q in
+      let x = opening.opening_take o l.questions q in
       let s = by_progress (record l { questions = x.questions }) node.cache x.progress r fact in
       (s.0, ap (λ (p : Phase). (on_deliver node.cache p q).state) opens ∙ s.1)
 
-  timed : comes_to o l.questions Tick ≡ progress.Opened r → (s : Serving) × ((on_time node.cache node.phase).state ≡ clients.Serving s)
-  unfolding on_time
+  timed : comes_to o l.questions Tick ≡ progress.Opened r → (s : Serving) × ((client_tick node.cache node.phase).state ≡ clients.Serving s)
+  unfolding client_tick
   timed fact =
       let x = opening.on_tick o l.questions in
       let s = by_progress (record l { questions = x.questions }) node.cache x.progress r fact in
-      (s.0, ap (λ (p : Phase). (on_time node.cache p).state) opens ∙ s.1)
+      (s.0, ap (λ (p : Phase). (client_tick node.cache p).state) opens ∙ s.1)
 
   by_do : (what : Do) → IsTaken node what → comes_to o l.questions what ≡ progress.Opened r
       → (s : Serving) × ((happens node what).state ≡ clients.Serving s)

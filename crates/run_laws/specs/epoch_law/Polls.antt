@@ -10,7 +10,7 @@ use Rattle.index_tie.specs.Net.{Net, Runs, opening}
 use Rattle.headline.specs.Indexes.{of_log}
 use Rattle.log_scan.specs.Transition.{least_horizon}
 use Rattle.headline.specs.Filed.{Texts}
-use Rattle.registry.specs.Board.{all_news}
+use Rattle.registry.specs.Board.{board_slots}
 use Rattle.segment_format.specs.declared.segment.Segment.{Segment}
 use Rattle.token_client.specs.State.{epoch_of}
 use Rattle.token_protocol.specs.Basics.{In}
@@ -40,7 +40,7 @@ pub record PollSent (part : ℕ) (sent : List Packet) (m : Poll) : Type 0 where
 
 -- the horizon of a log at an epoch is at or above the least one of the log that the registry keeps
 abbrev pub IsLow : places.Scene → ℕ → ℕ → Type 0
-IsLow i e l = least_horizon l (all_news i.registry.board) ≤ of_log (i.net.horizon e) l
+IsLow i e l = least_horizon l (board_slots i.registry.board) ≤ of_log (i.net.horizon e) l
 
 -- So it is of each log at an epoch that is polled, where a client that serves has promised no later one.
 abbrev pub ClientPollsAreLow : Type 0

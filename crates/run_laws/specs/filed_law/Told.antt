@@ -13,7 +13,7 @@ use Rattle.node_tellings.specs.filed_tie.RegistryReach.{RegistryReaches}
 use Rattle.node_tellings.specs.filed_tie.ServerReach.{ServerReaches}
 use Rattle.log_protocol.specs.Tables.{In}
 use Rattle.log_scan.specs.Transition.{least_horizon}
-use Rattle.registry.specs.Board.{all_news}
+use Rattle.registry.specs.Board.{board_slots}
 use Rattle.script_text.specs.declared.script.Script.{Script}
 use Rattle.registry_node.specs.declared.node.RegistryNode.{RegistryNode}
 use Rattle.version_model.specs.declared.act.Act.{Act}
@@ -52,7 +52,7 @@ HorizonWasFiled acts log low = (low ≤ 1) ⊎ FiledBelow acts log low
 abbrev pub HorizonsWereFiled : World AnyNode → Type 0
 HorizonsWereFiled w =
     (registry : RegistryNode) (log : ℕ) → In (any.Registry registry) w.nodes → 1 ≤ log → HorizonWasFiled w.acts log
-    (least_horizon log (all_news registry.board))
+    (least_horizon log (board_slots registry.board))
 
 -- ---- the laws
 

@@ -4,7 +4,7 @@ use Rattle.client_node.specs.declared.client.Client.{Client}
 use Rattle.client_node.specs.declared.phase.Phase.TheVariants.{Down, Opening, Serving as Serves}
 use Rattle.client_node.specs.declared.phase.Phase.{Phase}
 use Rattle.client_node.specs.Phases.{takes}
-use Rattle.client_node.specs.Starting.{first_client}
+use Rattle.client_node.specs.Starting.{client_start}
 use Rattle.client_call.specs.Reads.{reading_in}
 use Rattle.client_serving.specs.declared.serving.Serving.{Serving}
 use Rattle.client_serving.specs.Flights.{held_at}
@@ -50,7 +50,7 @@ PhaseReadsItsFetch (Serves s) = ReadsItsFetch s
 
 -- So it is at the start, and after each event, whatever a packet says.
 abbrev pub ClientsStartSo : Type 0
-ClientsStartSo = (number : ℕ) (setup : Setup) (works : List Work) → PhaseReadsItsFetch (first_client number setup works).phase
+ClientsStartSo = (number : ℕ) (setup : Setup) (works : List Work) → PhaseReadsItsFetch (client_start number setup works).phase
 
 abbrev pub ClientsKeepSo : Type 0
 ClientsKeepSo = (client : Client) (what : Do) → PhaseReadsItsFetch client.phase → PhaseReadsItsFetch (takes client what).state

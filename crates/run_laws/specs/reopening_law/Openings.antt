@@ -60,7 +60,7 @@ EndsSo g c o (progress.Opened r) =
 abbrev pub OpeningsEndByOne : Type 0
 OpeningsEndByOne =
     (g : Setting) (c : ℕ) (o : Opening) (q : Questions)
-    → ((p : Packet) → EndsSo g c o (opens.on_packet o q p).progress) × EndsSo g c o (opens.on_tick o q).progress
+    → ((p : Packet) → EndsSo g c o (opens.opening_take o q p).progress) × EndsSo g c o (opens.on_tick o q).progress
 
 -- It is the event that ends a restart there, where no restart that ended was doubtful, and contents tell items apart.
 abbrev pub EndsAreReopenings : Type 0
@@ -73,7 +73,7 @@ EndsAreReopenings =
 
 -- what an opening comes to in an event
 abbrev pub comes_to : Opening → Questions → Do → Progress
-comes_to o q (Deliver packet) = (opens.on_packet o q packet).progress
+comes_to o q (Deliver packet) = (opens.opening_take o q packet).progress
 comes_to o q Tick = (opens.on_tick o q).progress
 comes_to o q Begin = progress.Opening o
 

@@ -4,7 +4,7 @@ use Rattle.client_node.specs.declared.client.Client.{Client}
 use Rattle.client_node.specs.declared.phase.Phase.{Phase}
 use Rattle.client_node.specs.declared.phase.Phase.TheVariants.{Down, Opening, Serving as Serves}
 use Rattle.client_node.specs.Phases.{client_step}
-use Rattle.client_node.specs.Starting.{first_client}
+use Rattle.client_node.specs.Starting.{client_start}
 use Rattle.log_owner.specs.declared.opening.Stage.{Stage}
 use Rattle.log_owner.specs.declared.opening.Stage.TheVariants as stage
 use Rattle.node_slots.specs.node_tie.AskingEvents.{PhaseAsks}
@@ -25,7 +25,7 @@ ClientWrites (Serves s) = WritesOriginals s.log
 
 -- at the start nothing waits, and nothing is in flight
 abbrev pub ClientsStartWriting : Type 0
-ClientsStartWriting = (number : ℕ) (setup : Setup) (works : List Work) → ClientWrites (first_client number setup works).phase
+ClientsStartWriting = (number : ℕ) (setup : Setup) (works : List Work) → ClientWrites (client_start number setup works).phase
 
 -- Whatever happens to a client that asks for its call, what waits and what is in flight after the event is so, where it was before. So what it acts to be filed
 -- while it serves, which was in flight before the event, was so.

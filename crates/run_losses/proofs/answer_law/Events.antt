@@ -1,6 +1,6 @@
 -- What an event of a node answers, read off its moves: that a segment is lost only of an item that had begun, and behind the word that it is lost.
 use Rattle.std.proofs.Common.{◌≡◌, ℕ, List, [], ◌∷◌, ◌++◌, Some, inl, inr, ap, ◌∙◌}
-use Rattle.node_base.specs.Beginning.{answers_unanswered, begun, next_item, waiting}
+use Rattle.node_base.specs.Beginning.{answers_unanswered, items_begin, next_item, items_wait}
 use Rattle.node_base.specs.declared.effects.Effect.{Effect}
 use Rattle.node_base.specs.declared.effects.Effect.TheVariants.{Send, Answer as Answers, Lose, Does}
 use Rattle.node_base.specs.declared.items.Items.{Items}
@@ -55,13 +55,13 @@ module _ (losses : Losses) (J : Answer → Type 0) (ends : (a : Answer) → J a 
 
   module _ (before : Items) (what : Do) where
     begun_told : (after : Items) (number : ℕ) (outs : List Effect) → what ≡ Begin → next_item before ≡ Some number
-        → Begun losses J IsPrompt (begun before) number outs after → Told (IsBegunBy before what) [] outs
+        → Begun losses J IsPrompt (items_begin before) number outs after → Told (IsBegunBy before what) [] outs
     begun_told after number outs is next (AtOnce a first more so plain rest) =
         told_plain (IsBegunBy before what) [] (first ++ Answers number a ∷ more)
         (all_append IsPlain first (Answers number a ∷ more) (plain_all first plain) (prompt_not_lost a so, plain_all more rest))
     begun_told after number outs is next (Waits made) =
-        told_of (IsOpen (waiting (begun before) number)) (IsBegunBy before what) (λ n fact. inr (is, next ∙ ap Some (one_number number n fact))) [] outs
-        (moves_told (waiting (begun before) number) after outs made)
+        told_of (IsOpen (items_wait (items_begin before) number)) (IsBegunBy before what) (λ n fact. inr (is, next ∙ ap Some (one_number number n fact))) [] outs
+        (moves_told (items_wait (items_begin before) number) after outs made)
 
     -- what it answers to be lost it has said to be lost, of an item that had begun
     pub event_told : (after : Items) (outs : List Effect) → Event losses J IsPrompt before what outs after → Told (IsBegunBy before what) [] outs
@@ -70,10 +70,10 @@ module _ (losses : Losses) (J : Answer → Type 0) (ends : (a : Answer) → J a 
     event_told after outs (Idles is) = tt
     event_told after outs (Begins number is next made) = begun_told after number outs is next made
     event_told after outs (Cuts number first more is next falls plain rest) =
-        told_plain (IsBegunBy before what) [] (first ++ (answers_unanswered (begun before).unanswered answer.Cut ++ Answers number answer.Done ∷ more))
-        (all_append IsPlain first (answers_unanswered (begun before).unanswered answer.Cut ++ Answers number answer.Done ∷ more) (plain_all first plain)
-        (all_append IsPlain (answers_unanswered (begun before).unanswered answer.Cut) (Answers number answer.Done ∷ more)
-        (answers_plain (begun before).unanswered answer.Cut tt) (tt, plain_all more rest)))
+        told_plain (IsBegunBy before what) [] (first ++ (answers_unanswered (items_begin before).unanswered answer.Cut ++ Answers number answer.Done ∷ more))
+        (all_append IsPlain first (answers_unanswered (items_begin before).unanswered answer.Cut ++ Answers number answer.Done ∷ more) (plain_all first plain)
+        (all_append IsPlain (answers_unanswered (items_begin before).unanswered answer.Cut) (Answers number answer.Done ∷ more)
+        (answers_plain (items_begin before).unanswered answer.Cut tt) (tt, plain_all more rest)))
 
     -- and where it may answer none so, it answers none so
     pub event_plain : (MayAnswer losses → ⊥) → (after : Items) (outs : List Effect) → Event losses J IsPrompt before what outs after → AllPlain outs

@@ -1,6 +1,6 @@
 -- The items of a node over an event, read off its moves: how many have begun, and which of them waits for its answer.
 use Rattle.std.proofs.Common.{◌≡◌, ◌⊎◌, ℕ, ◌+◌, List, Some, inl, inr, refl, ap, ◌∙◌}
-use Rattle.node_base.specs.Beginning.{answered, begun, is_left, next_item, waiting}
+use Rattle.node_base.specs.Beginning.{items_answer, items_begin, is_left, next_item, items_wait}
 use Rattle.node_base.specs.declared.effects.Effect.{Effect}
 use Rattle.node_base.specs.declared.items.Items.{Items}
 use Rattle.version_model.specs.declared.answer.Answer.{Answer}
@@ -22,7 +22,7 @@ stay_goes : (a b : Items) (what : Do) → ItemsStay a b → Goes a b what
 stay_goes a b what x = record { begun = inl x.begun; waits = λ number fact. inl (x.waits number fact) }
 
 -- the next item has begun
-begun_goes : (items : Items) (what : Do) → what ≡ Begin → Goes items (begun items) what
+begun_goes : (items : Items) (what : Do) → what ≡ Begin → Goes items (items_begin items) what
 begun_goes items what is =
     by_test (λ (i : Items). Goes items i what) (is_left items) (record items { begun = items.begun + 1 }) items
     (λ _. record { begun = inr (is, refl); waits = λ number fact. inl fact }) (λ _. stay_goes items items what (same items))
@@ -38,11 +38,11 @@ then_goes a b c what x number_is waits = record { begun = by x.begun; waits = wa
 
 module _ (losses : Losses) (J K : Answer → Type 0) (before : Items) (what : Do) where
   number_goes : (after : Items) (number : ℕ) (outs : List Effect) → what ≡ Begin → next_item before ≡ Some number
-      → Begun losses J K (begun before) number outs after → Goes before after what
+      → Begun losses J K (items_begin before) number outs after → Goes before after what
   number_goes after number outs is next (AtOnce a first more so plain rest) = begun_goes before what is
   number_goes after number outs is next (Waits made) =
-      let stay = moves_stay losses J (waiting (begun before) number) after outs made in
-      then_goes before (begun before) after what (begun_goes before what is) stay.begun
+      let stay = moves_stay losses J (items_wait (items_begin before) number) after outs made in
+      then_goes before (items_begin before) after what (begun_goes before what is) stay.begun
       (λ n fact. inr (is, next ∙ ap Some (one_number number n (stay.waits n fact))))
 
   pub event_goes : (after : Items) (outs : List Effect) → Event losses J K before what outs after → Goes before after what
@@ -50,6 +50,6 @@ module _ (losses : Losses) (J K : Answer → Type 0) (before : Items) (what : Do
   event_goes after outs (Idles is) = begun_goes before what is
   event_goes after outs (Begins number is next made) = number_goes after number outs is next made
   event_goes after outs (Cuts number first more is next falls plain rest) =
-      let none = none_open (begun before) in
+      let none = none_open (items_begin before) in
       let x = begun_goes before what is in
-      then_goes before (begun before) (answered (begun before)) what x refl (λ n fact. x.waits n (none.waits n fact))
+      then_goes before (items_begin before) (items_answer (items_begin before)) what x refl (λ n fact. x.waits n (none.waits n fact))

@@ -1,6 +1,6 @@
 -- No call ends by its plan with the answer that a segment is lost.
 use Rattle.std.proofs.Common.{◌≡◌, ◌⊎◌, inl, inr, refl, sym, subst, ℕ, Some, None}
-use Rattle.client_call.specs.Calls.{after_answer, answer_of, call_of, going, file_call, may_make}
+use Rattle.client_call.specs.Calls.{plan_answered, answer_of, call_of, stands_by, file_call, may_make}
 use Rattle.client_call.specs.declared.call.Plan.{Plan}
 use Rattle.client_call.specs.declared.call.Plan.TheVariants.{One, File}
 use Rattle.file_plan.specs.declared.block_call.BlockAnswer.{BlockAnswer}
@@ -29,7 +29,7 @@ plan_well (Ends a) well = reply_well a well
 plan_well _ well = tt
 
 -- one that has ended stays so
-still_over : (b : Answer) (x : BlockAnswer) → NotLost b → EndsWell (plan.after_answer (Ends b) x)
+still_over : (b : Answer) (x : BlockAnswer) → NotLost b → EndsWell (plan.file_plan_answered (Ends b) x)
 still_over b (Got ver value) well = well
 still_over b (Written ver) well = well
 still_over b Changed well = well
@@ -40,16 +40,16 @@ ended : (p : PlanState) → plans.EndsWell p ⊎ ((b : Answer) × (p ≡ Ends b)
 ended (Ends b) = inr (b, refl)
 ended _ = inl tt
 
-answered_well : (p : PlanState) → EndsWell p → (a : BlockAnswer) → EndsWell (plan.after_answer p a)
+answered_well : (p : PlanState) → EndsWell p → (a : BlockAnswer) → EndsWell (plan.file_plan_answered p a)
 answered_well p well a = by (ended p)
   where
-    by : plans.EndsWell p ⊎ ((b : Answer) × (p ≡ Ends b)) → EndsWell (plan.after_answer p a)
-    by (inl replies) = plan_well (plan.after_answer p a) (plans.answered_well p replies a)
-    by (inr over) = subst (λ (q : PlanState). EndsWell (plan.after_answer q a)) (sym over.1) (still_over over.0 a (subst EndsWell over.1 well))
+    by : plans.EndsWell p ⊎ ((b : Answer) × (p ≡ Ends b)) → EndsWell (plan.file_plan_answered p a)
+    by (inl replies) = plan_well (plan.file_plan_answered p a) (plans.answered_well p replies a)
+    by (inr over) = subst (λ (q : PlanState). EndsWell (plan.file_plan_answered q a)) (sym over.1) (still_over over.0 a (subst EndsWell over.1 well))
 
 -- ---- the call
 
-going_well : (p : PlanState) → EndsWell p → GoingSo PlansWell NotLost (going p)
+going_well : (p : PlanState) → EndsWell p → GoingSo PlansWell NotLost (stands_by p)
 going_well (Ends a) well = well
 going_well _ well = tt
 
@@ -59,13 +59,13 @@ one_well (Written ver) = tt
 one_well Changed = tt
 one_well Synced = tt
 
-pub after_well : (p : Plan) (a : BlockAnswer) → PlansWell p → GoingSo PlansWell NotLost (after_answer p a)
+pub after_well : (p : Plan) (a : BlockAnswer) → PlansWell p → GoingSo PlansWell NotLost (plan_answered p a)
 after_well One a well = one_well a
-after_well (File p) a well = going_well (plan.after_answer p a) (answered_well p well a)
+after_well (File p) a well = going_well (plan.file_plan_answered p a) (answered_well p well a)
 
 file_well : (c : FileCall) (number self : ℕ) → BeginsSo PlansWell NotLost (file_call c number self)
 file_well c number self =
-    by_test (BeginsSo PlansWell NotLost) (may_make number self) (Some (going (plan.start c (plan.made_by number self)))) None
+    by_test (BeginsSo PlansWell NotLost) (may_make number self) (Some (stands_by (plan.start c (plan.made_by number self)))) None
     (λ _. going_well (plan.start c (plan.made_by number self))
     (plan_well (plan.start c (plan.made_by number self)) (plans.start_well c (plan.made_by number self)))) (λ _. tt)
 

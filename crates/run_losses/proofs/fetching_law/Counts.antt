@@ -8,14 +8,14 @@ use Rattle.client_node.specs.declared.client.Client.{Client}
 use Rattle.client_node.specs.declared.phase.Phase.{Phase}
 use Rattle.client_node.specs.declared.phase.Phase.TheVariants.{Down, Opening, Serving as Serves}
 use Rattle.client_node.specs.Phases.{client_step, lasting_of, takes}
-use Rattle.client_node.specs.Starting.{first_client}
+use Rattle.client_node.specs.Starting.{client_start}
 use Rattle.client_call.specs.Reads.{reading_in}
 use Rattle.client_serving.specs.declared.serving.Serving.{Serving}
 use Rattle.core_world.specs.AnyNode.{any_start, any_step}
 use Rattle.core_world.specs.declared.any_node.AnyNode.{AnyNode}
 use Rattle.core_world.specs.declared.any_node.AnyNode.TheVariants as any
 use Rattle.group_map.specs.GroupMapState.{GroupMapState}
-use Rattle.group_map.specs.Groups.{known_group as group_in, started}
+use Rattle.group_map.specs.Groups.{known_group as group_in, group_map_start}
 use Rattle.log_law.specs.Net.Packet.{MapSent}
 use Rattle.log_protocol.specs.Tables as tables
 use Rattle.log_tie.specs.Setting.{Setting, stripe_of_group}
@@ -295,7 +295,7 @@ module _ (base : Setting) (e : Estate AnyNode) (run : IsRun any_step any_start e
 
   module _ (stay : GroupsStay) where
     -- the groups of the setup are those of the end
-    first_named : IsNamed e c (started e.script.setup.servers e.script.setup.groups)
+    first_named : IsNamed e c (group_map_start e.script.setup.servers e.script.setup.groups)
     unfolding start_world
     first_named id group fact =
         let n : Names (group_at e.world id) (stripe_of_group group) =
@@ -305,7 +305,7 @@ module _ (base : Setting) (e : Estate AnyNode) (run : IsRun any_step any_start e
         ap stripe_by n.named ∙ n.stripe_is
 
     abbrev first : AnyNode
-    first = any.Client (first_client c e.script.setup (items_of e.script.lines reader))
+    first = any.Client (client_start c e.script.setup (items_of e.script.lines reader))
 
     -- no node stands at its place, or the client before its first event
     first_is : (Here 0 ≡ None) ⊎ (Here 0 ≡ Some first)
@@ -321,7 +321,7 @@ module _ (base : Setting) (e : Estate AnyNode) (run : IsRun any_step any_start e
         }
         by (inr at) = record {
           well = λ node fact.
-              subst (λ (y : Client). StandsWell (IsNamed e c) y.phase) (one_client (first_client c e.script.setup (items_of e.script.lines reader)) node
+              subst (λ (y : Client). StandsWell (IsNamed e c) y.phase) (one_client (client_start c e.script.setup (items_of e.script.lines reader)) node
               (sym at ∙ fact)) (stands_first (IsNamed e c) c e.script.setup (items_of e.script.lines reader) first_named);
           reads = λ r fact. absurd (let clash : None ≡ Some r = sym (ap what_is_read (serving_is 0 (Some first) at)) ∙ fact in cc);
         }

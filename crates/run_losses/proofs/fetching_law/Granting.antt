@@ -2,12 +2,12 @@
 use Rattle.std.proofs.Common.{◌≡◌, ◌&&◌, ◌<◌, true, false, not, [], ◌∷◌, Option, Some, None, is_none, refl, sym, ap, subst, ◌∙◌, inl, inr}
 use Rattle.xfs_base.proofs.Booleans.{by_test, contrary}
 use Rattle.client_call.specs.declared.call.Call.{Call}
-use Rattle.client_call.specs.Reads.{call_with, fetches, reading_in, same_target, target_of}
+use Rattle.client_call.specs.Reads.{set_reading, fetches, reading_in, same_target, target_of}
 use Rattle.client_serving.specs.declared.lasting.Lasting.{Lasting}
 use Rattle.client_serving.specs.declared.serving.Serving.{Serving}
-use Rattle.client_serving.specs.Follow.{follows, follows_one, hands}
+use Rattle.client_serving.specs.Follow.{serving_follow, follow_one, hand}
 use Rattle.client_serving.specs.Packets.{on_grant}
-use Rattle.client_serving.specs.Reads.{with_reading, ends_reading, draws, loses, loses_at, group_in, begins_over, begins, confirmed_by, ask_after, drawn_after, confirms, reads_over, reads}
+use Rattle.client_serving.specs.Reads.{with_reading, ends_reading, draws, loses, lose_at, group_in, begins_over, begin_reading, confirmed_by, ask_after, drawn_after, serving_confirm, reads_over, serving_read}
 use Rattle.client_serving.specs.Sends.{Done}
 use Rattle.group_map.specs.declared.group.Group.{Group}
 use Rattle.log_owner.specs.Sending.{fetch}
@@ -18,12 +18,12 @@ use Rattle.segment_reading.specs.declared.reading.Stage.{Stage}
 use Rattle.segment_reading.specs.declared.reading.Stage.TheVariants.{Asking, Between, Doubted, Over}
 use Rattle.segment_reading.specs.declared.target.BlockAt.{BlockAt}
 use Rattle.segment_reading.specs.declared.target.Target.{Target}
-use Rattle.segment_reading.specs.Reading.{ReadingState, begun, on_confirmed, to_ask}
+use Rattle.segment_reading.specs.Reading.{ReadingState, reading_start, on_confirmed, reading_unanswered}
 use Rattle.segment_reading.specs.Reading as rounds
 use Rattle.token_client.specs.declared.input.In.TheVariants as input
 use Rattle.token_client.specs.declared.output.Out as outputs
 use Rattle.token_client.specs.declared.output.Out.TheVariants as output
-use Rattle.token_client.specs.Held.{grant_taken}
+use Rattle.token_client.specs.Held.{take_grant}
 use Rattle.token_client.specs.State.{TokensState, held_of, with_held}
 use Rattle.token_client.specs.Transition as client
 use Rattle.token_client.specs.Transition.{accepts, copy_next, grant_next}
@@ -45,29 +45,29 @@ use Rattle.run_losses.proofs.fetching_law.Turning.{AllSay, Open, Says, Turns, al
 
 -- ---- a call that reads this
 
-pub same_call : (call : Option Call) (o : Option ReadingState) → is_none (call_with call o) ≡ is_none call
+pub same_call : (call : Option Call) (o : Option ReadingState) → is_none (set_reading call o) ≡ is_none call
 same_call None o = refl
 same_call (Some call) o = refl
 
 -- it is read, where a call is open
-pub read_then : (call : Option Call) (o : Option ReadingState) → Less o (reading_in (call_with call o))
+pub read_then : (call : Option Call) (o : Option ReadingState) → Less o (reading_in (set_reading call o))
 read_then None o = inr refl
 read_then (Some call) o = inl refl
 
 one_reading : (x y : ReadingState) → Some x ≡ Some y → x ≡ y
 one_reading x y fact = cc
 
-pub is_that : (call : Option Call) (x r : ReadingState) → reading_in (call_with call (Some x)) ≡ Some r → r ≡ x
+pub is_that : (call : Option Call) (x r : ReadingState) → reading_in (set_reading call (Some x)) ≡ Some r → r ≡ x
 is_that None x r fact = absurd (let clash : None ≡ Some r = fact in cc)
 is_that (Some call) x r fact = sym (one_reading x r fact)
 
-no_reading : (call : Option Call) (r : ReadingState) → reading_in (call_with call None) ≡ Some r → ⊥
+no_reading : (call : Option Call) (r : ReadingState) → reading_in (set_reading call None) ≡ Some r → ⊥
 no_reading None r fact = absurd (let clash : None ≡ Some r = fact in cc)
 no_reading (Some call) r fact = absurd (let clash : None ≡ Some r = fact in cc)
 
 -- fetches of what is read are of its segment
 pub fetches_say : (s : Serving) (what : Do) (x : ReadingState) → AllSay s what (Some x) (fetches x)
-fetches_say s what x = all_map (Says s what (Some x)) (fetch x.target.seg.name x.ask) (λ server same. refl) (to_ask x)
+fetches_say s what x = all_map (Says s what (Some x)) (fetch x.target.seg.name x.ask) (λ server same. refl) (reading_unanswered x)
 
 module _ (s : Serving) (fresh : s.lasting.questions.last < next_ask s.lasting.questions) (packet : Packet) (m : Grant) (fact : packet.body ≡ body.Grant m)
     (taken : accepts s.tokens m.block m.stamp m.inc m.req m.mode ≡ true) (place : Place) (lies : m.entry.place ≡ Some place) (t : Serving)
@@ -113,13 +113,13 @@ module _ (s : Serving) (fresh : s.lasting.questions.last < next_ask s.lasting.qu
   begins_over_turns : (group : Option Group) → group_in t.maps.groups target.seg.group ≡ group → Goes_so (begins_over unread target group)
   begins_over_turns None known = unread_turns
   begins_over_turns (Some group) known =
-      let x : ReadingState = begun target group (next_ask t.lasting.questions) in
+      let x : ReadingState = reading_start target group (next_ask t.lasting.questions) in
       record {
         draws = inr next_is;
         maps = inl rests.maps;
         wants = rests.wants;
         opens = λ some.
-            let o = open_so (call_with unread.call (Some x)) (same_call unread.call (Some x) ∙ same_call t.call None) some in
+            let o = open_so (set_reading unread.call (Some x)) (same_call unread.call (Some x) ∙ same_call t.call None) some in
             record { was = o.was; items = o.items };
         reading = λ r read. inr (inr (inr (record {
           target = target;
@@ -130,11 +130,11 @@ module _ (s : Serving) (fresh : s.lasting.questions.last < next_ask s.lasting.qu
           fresh = fresh_then;
           now = is_that unread.call x r read;
         })));
-        says = all_say_less s what (Some x) (reading_in (call_with unread.call (Some x))) (read_then unread.call (Some x)) (fetches x) (fetches_say s what x);
+        says = all_say_less s what (Some x) (reading_in (set_reading unread.call (Some x))) (read_then unread.call (Some x)) (fetches x) (fetches_say s what x);
       }
 
-  begins_turns : Goes_so (begins unread target)
-  unfolding begins
+  begins_turns : Goes_so (begin_reading unread target)
+  unfolding begin_reading
   begins_turns = begins_over_turns (group_in t.maps.groups target.seg.group) refl
 
   -- ---- it is confirmed
@@ -153,7 +153,7 @@ module _ (s : Serving) (fresh : s.lasting.questions.last < next_ask s.lasting.qu
       maps = inl rests.maps;
       wants = rests.wants;
       opens = λ some.
-          let o = open_so (call_with unread.call (Some x)) (same_call unread.call (Some x) ∙ same_call t.call None) some in
+          let o = open_so (set_reading unread.call (Some x)) (same_call unread.call (Some x) ∙ same_call t.call None) some in
           record { was = o.was; items = o.items };
       reading = λ r read. inl (was ∙ ap Some (sym (is_that unread.call x r read)));
       says = tt;
@@ -167,7 +167,7 @@ module _ (s : Serving) (fresh : s.lasting.questions.last < next_ask s.lasting.qu
           maps = inl rests.maps;
           wants = rests.wants;
           opens = λ some.
-              let o = open_so (call_with unread.call (Some y)) (same_call unread.call (Some y) ∙ same_call t.call None) some in
+              let o = open_so (set_reading unread.call (Some y)) (same_call unread.call (Some y) ∙ same_call t.call None) some in
               record { was = o.was; items = o.items };
           reading = λ r read. inr (inr (inl (record {
             was = x;
@@ -177,7 +177,7 @@ module _ (s : Serving) (fresh : s.lasting.questions.last < next_ask s.lasting.qu
             fresh = fresh_then;
             now = is_that unread.call y r read;
           })));
-          says = all_say_less s what (Some y) (reading_in (call_with unread.call (Some y))) (read_then unread.call (Some y)) (fetches y)
+          says = all_say_less s what (Some y) (reading_in (set_reading unread.call (Some y))) (read_then unread.call (Some y)) (fetches y)
               (fetches_say s what y);
         }
 
@@ -195,29 +195,29 @@ module _ (s : Serving) (fresh : s.lasting.questions.last < next_ask s.lasting.qu
       );
     }
 
-    loses_at_turns : x.stage ≡ Doubted → (at : Option BlockAt) → Goes_so (loses_at unread at x.target.seg.name)
-    loses_at_turns doubted None = unread_turns
-    loses_at_turns doubted (Some at) = loses_turns doubted at.block
+    lose_at_turns : x.stage ≡ Doubted → (at : Option BlockAt) → Goes_so (lose_at unread at x.target.seg.name)
+    lose_at_turns doubted None = unread_turns
+    lose_at_turns doubted (Some at) = loses_turns doubted at.block
 
     confirms_at : (stage : Stage) → x.stage ≡ stage
         → Goes_so (confirmed_by (drawn_after unread stage) (rounds.goes_on x (ask_after unread x.ask stage) stage))
     confirms_at Asking stands = waits_turns
     confirms_at Between stands = resumes_turns stands
-    confirms_at Doubted stands = loses_at_turns stands x.target.block
+    confirms_at Doubted stands = lose_at_turns stands x.target.block
     confirms_at Over stands = waits_turns
 
-    confirms_turns : Goes_so (confirms unread x)
-    unfolding confirms on_confirmed
+    confirms_turns : Goes_so (serving_confirm unread x)
+    unfolding serving_confirm on_confirmed
     confirms_turns = confirms_at x.stage refl
 
   reads_over_turns : (o : Option ReadingState) → reading_in t.call ≡ o → Goes_so (reads_over unread target o)
   reads_over_turns None read = begins_turns
   reads_over_turns (Some x) read =
-      by_test Goes_so (same_target x.target target) (confirms unread x) (begins unread target)
+      by_test Goes_so (same_target x.target target) (serving_confirm unread x) (begin_reading unread target)
       (λ h. confirms_turns x read (target_exact x.target m.block place h)) (λ _. begins_turns)
 
-  pub reads_turn : Turns s (Deliver packet) (reads t m.block place)
-  unfolding reads
+  pub reads_turn : Turns s (Deliver packet) (serving_read t m.block place)
+  unfolding serving_read
   reads_turn =
       by_test Goes_so (is_none t.call) (still t) (reads_over unread target (reading_in t.call)) (λ _. rests_turn s what (still t) (stays s t rests))
       (λ _. reads_over_turns (reading_in t.call) refl)
@@ -229,39 +229,39 @@ module _ (s : Serving) (fresh : s.lasting.questions.last < next_ask s.lasting.qu
   Turn d = Turns s (Deliver packet) d
 
   -- what is said at once
-  at_once : (t : Serving) (o : outputs.Out) → Turn (follows_one t o) → Turn (follows t (o ∷ []))
-  unfolding follows
+  at_once : (t : Serving) (o : outputs.Out) → Turn (follow_one t o) → Turn (serving_follow t (o ∷ []))
+  unfolding serving_follow
   at_once t o a = record {
     draws = a.draws;
     maps = a.maps;
     wants = a.wants;
     opens = a.opens;
     reading = a.reading;
-    says = all_append (Says s (Deliver packet) (reading_in (follows_one t o).state.call)) (follows_one t o).outs [] a.says tt;
+    says = all_append (Says s (Deliver packet) (reading_in (follow_one t o).state.call)) (follow_one t o).outs [] a.says tt;
   }
 
   module _ (t : Serving) (rests : Rests s t) where
-    ready_turns : Turn (follows t (output.Ready m.block ∷ []))
+    ready_turns : Turn (serving_follow t (output.Ready m.block ∷ []))
     ready_turns =
-        rests_turn s (Deliver packet) (follows t (output.Ready m.block ∷ []))
-        (from_goes s t (follows t (output.Ready m.block ∷ [])) rests (follows_go t (output.Ready m.block ∷ []) (tt, tt)))
+        rests_turn s (Deliver packet) (serving_follow t (output.Ready m.block ∷ []))
+        (from_goes s t (serving_follow t (output.Ready m.block ∷ [])) rests (follows_go t (output.Ready m.block ∷ []) (tt, tt)))
 
     copied_turns : accepts s.tokens m.block m.stamp m.inc m.req m.mode ≡ true → (place : Option Place) → m.entry.place ≡ place
-        → Turn (follows t (copy_next m.block place ∷ []))
-    unfolding follows_one
+        → Turn (serving_follow t (copy_next m.block place ∷ []))
+    unfolding follow_one
     copied_turns taken None lies = ready_turns
     copied_turns taken (Some place) lies = at_once t (output.Read m.block place) (reads_turn s fresh packet m fact taken place lies t rests)
 
-    granted_turns : accepts s.tokens m.block m.stamp m.inc m.req m.mode ≡ true → Turn (follows t (grant_next m.block m.mode m.entry.place ∷ []))
+    granted_turns : accepts s.tokens m.block m.stamp m.inc m.req m.mode ≡ true → Turn (serving_follow t (grant_next m.block m.mode m.entry.place ∷ []))
     granted_turns taken =
-        by_test (λ (o : outputs.Out). Turn (follows t (o ∷ []))) (is_own m.mode) (output.Ready m.block) (copy_next m.block m.entry.place)
+        by_test (λ (o : outputs.Out). Turn (serving_follow t (o ∷ []))) (is_own m.mode) (output.Ready m.block) (copy_next m.block m.entry.place)
         (λ _. ready_turns) (λ _. copied_turns taken m.entry.place refl)
 
-  hands_turn : Turn (hands s (input.Granted m.block m.stamp m.inc m.req m.mode m.entry))
-  unfolding hands client.on_granted
+  hands_turn : Turn (hand s (input.Granted m.block m.stamp m.inc m.req m.mode m.entry))
+  unfolding hand client.on_granted
   hands_turn =
-      let taken : TokensState = with_held s.tokens m.block (grant_taken (held_of s.tokens.blocks m.block) m.stamp m.mode m.entry) in
-      by_test (λ (d : client.Done). Turn (follows (ends_reading (record s { tokens = d.state })) d.outs))
+      let taken : TokensState = with_held s.tokens m.block (take_grant (held_of s.tokens.blocks m.block) m.stamp m.mode m.entry) in
+      by_test (λ (d : client.Done). Turn (serving_follow (ends_reading (record s { tokens = d.state })) d.outs))
       (accepts s.tokens m.block m.stamp m.inc m.req m.mode) (record { state = taken; outs = grant_next m.block m.mode m.entry.place ∷ [] }) (still s.tokens)
       (λ accepted. granted_turns (ends_reading (record s { tokens = taken }))
       (took_rests s taken (granted_on s.tokens m.block m.stamp m.mode m.entry)) accepted)
@@ -271,5 +271,5 @@ module _ (s : Serving) (fresh : s.lasting.questions.last < next_ask s.lasting.qu
   pub on_grant_turns : Turns s (Deliver packet) (on_grant s m)
   unfolding on_grant
   on_grant_turns =
-      by_test Turn (is_own m.mode && not (has_long_room m.entry.ver)) (still s) (hands s (input.Granted m.block m.stamp m.inc m.req m.mode m.entry))
+      by_test Turn (is_own m.mode && not (has_long_room m.entry.ver)) (still s) (hand s (input.Granted m.block m.stamp m.inc m.req m.mode m.entry))
       (λ _. itself_turns s (Deliver packet)) (λ _. hands_turn)

@@ -6,12 +6,12 @@ use Rattle.node_slots.specs.client_law.Maps.{BringsMaps, DoBrings}
 use Rattle.client_node.specs.declared.client.Client.{Client}
 use Rattle.client_node.specs.declared.phase.Phase.{Phase}
 use Rattle.client_node.specs.declared.phase.Phase.TheVariants.{Down, Opening, Serving as Serves}
-use Rattle.client_node.specs.Phases.{Went_to, after_opening, client_room, happens, item_begins, lasting_of, on_begin, begins_item, on_deliver, on_event, on_time, opened_on, takes, wish_of, with_begun}
-use Rattle.client_node.specs.Starting.{first_client}
+use Rattle.client_node.specs.Phases.{Went_to, phase_after, client_has_room, happens, item_begins, lasting_of, on_begin, begins_item, on_deliver, on_event, client_tick, opened_on, takes, wish_of, with_begun}
+use Rattle.client_node.specs.Starting.{client_start}
 use Rattle.client_serving.specs.declared.lasting.Lasting.{Lasting}
 use Rattle.client_serving.specs.declared.serving.Serving.{Serving}
 use Rattle.group_map.specs.GroupMapState.{GroupMapState}
-use Rattle.group_map.specs.Groups.{started}
+use Rattle.group_map.specs.Groups.{group_map_start}
 use Rattle.log_owner.specs.declared.opened.Progress.{Progress}
 use Rattle.log_owner.specs.declared.opened.Progress.TheVariants as progress
 use Rattle.log_owner.specs.declared.opening.Opening as openings
@@ -65,7 +65,7 @@ module _ (Is : GroupMapState → Type 0) where
   opened_well : (l : Lasting) (capacity : ℕ) (w : Went) → ProgressKnows Is w.progress → Goes (opened_on l capacity w)
   opened_well l capacity w h = by w.progress h
     where
-      by : (p : Progress) → ProgressKnows Is p → Goes (after_opening (record l { questions = w.questions }) capacity p)
+      by : (p : Progress) → ProgressKnows Is p → Goes (phase_after (record l { questions = w.questions }) capacity p)
       by (progress.Opening o) known = known
       by (progress.Opened o) known = (known, refl)
       by (progress.Lost seg) known = tt
@@ -83,7 +83,7 @@ module _ (Is : GroupMapState → Type 0) where
   opening_well servers l o h number None = h
 
   down_event : (peers : Peers) (capacity : ℕ) (l : Lasting) (what : Do) → Goes (on_event peers capacity (Down l) what)
-  unfolding on_begin on_deliver on_time
+  unfolding on_begin on_deliver client_tick
   down_event peers capacity l Begin = by (next_item l.items)
     where
       by : (item : Option ℕ) → Goes (begins_item peers.servers (Down l) item)
@@ -94,15 +94,15 @@ module _ (Is : GroupMapState → Type 0) where
 
   opening_event : (peers : Peers) (capacity : ℕ) (l : Lasting) (o : openings.Opening) → KnowsSuch Is o.known.maps.groups → (what : Do) → DoBrings Is what
       → Goes (on_event peers capacity (Opening l o) what)
-  unfolding on_begin on_deliver on_time
+  unfolding on_begin on_deliver client_tick
   opening_event peers capacity l o h Begin brings = by (next_item l.items)
     where
       by : (item : Option ℕ) → Goes (begins_item peers.servers (Opening l o) item)
       by None = h
       by (Some number) = opening_well peers.servers l o h number (work_at (lasting_of (with_begun (Opening l o))).items number)
   opening_event peers capacity l o h (Deliver packet) brings =
-      by_test Goes (is_well_formed peers packet) (opened_on l capacity (opening.on_packet o l.questions packet)) (still (Opening l o))
-      (λ _. opened_well l capacity (opening.on_packet o l.questions packet) (packet_knows Is o l.questions packet brings h)) (λ _. h)
+      by_test Goes (is_well_formed peers packet) (opened_on l capacity (opening.opening_take o l.questions packet)) (still (Opening l o))
+      (λ _. opened_well l capacity (opening.opening_take o l.questions packet) (packet_knows Is o l.questions packet brings h)) (λ _. h)
   opening_event peers capacity l o h Tick brings =
       opened_well l capacity (opening.on_tick o l.questions) (time_knows Is o l.questions h)
 
@@ -128,7 +128,7 @@ module _ (Is : GroupMapState → Type 0) where
     -- what comes of an event, or what was
     by_room : (p : Phase) → client.phase ≡ p → ComesWell p → Goes (on_event client.peers client.cache p what) → ComesWell (takes client what).state
     by_room p fact before goes =
-        by_test Goes (client_room client) (happens client what) (still client.phase)
+        by_test Goes (client_has_room client) (happens client what) (still client.phase)
         (λ _. subst (λ q. Goes (on_event client.peers client.cache q what)) (sym fact) goes) (λ _. subst ComesWell (sym fact) before)
 
     pub comes_well : StandsWell client.phase → serving_in client.phase ≡ None → ComesWell (takes client what).state
@@ -151,6 +151,6 @@ module _ (Is : GroupMapState → Type 0) where
             let w : ServesWell s = subst StandsWell fact h in
             serves_on s w what brings (takes client what).state (takes client what).outs (event_serves client s fact w.waits what)
 
-  pub stands_first : (number : ℕ) (setup : Setup) (works : List Work) → Is (started setup.servers setup.groups)
-      → StandsWell (first_client number setup works).phase
+  pub stands_first : (number : ℕ) (setup : Setup) (works : List Work) → Is (group_map_start setup.servers setup.groups)
+      → StandsWell (client_start number setup works).phase
   stands_first number setup works fact = record { known = fact; waits = λ opens. contrary (sym opens) }

@@ -3,31 +3,31 @@ use Rattle.std.proofs.Common.{◌≡◌, ◌==◌, ◌<◌, ℕ, Bool, true, Lis
 use Rattle.std.specs.Prelude.{nat_lt}
 use Rattle.xfs_base.proofs.Booleans.{by_test, contrary}
 use Rattle.client_log.specs.declared.input.In.TheVariants as log_in
-use Rattle.client_call.specs.Reads.{block_read, fetches_again, heard, reading_in, value_at}
+use Rattle.client_call.specs.Reads.{block_read, fetch_again, hear_reading, reading_in, value_at}
 use Rattle.client_serving.specs.declared.lasting.Lasting.{Lasting}
 use Rattle.client_serving.specs.declared.serving.Serving.{Serving}
-use Rattle.client_serving.specs.Flights.{held_at, writes}
-use Rattle.client_serving.specs.Follow.{follows, hands, takes_back}
-use Rattle.client_serving.specs.Grants.{supplies, is_stamp}
-use Rattle.client_serving.specs.Packets.{on_supply, on_forward, again, says_again, on_recall, is_gone, on_gone, is_acked, on_ack, ends_fetch, told_at, told_by, on_told, renews, promises, reports, may_report, polled, on_poll, promised_in, is_news, hears, regroups, takes_news, on_news, on_welcome, on_tick, on_body, asks_for_maps, on_packet}
+use Rattle.client_serving.specs.Flights.{held_at, serving_write}
+use Rattle.client_serving.specs.Follow.{serving_follow, hand, take_back}
+use Rattle.client_serving.specs.Grants.{send_supply, is_stamp}
+use Rattle.client_serving.specs.Packets.{on_supply, on_forward, again, says_again, on_recall, is_gone, on_gone, is_acked, on_ack, end_fetch, told_at, told_by, on_told, serving_renew, serving_promise, reports, may_report, polled, on_poll, promised_in, is_news, serving_hear, regroups, takes_news, on_news, on_welcome, on_tick, take_body, asks_for_maps, serving_take}
 use Rattle.client_serving.specs.Reads.{with_reading, ends_reading, loses}
-use Rattle.client_running.specs.Running.{runs}
+use Rattle.client_running.specs.Running.{run}
 use Rattle.client_serving.specs.Sends.{Done, gives, report}
 use Rattle.delta_feed.specs.Transition.{acknowledged, new_epoch}
 use Rattle.group_map.specs.GroupMapState.{GroupMapState}
-use Rattle.log_owner.specs.Promised.{manager_set}
-use Rattle.log_owner.specs.Sending.{pushes_all}
+use Rattle.log_owner.specs.Promised.{managers_set}
+use Rattle.log_owner.specs.Sending.{push_all}
 use Rattle.run_losses.proofs.missing_law.Readings.{answer_keeps_target}
 use Rattle.node_base.specs.Asking.{next_ask}
-use Rattle.node_base.specs.Known.{names_known}
-use Rattle.node_base.specs.Maps.{fits, is_older, taken}
+use Rattle.node_base.specs.Known.{names_known_groups}
+use Rattle.node_base.specs.Maps.{fits, is_older, maps_take}
 use Rattle.run_laws.proofs.place_law.Aims.{reads_nothing}
 use Rattle.node_tellings.specs.reading_tie.Arrivals.{Tells}
 use Rattle.segment_reading.specs.declared.reading.Next.{Next}
 use Rattle.segment_reading.specs.declared.reading.Next.TheVariants as next
 use Rattle.segment_reading.specs.declared.target.BlockAt.{BlockAt}
 use Rattle.segment_reading.specs.declared.target.Target.{Target}
-use Rattle.segment_reading.specs.Reading.{ReadingState, on_answer}
+use Rattle.segment_reading.specs.Reading.{ReadingState, reading_take}
 use Rattle.stripe_code.specs.declared.round.Told.{Told as Answered}
 use Rattle.stripe_code.specs.declared.round.Told.TheVariants as answered
 use Rattle.token_client.specs.declared.input.In.TheVariants as input
@@ -52,7 +52,7 @@ use Rattle.xfs_base.specs.declared.node.NodeId.TheVariants as node
 use Rattle.xfs_base.specs.Limits.{u32_end}
 use Rattle.xfs_base.specs.Steps.{still, saying, steps}
 use Rattle.xfs_base.proofs.Alls.{all_append, all_flat_map}
-use Rattle.run_losses.proofs.fetching_law.Quiet.{AllQuiet, Goes, IsQuiet, Rests, all_pushed_quiet, answered_quiet, asks_again, ends_rest, first_goes, follows_go, from_goes, hands_go, itself, stays, steps_go, takes_back_goes, then_rests}
+use Rattle.run_losses.proofs.fetching_law.Quiet.{AllQuiet, Goes, IsQuiet, Rests, all_pushed_quiet, answered_quiet, asks_again, ends_rest, first_goes, follows_go, from_goes, hands_go, itself, stays, steps_go, take_back_goes, then_rests}
 use Rattle.run_losses.proofs.fetching_law.Wants.{Anew, same_wants, takes_on}
 use Rattle.run_losses.proofs.fetching_law.Working.{writes_go}
 use Rattle.run_losses.proofs.fetching_law.Turning.{AllSay, Bears, Comes, Says, Turns, all_quiet_say, itself_turns, read_before, rests_turn, then_run, turn_goes}
@@ -60,17 +60,17 @@ use Rattle.run_losses.proofs.fetching_law.Granting.{fetches_say, is_that, on_gra
 
 -- ---- promises
 
-renews_rests : (s : Serving) (slot epoch : ℕ) → Rests s (renews s slot epoch)
-unfolding renews
+renews_rests : (s : Serving) (slot epoch : ℕ) → Rests s (serving_renew s slot epoch)
+unfolding serving_renew
 renews_rests s slot epoch =
     by_test (Rests s) (nat_lt _ epoch) (record s { feed = new_epoch s.feed slot }) s
     (λ _. record { lasting = refl; maps = refl; call = refl; reading = inl refl; wants = same_wants s.tokens }) (λ _. itself s)
 
-promises_rest : (s : Serving) (slot epoch manager : ℕ) → Rests s (promises s slot epoch manager).state
-unfolding promises
+promises_rest : (s : Serving) (slot epoch manager : ℕ) → Rests s (serving_promise s slot epoch manager).state
+unfolding serving_promise
 promises_rest s slot epoch manager =
-    let t : Serving = renews s slot epoch in
-    let u : Serving = record t { managers = manager_set t.managers slot manager; tokens = (client.on_promise t.tokens slot epoch).state } in
+    let t : Serving = serving_renew s slot epoch in
+    let u : Serving = record t { managers = managers_set t.managers slot manager; tokens = (client.on_promise t.tokens slot epoch).state } in
     let r : Rests u (ends_reading u) = ends_rest u in
     then_rests s t (ends_reading u) (renews_rests s slot epoch)
     (record {
@@ -81,36 +81,36 @@ promises_rest s slot epoch manager =
       wants = takes_on t.tokens (input.Promise slot epoch);
     })
 
-followed_goes : (s : Serving) (slot epoch manager : ℕ) → Goes s (follows (promises s slot epoch manager).state (promises s slot epoch manager).outs)
-unfolding promises
+followed_goes : (s : Serving) (slot epoch manager : ℕ) → Goes s (serving_follow (serving_promise s slot epoch manager).state (serving_promise s slot epoch manager).outs)
+unfolding serving_promise
 followed_goes s slot epoch manager =
-    let p = promises s slot epoch manager in
-    from_goes s p.state (follows p.state p.outs) (promises_rest s slot epoch manager)
-    (follows_go p.state p.outs (reads_nothing (renews s slot epoch).tokens (input.Promise slot epoch) tt))
+    let p = serving_promise s slot epoch manager in
+    from_goes s p.state (serving_follow p.state p.outs) (promises_rest s slot epoch manager)
+    (follows_go p.state p.outs (reads_nothing (serving_renew s slot epoch).tokens (input.Promise slot epoch) tt))
 
 polled_goes : (s : Serving) (manager : ℕ) (p : Poll) → Goes s (polled s manager p)
 unfolding polled
 polled_goes s manager p =
-    let kept = promises s p.slot p.epoch manager in
+    let kept = serving_promise s p.slot p.epoch manager in
     by_test (Goes s) (may_report s p) (reports p.slot p.epoch kept) (still s)
-    (λ _. first_goes s (report kept.state p.slot p.epoch ∷ []) (follows kept.state kept.outs) (tt, tt) (followed_goes s p.slot p.epoch manager))
+    (λ _. first_goes s (report kept.state p.slot p.epoch ∷ []) (serving_follow kept.state kept.outs) (tt, tt) (followed_goes s p.slot p.epoch manager))
     (λ _. stays s s (itself s))
 
 on_poll_goes : (s : Serving) (from : NodeId) (p : Poll) → Goes s (on_poll s from p)
 on_poll_goes s (node.Manager manager) p = polled_goes s manager p
 on_poll_goes s _ p = stays s s (itself s)
 
-hears_goes : (s : Serving) (news : SlotNews) → Goes s (hears s news)
-unfolding hears
+hears_goes : (s : Serving) (news : SlotNews) → Goes s (serving_hear s news)
+unfolding serving_hear
 hears_goes s news =
     by_test (Goes s) (is_news s news) (promised_in s news) (still s) (λ _. followed_goes s news.slot news.epoch news.manager) (λ _. stays s s (itself s))
 
 regroups_goes : (s : Serving) (newer : Bool) (m : GroupMapState) → Goes s (regroups s newer m)
-regroups_goes s newer m = by_test (Goes s) newer (writes s (log_in.Maps m)) (still s) (λ _. writes_go s (log_in.Maps m)) (λ _. stays s s (itself s))
+regroups_goes s newer m = by_test (Goes s) newer (serving_write s (log_in.Maps m)) (still s) (λ _. writes_go s (log_in.Maps m)) (λ _. stays s s (itself s))
 
 -- ---- tokens
 
-supplies_quiet : (f : Forward) (o : outputs.Out) → AllQuiet (supplies f o)
+supplies_quiet : (f : Forward) (o : outputs.Out) → AllQuiet (send_supply f o)
 supplies_quiet f (output.Supply block ver value) = (tt, tt)
 supplies_quiet f (output.Want block req again mode) = tt
 supplies_quiet f (output.Gave block stamp) = tt
@@ -128,7 +128,7 @@ on_forward_goes s f = record {
     reading = inl refl;
     wants = takes_on s.tokens (input.Forwarded f.block f.stamp f.ver);
   };
-  quiet = all_flat_map IsQuiet (supplies f) (supplies_quiet f) (client.on_forwarded s.tokens f.block f.stamp f.ver).outs;
+  quiet = all_flat_map IsQuiet (send_supply f) (supplies_quiet f) (client.on_forwarded s.tokens f.block f.stamp f.ver).outs;
 }
 
 again_quiet : (s : Serving) (r : Recall) (outs : List outputs.Out) → AllQuiet (again s r outs)
@@ -139,7 +139,7 @@ on_recall_goes : (s : Serving) (r : Recall) → Goes s (on_recall s r)
 unfolding on_recall
 on_recall_goes s r =
     let d = client.on_recalled s.tokens r.block r.stamp r.keep in
-    by_test (Goes s) (is_stamp (held_at s r.block).stamp r.stamp) (says_again s r d) (takes_back s r.block r.stamp r.keep)
+    by_test (Goes s) (is_stamp (held_at s r.block).stamp r.stamp) (says_again s r d) (take_back s r.block r.stamp r.keep)
     (λ _. record {
       rests = record {
         lasting = refl;
@@ -150,7 +150,7 @@ on_recall_goes s r =
       };
       quiet = again_quiet (record s { tokens = d.state }) r d.outs;
     })
-    (λ _. takes_back_goes s r.block r.stamp r.keep)
+    (λ _. take_back_goes s r.block r.stamp r.keep)
 
 on_supply_goes : (s : Serving) (m : Supply) → Goes s (on_supply s m)
 unfolding on_supply
@@ -166,12 +166,12 @@ on_ack_goes s a =
 
 -- ---- fragments
 
-ends_fetch_goes : (s : Serving) (at : BlockAt) (x : Next) → Goes s (ends_fetch s at x)
-ends_fetch_goes s at next.Again = hands_go s (input.Reask at.block) tt
-ends_fetch_goes s at (next.Read segment) = hands_go s (input.Fetched at.block (value_at segment at.item)) tt
-ends_fetch_goes s at next.Wait = stays s s (itself s)
-ends_fetch_goes s at next.Ask = stays s s (itself s)
-ends_fetch_goes s at next.Lost = stays s s (itself s)
+end_fetch_goes : (s : Serving) (at : BlockAt) (x : Next) → Goes s (end_fetch s at x)
+end_fetch_goes s at next.Again = hands_go s (input.Reask at.block) tt
+end_fetch_goes s at (next.Read segment) = hands_go s (input.Fetched at.block (value_at segment at.item)) tt
+end_fetch_goes s at next.Wait = stays s s (itself s)
+end_fetch_goes s at next.Ask = stays s s (itself s)
+end_fetch_goes s at next.Lost = stays s s (itself s)
 
 -- ---- one packet
 
@@ -210,14 +210,14 @@ module _ (s : Serving) (fresh : s.lasting.questions.last < next_ask s.lasting.qu
         abbrev u : Serving
         u = with_reading s (Some r)
 
-        ends_turn : (x : Next) → ((q : ReadingState) → reading_in (ends_fetch u at x).state.call ≡ Some q
-            → Comes s (Deliver packet) (ends_fetch u at x).state.tokens (ends_fetch u at x).state.lasting.questions.last r)
-            → Turn (ends_fetch u at x)
+        ends_turn : (x : Next) → ((q : ReadingState) → reading_in (end_fetch u at x).state.call ≡ Some q
+            → Comes s (Deliver packet) (end_fetch u at x).state.tokens (end_fetch u at x).state.lasting.questions.last r)
+            → Turn (end_fetch u at x)
         ends_turn x comes =
-            let g : Goes u (ends_fetch u at x) = ends_fetch_goes u at x in
-            let read_u : (q : ReadingState) → reading_in (ends_fetch u at x).state.call ≡ Some q → q ≡ r =
+            let g : Goes u (end_fetch u at x) = end_fetch_goes u at x in
+            let read_u : (q : ReadingState) → reading_in (end_fetch u at x).state.call ≡ Some q → q ≡ r =
             λ q read.
-            is_that s.call r q (read_before s (Deliver packet) (reading_in u.call) (reading_in (ends_fetch u at x).state.call) g.rests.reading q read) in
+            is_that s.call r q (read_before s (Deliver packet) (reading_in u.call) (reading_in (end_fetch u at x).state.call) g.rests.reading q read) in
             record {
               draws = inl (ap (λ (l : Lasting). l.questions.last) g.rests.lasting);
               maps = inl g.rests.maps;
@@ -227,24 +227,24 @@ module _ (s : Serving) (fresh : s.lasting.questions.last < next_ask s.lasting.qu
                 items = ap (λ (l : Lasting). l.items) g.rests.lasting;
               };
               reading = λ q read.
-                  subst (Comes s (Deliver packet) (ends_fetch u at x).state.tokens (ends_fetch u at x).state.lasting.questions.last) (sym (read_u q read))
+                  subst (Comes s (Deliver packet) (end_fetch u at x).state.tokens (end_fetch u at x).state.lasting.questions.last) (sym (read_u q read))
                   (comes q read);
-              says = all_quiet_say s (Deliver packet) (reading_in (ends_fetch u at x).state.call) (ends_fetch u at x).outs g.quiet;
+              says = all_quiet_say s (Deliver packet) (reading_in (end_fetch u at x).state.call) (end_fetch u at x).outs g.quiet;
             }
 
       module _ (at : BlockAt) (block : was.target.block ≡ Some at) (groups : GroupMapState) where
         abbrev r : ReadingState
-        r = (on_answer was groups ask server t).state
+        r = (reading_take was groups ask server t).state
 
         -- what is asked again, where it is
-        asked_again : (x : Next) → (q : ReadingState) → reading_in (ends_fetch (with_reading s (Some r)) at x).state.call ≡ Some q → x ≡ next.Again
-            → Anew s.tokens at.block (ends_fetch (with_reading s (Some r)) at x).state.tokens
+        asked_again : (x : Next) → (q : ReadingState) → reading_in (end_fetch (with_reading s (Some r)) at x).state.call ≡ Some q → x ≡ next.Again
+            → Anew s.tokens at.block (end_fetch (with_reading s (Some r)) at x).state.tokens
         asked_again next.Again q read same =
             let u : Serving = with_reading s (Some r) in
-            let g : Goes u (hands u (input.Reask at.block)) = hands_go u (input.Reask at.block) tt in
+            let g : Goes u (hand u (input.Reask at.block)) = hands_go u (input.Reask at.block) tt in
             let that : q ≡ r =
             is_that s.call r q
-            (read_before s (Deliver packet) (reading_in u.call) (reading_in (hands u (input.Reask at.block)).state.call) g.rests.reading q read)
+            (read_before s (Deliver packet) (reading_in u.call) (reading_in (hand u (input.Reask at.block)).state.call) g.rests.reading q read)
             in
             asks_again u at room q read
             (ap (λ (y : ReadingState). y.target.block) that ∙ (ap (λ (y : Target). y.block) (answer_keeps_target was groups ask server t).0 ∙ block))
@@ -256,9 +256,9 @@ module _ (s : Serving) (fresh : s.lasting.questions.last < next_ask s.lasting.qu
         one_at : (x y : BlockAt) → Some x ≡ Some y → x ≡ y
         one_at x y e = cc
 
-        heard_turns : Turn (ends_fetch (with_reading s (Some r)) at (on_answer was groups ask server t).next)
+        heard_turns : Turn (end_fetch (with_reading s (Some r)) at (reading_take was groups ask server t).next)
         heard_turns =
-            let x : Next = (on_answer was groups ask server t).next in
+            let x : Next = (reading_take was groups ask server t).next in
             ends_turn r at x (λ q read. inr (inl (record {
               was = was;
               reads = fact;
@@ -272,11 +272,11 @@ module _ (s : Serving) (fresh : s.lasting.questions.last < next_ask s.lasting.qu
               groups = groups;
               now = refl;
               again = λ again other block_is.
-                  subst (λ (y : BlockAt). Anew s.tokens y.block (ends_fetch (with_reading s (Some r)) at x).state.tokens)
+                  subst (λ (y : BlockAt). Anew s.tokens y.block (end_fetch (with_reading s (Some r)) at x).state.tokens)
                   (one_at at other (sym block ∙ block_is)) (asked_again x q read again);
             })))
 
-      told_turns : (b : Option BlockAt) → was.target.block ≡ b → (groups : Option GroupMapState) → Turn (told_at s b (heard (Some was) groups ask server t))
+      told_turns : (b : Option BlockAt) → was.target.block ≡ b → (groups : Option GroupMapState) → Turn (told_at s b (hear_reading (Some was) groups ask server t))
       told_turns None block groups = still_turns
       told_turns (Some at) block None = ends_turn was at next.Wait (λ q read. inl fact)
       told_turns (Some at) block (Some groups) = heard_turns at block groups
@@ -285,7 +285,7 @@ module _ (s : Serving) (fresh : s.lasting.questions.last < next_ask s.lasting.qu
     unfolding told_by
     told_by_turns = by (reading_in s.call) refl
       where
-        by : (o : Option ReadingState) → reading_in s.call ≡ o → Turn (told_at s (block_read o) (heard o s.maps.groups ask server t))
+        by : (o : Option ReadingState) → reading_in s.call ≡ o → Turn (told_at s (block_read o) (hear_reading o s.maps.groups ask server t))
         by None fact = still_turns
         by (Some was) fact = told_turns was fact was.target.block refl s.maps.groups
 
@@ -298,8 +298,8 @@ module _ (s : Serving) (fresh : s.lasting.questions.last < next_ask s.lasting.qu
   news_turn : (news : News) → Bears s (Deliver packet) news packet.body → Turn (takes_news s news)
   unfolding takes_news
   news_turn news bears =
-      let t : Serving = record s { maps = taken s.maps news } in
-      let d : Done = steps hears t news.slots in
+      let t : Serving = record s { maps = maps_take s.maps news } in
+      let d : Done = steps serving_hear t news.slots in
       turn_goes s (Deliver packet) d (regroups d.state (is_older s.maps news) news.groups)
       (turn_goes s (Deliver packet) (still t) d (record {
         draws = inl refl;
@@ -308,7 +308,7 @@ module _ (s : Serving) (fresh : s.lasting.questions.last < next_ask s.lasting.qu
         opens = λ some. record { was = some; items = refl };
         reading = λ r read. inl read;
         says = tt;
-      }) (steps_go hears hears_goes t news.slots))
+      }) (steps_go serving_hear hears_goes t news.slots))
       (regroups_goes d.state (is_older s.maps news) news.groups)
 
   on_news_turns : (news : News) → Bears s (Deliver packet) news packet.body → Turn (on_news s news)
@@ -316,7 +316,7 @@ module _ (s : Serving) (fresh : s.lasting.questions.last < next_ask s.lasting.qu
 
   -- ---- all packets
 
-  body_turns : (b : Body) → packet.body ≡ b → Turn (on_body s packet.from b)
+  body_turns : (b : Body) → packet.body ≡ b → Turn (take_body s packet.from b)
   unfolding on_welcome
   body_turns (body.Grant m) fact = on_grant_turns s fresh packet m fact
   body_turns (body.Supply m) fact = goes_turn (on_supply s m) (on_supply_goes s m)
@@ -325,7 +325,7 @@ module _ (s : Serving) (fresh : s.lasting.questions.last < next_ask s.lasting.qu
   body_turns (body.Gone m) fact = on_gone_turns m fact
   body_turns (body.DeltaAck m) fact = goes_turn (still (on_ack s m)) (on_ack_goes s m)
   body_turns (body.Poll m) fact = goes_turn (on_poll s packet.from m) (on_poll_goes s packet.from m)
-  body_turns (body.Stored m) fact = goes_turn (writes s (log_in.Acked m.name m.index m.generation)) (writes_go s (log_in.Acked m.name m.index m.generation))
+  body_turns (body.Stored m) fact = goes_turn (serving_write s (log_in.Acked m.name m.index m.generation)) (writes_go s (log_in.Acked m.name m.index m.generation))
   body_turns (body.Fragment m) fact =
       on_told_turns packet.from refl m.ask (answered.Held m.fragment) (subst (Tells m.ask (answered.Held m.fragment)) (sym fact) (refl, refl))
   body_turns (body.Missing m) fact =
@@ -347,46 +347,46 @@ module _ (s : Serving) (fresh : s.lasting.questions.last < next_ask s.lasting.qu
     says = (tt, tt);
   }
 
-  pub packet_turns : Turns s (Deliver packet) (saying (on_packet s packet).outs (runs (on_packet s packet).state))
-  unfolding on_packet
+  pub packet_turns : Turns s (Deliver packet) (saying (serving_take s packet).outs (run (serving_take s packet).state))
+  unfolding serving_take
   packet_turns =
-      then_run s (Deliver packet) (on_packet s packet)
-      (by_test Turn (names_known s.maps packet.body) (on_body s packet.from packet.body) (asks_for_maps s) (λ _. body_turns packet.body refl) (λ _. asks_turn))
+      then_run s (Deliver packet) (serving_take s packet)
+      (by_test Turn (names_known_groups s.maps packet.body) (take_body s packet.from packet.body) (asks_for_maps s) (λ _. body_turns packet.body refl) (λ _. asks_turn))
 
 -- ---- time
 
-fetched_again : (s : Serving) (o : Option ReadingState) → AllSay s Tick o (fetches_again o)
+fetched_again : (s : Serving) (o : Option ReadingState) → AllSay s Tick o (fetch_again o)
 fetched_again s None = tt
 fetched_again s (Some r) = fetches_say s Tick r
 
-pub time_turns : (s : Serving) → Turns s Tick (saying (on_tick s).outs (runs (on_tick s).state))
+pub time_turns : (s : Serving) → Turns s Tick (saying (on_tick s).outs (run (on_tick s).state))
 unfolding on_tick
 time_turns s =
-    let w : Done = hands s input.Tick in
+    let w : Done = hand s input.Tick in
     let a : Turns s Tick w = rests_turn s Tick w (hands_go s input.Tick tt) in
     let o : Option ReadingState = reading_in w.state.call in
-    let l : Done = writes w.state log_in.Tick in
+    let l : Done = serving_write w.state log_in.Tick in
     let g : Goes w.state l = writes_go w.state log_in.Tick in
-    let said : Done = gives w.state (w.outs ++ fetches_again o) in
+    let said : Done = gives w.state (w.outs ++ fetch_again o) in
     let b : Turns s Tick said = record {
       draws = a.draws;
       maps = a.maps;
       wants = a.wants;
       opens = a.opens;
       reading = a.reading;
-      says = all_append (Says s Tick o) w.outs (fetches_again o) a.says (fetched_again s o);
+      says = all_append (Says s Tick o) w.outs (fetch_again o) a.says (fetched_again s o);
     } in
     then_run s Tick (on_tick s) (again_as s w l b g)
   where
-    again_as : (s : Serving) (w l : Done) → Turns s Tick (gives w.state (w.outs ++ fetches_again (reading_in w.state.call))) → Goes w.state l
-        → Turns s Tick (gives l.state (w.outs ++ (fetches_again (reading_in w.state.call) ++ (l.outs ++ pushes_all l.state.managers l.state.feed))))
+    again_as : (s : Serving) (w l : Done) → Turns s Tick (gives w.state (w.outs ++ fetch_again (reading_in w.state.call))) → Goes w.state l
+        → Turns s Tick (gives l.state (w.outs ++ (fetch_again (reading_in w.state.call) ++ (l.outs ++ push_all l.state.managers l.state.feed))))
     again_as s w l b g =
-        let c : Turns s Tick (saying (w.outs ++ fetches_again (reading_in w.state.call)) (gives l.state (l.outs ++ pushes_all l.state.managers l.state.feed))) =
-        turn_goes s Tick (gives w.state (w.outs ++ fetches_again (reading_in w.state.call)))
-        (gives l.state (l.outs ++ pushes_all l.state.managers l.state.feed)) b
+        let c : Turns s Tick (saying (w.outs ++ fetch_again (reading_in w.state.call)) (gives l.state (l.outs ++ push_all l.state.managers l.state.feed))) =
+        turn_goes s Tick (gives w.state (w.outs ++ fetch_again (reading_in w.state.call)))
+        (gives l.state (l.outs ++ push_all l.state.managers l.state.feed)) b
         (record {
           rests = g.rests;
-          quiet = all_append IsQuiet l.outs (pushes_all l.state.managers l.state.feed) g.quiet (all_pushed_quiet l.state.managers l.state.feed);
+          quiet = all_append IsQuiet l.outs (push_all l.state.managers l.state.feed) g.quiet (all_pushed_quiet l.state.managers l.state.feed);
         }) in
         subst (λ outs. Turns s Tick (gives l.state outs))
-        (append_assoc w.outs (fetches_again (reading_in w.state.call)) (l.outs ++ pushes_all l.state.managers l.state.feed)) c
+        (append_assoc w.outs (fetch_again (reading_in w.state.call)) (l.outs ++ push_all l.state.managers l.state.feed)) c

@@ -6,18 +6,18 @@ use Rattle.xfs_base.specs.Limits.{u32_end}
 use Rattle.client_node.specs.declared.client.Client.{Client}
 use Rattle.client_node.specs.declared.phase.Phase.{Phase}
 use Rattle.client_node.specs.declared.phase.Phase.TheVariants.{Down, Opening, Serving as Serves}
-use Rattle.client_node.specs.Phases.{Went_to, begins_item, client_room, delivers, happens, lasting_of, on_begin, on_deliver, on_event, on_time, phase_room, serving_begins, takes, wish_of}
+use Rattle.client_node.specs.Phases.{Went_to, begins_item, client_has_room, client_deliver, happens, lasting_of, on_begin, on_deliver, on_event, client_tick, phase_has_room, serving_begins, takes, wish_of}
 use Rattle.client_call.specs.declared.call.Going.TheVariants.{On, Ends}
 use Rattle.client_call.specs.declared.call.Going.{Going}
 use Rattle.client_call.specs.Reads.{reading_in}
 use Rattle.client_serving.specs.declared.serving.Serving.{Serving}
-use Rattle.client_running.specs.Opens.{begins_call, call_at, opens}
-use Rattle.client_node.specs.Room.{serving_room, tokens_room}
-use Rattle.client_running.specs.Running.{goes_on, runs}
+use Rattle.client_running.specs.Opens.{begin_call, call_at, opens}
+use Rattle.client_node.specs.Room.{serving_has_room, tokens_room}
+use Rattle.client_running.specs.Running.{running_go_on, run}
 use Rattle.client_serving.specs.Sends.{Done, gives}
-use Rattle.log_owner.specs.Opening.{log_room}
+use Rattle.log_owner.specs.Opening.{log_has_room}
 use Rattle.node_base.specs.Asking.{next_ask}
-use Rattle.node_base.specs.Beginning.{begun, is_left, next_item, waiting, work_at, answers_unanswered}
+use Rattle.node_base.specs.Beginning.{items_begin, is_left, next_item, items_wait, work_at, answers_unanswered}
 use Rattle.node_base.specs.declared.effects.Effect.{Effect}
 use Rattle.node_base.specs.declared.effects.Effect.TheVariants.{Answer}
 use Rattle.node_base.specs.declared.items.Items.{Items}
@@ -89,14 +89,14 @@ module _ (s : Serving) (what : Do) where
 
 -- ---- the next item begins
 
-begun_waits : (items : Items) → (begun items).unanswered ≡ items.unanswered
+begun_waits : (items : Items) → (items_begin items).unanswered ≡ items.unanswered
 begun_waits items =
     by_test (λ (i : Items). i.unanswered ≡ items.unanswered) (is_left items) (record items { begun = items.begun + 1 }) items (λ _. refl) (λ _. refl)
 
 module _ (s : Serving) (waits : WaitsFor s) where
   -- its next item is begun
   abbrev next : Serving
-  next = record s { lasting = record s.lasting { items = begun s.lasting.items } }
+  next = record s { lasting = record s.lasting { items = items_begin s.lasting.items } }
 
   same_item : next.lasting.items.unanswered ≡ s.lasting.items.unanswered
   same_item = begun_waits s.lasting.items
@@ -118,23 +118,23 @@ module _ (s : Serving) (waits : WaitsFor s) where
   -- no call is open
   module _ (none : is_none s.call ≡ true) (number : ℕ) where
     abbrev waiting_on : Serving
-    waiting_on = record next { lasting = record next.lasting { items = waiting next.lasting.items number } }
+    waiting_on = record next { lasting = record next.lasting { items = items_wait next.lasting.items number } }
 
     module _ (t : Serving) (outs : List Effect) (quiet : AllQuiet outs) (questions : t.lasting.questions ≡ s.lasting.questions) (maps : t.maps ≡ s.maps)
         (wants : Lasts s.tokens t.tokens) (unread : reading_in t.call ≡ None) (opens : is_none t.call ≡ false → is_some t.lasting.items.unanswered ≡ true) where
-      run_so : Goes_so (saying outs (runs t))
+      run_so : Goes_so (saying outs (run t))
       run_so =
-          let b : RunsOn t (runs t) = runs_run t in
+          let b : RunsOn t (run t) = runs_run t in
           record {
             draws = inl (ap (λ (q : Questions). q.last) (b.runs.questions ∙ questions));
             maps = inl (b.runs.maps ∙ maps);
             wants = λ k inc highest epoch l. b.runs.wants k inc highest epoch (wants k inc highest epoch l);
             waits = still_open b.runs.ends;
             reading = λ r read. absurd (nothing b.runs.ends r read);
-            says = all_append _ outs (runs t).outs (all_quiet_say s Begin _ outs quiet) (all_quiet_say s Begin _ (runs t).outs b.quiet);
+            says = all_append _ outs (run t).outs (all_quiet_say s Begin _ outs quiet) (all_quiet_say s Begin _ (run t).outs b.quiet);
           }
         where
-          still_open : ((runs t).state.call ≡ None) ⊎ Waits t (runs t).state → WaitsFor (runs t).state
+          still_open : ((run t).state.call ≡ None) ⊎ Waits t (run t).state → WaitsFor (run t).state
           still_open (inl ended) some = contrary (sym some ∙ ap is_none ended)
           still_open (inr w) some = subst (λ (i : Items). is_some i.unanswered ≡ true) (sym w.items) (opens w.was)
 
@@ -142,9 +142,9 @@ module _ (s : Serving) (waits : WaitsFor s) where
           never a b (inl same) was r fact = absurd (let clash : None ≡ Some r = sym was ∙ (sym same ∙ fact) in cc)
           never a b (inr over) was r fact = absurd (let clash : None ≡ Some r = sym over ∙ fact in cc)
 
-          nothing : ((runs t).state.call ≡ None) ⊎ Waits t (runs t).state → (r : ReadingState) → reading_in (runs t).state.call ≡ Some r → ⊥
+          nothing : ((run t).state.call ≡ None) ⊎ Waits t (run t).state → (r : ReadingState) → reading_in (run t).state.call ≡ Some r → ⊥
           nothing (inl ended) r fact = absurd (let clash : None ≡ Some r = sym (ap reading_in ended) ∙ fact in cc)
-          nothing (inr w) r fact = never (reading_in t.call) (reading_in (runs t).state.call) w.reading unread r fact
+          nothing (inr w) r fact = never (reading_in t.call) (reading_in (run t).state.call) w.reading unread r fact
 
     no_call_reads : reading_in s.call ≡ None
     no_call_reads = by s.call none
@@ -153,15 +153,15 @@ module _ (s : Serving) (waits : WaitsFor s) where
         by None fact = refl
         by (Some call) fact = contrary fact
 
-    going_so : (going : Going) → GoingNew going → Goes_so (saying (goes_on waiting_on going).outs (runs (goes_on waiting_on going).state))
-    unfolding goes_on
+    going_so : (going : Going) → GoingNew going → Goes_so (saying (running_go_on waiting_on going).outs (run (running_go_on waiting_on going).state))
+    unfolding running_go_on
     going_so (On call) new = run_so (record waiting_on { call = Some call }) [] tt refl refl (same_wants s.tokens) new (λ some. refl)
     going_so (Ends a) new =
-        run_so (goes_on waiting_on (Ends a)).state (goes_on waiting_on (Ends a)).outs (answered_quiet (Some number) a) refl refl (same_wants s.tokens)
+        run_so (running_go_on waiting_on (Ends a)).state (running_go_on waiting_on (Ends a)).outs (answered_quiet (Some number) a) refl refl (same_wants s.tokens)
         no_call_reads
         (λ some. contrary (sym some ∙ none))
 
-    begins_so : (going : Option Going) → AnyGoingNew going → Goes_so (begins_call next number going)
+    begins_so : (going : Option Going) → AnyGoingNew going → Goes_so (begin_call next number going)
     begins_so None new = at_once (Answer number answer.Done ∷ []) (tt, tt)
     begins_so (Some going) new = going_so going new
 
@@ -180,7 +180,7 @@ module _ (s : Serving) (waits : WaitsFor s) where
   unfolding opens
   opens_so number =
       by_test Goes_so (is_some next.lasting.items.unanswered) (gives next (Answer number answer.Busy ∷ []))
-      (begins_call next number (call_at next number (work_at next.lasting.items number))) (λ _. at_once (Answer number answer.Busy ∷ []) (tt, tt))
+      (begin_call next number (call_at next number (work_at next.lasting.items number))) (λ _. at_once (Answer number answer.Busy ∷ []) (tt, tt))
       (λ closed. begins_so (unopened closed) number (call_at next number (work_at next.lasting.items number))
       (wanted_new number (work_at next.lasting.items number)))
 
@@ -207,14 +207,14 @@ module _ (s : Serving) (waits : WaitsFor s) where
   -- ---- all events
 
   module _ (fresh : s.lasting.questions.last < next_ask s.lasting.questions) (room : nat_lt s.tokens.req u32_end ≡ true) where
-    deliver_so : (peers : Peers) (capacity : ℕ) (packet : Packet) → WentSo s (Deliver packet) (delivers peers capacity (Serves s) packet)
+    deliver_so : (peers : Peers) (capacity : ℕ) (packet : Packet) → WentSo s (Deliver packet) (client_deliver peers capacity (Serves s) packet)
     unfolding on_deliver
     deliver_so peers capacity packet =
         by_test (WentSo s (Deliver packet)) (is_well_formed peers packet) (on_deliver capacity (Serves s) packet) (still (Serves s))
         (λ _. served s (Deliver packet) _ waits (packet_turns s fresh room packet)) (λ _. still_serves s (Deliver packet) waits)
 
     event_so : (peers : Peers) (capacity : ℕ) (what : Do) → WentSo s what (on_event peers capacity (Serves s) what)
-    unfolding on_time
+    unfolding client_tick
     event_so peers capacity Begin = begin_so peers.servers
     event_so peers capacity (Deliver packet) = deliver_so peers capacity packet
     event_so peers capacity Tick = served s Tick _ waits (time_turns s)
@@ -227,21 +227,21 @@ below_end k room = grind (arith, nat_tests)
 
 pub event_serves : (client : Client) (s : Serving) → client.phase ≡ Serves s → WaitsFor s → (what : Do) → WentSo s what (takes client what)
 event_serves client s fact waits what =
-    by_test (WentSo s what) (client_room client) (happens client what) (still client.phase)
+    by_test (WentSo s what) (client_has_room client) (happens client what) (still client.phase)
     (λ room. subst (λ p. WentSo s what (on_event client.peers client.cache p what)) (sym fact)
     (event_so s waits (next_later s.lasting.questions.last (roomy room)) (below_end s.tokens.req (roomy_wants room)) client.peers client.cache what))
     (λ _. subst (λ p. WentSo s what (still p)) (sym fact) (still_serves s what waits))
   where
-    roomy : client_room client ≡ true → has_room s.lasting.questions.last ≡ true
+    roomy : client_has_room client ≡ true → has_room s.lasting.questions.last ≡ true
     roomy room =
         subst (λ p. has_room (lasting_of p).questions.last ≡ true) fact
-        (and_first (has_room (lasting_of client.phase).questions.last) (phase_room client.phase)
-        (and_second (has_room (lasting_of client.phase).inc) (has_room (lasting_of client.phase).questions.last && phase_room client.phase) room))
+        (and_first (has_room (lasting_of client.phase).questions.last) (phase_has_room client.phase)
+        (and_second (has_room (lasting_of client.phase).inc) (has_room (lasting_of client.phase).questions.last && phase_has_room client.phase) room))
 
-    roomy_wants : client_room client ≡ true → has_room s.tokens.req ≡ true
+    roomy_wants : client_has_room client ≡ true → has_room s.tokens.req ≡ true
     roomy_wants room =
-        let rest = and_second (has_room (lasting_of client.phase).inc) (has_room (lasting_of client.phase).questions.last && phase_room client.phase) room in
-        let serves : serving_room s ≡ true =
-        subst (λ p. phase_room p ≡ true) fact (and_second (has_room (lasting_of client.phase).questions.last) (phase_room client.phase) rest) in
-        and_first (has_room s.tokens.req) (log_room s.log && tokens_room s)
-        (and_second (has_room s.maps.version) (has_room s.tokens.req && (log_room s.log && tokens_room s)) serves)
+        let rest = and_second (has_room (lasting_of client.phase).inc) (has_room (lasting_of client.phase).questions.last && phase_has_room client.phase) room in
+        let serves : serving_has_room s ≡ true =
+        subst (λ p. phase_has_room p ≡ true) fact (and_second (has_room (lasting_of client.phase).questions.last) (phase_has_room client.phase) rest) in
+        and_first (has_room s.tokens.req) (log_has_room s.log && tokens_room s)
+        (and_second (has_room s.maps.version) (has_room s.tokens.req && (log_has_room s.log && tokens_room s)) serves)

@@ -6,7 +6,7 @@ use Rattle.client_node.specs.declared.client.Client.{Client}
 use Rattle.client_node.specs.declared.phase.Phase.{Phase}
 use Rattle.client_node.specs.declared.phase.Phase.TheVariants.{Down, Opening, Serving as Serves}
 use Rattle.client_node.specs.Phases.{client_step}
-use Rattle.client_node.specs.Starting.{first_client}
+use Rattle.client_node.specs.Starting.{client_start}
 use Rattle.group_map.specs.GroupMapState.{GroupMapState}
 use Rattle.group_map.specs.WellFormed.{IsGroupMap}
 use Rattle.node_slots.specs.client_law.Events.{after_events}
@@ -34,5 +34,5 @@ reads_so (Serves s) h = known_present s.maps.groups h.known
 
 pub reads_by_present_groups : ReadsByPresentGroups
 reads_by_present_groups number setup works events first brings =
-    reads_so (after_events (first_client number setup works) events).phase
-    (after_all (first_client number setup works) events brings (stands_first IsGroupMap number setup works first))
+    reads_so (after_events (client_start number setup works) events).phase
+    (after_all (client_start number setup works) events brings (stands_first IsGroupMap number setup works first))

@@ -7,22 +7,22 @@ use Rattle.client_log.specs.declared.output.Out.{Out as LogOut}
 use Rattle.client_log.specs.declared.output.Out.TheVariants as log_out
 use Rattle.client_log.specs.Transition as log
 use Rattle.client_call.specs.declared.call.Call.{Call}
-use Rattle.client_call.specs.Reads.{reading_in, call_with, is_fetched, kept_while}
+use Rattle.client_call.specs.Reads.{reading_in, set_reading, is_fetched, kept_while}
 use Rattle.client_serving.specs.declared.serving.Serving.{Serving}
-use Rattle.client_serving.specs.Follow.{evicts, notes_clean, notes_gone, notes_copy, seals, follows_one, follows, hands, takes_back}
+use Rattle.client_serving.specs.Follow.{evicts, note_clean, note_gone, note_copy, serving_seal, follow_one, serving_follow, hand, take_back}
 use Rattle.client_serving.specs.Reads.{ends_reading}
 use Rattle.client_serving.specs.Sends.{Done, gives, deltas, wants, gaves}
-use Rattle.coop_cache.specs.Transition.{cleaned, left}
+use Rattle.coop_cache.specs.Transition.{cache_clean, cache_leave}
 use Rattle.coop_cache.specs.declared.output.Out as cache_out
 use Rattle.coop_cache.specs.declared.output.Out.TheVariants.{Victim}
 use Rattle.delta_feed.specs.declared.output.Out.{Out as Range_out}
 use Rattle.delta_feed.specs.declared.output.Out.TheVariants.{Range}
 use Rattle.delta_feed.specs.FeedState.{FeedState}
-use Rattle.delta_feed.specs.Transition.{pushed, ticked}
+use Rattle.delta_feed.specs.Transition.{feed_push, feed_tick}
 use Rattle.node_tellings.proofs.entry_tie.ClientReads.{OutTold}
 use Rattle.log_owner.specs.declared.promised.Managers.{Managers}
 use Rattle.log_owner.specs.Opening.{stored}
-use Rattle.log_owner.specs.Sending.{pushes, pushes_all, range}
+use Rattle.log_owner.specs.Sending.{sending_push, push_all, range}
 use Rattle.node_base.specs.Beginning.{answers_unanswered}
 use Rattle.node_base.specs.declared.effects.Effect.{Effect}
 use Rattle.node_base.specs.declared.effects.Effect.TheVariants.{Send, Answer, Lose, Does}
@@ -133,14 +133,14 @@ fold_rests f each s (x ∷ xs) = then_rests s (f s x) (fold f (f s x) xs) (each 
 
 -- ---- what bears no fetch
 
-pub pushed_quiet : (managers : Managers) (feed : FeedState) (slot : ℕ) → AllQuiet (pushes managers feed slot)
-pushed_quiet managers feed slot = all_map IsQuiet (range managers) one (pushed feed slot)
+pub pushed_quiet : (managers : Managers) (feed : FeedState) (slot : ℕ) → AllQuiet (sending_push managers feed slot)
+pushed_quiet managers feed slot = all_map IsQuiet (range managers) one (feed_push feed slot)
   where
     one : (x : Range_out) → IsQuiet (range managers x)
     one (Range slot first upto rows) = tt
 
-pub all_pushed_quiet : (managers : Managers) (feed : FeedState) → AllQuiet (pushes_all managers feed)
-all_pushed_quiet managers feed = all_map IsQuiet (range managers) one (ticked feed)
+pub all_pushed_quiet : (managers : Managers) (feed : FeedState) → AllQuiet (push_all managers feed)
+all_pushed_quiet managers feed = all_map IsQuiet (range managers) one (feed_tick feed)
   where
     one : (x : Range_out) → IsQuiet (range managers x)
     one (Range slot first upto rows) = tt
@@ -154,7 +154,7 @@ stored_quiet (log_out.Settled end rows) = tt
 
 -- ---- a reading ends
 
-same_call : (call : Option Call) (r : Option ReadingState) → is_none (call_with call r) ≡ is_none call
+same_call : (call : Option Call) (r : Option ReadingState) → is_none (set_reading call r) ≡ is_none call
 same_call None r = refl
 same_call (Some call) r = refl
 
@@ -162,7 +162,7 @@ kept_less : (tokens : TokensState) (r : Option ReadingState) → Less r (kept_wh
 kept_less tokens None = inr refl
 kept_less tokens (Some r) = by_test (Less (Some r)) (is_fetched tokens r.target.block) (Some r) None (λ _. inl refl) (λ _. inr refl)
 
-call_less : (call : Option Call) (r : Option ReadingState) → Less (reading_in call) r → Less (reading_in call) (reading_in (call_with call r))
+call_less : (call : Option Call) (r : Option ReadingState) → Less (reading_in call) r → Less (reading_in call) (reading_in (set_reading call r))
 call_less None r less = inr refl
 call_less (Some call) r less = less
 
@@ -182,28 +182,28 @@ unfolding evicts
 evicts_rests s (Victim block) =
     record { lasting = refl; maps = refl; call = refl; reading = inl refl; wants = takes_on s.tokens (input.Evict block) }
 
-pub notes_clean_rests : (s : Serving) (block : BlockId) → Rests s (notes_clean s block)
-unfolding notes_clean
-notes_clean_rests s block =
-    let t : Serving = record s { cache = (cleaned s.cache block).state } in
-    let r : Rests t (fold evicts t (cleaned s.cache block).outs) = fold_rests evicts evicts_rests t (cleaned s.cache block).outs in
+pub note_clean_rests : (s : Serving) (block : BlockId) → Rests s (note_clean s block)
+unfolding note_clean
+note_clean_rests s block =
+    let t : Serving = record s { cache = (cache_clean s.cache block).state } in
+    let r : Rests t (fold evicts t (cache_clean s.cache block).outs) = fold_rests evicts evicts_rests t (cache_clean s.cache block).outs in
     record { lasting = r.lasting; maps = r.maps; call = r.call; reading = r.reading; wants = r.wants }
 
-pub notes_gone_rests : (s : Serving) (block : BlockId) → Rests s (notes_gone s block)
-unfolding notes_gone
-notes_gone_rests s block =
-    by_test (Rests s) (is_nothing (held_of s.tokens.blocks block).mode) (record s { cache = left s.cache block }) s
+pub note_gone_rests : (s : Serving) (block : BlockId) → Rests s (note_gone s block)
+unfolding note_gone
+note_gone_rests s block =
+    by_test (Rests s) (is_nothing (held_of s.tokens.blocks block).mode) (record s { cache = cache_leave s.cache block }) s
     (λ _. record { lasting = refl; maps = refl; call = refl; reading = inl refl; wants = same_wants s.tokens }) (λ _. itself s)
 
-notes_copy_rests : (s : Serving) (block : BlockId) → Rests s (notes_copy s block)
-unfolding notes_copy
-notes_copy_rests s block =
-    by_test (Rests s) (same_mode (held_of s.tokens.blocks block).mode Copy) (notes_clean s block) s (λ _. notes_clean_rests s block) (λ _. itself s)
+note_copy_rests : (s : Serving) (block : BlockId) → Rests s (note_copy s block)
+unfolding note_copy
+note_copy_rests s block =
+    by_test (Rests s) (same_mode (held_of s.tokens.blocks block).mode Copy) (note_clean s block) s (λ _. note_clean_rests s block) (λ _. itself s)
 
 -- ---- the log
 
-pub seals_go : (s : Serving) → Goes s (seals s)
-unfolding seals
+pub seals_go : (s : Serving) → Goes s (serving_seal s)
+unfolding serving_seal
 seals_go s = record {
   rests = record { lasting = refl; maps = refl; call = refl; reading = inl refl; wants = same_wants s.tokens };
   quiet = all_flat_map IsQuiet stored stored_quiet (log.on_seal s.log).outs;
@@ -219,21 +219,21 @@ wants_quiet s block req again mode =
 says : (s : Serving) (outs : List Effect) → AllQuiet outs → Goes s (gives s outs)
 says s outs quiet = record { rests = itself s; quiet = quiet }
 
-follows_one_goes : (s : Serving) (o : outputs.Out) → OutTold Nowhere o → Goes s (follows_one s o)
-unfolding follows_one
-follows_one_goes s (output.Want block req again mode) fact = says s (wants s block req again mode) (wants_quiet s block req again mode)
-follows_one_goes s (output.Gave block stamp) fact =
+follow_one_goes : (s : Serving) (o : outputs.Out) → OutTold Nowhere o → Goes s (follow_one s o)
+unfolding follow_one
+follow_one_goes s (output.Want block req again mode) fact = says s (wants s block req again mode) (wants_quiet s block req again mode)
+follow_one_goes s (output.Gave block stamp) fact =
     says s (gaves s block stamp) (all_append IsQuiet (deltas s block) _ (pushed_quiet s.managers s.feed _) (tt, tt))
-follows_one_goes s (output.Flush block) fact = seals_go s
-follows_one_goes s (output.Read block place) fact = absurd (let e = fact.there.place_told in cc)
-follows_one_goes s (output.Ready block) fact = stays s (notes_copy s block) (notes_copy_rests s block)
-follows_one_goes s (output.Supply block ver value) fact = stays s s (itself s)
+follow_one_goes s (output.Flush block) fact = seals_go s
+follow_one_goes s (output.Read block place) fact = absurd (let e = fact.there.place_told in cc)
+follow_one_goes s (output.Ready block) fact = stays s (note_copy s block) (note_copy_rests s block)
+follow_one_goes s (output.Supply block ver value) fact = stays s s (itself s)
 
-pub follows_go : (s : Serving) (outs : List outputs.Out) → AllByRecursion (OutTold Nowhere) outs → Goes s (follows s outs)
-unfolding follows
+pub follows_go : (s : Serving) (outs : List outputs.Out) → AllByRecursion (OutTold Nowhere) outs → Goes s (serving_follow s outs)
+unfolding serving_follow
 follows_go s [] all = stays s s (itself s)
 follows_go s (o ∷ outs) all =
-    then_goes s (follows_one s o) (follows (follows_one s o).state outs) (follows_one_goes s o all.0) (follows_go (follows_one s o).state outs all.1)
+    then_goes s (follow_one s o) (serving_follow (follow_one s o).state outs) (follow_one_goes s o all.0) (follows_go (follow_one s o).state outs all.1)
 
 -- the tokens take another state, and the reading ends with its fetch
 pub took_rests : (s : Serving) (tokens : TokensState) → Lasts s.tokens tokens → Rests s (ends_reading (record s { tokens = tokens }))
@@ -242,8 +242,8 @@ took_rests s tokens wants =
     let r : Rests t (ends_reading t) = ends_rest t in
     record { lasting = r.lasting; maps = r.maps; call = r.call; reading = r.reading; wants = wants }
 
-pub hands_go : (s : Serving) (i : inputs.In) → NoGrant i → Goes s (hands s i)
-unfolding hands
+pub hands_go : (s : Serving) (i : inputs.In) → NoGrant i → Goes s (hand s i)
+unfolding hand
 hands_go s i none =
     let r : client.Done = client.transition s.tokens i in
     from_goes s (ends_reading (record s { tokens = r.state })) _ (took_rests s r.state (takes_on s.tokens i))
@@ -253,15 +253,15 @@ hands_go s i none =
 pub left_at : (s : Serving) (d : Done) (t : Serving) → Goes s d → Rests d.state t → Goes s (gives t d.outs)
 left_at s d t a r = record { rests = then_rests s d.state t a.rests r; quiet = a.quiet }
 
-pub takes_back_goes : (s : Serving) (block : BlockId) (stamp : Stamp) (keep : Bool) → Goes s (takes_back s block stamp keep)
-unfolding takes_back
-takes_back_goes s block stamp keep =
-    let d : Done = hands s (input.Recalled block stamp keep) in
-    left_at s d (notes_gone d.state block) (hands_go s (input.Recalled block stamp keep) tt) (notes_gone_rests d.state block)
+pub take_back_goes : (s : Serving) (block : BlockId) (stamp : Stamp) (keep : Bool) → Goes s (take_back s block stamp keep)
+unfolding take_back
+take_back_goes s block stamp keep =
+    let d : Done = hand s (input.Recalled block stamp keep) in
+    left_at s d (note_gone d.state block) (hands_go s (input.Recalled block stamp keep) tt) (note_gone_rests d.state block)
 
 -- ---- what is asked again
 
-call_reads : (call : Option Call) (o : Option ReadingState) (q : ReadingState) → reading_in (call_with call o) ≡ Some q → o ≡ Some q
+call_reads : (call : Option Call) (o : Option ReadingState) (q : ReadingState) → reading_in (set_reading call o) ≡ Some q → o ≡ Some q
 call_reads None o q fact = absurd (let clash : None ≡ Some q = fact in cc)
 call_reads (Some call) o q fact = fact
 
@@ -281,14 +281,14 @@ still_read a b (inr none) r fact = absurd (let clash : None ≡ Some r = sym non
 
 -- where a block is asked for again and is read still, its want has a later number than any before
 pub asks_again : (u : Serving) (at : BlockAt) → nat_lt u.tokens.req u32_end ≡ true → (q : ReadingState)
-    → reading_in (hands u (input.Reask at.block)).state.call ≡ Some q → q.target.block ≡ Some at
-    → Anew u.tokens at.block (hands u (input.Reask at.block)).state.tokens
-unfolding hands
+    → reading_in (hand u (input.Reask at.block)).state.call ≡ Some q → q.target.block ≡ Some at
+    → Anew u.tokens at.block (hand u (input.Reask at.block)).state.tokens
+unfolding hand
 asks_again u at room q read block =
     let r : client.Done = client.transition u.tokens (input.Reask at.block) in
     let v : Serving = ends_reading (record u { tokens = r.state }) in
-    let g : Goes v (follows v r.outs) = follows_go v r.outs (reads_nothing u.tokens (input.Reask at.block) tt) in
-    let kept : reading_in v.call ≡ Some q = still_read (reading_in v.call) (reading_in (follows v r.outs).state.call) g.rests.reading q read in
+    let g : Goes v (serving_follow v r.outs) = follows_go v r.outs (reads_nothing u.tokens (input.Reask at.block) tt) in
+    let kept : reading_in v.call ≡ Some q = still_read (reading_in v.call) (reading_in (serving_follow v r.outs).state.call) g.rests.reading q read in
     let fetched : is_fetched r.state q.target.block ≡ true =
     kept_fetched r.state (reading_in u.call) q (call_reads u.call (kept_while r.state (reading_in u.call)) q kept) in
     g.rests.wants at.block u.tokens.inc u.tokens.req (epoch_of u.tokens.epochs (slot_of at.block.ino.0))

@@ -20,12 +20,12 @@ use Rattle.segment_reading.specs.declared.reading.Next.TheVariants.{Again, Wait}
 use Rattle.segment_reading.specs.declared.reading.Stage.TheVariants.{Asking, Between, Doubted, Over}
 use Rattle.segment_reading.specs.declared.target.BlockAt.{BlockAt}
 use Rattle.segment_reading.specs.declared.target.Target.{Target}
-use Rattle.segment_reading.specs.Reading.{ReadingState, Step, begun, counts, ends, goes_on, judged, on_answer, on_confirmed, read_as, segment_found}
+use Rattle.segment_reading.specs.Reading.{ReadingState, Step, reading_start, counts, ends, goes_on, reading_judge, reading_take, on_confirmed, reading_reads, segment_found}
 use Rattle.stripe_code.specs.declared.round.RoundState.{RoundState}
 use Rattle.stripe_code.specs.declared.round.RoundState.TheVariants as round
 use Rattle.stripe_code.specs.declared.round.Told.{Told as Answered}
 use Rattle.stripe_code.specs.declared.round.Told.TheVariants as answered
-use Rattle.stripe_code.specs.Round.{state_of, taken}
+use Rattle.stripe_code.specs.Round.{state_of, round_take}
 use Rattle.segment_format.specs.declared.segment.Segment.{Segment}
 use Rattle.segment_format.specs.ReadingItems.{answer_of}
 use Rattle.token_client.specs.State.{epoch_of}
@@ -72,21 +72,21 @@ module _ (r : ReadingState) where
   ends_so : (q : ReadingState) (pairs : List (ℕ × ℕ)) → Doubtful (ends q pairs)
   ends_so q pairs doubted = inr refl
 
-  read_doubts : (q : ReadingState) (found : Option Segment) → Doubtful (read_as q found)
+  read_doubts : (q : ReadingState) (found : Option Segment) → Doubtful (reading_reads q found)
   read_doubts q None = ends_so q []
   read_doubts q (Some segment) = λ doubted. absurd (let clash : Over ≡ Doubted = doubted in cc)
 
-  judged_doubts : (q : ReadingState) → q.stage ≡ r.stage → (groups : GroupMapState) (st : RoundState) → Doubtful (judged q groups st)
+  judged_doubts : (q : ReadingState) → q.stage ≡ r.stage → (groups : GroupMapState) (st : RoundState) → Doubtful (reading_judge q groups st)
   judged_doubts q same groups (round.Read bytes) = read_doubts q (segment_found q.target groups (answer_of bytes))
   judged_doubts q same groups (round.Short pairs) = ends_so q pairs
   judged_doubts q same groups round.Waiting = λ doubted. inl (sym same ∙ doubted)
 
-  doubt_comes : (groups : GroupMapState) (ask server : ℕ) (told : Answered) → Doubtful (on_answer r groups ask server told)
-  unfolding on_answer
+  doubt_comes : (groups : GroupMapState) (ask server : ℕ) (told : Answered) → Doubtful (reading_take r groups ask server told)
+  unfolding reading_take
   doubt_comes groups ask server told =
-      by_test Doubtful (counts r ask server told) (judged (record r { round = taken r.round server told }) groups (state_of (taken r.round server told)))
+      by_test Doubtful (counts r ask server told) (reading_judge (record r { round = round_take r.round server told }) groups (state_of (round_take r.round server told)))
       (record { state = r; next = Wait })
-      (λ _. judged_doubts (record r { round = taken r.round server told }) refl groups (state_of (taken r.round server told))) (λ _ doubted. inl doubted)
+      (λ _. judged_doubts (record r { round = round_take r.round server told }) refl groups (state_of (round_take r.round server told))) (λ _ doubted. inl doubted)
 
 module _ (e : Estate AnyNode) (c : ℕ) where
   abbrev pub reader : NodeId
@@ -236,14 +236,14 @@ module _ (e : Estate AnyNode) (c : ℕ) where
 
         -- a second round has ended by what was told
         doubts_now : (x : Told s what t.tokens r) (h : Reads count x.was)
-            → ReadingTrue e reader h.since count x.was.ask (on_answer x.was x.groups x.ask x.server x.told).state
-            → (on_answer x.was x.groups x.ask x.server x.told).state.stage ≡ Doubted → (on_answer x.was x.groups x.ask x.server x.told).next ≡ Again
+            → ReadingTrue e reader h.since count x.was.ask (reading_take x.was x.groups x.ask x.server x.told).state
+            → (reading_take x.was x.groups x.ask x.server x.told).state.stage ≡ Doubted → (reading_take x.was x.groups x.ask x.server x.told).next ≡ Again
             → Doubt h.since (suc count) x.was.target
         doubts_now x h so doubted again = record {
           when = count;
           until = omega arith;
           torn = subst (λ (y : Target). TornUnlessDeleted e h.since count y.seg) (answer_keeps_target x.was x.groups x.ask x.server x.told).0
-              (subst (StageTrue e reader h.since count x.was.ask (on_answer x.was x.groups x.ask x.server x.told).state) doubted so.stage);
+              (subst (StageTrue e reader h.since count x.was.ask (reading_take x.was x.groups x.ask x.server x.told).state) doubted so.stage);
           renewed = λ at block. record {
             life = s.tokens.inc;
             highest = s.tokens.req;
@@ -262,7 +262,7 @@ module _ (e : Estate AnyNode) (c : ℕ) where
             let kept = answer_keeps_target x.was x.groups x.ask x.server x.told in
             let target : r.target ≡ x.was.target = ap (λ (y : ReadingState). y.target) x.now ∙ kept.0 in
             let ask : r.ask ≡ x.was.ask = ap (λ (y : ReadingState). y.ask) x.now ∙ kept.1 in
-            let so : ReadingTrue e reader h.since count x.was.ask (on_answer x.was x.groups x.ask x.server x.told).state =
+            let so : ReadingTrue e reader h.since count x.was.ask (reading_take x.was x.groups x.ask x.server x.told).state =
             answered_true e reader run h.since count x.was.ask x.was h.so x.groups x.ask x.server x.told
             (told_true x.was h x.server x.ask x.packet got.0 x.from got.1 x.told x.packet.body refl x.tells) in
             reads_on r x.was target h still_open now_read
@@ -309,7 +309,7 @@ module _ (e : Estate AnyNode) (c : ℕ) where
         begins_so x =
             let last : ℕ = t.lasting.questions.last in
             let ask : r.ask ≡ last = ap (λ (y : ReadingState). y.ask) x.now in
-            let so : ReadingTrue e reader (suc count) (suc count) last (begun x.target x.group last) =
+            let so : ReadingTrue e reader (suc count) (suc count) last (reading_start x.target x.group last) =
             begun_since e reader (suc count) count (suc count) last x.target x.group last (omega arith) (omega arith)
             (named_group s.maps.groups known x.target.seg.group x.group x.known) (fresh_at x.fresh) in
             record {

@@ -7,7 +7,7 @@ use Rattle.client_call.specs.Reads.{reading_in}
 use Rattle.client_serving.specs.declared.lasting.Lasting.{Lasting}
 use Rattle.client_serving.specs.declared.serving.Serving.{Serving}
 use Rattle.client_serving.specs.Reads.{group_in}
-use Rattle.client_running.specs.Running.{runs}
+use Rattle.client_running.specs.Running.{run}
 use Rattle.client_serving.specs.Sends.{Done}
 use Rattle.group_map.specs.declared.group.Group.{Group}
 use Rattle.group_map.specs.GroupMapState.{GroupMapState}
@@ -15,13 +15,13 @@ use Rattle.node_base.specs.Asking.{next_ask}
 use Rattle.node_base.specs.declared.effects.Effect.{Effect}
 use Rattle.node_base.specs.declared.effects.Effect.TheVariants.{Send, Answer, Lose, Does}
 use Rattle.node_base.specs.declared.questions.Questions.{Questions}
-use Rattle.node_base.specs.Maps.{taken}
+use Rattle.node_base.specs.Maps.{maps_take}
 use Rattle.node_tellings.specs.reading_tie.Arrivals.{Tells}
 use Rattle.segment_reading.specs.declared.reading.Next.TheVariants.{Again}
 use Rattle.segment_reading.specs.declared.reading.Stage.TheVariants.{Between, Doubted}
 use Rattle.segment_reading.specs.declared.target.BlockAt.{BlockAt}
 use Rattle.segment_reading.specs.declared.target.Target.{Target}
-use Rattle.segment_reading.specs.Reading.{ReadingState, begun, goes_on, on_answer}
+use Rattle.segment_reading.specs.Reading.{ReadingState, reading_start, goes_on, reading_take}
 use Rattle.stripe_code.specs.declared.round.Told.{Told as Answered}
 use Rattle.token_client.specs.State.{TokensState, epoch_of}
 use Rattle.token_client.specs.Transition.{accepts}
@@ -57,8 +57,8 @@ module _ (s : Serving) (what : Do) where
     pub told : Answered
     pub tells : Tells ask told packet.body
     pub groups : GroupMapState
-    pub now : r ≡ (on_answer was groups ask server told).state
-    pub again : (on_answer was groups ask server told).next ≡ Again → (at : BlockAt) → was.target.block ≡ Some at → Anew s.tokens at.block tokens
+    pub now : r ≡ (reading_take was groups ask server told).state
+    pub again : (reading_take was groups ask server told).next ≡ Again → (at : BlockAt) → was.target.block ≡ Some at → Anew s.tokens at.block tokens
 
   -- a second round begins, by a question that is drawn now
   pub record Resumes (last : ℕ) (r : ReadingState) : Type 0 where
@@ -77,7 +77,7 @@ module _ (s : Serving) (what : Do) where
     pub group : Group
     pub known : group_in s.maps.groups target.seg.group ≡ Some group
     pub fresh : s.lasting.questions.last < last
-    pub now : r ≡ begun target group last
+    pub now : r ≡ reading_start target group last
 
   -- what is read was read before, or comes so
   abbrev pub Comes : TokensState → ℕ → ReadingState → Type 0
@@ -145,7 +145,7 @@ module _ (s : Serving) (what : Do) where
     pub packet : Packet
     pub delivers : what ≡ Deliver packet
     pub bears : Bears news packet.body
-    pub now : t.maps ≡ taken s.maps news
+    pub now : t.maps ≡ maps_take s.maps news
 
   -- ---- an event
 
@@ -261,5 +261,5 @@ module _ (s : Serving) (what : Do) where
   pub turn_goes : (d x : Done) → Turns d → Goes d.state x → Turns (saying d.outs x)
   turn_goes d x a g = turn_runs d a x (record { runs = rests_run d.state x.state g.rests; quiet = g.quiet })
 
-  pub then_run : (d : Done) → Turns d → Turns (saying d.outs (runs d.state))
-  then_run d a = turn_runs d a (runs d.state) (runs_run d.state)
+  pub then_run : (d : Done) → Turns d → Turns (saying d.outs (run d.state))
+  then_run d a = turn_runs d a (run d.state) (runs_run d.state)

@@ -8,25 +8,25 @@ use Rattle.client_log.specs.declared.input.In.TheVariants as log_in
 use Rattle.client_log.specs.declared.output.Out.{Out as LogOut}
 use Rattle.client_log.specs.declared.output.Out.TheVariants as log_out
 use Rattle.client_log.specs.Transition as log
-use Rattle.client_call.specs.Calls.{after_answer}
+use Rattle.client_call.specs.Calls.{plan_answered}
 use Rattle.client_call.specs.declared.call.Call.{Call}
 use Rattle.client_call.specs.declared.call.Going.TheVariants.{On, Ends}
 use Rattle.client_call.specs.declared.call.Going.{Going}
 use Rattle.client_call.specs.Fitting.{put_fits}
 use Rattle.client_call.specs.Reads.{reading_in}
-use Rattle.client_running.specs.Blocks.{Made, needs, got, gets, wrote, changes, held_back, changes_if_fits, puts, lets_go, changed, puts_again, puts_at, is_settled, synced_acts, syncs, makes}
+use Rattle.client_running.specs.Blocks.{Made, blocks_need, got, blocks_get, wrote, changes, held_back, blocks_change, blocks_put, blocks_let_go, changed, puts_again, blocks_put_at, is_settled, synced_acts, blocks_sync, blocks_make}
 use Rattle.client_serving.specs.declared.lasting.Lasting.{Lasting}
 use Rattle.client_serving.specs.declared.serving.Serving.{Serving}
-use Rattle.client_serving.specs.Flights.{held_at, notes_settled, keeps_clean, gives_up, gives_if_clean, feeds, settled_rows, settles, writes_one, seals_again, writes}
-use Rattle.client_serving.specs.Follow.{notes_clean, notes_gone, seals}
-use Rattle.client_running.specs.Running.{goes_on, Ran, answers_call, ran, runs_call, runs_once, runs_upto, runs, most_steps}
+use Rattle.client_serving.specs.Flights.{held_at, notes_settled, keep_row, gives_up, give_if_clean, feeds, settle_rows, serving_settle, write_one, seals_again, serving_write}
+use Rattle.client_serving.specs.Follow.{note_clean, note_gone, serving_seal}
+use Rattle.client_running.specs.Running.{running_go_on, Ran, take_answer, ran, runs_call, run_once, run_upto, run, most_steps}
 use Rattle.client_serving.specs.Lasting.{log_of}
 use Rattle.client_serving.specs.Sends.{Done, gives}
 use Rattle.file_plan.specs.declared.block_call.BlockAnswer.{BlockAnswer}
 use Rattle.file_plan.specs.declared.block_call.BlockCall.{BlockCall}
 use Rattle.file_plan.specs.declared.block_call.BlockCall.TheVariants.{Get, Put, PutAt, Sync}
 use Rattle.log_owner.specs.Sealing.{is_settling}
-use Rattle.log_owner.specs.Sending.{name_of, pushes_all}
+use Rattle.log_owner.specs.Sending.{name_of, push_all}
 use Rattle.node_base.specs.declared.effects.Effect.{Effect}
 use Rattle.node_base.specs.declared.effects.Effect.TheVariants.{Does}
 use Rattle.run_laws.proofs.place_law.AimsReads.{GoingNew, next_new}
@@ -45,7 +45,7 @@ use Rattle.xfs_base.specs.Modes.{is_held, is_nothing}
 use Rattle.xfs_base.specs.Steps.{still, saying, steps}
 use Rattle.xfs_base.proofs.Alls.{all_append}
 use Rattle.run_losses.proofs.fetching_law.Wants.{Lasts, same_wants, takes_on}
-use Rattle.run_losses.proofs.fetching_law.Quiet.{AllQuiet, Goes, IsQuiet, Less, Rests, all_pushed_quiet, answered_quiet, first_goes, fold_rests, from_goes, hands_go, itself, less_then, notes_clean_rests, notes_gone_rests, seals_go, stays, steps_go, takes_back_goes, then_goes, then_rests}
+use Rattle.run_losses.proofs.fetching_law.Quiet.{AllQuiet, Goes, IsQuiet, Less, Rests, all_pushed_quiet, answered_quiet, first_goes, fold_rests, from_goes, hands_go, itself, less_then, note_clean_rests, note_gone_rests, seals_go, stays, steps_go, take_back_goes, then_goes, then_rests}
 
 -- ---- the log
 
@@ -54,56 +54,56 @@ unfolding notes_settled
 notes_settled_rests s row =
     record { lasting = refl; maps = refl; call = refl; reading = inl refl; wants = takes_on s.tokens (input.Settled row.0 row.1.ver) }
 
-keeps_clean_rests : (s : Serving) (row : BlockId × Entry) → Rests s (keeps_clean s row)
-unfolding keeps_clean
-keeps_clean_rests s row =
-    by_test (Rests s) (not (is_dirty (held_at s row.0)) && is_held (held_at s row.0).mode) (notes_clean s row.0) s (λ _. notes_clean_rests s row.0)
+keep_row_rests : (s : Serving) (row : BlockId × Entry) → Rests s (keep_row s row)
+unfolding keep_row
+keep_row_rests s row =
+    by_test (Rests s) (not (is_dirty (held_at s row.0)) && is_held (held_at s row.0).mode) (note_clean s row.0) s (λ _. note_clean_rests s row.0)
     (λ _. itself s)
 
 gives_up_goes : (s : Serving) (block : BlockId) (giving : Option Giving) → Goes s (gives_up s block giving)
 gives_up_goes s block None = stays s s (itself s)
-gives_up_goes s block (Some giving) = takes_back_goes s block giving.stamp giving.keep
+gives_up_goes s block (Some giving) = take_back_goes s block giving.stamp giving.keep
 
-gives_if_clean_goes : (s : Serving) (block : BlockId) → Goes s (gives_if_clean s block)
-unfolding gives_if_clean
-gives_if_clean_goes s block =
+give_if_clean_goes : (s : Serving) (block : BlockId) → Goes s (give_if_clean s block)
+unfolding give_if_clean
+give_if_clean_goes s block =
     by_test (Goes s) (is_dirty (held_at s block)) (still s) (gives_up s block (held_at s block).giving) (λ _. stays s s (itself s))
     (λ _. gives_up_goes s block (held_at s block).giving)
 
-fed_rests : (s : Serving) (end : End) (rows : List (BlockId × Entry)) → Rests s (feeds (settled_rows s rows) end rows)
+fed_rests : (s : Serving) (end : End) (rows : List (BlockId × Entry)) → Rests s (feeds (settle_rows s rows) end rows)
 fed_rests s end rows =
-    let r : Rests s (settled_rows s rows) =
-    then_rests s (fold notes_settled s rows) (settled_rows s rows) (fold_rests notes_settled notes_settled_rests s rows)
-    (fold_rests keeps_clean keeps_clean_rests (fold notes_settled s rows) rows) in
+    let r : Rests s (settle_rows s rows) =
+    then_rests s (fold notes_settled s rows) (settle_rows s rows) (fold_rests notes_settled notes_settled_rests s rows)
+    (fold_rests keep_row keep_row_rests (fold notes_settled s rows) rows) in
     record { lasting = r.lasting; maps = r.maps; call = r.call; reading = r.reading; wants = r.wants }
 
-settles_goes : (s : Serving) (end : End) (rows : List (BlockId × Entry)) → Goes s (settles s end rows)
-unfolding settles
+settles_goes : (s : Serving) (end : End) (rows : List (BlockId × Entry)) → Goes s (serving_settle s end rows)
+unfolding serving_settle
 settles_goes s end rows =
-    let fed : Serving = feeds (settled_rows s rows) end rows in
-    first_goes s (Does (Filed (name_of (log_of s.lasting) end)) ∷ pushes_all fed.managers fed.feed)
-    (steps gives_if_clean fed (dirty_in s.tokens.blocks)) (tt, all_pushed_quiet fed.managers fed.feed)
-    (from_goes s fed (steps gives_if_clean fed (dirty_in s.tokens.blocks)) (fed_rests s end rows)
-    (steps_go gives_if_clean gives_if_clean_goes fed (dirty_in s.tokens.blocks)))
+    let fed : Serving = feeds (settle_rows s rows) end rows in
+    first_goes s (Does (Filed (name_of (log_of s.lasting) end)) ∷ push_all fed.managers fed.feed)
+    (steps give_if_clean fed (dirty_in s.tokens.blocks)) (tt, all_pushed_quiet fed.managers fed.feed)
+    (from_goes s fed (steps give_if_clean fed (dirty_in s.tokens.blocks)) (fed_rests s end rows)
+    (steps_go give_if_clean give_if_clean_goes fed (dirty_in s.tokens.blocks)))
 
-writes_one_goes : (s : Serving) (o : LogOut) → Goes s (writes_one s o)
-unfolding writes_one
-writes_one_goes s (log_out.Send fragment member) = record { rests = itself s; quiet = (tt, tt) }
-writes_one_goes s (log_out.Settled end rows) = settles_goes s end rows
+write_one_goes : (s : Serving) (o : LogOut) → Goes s (write_one s o)
+unfolding write_one
+write_one_goes s (log_out.Send fragment member) = record { rests = itself s; quiet = (tt, tt) }
+write_one_goes s (log_out.Settled end rows) = settles_goes s end rows
 
 seals_again_goes : (s : Serving) (settling : Bool) → Goes s (seals_again s settling)
 seals_again_goes s settling =
-    by_test (Goes s) (settling && is_giving s.tokens) (seals s) (still s) (λ _. seals_go s) (λ _. stays s s (itself s))
+    by_test (Goes s) (settling && is_giving s.tokens) (serving_seal s) (still s) (λ _. seals_go s) (λ _. stays s s (itself s))
 
-pub writes_go : (s : Serving) (i : LogIn) → Goes s (writes s i)
-unfolding writes
+pub writes_go : (s : Serving) (i : LogIn) → Goes s (serving_write s i)
+unfolding serving_write
 writes_go s i =
     let r : log.Done = log.transition s.log i in
     let t : Serving = record s { log = r.state } in
-    let a : Goes t (steps writes_one t r.outs) = steps_go writes_one writes_one_goes t r.outs in
+    let a : Goes t (steps write_one t r.outs) = steps_go write_one write_one_goes t r.outs in
     from_goes s t _ (record { lasting = refl; maps = refl; call = refl; reading = inl refl; wants = same_wants s.tokens })
-    (then_goes t (steps writes_one t r.outs) (seals_again (steps writes_one t r.outs).state (list_any is_settling r.outs)) a
-    (seals_again_goes (steps writes_one t r.outs).state (list_any is_settling r.outs)))
+    (then_goes t (steps write_one t r.outs) (seals_again (steps write_one t r.outs).state (list_any is_settling r.outs)) a
+    (seals_again_goes (steps write_one t r.outs).state (list_any is_settling r.outs)))
 
 -- ---- calls on blocks
 
@@ -114,10 +114,10 @@ MadeSo s m = Goes s m.done
 acted_goes : (s : Serving) (d : Done) (e : Effect) → IsQuiet e → Goes s d → Goes s (gives d.state (e ∷ d.outs))
 acted_goes s d e none a = record { rests = a.rests; quiet = (none, a.quiet) }
 
-gets_go : (s : Serving) (block : BlockId) → MadeSo s (gets s block)
-unfolding gets MadeSo
+gets_go : (s : Serving) (block : BlockId) → MadeSo s (blocks_get s block)
+unfolding blocks_get MadeSo
 gets_go s block =
-    by_test (λ (m : Made). Goes s m.done) (is_nothing (held_at s block).mode) (needs s block Copy) (got s block (held_at s block))
+    by_test (λ (m : Made). Goes s m.done) (is_nothing (held_at s block).mode) (blocks_need s block Copy) (got s block (held_at s block))
     (λ _. hands_go s (input.Need block Copy) tt)
     (λ _. record { rests = record { lasting = refl; maps = refl; call = refl; reading = inl refl; wants = same_wants s.tokens }; quiet = (tt, tt) })
 
@@ -126,52 +126,52 @@ unfolding changes MadeSo
 changes_go s block value =
     let w : Serving = wrote s block value in
     let i : LogIn = log_in.Put block (record { ver = (held_at w block).ver; hop = 0; place = None }) value in
-    acted_goes s (writes w i) _ tt
-    (from_goes s w (writes w i)
+    acted_goes s (serving_write w i) _ tt
+    (from_goes s w (serving_write w i)
     (record { lasting = refl; maps = refl; call = refl; reading = inl refl; wants = takes_on s.tokens (input.Wrote block value) }) (writes_go w i))
 
-lets_go_rests : (s : Serving) (block : BlockId) → Rests s (lets_go s block)
-lets_go_rests s block =
-    by_test (Rests s) (is_none (held_at s block).value) (notes_gone (record s { tokens = (client.on_evict s.tokens block).state }) block) s
+blocks_let_go_rests : (s : Serving) (block : BlockId) → Rests s (blocks_let_go s block)
+blocks_let_go_rests s block =
+    by_test (Rests s) (is_none (held_at s block).value) (note_gone (record s { tokens = (client.on_evict s.tokens block).state }) block) s
     (λ _. evicted) (λ _. itself s)
   where
-    evicted : Rests s (notes_gone (record s { tokens = (client.on_evict s.tokens block).state }) block)
+    evicted : Rests s (note_gone (record s { tokens = (client.on_evict s.tokens block).state }) block)
     evicted =
         let t : Serving = record s { tokens = (client.on_evict s.tokens block).state } in
-        then_rests s t (notes_gone t block)
-        (record { lasting = refl; maps = refl; call = refl; reading = inl refl; wants = takes_on s.tokens (input.Evict block) }) (notes_gone_rests t block)
+        then_rests s t (note_gone t block)
+        (record { lasting = refl; maps = refl; call = refl; reading = inl refl; wants = takes_on s.tokens (input.Evict block) }) (note_gone_rests t block)
 
-let_go : (s : Serving) (block : BlockId) → Goes s (gives (lets_go s block) [])
-let_go s block = stays s (lets_go s block) (lets_go_rests s block)
+let_go : (s : Serving) (block : BlockId) → Goes s (gives (blocks_let_go s block) [])
+let_go s block = stays s (blocks_let_go s block) (blocks_let_go_rests s block)
 
-changes_if_fits_go : (s : Serving) (block : BlockId) (value : Option (List ℕ)) → MadeSo s (changes_if_fits s block value)
-unfolding changes_if_fits MadeSo
-changes_if_fits_go s block value =
+blocks_change_go : (s : Serving) (block : BlockId) (value : Option (List ℕ)) → MadeSo s (blocks_change s block value)
+unfolding blocks_change MadeSo
+blocks_change_go s block value =
     by_test (λ (m : Made). Goes s m.done) (put_fits block ((held_at s block).ver + 1) value) (changes s block value) (held_back s block)
     (λ _. changes_go s block value) (λ _. let_go s block)
 
-puts_go : (s : Serving) (block : BlockId) (value : Option (List ℕ)) → MadeSo s (puts s block value)
-unfolding puts MadeSo
+puts_go : (s : Serving) (block : BlockId) (value : Option (List ℕ)) → MadeSo s (blocks_put s block value)
+unfolding blocks_put MadeSo
 puts_go s block value =
-    by_test (λ (m : Made). Goes s m.done) (may_write (held_at s block)) (changes_if_fits s block value) (needs s block Own)
-    (λ _. changes_if_fits_go s block value) (λ _. hands_go s (input.Need block Own) tt)
+    by_test (λ (m : Made). Goes s m.done) (may_write (held_at s block)) (blocks_change s block value) (blocks_need s block Own)
+    (λ _. blocks_change_go s block value) (λ _. hands_go s (input.Need block Own) tt)
 
 puts_again_go : (s : Serving) (block : BlockId) (ver : ℕ) (value : Option (List ℕ)) → MadeSo s (puts_again s block ver value)
 unfolding MadeSo
 puts_again_go s block ver value =
-    by_test (λ (m : Made). Goes s m.done) ((held_at s block).ver == ver) (changes_if_fits s block value) (changed s block)
-    (λ _. changes_if_fits_go s block value) (λ _. let_go s block)
+    by_test (λ (m : Made). Goes s m.done) ((held_at s block).ver == ver) (blocks_change s block value) (changed s block)
+    (λ _. blocks_change_go s block value) (λ _. let_go s block)
 
-puts_at_go : (s : Serving) (block : BlockId) (ver : ℕ) (value : Option (List ℕ)) → MadeSo s (puts_at s block ver value)
-unfolding puts_at MadeSo
-puts_at_go s block ver value =
-    by_test (λ (m : Made). Goes s m.done) (may_write (held_at s block)) (puts_again s block ver value) (needs s block Own)
+blocks_put_at_go : (s : Serving) (block : BlockId) (ver : ℕ) (value : Option (List ℕ)) → MadeSo s (blocks_put_at s block ver value)
+unfolding blocks_put_at MadeSo
+blocks_put_at_go s block ver value =
+    by_test (λ (m : Made). Goes s m.done) (may_write (held_at s block)) (puts_again s block ver value) (blocks_need s block Own)
     (λ _. puts_again_go s block ver value) (λ _. hands_go s (input.Need block Own) tt)
 
-syncs_go : (s : Serving) → MadeSo s (syncs s)
-unfolding syncs MadeSo
+syncs_go : (s : Serving) → MadeSo s (blocks_sync s)
+unfolding blocks_sync MadeSo
 syncs_go s =
-    let d : Done = seals s in
+    let d : Done = serving_seal s in
     let a : Goes s d = seals_go s in
     record {
       rests = a.rests;
@@ -179,11 +179,11 @@ syncs_go s =
           (by_test AllQuiet (is_settled d.state) _ [] (λ _. (tt, tt)) (λ _. tt));
     }
 
-makes_go : (s : Serving) (call : BlockCall) → MadeSo s (makes s call)
-unfolding makes
+makes_go : (s : Serving) (call : BlockCall) → MadeSo s (blocks_make s call)
+unfolding blocks_make
 makes_go s (Get block) = gets_go s block
 makes_go s (Put block value) = puts_go s block value
-makes_go s (PutAt block ver value) = puts_at_go s block ver value
+makes_go s (PutAt block ver value) = blocks_put_at_go s block ver value
 makes_go s Sync = syncs_go s
 
 -- ---- the open call
@@ -244,9 +244,9 @@ module _ (s : Serving) (call : Call) (fact : s.call ≡ Some call) (t : Serving)
   was_open : is_none s.call ≡ false
   was_open = ap is_none fact
 
-  goes_on_runs : (going : Going) → GoingNew going → RunsOn s (goes_on t going)
-  unfolding goes_on
-  goes_on_runs (On next) new = record {
+  running_go_on_runs : (going : Going) → GoingNew going → RunsOn s (running_go_on t going)
+  unfolding running_go_on
+  running_go_on_runs (On next) new = record {
     runs = record {
       questions = ap (λ (l : Lasting). l.questions) lasting;
       maps = maps;
@@ -255,12 +255,12 @@ module _ (s : Serving) (call : Call) (fact : s.call ≡ Some call) (t : Serving)
     };
     quiet = tt;
   }
-  goes_on_runs (Ends a) new = record {
+  running_go_on_runs (Ends a) new = record {
     runs = record { questions = ap (λ (l : Lasting). l.questions) lasting; maps = maps; wants = wants; ends = inl none };
     quiet = answered_quiet t.lasting.items.unanswered a;
   }
 
-  answers_run : (a : Option BlockAnswer) → RunsOn s (answers_call t call a).done
+  answers_run : (a : Option BlockAnswer) → RunsOn s (take_answer t call a).done
   answers_run None = record {
     runs = record {
       questions = ap (λ (l : Lasting). l.questions) lasting;
@@ -270,7 +270,7 @@ module _ (s : Serving) (call : Call) (fact : s.call ≡ Some call) (t : Serving)
     };
     quiet = tt;
   }
-  answers_run (Some a) = goes_on_runs (after_answer call.plan a) (next_new call.plan a)
+  answers_run (Some a) = running_go_on_runs (plan_answered call.plan a) (next_new call.plan a)
 
 RanSo : Serving → Ran → Type 0
 RanSo s r = RunsOn s r.done
@@ -278,35 +278,35 @@ RanSo s r = RunsOn s r.done
 ran_runs : (s : Serving) (call : Call) → s.call ≡ Some call → (made : Made) → Goes (record s { call = None }) made.done → RanSo s (ran call made)
 unfolding RanSo
 ran_runs s call fact made a =
-    let r : RunsOn s (answers_call made.done.state call made.answer).done =
+    let r : RunsOn s (take_answer made.done.state call made.answer).done =
     answers_run s call fact made.done.state a.rests.lasting a.rests.maps a.rests.wants (none_of made.done.state.call a.rests.call) made.answer in
-    record { runs = r.runs; quiet = all_append IsQuiet made.done.outs (answers_call made.done.state call made.answer).done.outs a.quiet r.quiet }
+    record { runs = r.runs; quiet = all_append IsQuiet made.done.outs (take_answer made.done.state call made.answer).done.outs a.quiet r.quiet }
 
 runs_call_runs : (s : Serving) (call : Option Call) → s.call ≡ call → RanSo s (runs_call s call)
 unfolding RanSo MadeSo
 runs_call_runs s None fact = record { runs = rests_run s s (itself s); quiet = tt }
-runs_call_runs s (Some call) fact = ran_runs s call fact (makes (record s { call = None }) call.step) (makes_go (record s { call = None }) call.step)
+runs_call_runs s (Some call) fact = ran_runs s call fact (blocks_make (record s { call = None }) call.step) (makes_go (record s { call = None }) call.step)
 
-runs_once_runs : (s : Serving) → RanSo s (runs_once s)
-unfolding runs_once
-runs_once_runs s = runs_call_runs s s.call refl
+run_once_runs : (s : Serving) → RanSo s (run_once s)
+unfolding run_once
+run_once_runs s = runs_call_runs s s.call refl
 
-turns_run : (k : ℕ) (s : Serving) → ((t : Serving) → RunsOn t (runs_upto k t)) → RunsOn s (runs_once s).done → RunsOn s (runs_upto (suc k) s)
-unfolding runs_upto
+turns_run : (k : ℕ) (s : Serving) → ((t : Serving) → RunsOn t (run_upto k t)) → RunsOn s (run_once s).done → RunsOn s (run_upto (suc k) s)
+unfolding run_upto
 turns_run k s rest p =
-    let r : Ran = runs_once s in
-    by_test (RunsOn s) r.goes (saying r.done.outs (runs_upto k r.done.state)) r.done
-    (λ _. let q : RunsOn r.done.state (runs_upto k r.done.state) = rest r.done.state in
+    let r : Ran = run_once s in
+    by_test (RunsOn s) r.goes (saying r.done.outs (run_upto k r.done.state)) r.done
+    (λ _. let q : RunsOn r.done.state (run_upto k r.done.state) = rest r.done.state in
     record {
-      runs = then_runs s r.done.state (runs_upto k r.done.state).state p.runs q.runs;
-      quiet = all_append IsQuiet r.done.outs (runs_upto k r.done.state).outs p.quiet q.quiet;
+      runs = then_runs s r.done.state (run_upto k r.done.state).state p.runs q.runs;
+      quiet = all_append IsQuiet r.done.outs (run_upto k r.done.state).outs p.quiet q.quiet;
     }) (λ _. p)
 
-runs_upto_run : (k : ℕ) (s : Serving) → RunsOn s (runs_upto k s)
-unfolding runs_upto RanSo
-runs_upto_run zero s = record { runs = rests_run s s (itself s); quiet = tt }
-runs_upto_run (suc k) s = turns_run k s (runs_upto_run k) (runs_once_runs s)
+run_upto_run : (k : ℕ) (s : Serving) → RunsOn s (run_upto k s)
+unfolding run_upto RanSo
+run_upto_run zero s = record { runs = rests_run s s (itself s); quiet = tt }
+run_upto_run (suc k) s = turns_run k s (run_upto_run k) (run_once_runs s)
 
-pub runs_run : (s : Serving) → RunsOn s (runs s)
-unfolding runs
-runs_run s = runs_upto_run most_steps s
+pub runs_run : (s : Serving) → RunsOn s (run s)
+unfolding run
+runs_run s = run_upto_run most_steps s

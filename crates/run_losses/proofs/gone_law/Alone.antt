@@ -7,7 +7,7 @@ use Rattle.group_map.specs.GroupMapState.{GroupMapState}
 use Rattle.segment_format.specs.declared.segment.Segment.{Segment}
 use Rattle.segment_reading.specs.declared.reading.Next.{Next}
 use Rattle.segment_reading.specs.declared.reading.Next.TheVariants as next
-use Rattle.segment_reading.specs.Reading.{ReadingState, begun, to_ask, on_answer, on_confirmed}
+use Rattle.segment_reading.specs.Reading.{ReadingState, reading_start, reading_unanswered, reading_take, on_confirmed}
 use Rattle.stripe_code.specs.declared.round.Told.{Told}
 use Rattle.takeover.specs.declared.input.In.{In}
 use Rattle.takeover.specs.declared.input.In.TheVariants as input
@@ -19,7 +19,7 @@ use Rattle.takeover.specs.declared.source.Source.{Source}
 use Rattle.takeover.specs.Rows.{told_of}
 use Rattle.takeover.specs.Sources.{back_from, sources_of}
 use Rattle.takeover.specs.TakeState.{TakeState}
-use Rattle.takeover.specs.Transition.{Done, active, again, awaited, awaits, begun_if_all, can_ask, confirmed_as, fetches, go_on, goes_on_from, has_read, is_index, judged_as, next_of, on_maps, on_report, on_tick, on_told, polls, repeated, sought, sought_again, sought_over, target_of, told_at, told_in, transition, unanswered, waiting, with_chain}
+use Rattle.takeover.specs.Transition.{Done, active, again, awaited, awaits, begin_if_all, can_ask, confirmed_as, fetches, go_on, go_on_from, has_read, is_index, take_follow, next_of, on_maps, on_report, on_tick, on_told, polls, repeated, seek, sought_again, sought_over, target_of, told_at, take_judge, transition, present_repeat, waiting, join_chain}
 use Rattle.run_losses.proofs.taking_law.TakeTurns.{Heard, heard_in}
 use Rattle.xfs_base.proofs.Booleans.{by_test}
 use Rattle.xfs_base.specs.declared.segment.SegName.{SegName}
@@ -44,13 +44,13 @@ LostAlone outs = NoneLost outs ⊎ ((name : SegName) × (outs ≡ out.Lost name 
 fetches_none : (name : SegName) (ask : ℕ) (servers : List ℕ) → NoneLost (fetches name ask servers)
 fetches_none name ask servers = all_map NotLost (λ v. out.Fetch v name ask) (λ v. tt) servers
 
-sought_none : (s : TakeState) (source : Source) → NoneLost (sought s source).outs
-unfolding sought
+sought_none : (s : TakeState) (source : Source) → NoneLost (seek s source).outs
+unfolding seek
 sought_none s source = by (group_of s.groups source.seg.group)
   where
     by : (o : Option Group) → NoneLost (sought_over s source o).outs
     by None = tt
-    by (Some group) = fetches_none source.seg.name (s.ask + 1) (to_ask (begun (target_of source) group (s.ask + 1)))
+    by (Some group) = fetches_none source.seg.name (s.ask + 1) (reading_unanswered (reading_start (target_of source) group (s.ask + 1)))
 
 go_on_none : (s : TakeState) → NoneLost (go_on s).outs
 unfolding go_on
@@ -64,8 +64,8 @@ has_read_none : (s : TakeState) (source : Source) (segment : Segment) → NoneLo
 unfolding has_read
 has_read_none s source segment = by (back_from source segment)
   where
-    by : (before : Option Source) → NoneLost (goes_on_from (record s { chain = told_of s.news.slot segment ∷ s.chain }) before).outs
-    by None = go_on_none (with_chain (record s { chain = told_of s.news.slot segment ∷ s.chain }))
+    by : (before : Option Source) → NoneLost (go_on_from (record s { chain = told_of s.news.slot segment ∷ s.chain }) before).outs
+    by None = go_on_none (join_chain (record s { chain = told_of s.news.slot segment ∷ s.chain }))
     by (Some before) = sought_none (record s { chain = told_of s.news.slot segment ∷ s.chain }) before
 
 -- ---- an answer
@@ -75,7 +75,7 @@ unfolding again
 again_so s source r = by (on_confirmed r (s.ask + 1)).next
   where
     by : (n : Next) → LostAlone (confirmed_as s source (on_confirmed r (s.ask + 1)).state n).outs
-    by next.Ask = inl (fetches_none source.seg.name (s.ask + 1) (to_ask (on_confirmed r (s.ask + 1)).state))
+    by next.Ask = inl (fetches_none source.seg.name (s.ask + 1) (reading_unanswered (on_confirmed r (s.ask + 1)).state))
     by next.Lost = inr (source.seg.name, refl)
     by next.Wait = inl tt
     by next.Again = inl tt
@@ -90,17 +90,17 @@ told_so s ask server told =
     x : TakeState
     x = record s { present = None }
 
-    judged : (source : Source) (r : ReadingState) (n : Next) → LostAlone (judged_as (record s { present = None }) source r n).outs
+    judged : (source : Source) (r : ReadingState) (n : Next) → LostAlone (take_follow (record s { present = None }) source r n).outs
     judged source r next.Again = again_so x source r
     judged source r (next.Read segment) = inl (has_read_none x source segment)
     judged source r next.Wait = inl tt
     judged source r next.Ask = inl tt
     judged source r next.Lost = inl tt
 
-    by_reading : (source : Source) (o : Option ReadingState) → LostAlone (told_in (record s { present = None }) source o ask server told).outs
+    by_reading : (source : Source) (o : Option ReadingState) → LostAlone (take_judge (record s { present = None }) source o ask server told).outs
     by_reading source None = inl tt
     by_reading source (Some r) =
-        judged source (on_answer r s.groups ask server told).state (on_answer r s.groups ask server told).next
+        judged source (reading_take r s.groups ask server told).state (reading_take r s.groups ask server told).next
 
     by : (o : Option Present) → LostAlone (told_at (record s { present = None }) o ask server told).outs
     by None = inl tt
@@ -112,7 +112,7 @@ report_none : (s : TakeState) (report : Report) → NoneLost (on_report s report
 unfolding on_report
 report_none s report =
     let heard : TakeState = record s { reports = s.reports ++ report ∷ [] } in
-    by_test (λ (d : Done). NoneLost d.outs) (can_ask s && awaits s report.from) (begun_if_all heard) (still s)
+    by_test (λ (d : Done). NoneLost d.outs) (can_ask s && awaits s report.from) (begin_if_all heard) (still s)
     (λ _. by_test (λ (d : Done). NoneLost d.outs) (length (awaited heard) == 0) (go_on (record heard { sources = sources_of heard.news heard.reports }))
     (still heard) (λ _. go_on_none (record heard { sources = sources_of heard.news heard.reports })) (λ _. tt)) (λ _. tt)
 
@@ -123,15 +123,15 @@ maps_none s groups = by (waiting s.present)
     by : (o : Option Source) → NoneLost (sought_again (record s { groups = groups }) o).outs
     by None = tt
     by (Some source) =
-        by_test (λ (d : Done). NoneLost d.outs) (can_ask s) (sought (record s { groups = groups }) source) (still (record s { groups = groups }))
+        by_test (λ (d : Done). NoneLost d.outs) (can_ask s) (seek (record s { groups = groups }) source) (still (record s { groups = groups }))
         (λ _. sought_none (record s { groups = groups }) source) (λ _. tt)
 
 tick_none : (s : TakeState) → NoneLost (on_tick s)
 tick_none s = all_append NotLost (polls (awaited s)) (repeated s.present) (all_map NotLost (λ node. out.Poll node) (λ node. tt) (awaited s)) (by s.present)
   where
-    by_reading : (source : Source) (o : Option ReadingState) → NoneLost (unanswered source o)
+    by_reading : (source : Source) (o : Option ReadingState) → NoneLost (present_repeat source o)
     by_reading source None = tt
-    by_reading source (Some r) = fetches_none source.seg.name r.ask (to_ask r)
+    by_reading source (Some r) = fetches_none source.seg.name r.ask (reading_unanswered r)
 
     by : (o : Option Present) → NoneLost (repeated o)
     by None = tt

@@ -10,11 +10,11 @@ use Rattle.manager_slots.specs.Slots.{fetch_of as fetch_in}
 use Rattle.manager_slots.specs.SlotTable as table
 use Rattle.manager_slots.specs.SlotTable.{Table, in_slot, in_taken, put_asker}
 use Rattle.manager_slots.specs.Takeovers as takeovers
-use Rattle.manager_slots.specs.Takeovers.{asker, says, says_each}
+use Rattle.manager_slots.specs.Takeovers.{asker, takeovers_say, say_each}
 use Rattle.manager_slots.specs.Tokens as tokens
 use Rattle.manager_serving.specs.Checkpoints.{Done}
 use Rattle.manager_serving.specs.declared.serving.Serving.{Serving}
-use Rattle.manager_serving.specs.Serving.{answered_by, asker_of, on_found, on_missing, on_want, takes, with_asker}
+use Rattle.manager_serving.specs.Serving.{answered_by, asker_of, on_found, on_missing, on_want, serving_take, with_asker}
 use Rattle.node_base.specs.declared.effects.Effect.{Effect}
 use Rattle.node_base.specs.declared.effects.Effect.TheVariants.{Send, Answer, Lose, Does}
 use Rattle.node_base.specs.declared.questions.Questions.{Questions}
@@ -114,7 +114,7 @@ module _ (Known : Type 0) (Named : ℕ → Group → Type 0) (Came : ℕ → ℕ
     k = slot_of want.block.ino.0
 
     tokens_go : (p : SlotPhase) → slice_get t k ≡ Some p
-        → Goes t (slice_set t k (tokens.takes p k (tokens.want_input client want)).state) (tokens.takes p k (tokens.want_input client want)).outs
+        → Goes t (slice_set t k (tokens.tokens_take p k (tokens.want_input client want)).state) (tokens.tokens_take p k (tokens.want_input client want)).outs
     tokens_go p fact = rests_go t _ _ (put_rests t k p _ _ fact (tokens_rest p k (tokens.want_input client want)))
 
     want_of : (p : SlotPhase) → slice_get t k ≡ Some p → Goes t (slice_set t k (tokens.on_want p client want).state) (tokens.on_want p client want).outs
@@ -159,11 +159,11 @@ module _ (Known : Type 0) (Named : ℕ → Group → Type 0) (Came : ℕ → ℕ
 
       abbrev Said : List Out → Type 0
       Said outs =
-          Ends s (with_asker s (put_asker (asker_of s) k (says_each k (asker (phase.Taking (record x { take = (transition x.take given).state })) q) outs)))
+          Ends s (with_asker s (put_asker (asker_of s) k (say_each k (asker (phase.Taking (record x { take = (transition x.take given).state })) q) outs)))
 
       -- it says that a segment is lost, and nothing else
       lost_said : (name : SegName) → (transition x.take given).outs ≡ out.Lost name ∷ [] → Said (out.Lost name ∷ [])
-      unfolding says_each says
+      unfolding say_each takeovers_say
       lost_said name alone = record {
         broken = put_by s.slots k (phase.Taking x) (phase.Broken x.epoch name) fact (λ m z. BrokenFrom (phase_at s.slots m) z (Lose name ∷ []))
             (λ epoch other same. inr (record {
@@ -193,12 +193,12 @@ module _ (Known : Type 0) (Named : ℕ → Group → Type 0) (Came : ℕ → ℕ
           (taken_rests k (phase.Taking x) t q (transition x.take given).outs none)))
           (λ lost. subst Said (sym lost.1) (lost_said lost.0 lost.1)) (says_alone x.take given)
 
-    pub take_goes : Ends s (takes s k given)
-    unfolding takes table.takes takeovers.takes takeovers.heard says_each
+    pub take_goes : Ends s (serving_take s k given)
+    unfolding serving_take table.slot_table_take takeovers.takeovers_take takeovers.outs_of say_each
     take_goes = by (slice_get s.slots k) refl
       where
         by_phase : (p : SlotPhase) → slice_get s.slots k ≡ Some p
-            → Ends s (with_asker s (put_asker (asker_of s) k (takeovers.takes (asker p s.lasting.questions) k given)))
+            → Ends s (with_asker s (put_asker (asker_of s) k (takeovers.takeovers_take (asker p s.lasting.questions) k given)))
         by_phase (phase.Taking x) fact = said_goes x fact
         by_phase (phase.Away epoch) fact = rests_go s.slots _ _ (put_rests s.slots k (phase.Away epoch) _ _ fact (same_slot (phase.Away epoch)))
         by_phase (phase.Active a) fact = rests_go s.slots _ _ (put_rests s.slots k (phase.Active a) _ _ fact (same_slot (phase.Active a)))
@@ -206,7 +206,7 @@ module _ (Known : Type 0) (Named : ℕ → Group → Type 0) (Came : ℕ → ℕ
             rests_go s.slots _ _ (put_rests s.slots k (phase.Broken epoch seg) _ _ fact (same_slot (phase.Broken epoch seg)))
 
         by : (o : Option SlotPhase) → slice_get s.slots k ≡ o
-            → Ends s (with_asker s (in_taken (asker_of s) k (λ one. takeovers.takes one k given) o))
+            → Ends s (with_asker s (in_taken (asker_of s) k (λ one. takeovers.takeovers_take one k given) o))
         by None fact = ends_still s
         by (Some p) fact = by_phase p fact
 

@@ -6,15 +6,15 @@ use Rattle.core_world.specs.AnyNode.{any_start, any_step}
 use Rattle.core_world.specs.declared.any_node.AnyNode.{AnyNode}
 use Rattle.core_world.specs.declared.any_node.AnyNode.TheVariants as any
 use Rattle.log_tie.specs.Setting.{Setting}
-use Rattle.manager_map.specs.Slots.{entry_at, start_entries}
+use Rattle.manager_map.specs.Slots.{entry_at, manager_map_start}
 use Rattle.manager_node.specs.declared.manager.Manager.{Manager as ManagerNode}
-use Rattle.manager_node.specs.Events.{first_manager, happens}
+use Rattle.manager_node.specs.Events.{manager_start, happens}
 use Rattle.manager_node.specs.Phases.{Went_to, lasting_of}
 use Rattle.manager_slots.specs.declared.slot_phase.SlotPhase.{SlotPhase}
 use Rattle.manager_slots.specs.declared.slot_phase.SlotPhase.TheVariants as phase
 use Rattle.manager_slots.specs.declared.slot_phase.Taking.{Taking}
 use Rattle.manager_slots.specs.Slots.{first_active}
-use Rattle.manager_slots.specs.SlotTable.{Table, first_phase, first_table}
+use Rattle.manager_slots.specs.SlotTable.{Table, first_phase, slot_table_first}
 use Rattle.node_base.specs.declared.effects.Effect.{Effect}
 use Rattle.node_base.specs.declared.effects.Effect.TheVariants.{Send, Answer, Lose, Does}
 use Rattle.node_base.specs.Effects.{acts_of}
@@ -96,12 +96,12 @@ whole_at [] all k = tt
 whole_at (p ∷ t) all zero = all.0
 whole_at (p ∷ t) all (suc k) = whole_at t all.1 k
 
-first_whole : (number : ℕ) (setup : Setup) (works : List Work) (k : ℕ) → IsWhole (slot_in k (first_manager number setup works).phase)
+first_whole : (number : ℕ) (setup : Setup) (works : List Work) (k : ℕ) → IsWhole (slot_in k (manager_start number setup works).phase)
 first_whole number setup works k =
-    whole_at (first_table number setup.managers) (one 0, (one 1, (one 2, (one 3, (one 4, (one 5, (one 6, (one 7, tt)))))))) k
+    whole_at (slot_table_first number setup.managers) (one 0, (one 1, (one 2, (one 3, (one 4, (one 5, (one 6, (one 7, tt)))))))) k
   where
-    one : (slot : ℕ) → IsWhole (first_phase number (start_entries setup.managers) slot)
-    one slot = by_test IsWhole ((entry_at (start_entries setup.managers) (slot_of_ino slot)).manager == number) first_active (phase.Away 1) (λ _. tt) (λ _. tt)
+    one : (slot : ℕ) → IsWhole (first_phase number (manager_map_start setup.managers) slot)
+    one slot = by_test IsWhole ((entry_at (manager_map_start setup.managers) (slot_of_ino slot)).manager == number) first_active (phase.Away 1) (λ _. tt) (λ _. tt)
 
 module _ (base : Setting) (e : Estate AnyNode) (run : IsRun any_step any_start e.script e.events e.world) (lines : HasLines base e) (j : ℕ)
     (is_there : IsThere e.script.setup.clients e.script.setup.managers (OfManager j)) (came : (k : ℕ) → ReadingsCame e.world (moment e k)) where

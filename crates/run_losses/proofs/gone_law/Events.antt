@@ -6,14 +6,14 @@ use Rattle.group_map.specs.declared.group.Group.{Group}
 use Rattle.manager_node.specs.declared.manager.Manager.{Manager}
 use Rattle.manager_node.specs.declared.phase.Phase.{Phase}
 use Rattle.manager_node.specs.declared.phase.Phase.TheVariants.{Down, Waiting, Serving as Serves}
-use Rattle.manager_node.specs.Events.{happens, on_deliver, on_event, on_packet, on_time, on_waiting, on_welcome, takes_welcome}
-use Rattle.manager_node.specs.Phases.{Went_to, begin_down, begin_serving, begin_waiting, crashes, down_item, down_wish, lasting_of, phase_has_room, restarts, serves, serving_item, serving_wish, waiting_item, waiting_wish, wish_at, with_begun}
+use Rattle.manager_node.specs.Events.{happens, manager_deliver, on_event, on_packet, on_time, on_waiting, on_welcome, takes_welcome}
+use Rattle.manager_node.specs.Phases.{Went_to, begin_down, begin_serving, begin_waiting, crash, down_item, down_wish, lasting_of, phase_has_room, restart, serves, serving_item, serving_wish, waiting_item, waiting_wish, wish_at, with_begun}
 use Rattle.manager_slots.specs.declared.lasting.Lasting.{Lasting as Life}
 use Rattle.manager_slots.specs.declared.slot_phase.SlotPhase.TheVariants as phase
-use Rattle.manager_slots.specs.SlotTable.{Table, unknown_table}
+use Rattle.manager_slots.specs.SlotTable.{Table, slot_table_unknown}
 use Rattle.manager_serving.specs.Checkpoints.{Done, gives, on_checkpoint}
 use Rattle.manager_serving.specs.declared.serving.Serving.{Serving}
-use Rattle.manager_serving.specs.Serving.{again, hears, on_news, on_tick}
+use Rattle.manager_serving.specs.Serving.{again, serving_hear, on_news, on_tick}
 use Rattle.node_base.specs.Beginning.{answers_unanswered, next_item, work_at}
 use Rattle.node_base.specs.declared.effects.Effect.{Effect}
 use Rattle.node_base.specs.declared.effects.Effect.TheVariants.{Answer as Answers}
@@ -51,8 +51,8 @@ all_away [] all k = refl
 all_away (p ∷ t) all zero = all.0
 all_away (p ∷ t) all (suc k) = all_away t all.1 k
 
-unknown_away : (k : ℕ) → phase_at unknown_table k ≡ phase.Away 0
-unknown_away k = all_away unknown_table (refl, (refl, (refl, (refl, (refl, (refl, (refl, (refl, tt)))))))) k
+unknown_away : (k : ℕ) → phase_at slot_table_unknown k ≡ phase.Away 0
+unknown_away k = all_away slot_table_unknown (refl, (refl, (refl, (refl, (refl, (refl, (refl, (refl, tt)))))))) k
 
 module _ (Known : Type 0) (Named : ℕ → Group → Type 0) (Came : ℕ → ℕ → Told → Type 0) where
   pub record Turned (p : Phase) (w : Went_to) : Type 0 where
@@ -74,16 +74,16 @@ module _ (Known : Type 0) (Named : ℕ → Group → Type 0) (Came : ℕ → ℕ
   unmoved : (p : Phase) → Turned p (still p)
   unmoved p = record { broken = λ k epoch name fact. inl fact; gones = tt }
 
-  crashes_silent : (life : Life) (number : ℕ) → Silent (crashes life number)
-  unfolding crashes
+  crashes_silent : (life : Life) (number : ℕ) → Silent (crash life number)
+  unfolding crash
   crashes_silent life number = record {
     away = λ k. refl;
     plain = all_append IsPlain (answers_unanswered life.items.unanswered answer.Cut) (Answers number answer.Done ∷ [])
         (answers_plain life.items.unanswered answer.Cut) (tt, tt);
   }
 
-  restarts_silent : (life : Life) (number : ℕ) → Silent (restarts life number)
-  unfolding restarts
+  restarts_silent : (life : Life) (number : ℕ) → Silent (restart life number)
+  unfolding restart
   restarts_silent life number = record { away = λ k. refl; plain = (tt, (tt, tt)) }
 
   down_silent : (life : Life) → Silent (begin_down life)
@@ -127,7 +127,7 @@ module _ (Known : Type 0) (Named : ℕ → Group → Type 0) (Came : ℕ → ℕ
       s : Serving
       s = again life (forgotten peers.servers) welcome.news.groups
 
-      rests : TableRests unknown_table (on_news s peers.clients welcome.news).state.slots (on_news s peers.clients welcome.news).outs
+      rests : TableRests slot_table_unknown (on_news s peers.clients welcome.news).state.slots (on_news s peers.clients welcome.news).outs
       rests = news_rest s peers.clients welcome.news
   welcome_turned peers life hello _ = unmoved (Waiting life hello)
 
@@ -152,7 +152,7 @@ module _ (Known : Type 0) (Named : ℕ → Group → Type 0) (Came : ℕ → ℕ
       by_wish : (number : ℕ) (asked : Option Work) → Turned (Serves s) (serving_wish (record s { lasting = with_begun s.lasting }) number (wish_at asked))
       by_wish number None = rests_turned s (on_checkpoint (record s { lasting = with_begun s.lasting }) number)
           (checkpoint_rests (record s { lasting = with_begun s.lasting }) number)
-      by_wish number (Some (work.Crash node)) = silent (Serves s) (crashes (with_begun s.lasting) number) (crashes_silent (with_begun s.lasting) number)
+      by_wish number (Some (work.Crash node)) = silent (Serves s) (crash (with_begun s.lasting) number) (crashes_silent (with_begun s.lasting) number)
       by_wish number (Some (work.Restart node)) = stays (Answers number answer.Up ∷ []) (tt, tt)
       by_wish number (Some _) = rests_turned s (on_checkpoint (record s { lasting = with_begun s.lasting }) number)
           (checkpoint_rests (record s { lasting = with_begun s.lasting }) number)
@@ -165,7 +165,7 @@ module _ (Known : Type 0) (Named : ℕ → Group → Type 0) (Came : ℕ → ℕ
 
   event_turned : (peers : Peers) (p : Phase) (what : Do) → (Known → PhaseFine Named p) → (Known → DoBrought Named Came what)
       → Turned p (on_event peers p what)
-  unfolding on_deliver on_time
+  unfolding manager_deliver on_time
   event_turned peers (Down life) Begin fine fact = silent (Down life) (begin_down life) (down_silent life)
   event_turned peers (Waiting life hello) Begin fine fact = silent (Waiting life hello) (begin_waiting life hello) (waiting_silent life hello)
   event_turned peers (Serves s) Begin fine fact = begin_turned s
@@ -175,7 +175,7 @@ module _ (Known : Type 0) (Named : ℕ → Group → Type 0) (Came : ℕ → ℕ
       gets : (q : Phase) → (Known → PhaseFine Named q) → Turned q (on_packet peers q packet)
       gets (Down life) fine = unmoved (Down life)
       gets (Waiting life hello) fine = welcome_turned peers life hello packet.body
-      gets (Serves s) fine = serves_turned s (hears s peers.clients packet) (packet_goes Known Named Came s fine peers.clients packet fact)
+      gets (Serves s) fine = serves_turned s (serving_hear s peers.clients packet) (packet_goes Known Named Came s fine peers.clients packet fact)
   event_turned peers p Tick fine fact = passes p
     where
       passes : (q : Phase) → Turned q (on_time q)

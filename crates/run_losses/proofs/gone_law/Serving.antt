@@ -17,16 +17,16 @@ use Rattle.group_map.specs.GroupMapState.{GroupMapState}
 use Rattle.log_owner.specs.Sending.{server_in}
 use Rattle.manager_slots.specs.Numbers.{slot_after}
 use Rattle.manager_slots.specs.SlotTable as table
-use Rattle.manager_slots.specs.SlotTable.{begin_at, cleaned_at, next_active}
-use Rattle.manager_serving.specs.Checkpoints.{Done, answered_by, awaits, begins_slot, counted, done_again, filed, gives, gives_parts, log_says, log_says_each, next_for, next_from, next_slot, on_checkpoint, on_ckpt_ack, on_settled, registers, says, says_each, stored, tells_again, told_again, waits, writer_takes, writes, writes_slot}
+use Rattle.manager_slots.specs.SlotTable.{begin_at, slot_table_clean, next_active}
+use Rattle.manager_serving.specs.Checkpoints.{Done, answered_by, awaits, begin_slot, checkpointing_count, send_done, filed, gives, give_parts, log_says, log_says_each, next_for, next_from, next_slot, on_checkpoint, on_ckpt_ack, on_settled, register, writer_says, writer_says_each, checkpointing_store, serving_tell_again, checkpointing_tell_again, waits, writer_takes, serving_write, writes_slot}
 use Rattle.manager_serving.specs.declared.checkpointing.Checkpointing.{Checkpointing}
 use Rattle.manager_serving.specs.declared.serving.Serving.{Serving}
-use Rattle.manager_serving.specs.Serving.{asker_of, asks_again, asks_for_maps, client_in, fed_log, hearer_of, hears, hears_slots, hears_with, on_body, on_check, on_deltas, on_fitting_news, on_gave, on_newer, on_news, on_report, on_tick, on_usage_ask, recalls_again, regroups, with_asker}
+use Rattle.manager_serving.specs.Serving.{asker_of, serving_ask_again, ask_for_maps, client_in, fed_log, hearer_of, serving_hear, hear_slots, hears_with, on_body, on_check, on_deltas, on_fitting_news, on_gave, on_newer, on_news, on_report, on_tick, on_usage_ask, recalls_again, regroups, with_asker}
 use Rattle.node_base.specs.Beginning.{answers_unanswered}
 use Rattle.node_base.specs.declared.effects.Effect.{Effect}
 use Rattle.node_base.specs.declared.effects.Effect.TheVariants.{Answer as Answers}
-use Rattle.node_base.specs.Known.{names_known}
-use Rattle.node_base.specs.Maps.{fits, is_older, taken}
+use Rattle.node_base.specs.Known.{names_known_groups}
+use Rattle.node_base.specs.Maps.{fits, is_older, maps_take}
 use Rattle.segment_format.specs.declared.segment.Item.{Item}
 use Rattle.stripe_code.specs.declared.round.Told.{Told}
 use Rattle.version_model.specs.declared.answer.Answer.{Answer as Answered}
@@ -82,27 +82,27 @@ answers_plain (Some number) a = (tt, tt)
 
 -- ---- checkpoints
 
-stored_plain : (o : LogOut) → AllPlain (stored o)
-unfolding stored
+stored_plain : (o : LogOut) → AllPlain (checkpointing_store o)
+unfolding checkpointing_store
 stored_plain (log_out.Send fragment member) = (tt, tt)
 stored_plain (log_out.Settled end rows) = tt
 
-parts_rest : (s : Serving) (items : List Item) → Rests s (gives_parts s items)
-unfolding gives_parts
-parts_rest s items = record { kept = same s; plain = all_flat_map IsPlain stored stored_plain (log.transition s.log (log_in.Parts items)).outs }
+parts_rest : (s : Serving) (items : List Item) → Rests s (give_parts s items)
+unfolding give_parts
+parts_rest s items = record { kept = same s; plain = all_flat_map IsPlain checkpointing_store stored_plain (log.transition s.log (log_in.Parts items)).outs }
 
-says_rest : (s : Serving) (o : WriterOut) → Rests s (says s o)
-unfolding says registers
+says_rest : (s : Serving) (o : WriterOut) → Rests s (writer_says s o)
+unfolding writer_says register
 says_rest s (writer_out.Parts items) = parts_rest s items
 says_rest s (writer_out.Done slot epoch parts horizon) = record { kept = named_kept s.slots slot epoch parts; plain = (tt, tt) }
 says_rest s writer_out.Kept = rests_still s
 says_rest s (writer_out.Stale epoch) = rests_still s
 
 writer_rests : (s : Serving) (given : WriterIn) → Rests s (writer_takes s given)
-unfolding writer_takes says_each
+unfolding writer_takes writer_says_each
 writer_rests s given =
     let t : Serving = record s { writer = (writer.transition s.writer given).state } in
-    rests_from s t (steps says t (writer.transition s.writer given).outs) (same s) (rests_steps says says_rest t (writer.transition s.writer given).outs)
+    rests_from s t (steps writer_says t (writer.transition s.writer given).outs) (same s) (rests_steps writer_says says_rest t (writer.transition s.writer given).outs)
 
 log_says_rest : (s : Serving) (o : LogOut) → Rests s (log_says s o)
 unfolding log_says on_settled
@@ -111,14 +111,14 @@ log_says_rest s (log_out.Settled end rows) =
     rests_then s (gives s (filed s end)) (writer_takes s (writer_in.Settled end)) (rests_doing s s (filed s end) (same s) (tt, tt))
     (writer_rests s (writer_in.Settled end))
 
-pub writes_rest : (s : Serving) (given : LogIn) → Rests s (writes s given)
-unfolding writes log_says_each
+pub writes_rest : (s : Serving) (given : LogIn) → Rests s (serving_write s given)
+unfolding serving_write log_says_each
 writes_rest s given =
     let t : Serving = record s { log = (log.transition s.log given).state } in
     rests_from s t (steps log_says t (log.transition s.log given).outs) (same s) (rests_steps log_says log_says_rest t (log.transition s.log given).outs)
 
 next_rests : (s : Serving) → Rests s (next_slot s)
-unfolding next_slot begins_slot
+unfolding next_slot begin_slot
 next_rests s = by s.checkpoint
   where
     written : (t : Serving) (o : Option WriterIn) → Rests t (writes_slot t o)
@@ -128,7 +128,7 @@ next_rests s = by s.checkpoint
     by_slot : (job : Checkpointing) (o : Option ℕ) → Rests s (next_from s job o)
     by_slot job None = record { kept = same s; plain = answers_plain s.lasting.items.unanswered (answer.Count job.count) }
     by_slot job (Some slot) =
-        let t : Serving = record s { checkpoint = Some (record job { next = slot_after slot }); slots = cleaned_at s.slots slot } in
+        let t : Serving = record s { checkpoint = Some (record job { next = slot_after slot }); slots = slot_table_clean s.slots slot } in
         rests_from s t (writes_slot t (begin_at s.slots slot)) (cleaned_kept s.slots slot) (written t (begin_at s.slots slot))
 
     by : (checkpoint : Option Checkpointing) → Rests s (next_for s checkpoint)
@@ -144,7 +144,7 @@ checkpoint_rests s number =
 acked_rests : (s : Serving) (r : Stepped WriterState WriterOut) → Rests s (answered_by s r)
 acked_rests s r =
     let t : Serving = record s { writer = r.state } in
-    let u : Serving = record s { writer = r.state; checkpoint = fold counted s.checkpoint r.outs } in
+    let u : Serving = record s { writer = r.state; checkpoint = fold checkpointing_count s.checkpoint r.outs } in
     by_test (Rests s) (length r.outs == 0) (still t) (next_slot u) (λ _. rests_from s t (still t) (same s) (rests_still t))
     (λ _. rests_from s u (next_slot u) (same s) (next_rests u))
 
@@ -154,22 +154,22 @@ ack_rests s ack =
     by_test (Rests s) (awaits s.checkpoint ack.ask) (answered_by s (writer.transition s.writer (writer_in.Ack ack.epoch s.dones))) (still s)
     (λ _. acked_rests s (writer.transition s.writer (writer_in.Ack ack.epoch s.dones))) (λ _. rests_still s)
 
-tells_rest : (s : Serving) → Rests s (tells_again s)
-unfolding tells_again
-tells_rest s = rests_doing s s (told_again s.checkpoint) (same s) (told_plain s.checkpoint)
+tells_rest : (s : Serving) → Rests s (serving_tell_again s)
+unfolding serving_tell_again
+tells_rest s = rests_doing s s (checkpointing_tell_again s.checkpoint) (same s) (told_plain s.checkpoint)
   where
-    done_plain : (o : Option CkptDone) → AllPlain (done_again o)
+    done_plain : (o : Option CkptDone) → AllPlain (send_done o)
     done_plain None = tt
     done_plain (Some done) = (tt, tt)
 
-    told_plain : (o : Option Checkpointing) → AllPlain (told_again o)
+    told_plain : (o : Option Checkpointing) → AllPlain (checkpointing_tell_again o)
     told_plain None = tt
     told_plain (Some job) = done_plain job.done
 
 -- ---- the maps
 
-slots_rest : (s : Serving) (clients : ℕ) (slots : List SlotNews) → Rests s (hears_slots s clients slots)
-unfolding hears_slots
+slots_rest : (s : Serving) (clients : ℕ) (slots : List SlotNews) → Rests s (hear_slots s clients slots)
+unfolding hear_slots
 slots_rest s clients slots = by s.maps.groups
   where
     by : (groups : Option GroupMapState) → Rests s (hears_with s clients slots groups)
@@ -179,17 +179,17 @@ slots_rest s clients slots = by s.maps.groups
 newer_rests : (s : Serving) (clients : ℕ) (news : News) → Rests s (on_newer s clients news)
 unfolding on_newer regroups
 newer_rests s clients news =
-    let a : Done = with_asker s (table.regroups_all news.groups (asker_of s)) in
-    let b : Done = hears_slots a.state clients news.slots in
+    let a : Done = with_asker s (table.slot_table_regroup news.groups (asker_of s)) in
+    let b : Done = hear_slots a.state clients news.slots in
     let ab : Done = saying a.outs b in
-    rests_then s ab (writes ab.state (log_in.Maps news.groups))
+    rests_then s ab (serving_write ab.state (log_in.Maps news.groups))
     (rests_then s a b (regroups_rest news.groups (asker_of s)) (slots_rest a.state clients news.slots)) (writes_rest ab.state (log_in.Maps news.groups))
 
 pub news_rest : (s : Serving) (clients : ℕ) (news : News) → Rests s (on_news s clients news)
 unfolding on_news
 news_rest s clients news =
-    let t : Serving = record s { maps = taken s.maps news } in
-    by_test (Rests s) (is_older s.maps news) (on_newer t clients news) (hears_slots s clients news.slots)
+    let t : Serving = record s { maps = maps_take s.maps news } in
+    by_test (Rests s) (is_older s.maps news) (on_newer t clients news) (hear_slots s clients news.slots)
     (λ _. rests_from s t (on_newer t clients news) (same s) (newer_rests t clients news)) (λ _. slots_rest s clients news.slots)
 
 fitting_rests : (s : Serving) (clients : ℕ) (news : News) → Rests s (on_fitting_news s clients news)
@@ -239,30 +239,30 @@ module _ (Known : Type 0) (Named : ℕ → Group → Type 0) (Came : ℕ → ℕ
   body_goes clients from (body.Report report) fact = calm (on_report s from report) (reports_rest (asker_of s) from report)
   body_goes clients from (body.Fragment found) fact = found_goes Known Named Came s fine (server_in from) found fact
   body_goes clients from (body.Missing missing) fact = missing_goes Known Named Came s fine (server_in from) missing fact
-  body_goes clients from (body.Stored stored) fact = calm (writes s (log_in.Acked stored.name stored.index stored.generation))
+  body_goes clients from (body.Stored stored) fact = calm (serving_write s (log_in.Acked stored.name stored.index stored.generation))
       (writes_rest s (log_in.Acked stored.name stored.index stored.generation))
   body_goes clients from (body.CkptAck ack) fact = calm (on_ckpt_ack s ack) (ack_rests s ack)
   body_goes clients from _ fact = calm (still s) (rests_still s)
 
-  pub packet_goes : (clients : ℕ) (packet : Packet) → (Known → BodyBrought Named Came packet.from packet.body) → Goes (hears s clients packet)
-  unfolding hears asks_for_maps
+  pub packet_goes : (clients : ℕ) (packet : Packet) → (Known → BodyBrought Named Came packet.from packet.body) → Goes (serving_hear s clients packet)
+  unfolding serving_hear ask_for_maps
   packet_goes clients packet fact =
-      by_test Goes (names_known s.maps packet.body) (on_body s clients packet.from packet.body) (asks_for_maps s)
-      (λ _. body_goes clients packet.from packet.body fact) (λ _. calm (asks_for_maps s) (record { kept = same s; plain = (tt, tt) }))
+      by_test Goes (names_known_groups s.maps packet.body) (on_body s clients packet.from packet.body) (ask_for_maps s)
+      (λ _. body_goes clients packet.from packet.body fact) (λ _. calm (ask_for_maps s) (record { kept = same s; plain = (tt, tt) }))
 
 -- ---- time
 
 pub tick_rests : (s : Serving) → Rests s (on_tick s)
-unfolding on_tick recalls_again asks_again
+unfolding on_tick recalls_again serving_ask_again
 tick_rests s =
     let a : Done = recalls_again s in
-    let b : Done = asks_again a.state true in
+    let b : Done = serving_ask_again a.state true in
     let ab : Done = saying a.outs b in
-    let c : Done = asks_again ab.state false in
+    let c : Done = serving_ask_again ab.state false in
     let abc : Done = saying ab.outs c in
-    let d : Done = writes abc.state log_in.Tick in
+    let d : Done = serving_write abc.state log_in.Tick in
     let abcd : Done = saying abc.outs d in
-    rests_then s abcd (tells_again abcd.state)
+    rests_then s abcd (serving_tell_again abcd.state)
     (rests_then s abc d
     (rests_then s ab c (rests_then s a b (recalls_rest s.slots) (asks_rest true (asker_of a.state))) (asks_rest false (asker_of ab.state)))
     (writes_rest abc.state log_in.Tick)) (tells_rest abcd.state)

@@ -12,8 +12,8 @@ use Rattle.manager_slots.specs.declared.slot_phase.SlotPhase.TheVariants as phas
 use Rattle.manager_slots.specs.declared.slot_phase.Taking.{Taking}
 use Rattle.manager_slots.specs.Slots.{epoch_of}
 use Rattle.manager_slots.specs.SlotTable as table
-use Rattle.manager_slots.specs.SlotTable.{Asks, Hearer, Table, TableAsker, all_slots, asks_all, at_slot, at_taken, changed_in, cleaned_at, cleaned_phase, hears_all, hears_of, in_slot, in_taken, named_at, named_phase, recalls, recalls_all, regroups_all, usage_in}
-use Rattle.manager_slots.specs.Takeovers.{Asker, Done, asker, asks_again, fetches, heard, is_wanted, on_report, phase_of, report_input, says, says_each, takes}
+use Rattle.manager_slots.specs.SlotTable.{Asks, Hearer, Table, TableAsker, all_slots, slot_table_ask_again, at_slot, at_taken, changed_in, slot_table_clean, phase_clean, hear_each, hear_of, in_slot, in_taken, slot_table_name, phase_name, slot_table_recall, recall_again, slot_table_regroup, usage_in}
+use Rattle.manager_slots.specs.Takeovers.{Asker, Done, asker, takeovers_ask_again, takeovers_fetch, outs_of, is_wanted, on_report, phase_of, report_input, takeovers_say, say_each, takeovers_take}
 use Rattle.manager_slots.specs.Tokens as tokens
 use Rattle.node_base.specs.declared.effects.Effect.{Effect}
 use Rattle.node_base.specs.declared.effects.Effect.TheVariants.{Send, Answer, Lose, Does}
@@ -89,8 +89,8 @@ same_slot p = record { kept = λ epoch name fact. fact; plain = tt }
 
 -- ---- what is done for clients and the cleaner
 
-said_plain : (k epoch : ℕ) (o : SlotOut) → AllPlain (tokens.said k epoch o)
-unfolding tokens.said
+said_plain : (k epoch : ℕ) (o : SlotOut) → AllPlain (tokens.tokens_say k epoch o)
+unfolding tokens.tokens_say
 said_plain k epoch (slot_out.Grant client block stamp inc req mode entry) = (tt, tt)
 said_plain k epoch (slot_out.Forward client block stamp to inc req ver) = (tt, tt)
 said_plain k epoch (slot_out.Recall client block stamp keep) = (tt, tt)
@@ -98,18 +98,18 @@ said_plain k epoch (slot_out.Applied log applied) = (tt, tt)
 said_plain k epoch (slot_out.Live entry) = tt
 said_plain k epoch slot_out.Dead = tt
 
-pub tokens_rest : (p : SlotPhase) (k : ℕ) (given : SlotIn) → SlotRests p (tokens.takes p k given).state (tokens.takes p k given).outs
-unfolding tokens.takes
+pub tokens_rest : (p : SlotPhase) (k : ℕ) (given : SlotIn) → SlotRests p (tokens.tokens_take p k given).state (tokens.tokens_take p k given).outs
+unfolding tokens.tokens_take
 tokens_rest (phase.Active a) k given = record {
   kept = active_whole (phase.Active a) _;
-  plain = all_flat_map IsPlain (tokens.said k a.slot.epoch) (said_plain k a.slot.epoch) (slot.transition a.slot given).outs;
+  plain = all_flat_map IsPlain (tokens.tokens_say k a.slot.epoch) (said_plain k a.slot.epoch) (slot.transition a.slot given).outs;
 }
 tokens_rest (phase.Away epoch) k given = same_slot (phase.Away epoch)
 tokens_rest (phase.Taking t) k given = same_slot (phase.Taking t)
 tokens_rest (phase.Broken epoch seg) k given = same_slot (phase.Broken epoch seg)
 
-check_plain : (check : Check) (epoch : ℕ) (o : SlotOut) → AllPlain (tokens.check_said check epoch o)
-unfolding tokens.check_said
+check_plain : (check : Check) (epoch : ℕ) (o : SlotOut) → AllPlain (tokens.tokens_answer check epoch o)
+unfolding tokens.tokens_answer
 check_plain check epoch (slot_out.Grant client block stamp inc req mode entry) = (tt, tt)
 check_plain check epoch (slot_out.Forward client block stamp to inc req ver) = (tt, tt)
 check_plain check epoch (slot_out.Recall client block stamp keep) = (tt, tt)
@@ -121,7 +121,7 @@ checks_rest : (p : SlotPhase) (check : Check) → SlotRests p (tokens.on_check p
 unfolding tokens.on_check
 checks_rest (phase.Active a) check = record {
   kept = active_whole (phase.Active a) _;
-  plain = all_flat_map IsPlain (tokens.check_said check a.slot.epoch) (check_plain check a.slot.epoch)
+  plain = all_flat_map IsPlain (tokens.tokens_answer check a.slot.epoch) (check_plain check a.slot.epoch)
       (slot.transition a.slot (tokens.check_input check)).outs;
 }
 checks_rest (phase.Away epoch) check = same_slot (phase.Away epoch)
@@ -141,51 +141,51 @@ abbrev pub AskerRests : Asker → Done → Type 0
 AskerRests a d = SlotRests a.phase d.state.phase d.outs
 
 fetches_rest : (p : SlotPhase) (q : Questions) (server : ℕ) (name : SegName) (own : ℕ)
-    → SlotRests p (fetches p q server name own).state.phase (fetches p q server name own).outs
+    → SlotRests p (takeovers_fetch p q server name own).state.phase (takeovers_fetch p q server name own).outs
 fetches_rest (phase.Taking t) q server name own = record { kept = taking_whole (phase.Taking t) _; plain = (tt, tt) }
 fetches_rest (phase.Away epoch) q server name own = same_slot (phase.Away epoch)
 fetches_rest (phase.Active a) q server name own = same_slot (phase.Active a)
 fetches_rest (phase.Broken epoch seg) q server name own = same_slot (phase.Broken epoch seg)
 
-says_rest : (k : ℕ) (a : Asker) (o : Out) → NotLost o → AskerRests a (says k a o)
-unfolding says
+says_rest : (k : ℕ) (a : Asker) (o : Out) → NotLost o → AskerRests a (takeovers_say k a o)
+unfolding takeovers_say
 says_rest k a (out.Poll to) none = record { kept = λ epoch name fact. fact; plain = (tt, tt) }
 says_rest k a (out.Fetch server name own) none = fetches_rest a.phase a.questions server name own
 says_rest k a (out.Active epoch index beliefs applied) none = record { kept = active_whole a.phase _; plain = tt }
 says_rest k a (out.Lost name) none = absurd none
 
 -- what says nothing of losses breaks no slot
-pub each_rests : (k : ℕ) (a : Asker) (outs : List Out) → NoneLost outs → AskerRests a (says_each k a outs)
-unfolding says_each
+pub each_rests : (k : ℕ) (a : Asker) (outs : List Out) → NoneLost outs → AskerRests a (say_each k a outs)
+unfolding say_each
 each_rests k a [] none = same_slot a.phase
 each_rests k a (o ∷ outs) none =
-    let one : AskerRests a (says k a o) = says_rest k a o none.0 in
-    let rest : AskerRests (says k a o).state (says_each k (says k a o).state outs) = each_rests k (says k a o).state outs none.1 in
+    let one : AskerRests a (takeovers_say k a o) = says_rest k a o none.0 in
+    let rest : AskerRests (takeovers_say k a o).state (say_each k (takeovers_say k a o).state outs) = each_rests k (takeovers_say k a o).state outs none.1 in
     record {
       kept = λ epoch name fact. one.kept epoch name (rest.kept epoch name fact);
-      plain = all_append IsPlain (says k a o).outs (says_each k (says k a o).state outs).outs one.plain rest.plain;
+      plain = all_append IsPlain (takeovers_say k a o).outs (say_each k (takeovers_say k a o).state outs).outs one.plain rest.plain;
     }
 
 -- from a slot that is taken over
 pub taken_rests : (k : ℕ) (p : SlotPhase) (t : Taking) (q : Questions) (outs : List Out) → NoneLost outs
-    → SlotRests p (says_each k (asker (phase.Taking t) q) outs).state.phase (says_each k (asker (phase.Taking t) q) outs).outs
+    → SlotRests p (say_each k (asker (phase.Taking t) q) outs).state.phase (say_each k (asker (phase.Taking t) q) outs).outs
 taken_rests k p t q outs none =
-    let r : AskerRests (asker (phase.Taking t) q) (says_each k (asker (phase.Taking t) q) outs) = each_rests k (asker (phase.Taking t) q) outs none in
+    let r : AskerRests (asker (phase.Taking t) q) (say_each k (asker (phase.Taking t) q) outs) = each_rests k (asker (phase.Taking t) q) outs none in
     record { kept = λ epoch name fact. absurd (not_taking epoch name (r.kept epoch name fact)); plain = r.plain }
   where
     not_taking : (epoch : ℕ) (name : SegName) → phase.Taking t ≡ phase.Broken epoch name → ⊥
     not_taking epoch name fact = cc
 
-calm_rests : (k : ℕ) (p : SlotPhase) (q : Questions) (given : In) → heard_in given ≡ None → AskerRests (asker p q) (takes (asker p q) k given)
-unfolding takes heard says_each
+calm_rests : (k : ℕ) (p : SlotPhase) (q : Questions) (given : In) → heard_in given ≡ None → AskerRests (asker p q) (takeovers_take (asker p q) k given)
+unfolding takeovers_take outs_of say_each
 calm_rests k (phase.Taking t) q given calm =
     taken_rests k (phase.Taking t) _ q (transition t.take given).outs (calm_none t.take given calm)
 calm_rests k (phase.Away epoch) q given calm = same_slot (phase.Away epoch)
 calm_rests k (phase.Active a) q given calm = same_slot (phase.Active a)
 calm_rests k (phase.Broken epoch seg) q given calm = same_slot (phase.Broken epoch seg)
 
-again_rests : (polls : Bool) (k : ℕ) (p : SlotPhase) (q : Questions) → AskerRests (asker p q) (asks_again (asker p q) k polls)
-unfolding asks_again heard says_each
+again_rests : (polls : Bool) (k : ℕ) (p : SlotPhase) (q : Questions) → AskerRests (asker p q) (takeovers_ask_again (asker p q) k polls)
+unfolding takeovers_ask_again outs_of say_each
 again_rests polls k (phase.Taking t) q =
     taken_rests k (phase.Taking t) _ q (filter (is_wanted polls) (transition t.take input.Tick).outs)
     (all_filter NotLost (is_wanted polls) (transition t.take input.Tick).outs (calm_none t.take input.Tick refl))
@@ -195,15 +195,15 @@ again_rests polls k (phase.Broken epoch seg) q = same_slot (phase.Broken epoch s
 
 report_rests : (from : NodeId) (report : Report) (p : SlotPhase) (q : Questions) → AskerRests (asker p q) (on_report (asker p q) from report)
 report_rests from report p q =
-    by_test (AskerRests (asker p q)) (report.epoch == epoch_of p) (takes (asker p q) report.slot (report_input from report)) (still (asker p q))
+    by_test (AskerRests (asker p q)) (report.epoch == epoch_of p) (takeovers_take (asker p q) report.slot (report_input from report)) (still (asker p q))
     (λ _. calm_rests report.slot p q (report_input from report) refl) (λ _. same_slot p)
 
 -- a slot that is heard of anew isn't broken
-hears_rest : (h : Hearer) (news : SlotNews) (p : SlotPhase) (q : Questions) → AskerRests (asker p q) (hears_of h news (asker p q))
-unfolding hears_of
+hears_rest : (h : Hearer) (news : SlotNews) (p : SlotPhase) (q : Questions) → AskerRests (asker p q) (hear_of h news (asker p q))
+unfolding hear_of
 hears_rest h news p q =
     by_test (AskerRests (asker p q)) (nat_lt (epoch_of p) news.epoch)
-    (takes (asker (phase_of h.ears.number news h.groups h.ears.clients) q) news.slot input.Tick) (still (asker p q))
+    (takeovers_take (asker (phase_of h.ears.number news h.groups h.ears.clients) q) news.slot input.Tick) (still (asker p q))
     (λ _. let r = calm_rests news.slot (phase_of h.ears.number news h.groups h.ears.clients) q input.Tick refl in record {
       kept = λ epoch name fact. whole epoch name (r.kept epoch name fact);
       plain = r.plain;
@@ -302,32 +302,32 @@ asked_plain t asking = by (slice_get t asking.slot)
     by None = tt
     by (Some p) = usage_plain p asking
 
-pub recalls_rest : (t : Table) → TableRests t (recalls_all t).state (recalls_all t).outs
-unfolding recalls
+pub recalls_rest : (t : Table) → TableRests t (recall_again t).state (recall_again t).outs
+unfolding slot_table_recall
 recalls_rest t = all t all_slots
   where
-    one : (t : Table) (k : ℕ) → TableRests t (recalls t k).state (recalls t k).outs
+    one : (t : Table) (k : ℕ) → TableRests t (slot_table_recall t k).state (slot_table_recall t k).outs
     one t k = slot_rests t k (λ p. tokens.on_tick p k) (λ p. tokens_rest p k slot_in.Tick)
 
-    all : (t : Table) (ks : List ℕ) → TableRests t (steps recalls t ks).state (steps recalls t ks).outs
+    all : (t : Table) (ks : List ℕ) → TableRests t (steps slot_table_recall t ks).state (steps slot_table_recall t ks).outs
     all t [] = same_table t
     all t (k ∷ ks) =
-        then_rests t (recalls t k).state (steps recalls (recalls t k).state ks).state (recalls t k).outs (steps recalls (recalls t k).state ks).outs (one t k)
-        (all (recalls t k).state ks)
+        then_rests t (slot_table_recall t k).state (steps slot_table_recall (slot_table_recall t k).state ks).state (slot_table_recall t k).outs (steps slot_table_recall (slot_table_recall t k).state ks).outs (one t k)
+        (all (slot_table_recall t k).state ks)
 
-pub asks_rest : (polls : Bool) (a : TableAsker) → AsksRest a (asks_all polls a)
-unfolding table.asks
-asks_rest polls a = asks_each (table.asks polls) (λ b k. asker_rests b k (λ x. asks_again x k polls) (again_rests polls k)) a all_slots
+pub asks_rest : (polls : Bool) (a : TableAsker) → AsksRest a (slot_table_ask_again polls a)
+unfolding table.slot_table_ask
+asks_rest polls a = asks_each (table.slot_table_ask polls) (λ b k. asker_rests b k (λ x. takeovers_ask_again x k polls) (again_rests polls k)) a all_slots
 
-pub regroups_rest : (groups : GroupMapState) (a : TableAsker) → AsksRest a (regroups_all groups a)
-unfolding table.takes
+pub regroups_rest : (groups : GroupMapState) (a : TableAsker) → AsksRest a (slot_table_regroup groups a)
+unfolding table.slot_table_take
 regroups_rest groups a =
-    asks_each (table.regroups groups) (λ b k. asker_rests b k (λ x. takes x k (input.Maps groups)) (λ p q. calm_rests k p q (input.Maps groups) refl)) a
+    asks_each (table.regroup_one groups) (λ b k. asker_rests b k (λ x. takeovers_take x k (input.Maps groups)) (λ p q. calm_rests k p q (input.Maps groups) refl)) a
     all_slots
 
-pub heard_rest : (h : Hearer) (a : TableAsker) (slots : List SlotNews) → AsksRest a (hears_all h a slots)
-unfolding table.hears
-heard_rest h a slots = asks_each (table.hears h) (λ b news. asker_rests b news.slot (hears_of h news) (hears_rest h news)) a slots
+pub heard_rest : (h : Hearer) (a : TableAsker) (slots : List SlotNews) → AsksRest a (hear_each h a slots)
+unfolding table.slot_table_hear
+heard_rest h a slots = asks_each (table.slot_table_hear h) (λ b news. asker_rests b news.slot (hear_of h news) (hears_rest h news)) a slots
 
 pub reports_rest : (a : TableAsker) (from : NodeId) (report : Report) → AsksRest a (table.on_report a from report)
 unfolding table.on_report
@@ -343,21 +343,21 @@ changed_rests t k change each = by (slice_get t k) refl
     by None fact = λ m epoch name at. at
     by (Some p) fact = (put_rests t k p (change p) [] fact (record { kept = each p; plain = tt })).kept
 
-pub cleaned_kept : (t : Table) (k : ℕ) → TableKept t (cleaned_at t k)
-unfolding cleaned_at cleaned_phase
-cleaned_kept t k = changed_rests t k cleaned_phase each
+pub cleaned_kept : (t : Table) (k : ℕ) → TableKept t (slot_table_clean t k)
+unfolding slot_table_clean phase_clean
+cleaned_kept t k = changed_rests t k phase_clean each
   where
-    each : (p : SlotPhase) → Kept p (cleaned_phase p)
+    each : (p : SlotPhase) → Kept p (phase_clean p)
     each (phase.Active a) = active_whole (phase.Active a) _
     each (phase.Away epoch) = λ e name fact. fact
     each (phase.Taking t) = λ e name fact. fact
     each (phase.Broken epoch seg) = λ e name fact. fact
 
-pub named_kept : (t : Table) (k epoch : ℕ) (parts : List SegRef) → TableKept t (named_at t k epoch parts)
-unfolding named_at named_phase
-named_kept t k epoch parts = changed_rests t k (named_phase epoch parts) each
+pub named_kept : (t : Table) (k epoch : ℕ) (parts : List SegRef) → TableKept t (slot_table_name t k epoch parts)
+unfolding slot_table_name phase_name
+named_kept t k epoch parts = changed_rests t k (phase_name epoch parts) each
   where
-    each : (p : SlotPhase) → Kept p (named_phase epoch parts p)
+    each : (p : SlotPhase) → Kept p (phase_name epoch parts p)
     each (phase.Active a) =
         by_test (Kept (phase.Active a)) (a.slot.epoch == epoch) (phase.Active _) (phase.Active a) (λ _. active_whole (phase.Active a) _)
         (λ _. active_whole (phase.Active a) a)

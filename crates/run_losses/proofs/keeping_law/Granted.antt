@@ -12,7 +12,7 @@ use Rattle.token_manager.specs.declared.input.In.{In}
 use Rattle.token_manager.specs.declared.input.In.TheVariants as input
 use Rattle.token_manager.specs.declared.output.Out.{Out}
 use Rattle.token_manager.specs.declared.output.Out.TheVariants as out
-use Rattle.token_manager.specs.Recalls.{all_sent, recall_of, sent}
+use Rattle.token_manager.specs.Recalls.{send_all, recall_of, send_recalls}
 use Rattle.token_manager.specs.SlotState.{SlotState}
 use Rattle.token_manager.specs.Transition as slot
 use Rattle.xfs_base.specs.Modes.{is_own}
@@ -37,21 +37,21 @@ AllGranted d = AllByRecursion (Granted d.state.epoch d.state.index.rows) d.outs
 -- ---- recalls are no Grants
 
 module _ (epoch : ℕ) (rows : List (BlockId × Entry)) where
-  sent_none : (block : BlockId) (awaited : List Awaited) → AllByRecursion (Granted epoch rows) (sent block awaited)
+  sent_none : (block : BlockId) (awaited : List Awaited) → AllByRecursion (Granted epoch rows) (send_recalls block awaited)
   sent_none block [] = tt
   sent_none block (a ∷ rest) =
-      elim (is_some a.end) as (λ t. AllByRecursion (Granted epoch rows) (cond t (sent block rest) (recall_of block a ∷ sent block rest))) [
+      elim (is_some a.end) as (λ t. AllByRecursion (Granted epoch rows) (cond t (send_recalls block rest) (recall_of block a ∷ send_recalls block rest))) [
         | true ↦ sent_none block rest
         | false ↦ (tt, sent_none block rest)
       ]
 
-  all_sent_none : (jobs : List (BlockId × Job)) → AllByRecursion (Granted epoch rows) (all_sent jobs)
-  all_sent_none [] = tt
-  all_sent_none (e ∷ es) = all_append (Granted epoch rows) (sent e.0 e.1.awaited) (all_sent es) (sent_none e.0 e.1.awaited) (all_sent_none es)
+  send_all_none : (jobs : List (BlockId × Job)) → AllByRecursion (Granted epoch rows) (send_all jobs)
+  send_all_none [] = tt
+  send_all_none (e ∷ es) = all_append (Granted epoch rows) (send_recalls e.0 e.1.awaited) (send_all es) (sent_none e.0 e.1.awaited) (send_all_none es)
 
 -- ---- wants that are answered
 
-finished_grants : (s : SlotState) (want : Wanted) → AllGranted (slot.finished s want)
+finished_grants : (s : SlotState) (want : Wanted) → AllGranted (slot.slot_finish s want)
 finished_grants s want = by (slot.passers s want)
   where
     by : (from : List ℕ) → AllByRecursion (Granted s.epoch s.index.rows) (slot.answer s want from ∷ [])
@@ -64,17 +64,17 @@ record Kept (s : SlotState) (d : slot.Done) : Type 0 where
   rows : d.state.index.rows ≡ s.index.rows
   outs : AllGranted d
 
-one_kept : (s : SlotState) (block : BlockId) → Kept s (slot.finished_at s block)
+one_kept : (s : SlotState) (block : BlockId) → Kept s (slot.finish_job s block)
 one_kept s block =
     by_finished_at (Kept s) s block (record { epoch = refl; rows = refl; outs = tt })
     (λ job fact. record { epoch = refl; rows = refl; outs = finished_grants (let_go s block) job.want })
 
-all_kept : (s : SlotState) (blocks : List BlockId) → Kept s (steps slot.finished_at s blocks)
+all_kept : (s : SlotState) (blocks : List BlockId) → Kept s (steps slot.finish_job s blocks)
 all_kept s [] = record { epoch = refl; rows = refl; outs = tt }
 all_kept s (b ∷ bs) =
     let one = one_kept s b in
-    let first : slot.Done = slot.finished_at s b in
-    let last : slot.Done = steps slot.finished_at first.state bs in
+    let first : slot.Done = slot.finish_job s b in
+    let last : slot.Done = steps slot.finish_job first.state bs in
     let rest = all_kept first.state bs in
     record {
       epoch = rest.epoch ∙ one.epoch;
@@ -101,4 +101,4 @@ slot_grants s (input.Check block place) = by (slot.is_place (slot.entry_at s blo
     by : (t : Bool) → AllByRecursion (Granted s.epoch s.index.rows) (cond t (out.Live (slot.entry_at s block)) out.Dead ∷ [])
     by true = (tt, tt)
     by false = (tt, tt)
-slot_grants s input.Tick = all_sent_none s.epoch s.index.rows s.jobs
+slot_grants s input.Tick = send_all_none s.epoch s.index.rows s.jobs

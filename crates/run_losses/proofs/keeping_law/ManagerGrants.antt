@@ -9,7 +9,7 @@ use Rattle.manager_node.specs.Phases.{Went_to, serves}
 use Rattle.manager_serving.specs.Checkpoints.{Done}
 use Rattle.manager_serving.specs.declared.serving.Serving.{Serving}
 use Rattle.manager_serving.specs.Serving as serving
-use Rattle.node_base.specs.Known.{names_known}
+use Rattle.node_base.specs.Known.{names_known_groups}
 use Rattle.node_base.specs.Shape.{is_well_formed}
 use Rattle.wire_msg.specs.declared.body.Body.{Body}
 use Rattle.wire_msg.specs.declared.body.Body.TheVariants as body
@@ -65,10 +65,10 @@ own_tells s waits clients from (body.Check m) asks = checks_tell _ s.slots m
 own_tells s waits clients from _ asks = absurd asks
 
 hears_tells : (s : Serving) → WaitsInPlace (Serves s) → (clients : ℕ) (packet : Packet)
-    → AllSay (Tells (serving.hears s clients packet).state) (serving.hears s clients packet).outs
-unfolding serving.hears serving.asks_for_maps
+    → AllSay (Tells (serving.serving_hear s clients packet).state) (serving.serving_hear s clients packet).outs
+unfolding serving.serving_hear serving.ask_for_maps
 hears_tells s waits clients packet =
-    by_test (λ (d : Done). AllSay (Tells d.state) d.outs) (names_known s.maps packet.body) (serving.on_body s clients packet.from packet.body) _
+    by_test (λ (d : Done). AllSay (Tells d.state) d.outs) (names_known_groups s.maps packet.body) (serving.on_body s clients packet.from packet.body) _
     (λ t. body_so _ (silent _) s clients packet.from packet.body (own_tells s waits clients packet.from packet.body)) (λ t. (tt, tt))
 
 -- and of a manager, whatever happens to it
@@ -81,7 +81,7 @@ packet_tells peers (Waiting kept hello) waits packet = waits_so _ (silent _) pee
 packet_tells peers (Serves s) waits packet = hears_tells s waits peers.clients packet
 
 event_tells : (peers : _) (p : Phase) → WaitsInPlace p → (what : Do) → AllTell (events.on_event peers p what)
-unfolding events.on_deliver
+unfolding events.manager_deliver
 event_tells peers p waits Begin = begins_so _ (silent _) p
 event_tells peers p waits (Deliver packet) =
     by_test AllTell (is_well_formed peers packet) (events.on_packet peers p packet) (still p) (λ t. packet_tells peers p waits packet) (λ t. tt)

@@ -57,8 +57,8 @@ record HeldIn (k : ℕ) (p : SlotPhase) (m : Grant) : Type 0 where
 
 module _ (k : ℕ) where
   said_tells : (n epoch : ℕ) (a : Active) (s : SlotState) (o : Out) → SpeaksOf k o → Granted s.epoch s.index.rows o
-      → AllGrant (HeldIn k (with_slot a s)) (tokens.said n epoch o)
-  unfolding tokens.said
+      → AllGrant (HeldIn k (with_slot a s)) (tokens.tokens_say n epoch o)
+  unfolding tokens.tokens_say
   said_tells n epoch a s (out.Grant client block stamp inc req mode entry) of granted =
       (record { slot = s; managed = refl; of_slot = of; epoch = granted.0; entry = granted.1 }, tt)
   said_tells n epoch a s (out.Forward client block stamp to inc req ver) of granted = (tt, tt)
@@ -68,15 +68,15 @@ module _ (k : ℕ) where
   said_tells n epoch a s out.Dead of granted = tt
 
   all_tell : (n epoch : ℕ) (a : Active) (s : SlotState) (outs : List Out) → AllSpeakOf k outs → AllByRecursion (Granted s.epoch s.index.rows) outs
-      → AllGrant (HeldIn k (with_slot a s)) (flat_map (tokens.said n epoch) outs)
+      → AllGrant (HeldIn k (with_slot a s)) (flat_map (tokens.tokens_say n epoch) outs)
   all_tell n epoch a s [] of granted = tt
   all_tell n epoch a s (o ∷ outs) of granted =
-      all_append (Says (IfGrant (HeldIn k (with_slot a s)))) (tokens.said n epoch o) (flat_map (tokens.said n epoch) outs) (said_tells n epoch a s o of.0 granted.0)
+      all_append (Says (IfGrant (HeldIn k (with_slot a s)))) (tokens.tokens_say n epoch o) (flat_map (tokens.tokens_say n epoch) outs) (said_tells n epoch a s o of.0 granted.0)
       (all_tell n epoch a s outs of.1 granted.1)
 
   takes_tells : (p : SlotPhase) (n : ℕ) (given : In) → IsInputOf k given → OtherAgrees k p
-      → AllGrant (HeldIn k (tokens.takes p n given).state) (tokens.takes p n given).outs
-  unfolding tokens.takes
+      → AllGrant (HeldIn k (tokens.tokens_take p n given).state) (tokens.tokens_take p n given).outs
+  unfolding tokens.tokens_take
   takes_tells (phase.Active a) n given of waits =
       all_tell n a.slot.epoch a (slot.transition a.slot given).state (slot.transition a.slot given).outs (takes_of k a.slot given of waits).outs
       (slot_grants a.slot given)
@@ -96,8 +96,8 @@ want_so client want (phase.Taking t) waits =
 want_so client want (phase.Broken epoch seg) waits = (tt, tt)
 
 -- what the cleaner is answered is no Grant
-checked_so : (Is : Grant → Type 0) (check : Check) (epoch : ℕ) (o : Out) → AllGrant Is (tokens.check_said check epoch o)
-unfolding tokens.check_said
+checked_so : (Is : Grant → Type 0) (check : Check) (epoch : ℕ) (o : Out) → AllGrant Is (tokens.tokens_answer check epoch o)
+unfolding tokens.tokens_answer
 checked_so Is check epoch (out.Grant client block stamp inc req mode entry) = (tt, tt)
 checked_so Is check epoch (out.Forward client block stamp to inc req ver) = (tt, tt)
 checked_so Is check epoch (out.Recall client block stamp keep) = (tt, tt)
@@ -108,7 +108,7 @@ checked_so Is check epoch out.Dead = (tt, tt)
 check_so : (Is : Grant → Type 0) (check : Check) (p : SlotPhase) → AllGrant Is (tokens.on_check p check).outs
 unfolding tokens.on_check
 check_so Is check (phase.Active a) =
-    all_flat_map (Says (IfGrant Is)) (tokens.check_said check a.slot.epoch) (checked_so Is check a.slot.epoch)
+    all_flat_map (Says (IfGrant Is)) (tokens.tokens_answer check a.slot.epoch) (checked_so Is check a.slot.epoch)
     (slot.transition a.slot (tokens.check_input check)).outs
 check_so Is check (phase.Away epoch) = tt
 check_so Is check (phase.Taking t) = tt

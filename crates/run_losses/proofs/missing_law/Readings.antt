@@ -7,7 +7,7 @@ use Rattle.core_world.specs.declared.any_node.AnyNode.{AnyNode}
 use Rattle.group_map.specs.declared.group.Group.{Group}
 use Rattle.group_map.specs.GroupMapState.{GroupMapState}
 use Rattle.log_tie.specs.Setting.{Stripe, stripe_of_group}
-use Rattle.loss_law.proofs.Answering.{RoundSo, asks_still, counted_parts, short_pairs, taken_so}
+use Rattle.loss_law.proofs.Answering.{RoundSo, asks_still, counted_parts, short_pairs, round_take_so}
 use Rattle.loss_law.proofs.Counting.{Among, Apart, Each, servers_of}
 use Rattle.loss_law.proofs.Pairs.{AllAsked, AllSo, Single, ToldSo, among_missing, apart_missing, each_missing, each_on, so_on}
 use Rattle.segment_format.specs.declared.segment.Segment.{Segment}
@@ -17,11 +17,11 @@ use Rattle.segment_reading.specs.declared.reading.Stage as rounds
 use Rattle.segment_reading.specs.declared.reading.Stage.TheVariants as stand
 use Rattle.segment_reading.specs.declared.target.Target.{Target}
 use Rattle.segment_reading.specs.Lost.{are_gone, missing_twice}
-use Rattle.segment_reading.specs.Reading.{ReadingState, Step, begun, counts, ends, goes_on, is_asking, judged, name_fits, on_answer, on_confirmed, read_as, segment_found}
+use Rattle.segment_reading.specs.Reading.{ReadingState, Step, reading_start, counts, ends, goes_on, is_asking, reading_judge, name_fits, reading_take, on_confirmed, reading_reads, segment_found}
 use Rattle.stripe_code.specs.declared.round.RoundState.{RoundState}
 use Rattle.stripe_code.specs.declared.round.RoundState.TheVariants as round
 use Rattle.stripe_code.specs.declared.round.Told.{Told}
-use Rattle.stripe_code.specs.Round.{RoundSoFar, asks, state_of, taken, told_fits}
+use Rattle.stripe_code.specs.Round.{RoundSoFar, asks, state_of, round_take, told_fits}
 use Rattle.token_protocol.specs.Basics.{In}
 use Rattle.headline.specs.Torn.{IsTornAt}
 use Rattle.wire_msg.specs.declared.body.Body.TheVariants as body
@@ -202,7 +202,7 @@ module _ (e : Estate AnyNode) where
     -- one that began by a question that was drawn at a moment, of any moment by now
     pub begun_since : (since drawn count number : ℕ) (target : Target) (group : Group) (ask : ℕ) → since ≤ count → drawn ≤ count
         → stripe_at target.seg ≡ stripe_of_group group
-        → last_at e reader drawn < number → ReadingTrue since count number (begun target group ask)
+        → last_at e reader drawn < number → ReadingTrue since count number (reading_start target group ask)
     begun_since since drawn count number target group ask born until named fresh = record {
       servers = sym (ap (λ (s : Stripe). servers_of s.members) named);
       parity = sym (ap (λ (s : Stripe). s.parity) named);
@@ -222,7 +222,7 @@ module _ (e : Estate AnyNode) where
     }
 
     pub begun_true : (count number : ℕ) (target : Target) (group : Group) (ask : ℕ) → stripe_at target.seg ≡ stripe_of_group group
-        → last_at e reader count < number → ReadingTrue count count number (begun target group ask)
+        → last_at e reader count < number → ReadingTrue count count number (reading_start target group ask)
     begun_true count number target group ask named fresh =
         begun_since count count count number target group ask (omega arith) (omega arith) named fresh
 
@@ -300,11 +300,11 @@ module _ (e : Estate AnyNode) where
             stage = by_test (StageTrue since count number ended) (are_gone now.parity r.kept pairs) stand.Doubted stand.Between doubted (λ few. between);
           }
 
-        found : (segment : Option Segment) → After (read_as q segment)
+        found : (segment : Option Segment) → After (reading_reads q segment)
         found (Some s) = record { servers = told.its_servers ∙ so.servers; parity = told.its_parity ∙ so.parity; stage = tt }
         found None = round_ends [] tt tt tt
 
-        is_judged : (groups : GroupMapState) (st : RoundState) → state_of now ≡ st → After (judged q groups st)
+        is_judged : (groups : GroupMapState) (st : RoundState) → state_of now ≡ st → After (reading_judge q groups st)
         is_judged groups (round.Read bytes) of = found (segment_found q.target groups (answer_of bytes))
         is_judged groups (round.Short pairs) of =
             let same = short_pairs now pairs of in
@@ -322,22 +322,22 @@ module _ (e : Estate AnyNode) where
           → ToldSo (λ v generation. MissedIn e on.drawn count v generation r.target.seg.name) server t
 
       pub answered_true : (groups : GroupMapState) (ask server : ℕ) (t : Told) → AnswersSo ask server t
-          → ReadingTrue since count number (on_answer r groups ask server t).state
-      unfolding on_answer
+          → ReadingTrue since count number (reading_take r groups ask server t).state
+      unfolding reading_take
       answered_true groups ask server t true_then =
-          by_test After (counts r ask server t) (judged (record r { round = taken r.round server t }) groups (state_of (taken r.round server t)))
+          by_test After (counts r ask server t) (reading_judge (record r { round = round_take r.round server t }) groups (state_of (round_take r.round server t)))
           (record { state = r; next = next.Wait }) takes (λ other. so)
         where
-          takes : counts r ask server t ≡ true → After (judged (record r { round = taken r.round server t }) groups (state_of (taken r.round server t)))
+          takes : counts r ask server t ≡ true → After (reading_judge (record r { round = round_take r.round server t }) groups (state_of (round_take r.round server t)))
           takes test =
               let c = counted_parts (is_asking r.stage) (ask == r.ask) (asks r.round server) (name_fits r.target t && told_fits r.round t) test in
               let asking : r.stage ≡ stand.Asking = asks_still r.stage c.first in
               let on : RoundTrue since count number r = subst (StageTrue since count number r) asking so.stage in
-              is_judged asking on (taken r.round server t)
-              (taken_so (λ v generation. MissedIn e on.drawn count v generation r.target.seg.name) r.round.servers r.round.parity r.round server t
+              is_judged asking on (round_take r.round server t)
+              (round_take_so (λ v generation. MissedIn e on.drawn count v generation r.target.seg.name) r.round.servers r.round.parity r.round server t
               (record { its_servers = refl; its_parity = refl; single = on.single; asked = on.asked; told = on.told }) c.third
               (true_then on (eqb-true ask r.ask c.second)))
-              groups (state_of (taken r.round server t)) refl
+              groups (state_of (round_take r.round server t)) refl
 
       -- ---- the reader's own question was answered alike
 
@@ -391,7 +391,7 @@ module _ (e : Estate AnyNode) where
 -- ---- what a step leaves alone
 
 abbrev with_answer : ReadingState → ℕ → Told → ReadingState
-with_answer r server t = record r { round = taken r.round server t }
+with_answer r server t = record r { round = round_take r.round server t }
 
 abbrev NotLost : Step → Type 0
 NotLost step = step.next ≡ next.Lost → ⊥
@@ -400,22 +400,22 @@ abbrev KeepsTarget : ReadingState → Step → Type 0
 KeepsTarget r step = (step.state.target ≡ r.target) × (step.state.ask ≡ r.ask)
 
 keeps_target : (r later : ReadingState) → later.target ≡ r.target → later.ask ≡ r.ask → (groups : GroupMapState) (st : RoundState)
-    → KeepsTarget r (judged later groups st)
+    → KeepsTarget r (reading_judge later groups st)
 keeps_target r later target ask groups (round.Read bytes) = read (segment_found later.target groups (answer_of bytes))
   where
-    read : (segment : Option Segment) → KeepsTarget r (read_as later segment)
+    read : (segment : Option Segment) → KeepsTarget r (reading_reads later segment)
     read (Some s) = (target, ask)
     read None = (target, ask)
 keeps_target r later target ask groups (round.Short pairs) = (target, ask)
 keeps_target r later target ask groups round.Waiting = (target, ask)
 
 pub answer_keeps_target : (r : ReadingState) (groups : GroupMapState) (ask server : ℕ) (t : Told)
-    → ((on_answer r groups ask server t).state.target ≡ r.target) × ((on_answer r groups ask server t).state.ask ≡ r.ask)
-unfolding on_answer
+    → ((reading_take r groups ask server t).state.target ≡ r.target) × ((reading_take r groups ask server t).state.ask ≡ r.ask)
+unfolding reading_take
 answer_keeps_target r groups ask server t =
-    by_test (KeepsTarget r) (counts r ask server t) (judged (with_answer r server t) groups (state_of (taken r.round server t)))
+    by_test (KeepsTarget r) (counts r ask server t) (reading_judge (with_answer r server t) groups (state_of (round_take r.round server t)))
     (record { state = r; next = next.Wait })
-    (λ takes. keeps_target r (with_answer r server t) refl refl groups (state_of (taken r.round server t))) (λ other. (refl, refl))
+    (λ takes. keeps_target r (with_answer r server t) refl refl groups (state_of (round_take r.round server t))) (λ other. (refl, refl))
 
 confirmed_so : (r : ReadingState) (ask : ℕ) (stage : rounds.Stage) → (goes_on r ask stage).state.target ≡ r.target
 confirmed_so r ask stand.Asking = refl

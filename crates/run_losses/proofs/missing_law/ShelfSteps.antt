@@ -13,7 +13,7 @@ use Rattle.xfs_base.specs.Segments.{pass_cmp}
 use Rattle.xfs_base.specs.Stamps.{is_greater}
 use Rattle.xfs_base.proofs.SegmentNames.{one_name}
 use Rattle.fragment_store.proofs.Tables.{held-with, held-without}
-use Rattle.fragment_store.specs.Calls.{kept, on_delete as without, on_fence as fenced_at, on_fill, on_lose as lost, with_fragment}
+use Rattle.fragment_store.specs.Calls.{shelf_store, on_delete as without, on_fence as fenced_at, on_fill, on_lose as lost, with_fragment}
 use Rattle.fragment_store.specs.ShelfState.{ShelfState, fence_of, held_at, is_held, is_marked, log_cmp, same_name}
 use Rattle.group_rebuild.specs.declared.output.Out.{Out}
 use Rattle.group_rebuild.specs.RebuildState.{RebuildState}
@@ -59,7 +59,7 @@ module _ (Told : SegName → Type 0) where
 
   -- ---- what is done to a shelf
 
-  kept_on : (s : ShelfState) (f : Fragment) → ShelfOn Told s (kept s f)
+  kept_on : (s : ShelfState) (f : Fragment) → ShelfOn Told s (shelf_store s f)
   kept_on s f =
       by_test (ShelfOn Told s) (is_held s f.meta.name) s (record s { held = with_fragment f s.held }) (λ e. shelf_same s)
       (λ e. record {
@@ -75,7 +75,7 @@ module _ (Told : SegName → Type 0) where
       (λ e. record { up = omega arith; holds = λ name fact. inl fact }) (λ e. shelf_same s)
 
   fill_on : (s : ShelfState) (f : Fragment) → ShelfOn Told s (on_fill s f)
-  fill_on s f = by_test (ShelfOn Told s) (is_marked s.marks f.meta.name) s (kept s f) (λ e. shelf_same s) (λ e. kept_on s f)
+  fill_on s f = by_test (ShelfOn Told s) (is_marked s.marks f.meta.name) s (shelf_store s f) (λ e. shelf_same s) (λ e. kept_on s f)
 
   lose_on : (s : ShelfState) → s.generation < u32_end → ShelfOn Told s (lost s)
   lose_on s low =
@@ -101,7 +101,7 @@ module _ (Told : SegName → Type 0) where
       → Keeps first what (ShelfOn Told first) (λ (r : RebuildState). Unit {0}) (λ (works : List Work). Unit {0}) (λ (o : Out). Unit {0})
       (λ (to : NodeId) (said : Body). Unit {0})
   keeps first what tells = record {
-    stores = λ packet m came s h. shelf_then first s (kept s m.fragment) h (kept_on s m.fragment);
+    stores = λ packet m came s h. shelf_then first s (shelf_store s m.fragment) h (kept_on s m.fragment);
     fences = λ log pass s h. shelf_then first s (fenced_at s log pass) h (fence_on s log pass);
     deletes = λ packet m came s h. shelf_then first s (without s m.name) h (delete_on s m.name (tells packet m came.event came.says));
     fills = λ f so s h. shelf_then first s (on_fill s f) h (fill_on s f);

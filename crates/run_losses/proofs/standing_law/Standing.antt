@@ -21,7 +21,7 @@ use Rattle.run_losses.proofs.missing_law.Moments.{sent_on}
 use Rattle.node_base.specs.Setups.{IsSetup}
 use Rattle.node_slots.specs.node_tie.ManagerEvents.{HeldAt, ManagerEventGoes}
 use Rattle.run_laws.proofs.place_law.Lying.{one_of_nine}
-use Rattle.registry.specs.Board.{all_news}
+use Rattle.registry.specs.Board.{board_slots}
 use Rattle.registry.specs.BoardState.{BoardState}
 use Rattle.headline.specs.Restarts.{NoDoubtfulRestart}
 use Rattle.takeover.specs.declared.source.Present.{Present}
@@ -209,7 +209,7 @@ module _ (below : Below) (e : Estate AnyNode) (setup : IsSetup e.script.setup) (
         let gone = deleted_below base e lines h.role h.there count board
         (registry_seen logged part count (both_of logged part count now) h.role h.there) name own p d among fact same in
         let nine = one_of_nine then.idx.net.filed (filed_known logged part when then).filed f.log f.seq f.some f.limit in
-        let low : least_horizon (log_by h.role) (all_news board) ≤ of_log (now.idx.net.horizon epoch) (log_by h.role) =
+        let low : least_horizon (log_by h.role) (board_slots board) ≤ of_log (now.idx.net.horizon epoch) (log_by h.role) =
         polled_low below.managed below.promised true (k logged part) part texts.text logged.first (moment e count).nodes
         (moment e count).sent (moment e count).acts now.tok now.idx of_eight both epoch bound lapsed_now.begun (log_by h.role)
         (subst (λ x. 0 < x) (sym h.numbered) nine.0) (subst (λ x. x ≤ block_logs) (sym h.numbered) nine.1) in

@@ -291,7 +291,7 @@ module _ (base : Setting) (e : Estate AnyNode) (run : IsRun any_step any_start e
   -- ---- the start
 
   -- the registry's groups, which each manager knows then
-  first_named : MapNamed (IsNamed e) (groups.started e.script.setup.servers e.script.setup.groups)
+  first_named : MapNamed (IsNamed e) (groups.group_map_start e.script.setup.servers e.script.setup.groups)
   first_named =
       (((lines OfCleaner tt).stands 0).seen names.Registry
       (any.Registry (registry_start e.script.setup (items_of e.script.lines names.Registry)))

@@ -4,21 +4,21 @@ use Rattle.std.specs.List.{AllByRecursion}
 use Rattle.std.proofs.lemmas.Bool.Decides.{nat_tests}
 use Rattle.group_map.specs.declared.group.Group.{Group}
 use Rattle.group_map.specs.Groups as groups
-use Rattle.manager_map.specs.Slots.{start_entries, entry_at}
+use Rattle.manager_map.specs.Slots.{manager_map_start, entry_at}
 use Rattle.manager_node.specs.declared.manager.Manager.{Manager}
 use Rattle.manager_node.specs.declared.phase.Phase.{Phase}
 use Rattle.manager_node.specs.declared.phase.Phase.TheVariants.{Down, Waiting, Serving as Serves}
-use Rattle.manager_node.specs.Events.{first_manager, happens, on_deliver, on_event, on_packet, on_time, on_waiting, on_welcome, takes_welcome}
-use Rattle.manager_node.specs.Phases.{Went_to, lasting_of, phase_has_room, serves, crashes, restarts, wish_at, down_wish, waiting_wish, serving_wish, with_begun, down_item, waiting_item, serving_item, begin_down, begin_waiting, begin_serving}
+use Rattle.manager_node.specs.Events.{manager_start, happens, manager_deliver, on_event, on_packet, on_time, on_waiting, on_welcome, takes_welcome}
+use Rattle.manager_node.specs.Phases.{Went_to, lasting_of, phase_has_room, serves, crash, restart, wish_at, down_wish, waiting_wish, serving_wish, with_begun, down_item, waiting_item, serving_item, begin_down, begin_waiting, begin_serving}
 use Rattle.manager_slots.specs.declared.lasting.Lasting.{Lasting as Life}
 use Rattle.manager_slots.specs.declared.slot_phase.SlotPhase.{SlotPhase}
 use Rattle.manager_slots.specs.declared.slot_phase.SlotPhase.TheVariants as phase
 use Rattle.manager_slots.specs.declared.slot_phase.Taking.{Taking}
-use Rattle.manager_slots.specs.Lasting.{kept_has_room}
+use Rattle.manager_slots.specs.Lasting.{lasting_has_room}
 use Rattle.manager_slots.specs.Slots.{first_active}
-use Rattle.manager_slots.specs.SlotTable.{Table, first_phase, first_table, unknown_table}
+use Rattle.manager_slots.specs.SlotTable.{Table, first_phase, slot_table_first, slot_table_unknown}
 use Rattle.manager_serving.specs.declared.serving.Serving.{Serving}
-use Rattle.manager_serving.specs.Serving.{again, hears, on_news, on_tick}
+use Rattle.manager_serving.specs.Serving.{again, serving_hear, on_news, on_tick}
 use Rattle.node_base.specs.Beginning.{next_item, work_at, answers_unanswered}
 use Rattle.node_base.specs.declared.effects.Effect.{Effect}
 use Rattle.node_base.specs.declared.effects.Effect.TheVariants.{Send, Answer as Answers, Lose, Does as Acts}
@@ -86,16 +86,16 @@ slot_is k (Down life) = refl
 slot_is k (Waiting life hello) = refl
 
 -- at the start of a run it takes nothing over
-first_phase-free : (number managers slot : ℕ) → NotTaking (first_phase number (start_entries managers) slot)
+first_phase-free : (number managers slot : ℕ) → NotTaking (first_phase number (manager_map_start managers) slot)
 first_phase-free number managers slot =
-    by_test NotTaking ((entry_at (start_entries managers) (slot_of slot)).manager == number) first_active (phase.Away 1) (λ _. tt) (λ _. tt)
+    by_test NotTaking ((entry_at (manager_map_start managers) (slot_of slot)).manager == number) first_active (phase.Away 1) (λ _. tt) (λ _. tt)
 
 pub none_at_first : (number : ℕ) (setup : Setup) (works : List Work) (k : ℕ) (x : Taking)
-    → slot_in k (first_manager number setup works).phase ≡ phase.Taking x → ⊥
+    → slot_in k (manager_start number setup works).phase ≡ phase.Taking x → ⊥
 none_at_first number setup works k x fact =
-    none_taken (first_table number setup.managers) (one 0, (one 1, (one 2, (one 3, (one 4, (one 5, (one 6, (one 7, tt)))))))) k x fact
+    none_taken (slot_table_first number setup.managers) (one 0, (one 1, (one 2, (one 3, (one 4, (one 5, (one 6, (one 7, tt)))))))) k x fact
   where
-    one : (slot : ℕ) → NotTaking (first_phase number (start_entries setup.managers) slot)
+    one : (slot : ℕ) → NotTaking (first_phase number (manager_map_start setup.managers) slot)
     one slot = first_phase-free number setup.managers slot
 
 module _ (Named : ℕ → Group → Type 0) where
@@ -106,18 +106,18 @@ module _ (Named : ℕ → Group → Type 0) where
 
   -- ---- the start
 
-  pub manager_begins : (number : ℕ) (setup : Setup) (works : List Work) → MapNamed Named (groups.started setup.servers setup.groups)
-      → PhaseFine (first_manager number setup works).phase
+  pub manager_begins : (number : ℕ) (setup : Setup) (works : List Work) → MapNamed Named (groups.group_map_start setup.servers setup.groups)
+      → PhaseFine (manager_start number setup works).phase
   manager_begins number setup works named = record { slots = record { fine = fine_at; apart = apart_at }; maps = named }
     where
-      none : (k : ℕ) (x : Taking) → slot_in k (first_manager number setup works).phase ≡ phase.Taking x → ⊥
+      none : (k : ℕ) (x : Taking) → slot_in k (manager_start number setup works).phase ≡ phase.Taking x → ⊥
       none k x fact = none_at_first number setup works k x fact
 
-      fine_at : (k : ℕ) (x : Taking) → slot_in k (first_manager number setup works).phase ≡ phase.Taking x → TakingFine Named 0 x
+      fine_at : (k : ℕ) (x : Taking) → slot_in k (manager_start number setup works).phase ≡ phase.Taking x → TakingFine Named 0 x
       fine_at k x fact = absurd (none k x fact)
 
-      apart_at : (k m : ℕ) (x w : Taking) → slot_in k (first_manager number setup works).phase ≡ phase.Taking x
-          → slot_in m (first_manager number setup works).phase ≡ phase.Taking w → (k ≡ m → ⊥) → x.fetches.ask ≡ w.fetches.ask → x.fetches.ask ≡ 0
+      apart_at : (k m : ℕ) (x w : Taking) → slot_in k (manager_start number setup works).phase ≡ phase.Taking x
+          → slot_in m (manager_start number setup works).phase ≡ phase.Taking w → (k ≡ m → ⊥) → x.fetches.ask ≡ w.fetches.ask → x.fetches.ask ≡ 0
       apart_at k m x w at to other same = absurd (none k x at)
 
 module _ (Named : ℕ → Group → Type 0) (Came : ℕ → ℕ → Told → Type 0) where
@@ -138,16 +138,16 @@ module _ (Named : ℕ → Group → Type 0) (Came : ℕ → ℕ → Told → Typ
     abbrev Goes : Went_to → Type 0
     Goes w = PhaseSo w.state w.outs
 
-    crashes_go : (life : Life) (number : ℕ) → start ≤ life.questions.last → Goes (crashes life number)
-    unfolding crashes
+    crashes_go : (life : Life) (number : ℕ) → start ≤ life.questions.last → Goes (crash life number)
+    unfolding crash
     crashes_go life number up = (
       up,
       all_append IsQuiet (answers_unanswered life.items.unanswered answer.Cut) (Answers number answer.Done ∷ [])
           (answers_quiet life.items.unanswered answer.Cut) (tt, tt),
     )
 
-    restarts_go : (life : Life) (number : ℕ) → start ≤ life.questions.last → Goes (restarts life number)
-    unfolding restarts
+    restarts_go : (life : Life) (number : ℕ) → start ≤ life.questions.last → Goes (restart life number)
+    unfolding restart
     restarts_go life number up = (let a = last_up life.questions.last in omega arith, (tt, (tt, tt)))
 
     down_goes : (life : Life) → start ≤ life.questions.last → Goes (begin_down life)
@@ -177,7 +177,7 @@ module _ (Named : ℕ → Group → Type 0) (Came : ℕ → ℕ → Told → Typ
         by (Some number) = by_wish number (work_at (with_begun life).items number)
 
     -- after a restart it knows of no slot, and of no groups
-    welcome_goes : (peers : Peers) (life : Life) (hello : ℕ) (welcome : Welcome) → first ≡ unknown_table → start ≡ life.questions.last
+    welcome_goes : (peers : Peers) (life : Life) (hello : ℕ) (welcome : Welcome) → first ≡ slot_table_unknown → start ≡ life.questions.last
         → start + 24 < u32_end → MapNamed Named welcome.news.groups → Goes (on_welcome peers life hello welcome)
     unfolding on_welcome
     welcome_goes peers life hello welcome fact same room named =
@@ -186,10 +186,10 @@ module _ (Named : ℕ → Group → Type 0) (Came : ℕ → ℕ → Told → Typ
         (λ _. news_go Named Came start first s peers.clients welcome.news [] named (fresh s fact) (omega arith))
         (λ _. (omega arith, tt))
       where
-        never : (k : ℕ) (x : Taking) → phase_at unknown_table k ≡ phase.Taking x → ⊥
-        never k x = none_taken unknown_table (tt, (tt, (tt, (tt, (tt, (tt, (tt, (tt, tt)))))))) k x
+        never : (k : ℕ) (x : Taking) → phase_at slot_table_unknown k ≡ phase.Taking x → ⊥
+        never k x = none_taken slot_table_unknown (tt, (tt, (tt, (tt, (tt, (tt, (tt, (tt, tt)))))))) k x
 
-        fresh : (s : Serving) → first ≡ unknown_table → ServesSo Named Came start first (again life (forgotten peers.servers) welcome.news.groups) []
+        fresh : (s : Serving) → first ≡ slot_table_unknown → ServesSo Named Came start first (again life (forgotten peers.servers) welcome.news.groups) []
         fresh s fact = record {
           slots = record {
             up = omega arith;
@@ -201,7 +201,7 @@ module _ (Named : ℕ → Group → Type 0) (Came : ℕ → ℕ → Told → Typ
           maps = tt;
         }
 
-    awaited_goes : (peers : Peers) (life : Life) (hello : ℕ) (from : NodeId) (said : Body) → first ≡ unknown_table → start ≡ life.questions.last
+    awaited_goes : (peers : Peers) (life : Life) (hello : ℕ) (from : NodeId) (said : Body) → first ≡ slot_table_unknown → start ≡ life.questions.last
         → start + 24 < u32_end → BodyBrought Named Came from said → Goes (on_waiting peers life hello said)
     awaited_goes peers life hello from (body.Welcome welcome) fact same room named = welcome_goes peers life hello welcome fact same room named
     awaited_goes peers life hello from _ fact same room named = (omega arith, tt)
@@ -334,8 +334,8 @@ module _ (Named : ℕ → Group → Type 0) (Came : ℕ → ℕ → Told → Typ
   absent : (k : ℕ) (x : Taking) → phase_at [] k ≡ phase.Taking x → phase.Away 0 ≡ phase.Taking x
   absent k x fact = fact
 
-  unknown : (k : ℕ) (x : Taking) → phase_at unknown_table k ≡ phase.Taking x → phase.Away 0 ≡ phase.Taking x
-  unknown k x fact = absurd (none_taken unknown_table (tt, (tt, (tt, (tt, (tt, (tt, (tt, (tt, tt)))))))) k x fact)
+  unknown : (k : ℕ) (x : Taking) → phase_at slot_table_unknown k ≡ phase.Taking x → phase.Away 0 ≡ phase.Taking x
+  unknown k x fact = absurd (none_taken slot_table_unknown (tt, (tt, (tt, (tt, (tt, (tt, (tt, (tt, tt)))))))) k x fact)
 
   unmoved : (p : Phase) → PhaseFine Named p → (lasting_of p).questions.last + 24 < u32_end → NodeTurn p (still p)
   unmoved (Down life) fine room = node_turn (Down life) [] absent (still (Down life)) (omega arith, tt)
@@ -344,7 +344,7 @@ module _ (Named : ℕ → Group → Type 0) (Came : ℕ → ℕ → Told → Typ
 
   event_turn : (peers : Peers) (p : Phase) (what : Do) → PhaseFine Named p → (lasting_of p).questions.last + 24 < u32_end → DoBrought what
       → NodeTurn p (on_event peers p what)
-  unfolding on_deliver on_time
+  unfolding manager_deliver on_time
   event_turn peers (Down life) Begin fine room fact = node_turn (Down life) [] absent _ (down_goes life.questions.last [] life (omega arith))
   event_turn peers (Waiting life hello) Begin fine room fact =
       node_turn (Waiting life hello) [] absent _ (waiting_goes life.questions.last [] life hello (omega arith))
@@ -354,12 +354,12 @@ module _ (Named : ℕ → Group → Type 0) (Came : ℕ → ℕ → Told → Typ
       gets : (q : Phase) → PhaseFine Named q → (lasting_of q).questions.last + 24 < u32_end → NodeTurn q (on_packet peers q packet)
       gets (Down life) fine room = unmoved (Down life) fine room
       gets (Waiting life hello) fine room =
-          node_turn (Waiting life hello) unknown_table unknown _
-          (awaited_goes life.questions.last unknown_table peers life hello packet.from packet.body refl refl room fact)
+          node_turn (Waiting life hello) slot_table_unknown unknown _
+          (awaited_goes life.questions.last slot_table_unknown peers life hello packet.from packet.body refl refl room fact)
       gets (Serves s) fine room =
-          node_turn (Serves s) s.slots (λ k x at. at) (serves (hears s peers.clients packet)) (packet_goes Named Came s fine room peers.clients packet fact)
+          node_turn (Serves s) s.slots (λ k x at. at) (serves (serving_hear s peers.clients packet)) (packet_goes Named Came s fine room peers.clients packet fact)
 
-      delivered : NodeTurn p (on_deliver peers p packet)
+      delivered : NodeTurn p (manager_deliver peers p packet)
       delivered =
           by_test (NodeTurn p) (is_well_formed peers packet) (on_packet peers p packet) (still p) (λ _. gets p fine room) (λ _. unmoved p fine room)
   event_turn peers p Tick fine room fact = passes p fine room
@@ -382,7 +382,7 @@ module _ (Named : ℕ → Group → Type 0) (Came : ℕ → ℕ → Told → Typ
   life_room (Down life) fact = and_second (has_room life.inc) (has_room life.questions.last) fact
   life_room (Waiting life hello) fact = and_second (has_room life.inc) (has_room life.questions.last) fact
   life_room (Serves s) fact =
-      and_second (has_room s.lasting.inc) (has_room s.lasting.questions.last) (and_first (kept_has_room s.lasting) _ fact)
+      and_second (has_room s.lasting.inc) (has_room s.lasting.questions.last) (and_first (lasting_has_room s.lasting) _ fact)
 
   pub manager_turns : (m : Manager) (what : Do) → PhaseFine Named m.phase → DoBrought what → NodeTurn m.phase (happens m what)
   unfolding happens

@@ -10,7 +10,7 @@ use Rattle.manager_slots.specs.declared.slot_phase.SlotPhase.{SlotPhase}
 use Rattle.manager_slots.specs.declared.slot_phase.SlotPhase.TheVariants as phase
 use Rattle.manager_slots.specs.declared.slot_phase.Taking.{Taking}
 use Rattle.manager_slots.specs.SlotTable as table
-use Rattle.manager_slots.specs.SlotTable.{Table, all_slots, at_slot, changed_in, cleaned_at, cleaned_phase, in_slot, named_at, named_phase, recalls, recalls_all, usage_in}
+use Rattle.manager_slots.specs.SlotTable.{Table, all_slots, at_slot, changed_in, slot_table_clean, phase_clean, in_slot, slot_table_name, phase_name, slot_table_recall, recall_again, usage_in}
 use Rattle.manager_slots.specs.Tokens as tokens
 use Rattle.node_base.specs.Beginning.{answers_unanswered}
 use Rattle.node_base.specs.declared.effects.Effect.{Effect}
@@ -61,8 +61,8 @@ not_active a x e = cc
 same_phase : (p : SlotPhase) → PhaseRests p (still p)
 same_phase p = record { alike = λ x fact. fact; does = tt }
 
-said_quiet : (slot epoch : ℕ) (o : SlotOut) → AllQuiet (tokens.said slot epoch o)
-unfolding tokens.said
+said_quiet : (slot epoch : ℕ) (o : SlotOut) → AllQuiet (tokens.tokens_say slot epoch o)
+unfolding tokens.tokens_say
 said_quiet slot epoch (slot_out.Grant client block stamp inc req mode entry) = (tt, tt)
 said_quiet slot epoch (slot_out.Forward client block stamp to inc req ver) = (tt, tt)
 said_quiet slot epoch (slot_out.Recall client block stamp keep) = (tt, tt)
@@ -70,11 +70,11 @@ said_quiet slot epoch (slot_out.Applied log applied) = (tt, tt)
 said_quiet slot epoch (slot_out.Live entry) = tt
 said_quiet slot epoch slot_out.Dead = tt
 
-takes_rests : (p : SlotPhase) (slot : ℕ) (given : SlotIn) → PhaseRests p (tokens.takes p slot given)
-unfolding tokens.takes
+takes_rests : (p : SlotPhase) (slot : ℕ) (given : SlotIn) → PhaseRests p (tokens.tokens_take p slot given)
+unfolding tokens.tokens_take
 takes_rests (phase.Active a) slot given = record {
   alike = λ x fact. absurd (not_active _ x fact);
-  does = all_flat_map IsQuiet (tokens.said slot a.slot.epoch) (said_quiet slot a.slot.epoch) (transition a.slot given).outs;
+  does = all_flat_map IsQuiet (tokens.tokens_say slot a.slot.epoch) (said_quiet slot a.slot.epoch) (transition a.slot given).outs;
 }
 takes_rests (phase.Away epoch) slot given = same_phase (phase.Away epoch)
 takes_rests (phase.Taking t) slot given = same_phase (phase.Taking t)
@@ -87,8 +87,8 @@ wants_rests (phase.Active a) client want = takes_rests (phase.Active a) (slot_of
 wants_rests (phase.Away epoch) client want = takes_rests (phase.Away epoch) (slot_of want.block.ino.0) (tokens.want_input client want)
 wants_rests (phase.Taking t) client want = takes_rests (phase.Taking t) (slot_of want.block.ino.0) (tokens.want_input client want)
 
-check_quiet : (check : Check) (epoch : ℕ) (o : SlotOut) → AllQuiet (tokens.check_said check epoch o)
-unfolding tokens.check_said
+check_quiet : (check : Check) (epoch : ℕ) (o : SlotOut) → AllQuiet (tokens.tokens_answer check epoch o)
+unfolding tokens.tokens_answer
 check_quiet check epoch (slot_out.Grant client block stamp inc req mode entry) = (tt, tt)
 check_quiet check epoch (slot_out.Forward client block stamp to inc req ver) = (tt, tt)
 check_quiet check epoch (slot_out.Recall client block stamp keep) = (tt, tt)
@@ -100,7 +100,7 @@ checks_rests : (p : SlotPhase) (check : Check) → PhaseRests p (tokens.on_check
 unfolding tokens.on_check
 checks_rests (phase.Active a) check = record {
   alike = λ x fact. absurd (not_active _ x fact);
-  does = all_flat_map IsQuiet (tokens.check_said check a.slot.epoch) (check_quiet check a.slot.epoch) (transition a.slot (tokens.check_input check)).outs;
+  does = all_flat_map IsQuiet (tokens.tokens_answer check a.slot.epoch) (check_quiet check a.slot.epoch) (transition a.slot (tokens.check_input check)).outs;
 }
 checks_rests (phase.Away epoch) check = same_phase (phase.Away epoch)
 checks_rests (phase.Taking t) check = same_phase (phase.Taking t)
@@ -169,18 +169,18 @@ usage_alone t asked = by (slice_get t asked.slot)
     by None = tt
     by (Some p) = usage_quiet p asked
 
-pub recalls_alone : (t : Table) → TableRests t (recalls_all t)
-unfolding recalls
+pub recalls_alone : (t : Table) → TableRests t (recall_again t)
+unfolding slot_table_recall
 recalls_alone t = all t all_slots
   where
-    one : (t : Table) (k : ℕ) → TableRests t (recalls t k)
+    one : (t : Table) (k : ℕ) → TableRests t (slot_table_recall t k)
     one t k = at_slot-rests t k (λ p. tokens.on_tick p k) (λ p. takes_rests p k slot_in.Tick)
 
-    all : (t : Table) (ks : List ℕ) → TableRests t (steps recalls t ks)
+    all : (t : Table) (ks : List ℕ) → TableRests t (steps slot_table_recall t ks)
     all t [] = record { alike = λ k x fact. fact; does = tt }
-    all t (k ∷ ks) = (let a = one t k in let b = all (recalls t k).state ks in record {
+    all t (k ∷ ks) = (let a = one t k in let b = all (slot_table_recall t k).state ks in record {
       alike = λ m x fact. a.alike m x (b.alike m x fact);
-      does = all_append IsQuiet (recalls t k).outs (steps recalls (recalls t k).state ks).outs a.does b.does;
+      does = all_append IsQuiet (slot_table_recall t k).outs (steps slot_table_recall (slot_table_recall t k).state ks).outs a.does b.does;
     })
 
 changed_alike : (t : Table) (k : ℕ) (change : SlotPhase → SlotPhase) → ((p : SlotPhase) (x : Taking) → change p ≡ phase.Taking x → p ≡ phase.Taking x)
@@ -191,21 +191,21 @@ changed_alike t k change same = by (slice_get t k) refl
     by None fact = λ m x at. at
     by (Some p) fact = set_alike t k (change p) (slice_get_within t k p fact) (λ x at. ap (λ o. unwrap_or o (phase.Away 0)) fact ∙ same p x at)
 
-pub cleaned_alike : (t : Table) (k : ℕ) → Alike t (cleaned_at t k)
-unfolding cleaned_at cleaned_phase
-cleaned_alike t k = changed_alike t k cleaned_phase same
+pub cleaned_alike : (t : Table) (k : ℕ) → Alike t (slot_table_clean t k)
+unfolding slot_table_clean phase_clean
+cleaned_alike t k = changed_alike t k phase_clean same
   where
-    same : (p : SlotPhase) (x : Taking) → cleaned_phase p ≡ phase.Taking x → p ≡ phase.Taking x
+    same : (p : SlotPhase) (x : Taking) → phase_clean p ≡ phase.Taking x → p ≡ phase.Taking x
     same (phase.Active a) x fact = absurd (not_active _ x fact)
     same (phase.Away epoch) x fact = fact
     same (phase.Taking t) x fact = fact
     same (phase.Broken epoch seg) x fact = fact
 
-pub named_alike : (t : Table) (k epoch : ℕ) (parts : List SegRef) → Alike t (named_at t k epoch parts)
-unfolding named_at named_phase
-named_alike t k epoch parts = changed_alike t k (named_phase epoch parts) same
+pub named_alike : (t : Table) (k epoch : ℕ) (parts : List SegRef) → Alike t (slot_table_name t k epoch parts)
+unfolding slot_table_name phase_name
+named_alike t k epoch parts = changed_alike t k (phase_name epoch parts) same
   where
-    same : (p : SlotPhase) (x : Taking) → named_phase epoch parts p ≡ phase.Taking x → p ≡ phase.Taking x
+    same : (p : SlotPhase) (x : Taking) → phase_name epoch parts p ≡ phase.Taking x → p ≡ phase.Taking x
     same (phase.Active a) x fact =
         by_test (λ (q : SlotPhase). q ≡ phase.Taking x → phase.Active a ≡ phase.Taking x) (a.slot.epoch == epoch)
         (phase.Active (record a { parts = parts })) (phase.Active a) (λ _ e. absurd (not_active _ x e)) (λ _ e. e) fact

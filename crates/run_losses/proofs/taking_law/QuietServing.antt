@@ -14,7 +14,7 @@ use Rattle.client_log.specs.declared.output.Out.{Out as LogOut}
 use Rattle.client_log.specs.declared.output.Out.TheVariants as log_out
 use Rattle.client_log.specs.Transition as log
 use Rattle.manager_slots.specs.Numbers.{slot_after}
-use Rattle.manager_serving.specs.Checkpoints.{Done, gives, gives_parts, registers, asked, says, says_each, writer_takes, filed, on_settled, log_says, log_says_each, writes, writes_slot, begins_slot, next_from, next_for, next_slot, waits, on_checkpoint, awaits, counted, answered_by, on_ckpt_ack, done_again, stored, told_again, tells_again}
+use Rattle.manager_serving.specs.Checkpoints.{Done, gives, give_parts, register, asked, writer_says, writer_says_each, writer_takes, filed, on_settled, log_says, log_says_each, serving_write, writes_slot, begin_slot, next_from, next_for, next_slot, waits, on_checkpoint, awaits, checkpointing_count, answered_by, on_ckpt_ack, send_done, checkpointing_store, checkpointing_tell_again, serving_tell_again}
 use Rattle.manager_serving.specs.declared.checkpointing.Checkpointing.{Checkpointing}
 use Rattle.manager_serving.specs.declared.serving.Serving.{Serving}
 use Rattle.version_model.specs.declared.answer.Answer.TheVariants as answer
@@ -31,8 +31,8 @@ use Rattle.xfs_base.specs.declared.segment.End.{End}
 use Rattle.xfs_base.specs.declared.segment.LogId.{LogId}
 use Rattle.xfs_base.specs.Limits.{u32_end}
 use Rattle.manager_slots.specs.SlotTable as table
-use Rattle.manager_slots.specs.SlotTable.{Table, begin_at, cleaned_at, next_active}
-use Rattle.manager_serving.specs.Serving.{asks_for_maps, on_check, on_deltas, on_gave, on_usage_ask, on_want, recalls_again, with_slots}
+use Rattle.manager_slots.specs.SlotTable.{Table, begin_at, slot_table_clean, next_active}
+use Rattle.manager_serving.specs.Serving.{ask_for_maps, on_check, on_deltas, on_gave, on_usage_ask, on_want, recalls_again, with_slots}
 use Rattle.node_base.specs.declared.effects.Effect.TheVariants.{Answer as Answers}
 use Rattle.xfs_base.specs.Steps.{Stepped, saying, steps, still}
 use Rattle.xfs_base.proofs.Alls.{all_append, all_flat_map}
@@ -81,28 +81,28 @@ last_up k = grind (arith, nat_tests)
 
 -- ---- checkpoints
 
-stored_quiet : (o : LogOut) → AllQuiet (stored o)
-unfolding stored
+stored_quiet : (o : LogOut) → AllQuiet (checkpointing_store o)
+unfolding checkpointing_store
 stored_quiet (log_out.Send fragment member) = (tt, tt)
 stored_quiet (log_out.Settled end rows) = tt
 
-parts_rest : (s : Serving) (items : List Item) → Rests s (gives_parts s items)
-unfolding gives_parts
+parts_rest : (s : Serving) (items : List Item) → Rests s (give_parts s items)
+unfolding give_parts
 parts_rest s items = record {
   alike = same s.slots;
   up = omega arith;
   maps = refl;
   number = refl;
-  does = all_flat_map IsQuiet stored stored_quiet (log.transition s.log (log_in.Parts items)).outs;
+  does = all_flat_map IsQuiet checkpointing_store stored_quiet (log.transition s.log (log_in.Parts items)).outs;
 }
 
-registers_rest : (s : Serving) (done : CkptDone) → Rests s (registers s done)
-unfolding registers
+registers_rest : (s : Serving) (done : CkptDone) → Rests s (register s done)
+unfolding register
 registers_rest s done =
     record { alike = named_alike s.slots done.slot done.epoch done.parts; up = omega arith; maps = refl; number = refl; does = (tt, tt) }
 
-says_rest : (s : Serving) (o : WriterOut) → Rests s (says s o)
-unfolding says
+says_rest : (s : Serving) (o : WriterOut) → Rests s (writer_says s o)
+unfolding writer_says
 says_rest s (writer_out.Parts items) = parts_rest s items
 says_rest s (writer_out.Done slot epoch parts horizon) =
     rests_from s (asked s) _ (same s.slots) (last_up s.lasting.questions.last) refl refl (registers_rest (asked s) _)
@@ -110,10 +110,10 @@ says_rest s writer_out.Kept = rests_still s
 says_rest s (writer_out.Stale epoch) = rests_still s
 
 writer_rests : (s : Serving) (given : WriterIn) → Rests s (writer_takes s given)
-unfolding writer_takes says_each
+unfolding writer_takes writer_says_each
 writer_rests s given =
     let t : Serving = record s { writer = (writer.transition s.writer given).state } in
-    rests_from s t _ (same s.slots) (omega arith) refl refl (rests_steps says says_rest t (writer.transition s.writer given).outs)
+    rests_from s t _ (same s.slots) (omega arith) refl refl (rests_steps writer_says says_rest t (writer.transition s.writer given).outs)
 
 settled_rests : (s : Serving) (end : End) → Rests s (on_settled s end)
 unfolding on_settled
@@ -126,8 +126,8 @@ unfolding log_says
 log_says_rest s (log_out.Send fragment member) = record { alike = same s.slots; up = omega arith; maps = refl; number = refl; does = (tt, tt) }
 log_says_rest s (log_out.Settled end rows) = settled_rests s end
 
-pub writes_rest : (s : Serving) (given : LogIn) → Rests s (writes s given)
-unfolding writes log_says_each
+pub writes_rest : (s : Serving) (given : LogIn) → Rests s (serving_write s given)
+unfolding serving_write log_says_each
 writes_rest s given =
     let t : Serving = record s { log = (log.transition s.log given).state } in
     rests_from s t _ (same s.slots) (omega arith) refl refl (rests_steps log_says log_says_rest t (log.transition s.log given).outs)
@@ -136,10 +136,10 @@ writes_slot-rests : (s : Serving) (o : Option WriterIn) → Rests s (writes_slot
 writes_slot-rests s None = rests_still s
 writes_slot-rests s (Some given) = writer_rests s given
 
-begins_rest : (s : Serving) (slot : ℕ) → Rests s (begins_slot s slot)
-unfolding begins_slot
+begins_rest : (s : Serving) (slot : ℕ) → Rests s (begin_slot s slot)
+unfolding begin_slot
 begins_rest s slot =
-    let t : Serving = record s { slots = cleaned_at s.slots slot } in
+    let t : Serving = record s { slots = slot_table_clean s.slots slot } in
     rests_from s t _ (cleaned_alike s.slots slot) (omega arith) refl refl (writes_slot-rests t (begin_at s.slots slot))
 
 next_rests : (s : Serving) → Rests s (next_slot s)
@@ -172,7 +172,7 @@ checkpoint_rests s number =
 acked_rests : (s : Serving) (r : Stepped WriterState WriterOut) → Rests s (answered_by s r)
 acked_rests s r =
     let t : Serving = record s { writer = r.state } in
-    let u : Serving = record s { writer = r.state; checkpoint = fold counted s.checkpoint r.outs } in
+    let u : Serving = record s { writer = r.state; checkpoint = fold checkpointing_count s.checkpoint r.outs } in
     by_test (Rests s) (length r.outs == 0) (still t) (next_slot u) (λ _. rests_from s t _ (same s.slots) (omega arith) refl refl (rests_still t))
     (λ _. rests_from s u _ (same s.slots) (omega arith) refl refl (next_rests u))
 
@@ -182,15 +182,15 @@ ack_rests s ack =
     by_test (Rests s) (awaits s.checkpoint ack.ask) (answered_by s (writer.transition s.writer (writer_in.Ack ack.epoch s.dones))) (still s)
     (λ _. acked_rests s (writer.transition s.writer (writer_in.Ack ack.epoch s.dones))) (λ _. rests_still s)
 
-pub tells_rest : (s : Serving) → Rests s (tells_again s)
-unfolding tells_again
+pub tells_rest : (s : Serving) → Rests s (serving_tell_again s)
+unfolding serving_tell_again
 tells_rest s = record { alike = same s.slots; up = omega arith; maps = refl; number = refl; does = told_quiet s.checkpoint }
   where
-    done_quiet : (o : Option CkptDone) → AllQuiet (done_again o)
+    done_quiet : (o : Option CkptDone) → AllQuiet (send_done o)
     done_quiet None = tt
     done_quiet (Some done) = (tt, tt)
 
-    told_quiet : (o : Option Checkpointing) → AllQuiet (told_again o)
+    told_quiet : (o : Option Checkpointing) → AllQuiet (checkpointing_tell_again o)
     told_quiet None = tt
     told_quiet (Some job) = done_quiet job.done
 
@@ -224,8 +224,8 @@ usage_rests s asking = record { alike = same s.slots; up = omega arith; maps = r
 
 pub recalls_rest : (s : Serving) → Rests s (recalls_again s)
 unfolding recalls_again
-recalls_rest s = slots_rest s (table.recalls_all s.slots) (recalls_alone s.slots)
+recalls_rest s = slots_rest s (table.recall_again s.slots) (recalls_alone s.slots)
 
-pub asks_maps-rests : (s : Serving) → Rests s (asks_for_maps s)
-unfolding asks_for_maps
+pub asks_maps-rests : (s : Serving) → Rests s (ask_for_maps s)
+unfolding ask_for_maps
 asks_maps-rests s = record { alike = same s.slots; up = last_up s.lasting.questions.last; maps = refl; number = refl; does = (tt, tt) }

@@ -11,15 +11,15 @@ use Rattle.manager_slots.specs.declared.slot_phase.Taking.{Taking}
 use Rattle.manager_slots.specs.Slots.{fetch_of as fetch_in}
 use Rattle.manager_slots.specs.SlotTable as table
 use Rattle.manager_slots.specs.SlotTable.{Asks, Table}
-use Rattle.manager_serving.specs.Checkpoints.{Done, on_checkpoint, tells_again, writes}
+use Rattle.manager_serving.specs.Checkpoints.{Done, on_checkpoint, serving_tell_again, serving_write}
 use Rattle.manager_serving.specs.declared.serving.Serving.{Serving}
-use Rattle.manager_serving.specs.Serving.{asker_of, answered_by, asks_again, asks_for_maps, client_in, fed_log, hearer_of, hears, hears_slots, hears_with, on_body, on_fitting_news, on_found, on_missing, on_newer, on_news, on_report, on_tick, recalls_again, regroups, takes, with_asker}
+use Rattle.manager_serving.specs.Serving.{asker_of, answered_by, serving_ask_again, ask_for_maps, client_in, fed_log, hearer_of, serving_hear, hear_slots, hears_with, on_body, on_fitting_news, on_found, on_missing, on_newer, on_news, on_report, on_tick, recalls_again, regroups, serving_take, with_asker}
 use Rattle.node_base.specs.Asking.{own_of}
 use Rattle.node_base.specs.declared.effects.Effect.{Effect}
 use Rattle.node_base.specs.declared.maps.Maps.{Maps}
 use Rattle.node_base.specs.declared.questions.Asked.{Asked}
-use Rattle.node_base.specs.Known.{names_known}
-use Rattle.node_base.specs.Maps.{fits, is_older, taken}
+use Rattle.node_base.specs.Known.{names_known_groups}
+use Rattle.node_base.specs.Maps.{fits, is_older, maps_take}
 use Rattle.node_slots.proofs.node_tie.ManagerFetches.{fetch_is}
 use Rattle.headline.specs.Managers.{phase_at}
 use Rattle.segment_reading.specs.Reading.{ReadingState}
@@ -130,14 +130,14 @@ module _ (Named : ℕ → Group → Type 0) (Came : ℕ → ℕ → Told → Typ
     -- ---- the maps
 
     slots_go : (s : Serving) (clients : ℕ) (slots : List SlotNews) (outs : List Effect) → ServesSo s outs → s.lasting.questions.last < u32_end
-        → Goes outs (hears_slots s clients slots)
-    unfolding hears_slots
+        → Goes outs (hear_slots s clients slots)
+    unfolding hear_slots
     slots_go s clients slots outs so room = by s.maps.groups so.maps
       where
         by : (groups : Option GroupMapState) → MapsNamed Named groups → Goes outs (hears_with s clients slots groups)
         by None named = quiet_goes s outs (still s) (rests_still s) so
         by (Some groups) named =
-            asks_go s outs (table.hears_all (hearer_of s clients groups) (asker_of s) slots) so
+            asks_go s outs (table.hear_each (hearer_of s clients groups) (asker_of s) slots) so
             (table_hears Named Came start first (hearer_of s clients groups) named (asker_of s) slots outs so.slots room)
 
     newer_goes : (s : Serving) (clients : ℕ) (news : News) (outs : List Effect) → MapNamed Named news.groups → ServesSo s outs
@@ -145,25 +145,25 @@ module _ (Named : ℕ → Group → Type 0) (Came : ℕ → ℕ → Told → Typ
     unfolding on_newer regroups
     newer_goes s clients news outs named so room =
         let r = table_regroups Named Came start first news.groups named (asker_of s) outs so.slots room in
-        let a : Done = with_asker s (table.regroups_all news.groups (asker_of s)) in
-        let one : Goes outs a = asks_go s outs (table.regroups_all news.groups (asker_of s)) so r.0 in
-        let b : Done = hears_slots a.state clients news.slots in
+        let a : Done = with_asker s (table.slot_table_regroup news.groups (asker_of s)) in
+        let one : Goes outs a = asks_go s outs (table.slot_table_regroup news.groups (asker_of s)) so r.0 in
+        let b : Done = hear_slots a.state clients news.slots in
         let two : Goes (outs ++ a.outs) b = slots_go a.state clients news.slots (outs ++ a.outs) one (let k = r.1 in omega arith) in
         let ab : Done = saying a.outs b in
         let both : Goes outs ab = goes_then outs a b two in
-        let c : Done = writes ab.state (log_input.Maps news.groups) in
+        let c : Done = serving_write ab.state (log_input.Maps news.groups) in
         goes_then outs ab c (quiet_goes ab.state (outs ++ ab.outs) c (writes_rest ab.state (log_input.Maps news.groups)) both)
 
     pub news_go : (s : Serving) (clients : ℕ) (news : News) (outs : List Effect) → MapNamed Named news.groups → ServesSo s outs
         → s.lasting.questions.last + 8 < u32_end → Goes outs (on_news s clients news)
     unfolding on_news
     news_go s clients news outs named so room =
-        by_test (Goes outs) (is_older s.maps news) (on_newer (record s { maps = taken s.maps news }) clients news) (hears_slots s clients news.slots)
-        (λ _. newer_goes (record s { maps = taken s.maps news }) clients news outs named
+        by_test (Goes outs) (is_older s.maps news) (on_newer (record s { maps = maps_take s.maps news }) clients news) (hear_slots s clients news.slots)
+        (λ _. newer_goes (record s { maps = maps_take s.maps news }) clients news outs named
         (record { slots = so.slots; maps = taken_named s.maps news so.maps named }) room)
         (λ _. slots_go s clients news.slots outs so (omega arith))
       where
-        taken_named : (m : Maps) (n : News) → MapsNamed Named m.groups → MapNamed Named n.groups → MapsNamed Named (taken m n).groups
+        taken_named : (m : Maps) (n : News) → MapsNamed Named m.groups → MapNamed Named n.groups → MapsNamed Named (maps_take m n).groups
         taken_named m n old new = by_test (λ (x : Maps). MapsNamed Named x.groups) (is_older m n) _ m (λ _. new) (λ _. old)
 
   -- ---- an event of a manager that serves
@@ -196,10 +196,10 @@ module _ (Named : ℕ → Group → Type 0) (Came : ℕ → ℕ → Told → Typ
     -- ---- takeovers
 
     take_goes : (k : ℕ) (given : In) → ((h : Heard) → heard_in given ≡ Some h → (x : Taking) → phase_at s.slots k ≡ phase.Taking x
-        → (h.own ≡ x.fetches.own) × Came x.fetches.ask h.server h.told) → InputNamed Named given → Ends (takes s k given)
-    unfolding takes
+        → (h.own ≡ x.fetches.own) × Came x.fetches.ask h.server h.told) → InputNamed Named given → Ends (serving_take s k given)
+    unfolding serving_take
     take_goes k given brought named =
-        asks_go start s.slots s [] (table.takes (asker_of s) k given) begins
+        asks_go start s.slots s [] (table.slot_table_take (asker_of s) k given) begins
         (table_takes Named Came start s.slots s.lasting.questions begins.slots (omega arith) k given named brought)
 
     report_goes : (from : NodeId) (report : Report) → Ends (on_report s from report)
@@ -268,11 +268,11 @@ module _ (Named : ℕ → Group → Type 0) (Came : ℕ → ℕ → Told → Typ
     body_goes clients from _ fact = rests (still s) (rests_still s)
 
     pub packet_goes : (clients : ℕ) (packet : Packet) → BodyBrought packet.from packet.body
-        → ServesSo s.lasting.questions.last s.slots (hears s clients packet).state (hears s clients packet).outs
-    unfolding hears
+        → ServesSo s.lasting.questions.last s.slots (serving_hear s clients packet).state (serving_hear s clients packet).outs
+    unfolding serving_hear
     packet_goes clients packet fact =
-        by_test Ends (names_known s.maps packet.body) (on_body s clients packet.from packet.body) (asks_for_maps s)
-        (λ _. body_goes clients packet.from packet.body fact) (λ _. rests (asks_for_maps s) (asks_maps-rests s))
+        by_test Ends (names_known_groups s.maps packet.body) (on_body s clients packet.from packet.body) (ask_for_maps s)
+        (λ _. body_goes clients packet.from packet.body fact) (λ _. rests (ask_for_maps s) (asks_maps-rests s))
 
     pub checkpoint_goes : (number : ℕ) → ServesSo s.lasting.questions.last s.slots (on_checkpoint s number).state (on_checkpoint s number).outs
     checkpoint_goes number = rests (on_checkpoint s number) (checkpoint_rests s number)
@@ -280,17 +280,17 @@ module _ (Named : ℕ → Group → Type 0) (Came : ℕ → ℕ → Told → Typ
     -- ---- time
 
     pub tick_goes : ServesSo s.lasting.questions.last s.slots (on_tick s).state (on_tick s).outs
-    unfolding on_tick recalls_again asks_again
+    unfolding on_tick recalls_again serving_ask_again
     tick_goes =
         let a : Done = recalls_again s in
         let one : Ends a = rests a (recalls_rest s) in
         let p = table_asks Named Came start s.slots true (asker_of a.state) a.outs one.slots (omega arith) in
-        let b : Done = asks_again a.state true in
-        let two : At b.state (a.outs ++ b.outs) = asks_go start s.slots a.state a.outs (table.asks_all true (asker_of a.state)) one p.0 in
+        let b : Done = serving_ask_again a.state true in
+        let two : At b.state (a.outs ++ b.outs) = asks_go start s.slots a.state a.outs (table.slot_table_ask_again true (asker_of a.state)) one p.0 in
         let q = table_asks Named Came start s.slots false (asker_of b.state) (a.outs ++ b.outs) two.slots (let k = p.1 in omega arith) in
-        let c : Done = asks_again b.state false in
+        let c : Done = serving_ask_again b.state false in
         let three : At c.state ((a.outs ++ b.outs) ++ c.outs) =
-        asks_go start s.slots b.state (a.outs ++ b.outs) (table.asks_all false (asker_of b.state)) two q.0 in
-        let d : Done = writes c.state log_input.Tick in
+        asks_go start s.slots b.state (a.outs ++ b.outs) (table.slot_table_ask_again false (asker_of b.state)) two q.0 in
+        let d : Done = serving_write c.state log_input.Tick in
         let four = quiet_goes start s.slots c.state ((a.outs ++ b.outs) ++ c.outs) d (writes_rest c.state log_input.Tick) three in
-        quiet_goes start s.slots d.state (((a.outs ++ b.outs) ++ c.outs) ++ d.outs) (tells_again d.state) (tells_rest d.state) four
+        quiet_goes start s.slots d.state (((a.outs ++ b.outs) ++ c.outs) ++ d.outs) (serving_tell_again d.state) (tells_rest d.state) four

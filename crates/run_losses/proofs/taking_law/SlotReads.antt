@@ -8,7 +8,7 @@ use Rattle.manager_slots.specs.declared.slot_phase.Taking.{Taking}
 use Rattle.node_base.specs.declared.questions.Questions.{Questions}
 use Rattle.segment_reading.specs.declared.reading.Next.{Next}
 use Rattle.segment_reading.specs.declared.reading.Next.TheVariants as next
-use Rattle.segment_reading.specs.Reading.{ReadingState, begun, on_confirmed}
+use Rattle.segment_reading.specs.Reading.{ReadingState, reading_start, on_confirmed}
 use Rattle.stripe_code.specs.declared.round.Told.{Told}
 use Rattle.takeover.specs.declared.input.In.{In}
 use Rattle.takeover.specs.declared.input.In.TheVariants as input
@@ -19,7 +19,7 @@ use Rattle.takeover.specs.Transition.{target_of}
 use Rattle.xfs_base.specs.declared.segment.SegName.{SegName}
 use Rattle.run_losses.proofs.taking_law.SlotSays.{TakingSaid}
 use Rattle.run_losses.proofs.taking_law.SlotTurns.{IsOut, PresentOut, ReadingOut, TakingFine, later_number, same_number, still_fine}
-use Rattle.run_losses.proofs.taking_law.TakeReadings.{ask-on_answer, servers-on_answer}
+use Rattle.run_losses.proofs.taking_law.TakeReadings.{ask-reading_take, servers-reading_take}
 use Rattle.run_losses.proofs.taking_law.TakeTurns.{Became, Begins, CalmSo, Heard, IsCalm, IsLost, Kept, PresentBecame, ReadingBecame, Renewed, Takes, Turn, Waits, answered, heard_in}
 
 -- it reads this of a source
@@ -61,7 +61,7 @@ module _ (Named : ℕ → Group → Type 0) (Came : ℕ → ℕ → Told → Typ
       pub group : Group
       pub named : Named source.seg.group group
       pub ask : ℕ
-      pub now : r ≡ begun (target_of source) group ask
+      pub now : r ≡ reading_start (target_of source) group ask
       pub number : start < y.fetches.ask
 
     -- where any server is asked
@@ -158,9 +158,9 @@ module _ (Named : ℕ → Group → Type 0) (Came : ℕ → ℕ → Told → Typ
         from_waits fact w =
             let h = w.takes.heard in
             let ask : r.ask ≡ w.takes.reading.ask =
-            ap (λ (z : ReadingState). z.ask) w.now ∙ ask-on_answer w.takes.reading x.take.groups h.own h.server h.told in
+            ap (λ (z : ReadingState). z.ask) w.now ∙ ask-reading_take w.takes.reading x.take.groups h.own h.server h.told in
             let servers : r.round.servers ≡ w.takes.reading.round.servers =
-            ap (λ (z : ReadingState). z.round.servers) w.now ∙ servers-on_answer w.takes.reading x.take.groups h.own h.server h.told in
+            ap (λ (z : ReadingState). z.round.servers) w.now ∙ servers-reading_take w.takes.reading x.take.groups h.own h.server h.told in
             ⊎_elim (λ none. inl (servers ∙ none))
             (λ it. inr (inr (inl (record {
               took = took_of source next.Wait w.takes;

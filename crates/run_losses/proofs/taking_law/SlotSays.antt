@@ -8,8 +8,8 @@ use Rattle.manager_slots.specs.declared.slot_phase.SlotPhase.{SlotPhase}
 use Rattle.manager_slots.specs.declared.slot_phase.SlotPhase.TheVariants as phase
 use Rattle.manager_slots.specs.declared.slot_phase.Taking.{Taking}
 use Rattle.manager_slots.specs.Slots.{epoch_of, managed}
-use Rattle.manager_slots.specs.Takeovers.{Done, asker, says, says_each}
-use Rattle.node_base.specs.Asking.{asked_as, drawn, drawn_for, next_ask, number_for}
+use Rattle.manager_slots.specs.Takeovers.{Done, asker, takeovers_say, say_each}
+use Rattle.node_base.specs.Asking.{asked_as, draw, drawn_for, next_ask, number_for}
 use Rattle.node_base.specs.declared.effects.Effect.{Effect}
 use Rattle.node_base.specs.declared.effects.Effect.TheVariants.{Send, Answer, Lose, Does as Acts}
 use Rattle.node_base.specs.declared.questions.Asked.{Asked}
@@ -18,7 +18,7 @@ use Rattle.segment_reading.specs.Reading.{ReadingState}
 use Rattle.takeover.specs.declared.output.Out.{Out}
 use Rattle.takeover.specs.declared.output.Out.TheVariants as out
 use Rattle.takeover.specs.declared.source.Present.{Present}
-use Rattle.token_manager.specs.Transition.{started as slot_started}
+use Rattle.token_manager.specs.Transition.{slot_start as slot_started}
 use Rattle.wire_msg.specs.declared.body.Body.{Body}
 use Rattle.wire_msg.specs.declared.body.Body.TheVariants as body
 use Rattle.wire_msg.specs.declared.storage.Fetch.{Fetch}
@@ -114,8 +114,8 @@ module _ (L : SegName → Type 0) where
     does : AllDo N o d.outs
 
   module _ (N : ℕ → Type 0) (o : Option Present) (slot : ℕ) where
-    away_so : (p : SlotPhase) (q : Questions) (outs : List Out) → NotTaking p → AllSay o outs → Away N o q (says_each slot (asker p q) outs)
-    unfolding says_each says
+    away_so : (p : SlotPhase) (q : Questions) (outs : List Out) → NotTaking p → AllSay o outs → Away N o q (say_each slot (asker p q) outs)
+    unfolding say_each takeovers_say
     away_so p q [] none all = record { phase = none; questions = refl; does = tt }
     away_so p q (out.Poll to ∷ outs) none all =
         let h = away_so p q outs none all.1 in record { phase = h.phase; questions = h.questions; does = (tt, h.does) }
@@ -156,8 +156,8 @@ module _ (L : SegName → Type 0) where
 
   module _ (slot : ℕ) (t : Taking) (b : Asked) (last : ℕ) (same : (name : SegName) (own : ℕ) → AsksFor t.take.present name own → own ≡ b.own) where
     settled_so : (f : Asked) (q : Questions) (outs : List Out) → f.own ≡ b.own → f.ask ≡ b.ask → q.last ≡ last → AllSay t.take.present outs
-        → Settled t b last (says_each slot (asker (phase.Taking (record t { fetches = f })) q) outs)
-    unfolding says_each says
+        → Settled t b last (say_each slot (asker (phase.Taking (record t { fetches = f })) q) outs)
+    unfolding say_each takeovers_say
     settled_so f q [] own ask at all = record { phase = (refl, (refl, (own, ask))); last_is = at; does = tt }
     settled_so f q (out.Poll to ∷ outs) own ask at all =
         let h = settled_so f q outs own ask at all.1 in record { phase = h.phase; last_is = h.last_is; does = (tt, h.does) }
@@ -166,7 +166,7 @@ module _ (L : SegName → Type 0) where
         let number : number_for f q n ≡ b.ask =
         by_test (λ (k : ℕ). k ≡ b.ask) (n == f.own) f.ask (next_ask q) (λ _. ask) (λ e. absurd (eqb-false n f.own e (fact ∙ sym own))) in
         let now : (drawn_for f q n).last ≡ last =
-        by_test (λ (k : Questions). k.last ≡ last) (n == f.own) q (drawn q) (λ _. at) (λ e. absurd (eqb-false n f.own e (fact ∙ sym own))) in
+        by_test (λ (k : Questions). k.last ≡ last) (n == f.own) q (draw q) (λ _. at) (λ e. absurd (eqb-false n f.own e (fact ∙ sym own))) in
         let h = settled_so (asked_as f q n) (drawn_for f q n) outs fact number now all.1 in
         record { phase = h.phase; last_is = h.last_is; does = (((n, all.0), number), h.does) }
     settled_so f q (out.Active epoch index beliefs applied ∷ outs) own ask at all =
@@ -221,9 +221,9 @@ module _ (L : SegName → Type 0) where
       abbrev Goes : Asked → Questions → Type 0
       Goes f p =
           Said t q (out.Fetch server name own ∷ outs) (record {
-            state = (says_each slot (asker (phase.Taking (record t { fetches = f })) p) outs).state;
+            state = (say_each slot (asker (phase.Taking (record t { fetches = f })) p) outs).state;
             outs = Send (Server server) (body.Fetch (record { name = name; ask = f.ask }))
-                ∷ (says_each slot (asker (phase.Taking (record t { fetches = f })) p) outs).outs;
+                ∷ (say_each slot (asker (phase.Taking (record t { fetches = f })) p) outs).outs;
           })
 
       by_settled : (f : Asked) (p : Questions) → own ≡ f.own → q.last ≤ p.last → p.last ≤ q.last + 1 → f.ask ≤ p.last
@@ -267,11 +267,11 @@ module _ (L : SegName → Type 0) where
       first_asks = by (own == t.fetches.own) refl
         where
           by : (b : Bool) → (own == t.fetches.own) ≡ b
-              → Goes (record { own = own; ask = cond b t.fetches.ask (next_ask q) }) (cond b q (drawn q))
+              → Goes (record { own = own; ask = cond b t.fetches.ask (next_ask q) }) (cond b q (draw q))
           by true fact = let e = eqb-true own t.fetches.own fact in
               by_settled (record { own = own; ask = t.fetches.ask }) q refl (omega arith) (omega arith) low (inl (e, refl))
           by false fact = let e = drawn_one q.last room in
-              by_settled (record { own = own; ask = next_ask q }) (drawn q) refl (omega arith) (omega arith) (omega arith)
+              by_settled (record { own = own; ask = next_ask q }) (draw q) refl (omega arith) (omega arith) (omega arith)
               (inr (eqb-false own t.fetches.own fact, omega arith))
 
     -- a poll asks for nothing
@@ -286,23 +286,23 @@ module _ (L : SegName → Type 0) where
     polled to outs last (phase.Active a) h = tt
     polled to outs last (phase.Broken epoch seg) h = tt
 
-    pub says_so : (outs : List Out) → AllSay t.take.present outs → Said t q outs (says_each slot (asker (phase.Taking t) q) outs)
-    unfolding says_each says
-    says_so [] all = record {
+    pub takeovers_say_so : (outs : List Out) → AllSay t.take.present outs → Said t q outs (say_each slot (asker (phase.Taking t) q) outs)
+    unfolding say_each takeovers_say
+    takeovers_say_so [] all = record {
       phase = record { epoch = refl; take = refl; number = low; how = inl (record { none = tt; own = refl; ask = refl }) };
       up = omega arith;
       few = omega arith;
       does = tt;
     }
-    says_so (out.Poll to ∷ outs) all = (let h = says_so outs all.1 in record {
+    takeovers_say_so (out.Poll to ∷ outs) all = (let h = takeovers_say_so outs all.1 in record {
       phase = polled to outs _ _ h.phase;
       up = h.up;
       few = h.few;
       does = (tt, h.does);
     })
-    says_so (out.Fetch server name own ∷ outs) all = first_asks server name own outs all.0 all.1
-    says_so (out.Active epoch index beliefs applied ∷ outs) all =
+    takeovers_say_so (out.Fetch server name own ∷ outs) all = first_asks server name own outs all.0 all.1
+    takeovers_say_so (out.Active epoch index beliefs applied ∷ outs) all =
         ends_so t q (out.Active epoch index beliefs applied ∷ outs) _ (λ N. away_so N t.take.present slot _ q outs tt all.1)
-    says_so (out.Lost name ∷ outs) all =
+    takeovers_say_so (out.Lost name ∷ outs) all =
         ends_so t q (out.Lost name ∷ outs) _
         (λ N. let h = away_so N t.take.present slot _ q outs tt all.1 in record { phase = h.phase; questions = h.questions; does = (all.0, h.does) })

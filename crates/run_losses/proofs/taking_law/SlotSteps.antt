@@ -7,8 +7,8 @@ use Rattle.manager_slots.specs.declared.slot_phase.SlotPhase.{SlotPhase}
 use Rattle.manager_slots.specs.declared.slot_phase.SlotPhase.TheVariants as phase
 use Rattle.manager_slots.specs.declared.slot_phase.Taking.{Taking}
 use Rattle.manager_slots.specs.Slots.{epoch_of}
-use Rattle.manager_slots.specs.SlotTable.{Hearer, hears_of}
-use Rattle.manager_slots.specs.Takeovers.{Asker, Done, asker, asks_again, heard, is_wanted, on_report, phase_of, report_input, says as does_each, says_each, takes}
+use Rattle.manager_slots.specs.SlotTable.{Hearer, hear_of}
+use Rattle.manager_slots.specs.Takeovers.{Asker, Done, asker, takeovers_ask_again, outs_of, is_wanted, on_report, phase_of, report_input, takeovers_say as does_each, say_each, takeovers_take}
 use Rattle.node_base.specs.declared.effects.Effect.{Effect}
 use Rattle.node_base.specs.declared.effects.Effect.TheVariants.{Send, Answer, Lose, Does as Acts}
 use Rattle.node_base.specs.declared.questions.Questions.{Questions}
@@ -17,7 +17,7 @@ use Rattle.takeover.specs.declared.input.In.{In}
 use Rattle.takeover.specs.declared.input.In.TheVariants as input
 use Rattle.takeover.specs.declared.output.Out.{Out}
 use Rattle.takeover.specs.declared.output.Out.TheVariants as out
-use Rattle.takeover.specs.TakeState.{TakeState, started}
+use Rattle.takeover.specs.TakeState.{TakeState, take_start}
 use Rattle.takeover.specs.Transition.{awaited, polls, transition}
 use Rattle.wire_msg.specs.declared.body.Body.{Body}
 use Rattle.wire_msg.specs.declared.body.Body.TheVariants as body
@@ -31,7 +31,7 @@ use Rattle.xfs_base.specs.Limits.{u32_end}
 use Rattle.xfs_base.specs.Steps.{still}
 use Rattle.xfs_base.proofs.Alls.{all_weaker}
 use Rattle.run_losses.proofs.taking_law.SlotReads.{LostFrom, TakingFrom, from_now, lost_of}
-use Rattle.run_losses.proofs.taking_law.SlotSays.{EffectSo, NumberSo, PhaseSaid, Said, SaysSo, TakingSaid, says_so}
+use Rattle.run_losses.proofs.taking_law.SlotSays.{EffectSo, NumberSo, PhaseSaid, Said, SaysSo, TakingSaid, takeovers_say_so}
 use Rattle.run_losses.proofs.taking_law.SlotTurns.{FetchFor, FetchOf, TakingFine, asked_of, asks_last, fetched_before, is_number, present_fine, still_fine}
 use Rattle.run_losses.proofs.taking_law.TakeTurns.{Heard, InputNamed, IsCalm, IsLost, MapNamed, Says, Turn, heard_in, take_turn, tick_part}
 
@@ -40,7 +40,7 @@ same_taking x y e = cc
 
 -- a slot whose takeover begins
 abbrev pub begun_slot : Hearer → SlotNews → Taking
-begun_slot h news = record { epoch = news.epoch; take = started news h.groups h.ears.clients; fetches = record { own = 0; ask = 0 } }
+begun_slot h news = record { epoch = news.epoch; take = take_start news h.groups h.ears.clients; fetches = record { own = 0; ask = 0 } }
 
 module _ (Named : ℕ → Group → Type 0) (Came : ℕ → ℕ → Told → Type 0) (start : ℕ) (before : SlotPhase) where
   -- ---- what is sent
@@ -106,7 +106,7 @@ module _ (Named : ℕ → Group → Type 0) (Came : ℕ → ℕ → Told → Typ
     t = record x { take = after }
 
     abbrev d : Done
-    d = says_each slot (asker (phase.Taking (record x { take = after })) q) outs
+    d = say_each slot (asker (phase.Taking (record x { take = after })) q) outs
 
     fine : TakingFine Named q.last x
     fine = so.fine x refl
@@ -121,7 +121,7 @@ module _ (Named : ℕ → Group → Type 0) (Came : ℕ → ℕ → Told → Typ
         each (out.Lost name) h = h
 
     said : Said L t q outs d
-    said = says_so L slot t q fine.number room outs says
+    said = takeovers_say_so L slot t q fine.number room outs says
 
     abbrev last : ℕ
     last = d.state.questions.last
@@ -161,7 +161,7 @@ module _ (Named : ℕ → Group → Type 0) (Came : ℕ → ℕ → Told → Typ
     does_so (Lose name) h = lost_of Named Came start before x q given up brought first name h
     does_so (Acts act) h = h
 
-    pub step_of : SlotStep (phase.Taking x) q (says_each slot (asker (phase.Taking (record x { take = after })) q) outs)
+    pub step_of : SlotStep (phase.Taking x) q (say_each slot (asker (phase.Taking (record x { take = after })) q) outs)
     step_of = record {
       fine = λ y fact. let s = still_so y fact in still_fine Named x q given outs last y fine s.turns s.says;
       from = λ y fact.
@@ -181,13 +181,13 @@ module _ (Named : ℕ → Group → Type 0) (Came : ℕ → ℕ → Told → Typ
   module _ (slot : ℕ) (p : SlotPhase) (q : Questions) (so : SlotSo p q.last) (up : start ≤ q.last) (room : q.last < u32_end) where
     pub takes_step : (given : In) → InputNamed Named given
         → ((h : Heard) → heard_in given ≡ Some h → (x : Taking) → p ≡ phase.Taking x → (h.own ≡ x.fetches.own) × Came x.fetches.ask h.server h.told)
-        → (IsCalm given ⊎ (before ≡ p)) → SlotStep p q (takes (asker p q) slot given)
-    unfolding takes heard says_each
+        → (IsCalm given ⊎ (before ≡ p)) → SlotStep p q (takeovers_take (asker p q) slot given)
+    unfolding takeovers_take outs_of say_each
     takes_step given named brought first = by p so brought first
       where
         by : (z : SlotPhase) → SlotSo z q.last
             → ((h : Heard) → heard_in given ≡ Some h → (x : Taking) → z ≡ phase.Taking x → (h.own ≡ x.fetches.own) × Came x.fetches.ask h.server h.told)
-            → (IsCalm given ⊎ (before ≡ z)) → SlotStep z q (takes (asker z q) slot given)
+            → (IsCalm given ⊎ (before ≡ z)) → SlotStep z q (takeovers_take (asker z q) slot given)
         by (phase.Taking x) so brought first =
             step_of slot x q given (transition x.take given).state (transition x.take given).outs (take_turn Named x.take given named (so.fine x refl).groups)
             so up room (λ h gives. brought h gives x refl) first
@@ -195,11 +195,11 @@ module _ (Named : ℕ → Group → Type 0) (Came : ℕ → ℕ → Told → Typ
         by (phase.Active a) so brought first = idle (phase.Active a) q so
         by (phase.Broken epoch seg) so brought first = idle (phase.Broken epoch seg) q so
 
-    pub asks_step : (polls : Bool) → SlotStep p q (asks_again (asker p q) slot polls)
-    unfolding asks_again heard says_each
+    pub asks_step : (polls : Bool) → SlotStep p q (takeovers_ask_again (asker p q) slot polls)
+    unfolding takeovers_ask_again outs_of say_each
     asks_step polls = by p so
       where
-        by : (z : SlotPhase) → SlotSo z q.last → SlotStep z q (asks_again (asker z q) slot polls)
+        by : (z : SlotPhase) → SlotSo z q.last → SlotStep z q (takeovers_ask_again (asker z q) slot polls)
         by (phase.Taking x) so =
             step_of slot x q input.Tick x.take (filter (is_wanted polls) (transition x.take input.Tick).outs)
             (tick_part Named x.take (so.fine x refl).groups (is_wanted polls)) so up room (λ h gives. absurd (none h gives)) (inl tt)
@@ -215,7 +215,7 @@ module _ (Named : ℕ → Group → Type 0) (Came : ℕ → ℕ → Told → Typ
   pub report_step : (p : SlotPhase) (q : Questions) → SlotSo p q.last → start ≤ q.last → q.last < u32_end → (from : NodeId) (report : Report) → before ≡ p
       → SlotStep p q (on_report (asker p q) from report)
   report_step p q so up room from report fact =
-      by_test (SlotStep p q) (report.epoch == epoch_of p) (takes (asker p q) report.slot (report_input from report)) (still (asker p q))
+      by_test (SlotStep p q) (report.epoch == epoch_of p) (takeovers_take (asker p q) report.slot (report_input from report)) (still (asker p q))
       (λ _. takes_step report.slot p q so up room (report_input from report) tt (λ h gives. absurd (none h gives)) (inr fact)) (λ _. idle p q so)
     where
       none : (h : Heard) → None ≡ Some h → ⊥
@@ -282,17 +282,17 @@ module _ (Named : ℕ → Group → Type 0) (Came : ℕ → ℕ → Told → Typ
         none x fact = cc
 
     begun_step : (z : SlotPhase) → SlotSo z q.last → ((x : Taking) → z ≡ phase.Taking x → (x.fetches.ask ≡ 0) × (x.take.present ≡ None))
-        → SlotStep p q (takes (asker z q) news.slot input.Tick)
+        → SlotStep p q (takeovers_take (asker z q) news.slot input.Tick)
     begun_step z its fresh =
-        renewed p z q fresh (takes (asker z q) news.slot input.Tick)
+        renewed p z q fresh (takeovers_take (asker z q) news.slot input.Tick)
         (takes_step news.slot z q its up room input.Tick tt (λ g gives. absurd (none_heard g gives)) (inl tt))
 
-    pub hears_step : SlotStep p q (hears_of h news (asker p q))
-    unfolding hears_of
+    pub hears_step : SlotStep p q (hear_of h news (asker p q))
+    unfolding hear_of
     hears_step =
         by_test (SlotStep p q) (nat_lt (epoch_of p) news.epoch)
-        (takes (asker (phase_of h.ears.number news h.groups h.ears.clients) q) news.slot input.Tick) (still (asker p q))
-        (λ _. by_test (λ (z : SlotPhase). SlotStep p q (takes (asker z q) news.slot input.Tick)) (news.manager == h.ears.number)
+        (takeovers_take (asker (phase_of h.ears.number news h.groups h.ears.clients) q) news.slot input.Tick) (still (asker p q))
+        (λ _. by_test (λ (z : SlotPhase). SlotStep p q (takeovers_take (asker z q) news.slot input.Tick)) (news.manager == h.ears.number)
         (phase.Taking (begun_slot h news)) (phase.Away news.epoch)
         (λ _. begun_step (phase.Taking (begun_slot h news)) taking_so
         (λ x fact. (subst (λ (y : Taking). y.fetches.ask ≡ 0) (taking_is x fact) refl, subst (λ (y : Taking). y.take.present ≡ None) (taking_is x fact) refl)))
@@ -303,19 +303,19 @@ module _ (Named : ℕ → Group → Type 0) (Came : ℕ → ℕ → Told → Typ
         never x fact = cc
 
 -- an epoch that is heard of draws no number: a slot that begins polls alone
-polls_rest : (slot : ℕ) (a : Asker) (nodes : List NodeId) → (says_each slot a (polls nodes ++ [])).state ≡ a
-unfolding says_each does_each
+polls_rest : (slot : ℕ) (a : Asker) (nodes : List NodeId) → (say_each slot a (polls nodes ++ [])).state ≡ a
+unfolding say_each does_each
 polls_rest slot a [] = refl
 polls_rest slot a (n ∷ nodes) = polls_rest slot a nodes
 
-pub hears_rests : (h : Hearer) (news : SlotNews) (p : SlotPhase) (q : Questions) → (hears_of h news (asker p q)).state.questions.last ≡ q.last
-unfolding hears_of takes heard says_each
+pub hears_rests : (h : Hearer) (news : SlotNews) (p : SlotPhase) (q : Questions) → (hear_of h news (asker p q)).state.questions.last ≡ q.last
+unfolding hear_of takeovers_take outs_of say_each
 hears_rests h news p q =
     by_test (λ (d : Done). d.state.questions.last ≡ q.last) (nat_lt (epoch_of p) news.epoch)
-    (takes (asker (phase_of h.ears.number news h.groups h.ears.clients) q) news.slot input.Tick) (still (asker p q))
-    (λ _. by_test (λ (z : SlotPhase). (takes (asker z q) news.slot input.Tick).state.questions.last ≡ q.last) (news.manager == h.ears.number)
+    (takeovers_take (asker (phase_of h.ears.number news h.groups h.ears.clients) q) news.slot input.Tick) (still (asker p q))
+    (λ _. by_test (λ (z : SlotPhase). (takeovers_take (asker z q) news.slot input.Tick).state.questions.last ≡ q.last) (news.manager == h.ears.number)
     (phase.Taking (begun_slot h news)) (phase.Away news.epoch)
     (λ _. ap (λ (x : Asker). x.questions.last)
-    (polls_rest news.slot (asker (phase.Taking (begun_slot h news)) q) (awaited (started news h.groups h.ears.clients))))
+    (polls_rest news.slot (asker (phase.Taking (begun_slot h news)) q) (awaited (take_start news h.groups h.ears.clients))))
     (λ _. refl))
     (λ _. refl)

@@ -9,7 +9,7 @@ use Rattle.node_base.specs.declared.questions.Questions.{Questions}
 use Rattle.segment_reading.specs.declared.reading.Next.{Next}
 use Rattle.segment_reading.specs.declared.reading.Next.TheVariants as next
 use Rattle.segment_reading.specs.Reading.{ReadingState}
-use Rattle.takeover.proofs.Readings.{target-on_answer, target-on_confirmed}
+use Rattle.takeover.proofs.Readings.{target-reading_take, target-on_confirmed}
 use Rattle.takeover.specs.declared.input.In.{In}
 use Rattle.takeover.specs.declared.output.Out.{Out}
 use Rattle.takeover.specs.declared.source.Present.{Present}
@@ -19,7 +19,7 @@ use Rattle.takeover.specs.Transition.{fetches, target_of}
 use Rattle.wire_msg.specs.declared.storage.Fetch.{Fetch}
 use Rattle.xfs_base.specs.declared.segment.SegName.{SegName}
 use Rattle.run_losses.proofs.taking_law.SlotSays.{Asks, Rested, TakingSaid}
-use Rattle.run_losses.proofs.taking_law.TakeReadings.{ask-on_answer, servers-on_answer}
+use Rattle.run_losses.proofs.taking_law.TakeReadings.{ask-reading_take, servers-reading_take}
 use Rattle.run_losses.proofs.taking_law.TakeTurns.{AsksAs, AsksFor, Became, Fresh, IsLost, MapNamed, NotFetch, PresentBecame, ReadingBecame, Takes, Turn, answered}
 
 -- nothing is asked of servers only where there are none
@@ -122,9 +122,9 @@ module _ (Named : ℕ → Group → Type 0) where
         let before = taken_fine source next.Wait fine w.takes in
         let h = w.takes.heard in
         let ask : r.ask ≡ w.takes.reading.ask =
-        ap (λ (x : ReadingState). x.ask) w.now ∙ ask-on_answer w.takes.reading s.groups h.own h.server h.told in
+        ap (λ (x : ReadingState). x.ask) w.now ∙ ask-reading_take w.takes.reading s.groups h.own h.server h.told in
         record {
-          looks = ap (λ (x : ReadingState). x.target) w.now ∙ (target-on_answer w.takes.reading s.groups h.own h.server h.told ∙ before.looks);
+          looks = ap (λ (x : ReadingState). x.target) w.now ∙ (target-reading_take w.takes.reading s.groups h.own h.server h.told ∙ before.looks);
           counted = ask ∙ (before.counted ∙ sym w.counted);
           some = (let a = before.some in omega arith);
         }
@@ -133,7 +133,7 @@ module _ (Named : ℕ → Group → Type 0) where
         let h = w.takes.heard in
         record {
           looks = ap (λ (x : ReadingState). x.target) w.now ∙ (target-on_confirmed (answered w.takes.reading s.groups h).state (s.ask + 1)
-              ∙ (target-on_answer w.takes.reading s.groups h.own h.server h.told ∙ before.looks));
+              ∙ (target-reading_take w.takes.reading s.groups h.own h.server h.told ∙ before.looks));
           counted = w.fresh.own ∙ sym w.fresh.counted;
           some = (let a = w.fresh.own in omega arith);
         }
@@ -199,8 +199,8 @@ module _ (Named : ℕ → Group → Type 0) where
     rested_out source r rest (inr (inl w)) =
         let h = w.takes.heard in
         stays_out w.takes.reading (subst (PresentOut x.fetches) w.takes.was fine.is_out) r
-        (ap (λ (z : ReadingState). z.ask) w.now ∙ ask-on_answer w.takes.reading x.take.groups h.own h.server h.told)
-        (ap (λ (z : ReadingState). z.round.servers) w.now ∙ servers-on_answer w.takes.reading x.take.groups h.own h.server h.told) rest.own
+        (ap (λ (z : ReadingState). z.ask) w.now ∙ ask-reading_take w.takes.reading x.take.groups h.own h.server h.told)
+        (ap (λ (z : ReadingState). z.round.servers) w.now ∙ servers-reading_take w.takes.reading x.take.groups h.own h.server h.told) rest.own
     rested_out source r rest (inr (inr (inl w))) = fresh_out source r w.fresh rest.none
     rested_out source r rest (inr (inr (inr b))) = fresh_out source r b.fresh rest.none
 
@@ -249,7 +249,7 @@ module _ (Named : ℕ → Group → Type 0) where
         of_reading source r (inr (inl w)) out same =
             let h = w.takes.heard in
             was_out source w.takes.reading w.takes.was
-            (out ∙ (ap (λ (z : ReadingState). z.ask) w.now ∙ ask-on_answer w.takes.reading x.take.groups h.own h.server h.told)) same
+            (out ∙ (ap (λ (z : ReadingState). z.ask) w.now ∙ ask-reading_take w.takes.reading x.take.groups h.own h.server h.told)) same
         of_reading source r (inr (inr (inl w))) out same = absurd (never (out ∙ w.fresh.own) same)
         of_reading source r (inr (inr (inr b))) out same = absurd (never (out ∙ b.fresh.own) same)
 

@@ -11,7 +11,7 @@ use Rattle.manager_slots.specs.declared.slot_phase.SlotPhase.{SlotPhase}
 use Rattle.manager_slots.specs.declared.slot_phase.SlotPhase.TheVariants as phase
 use Rattle.manager_slots.specs.declared.slot_phase.Taking.{Taking}
 use Rattle.manager_slots.specs.SlotTable as table
-use Rattle.manager_slots.specs.SlotTable.{Asks, Hearer, Table, TableAsker, all_slots, at_taken, hears_of, in_taken}
+use Rattle.manager_slots.specs.SlotTable.{Asks, Hearer, Table, TableAsker, all_slots, at_taken, hear_of, in_taken}
 use Rattle.manager_slots.specs.Takeovers as takeovers
 use Rattle.manager_slots.specs.Takeovers.{Asker, asker}
 use Rattle.node_base.specs.declared.effects.Effect.{Effect}
@@ -240,59 +240,59 @@ module _ (Named : ℕ → Group → Type 0) (Came : ℕ → ℕ → Told → Typ
   HasRoom n last = last < u32_end
 
   pub table_asks : (polls : Bool) (a : TableAsker) (outs : List Effect) → Sofar a.table a.questions.last outs → a.questions.last + 8 < u32_end
-      → After outs (table.asks_all polls a) × ((table.asks_all polls a).state.questions.last ≤ a.questions.last + 8)
-  unfolding table.asks
+      → After outs (table.slot_table_ask_again polls a) × ((table.slot_table_ask_again polls a).state.questions.last ≤ a.questions.last + 8)
+  unfolding table.slot_table_ask
   table_asks polls a outs so room = (all.0, let r = all.1 in omega arith)
     where
-      all : After outs (table.asks_all polls a) × ((table.asks_all polls a).state.questions.last + 0 ≤ a.questions.last + 8)
-      all = let r = steps_turn (IsLeft (a.questions.last + 8)) (table.asks polls)
+      all : After outs (table.slot_table_ask_again polls a) × ((table.slot_table_ask_again polls a).state.questions.last + 0 ≤ a.questions.last + 8)
+      all = let r = steps_turn (IsLeft (a.questions.last + 8)) (table.slot_table_ask polls)
           (λ b k n done its left. let r = one b k done its (let l = left.0 in let m = left.1 in omega arith) in
           (r.0, (let x = r.2 in let l = left.0 in omega arith, left.1))) a all_slots outs so (omega arith, room) in (r.0, r.1.0)
         where
           one : (b : TableAsker) (k : ℕ) (done : List Effect) → Sofar b.table b.questions.last done → b.questions.last < u32_end
-              → After done (table.asks polls b k) × (b.questions.last ≤ (table.asks polls b k).state.questions.last)
-              × ((table.asks polls b k).state.questions.last ≤ b.questions.last + 1)
+              → After done (table.slot_table_ask polls b k) × (b.questions.last ≤ (table.slot_table_ask polls b k).state.questions.last)
+              × ((table.slot_table_ask polls b k).state.questions.last ≤ b.questions.last + 1)
           one b k done its room =
-              taken_turn b done its k (λ x. takeovers.asks_again x k polls)
+              taken_turn b done its k (λ x. takeovers.takeovers_ask_again x k polls)
               (λ slot. asks_step Named Came start (phase_at first k) k (phase_at b.table k) b.questions slot its.up room polls)
 
   pub table_regroups : (groups : GroupMapState) → MapNamed Named groups → (a : TableAsker) (outs : List Effect) → Sofar a.table a.questions.last outs
       → a.questions.last + 8 < u32_end
-      → After outs (table.regroups_all groups a) × ((table.regroups_all groups a).state.questions.last ≤ a.questions.last + 8)
-  unfolding table.takes
+      → After outs (table.slot_table_regroup groups a) × ((table.slot_table_regroup groups a).state.questions.last ≤ a.questions.last + 8)
+  unfolding table.slot_table_take
   table_regroups groups named a outs so room = (all.0, let r = all.1 in omega arith)
     where
       none : (h : Heard) → None ≡ Some h → ⊥
       none h gives = cc
 
-      all : After outs (table.regroups_all groups a) × ((table.regroups_all groups a).state.questions.last + 0 ≤ a.questions.last + 8)
-      all = let r = steps_turn (IsLeft (a.questions.last + 8)) (table.regroups groups)
+      all : After outs (table.slot_table_regroup groups a) × ((table.slot_table_regroup groups a).state.questions.last + 0 ≤ a.questions.last + 8)
+      all = let r = steps_turn (IsLeft (a.questions.last + 8)) (table.regroup_one groups)
           (λ b k n done its left. let r = one b k done its (let l = left.0 in let m = left.1 in omega arith) in
           (r.0, (let x = r.2 in let l = left.0 in omega arith, left.1))) a all_slots outs so (omega arith, room) in (r.0, r.1.0)
         where
           one : (b : TableAsker) (k : ℕ) (done : List Effect) → Sofar b.table b.questions.last done → b.questions.last < u32_end
-              → After done (table.regroups groups b k) × (b.questions.last ≤ (table.regroups groups b k).state.questions.last)
-              × ((table.regroups groups b k).state.questions.last ≤ b.questions.last + 1)
+              → After done (table.regroup_one groups b k) × (b.questions.last ≤ (table.regroup_one groups b k).state.questions.last)
+              × ((table.regroup_one groups b k).state.questions.last ≤ b.questions.last + 1)
           one b k done its room =
-              taken_turn b done its k (λ x. takeovers.takes x k (input.Maps groups))
+              taken_turn b done its k (λ x. takeovers.takeovers_take x k (input.Maps groups))
               (λ slot. takes_step Named Came start (phase_at first k) k (phase_at b.table k) b.questions slot its.up room (input.Maps groups) named
               (λ h gives. absurd (none h gives)) (inl tt))
 
   -- ---- epochs that are heard of: nothing is asked of servers
 
   pub table_hears : (h : Hearer) → MapNamed Named h.groups → (a : TableAsker) (slots : List SlotNews) (outs : List Effect)
-      → Sofar a.table a.questions.last outs → a.questions.last < u32_end → After outs (table.hears_all h a slots)
-  unfolding table.hears
-  table_hears h named a slots outs so room = (steps_turn HasRoom (table.hears h) one a slots outs so room).0
+      → Sofar a.table a.questions.last outs → a.questions.last < u32_end → After outs (table.hear_each h a slots)
+  unfolding table.slot_table_hear
+  table_hears h named a slots outs so room = (steps_turn HasRoom (table.slot_table_hear h) one a slots outs so room).0
     where
       one : (b : TableAsker) (news : SlotNews) (n : ℕ) (done : List Effect) → Sofar b.table b.questions.last done → b.questions.last < u32_end
-          → After done (table.hears h b news) × ((table.hears h b news).state.questions.last < u32_end)
+          → After done (table.slot_table_hear h b news) × ((table.slot_table_hear h b news).state.questions.last < u32_end)
       one b news n done its room =
-          let r = taken_turn b done its news.slot (hears_of h news)
+          let r = taken_turn b done its news.slot (hear_of h news)
           (λ slot. hears_step Named Came start (phase_at first news.slot) h news named (phase_at b.table news.slot) b.questions slot its.up room) in
           (r.0, kept (slice_get b.table news.slot))
         where
-          kept : (o : Option SlotPhase) → (in_taken b news.slot (hears_of h news) o).state.questions.last < u32_end
+          kept : (o : Option SlotPhase) → (in_taken b news.slot (hear_of h news) o).state.questions.last < u32_end
           kept None = room
           kept (Some p) = let e = hears_rests h news p b.questions in omega arith
 
@@ -305,10 +305,10 @@ module _ (Named : ℕ → Group → Type 0) (Came : ℕ → ℕ → Told → Typ
     pub table_takes : (k : ℕ) (given : In) → InputNamed Named given
         → ((h : Heard) → heard_in given ≡ Some h → (x : Taking) → phase_at first k ≡ phase.Taking x
         → (h.own ≡ x.fetches.own) × Came x.fetches.ask h.server h.told)
-        → After [] (table.takes (table.table_asker first q) k given)
-    unfolding table.takes
+        → After [] (table.slot_table_take (table.table_asker first q) k given)
+    unfolding table.slot_table_take
     table_takes k given named brought =
-        (taken_turn a [] so k (λ x. takeovers.takes x k given)
+        (taken_turn a [] so k (λ x. takeovers.takeovers_take x k given)
         (λ slot. takes_step Named Came start (phase_at first k) k (phase_at first k) q slot so.up room given named brought (inr refl))).0
 
     pub table_reports : (from : NodeId) (report : Report) → After [] (table.on_report (table.table_asker first q) from report)

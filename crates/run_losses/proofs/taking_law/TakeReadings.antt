@@ -6,50 +6,50 @@ use Rattle.segment_reading.specs.declared.reading.Next.{Next}
 use Rattle.segment_reading.specs.declared.reading.Next.TheVariants as next
 use Rattle.segment_reading.specs.declared.reading.Stage as readings
 use Rattle.segment_reading.specs.declared.reading.Stage.TheVariants as stand
-use Rattle.segment_reading.specs.Reading.{ReadingState, Step, to_ask, counts, is_asking, on_answer, judged, ends, read_as, segment_found}
+use Rattle.segment_reading.specs.Reading.{ReadingState, Step, reading_unanswered, counts, is_asking, reading_take, reading_judge, ends, reading_reads, segment_found}
 use Rattle.segment_reading.specs.Lost.{are_gone}
 use Rattle.stripe_code.specs.declared.round.RoundState.{RoundState}
 use Rattle.stripe_code.specs.declared.round.RoundState.TheVariants as round
 use Rattle.stripe_code.specs.declared.round.Told.{Told as Answered}
-use Rattle.stripe_code.specs.Round.{has_answered, state_of, taken, unanswered}
+use Rattle.stripe_code.specs.Round.{has_answered, state_of, round_take, unanswered}
 use Rattle.segment_format.specs.ReadingItems.{answer_of}
 use Rattle.xfs_base.proofs.Booleans.{by_test}
 
 -- ---- what stays of a reading
 
-ask-judged : (r : ReadingState) (groups : GroupMapState) (s : RoundState) → (judged r groups s).state.ask ≡ r.ask
-ask-judged r groups (round.Read bytes) = by (segment_found r.target groups (answer_of bytes))
+ask-reading_judge : (r : ReadingState) (groups : GroupMapState) (s : RoundState) → (reading_judge r groups s).state.ask ≡ r.ask
+ask-reading_judge r groups (round.Read bytes) = by (segment_found r.target groups (answer_of bytes))
   where
-    by : (o : Option Segment) → (read_as r o).state.ask ≡ r.ask
+    by : (o : Option Segment) → (reading_reads r o).state.ask ≡ r.ask
     by (Some s) = refl
     by None = refl
-ask-judged r groups (round.Short pairs) = refl
-ask-judged r groups round.Waiting = refl
+ask-reading_judge r groups (round.Short pairs) = refl
+ask-reading_judge r groups round.Waiting = refl
 
-pub ask-on_answer : (r : ReadingState) (groups : GroupMapState) (ask server : ℕ) (t : Answered) → (on_answer r groups ask server t).state.ask ≡ r.ask
-unfolding on_answer
-ask-on_answer r groups ask server t =
-    let now = taken r.round server t in
-    by_test (λ (s : Step). s.state.ask ≡ r.ask) (counts r ask server t) (judged (record r { round = now }) groups (state_of now))
-    (record { state = r; next = next.Wait }) (λ _. ask-judged (record r { round = now }) groups (state_of now)) (λ _. refl)
+pub ask-reading_take : (r : ReadingState) (groups : GroupMapState) (ask server : ℕ) (t : Answered) → (reading_take r groups ask server t).state.ask ≡ r.ask
+unfolding reading_take
+ask-reading_take r groups ask server t =
+    let now = round_take r.round server t in
+    by_test (λ (s : Step). s.state.ask ≡ r.ask) (counts r ask server t) (reading_judge (record r { round = now }) groups (state_of now))
+    (record { state = r; next = next.Wait }) (λ _. ask-reading_judge (record r { round = now }) groups (state_of now)) (λ _. refl)
 
-servers-judged : (r : ReadingState) (groups : GroupMapState) (s : RoundState) → (judged r groups s).state.round.servers ≡ r.round.servers
-servers-judged r groups (round.Read bytes) = by (segment_found r.target groups (answer_of bytes))
+servers-reading_judge : (r : ReadingState) (groups : GroupMapState) (s : RoundState) → (reading_judge r groups s).state.round.servers ≡ r.round.servers
+servers-reading_judge r groups (round.Read bytes) = by (segment_found r.target groups (answer_of bytes))
   where
-    by : (o : Option Segment) → (read_as r o).state.round.servers ≡ r.round.servers
+    by : (o : Option Segment) → (reading_reads r o).state.round.servers ≡ r.round.servers
     by (Some s) = refl
     by None = refl
-servers-judged r groups (round.Short pairs) = refl
-servers-judged r groups round.Waiting = refl
+servers-reading_judge r groups (round.Short pairs) = refl
+servers-reading_judge r groups round.Waiting = refl
 
-pub servers-on_answer : (r : ReadingState) (groups : GroupMapState) (ask server : ℕ) (t : Answered)
-    → (on_answer r groups ask server t).state.round.servers ≡ r.round.servers
-unfolding on_answer taken
-servers-on_answer r groups ask server t =
-    let now = taken r.round server t in
-    by_test (λ (s : Step). s.state.round.servers ≡ r.round.servers) (counts r ask server t) (judged (record r { round = now }) groups (state_of now))
+pub servers-reading_take : (r : ReadingState) (groups : GroupMapState) (ask server : ℕ) (t : Answered)
+    → (reading_take r groups ask server t).state.round.servers ≡ r.round.servers
+unfolding reading_take round_take
+servers-reading_take r groups ask server t =
+    let now = round_take r.round server t in
+    by_test (λ (s : Step). s.state.round.servers ≡ r.round.servers) (counts r ask server t) (reading_judge (record r { round = now }) groups (state_of now))
     (record { state = r; next = next.Wait })
-    (λ _. servers-judged (record r { round = now }) groups (state_of now)
+    (λ _. servers-reading_judge (record r { round = now }) groups (state_of now)
     ∙ by_test (λ (x : _). x.servers ≡ r.round.servers) (has_answered r.round.answers server) r.round _ (λ _. refl) (λ _. refl))
     (λ _. refl)
 
@@ -59,8 +59,8 @@ all_asked [] = refl
 all_asked (v ∷ vs) = ap (λ ws. v ∷ ws) (all_asked vs)
 
 -- where there are none, none is asked
-pub to_ask_none : (r : ReadingState) → r.round.servers ≡ [] → to_ask r ≡ []
-to_ask_none r none =
+pub reading_unanswered_none : (r : ReadingState) → r.round.servers ≡ [] → reading_unanswered r ≡ []
+reading_unanswered_none r none =
     by_test (λ (vs : List ℕ). vs ≡ []) (is_asking r.stage) (unanswered r.round) []
     (λ _. ap (filter (λ v. not (has_answered r.round.answers v))) none) (λ _. refl)
 
@@ -82,19 +82,19 @@ NextSo next.Lost st = ⊥
 ends_so : (r : ReadingState) (pairs : List (ℕ × ℕ)) → IsEnded (ends r pairs).state.stage
 ends_so r pairs = by_test IsEnded (are_gone r.round.parity r.kept pairs) stand.Doubted stand.Between (λ _. tt) (λ _. tt)
 
-judged_so : (r : ReadingState) (groups : GroupMapState) (s : RoundState) → NextSo (judged r groups s).next (judged r groups s).state.stage
-judged_so r groups (round.Read bytes) = by (segment_found r.target groups (answer_of bytes))
+reading_judge_so : (r : ReadingState) (groups : GroupMapState) (s : RoundState) → NextSo (reading_judge r groups s).next (reading_judge r groups s).state.stage
+reading_judge_so r groups (round.Read bytes) = by (segment_found r.target groups (answer_of bytes))
   where
-    by : (o : Option Segment) → NextSo (read_as r o).next (read_as r o).state.stage
+    by : (o : Option Segment) → NextSo (reading_reads r o).next (reading_reads r o).state.stage
     by (Some s) = tt
     by None = ends_so r []
-judged_so r groups (round.Short pairs) = ends_so r pairs
-judged_so r groups round.Waiting = tt
+reading_judge_so r groups (round.Short pairs) = ends_so r pairs
+reading_judge_so r groups round.Waiting = tt
 
 pub next_so : (r : ReadingState) (groups : GroupMapState) (ask server : ℕ) (t : Answered)
-    → NextSo (on_answer r groups ask server t).next (on_answer r groups ask server t).state.stage
-unfolding on_answer
+    → NextSo (reading_take r groups ask server t).next (reading_take r groups ask server t).state.stage
+unfolding reading_take
 next_so r groups ask server t =
-    let now = taken r.round server t in
-    by_test (λ (s : Step). NextSo s.next s.state.stage) (counts r ask server t) (judged (record r { round = now }) groups (state_of now))
-    (record { state = r; next = next.Wait }) (λ _. judged_so (record r { round = now }) groups (state_of now)) (λ _. tt)
+    let now = round_take r.round server t in
+    by_test (λ (s : Step). NextSo s.next s.state.stage) (counts r ask server t) (reading_judge (record r { round = now }) groups (state_of now))
+    (record { state = r; next = next.Wait }) (λ _. reading_judge_so (record r { round = now }) groups (state_of now)) (λ _. tt)

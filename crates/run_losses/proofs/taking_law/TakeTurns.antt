@@ -4,13 +4,13 @@ use Rattle.std.specs.List.{AllByRecursion}
 use Rattle.group_map.specs.declared.group.Group.{Group}
 use Rattle.group_map.specs.Groups.{group_of}
 use Rattle.group_map.specs.GroupMapState.{GroupMapState}
-use Rattle.run_losses.proofs.taking_law.TakeReadings.{IsEnded, NextSo, all_asked, next_so, to_ask_none}
+use Rattle.run_losses.proofs.taking_law.TakeReadings.{IsEnded, NextSo, all_asked, next_so, reading_unanswered_none}
 use Rattle.segment_format.specs.declared.segment.Segment.{Segment}
 use Rattle.segment_reading.specs.declared.reading.Next.{Next}
 use Rattle.segment_reading.specs.declared.reading.Next.TheVariants as next
 use Rattle.segment_reading.specs.declared.reading.Stage as readings
 use Rattle.segment_reading.specs.declared.reading.Stage.TheVariants as stand
-use Rattle.segment_reading.specs.Reading.{ReadingState, Step, begun, to_ask, on_answer, on_confirmed, goes_on}
+use Rattle.segment_reading.specs.Reading.{ReadingState, Step, reading_start, reading_unanswered, reading_take, on_confirmed, goes_on}
 use Rattle.stripe_code.specs.declared.round.Told.{Told as Answered}
 use Rattle.stripe_code.specs.declared.round.Told.TheVariants as told
 use Rattle.takeover.specs.declared.input.In.{In}
@@ -22,7 +22,7 @@ use Rattle.takeover.specs.declared.source.Present.{Present}
 use Rattle.takeover.specs.declared.source.Source.{Source}
 use Rattle.takeover.specs.Sources.{back_from, sources_of}
 use Rattle.takeover.specs.TakeState.{TakeState}
-use Rattle.takeover.specs.Transition.{Done, again, asks, awaited, awaits, begun_if_all, can_ask, confirmed_by, fetches, go_on, goes_on_from, has_read, is_index, judged_as, judged_by, next_of, on_maps, on_report, on_tick, on_told, polls, reads, repeated, sought, sought_again, sought_over, target_of, told_at, told_in, transition, unanswered as asked_again, waits_in, waiting, with_chain}
+use Rattle.takeover.specs.Transition.{Done, again, ask_servers, awaited, awaits, begin_if_all, can_ask, confirmed_by, fetches, go_on, go_on_from, has_read, is_index, take_follow, judged_by, next_of, on_maps, on_report, on_tick, on_told, polls, take_read, repeated, seek, sought_again, sought_over, target_of, told_at, take_judge, transition, present_repeat as asked_again, present_waiting, waiting, join_chain}
 use Rattle.takeover.specs.Rows.{told_of}
 use Rattle.xfs_base.proofs.Booleans.{by_test}
 use Rattle.xfs_base.specs.declared.segment.SegName.{SegName}
@@ -53,7 +53,7 @@ IsCalm (input.Maps groups) = Unit {0}
 IsCalm input.Tick = Unit {0}
 
 abbrev pub answered : ReadingState → GroupMapState → Heard → Step
-answered r groups h = on_answer r groups h.own h.server h.told
+answered r groups h = reading_take r groups h.own h.server h.told
 
 -- ---- what is asked
 
@@ -122,7 +122,7 @@ module _ (Named : ℕ → Group → Type 0) where
   pub record Begins (s after : TakeState) (outs : List Out) (source : Source) (r : ReadingState) : Type 0 where
     pub group : Group
     pub named : Named source.seg.group group
-    pub now : r ≡ begun (target_of source) group (s.ask + 1)
+    pub now : r ≡ reading_start (target_of source) group (s.ask + 1)
     pub fresh : Fresh s after outs source r
 
   abbrev pub Became : TakeState → In → TakeState → List Out → Source → ReadingState → Type 0
@@ -186,38 +186,38 @@ module _ (Named : ℕ → Group → Type 0) where
     Calm = IsCalm given → (q : Present) × (s.present ≡ Some q)
 
     -- a round that begins
-    fresh_round : (x : TakeState) (source : Source) (r : ReadingState) → x.ask ≡ s.ask → r.ask ≡ x.ask + 1 → to_ask r ≡ r.round.servers
-        → Fresh s (asks x source r).state (asks x source r).outs source r
+    fresh_round : (x : TakeState) (source : Source) (r : ReadingState) → x.ask ≡ s.ask → r.ask ≡ x.ask + 1 → reading_unanswered r ≡ r.round.servers
+        → Fresh s (ask_servers x source r).state (ask_servers x source r).outs source r
     fresh_round x source r same own all = record {
       counted = ap (λ (n : ℕ). n + 1) same;
       own = own ∙ ap (λ (n : ℕ). n + 1) same;
-      says = ap (λ (n : ℕ). fetches source.seg.name (n + 1) (to_ask r)) same ∙ ap (fetches source.seg.name (s.ask + 1)) all;
+      says = ap (λ (n : ℕ). fetches source.seg.name (n + 1) (reading_unanswered r)) same ∙ ap (fetches source.seg.name (s.ask + 1)) all;
     }
 
     asks_turn : (x : TakeState) (source : Source) (r : ReadingState) → x.ask ≡ s.ask → r.ask ≡ x.ask + 1 → MapNamed x.groups → Calm
-        → Became s given (asks x source r).state (asks x source r).outs source r → Goes (asks x source r)
+        → Became s given (ask_servers x source r).state (ask_servers x source r).outs source r → Goes (ask_servers x source r)
     asks_turn x source r same own named calm became = record {
-      says = fetch_each (Says s given (asks x source r).state) source.seg.name (x.ask + 1) (to_ask r)
-          (λ some v. (refl, (sym own, λ none. some (to_ask_none r none))));
+      says = fetch_each (Says s given (ask_servers x source r).state) source.seg.name (x.ask + 1) (reading_unanswered r)
+          (λ some v. (refl, (sym own, λ none. some (reading_unanswered_none r none))));
       reads = became;
       calm = calm;
       groups = named;
       low = omega arith;
     }
 
-    sought_turn : (x : TakeState) (source : Source) → x.ask ≡ s.ask → MapNamed x.groups → Calm → Goes (sought x source)
-    unfolding sought
+    sought_turn : (x : TakeState) (source : Source) → x.ask ≡ s.ask → MapNamed x.groups → Calm → Goes (seek x source)
+    unfolding seek
     sought_turn x source same named calm = by (group_of x.groups source.seg.group) refl
       where
         by : (o : Option Group) → group_of x.groups source.seg.group ≡ o → Goes (sought_over x source o)
         by None fact = record { says = tt; reads = tt; calm = calm; groups = named; low = omega arith }
         by (Some group) fact =
-            let r : ReadingState = begun (target_of source) group (x.ask + 1) in
+            let r : ReadingState = reading_start (target_of source) group (x.ask + 1) in
             asks_turn x source r same refl named calm
             (inr (inr (inr (record {
               group = group;
               named = named source.seg.group group fact;
-              now = ap (λ (n : ℕ). begun (target_of source) group (n + 1)) same;
+              now = ap (λ (n : ℕ). reading_start (target_of source) group (n + 1)) same;
               fresh = fresh_round x source r same refl (all_asked r.round.servers);
             }))))
 
@@ -246,8 +246,8 @@ module _ (Named : ℕ → Group → Type 0) where
         more : TakeState
         more = record x { chain = told_of x.news.slot segment ∷ x.chain }
 
-        by : (before : Option Source) → Goes (goes_on_from (record x { chain = told_of x.news.slot segment ∷ x.chain }) before)
-        by None = go_on_turn (with_chain (record x { chain = told_of x.news.slot segment ∷ x.chain })) same named calm
+        by : (before : Option Source) → Goes (go_on_from (record x { chain = told_of x.news.slot segment ∷ x.chain }) before)
+        by None = go_on_turn (join_chain (record x { chain = told_of x.news.slot segment ∷ x.chain })) same named calm
         by (Some before) = sought_turn (record x { chain = told_of x.news.slot segment ∷ x.chain }) before same named calm
 
   -- ---- an answer
@@ -266,7 +266,7 @@ module _ (Named : ℕ → Group → Type 0) where
     abbrev takes : (n : Next) → step.next ≡ n → Takes s given source n
     takes n goes = record { reading = first; was = was; heard = h; gives = gives; goes = goes }
 
-    waits_turn : step.next ≡ next.Wait → Goes s given (still (reads x source (Some step.state)))
+    waits_turn : step.next ≡ next.Wait → Goes s given (still (take_read x source (Some step.state)))
     waits_turn goes = record {
       says = tt;
       reads = inr (inl (record { takes = takes next.Wait goes; now = refl; counted = refl }));
@@ -311,7 +311,7 @@ module _ (Named : ℕ → Group → Type 0) where
     answer_turn : Goes s given (judged_by x source step)
     answer_turn = by step.next refl (next_so first s.groups h.own h.server h.told)
       where
-        by : (n : Next) → step.next ≡ n → NextSo n step.state.stage → Goes s given (judged_as x source step.state n)
+        by : (n : Next) → step.next ≡ n → NextSo n step.state.stage → Goes s given (take_follow x source step.state n)
         by next.Wait goes so = waits_turn goes
         by next.Again goes so = again_turn goes so
         by (next.Read segment) goes so = has_read_turn s given x source segment refl named calm
@@ -351,7 +351,7 @@ module _ (Named : ℕ → Group → Type 0) where
         (λ _. by s.present refl) (λ _. rests s refl refl named [] tt)
       where
         by_reading : (p : Present) (r : Option ReadingState) → s.present ≡ Some (record { source = p.source; reading = r })
-            → Goes s given (told_in (record s { present = None }) p.source r h.own h.server h.told)
+            → Goes s given (take_judge (record s { present = None }) p.source r h.own h.server h.told)
         by_reading p None fact = record {
           says = tt;
           reads = tt;
@@ -372,7 +372,7 @@ module _ (Named : ℕ → Group → Type 0) where
   report_turn s report named =
       let given : In = input.Report report.from report.held report.end in
       let heard : TakeState = record s { reports = s.reports ++ report ∷ [] } in
-      by_test (Goes s given) (can_ask s && awaits s report.from) (begun_if_all heard) (still s)
+      by_test (Goes s given) (can_ask s && awaits s report.from) (begin_if_all heard) (still s)
       (λ _. by_test (Goes s given) (length (awaited heard) == 0) (go_on (record heard { sources = sources_of heard.news heard.reports })) (still heard)
       (λ _. go_on_turn s given (record heard { sources = sources_of heard.news heard.reports }) refl named (λ calmly. absurd calmly))
       (λ _. rests s given named heard refl refl named [] tt))
@@ -391,9 +391,9 @@ module _ (Named : ℕ → Group → Type 0) where
       kept = rests s (input.Maps groups) named with_groups refl refl new [] tt
 
       by_reading : (p : Present) (r : Option ReadingState) → s.present ≡ Some p
-          → Goes s (input.Maps groups) (sought_again (record s { groups = groups }) (waits_in p.source r))
+          → Goes s (input.Maps groups) (sought_again (record s { groups = groups }) (present_waiting p.source r))
       by_reading p None fact =
-          by_test (Goes s (input.Maps groups)) (can_ask s) (sought with_groups p.source) (still with_groups)
+          by_test (Goes s (input.Maps groups)) (can_ask s) (seek with_groups p.source) (still with_groups)
           (λ _. sought_turn s (input.Maps groups) with_groups p.source refl new (λ calmly. (p, fact))) (λ _. kept)
       by_reading p (Some r) fact = kept
 
@@ -414,7 +414,7 @@ module _ (Named : ℕ → Group → Type 0) where
       by : (o : Option ReadingState) → p.reading ≡ o → AllByRecursion (Says s given s) (asked_again p.source o)
       by None fact = tt
       by (Some r) fact =
-          fetch_each (Says s given s) p.source.seg.name r.ask (to_ask r) (λ some v. asks_it r fact (λ none. some (to_ask_none r none)))
+          fetch_each (Says s given s) p.source.seg.name r.ask (reading_unanswered r) (λ some v. asks_it r fact (λ none. some (reading_unanswered_none r none)))
 
   pub tick_turn : (s : TakeState) → MapNamed s.groups → Turn s input.Tick s (on_tick s)
   tick_turn s named = rests s input.Tick named s refl refl named (on_tick s)

@@ -14,11 +14,11 @@ use Rattle.segment_reading.specs.declared.reading.Next.TheVariants as next
 use Rattle.segment_reading.specs.declared.reading.Stage as readings
 use Rattle.segment_reading.specs.declared.reading.Stage.TheVariants as stand
 use Rattle.segment_reading.specs.declared.target.Target.{Target}
-use Rattle.segment_reading.specs.Reading.{ReadingState, Step, counts, goes_on, is_asking, judged, name_fits, on_answer, on_confirmed}
+use Rattle.segment_reading.specs.Reading.{ReadingState, Step, counts, goes_on, is_asking, reading_judge, name_fits, reading_take, on_confirmed}
 use Rattle.stripe_code.specs.declared.round.Told.{Told}
 use Rattle.stripe_code.specs.declared.round.Told.TheVariants as told
-use Rattle.stripe_code.specs.Round.{asks, state_of, taken, told_fits}
-use Rattle.takeover.proofs.Readings.{target-on_answer, target-on_confirmed}
+use Rattle.stripe_code.specs.Round.{asks, state_of, round_take, told_fits}
+use Rattle.takeover.proofs.Readings.{target-reading_take, target-on_confirmed}
 use Rattle.takeover.specs.declared.source.Present.{Present}
 use Rattle.takeover.specs.declared.source.Source.{Source}
 use Rattle.takeover.specs.Transition.{target_of}
@@ -37,7 +37,7 @@ use Rattle.run_losses.proofs.missing_law.Readings.{AsksOf, IsOut, ReadingTrue, R
 use Rattle.run_losses.specs.missing_law.Missed.{FetchesDrawn, MissedIn, last_at}
 use Rattle.run_losses.proofs.taking_law.ManagerCounts.{CameBy, IsNamed, fetches_drawn, numbers_rise}
 use Rattle.run_losses.proofs.taking_law.SlotReads.{BeginsFrom, KeptFrom, ReadFrom, RenewedFrom, Took, WaitsFrom, at_source}
-use Rattle.run_losses.proofs.taking_law.TakeReadings.{servers-on_answer}
+use Rattle.run_losses.proofs.taking_law.TakeReadings.{servers-reading_take}
 use Rattle.run_losses.proofs.taking_law.TakeTurns.{answered}
 use Rattle.headline.specs.Takeovers.{slot_at}
 
@@ -45,11 +45,11 @@ use Rattle.headline.specs.Takeovers.{slot_at}
 
 -- no answer counts where no server is asked, so that nothing ends
 nothing_ends : (r : ReadingState) (groups : GroupMapState) (ask server : ℕ) (t : Told) → r.round.servers ≡ []
-    → (on_answer r groups ask server t).next ≡ next.Again → ⊥
-unfolding on_answer
+    → (reading_take r groups ask server t).next ≡ next.Again → ⊥
+unfolding reading_take
 nothing_ends r groups ask server t none =
     by_test (λ (s : Step). s.next ≡ next.Again → ⊥) (counts r ask server t)
-    (judged (record r { round = taken r.round server t }) groups (state_of (taken r.round server t)))
+    (reading_judge (record r { round = round_take r.round server t }) groups (state_of (round_take r.round server t)))
     (record { state = r; next = next.Wait }) (λ fact _. nobody (asked fact)) (λ _ e. absurd (waits e))
   where
     waits : next.Wait ≡ next.Again → ⊥
@@ -191,7 +191,7 @@ module _ (e : Estate AnyNode) (j : ℕ) where
           of k = record {
             span = k.span;
             torn = subst (λ (target : _). TornUnlessDeleted e k.span.since count target.seg)
-                (target-on_answer t.reading x.take.groups t.heard.own t.heard.server t.heard.told)
+                (target-reading_take t.reading x.take.groups t.heard.own t.heard.server t.heard.told)
                 (lost_was_torn e (Manager j) run k.span.since count x.fetches.ask (answered t.reading x.take.groups t.heard).state k.so ask lost);
           }
 
@@ -255,10 +255,10 @@ module _ (e : Estate AnyNode) (j : ℕ) where
             let t = w.took in
             ⊎_elim
             (λ none. inl (ap (λ (z : ReadingState). z.round.servers) w.now
-            ∙ (servers-on_answer t.reading x.take.groups t.heard.own t.heard.server t.heard.told ∙ none)))
+            ∙ (servers-reading_take t.reading x.take.groups t.heard.own t.heard.server t.heard.told ∙ none)))
             (λ k.
             let same : r.target ≡ t.reading.target =
-            ap (λ (z : ReadingState). z.target) w.now ∙ target-on_answer t.reading x.take.groups t.heard.own t.heard.server t.heard.told in
+            ap (λ (z : ReadingState). z.target) w.now ∙ target-reading_take t.reading x.take.groups t.heard.own t.heard.server t.heard.told in
             inr (stays (span_of t.reading.target same k.span) (subst (ReadingTrue e (Manager j) k.span.since count x.fetches.ask) (sym w.now) k.so)
             (subst (λ (target : Target). IsOut e (Manager j) count x.fetches.ask target.seg.name) (sym same) k.out) w.number))
             (took_true x truth source next.Wait t)
@@ -273,7 +273,7 @@ module _ (e : Estate AnyNode) (j : ℕ) where
             let so = confirmed_true e (Manager j) run k.span.since count x.fetches.ask a k.so (x.take.ask + 1) y.fetches.ask (λ fact. w.number) in
             let same : r.target ≡ t.reading.target =
             ap (λ (z : ReadingState). z.target) w.now ∙ (target-on_confirmed a (x.take.ask + 1)
-            ∙ target-on_answer t.reading x.take.groups t.heard.own t.heard.server t.heard.told) in
+            ∙ target-reading_take t.reading x.take.groups t.heard.own t.heard.server t.heard.told) in
             let number = ap (λ st. number_then e (Manager j) run k.span.since count x.fetches.ask a k.so st y.fetches.ask) between in
             inr (renewed (span_of t.reading.target same k.span)
             (subst (ReadingTrue e (Manager j) k.span.since count y.fetches.ask) (sym w.now)

@@ -5,14 +5,14 @@ use Rattle.xfs_base.specs.declared.block.BlockId.{BlockId}
 use Rattle.xfs_base.proofs.Alls.{all_append, all_flat_map}
 use Rattle.cleaner_serving.specs.declared.emptying.Emptying.{Emptying}
 use Rattle.cleaner_serving.specs.EmptyingEvents.{fed}
-use Rattle.cleaner_serving.specs.Jobs.{puts}
-use Rattle.cleaner_node.specs.CleanerEvents.{Went_to, restarts, lasting_of, takes}
+use Rattle.cleaner_serving.specs.Jobs.{emptying_put}
+use Rattle.cleaner_node.specs.CleanerEvents.{Went_to, restart, lasting_of, takes}
 use Rattle.cleaner_node.specs.declared.cleaner.Phase.{Phase}
 use Rattle.cleaner_node.specs.declared.cleaner.Phase.TheVariants.{Down, Opening, Serving}
 use Rattle.cleaner_job.specs.declared.hand.Hand.{Hand}
 use Rattle.cleaner_job.specs.declared.job.Job.{Job}
 use Rattle.cleaner_job.specs.declared.lasting.Lasting.{Lasting}
-use Rattle.cleaner_job.specs.Jobs.{hand_moved, job_moved, hand_of, drawn_unless, dropped, read_over}
+use Rattle.cleaner_job.specs.Jobs.{hand_moved, note_moved, hand_of, drawn_unless, dropped, read_over}
 use Rattle.client_log.specs.declared.input.In.{In as LogIn}
 use Rattle.client_log.specs.declared.output.Out.{Out as LogOut}
 use Rattle.client_log.specs.declared.output.Out.TheVariants as log_out
@@ -24,9 +24,9 @@ use Rattle.log_owner.specs.declared.opening.Opening as openings
 use Rattle.log_owner.specs.Opening.{Went, stored}
 use Rattle.wire_msg.specs.declared.packet.Do.{Do}
 use Rattle.xfs_base.specs.declared.segment.SegRef.{SegRef}
-use Rattle.cleaner_job.specs.Hands.{Taken, is_in_hand, known_group, taken_over, takes_in_hand, hears_by, hand_hears, confirmed_by, hand_confirmed, checks_under, kept_ask, checks}
+use Rattle.cleaner_job.specs.Hands.{Taken, is_in_hand, known_group, take_over, take_in_hand, hears_by, hand_hear, confirmed_by, hand_confirmed, checks_under, kept_ask, hand_check}
 use Rattle.group_map.specs.declared.group.Group.{Group}
-use Rattle.node_base.specs.Asking.{drawn}
+use Rattle.node_base.specs.Asking.{draw}
 use Rattle.node_base.specs.declared.effects.Effect.{Effect}
 use Rattle.node_base.specs.declared.questions.Questions.{Questions}
 use Rattle.segment_reading.specs.declared.reading.Stage.{Stage}
@@ -110,24 +110,24 @@ record Rises (q : Questions) (hand : Option Hand) (r : Questions) : Type 0 where
   up : q.last ≤ r.last
   reads : HandUp r.last hand
 
-over_so : (q : Questions) (seg : SegRef) (group : Option Group) → Rises q (taken_over q seg group).hand (taken_over q seg group).questions
+over_so : (q : Questions) (seg : SegRef) (group : Option Group) → Rises q (take_over q seg group).hand (take_over q seg group).questions
 over_so q seg None = record { up = omega arith; reads = tt }
 over_so q seg (Some group) = record { up = last_up q.last; reads = omega arith }
 
 in_hand_so : (groups : Option GroupMapState) (q : Questions) (hand : Option Hand) (seg : SegRef) → HandUp q.last hand
-    → Rises q (takes_in_hand groups q hand seg).hand (takes_in_hand groups q hand seg).questions
-unfolding takes_in_hand
+    → Rises q (take_in_hand groups q hand seg).hand (take_in_hand groups q hand seg).questions
+unfolding take_in_hand
 in_hand_so groups q hand seg h =
     by_test (λ (t : Taken). Rises q t.hand t.questions) (is_in_hand hand seg) (record { hand = hand; questions = q })
-    (taken_over q seg (known_group groups seg.group)) (λ _. record { up = omega arith; reads = h }) (λ _. over_so q seg (known_group groups seg.group))
+    (take_over q seg (known_group groups seg.group)) (λ _. record { up = omega arith; reads = h }) (λ _. over_so q seg (known_group groups seg.group))
 
 checked_so : (hand : Hand) (q : Questions) (block : BlockId) → ReadsUpTo q.last hand.reading
-    → Rises q (Some (checks hand q block).hand) (checks hand q block).questions
-unfolding checks
+    → Rises q (Some (hand_check hand q block).hand) (hand_check hand q block).questions
+unfolding hand_check
 checked_so hand q block h = by (kept_ask hand block)
   where
     by : (ask : Option ℕ) → Rises q (Some (checks_under hand q block ask).hand) (checks_under hand q block ask).questions
-    by None = record { up = last_up q.last; reads = reads_more q.last (drawn q).last (last_up q.last) hand.reading h }
+    by None = record { up = last_up q.last; reads = reads_more q.last (draw q).last (last_up q.last) hand.reading h }
     by (Some ask) = record { up = omega arith; reads = h }
 
 hears_up : (last : ℕ) (hand : Hand) (r : Option ReadingState) (groups : GroupMapState) (ask server : ℕ) (t : Told) → ReadsUpTo last hand.reading
@@ -136,8 +136,8 @@ hears_up last hand None groups ask server t held fact = held
 hears_up last hand (Some r) groups ask server t held fact = (let x = answer_ask r groups ask server t in omega arith)
 
 heard_so : (last : ℕ) (hand : Hand) (groups : GroupMapState) (ask server : ℕ) (t : Told) → ReadsUpTo last hand.reading
-    → HandUp last (Some (hand_hears hand groups ask server t).state)
-unfolding hand_hears
+    → HandUp last (Some (hand_hear hand groups ask server t).state)
+unfolding hand_hear
 heard_so last hand groups ask server t h = hears_up last hand hand.reading groups ask server t h h
 
 confirmed_up : (last : ℕ) (r : ReadingState) (ask : ℕ) (at : Stage) → r.ask ≤ last → ask ≤ last → (rounds.goes_on r ask at).state.ask ≤ last
@@ -168,9 +168,9 @@ moved_so : (last : ℕ) (hand : Option Hand) → HandUp last hand → HandUp las
 moved_so last None h = tt
 moved_so last (Some hand) h = h
 
-job_moved_so : (last : ℕ) (job : Option Job) → HandUp last (hand_of job) → HandUp last (hand_of (job_moved job))
-job_moved_so last None h = tt
-job_moved_so last (Some job) h = moved_so last job.hand h
+note_moved_so : (last : ℕ) (job : Option Job) → HandUp last (hand_of job) → HandUp last (hand_of (note_moved job))
+note_moved_so last None h = tt
+note_moved_so last (Some job) h = moved_so last job.hand h
 
 stored_none : (highest : ℕ) (o : LogOut) → AllUpTo highest (stored o)
 stored_none highest (log_out.Send fragment member) = (tt, tt)
@@ -207,7 +207,7 @@ module _ (first : Cleaner) (what : Do) (h : PhaseUp first.phase) where
 
   changed : (e f : Emptying) → Changes first what Any e f → At e → Rises e.lasting.questions (hand_of f.job) f.lasting.questions
   changed e f QuestionDrawn held =
-      record { up = last_up (last_in e); reads = hand_more (last_in e) (drawn e.lasting.questions).last (last_up (last_in e)) (hand_of e.job) held }
+      record { up = last_up (last_in e); reads = hand_more (last_in e) (draw e.lasting.questions).last (last_up (last_in e)) (hand_of e.job) held }
   changed e f (MapsTaken packet news brought) held = record { up = omega arith; reads = held }
   changed e f (FeedRenewed slot) held = record { up = omega arith; reads = held }
   changed e f (AckTaken slot applied) held = record { up = omega arith; reads = held }
@@ -225,8 +225,8 @@ module _ (first : Cleaner) (what : Do) (h : PhaseUp first.phase) where
       subst (λ n. r.ask ≤ n) s.is_last (subst (ReadsUpTo (last_in e)) reads (subst (HandUp (last_in e)) same s.serves))
   given_up last e effect _ s = tt
 
-  put_so : (last : ℕ) (e : Emptying) (i : LogIn) → Stands last (Serving e) → Draws last (serves_on (puts e i))
-  unfolding puts
+  put_so : (last : ℕ) (e : Emptying) (i : LogIn) → Stands last (Serving e) → Draws last (serves_on (emptying_put e i))
+  unfolding emptying_put
   put_so last e i s = record {
     up = (let fact = s.is_last in omega arith);
     serves = s.serves;
@@ -238,8 +238,8 @@ module _ (first : Cleaner) (what : Do) (h : PhaseUp first.phase) where
   noted_so last (Opening l o) items s = record { is_last = s.is_last; serves = tt }
   noted_so last (Serving e) items s = record { is_last = s.is_last; serves = s.serves }
 
-  restarted : (servers : ℕ) (l : Lasting) (number : ℕ) → Draws l.questions.last (restarts servers l number)
-  unfolding restarts
+  restarted : (servers : ℕ) (l : Lasting) (number : ℕ) → Draws l.questions.last (restart servers l number)
+  unfolding restart
   restarted servers l number = record { up = last_up l.questions.last; serves = tt; does = (tt, tt) }
 
   opened : (l : Lasting) (o : openings.Opening) (x : Went) → first.phase ≡ Opening l o → OpenedBy what l o x → WentUp l.questions.last x
@@ -287,7 +287,7 @@ module _ (first : Cleaner) (what : Do) (h : PhaseUp first.phase) where
     sends = λ last e f m due s. tt;
     files = λ last e end rows due s. record {
       up = (let fact = s.is_last in omega arith);
-      serves = job_moved_so (last_in e) e.job s.serves;
+      serves = note_moved_so (last_in e) e.job s.serves;
       does = (tt, all_pushed_none e.promised.managers (fed e end rows).feed (last_in e));
     };
   }
@@ -298,7 +298,7 @@ module _ (first : Cleaner) (what : Do) (h : PhaseUp first.phase) where
     answers = λ last number a due. tt;
     falls = λ last p s. record { up = (let fact = s.is_last in omega arith); serves = tt; does = tt };
     restarts = λ last l number taken begins next s.
-        subst (λ n. Draws n (restarts first.peers.servers l number)) s.is_last (restarted first.peers.servers l number);
+        subst (λ n. Draws n (restart first.peers.servers l number)) s.is_last (restarted first.peers.servers l number);
     opens = λ last l o x later taken same by s.
         subst (λ n. Draws n (record { state = came_to (record l { questions = x.questions }) x.progress; outs = x.effects })) s.is_last
         (came_so l x x.progress (opened l o x same by));

@@ -5,13 +5,13 @@ use Rattle.xfs_base.proofs.Booleans.{by_test, and_first, and_second}
 use Rattle.xfs_base.specs.Steps.{still}
 use Rattle.xfs_base.proofs.Alls.{all_append}
 use Rattle.cleaner_serving.specs.declared.emptying.Emptying.{Emptying}
-use Rattle.cleaner_node.specs.CleanerEvents.{Went_to, crashes, after_opening, opened_on, restarts, down_wishes, opening_wishes, serving_wishes, begun_life, wish_at, lasting_of, down_at, opening_at, serving_at, on_begin, hears, on_deliver, on_time, happens, phase_room, takes}
+use Rattle.cleaner_node.specs.CleanerEvents.{Went_to, crash, after_opening, opened_on, restart, down_wishes, opening_wishes, serving_wishes, begun_life, wish_at, lasting_of, down_at, opening_at, serving_at, on_begin, cleaner_hear, on_deliver, on_time, happens, phase_has_room, takes}
 use Rattle.cleaner_node.specs.declared.cleaner.Phase.{Phase}
 use Rattle.cleaner_node.specs.declared.cleaner.Phase.TheVariants.{Down, Opening, Serving}
 use Rattle.cleaner_node.specs.declared.cleaner.Wish.{Wish}
 use Rattle.cleaner_node.specs.declared.cleaner.Wish.TheVariants.{Crash, Restart, Clean}
 use Rattle.cleaner_job.specs.declared.lasting.Lasting.{Lasting}
-use Rattle.cleaner_job.specs.Lasting.{lasting_room}
+use Rattle.cleaner_job.specs.Lasting.{lasting_has_room}
 use Rattle.log_owner.specs.declared.known.Known.{Known}
 use Rattle.log_owner.specs.declared.opened.Progress.{Progress}
 use Rattle.log_owner.specs.declared.opened.Progress.TheVariants as progress
@@ -21,7 +21,7 @@ use Rattle.log_owner.specs.declared.opening.Stage.{Stage}
 use Rattle.log_owner.specs.declared.opening.Stage.TheVariants as stage
 use Rattle.log_owner.specs.Opening as opening
 use Rattle.log_owner.specs.Opening.{Went}
-use Rattle.log_owner.specs.Sending.{pushes_all}
+use Rattle.log_owner.specs.Sending.{push_all}
 use Rattle.node_base.specs.Beginning.{next_item, answers_unanswered}
 use Rattle.node_base.specs.declared.effects.Effect.TheVariants.{Answer}
 use Rattle.node_base.specs.declared.peers.Peers.{Peers}
@@ -70,7 +70,7 @@ module _ (what : Do) where
         boot = refl;
         scan = λ later e. absurd cc;
         does = all_append (DoesSo k s what last t.by) w.effects _ t.goes.does
-            (all_append (DoesSo k s what last t.by) (pushes_all r.promised.managers r.feed) (answers_unanswered l.items.unanswered answer.Done)
+            (all_append (DoesSo k s what last t.by) (push_all r.promised.managers r.feed) (answers_unanswered l.items.unanswered answer.Done)
             (pushed_so k s what last t.by r.promised.managers r.feed)
             (answered_so k s what last t.by l.items.unanswered answer.Done));
       }
@@ -98,13 +98,13 @@ module _ (what : Do) where
   -- ---- an item begins
 
   down_wish : (servers : ℕ) (l : Lasting) (number : ℕ) (wish : Wish) → IsFresh (cleaners_scan (down_wishes servers l number wish).state)
-  unfolding restarts
+  unfolding restart
   down_wish servers l number Restart = λ later e. ap (λ (x : Scanning). x.scan.stage) (some_is _ later e)
   down_wish servers l number Crash = λ later e. absurd cc
   down_wish servers l number (Clean count) = λ later e. absurd cc
 
   opening_wish : (l : Lasting) (o : openings.Opening) (number : ℕ) (wish : Wish) → PhaseSo (Opening l o) (opening_wishes l o number wish)
-  unfolding crashes
+  unfolding crash
   opening_wish l o number Crash =
       stage_falls what o.known l.questions.last l.inc o.stage (answers_unanswered l.items.unanswered answer.Cut ++ Answer number answer.Done ∷ [])
       (λ s. all_append (DoesSo o.known s what l.questions.last None) (answers_unanswered l.items.unanswered answer.Cut) (Answer number answer.Done ∷ [])
@@ -113,7 +113,7 @@ module _ (what : Do) where
   opening_wish l o number (Clean count) = stage_still what o.known l.questions.last l.inc o.stage (Answer number answer.Down ∷ []) (λ s. (tt, tt))
 
   serving_wish : (e : Emptying) (number : ℕ) (wish : Wish) → IsFresh (cleaners_scan (serving_wishes e number wish).state)
-  unfolding crashes
+  unfolding crash
   serving_wish e number Crash = λ later same. absurd cc
   serving_wish e number Restart = λ later same. absurd cc
   serving_wish e number (Clean count) = λ later same. absurd cc
@@ -140,9 +140,9 @@ module _ (what : Do) where
 
 heard_so : (l : Lasting) (k : Known) (at : Stage) (packet : Packet) → has_room l.questions.last ≡ true
     → StageTurn k l.questions.last l.inc at (Deliver packet)
-    (cleaners_scan (opened_on l (opening.on_packet (record { known = k; stage = at }) l.questions packet)).state)
-    (lasting_of (opened_on l (opening.on_packet (record { known = k; stage = at }) l.questions packet)).state).inc
-    (opened_on l (opening.on_packet (record { known = k; stage = at }) l.questions packet)).outs
+    (cleaners_scan (opened_on l (opening.opening_take (record { known = k; stage = at }) l.questions packet)).state)
+    (lasting_of (opened_on l (opening.opening_take (record { known = k; stage = at }) l.questions packet)).state).inc
+    (opened_on l (opening.opening_take (record { known = k; stage = at }) l.questions packet)).outs
 heard_so l k (stage.Scanning s) packet room =
     opened_so (Deliver packet) l k s l.questions.last l.questions _ (packet_turns k s l.questions room packet)
 heard_so l k (stage.Settling s) packet room = settled_so (Deliver packet) l l.questions _ (settled_packet k s l.questions packet)
@@ -155,11 +155,11 @@ ticked_so : (l : Lasting) (k : Known) (at : Stage) → has_room l.questions.last
 ticked_so l k (stage.Scanning s) room = opened_so Tick l k s l.questions.last l.questions _ (tick_turns k s l.questions room)
 ticked_so l k (stage.Settling s) room = settled_so Tick l l.questions _ (settled_tick k s l.questions)
 
-hears_so : (p : Phase) (packet : Packet) → has_room (lasting_of p).questions.last ≡ true → PhaseSo (Deliver packet) p (hears p packet)
-unfolding hears
-hears_so (Down l) packet room = λ later e. absurd cc
-hears_so (Opening l o) packet room = heard_so l o.known o.stage packet room
-hears_so (Serving e) packet room = λ later same. absurd cc
+cleaner_hear_so : (p : Phase) (packet : Packet) → has_room (lasting_of p).questions.last ≡ true → PhaseSo (Deliver packet) p (cleaner_hear p packet)
+unfolding cleaner_hear
+cleaner_hear_so (Down l) packet room = λ later e. absurd cc
+cleaner_hear_so (Opening l o) packet room = heard_so l o.known o.stage packet room
+cleaner_hear_so (Serving e) packet room = λ later same. absurd cc
 
 time_so : (p : Phase) → has_room (lasting_of p).questions.last ≡ true → PhaseSo Tick p (on_time p)
 unfolding on_time
@@ -167,22 +167,22 @@ time_so (Down l) room = λ later e. absurd cc
 time_so (Opening l o) room = ticked_so l o.known o.stage room
 time_so (Serving e) room = λ later same. absurd cc
 
-its_room : (p : Phase) → phase_room p ≡ true → has_room (lasting_of p).questions.last ≡ true
+its_room : (p : Phase) → phase_has_room p ≡ true → has_room (lasting_of p).questions.last ≡ true
 its_room (Down l) room = and_second (has_room l.inc) (has_room l.questions.last) room
 its_room (Opening l o) room =
-    and_second (has_room l.inc) (has_room l.questions.last) (and_first (lasting_room l) (opening.opening_room o) room)
+    and_second (has_room l.inc) (has_room l.questions.last) (and_first (lasting_has_room l) (opening.opening_has_room o) room)
 its_room (Serving e) room =
-    and_second (has_room e.lasting.inc) (has_room e.lasting.questions.last) (and_first (lasting_room e.lasting) _ room)
+    and_second (has_room e.lasting.inc) (has_room e.lasting.questions.last) (and_first (lasting_has_room e.lasting) _ room)
 
 happens_so : (peers : Peers) (p : Phase) (what : Do) → has_room (lasting_of p).questions.last ≡ true → PhaseSo what p (happens peers p what)
 unfolding on_deliver
 happens_so peers p Begin room = begin_so Begin peers.servers p
 happens_so peers p (Deliver packet) room =
-    by_test (λ (x : Went_to). PhaseSo (Deliver packet) p x) (is_well_formed peers packet) (hears p packet) (still p) (λ t. hears_so p packet room)
+    by_test (λ (x : Went_to). PhaseSo (Deliver packet) p x) (is_well_formed peers packet) (cleaner_hear p packet) (still p) (λ t. cleaner_hear_so p packet room)
     (λ t. still_so (Deliver packet) p)
 happens_so peers p Tick room = time_so p room
 
 pub cleaner_turns : (peers : Peers) (p : Phase) (what : Do) → PhaseSo what p (takes peers p what)
 cleaner_turns peers p what =
-    by_test (λ (x : Went_to). PhaseSo what p x) (phase_room p) (happens peers p what) (still p) (λ room. happens_so peers p what (its_room p room))
+    by_test (λ (x : Went_to). PhaseSo what p x) (phase_has_room p) (happens peers p what) (still p) (λ room. happens_so peers p what (its_room p room))
     (λ room. still_so what p)

@@ -9,22 +9,22 @@ use Rattle.client_log.specs.declared.output.Out.{Out as LogOut}
 use Rattle.client_log.specs.declared.output.Out.TheVariants as log_out
 use Rattle.client_log.specs.Transition as log
 use Rattle.client_call.specs.declared.call.Call.{Call}
-use Rattle.client_call.specs.Reads.{reading_in, call_with, is_fetched, kept_while, fetches, target_of, same_target}
+use Rattle.client_call.specs.Reads.{reading_in, set_reading, is_fetched, kept_while, fetches, target_of, same_target}
 use Rattle.client_serving.specs.declared.serving.Serving.{Serving}
-use Rattle.client_serving.specs.Follow.{evicts, notes_clean, notes_gone, notes_copy, seals, follows_one, follows, hands, takes_back}
-use Rattle.client_serving.specs.Reads.{with_reading, ends_reading, draws, loses, loses_at, group_in, begins_over, begins, confirmed_by, ask_after, drawn_after, confirms, reads_over, reads}
+use Rattle.client_serving.specs.Follow.{evicts, note_clean, note_gone, note_copy, serving_seal, follow_one, serving_follow, hand, take_back}
+use Rattle.client_serving.specs.Reads.{with_reading, ends_reading, draws, loses, lose_at, group_in, begins_over, begin_reading, confirmed_by, ask_after, drawn_after, serving_confirm, reads_over, serving_read}
 use Rattle.client_serving.specs.Sends.{Done, gives, deltas, wants, gaves}
-use Rattle.coop_cache.specs.Transition.{cleaned, left}
+use Rattle.coop_cache.specs.Transition.{cache_clean, cache_leave}
 use Rattle.coop_cache.specs.declared.output.Out as cache_out
 use Rattle.coop_cache.specs.declared.output.Out.TheVariants.{Victim}
 use Rattle.delta_feed.specs.declared.output.Out.{Out as Range_out}
 use Rattle.delta_feed.specs.declared.output.Out.TheVariants.{Range}
 use Rattle.delta_feed.specs.FeedState.{FeedState}
-use Rattle.delta_feed.specs.Transition.{pushed, ticked}
+use Rattle.delta_feed.specs.Transition.{feed_push, feed_tick}
 use Rattle.group_map.specs.declared.group.Group.{Group}
 use Rattle.log_owner.specs.declared.promised.Managers.{Managers}
 use Rattle.log_owner.specs.Opening.{stored}
-use Rattle.log_owner.specs.Sending.{fetch, pushes, pushes_all, range}
+use Rattle.log_owner.specs.Sending.{fetch, sending_push, push_all, range}
 use Rattle.node_base.specs.Asking.{next_ask}
 use Rattle.node_base.specs.Beginning.{answers_unanswered}
 use Rattle.node_base.specs.declared.effects.Effect.{Effect}
@@ -34,7 +34,7 @@ use Rattle.segment_reading.specs.declared.reading.Stage.{Stage}
 use Rattle.segment_reading.specs.declared.reading.Stage.TheVariants.{Asking, Between, Doubted, Over}
 use Rattle.segment_reading.specs.declared.target.BlockAt.{BlockAt}
 use Rattle.segment_reading.specs.declared.target.Target.{Target}
-use Rattle.segment_reading.specs.Reading.{ReadingState, begun, to_ask, on_confirmed}
+use Rattle.segment_reading.specs.Reading.{ReadingState, reading_start, reading_unanswered, on_confirmed}
 use Rattle.segment_reading.specs.Reading as rounds
 use Rattle.token_client.specs.declared.input.In as inputs
 use Rattle.token_client.specs.declared.input.In.TheVariants as input
@@ -154,14 +154,14 @@ fold_stays last f each s (x ∷ xs) h = fold_stays last f each (f s x) xs (each 
 
 -- ---- what bears no fetch
 
-pub pushed_none : (managers : Managers) (feed : FeedState) (slot highest : ℕ) → AllUpTo highest (pushes managers feed slot)
-pushed_none managers feed slot highest = all_map (UpTo highest) (range managers) one (pushed feed slot)
+pub pushed_none : (managers : Managers) (feed : FeedState) (slot highest : ℕ) → AllUpTo highest (sending_push managers feed slot)
+pushed_none managers feed slot highest = all_map (UpTo highest) (range managers) one (feed_push feed slot)
   where
     one : (x : Range_out) → UpTo highest (range managers x)
     one (Range slot first upto rows) = tt
 
-pub all_pushed_none : (managers : Managers) (feed : FeedState) (highest : ℕ) → AllUpTo highest (pushes_all managers feed)
-all_pushed_none managers feed highest = all_map (UpTo highest) (range managers) one (ticked feed)
+pub all_pushed_none : (managers : Managers) (feed : FeedState) (highest : ℕ) → AllUpTo highest (push_all managers feed)
+all_pushed_none managers feed highest = all_map (UpTo highest) (range managers) one (feed_tick feed)
   where
     one : (x : Range_out) → UpTo highest (range managers x)
     one (Range slot first upto rows) = tt
@@ -175,7 +175,7 @@ stored_none highest (log_out.Settled end rows) = tt
 
 -- ---- the reading of the open call
 
-call_so : (last : ℕ) (call : Option Call) (r : Option ReadingState) → ReadsUpTo last r → ReadsUpTo last (reading_in (call_with call r))
+call_so : (last : ℕ) (call : Option Call) (r : Option ReadingState) → ReadsUpTo last r → ReadsUpTo last (reading_in (set_reading call r))
 call_so last None r fact = tt
 call_so last (Some call) r fact = fact
 
@@ -195,57 +195,57 @@ evicts_so : (last : ℕ) (s : Serving) (o : cache_out.Out) → Stays last s → 
 unfolding evicts
 evicts_so last s (Victim block) h = record { same = h.same; reads = h.reads }
 
-pub notes_clean_so : (last : ℕ) (s : Serving) (block : BlockId) → Stays last s → Stays last (notes_clean s block)
-unfolding notes_clean
-notes_clean_so last s block h =
-    fold_stays last evicts (evicts_so last) (record s { cache = (cleaned s.cache block).state }) (cleaned s.cache block).outs
+pub note_clean_so : (last : ℕ) (s : Serving) (block : BlockId) → Stays last s → Stays last (note_clean s block)
+unfolding note_clean
+note_clean_so last s block h =
+    fold_stays last evicts (evicts_so last) (record s { cache = (cache_clean s.cache block).state }) (cache_clean s.cache block).outs
     (record { same = h.same; reads = h.reads })
 
-pub notes_gone_so : (last : ℕ) (s : Serving) (block : BlockId) → Stays last s → Stays last (notes_gone s block)
-unfolding notes_gone
-notes_gone_so last s block h =
-    by_test (Stays last) (is_nothing (held_of s.tokens.blocks block).mode) (record s { cache = left s.cache block }) s
+pub note_gone_so : (last : ℕ) (s : Serving) (block : BlockId) → Stays last s → Stays last (note_gone s block)
+unfolding note_gone
+note_gone_so last s block h =
+    by_test (Stays last) (is_nothing (held_of s.tokens.blocks block).mode) (record s { cache = cache_leave s.cache block }) s
     (λ _. record { same = h.same; reads = h.reads }) (λ _. h)
 
-notes_copy_so : (last : ℕ) (s : Serving) (block : BlockId) → Stays last s → Stays last (notes_copy s block)
-unfolding notes_copy
-notes_copy_so last s block h =
-    by_test (Stays last) (same_mode (held_of s.tokens.blocks block).mode Copy) (notes_clean s block) s (λ _. notes_clean_so last s block h) (λ _. h)
+note_copy_so : (last : ℕ) (s : Serving) (block : BlockId) → Stays last s → Stays last (note_copy s block)
+unfolding note_copy
+note_copy_so last s block h =
+    by_test (Stays last) (same_mode (held_of s.tokens.blocks block).mode Copy) (note_clean s block) s (λ _. note_clean_so last s block h) (λ _. h)
 
 -- ---- the log
 
-pub seals_so : (s : Serving) → At s → Goes (last_in s) (seals s)
-unfolding seals
-seals_so s h = says (record s { log = (log.on_seal s.log).state }) (flat_map stored (log.on_seal s.log).outs) h
+pub serving_seal_so : (s : Serving) → At s → Goes (last_in s) (serving_seal s)
+unfolding serving_seal
+serving_seal_so s h = says (record s { log = (log.on_seal s.log).state }) (flat_map stored (log.on_seal s.log).outs) h
     (all_flat_map (UpTo (last_in s)) stored (stored_none (last_in s)) (log.on_seal s.log).outs)
 
 -- ---- readings
 
 fetches_so : (last : ℕ) (r : ReadingState) → r.ask ≤ last → AllUpTo last (fetches r)
-fetches_so last r small = all_map (UpTo last) (fetch r.target.seg.name r.ask) (λ server. small) (to_ask r)
+fetches_so last r small = all_map (UpTo last) (fetch r.target.seg.name r.ask) (λ server. small) (reading_unanswered r)
 
 pub loses_so : (s : Serving) (block : BlockId) (seg : SegName) → At s → Goes (last_in s) (loses s block seg)
 unfolding loses
 loses_so s block seg h =
     record { up = omega arith; reads = tt; does = (tt, answered_none s.lasting.items.unanswered (answer.Lost seg) (last_in s)) }
 
-loses_at_so : (s : Serving) (at : Option BlockAt) (seg : SegName) → At s → Goes (last_in s) (loses_at s at seg)
-loses_at_so s None seg h = rests (last_in s) s (stays_at s h)
-loses_at_so s (Some at) seg h = loses_so s at.block seg h
+lose_at_so : (s : Serving) (at : Option BlockAt) (seg : SegName) → At s → Goes (last_in s) (lose_at s at seg)
+lose_at_so s None seg h = rests (last_in s) s (stays_at s h)
+lose_at_so s (Some at) seg h = loses_so s at.block seg h
 
 begins_over_so : (s : Serving) (target : Target) (group : Option Group) → At s → Goes (last_in s) (begins_over s target group)
 begins_over_so s target None h = rests (last_in s) s (stays_at s h)
 begins_over_so s target (Some group) h =
-    let r : ReadingState = begun target group (next_ask s.lasting.questions) in
+    let r : ReadingState = reading_start target group (next_ask s.lasting.questions) in
     record {
       up = last_up (last_in s);
       reads = read_so (draws s) (Some r) (omega arith);
       does = fetches_so (last_in (draws s)) r (omega arith);
     }
 
-begins_so : (s : Serving) (target : Target) → At s → Goes (last_in s) (begins s target)
-unfolding begins
-begins_so s target h = begins_over_so s target (group_in s.maps.groups target.seg.group) h
+begin_reading_so : (s : Serving) (target : Target) → At s → Goes (last_in s) (begin_reading s target)
+unfolding begin_reading
+begin_reading_so s target h = begins_over_so s target (group_in s.maps.groups target.seg.group) h
 
 confirms_at : (s : Serving) (r : ReadingState) (at : Stage) → r.ask ≤ last_in s → At s
     → Goes (last_in s) (confirmed_by (drawn_after s at) (rounds.goes_on r (ask_after s r.ask at) at))
@@ -257,22 +257,22 @@ confirms_at s r Between small h =
       reads = read_so (draws s) (Some q) (omega arith);
       does = fetches_so (last_in (draws s)) q (omega arith);
     }
-confirms_at s r Doubted small h = loses_at_so s r.target.block r.target.seg.name h
+confirms_at s r Doubted small h = lose_at_so s r.target.block r.target.seg.name h
 confirms_at s r Over small h = rests (last_in s) (with_reading s (Some r)) (record { same = refl; reads = read_so s (Some r) small })
 
-confirms_so : (s : Serving) (r : ReadingState) → r.ask ≤ last_in s → At s → Goes (last_in s) (confirms s r)
-unfolding confirms on_confirmed
-confirms_so s r small h = confirms_at s r r.stage small h
+serving_confirm_so : (s : Serving) (r : ReadingState) → r.ask ≤ last_in s → At s → Goes (last_in s) (serving_confirm s r)
+unfolding serving_confirm on_confirmed
+serving_confirm_so s r small h = confirms_at s r r.stage small h
 
 reads_over_so : (s : Serving) (target : Target) (reading : Option ReadingState) → ReadsUpTo (last_in s) reading → At s
     → Goes (last_in s) (reads_over s target reading)
-reads_over_so s target None was h = begins_so s target h
+reads_over_so s target None was h = begin_reading_so s target h
 reads_over_so s target (Some r) was h =
-    by_test (Goes (last_in s)) (same_target r.target target) (confirms s r) (begins s target) (λ _. confirms_so s r was h) (λ _. begins_so s target h)
+    by_test (Goes (last_in s)) (same_target r.target target) (serving_confirm s r) (begin_reading s target) (λ _. serving_confirm_so s r was h) (λ _. begin_reading_so s target h)
 
-reads_so : (s : Serving) (block : BlockId) (place : Place) → At s → Goes (last_in s) (reads s block place)
-unfolding reads
-reads_so s block place h =
+serving_read_so : (s : Serving) (block : BlockId) (place : Place) → At s → Goes (last_in s) (serving_read s block place)
+unfolding serving_read
+serving_read_so s block place h =
     by_test (Goes (last_in s)) (is_none s.call) (still s) (reads_over (with_reading s None) (target_of block place) (reading_in s.call))
     (λ _. rests (last_in s) s (stays_at s h))
     (λ _. reads_over_so (with_reading s None) (target_of block place) (reading_in s.call) h (read_so s None tt))
@@ -284,30 +284,30 @@ wants_none s block req again highest mode =
     all_append (UpTo highest) (cond (again == 0) (deltas s block) []) _
     (by_test (AllUpTo highest) (again == 0) (deltas s block) [] (λ _. pushed_none s.managers s.feed _ highest) (λ _. tt)) (tt, tt)
 
-follows_one_so : (s : Serving) (o : outputs.Out) → At s → Goes (last_in s) (follows_one s o)
-unfolding follows_one
-follows_one_so s (output.Want block req again mode) h = says s (wants s block req again mode) h (wants_none s block req again (last_in s) mode)
-follows_one_so s (output.Gave block stamp) h =
+follow_one_so : (s : Serving) (o : outputs.Out) → At s → Goes (last_in s) (follow_one s o)
+unfolding follow_one
+follow_one_so s (output.Want block req again mode) h = says s (wants s block req again mode) h (wants_none s block req again (last_in s) mode)
+follow_one_so s (output.Gave block stamp) h =
     says s (gaves s block stamp) h
     (all_append (UpTo (last_in s)) (deltas s block) _ (pushed_none s.managers s.feed _ (last_in s)) (tt, tt))
-follows_one_so s (output.Flush block) h = seals_so s h
-follows_one_so s (output.Read block place) h = reads_so s block place h
-follows_one_so s (output.Ready block) h = rests (last_in s) (notes_copy s block) (notes_copy_so (last_in s) s block (stays_at s h))
-follows_one_so s (output.Supply block ver value) h = rests (last_in s) s (stays_at s h)
+follow_one_so s (output.Flush block) h = serving_seal_so s h
+follow_one_so s (output.Read block place) h = serving_read_so s block place h
+follow_one_so s (output.Ready block) h = rests (last_in s) (note_copy s block) (note_copy_so (last_in s) s block (stays_at s h))
+follow_one_so s (output.Supply block ver value) h = rests (last_in s) s (stays_at s h)
 
-pub follows_so : (s : Serving) (outs : List outputs.Out) → At s → Goes (last_in s) (follows s outs)
-unfolding follows
-follows_so s outs h = steps_go follows_one follows_one_so s outs h
+pub serving_follow_so : (s : Serving) (outs : List outputs.Out) → At s → Goes (last_in s) (serving_follow s outs)
+unfolding serving_follow
+serving_follow_so s outs h = steps_go follow_one follow_one_so s outs h
 
-pub hands_so : (s : Serving) (i : inputs.In) → At s → Goes (last_in s) (hands s i)
-unfolding hands
-hands_so s i h =
+pub hand_so : (s : Serving) (i : inputs.In) → At s → Goes (last_in s) (hand s i)
+unfolding hand
+hand_so s i h =
     let r : client.Done = client.transition s.tokens i in
-    follows_so (ends_reading (record s { tokens = r.state })) r.outs (ends_so (record s { tokens = r.state }) h)
+    serving_follow_so (ends_reading (record s { tokens = r.state })) r.outs (ends_so (record s { tokens = r.state }) h)
 
-pub takes_back_so : (s : Serving) (block : BlockId) (stamp : Stamp) (keep : _) → At s → Goes (last_in s) (takes_back s block stamp keep)
-unfolding takes_back
-takes_back_so s block stamp keep h =
-    let d : Done = hands s (input.Recalled block stamp keep) in
-    let a : Goes (last_in s) d = hands_so s (input.Recalled block stamp keep) h in
-    left_at (last_in s) d (notes_gone d.state block) a (notes_gone_so (last_in d.state) d.state block (stays_at d.state a.reads))
+pub take_back_so : (s : Serving) (block : BlockId) (stamp : Stamp) (keep : _) → At s → Goes (last_in s) (take_back s block stamp keep)
+unfolding take_back
+take_back_so s block stamp keep h =
+    let d : Done = hand s (input.Recalled block stamp keep) in
+    let a : Goes (last_in s) d = hand_so s (input.Recalled block stamp keep) h in
+    left_at (last_in s) d (note_gone d.state block) a (note_gone_so (last_in d.state) d.state block (stays_at d.state a.reads))

@@ -8,12 +8,12 @@ use Rattle.xfs_base.proofs.Alls.{all_append, all_map}
 use Rattle.client_node.specs.declared.client.Client.{Client}
 use Rattle.client_node.specs.declared.phase.Phase.TheVariants.{Down, Opening, Serving as Serves}
 use Rattle.client_node.specs.declared.phase.Phase.{Phase}
-use Rattle.client_node.specs.Phases.{Went_to, after_opening, opened_on, item_begins, with_begun, wish_of, lasting_of, begins_item, on_begin, on_deliver, on_time, happens, phase_room, client_room, takes}
+use Rattle.client_node.specs.Phases.{Went_to, phase_after, opened_on, item_begins, with_begun, wish_of, lasting_of, begins_item, on_begin, on_deliver, client_tick, happens, phase_has_room, client_has_room, takes}
 use Rattle.client_serving.specs.declared.lasting.Lasting.{Lasting}
 use Rattle.client_serving.specs.declared.serving.Serving.{Serving}
 use Rattle.delta_feed.specs.declared.output.Out.{Out}
 use Rattle.delta_feed.specs.declared.output.Out.TheVariants.{Range}
-use Rattle.delta_feed.specs.Transition.{ticked}
+use Rattle.delta_feed.specs.Transition.{feed_tick}
 use Rattle.log_owner.specs.declared.known.Known.{Known}
 use Rattle.log_owner.specs.declared.opened.Progress.{Progress}
 use Rattle.log_owner.specs.declared.opened.Progress.TheVariants as progress
@@ -24,11 +24,11 @@ use Rattle.log_owner.specs.declared.opening.Stage.TheVariants as stage
 use Rattle.log_owner.specs.declared.promised.Managers.{Managers}
 use Rattle.log_owner.specs.Opening as opening
 use Rattle.log_owner.specs.Opening.{Went}
-use Rattle.log_owner.specs.Sending.{pushes_all, range}
+use Rattle.log_owner.specs.Sending.{push_all, range}
 use Rattle.delta_feed.specs.FeedState.{FeedState}
 use Rattle.log_scan.specs.declared.input.In.{In as Input}
 use Rattle.log_scan.specs.declared.stage.Stage.TheVariants.{Hails}
-use Rattle.node_base.specs.Beginning.{next_item, begun, answers_unanswered, work_at}
+use Rattle.node_base.specs.Beginning.{next_item, items_begin, answers_unanswered, work_at}
 use Rattle.node_base.specs.declared.effects.Effect.{Effect}
 use Rattle.node_base.specs.declared.effects.Effect.TheVariants.{Answer}
 use Rattle.node_base.specs.declared.questions.Questions.{Questions}
@@ -62,8 +62,8 @@ some_is a b e = cc
 
 -- what is pushed is no fetch
 pub pushed_so : (k : Known) (s : Scanning) (what : Do) (last : ℕ) (by : Option Input) (managers : Managers) (feed : FeedState)
-    → AllByRecursion (DoesSo k s what last by) (pushes_all managers feed)
-pushed_so k s what last by managers feed = all_map (DoesSo k s what last by) (range managers) one (ticked feed)
+    → AllByRecursion (DoesSo k s what last by) (push_all managers feed)
+pushed_so k s what last by managers feed = all_map (DoesSo k s what last by) (range managers) one (feed_tick feed)
   where
     one : (x : Out) → DoesSo k s what last by (range managers x)
     one (Range slot first upto rows) = tt
@@ -106,9 +106,9 @@ module _ (what : Do) where
   opened_so l capacity k s last q w t = by_progress w.progress t.goes.progress
     where
       by_progress : (p : Progress) → ProgressSo (After k s what last t.by) (DoesSo k s what last t.by) q p
-          → Turning k s what last l.inc (clients_scan (after_opening (record l { questions = w.questions }) capacity p).state)
-          (lasting_of (after_opening (record l { questions = w.questions }) capacity p).state).inc
-          (w.effects ++ (after_opening (record l { questions = w.questions }) capacity p).outs)
+          → Turning k s what last l.inc (clients_scan (phase_after (record l { questions = w.questions }) capacity p).state)
+          (lasting_of (phase_after (record l { questions = w.questions }) capacity p).state).inc
+          (w.effects ++ (phase_after (record l { questions = w.questions }) capacity p).outs)
       by_progress (progress.Opening o) so = record {
         by = t.by;
         boot = refl;
@@ -121,7 +121,7 @@ module _ (what : Do) where
         scan = λ later e. absurd cc;
         does = all_append (DoesSo k s what last t.by) w.effects _ t.goes.does (
           tt,
-          all_append (DoesSo k s what last t.by) (pushes_all r.promised.managers r.feed) _ (pushed_so k s what last t.by r.promised.managers r.feed)
+          all_append (DoesSo k s what last t.by) (push_all r.promised.managers r.feed) _ (pushed_so k s what last t.by r.promised.managers r.feed)
               (answered_so k s what last t.by l.items.unanswered answer.Done),
         );
       }
@@ -141,7 +141,7 @@ module _ (what : Do) where
       by_stage (stage.Settling t) so = λ later e. absurd cc
 
       by_progress : (p : Progress) → ProgressSo (λ x. ⊥) (λ e. Unit {0}) q p
-          → IsFresh (clients_scan (after_opening (record l { questions = w.questions }) capacity p).state)
+          → IsFresh (clients_scan (phase_after (record l { questions = w.questions }) capacity p).state)
       by_progress (progress.Opening o) so = by_stage o.stage so
       by_progress (progress.Opened r) so = λ later e. absurd cc
       by_progress (progress.Lost seg) so = λ later e. absurd cc
@@ -156,9 +156,9 @@ module _ (what : Do) where
   opening_begins_so : (l : Lasting) (o : openings.Opening) (number : ℕ) (servers : ℕ) (wanted : Option Work)
       → PhaseSo (Opening l o) (item_begins servers (with_begun (Opening l o)) number (wish_of wanted))
   opening_begins_so l o number servers (Some (work.Crash node)) =
-      stage_falls o.known l.questions.last l.inc o.stage (answers_unanswered (begun l.items).unanswered answer.Cut ++ Answer number answer.Done ∷ [])
-      (λ s. all_append (DoesSo o.known s what l.questions.last None) (answers_unanswered (begun l.items).unanswered answer.Cut) (Answer number answer.Done ∷ [])
-      (answered_so o.known s what l.questions.last None (begun l.items).unanswered answer.Cut) (tt, tt))
+      stage_falls o.known l.questions.last l.inc o.stage (answers_unanswered (items_begin l.items).unanswered answer.Cut ++ Answer number answer.Done ∷ [])
+      (λ s. all_append (DoesSo o.known s what l.questions.last None) (answers_unanswered (items_begin l.items).unanswered answer.Cut) (Answer number answer.Done ∷ [])
+      (answered_so o.known s what l.questions.last None (items_begin l.items).unanswered answer.Cut) (tt, tt))
   opening_begins_so l o number servers (Some (work.Restart node)) =
       stage_still o.known l.questions.last l.inc o.stage (Answer number answer.Up ∷ []) (λ s. (tt, tt))
   opening_begins_so l o number servers (Some _) =
@@ -197,9 +197,9 @@ module _ (what : Do) where
 
 heard_so : (capacity : ℕ) (l : Lasting) (k : Known) (at : Stage) (packet : Packet) → has_room l.questions.last ≡ true
     → StageTurn k l.questions.last l.inc at (Deliver packet)
-    (clients_scan (opened_on l capacity (opening.on_packet (record { known = k; stage = at }) l.questions packet)).state)
-    (lasting_of (opened_on l capacity (opening.on_packet (record { known = k; stage = at }) l.questions packet)).state).inc
-    (opened_on l capacity (opening.on_packet (record { known = k; stage = at }) l.questions packet)).outs
+    (clients_scan (opened_on l capacity (opening.opening_take (record { known = k; stage = at }) l.questions packet)).state)
+    (lasting_of (opened_on l capacity (opening.opening_take (record { known = k; stage = at }) l.questions packet)).state).inc
+    (opened_on l capacity (opening.opening_take (record { known = k; stage = at }) l.questions packet)).outs
 heard_so capacity l k (stage.Scanning s) packet room =
     opened_so (Deliver packet) l capacity k s l.questions.last l.questions _ (packet_turns k s l.questions room packet)
 heard_so capacity l k (stage.Settling s) packet room =
@@ -221,8 +221,8 @@ deliver_so capacity (Down l) packet room = λ later e. absurd cc
 deliver_so capacity (Opening l o) packet room = heard_so capacity l o.known o.stage packet room
 deliver_so capacity (Serves s) packet room = λ later e. absurd cc
 
-time_so : (capacity : ℕ) (p : Phase) → has_room (lasting_of p).questions.last ≡ true → PhaseSo Tick p (on_time capacity p)
-unfolding on_time
+time_so : (capacity : ℕ) (p : Phase) → has_room (lasting_of p).questions.last ≡ true → PhaseSo Tick p (client_tick capacity p)
+unfolding client_tick
 time_so capacity (Down l) room = λ later e. absurd cc
 time_so capacity (Opening l o) room = ticked_so capacity l o.known o.stage room
 time_so capacity (Serves s) room = λ later e. absurd cc
@@ -236,8 +236,8 @@ happens_so client Tick room = time_so client.cache client.phase room
 
 pub client_turns : (client : Client) (what : Do) → PhaseSo what client.phase (takes client what)
 client_turns client what =
-    by_test (λ (x : Went_to). PhaseSo what client.phase x) (client_room client) (happens client what) (still client.phase)
+    by_test (λ (x : Went_to). PhaseSo what client.phase x) (client_has_room client) (happens client what) (still client.phase)
     (λ room. happens_so client what
-    (and_first (has_room (lasting_of client.phase).questions.last) (phase_room client.phase)
-    (and_second (has_room (lasting_of client.phase).inc) (has_room (lasting_of client.phase).questions.last && phase_room client.phase) room)))
+    (and_first (has_room (lasting_of client.phase).questions.last) (phase_has_room client.phase)
+    (and_second (has_room (lasting_of client.phase).inc) (has_room (lasting_of client.phase).questions.last && phase_has_room client.phase) room)))
     (λ room. still_so what client.phase)

@@ -10,12 +10,12 @@ use Rattle.xfs_base.specs.declared.segment.SegName.{SegName}
 use Rattle.xfs_base.specs.Limits.{u32_end}
 use Rattle.xfs_base.specs.Steps.{steps}
 use Rattle.log_owner.specs.declared.ended.Owner.{Owner}
-use Rattle.log_owner.specs.Opening.{said}
+use Rattle.log_owner.specs.Opening.{sent_send}
 use Rattle.log_owner.specs.Sending.{fetch}
 use Rattle.log_scan.specs.declared.output.Out.{Out}
 use Rattle.log_scan.specs.declared.output.Out.TheVariants.{Hello, Fence, Fetch, Chain, Lost}
 use Rattle.log_scan.specs.declared.stage.Stage.{Stage}
-use Rattle.node_base.specs.Asking.{asked_as, drawn, drawn_for, next_ask, number_for}
+use Rattle.node_base.specs.Asking.{asked_as, draw, drawn_for, next_ask, number_for}
 use Rattle.node_base.specs.declared.effects.Effect.{Effect}
 use Rattle.node_base.specs.declared.effects.Effect.TheVariants.{Send}
 use Rattle.node_base.specs.declared.questions.Asked.{Asked}
@@ -32,7 +32,7 @@ last_rises : (k : ℕ) → k ≤ cond (nat_lt k u32_end) (k + 1) k
 last_rises k = grind (arith, nat_tests)
 
 for_more : (a : Asked) (q : Questions) (own : ℕ) → q.last ≤ (drawn_for a q own).last
-for_more a q own = by_test (λ (p : Questions). q.last ≤ p.last) (own == a.own) q (drawn q) (λ t. omega arith) (λ t. last_rises q.last)
+for_more a q own = by_test (λ (p : Questions). q.last ≤ p.last) (own == a.own) q (draw q) (λ t. omega arith) (λ t. last_rises q.last)
 
 -- it is out by the number that it had, or by a later one than that of the last question before
 abbrev pub StaysOut : ℕ → Asked → Asked → Type 0
@@ -49,8 +49,8 @@ module _ (start : ℕ) (room : has_room start ≡ true) (first : Asked) where
       same e (inr less) = inr less
 
   pub numbers_so : (owner : Owner) (low : ℕ) (a : Asked) (q : Questions) (e : _) (outs : List Out) → start ≤ q.last → StaysOut start first a
-      → StaysOut start first (steps (said owner low) (record { asked = a; questions = q; ended = e }) outs).state.asked
-  unfolding said
+      → StaysOut start first (steps (sent_send owner low) (record { asked = a; questions = q; ended = e }) outs).state.asked
+  unfolding sent_send
   numbers_so owner low a q e [] more out = out
   numbers_so owner low a q e (Hello own ∷ outs) more out =
       numbers_so owner low (asked_as a q own) (drawn_for a q own) e outs (let m = for_more a q own in omega arith) (asked_so a q own more out)
@@ -65,8 +65,8 @@ module _ (start : ℕ) (room : has_room start ≡ true) (first : Asked) where
 module _ (E : Effect → Type 0) (quiet : (to : NodeId) (b : Body) → NotFetch b → E (Send to b)) (st : Stage)
     (fetches : (name : SegName) (number server own : ℕ) → ReadFor st name own → E (fetch name number server)) where
   pub says_so : (owner : Owner) (low : ℕ) (a : Asked) (q : Questions) (e : _) (outs : List Out) → AllByRecursion (FetchOf st) outs
-      → AllByRecursion E (steps (said owner low) (record { asked = a; questions = q; ended = e }) outs).outs
-  unfolding said
+      → AllByRecursion E (steps (sent_send owner low) (record { asked = a; questions = q; ended = e }) outs).outs
+  unfolding sent_send
   says_so owner low a q e [] all = tt
   says_so owner low a q e (Hello own ∷ outs) all =
       (quiet Registry _ tt, says_so owner low (asked_as a q own) (drawn_for a q own) e outs all.1)

@@ -15,30 +15,30 @@ use Rattle.log_owner.specs.declared.opening.Scanning.{Scanning}
 use Rattle.log_owner.specs.declared.opening.Settling.{Settling}
 use Rattle.log_owner.specs.declared.opening.Stage.{Stage}
 use Rattle.log_owner.specs.declared.opening.Stage.TheVariants as stage
-use Rattle.log_owner.specs.Opening.{Went, stays, asking, at_scan, nothing_asked, said, scanned, writes, scans_on, welcomed_with, welcomed, on_tick, on_packet}
-use Rattle.log_owner.specs.Promised.{promised_in}
+use Rattle.log_owner.specs.Opening.{Went, stays, asking, known_scanning, nothing_asked, sent_send, scanned, known_write, scans_on, welcomed_with, welcomed, on_tick, opening_take}
+use Rattle.log_owner.specs.Promised.{promised_of}
 use Rattle.log_scan.specs.declared.input.In.{In as Input}
 use Rattle.log_scan.specs.declared.input.In.TheVariants as input
 use Rattle.log_scan.specs.declared.output.Out.{Out}
 use Rattle.log_scan.specs.declared.output.Out.TheVariants.{Hello, Fence, Fetch, Chain, Lost}
 use Rattle.log_scan.specs.Transition.{transition}
-use Rattle.node_base.specs.Asking.{asked_as, drawn, drawn_for, next_ask, number_for}
+use Rattle.node_base.specs.Asking.{asked_as, draw, drawn_for, next_ask, number_for}
 use Rattle.node_base.specs.declared.effects.Effect.{Effect}
 use Rattle.node_base.specs.declared.effects.Effect.TheVariants.{Send}
 use Rattle.node_base.specs.declared.questions.Asked.{Asked}
 use Rattle.node_base.specs.declared.questions.Questions.{Questions}
-use Rattle.node_base.specs.Maps.{taken}
+use Rattle.node_base.specs.Maps.{maps_take}
 use Rattle.wire_msg.specs.declared.body.Body.{Body}
 use Rattle.wire_msg.specs.declared.body.Body.TheVariants as body
 use Rattle.wire_msg.specs.declared.packet.Packet.{Packet}
 use Rattle.wire_msg.specs.declared.registry.News.{News}
 use Rattle.node_moves.proofs.OpeningWalk.{Any, Walk, packet_so, tick_so}
 use Rattle.run_losses.proofs.torn_law.ClientFetches.{AllUpTo, UpTo, last_up}
-use Rattle.run_losses.proofs.torn_law.OpeningTurns.{NotFetch, ended_so, none_ended, writes_so}
+use Rattle.run_losses.proofs.torn_law.OpeningTurns.{NotFetch, ended_so, none_ended, known_write_so}
 
 -- ---- numbers
 
-number_by : (t : Bool) (ask : ℕ) (q : Questions) → ask ≤ q.last → cond t ask (next_ask q) ≤ (cond t q (drawn q)).last
+number_by : (t : Bool) (ask : ℕ) (q : Questions) → ask ≤ q.last → cond t ask (next_ask q) ≤ (cond t q (draw q)).last
 number_by true ask q small = small
 number_by false ask q small = omega arith
 
@@ -46,7 +46,7 @@ number_up : (a : Asked) (q : Questions) (own : ℕ) → a.ask ≤ q.last → num
 number_up a q own small = number_by (own == a.own) a.ask q small
 
 for_more : (a : Asked) (q : Questions) (own : ℕ) → q.last ≤ (drawn_for a q own).last
-for_more a q own = by_test (λ (p : Questions). q.last ≤ p.last) (own == a.own) q (drawn q) (λ t. omega arith) (λ t. last_up q.last)
+for_more a q own = by_test (λ (p : Questions). q.last ≤ p.last) (own == a.own) q (draw q) (λ t. omega arith) (λ t. last_up q.last)
 
 record Up (last highest : ℕ) (outs : List Effect) : Type 0 where
   up : last ≤ highest
@@ -58,9 +58,9 @@ one_first : (low last highest : ℕ) (e : Effect) (outs : List Effect) → low �
 one_first low last highest e outs less u fact = record { up = (let a = u.up in omega arith); does = (fact u.up, u.does) }
 
 said_up : (owner : Owner) (low : ℕ) (a : Asked) (q : Questions) (e : _) (outs : List Out) → a.ask ≤ q.last
-    → Up q.last (steps (said owner low) (record { asked = a; questions = q; ended = e }) outs).state.questions.last
-    (steps (said owner low) (record { asked = a; questions = q; ended = e }) outs).outs
-unfolding said
+    → Up q.last (steps (sent_send owner low) (record { asked = a; questions = q; ended = e }) outs).state.questions.last
+    (steps (sent_send owner low) (record { asked = a; questions = q; ended = e }) outs).outs
+unfolding sent_send
 said_up owner low a q e [] small = record { up = omega arith; does = tt }
 said_up owner low a q e (Hello own ∷ outs) small =
     one_first q.last (drawn_for a q own).last _ _ _ (for_more a q own)
@@ -90,10 +90,10 @@ quiet_up highest to _ none = tt
 stays_up : (q : Questions) (p : Progress) → WentUp q.last (stays p q)
 stays_up q p = record { up = omega arith; does = tt }
 
-writes_up : (k : Known) (q : Questions) (s : Settling) (i : LogIn) → WentUp q.last (asking q (writes k s i))
+writes_up : (k : Known) (q : Questions) (s : Settling) (i : LogIn) → WentUp q.last (asking q (known_write k s i))
 writes_up k q s i = record {
   up = omega arith;
-  does = (writes_so (λ x. Unit {0}) (UpTo q.last) q (quiet_up q.last) (λ name. tt) k s i).does;
+  does = (known_write_so (λ x. Unit {0}) (UpTo q.last) q (quiet_up q.last) (λ name. tt) k s i).does;
 }
 
 scan_up : (k : Known) (q : Questions) (s : Scanning) (i : Input) → s.asked.ask ≤ q.last → WentUp q.last (scans_on k q s i)
@@ -112,13 +112,13 @@ scan_up k q s i small =
 
 with_up : (k : Known) (q : Questions) (s : Scanning) (news : News) (own : ℕ) (groups : Option GroupMapState) → WentUp q.last (welcomed_with k q s news own
     groups)
-with_up k q s news own None = stays_up q (at_scan k s)
+with_up k q s news own None = stays_up q (known_scanning k s)
 with_up k q s news own (Some groups) =
-    scan_up (record k { promised = promised_in news.slots }) q (record s { asked = nothing_asked }) (input.Welcome own news.slots groups) (omega arith)
+    scan_up (record k { promised = promised_of news.slots }) q (record s { asked = nothing_asked }) (input.Welcome own news.slots groups) (omega arith)
 
 welcomed_up : (k : Known) (q : Questions) (s : Scanning) (news : News) (own : ℕ) → WentUp q.last (welcomed k q s news own)
 unfolding welcomed
-welcomed_up k q s news own = with_up (record k { maps = taken k.maps news }) q s news own (taken k.maps news).groups
+welcomed_up k q s news own = with_up (record k { maps = maps_take k.maps news }) q s news own (maps_take k.maps news).groups
 
 abbrev Holds : Known → Questions → Stage → Went → Type 0
 Holds k q at w = StageUp q.last at → WentUp q.last w
@@ -133,7 +133,7 @@ walk = record {
   newer = λ from k news q at w said fact. fact;
 }
 
-pub packet_up : (o : Opening) (q : Questions) (packet : Packet) → StageUp q.last o.stage → WentUp q.last (on_packet o q packet)
+pub packet_up : (o : Opening) (q : Questions) (packet : Packet) → StageUp q.last o.stage → WentUp q.last (opening_take o q packet)
 packet_up o q packet = packet_so Any Holds walk o q packet tt
 
 pub tick_up : (o : Opening) (q : Questions) → StageUp q.last o.stage → WentUp q.last (on_tick o q)

@@ -5,7 +5,7 @@ use Rattle.xfs_base.specs.declared.segment.SegName.{SegName}
 use Rattle.log_owner.specs.declared.known.Known.{Known}
 use Rattle.log_owner.specs.declared.opening.Scanning.{Scanning}
 use Rattle.log_owner.specs.declared.opening.Stage.TheVariants as stage
-use Rattle.log_owner.specs.Opening.{on_packet, on_tick}
+use Rattle.log_owner.specs.Opening.{opening_take, on_tick}
 use Rattle.log_scan.specs.declared.input.In.{In as Input}
 use Rattle.log_scan.specs.declared.input.In.TheVariants as input
 use Rattle.log_scan.specs.declared.output.Out.TheVariants.{Lost}
@@ -103,7 +103,7 @@ module _ (k : Known) (s : Scanning) (what : Do) (last : ℕ) where
 module _ (k : Known) (s : Scanning) (q : Questions) (room : has_room q.last ≡ true) where
   pub packet_turns : (packet : Packet)
       → Turn (After k s (done.Deliver packet) q.last) (DoesSo k s (done.Deliver packet) q.last) q
-      (on_packet (record { known = k; stage = stage.Scanning s }) q packet)
+      (opening_take (record { known = k; stage = stage.Scanning s }) q packet)
   packet_turns packet =
       let what = done.Deliver packet in
       packet_so (After k s what q.last) (DoesSo k s what q.last) q (quiet_so k s what q.last) (acts_so k s what q.last) k s refl packet

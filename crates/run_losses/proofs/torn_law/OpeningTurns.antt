@@ -23,9 +23,9 @@ use Rattle.log_owner.specs.declared.opening.Scanning.{Scanning}
 use Rattle.log_owner.specs.declared.opening.Settling.{Settling}
 use Rattle.log_owner.specs.declared.opening.Stage.{Stage}
 use Rattle.log_owner.specs.declared.opening.Stage.TheVariants as stage
-use Rattle.log_owner.specs.Opening.{Went, Moved, went, stays, drops, asking, at_scan, at_log, nothing_asked, said, scanned, wrote_one, written, opens, writes, behind, settles_over, follows, scans_on, scans, welcomed_with, welcomed, welcomed_as, is_meant, on_welcome, regrouped, on_news, is_fenced, fenced_by, by_server, on_fenced, answers, found_by, missing_by, on_found, on_missing, on_stored, on_tick, on_body, on_packet}
+use Rattle.log_owner.specs.Opening.{Went, Moved, went, stays, drops, asking, known_scanning, known_settling, nothing_asked, sent_send, scanned, send_one, written, known_go_on, known_write, behind, settles_over, known_follow, scans_on, scans, welcomed_with, welcomed, welcomed_as, is_meant, on_welcome, regrouped, on_news, is_fenced, fenced_by, by_server, on_fenced, answers, found_by, missing_by, on_found, on_missing, on_stored, on_tick, on_body, opening_take}
 use Rattle.log_owner.specs.Opened.{filed}
-use Rattle.log_owner.specs.Promised.{promised_in}
+use Rattle.log_owner.specs.Promised.{promised_of}
 use Rattle.log_owner.specs.Sending.{hello, server_in}
 use Rattle.log_scan.specs.declared.input.In.{In as Input}
 use Rattle.log_scan.specs.declared.input.In.TheVariants as input
@@ -33,14 +33,14 @@ use Rattle.log_scan.specs.declared.output.Out.{Out}
 use Rattle.log_scan.specs.declared.output.Out.TheVariants.{Hello, Fence, Fetch, Chain as Chains, Lost}
 use Rattle.log_scan.specs.Transition.{transition}
 use Rattle.log_protocol.specs.Tables.{In}
-use Rattle.node_base.specs.Asking.{next_ask, drawn, asked_as, drawn_for, own_of}
+use Rattle.node_base.specs.Asking.{next_ask, draw, asked_as, drawn_for, own_of}
 use Rattle.node_base.specs.declared.effects.Effect.{Effect}
 use Rattle.node_base.specs.declared.effects.Effect.TheVariants.{Send, Lose, Does}
 use Rattle.node_base.specs.declared.maps.Maps.{Maps}
 use Rattle.node_base.specs.declared.questions.Asked.{Asked}
 use Rattle.node_base.specs.declared.questions.Questions.{Questions}
-use Rattle.node_base.specs.Known.{names_known}
-use Rattle.node_base.specs.Maps.{fits, is_older, taken}
+use Rattle.node_base.specs.Known.{names_known_groups}
+use Rattle.node_base.specs.Maps.{fits, is_older, maps_take}
 use Rattle.node_base.specs.Shape.{is_log}
 use Rattle.node_slots.proofs.node_tie.StoreFrames.{all_steps}
 use Rattle.version_model.specs.declared.act.Act.TheVariants.{Filed}
@@ -121,24 +121,24 @@ module _ (P : Scanning → Type 0) (E : Effect → Type 0) (q : Questions) where
   module _ (quiet : (to : NodeId) (b : Body) → NotFetch b → E (Send to b)) (acts : (name : SegName) → E (Does (Filed name))) where
     -- ---- the log
 
-    one_written : (before : Option End) (o : LogOut) → AllByRecursion E (wrote_one before o).outs
-    unfolding wrote_one
+    one_written : (before : Option End) (o : LogOut) → AllByRecursion E (send_one before o).outs
+    unfolding send_one
     one_written before (log_out.Send fragment member) = (quiet (Server member.server) _ tt, tt)
     one_written before (log_out.Settled end rows) = tt
 
     written_so : (outs : List LogOut) → AllByRecursion E (written outs).outs
-    written_so outs = all_steps wrote_one E one_written None outs
+    written_so outs = all_steps send_one E one_written None outs
 
-    opens_so : (k : Known) (s : Settling) (e : Option End) → Moves (opens k s e)
-    opens_so k s None = record { progress = tt; does = tt }
-    opens_so k s (Some end) =
+    known_go_on_so : (k : Known) (s : Settling) (e : Option End) → Moves (known_go_on k s e)
+    known_go_on_so k s None = record { progress = tt; does = tt }
+    known_go_on_so k s (Some end) =
         record { progress = tt; does = all_append E (map filed s.chain) _ (all_map E filed (λ segment. acts _) s.chain) (acts _, tt) }
 
-    pub writes_so : (k : Known) (s : Settling) (i : LogIn) → Moves (writes k s i)
-    unfolding writes
-    writes_so k s i =
+    pub known_write_so : (k : Known) (s : Settling) (i : LogIn) → Moves (known_write k s i)
+    unfolding known_write
+    known_write_so k s i =
         let d : log.Done = log.transition s.log i in
-        let o : Moves (opens k (record s { log = d.state }) (written d.outs).state) = opens_so k (record s { log = d.state }) (written d.outs).state in
+        let o : Moves (known_go_on k (record s { log = d.state }) (written d.outs).state) = known_go_on_so k (record s { log = d.state }) (written d.outs).state in
         record { progress = o.progress; does = all_append E (written d.outs).outs _ (written_so d.outs) o.does }
 
     settled_on : (m : Moved) → Moves m → Goes (asking q m)
@@ -149,20 +149,20 @@ module _ (P : Scanning → Type 0) (E : Effect → Type 0) (q : Questions) where
     settles_so : (k : Known) (s : Scanning) (chain : _) (groups : Option GroupMapState) → P s → Moves (settles_over k s chain groups)
     settles_so k s chain None h = record { progress = h; does = tt }
     settles_so k s chain (Some groups) h =
-        by_test Moves (is_log k.owner.log.0) (writes k (behind k chain groups) (log_in.Parts [])) (still (at_scan k s))
-        (λ t. writes_so k (behind k chain groups) (log_in.Parts [])) (λ t. record { progress = h; does = tt })
+        by_test Moves (is_log k.owner.log.0) (known_write k (behind k chain groups) (log_in.Parts [])) (still (known_scanning k s))
+        (λ t. known_write_so k (behind k chain groups) (log_in.Parts [])) (λ t. record { progress = h; does = tt })
 
-    pub none_ended : (k : Known) (s : Scanning) → P s → Moves (follows k s None)
-    unfolding follows
+    pub none_ended : (k : Known) (s : Scanning) → P s → Moves (known_follow k s None)
+    unfolding known_follow
     none_ended k s h = record { progress = h; does = tt }
 
     -- whatever the scan said, what is next is so
     pub ended_so : (its : Owner) (low : ℕ) (a : Asked) (p : Questions) (e : _) (outs : List Out)
         → ((seg : SegName) → In (Lost seg) outs → E (Lose seg))
-        → ((k : Known) (s : Scanning) → P s → Moves (follows k s e))
+        → ((k : Known) (s : Scanning) → P s → Moves (known_follow k s e))
         → (k : Known) (s : Scanning) → P s
-        → Moves (follows k s (steps (said its low) (record { asked = a; questions = p; ended = e }) outs).state.ended)
-    unfolding follows said
+        → Moves (known_follow k s (steps (sent_send its low) (record { asked = a; questions = p; ended = e }) outs).state.ended)
+    unfolding known_follow sent_send
     ended_so its low a p e [] each ends = ends
     ended_so its low a p e (Hello own ∷ outs) each ends =
         ended_so its low (asked_as a p own) (drawn_for a p own) e outs (λ seg fact. each seg (inr fact)) ends
@@ -181,7 +181,7 @@ module _ (P : Scanning → Type 0) (E : Effect → Type 0) (q : Questions) where
     scan_so k s i a t =
         let d = transition s.scan i in
         let r = scanned k.owner d.state.opening.low a q d.outs in
-        let f : Moves (follows k (record { scan = d.state; asked = r.state.asked }) r.state.ended) =
+        let f : Moves (known_follow k (record { scan = d.state; asked = r.state.asked }) r.state.ended) =
         ended_so k.owner d.state.opening.low a q None d.outs t.loses none_ended k (record { scan = d.state; asked = r.state.asked })
         (t.scans k.owner d.state.opening.low) in
         record { progress = f.progress; does = all_append E r.outs _ (t.says k.owner d.state.opening.low) f.does }
@@ -203,7 +203,7 @@ module _ (P : Option Input → Scanning → Type 0) (E : Option Input → Effect
     abbrev its : Opening
     its = record { known = k; stage = stage.Scanning s }
 
-    rests : (j : Known) → Turned (stays (at_scan j s) q)
+    rests : (j : Known) → Turned (stays (known_scanning j s) q)
     rests j = record { by = None; goes = record { progress = h; does = tt } }
 
     module _ (packet : Packet) (takes : (i : Input) → CameBy k s packet i → (a : Asked) → AskedFrom s a
@@ -221,7 +221,7 @@ module _ (P : Option Input → Scanning → Type 0) (E : Option Input → Effect
           → Turned (welcomed_with j q s m.news own groups)
       with_so j m own None came = rests j
       with_so j m own (Some groups) came =
-          scans_by (record j { promised = promised_in m.news.slots }) (input.Welcome own m.news.slots groups) (came groups refl) nothing_asked (inr refl)
+          scans_by (record j { promised = promised_of m.news.slots }) (input.Welcome own m.news.slots groups) (came groups refl) nothing_asked (inr refl)
 
       some_group : (a b : GroupMapState) → Some a ≡ Some b → b ≡ a
       some_group a b e = cc
@@ -248,7 +248,7 @@ module _ (P : Option Input → Scanning → Type 0) (E : Option Input → Effect
       welcome_so : (m : Welcome) → packet.body ≡ body.Welcome m → Turned (on_welcome its q m)
       unfolding on_welcome
       welcome_so m fact =
-          by_test Turned (is_meant k m) (welcomed_as k q s m.news (own_of s.asked m.ask)) (stays (at_scan k s) q)
+          by_test Turned (is_meant k m) (welcomed_as k q s m.news (own_of s.asked m.ask)) (stays (known_scanning k s) q)
           (λ t. as_so m fact t (own_of s.asked m.ask) refl) (λ t. rests k)
 
       -- maps
@@ -256,8 +256,8 @@ module _ (P : Option Input → Scanning → Type 0) (E : Option Input → Effect
       unfolding on_news
       news_so news fact =
           by_test Turned (fits k.maps news && is_older k.maps news)
-          (regrouped (record k { maps = taken k.maps news }) q news.groups (stage.Scanning s)) (drops its q)
-          (λ t. scans_by (record k { maps = taken k.maps news }) (input.Maps news.groups) (news, fact, refl) s.asked (inl refl))
+          (regrouped (record k { maps = maps_take k.maps news }) q news.groups (stage.Scanning s)) (drops its q)
+          (λ t. scans_by (record k { maps = maps_take k.maps news }) (input.Maps news.groups) (news, fact, refl) s.asked (inl refl))
           (λ t. rests k)
 
       -- what servers tell
@@ -324,11 +324,11 @@ module _ (P : Option Input → Scanning → Type 0) (E : Option Input → Effect
       body_so (body.Stored m) fact = stored_so m
       body_so _ fact = rests k
 
-      pub packet_so : Turned (on_packet its q packet)
-      unfolding on_packet
+      pub packet_so : Turned (opening_take its q packet)
+      unfolding opening_take
       packet_so =
-          by_test Turned (names_known k.maps packet.body) (on_body its q packet.from packet.body)
-          (went (progress.Opening its) (drawn q) (hello k.owner.inc (next_ask q) ∷ [])) (λ t. body_so packet.body refl)
+          by_test Turned (names_known_groups k.maps packet.body) (on_body its q packet.from packet.body)
+          (went (progress.Opening its) (draw q) (hello k.owner.inc (next_ask q) ∷ [])) (λ t. body_so packet.body refl)
           (λ t. record { by = None; goes = record { progress = h; does = (quiet None Registry _ tt, tt) } })
 
     -- time passes
@@ -354,18 +354,18 @@ module _ (k : Known) (s : Settling) (q : Questions) where
   abbrev then_one : Opening
   then_one = record { known = k; stage = stage.Settling s }
 
-  settled_still : (j : Known) → Settles (stays (at_log j s) q)
+  settled_still : (j : Known) → Settles (stays (known_settling j s) q)
   settled_still j = record { progress = tt; does = tt }
 
-  settled_writes : (j : Known) (i : LogIn) → Settles (asking q (writes j s i))
+  settled_writes : (j : Known) (i : LogIn) → Settles (asking q (known_write j s i))
   settled_writes j i =
-      settled_on NoScan Any q (λ to b no_fetch. tt) (λ a. tt) (writes j s i) (writes_so NoScan Any q (λ to b no_fetch. tt) (λ a. tt) j s i)
+      settled_on NoScan Any q (λ to b no_fetch. tt) (λ a. tt) (known_write j s i) (known_write_so NoScan Any q (λ to b no_fetch. tt) (λ a. tt) j s i)
 
   settled_news : (news : News) → Settles (on_news then_one q news)
   unfolding on_news
   settled_news news =
-      by_test Settles (fits k.maps news && is_older k.maps news) (regrouped (record k { maps = taken k.maps news }) q news.groups (stage.Settling s))
-      (drops then_one q) (λ t. settled_writes (record k { maps = taken k.maps news }) (log_in.Maps news.groups)) (λ t. settled_still k)
+      by_test Settles (fits k.maps news && is_older k.maps news) (regrouped (record k { maps = maps_take k.maps news }) q news.groups (stage.Settling s))
+      (drops then_one q) (λ t. settled_writes (record k { maps = maps_take k.maps news }) (log_in.Maps news.groups)) (λ t. settled_still k)
 
   settled_by : (server : Option ℕ) (f : ℕ → Went) → ((v : ℕ) → Settles (f v)) → Settles (by_server then_one q f server)
   settled_by None f each = settled_still k
@@ -384,11 +384,11 @@ module _ (k : Known) (s : Settling) (q : Questions) where
   settled_body from (body.Stored m) = settled_writes k (log_in.Acked m.name m.index m.generation)
   settled_body from _ = settled_still k
 
-  pub settled_packet : (packet : Packet) → Settles (on_packet then_one q packet)
-  unfolding on_packet
+  pub settled_packet : (packet : Packet) → Settles (opening_take then_one q packet)
+  unfolding opening_take
   settled_packet packet =
-      by_test Settles (names_known k.maps packet.body) (on_body then_one q packet.from packet.body)
-      (went (progress.Opening then_one) (drawn q) (hello k.owner.inc (next_ask q) ∷ [])) (λ t. settled_body packet.from packet.body)
+      by_test Settles (names_known_groups k.maps packet.body) (on_body then_one q packet.from packet.body)
+      (went (progress.Opening then_one) (draw q) (hello k.owner.inc (next_ask q) ∷ [])) (λ t. settled_body packet.from packet.body)
       (λ t. record { progress = tt; does = (tt, tt) })
 
   pub settled_tick : Settles (on_tick then_one q)

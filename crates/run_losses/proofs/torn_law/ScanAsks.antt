@@ -13,13 +13,13 @@ use Rattle.group_map.specs.GroupMapState.{GroupMapState}
 use Rattle.segment_reading.specs.declared.reading.Next.TheVariants as next
 use Rattle.segment_reading.specs.declared.reading.Stage as readings
 use Rattle.segment_reading.specs.declared.reading.Stage.TheVariants as reading
-use Rattle.segment_reading.specs.Reading.{ReadingState, Step, is_asking, to_ask, segment_found, counts, ends, read_as, judged, on_answer, on_confirmed}
+use Rattle.segment_reading.specs.Reading.{ReadingState, Step, is_asking, reading_unanswered, segment_found, counts, ends, reading_reads, reading_judge, reading_take, on_confirmed}
 use Rattle.segment_reading.specs.Reading as rounds
 use Rattle.stripe_code.specs.declared.round.RoundState.{RoundState}
 use Rattle.stripe_code.specs.declared.round.RoundState.TheVariants as round
 use Rattle.stripe_code.specs.declared.round.Told.{Told}
 use Rattle.stripe_code.specs.declared.round.Told.TheVariants as told
-use Rattle.stripe_code.specs.Round.{taken, state_of}
+use Rattle.stripe_code.specs.Round.{round_take, state_of}
 use Rattle.log_scan.specs.declared.input.In.{In}
 use Rattle.log_scan.specs.declared.input.In.TheVariants as input
 use Rattle.log_scan.specs.declared.listing.Listing.{Listing}
@@ -113,26 +113,26 @@ module _ (before : Stage) where
   anew o st reads = record { fetches = (tt, tt); reads = reads }
 
   round_begins : (o : Opening) (b : Backward) (r : ReadingState) → o.ask < r.ask
-      → AsksFor o.ask before (goes (record o { ask = o.ask + 1 }) (Reads b (Some r)) (scan.fetches r))
-  round_begins o b r less = record { fetches = fetches_so b r (to_ask r); reads = inl less }
+      → AsksFor o.ask before (goes (record o { ask = o.ask + 1 }) (Reads b (Some r)) (scan.backward_fetch r))
+  round_begins o b r less = record { fetches = fetches_so b r (reading_unanswered r); reads = inl less }
 
   begins_in_so : (o : Opening) (b : Backward) (group : Option Group) → AsksFor o.ask before (scan.begins_in o b group)
   begins_in_so o b None = anew o (Reads b None) tt
-  begins_in_so o b (Some group) = round_begins o b (rounds.begun (scan.target_at o.log b.next) group (o.ask + 1)) (omega arith)
+  begins_in_so o b (Some group) = round_begins o b (rounds.reading_start (scan.target_at o.log b.next) group (o.ask + 1)) (omega arith)
 
   over_so : (o : Opening) (out : Out) → FetchOf Over out → AsksFor o.ask before (goes o Over (out ∷ []))
   over_so o out fact = record { fetches = (fact, tt); reads = tt }
 
-  follows_so : (o : Opening) (b : Backward) → AsksFor o.ask before (scan.follows o b)
-  unfolding scan.follows scan.begins_round
-  follows_so o b =
-      by_test (AsksFor o.ask before) (scan.is_bottom o.low b.next) (goes o Over (scan.chain_of b ∷ []))
+  opening_follow_so : (o : Opening) (b : Backward) → AsksFor o.ask before (scan.opening_follow o b)
+  unfolding scan.opening_follow scan.opening_begin_round
+  opening_follow_so o b =
+      by_test (AsksFor o.ask before) (scan.is_bottom o.low b.next) (goes o Over (scan.backward_told b ∷ []))
       (scan.begins_in o b (known_group o.groups b.next.group))
-      (λ t. over_so o (scan.chain_of b) tt) (λ t. begins_in_so o b (known_group o.groups b.next.group))
+      (λ t. over_so o (scan.backward_told b) tt) (λ t. begins_in_so o b (known_group o.groups b.next.group))
 
   picks_so : (o : Opening) (lists : List Listing) (start : Option End) → AsksFor o.ask before (scan.picks_at o lists start)
   picks_so o lists None = anew o (Asks lists) tt
-  picks_so o lists (Some start) = follows_so o (scan.read_from start)
+  picks_so o lists (Some start) = opening_follow_so o (scan.backward_from start)
 
 -- ---- an answer
 
@@ -148,46 +148,46 @@ module _ (o : Opening) (b : Backward) (first : ReadingState) where
   waits : (r : ReadingState) → Like r → On (stays o (Reads b (Some r)))
   waits r like = record { fetches = tt; reads = inr (like.ask, like.target) }
 
-  ends_so : (r : ReadingState) → Like r → (pairs : List (ℕ × ℕ)) → On (scan.goes_on o b (ends r pairs).state next.Again)
-  unfolding scan.goes_on
+  ends_so : (r : ReadingState) → Like r → (pairs : List (ℕ × ℕ)) → On (scan.opening_go_on o b (ends r pairs).state next.Again)
+  unfolding scan.opening_go_on
   ends_so r like pairs = anew (Reads b (Some first)) o (Reads b (Some (ends r pairs).state)) (inr (like.ask, like.target))
 
-  read_so : (r : ReadingState) → Like r → (found : Option Segment) → On (scan.goes_on o b (read_as r found).state (read_as r found).next)
-  unfolding scan.goes_on
-  read_so r like (Some segment) = follows_so (Reads b (Some first)) o (scan.with_segment b segment)
+  read_so : (r : ReadingState) → Like r → (found : Option Segment) → On (scan.opening_go_on o b (reading_reads r found).state (reading_reads r found).next)
+  unfolding scan.opening_go_on
+  read_so r like (Some segment) = opening_follow_so (Reads b (Some first)) o (scan.backward_with b segment)
   read_so r like None = ends_so r like []
 
-  judged_so : (r : ReadingState) → Like r → (groups : GroupMapState) (x : RoundState)
-      → On (scan.goes_on o b (judged r groups x).state (judged r groups x).next)
-  unfolding scan.goes_on
-  judged_so r like groups (round.Read bytes) = read_so r like (segment_found r.target groups (answer_of bytes))
-  judged_so r like groups (round.Short pairs) = ends_so r like pairs
-  judged_so r like groups round.Waiting = waits r like
+  reading_judge_so : (r : ReadingState) → Like r → (groups : GroupMapState) (x : RoundState)
+      → On (scan.opening_go_on o b (reading_judge r groups x).state (reading_judge r groups x).next)
+  unfolding scan.opening_go_on
+  reading_judge_so r like groups (round.Read bytes) = read_so r like (segment_found r.target groups (answer_of bytes))
+  reading_judge_so r like groups (round.Short pairs) = ends_so r like pairs
+  reading_judge_so r like groups round.Waiting = waits r like
 
-  answer_so : (m : Option GroupMapState) (ask server : ℕ) (t : Told) → On (scan.heard_with o b first m ask server t)
-  unfolding on_answer scan.goes_on
+  answer_so : (m : Option GroupMapState) (ask server : ℕ) (t : Told) → On (scan.opening_read o b first m ask server t)
+  unfolding reading_take scan.opening_go_on
   answer_so None ask server t = waits first (record { ask = refl; target = refl })
   answer_so (Some groups) ask server t =
-      let now : ReadingState = record first { round = taken first.round server t } in
-      by_test (λ (x : Step). On (scan.goes_on o b x.state x.next)) (counts first ask server t) (judged now groups (state_of now.round))
+      let now : ReadingState = record first { round = round_take first.round server t } in
+      by_test (λ (x : Step). On (scan.opening_go_on o b x.state x.next)) (counts first ask server t) (reading_judge now groups (state_of now.round))
       (record { state = first; next = next.Wait })
-      (λ e. judged_so now (record { ask = refl; target = refl }) groups (state_of now.round))
+      (λ e. reading_judge_so now (record { ask = refl; target = refl }) groups (state_of now.round))
       (λ e. waits first (record { ask = refl; target = refl }))
 
   -- the question of the reader is answered
   confirmed_so : (p : Opening) → p.ask ≡ o.ask → (at : readings.Stage)
-      → AsksFor p.ask (Reads b (Some first)) (scan.goes_on p b (rounds.goes_on first (p.ask + 1) at).state (rounds.goes_on first (p.ask + 1) at).next)
-  unfolding scan.goes_on
+      → AsksFor p.ask (Reads b (Some first)) (scan.opening_go_on p b (rounds.goes_on first (p.ask + 1) at).state (rounds.goes_on first (p.ask + 1) at).next)
+  unfolding scan.opening_go_on
   confirmed_so p same reading.Asking = record { fetches = tt; reads = inr (refl, refl) }
   confirmed_so p same reading.Between =
       round_begins (Reads b (Some first)) p b (rounds.goes_on first (p.ask + 1) reading.Between).state (omega arith)
   confirmed_so p same reading.Doubted = record { fetches = (tt, tt); reads = tt }
   confirmed_so p same reading.Over = record { fetches = tt; reads = inr (refl, refl) }
 
-heard_so : (o : Opening) (b : Backward) (r : Option ReadingState) (ask server : ℕ) (t : Told) → AsksFor o.ask (Reads b r) (scan.heard o b r ask server t)
-heard_so o b None ask server t = rests o (Reads b None)
-heard_so o b (Some r) ask server t =
-    by_test (AsksFor o.ask (Reads b (Some r))) (can_ask o) (scan.heard_with o b r o.groups ask server t) (stays o (Reads b (Some r)))
+opening_hear_so : (o : Opening) (b : Backward) (r : Option ReadingState) (ask server : ℕ) (t : Told) → AsksFor o.ask (Reads b r) (scan.opening_hear o b r ask server t)
+opening_hear_so o b None ask server t = rests o (Reads b None)
+opening_hear_so o b (Some r) ask server t =
+    by_test (AsksFor o.ask (Reads b (Some r))) (can_ask o) (scan.opening_read o b r o.groups ask server t) (stays o (Reads b (Some r)))
     (λ e. answer_so o b r o.groups ask server t) (λ e. rests o (Reads b (Some r)))
 
 told_so : (o : Opening) (st : Stage) (ask server : ℕ) (t : Told) → AsksFor o.ask st (scan.on_told o st ask server t)
@@ -195,7 +195,7 @@ unfolding scan.on_told
 told_so o Hails ask server t = rests o Hails
 told_so o (Gathers lists) ask server t = rests o (Gathers lists)
 told_so o (Asks lists) ask server t = rests o (Asks lists)
-told_so o (Reads b r) ask server t = heard_so o b r ask server t
+told_so o (Reads b r) ask server t = opening_hear_so o b r ask server t
 told_so o Over ask server t = rests o Over
 
 -- ---- a list
@@ -216,10 +216,10 @@ fenced_so o Over l = rests o Over
 
 -- ---- time
 
-again_so : (o : Opening) (b : Backward) (r : Option ReadingState) → AllByRecursion (FetchOf (Reads b r)) (scan.asked_again o r)
+again_so : (o : Opening) (b : Backward) (r : Option ReadingState) → AllByRecursion (FetchOf (Reads b r)) (scan.opening_read_again o r)
 again_so o b None = (tt, tt)
 again_so o b (Some r) =
-    by_test (AllByRecursion (FetchOf (Reads b (Some r)))) (is_asking r.stage) (scan.fetches r) (Hello o.ask ∷ []) (λ t. fetches_so b r (to_ask r))
+    by_test (AllByRecursion (FetchOf (Reads b (Some r)))) (is_asking r.stage) (scan.backward_fetch r) (Hello o.ask ∷ []) (λ t. fetches_so b r (reading_unanswered r))
     (λ t. (tt, tt))
 
 tick_so : (o : Opening) (st : Stage) → AllByRecursion (FetchOf st) (scan.on_tick o st)
@@ -233,32 +233,32 @@ tick_so o Over = tt
 -- ---- a Welcome
 
 confirms_so : (o : Opening) (b : Backward) (r : Option ReadingState) → AsksFor o.ask (Reads b r) (scan.confirms_by o b r)
-unfolding on_confirmed scan.begins_round
+unfolding on_confirmed scan.opening_begin_round
 confirms_so o b None = begins_in_so (Reads b None) o b (known_group o.groups b.next.group)
 confirms_so o b (Some r) = confirmed_so o b r o refl r.stage
 
-welcomed_so : (o : Opening) (st : Stage) (least : ℕ) → AsksFor o.ask st (scan.welcomed o st least)
-unfolding scan.picks scan.confirms
-welcomed_so o Hails least = record { fetches = fences_so (Gathers []) (scan.awaited o.groups []); reads = tt }
-welcomed_so o (Gathers lists) least = rests o (Gathers lists)
-welcomed_so o (Asks lists) least =
-    picks_so (Asks lists) (scan.rises o least) lists (start_of o.groups lists (scan.rises o least).low)
-welcomed_so o (Reads b r) least =
-    let p : Opening = scan.rises o least in
-    by_test (AsksFor o.ask (Reads b r)) (scan.is_bottom p.low b.next) (goes p Over (scan.chain_of b ∷ [])) (scan.confirms_by p b r)
-    (λ e. over_so (Reads b r) p (scan.chain_of b) tt) (λ e. confirms_so p b r)
-welcomed_so o Over least = rests o Over
+opening_welcome_so : (o : Opening) (st : Stage) (least : ℕ) → AsksFor o.ask st (scan.opening_welcome o st least)
+unfolding scan.opening_pick scan.opening_confirm
+opening_welcome_so o Hails least = record { fetches = fences_so (Gathers []) (scan.awaited o.groups []); reads = tt }
+opening_welcome_so o (Gathers lists) least = rests o (Gathers lists)
+opening_welcome_so o (Asks lists) least =
+    picks_so (Asks lists) (scan.opening_rise o least) lists (start_of o.groups lists (scan.opening_rise o least).low)
+opening_welcome_so o (Reads b r) least =
+    let p : Opening = scan.opening_rise o least in
+    by_test (AsksFor o.ask (Reads b r)) (scan.is_bottom p.low b.next) (goes p Over (scan.backward_told b ∷ [])) (scan.confirms_by p b r)
+    (λ e. over_so (Reads b r) p (scan.backward_told b) tt) (λ e. confirms_so p b r)
+opening_welcome_so o Over least = rests o Over
 
 welcome_so : (o : Opening) (st : Stage) (ask : ℕ) (news : List SlotNews) (m : GroupMapState) → AsksFor o.ask st (scan.on_welcome o st ask news m)
 unfolding scan.on_welcome
 welcome_so o st ask news m =
     by_test (AsksFor o.ask st) ((ask == o.ask) && (can_ask o && scan.awaits_welcome st))
-    (scan.welcomed (record o { groups = Some m }) st (scan.least_horizon o.log.0 news)) (stays o st)
-    (λ t. welcomed_so (record o { groups = Some m }) st (scan.least_horizon o.log.0 news)) (λ t. rests o st)
+    (scan.opening_welcome (record o { groups = Some m }) st (scan.least_horizon o.log.0 news)) (stays o st)
+    (λ t. opening_welcome_so (record o { groups = Some m }) st (scan.least_horizon o.log.0 news)) (λ t. rests o st)
 
 -- ---- all inputs
 
-step_so : (o : Opening) (st : Stage) (i : In) → AsksFor o.ask st (scan.takes o st i)
+step_so : (o : Opening) (st : Stage) (i : In) → AsksFor o.ask st (scan.opening_take o st i)
 step_so o st (input.Welcome ask news groups) = welcome_so o st ask news groups
 step_so o st (input.Fenced server generation held) = fenced_so o st (record { server = server; generation = generation; held = held })
 step_so o st (input.Got ask server generation fragment) = told_so o st ask server (told.Held fragment)

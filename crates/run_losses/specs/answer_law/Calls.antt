@@ -4,7 +4,7 @@ use Rattle.client_node.specs.declared.client.Client.{Client}
 use Rattle.client_node.specs.declared.phase.Phase.{Phase}
 use Rattle.client_node.specs.declared.phase.Phase.TheVariants.{Down, Opening, Serving as Serves}
 use Rattle.client_node.specs.Phases.{client_step, lasting_of}
-use Rattle.client_node.specs.Starting.{first_client}
+use Rattle.client_node.specs.Starting.{client_start}
 use Rattle.client_call.specs.declared.call.Call.{Call}
 use Rattle.client_call.specs.declared.call.Plan.{Plan}
 use Rattle.client_call.specs.declared.call.Plan.TheVariants.{One, File}
@@ -44,7 +44,7 @@ GoesWell (Serves s) = CallsWell s.call
 
 -- At the start no call is open.
 abbrev pub ClientsStartWell : Type 0
-ClientsStartWell = (number : ℕ) (setup : Setup) (works : List Work) → GoesWell (first_client number setup works).phase
+ClientsStartWell = (number : ℕ) (setup : Setup) (works : List Work) → GoesWell (client_start number setup works).phase
 
 -- what an event makes of a client whose call has such a plan: so it is then, and it says what is lost before it answers so
 pub record ClientSays (client : Client) (what : Do) : Type 0 where

@@ -3,9 +3,9 @@ use Rattle.std.specs.Prelude.{ℕ, IfSome, List, Option, None}
 use Rattle.std.specs.List.{AllByRecursion}
 use Rattle.client_node.specs.declared.phase.Phase.{Phase}
 use Rattle.client_node.specs.declared.phase.Phase.TheVariants.{Down, Opening, Serving as Serves}
-use Rattle.client_node.specs.Starting.{first_client}
+use Rattle.client_node.specs.Starting.{client_start}
 use Rattle.group_map.specs.GroupMapState.{GroupMapState}
-use Rattle.group_map.specs.Groups.{started}
+use Rattle.group_map.specs.Groups.{group_map_start}
 use Rattle.group_map.specs.WellFormed.{IsGroupMap}
 use Rattle.node_slots.specs.client_law.Events.{after_events}
 use Rattle.node_slots.specs.client_law.Groups.{HasPresentGroups}
@@ -23,6 +23,6 @@ groups_read (Serves s) = s.maps.groups
 -- After any events: where what is true of every map of groups is true of the setup's, and of each that comes.
 abbrev pub ReadsByPresentGroups : Type 0
 ReadsByPresentGroups =
-    (number : ℕ) (setup : Setup) (works : List Work) (events : List Do) → IsGroupMap (started setup.servers setup.groups)
+    (number : ℕ) (setup : Setup) (works : List Work) (events : List Do) → IsGroupMap (group_map_start setup.servers setup.groups)
     → AllByRecursion (DoBrings IsGroupMap) events
-    → IfSome (groups_read (after_events (first_client number setup works) events).phase) HasPresentGroups
+    → IfSome (groups_read (after_events (client_start number setup works) events).phase) HasPresentGroups

@@ -1,25 +1,25 @@
 -- What each packet, and time, make of a client that serves is a list of moves.
 use Rattle.std.proofs.Common.{ℕ, ◌==◌, Bool, List, [], ◌∷◌, ◌++◌, Option, Some, None, nat_lt, refl}
 use Rattle.client_log.specs.declared.input.In.TheVariants as log_in
-use Rattle.client_call.specs.Reads.{block_read, fetches_again, heard, reading_in, value_at}
+use Rattle.client_call.specs.Reads.{block_read, fetch_again, hear_reading, reading_in, value_at}
 use Rattle.client_serving.specs.declared.serving.Serving.{Serving}
-use Rattle.client_serving.specs.Flights.{held_at, writes}
-use Rattle.client_serving.specs.Follow.{follows, hands, takes_back}
-use Rattle.client_serving.specs.Grants.{is_stamp, supplies}
-use Rattle.client_serving.specs.Packets.{again, asks_for_maps, ends_fetch, hears, is_acked, is_gone, is_news, may_report, on_ack, on_body, on_forward, on_gone, on_grant, on_news, on_packet, on_poll, on_recall, on_supply, on_told, on_tick, on_welcome, polled, promised_in, promises, regroups, renews, reports, says_again, takes_news, told_at, told_by}
+use Rattle.client_serving.specs.Flights.{held_at, serving_write}
+use Rattle.client_serving.specs.Follow.{serving_follow, hand, take_back}
+use Rattle.client_serving.specs.Grants.{is_stamp, send_supply}
+use Rattle.client_serving.specs.Packets.{again, asks_for_maps, end_fetch, serving_hear, is_acked, is_gone, is_news, may_report, on_ack, take_body, on_forward, on_gone, on_grant, on_news, serving_take, on_poll, on_recall, on_supply, on_told, on_tick, on_welcome, polled, promised_in, serving_promise, regroups, serving_renew, reports, says_again, takes_news, told_at, told_by}
 use Rattle.client_serving.specs.Reads.{ends_reading, loses, with_reading}
 use Rattle.client_serving.specs.Sends.{Done, gives, report}
 use Rattle.delta_feed.specs.Transition.{acknowledged, new_epoch}
 use Rattle.group_map.specs.GroupMapState.{GroupMapState}
-use Rattle.log_owner.specs.Promised.{manager_set}
-use Rattle.log_owner.specs.Sending.{fetch, pushes_all}
+use Rattle.log_owner.specs.Promised.{managers_set}
+use Rattle.log_owner.specs.Sending.{fetch, push_all}
 use Rattle.node_base.specs.declared.effects.Effect.{Effect}
-use Rattle.node_base.specs.Known.{names_known}
-use Rattle.node_base.specs.Maps.{fits, is_older, taken}
+use Rattle.node_base.specs.Known.{names_known_groups}
+use Rattle.node_base.specs.Maps.{fits, is_older, maps_take}
 use Rattle.segment_reading.specs.declared.reading.Next.{Next}
 use Rattle.segment_reading.specs.declared.reading.Next.TheVariants as next
 use Rattle.segment_reading.specs.declared.target.BlockAt.{BlockAt}
-use Rattle.segment_reading.specs.Reading.{ReadingState, to_ask}
+use Rattle.segment_reading.specs.Reading.{ReadingState, reading_unanswered}
 use Rattle.stripe_code.specs.declared.round.Told.{Told as Answered}
 use Rattle.stripe_code.specs.declared.round.Told.TheVariants as answered
 use Rattle.token_client.specs.declared.input.In.TheVariants as input
@@ -45,65 +45,65 @@ use Rattle.xfs_base.specs.declared.node.NodeId.{NodeId}
 use Rattle.xfs_base.specs.declared.node.NodeId.TheVariants as node
 use Rattle.xfs_base.specs.Steps.{saying, steps, still}
 use Rattle.xfs_base.proofs.Alls.{all_flat_map, all_map}
-use Rattle.serving_moves.proofs.client_moves.Following.{ends_kept, follows_go, hands_go, reading_kept, takes_back_goes, writes_go}
+use Rattle.serving_moves.proofs.client_moves.Following.{ends_kept, follows_go, hands_go, reading_kept, take_back_goes, writes_go}
 use Rattle.serving_moves.proofs.client_moves.Keeping.{all_pushed_still, same_lasts, first_goes, from_goes, itself, plainly, same_call, stays, steps_go, then_goes, then_kept}
 use Rattle.serving_moves.specs.client_moves.Moves.{AllStill, Comes, IsStill, Kept, Moves}
 use Rattle.serving_moves.specs.client_moves.Moves.Comes.{Moved, Gone as Refused}
 
 -- ---- promises
 
-renews_kept : (s : Serving) (slot epoch : ℕ) → Kept s (renews s slot epoch)
-unfolding renews
+renews_kept : (s : Serving) (slot epoch : ℕ) → Kept s (serving_renew s slot epoch)
+unfolding serving_renew
 renews_kept s slot epoch =
     by_test (Kept s) (nat_lt (epoch_of s.tokens.epochs slot) epoch) (record s { feed = new_epoch s.feed slot }) s
     (λ _. record { calls = same_call _; lasts = same_lasts _; number = refl; items = refl }) (λ _. itself s)
 
-promises_keep : (s : Serving) (slot epoch manager : ℕ) → Kept s (promises s slot epoch manager).state
-unfolding promises
+promises_keep : (s : Serving) (slot epoch manager : ℕ) → Kept s (serving_promise s slot epoch manager).state
+unfolding serving_promise
 promises_keep s slot epoch manager =
-    let t : Serving = renews s slot epoch in
-    let u : Serving = record t { managers = manager_set t.managers slot manager; tokens = (client.on_promise t.tokens slot epoch).state } in
+    let t : Serving = serving_renew s slot epoch in
+    let u : Serving = record t { managers = managers_set t.managers slot manager; tokens = (client.on_promise t.tokens slot epoch).state } in
     let k : Kept u (ends_reading u) = ends_kept u in
     then_kept s t (ends_reading u) (renews_kept s slot epoch) (record { calls = k.calls; lasts = k.lasts; number = k.number; items = k.items })
 
-followed_goes : (s : Serving) (slot epoch manager : ℕ) → Moves s (follows (promises s slot epoch manager).state (promises s slot epoch manager).outs)
+followed_goes : (s : Serving) (slot epoch manager : ℕ) → Moves s (serving_follow (serving_promise s slot epoch manager).state (serving_promise s slot epoch manager).outs)
 followed_goes s slot epoch manager =
-    let p = promises s slot epoch manager in
-    from_goes s p.state (follows p.state p.outs) (promises_keep s slot epoch manager) (follows_go p.state p.outs)
+    let p = serving_promise s slot epoch manager in
+    from_goes s p.state (serving_follow p.state p.outs) (promises_keep s slot epoch manager) (follows_go p.state p.outs)
 
 polled_goes : (s : Serving) (manager : ℕ) (p : Poll) → Moves s (polled s manager p)
 unfolding polled
 polled_goes s manager p =
-    let kept = promises s p.slot p.epoch manager in
+    let kept = serving_promise s p.slot p.epoch manager in
     by_test (Moves s) (may_report s p) (reports p.slot p.epoch kept) (still s)
-    (λ _. first_goes s (report kept.state p.slot p.epoch ∷ []) (follows kept.state kept.outs) (tt, tt) (followed_goes s p.slot p.epoch manager))
+    (λ _. first_goes s (report kept.state p.slot p.epoch ∷ []) (serving_follow kept.state kept.outs) (tt, tt) (followed_goes s p.slot p.epoch manager))
     (λ _. stays s s (itself s))
 
 poll_goes : (s : Serving) (from : NodeId) (p : Poll) → Moves s (on_poll s from p)
 poll_goes s (node.Manager manager) p = polled_goes s manager p
 poll_goes s _ p = stays s s (itself s)
 
-hears_goes : (s : Serving) (news : SlotNews) → Moves s (hears s news)
-unfolding hears
+hears_goes : (s : Serving) (news : SlotNews) → Moves s (serving_hear s news)
+unfolding serving_hear
 hears_goes s news =
     by_test (Moves s) (is_news s news) (promised_in s news) (still s) (λ _. followed_goes s news.slot news.epoch news.manager) (λ _. stays s s (itself s))
 
 regroups_goes : (s : Serving) (newer : Bool) (m : GroupMapState) → Moves s (regroups s newer m)
-regroups_goes s newer m = by_test (Moves s) newer (writes s (log_in.Maps m)) (still s) (λ _. writes_go s (log_in.Maps m)) (λ _. stays s s (itself s))
+regroups_goes s newer m = by_test (Moves s) newer (serving_write s (log_in.Maps m)) (still s) (λ _. writes_go s (log_in.Maps m)) (λ _. stays s s (itself s))
 
 -- ---- tokens
 
 grant_goes : (s : Serving) (g : Grant) → Moves s (on_grant s g)
 unfolding on_grant
 grant_goes s g =
-    by_test (Moves s) _ (still s) (hands s (input.Granted g.block g.stamp g.inc g.req g.mode g.entry)) (λ _. stays s s (itself s))
+    by_test (Moves s) _ (still s) (hand s (input.Granted g.block g.stamp g.inc g.req g.mode g.entry)) (λ _. stays s s (itself s))
     (λ _. hands_go s (input.Granted g.block g.stamp g.inc g.req g.mode g.entry))
 
 supply_goes : (s : Serving) (m : Supply) → Moves s (on_supply s m)
 unfolding on_supply
 supply_goes s m = hands_go s (input.Supplied m.block m.stamp m.inc m.req m.ver m.value)
 
-supplies_plain : (f : Forward) (o : outputs.Out) → AllStill (supplies f o)
+supplies_plain : (f : Forward) (o : outputs.Out) → AllStill (send_supply f o)
 supplies_plain f (output.Supply block ver value) = (tt, tt)
 supplies_plain f _ = tt
 
@@ -111,7 +111,7 @@ forward_goes : (s : Serving) (f : Forward) → Moves s (on_forward s f)
 unfolding on_forward
 forward_goes s f =
     plainly s (on_forward s f) (record { calls = same_call _; lasts = same_lasts _; number = refl; items = refl })
-    (all_flat_map (IsStill) (supplies f) (supplies_plain f) (client.on_forwarded s.tokens f.block f.stamp f.ver).outs)
+    (all_flat_map (IsStill) (send_supply f) (supplies_plain f) (client.on_forwarded s.tokens f.block f.stamp f.ver).outs)
 
 again_plain : (s : Serving) (r : Recall) (outs : List outputs.Out) → AllStill (again s r outs)
 again_plain s r [] = tt
@@ -121,9 +121,9 @@ recall_goes : (s : Serving) (r : Recall) → Moves s (on_recall s r)
 unfolding on_recall
 recall_goes s r =
     let d = client.on_recalled s.tokens r.block r.stamp r.keep in
-    by_test (Moves s) (is_stamp (held_at s r.block).stamp r.stamp) (says_again s r d) (takes_back s r.block r.stamp r.keep)
+    by_test (Moves s) (is_stamp (held_at s r.block).stamp r.stamp) (says_again s r d) (take_back s r.block r.stamp r.keep)
     (λ _. plainly s (says_again s r d) (record { calls = same_call _; lasts = same_lasts _; number = refl; items = refl }) (again_plain (record s { tokens = d.state }) r d.outs))
-    (λ _. takes_back_goes s r.block r.stamp r.keep)
+    (λ _. take_back_goes s r.block r.stamp r.keep)
 
 gone_goes : (s : Serving) (g : Gone) → Comes s (on_gone s g)
 unfolding on_gone
@@ -138,7 +138,7 @@ ack_goes s a =
 
 -- ---- fragments
 
-fetch_goes : (s : Serving) (at : BlockAt) (x : Next) → Moves s (ends_fetch s at x)
+fetch_goes : (s : Serving) (at : BlockAt) (x : Next) → Moves s (end_fetch s at x)
 fetch_goes s at next.Again = hands_go s (input.Reask at.block)
 fetch_goes s at (next.Read segment) = hands_go s (input.Fetched at.block (value_at segment at.item))
 fetch_goes s at _ = stays s s (itself s)
@@ -146,14 +146,14 @@ fetch_goes s at _ = stays s s (itself s)
 told_goes : (s : Serving) (server ask : ℕ) (t : Answered) → Moves s (told_by s server ask t)
 unfolding told_by
 told_goes s server ask t =
-    let h = heard (reading_in s.call) s.maps.groups ask server t in
+    let h = hear_reading (reading_in s.call) s.maps.groups ask server t in
     by (block_read (reading_in s.call))
   where
-    by : (at : Option BlockAt) → Moves s (told_at s at (heard (reading_in s.call) s.maps.groups ask server t))
+    by : (at : Option BlockAt) → Moves s (told_at s at (hear_reading (reading_in s.call) s.maps.groups ask server t))
     by None = stays s s (itself s)
     by (Some at) =
-        let h = heard (reading_in s.call) s.maps.groups ask server t in
-        from_goes s (with_reading s h.reading) (ends_fetch (with_reading s h.reading) at h.next) (reading_kept s h.reading)
+        let h = hear_reading (reading_in s.call) s.maps.groups ask server t in
+        from_goes s (with_reading s h.reading) (end_fetch (with_reading s h.reading) at h.next) (reading_kept s h.reading)
         (fetch_goes (with_reading s h.reading) at h.next)
 
 on_told_goes : (s : Serving) (from : NodeId) (ask : ℕ) (t : Answered) → Moves s (on_told s from ask t)
@@ -165,10 +165,10 @@ on_told_goes s _ ask t = stays s s (itself s)
 takes_news_goes : (s : Serving) (news : News) → Moves s (takes_news s news)
 unfolding takes_news
 takes_news_goes s news =
-    let t : Serving = record s { maps = taken s.maps news } in
-    let d : Done = steps hears t news.slots in
+    let t : Serving = record s { maps = maps_take s.maps news } in
+    let d : Done = steps serving_hear t news.slots in
     from_goes s t (saying d.outs (regroups d.state (is_older s.maps news) news.groups)) (record { calls = same_call _; lasts = same_lasts _; number = refl; items = refl })
-    (then_goes t d (regroups d.state (is_older s.maps news) news.groups) (steps_go hears hears_goes t news.slots)
+    (then_goes t d (regroups d.state (is_older s.maps news) news.groups) (steps_go serving_hear hears_goes t news.slots)
     (regroups_goes d.state (is_older s.maps news) news.groups))
 
 news_goes : (s : Serving) (news : News) → Moves s (on_news s news)
@@ -182,7 +182,7 @@ welcome_goes s w =
 
 -- ---- a packet
 
-body_goes : (s : Serving) (from : NodeId) (b : Body) → Comes s (on_body s from b)
+body_goes : (s : Serving) (from : NodeId) (b : Body) → Comes s (take_body s from b)
 body_goes s from (body.Grant m) = Moved (grant_goes s m)
 body_goes s from (body.Supply m) = Moved (supply_goes s m)
 body_goes s from (body.Forward m) = Moved (forward_goes s m)
@@ -201,25 +201,25 @@ asks_goes : (s : Serving) → Moves s (asks_for_maps s)
 unfolding asks_for_maps
 asks_goes s = plainly s (asks_for_maps s) (record { calls = same_call _; lasts = same_lasts _; number = refl; items = refl }) (tt, tt)
 
-pub packet_goes : (s : Serving) (packet : Packet) → Comes s (on_packet s packet)
-unfolding on_packet
+pub packet_goes : (s : Serving) (packet : Packet) → Comes s (serving_take s packet)
+unfolding serving_take
 packet_goes s packet =
-    by_test (Comes s) (names_known s.maps packet.body) (on_body s packet.from packet.body) (asks_for_maps s) (λ _. body_goes s packet.from packet.body)
+    by_test (Comes s) (names_known_groups s.maps packet.body) (take_body s packet.from packet.body) (asks_for_maps s) (λ _. body_goes s packet.from packet.body)
     (λ _. Moved (asks_goes s))
 
 -- ---- time
 
-again_fetched : (o : Option ReadingState) → AllStill (fetches_again o)
+again_fetched : (o : Option ReadingState) → AllStill (fetch_again o)
 again_fetched None = tt
-again_fetched (Some r) = all_map (IsStill) (fetch r.target.seg.name r.ask) (λ member. tt) (to_ask r)
+again_fetched (Some r) = all_map (IsStill) (fetch r.target.seg.name r.ask) (λ member. tt) (reading_unanswered r)
 
 pub tick_goes : (s : Serving) → Moves s (on_tick s)
 unfolding on_tick
 tick_goes s =
-    let w : Done = hands s input.Tick in
-    let l : Done = writes w.state log_in.Tick in
-    let again : List Effect = fetches_again (reading_in w.state.call) in
-    let pushed : List Effect = pushes_all l.state.managers l.state.feed in
+    let w : Done = hand s input.Tick in
+    let l : Done = serving_write w.state log_in.Tick in
+    let again : List Effect = fetch_again (reading_in w.state.call) in
+    let pushed : List Effect = push_all l.state.managers l.state.feed in
     then_goes s w (gives l.state (again ++ (l.outs ++ pushed))) (hands_go s input.Tick)
     (first_goes w.state again (gives l.state (l.outs ++ pushed)) (again_fetched (reading_in w.state.call))
     (then_goes w.state l (gives l.state pushed) (writes_go w.state log_in.Tick)

@@ -1,7 +1,7 @@
 -- What a call on blocks makes of a client that serves is a list of moves.
 use Rattle.std.proofs.Common.{◌≡◌, ℕ, ◌+◌, ◌==◌, cond, Bool, true, false, List, [], ◌∷◌, ◌++◌, Option, Some, None, is_none, refl, sym, ap}
 use Rattle.client_call.specs.Blocks.{value_of}
-use Rattle.coop_cache.specs.Transition.{touched}
+use Rattle.coop_cache.specs.Transition.{touch}
 use Rattle.file_plan.specs.declared.block_call.BlockAnswer.{BlockAnswer}
 use Rattle.file_plan.specs.declared.block_call.BlockAnswer.TheVariants as answer
 use Rattle.node_base.specs.declared.effects.Effect.{Effect}
@@ -10,10 +10,10 @@ use Rattle.xfs_base.specs.Steps.{saying, still}
 use Rattle.client_log.specs.declared.input.In.{In as LogIn}
 use Rattle.client_log.specs.declared.input.In.TheVariants as log_in
 use Rattle.client_call.specs.Fitting.{put_fits}
-use Rattle.client_running.specs.Blocks.{changed, changes, changes_if_fits, got, gets, held_back, is_settled, lets_go, makes, needs, put_of, puts, puts_again, puts_at, syncs, wrote}
+use Rattle.client_running.specs.Blocks.{changed, changes, blocks_change, got, blocks_get, held_back, is_settled, blocks_let_go, blocks_make, blocks_need, put_of, blocks_put, puts_again, blocks_put_at, blocks_sync, wrote}
 use Rattle.client_serving.specs.declared.serving.Serving.{Serving}
-use Rattle.client_serving.specs.Flights.{held_at, writes}
-use Rattle.client_serving.specs.Follow.{hands, notes_gone, seals}
+use Rattle.client_serving.specs.Flights.{held_at, serving_write}
+use Rattle.client_serving.specs.Follow.{hand, note_gone, serving_seal}
 use Rattle.client_serving.specs.Sends.{Done, gives}
 use Rattle.file_plan.specs.declared.block_call.BlockCall.{BlockCall}
 use Rattle.file_plan.specs.declared.block_call.BlockCall.TheVariants.{Get, Put, PutAt, Sync}
@@ -26,7 +26,7 @@ use Rattle.xfs_base.proofs.Booleans.{by_test}
 use Rattle.xfs_base.specs.declared.block.BlockId.{BlockId}
 use Rattle.xfs_base.specs.declared.token.Mode.TheVariants.{Copy, Own}
 use Rattle.xfs_base.specs.Modes.{is_nothing}
-use Rattle.serving_moves.proofs.client_moves.Following.{hands_go, notes_gone_kept, seals_go, writes_go}
+use Rattle.serving_moves.proofs.client_moves.Following.{hands_go, note_gone_kept, seals_go, writes_go}
 use Rattle.serving_moves.proofs.client_moves.Keeping.{from_goes, itself, same_call, same_lasts, stays}
 use Rattle.serving_moves.specs.client_moves.Moves.{Fits, Kept, MakesSo, Moves, tells}
 use Rattle.headline.specs.Calls.{IsAnswerTo}
@@ -49,71 +49,71 @@ told_first : (s : Serving) (call : BlockCall) (d : Done) (a : BlockAnswer) → I
 told_first s call d a fits moves =
     record { first = still s; firstly = stays s s (itself s); last = d; lastly = moves; all = refl; fits = fits }
 
-needs_go : (s : Serving) (call : BlockCall) (block : BlockId) (mode : Mode) → MakesSo s call (needs s block mode)
-needs_go s call block mode = mute s call (hands s (input.Need block mode)) None refl tt (hands_go s (input.Need block mode))
+needs_go : (s : Serving) (call : BlockCall) (block : BlockId) (mode : Mode) → MakesSo s call (blocks_need s block mode)
+needs_go s call block mode = mute s call (hand s (input.Need block mode)) None refl tt (hands_go s (input.Need block mode))
 
-gets_go : (s : Serving) (block : BlockId) → MakesSo s (Get block) (gets s block)
-unfolding gets
+gets_go : (s : Serving) (block : BlockId) → MakesSo s (Get block) (blocks_get s block)
+unfolding blocks_get
 gets_go s block =
-    by_test (MakesSo s (Get block)) (is_nothing (held_at s block).mode) (needs s block Copy) (got s block (held_at s block))
+    by_test (MakesSo s (Get block)) (is_nothing (held_at s block).mode) (blocks_need s block Copy) (got s block (held_at s block))
     (λ _. needs_go s (Get block) block Copy)
-    (λ _. told_first s (Get block) (still (record s { cache = touched s.cache block })) (answer.Got (held_at s block).ver (value_of (held_at s block))) tt
-    (stays s (record s { cache = touched s.cache block }) (record { calls = same_call _; lasts = same_lasts _; number = refl; items = refl })))
+    (λ _. told_first s (Get block) (still (record s { cache = touch s.cache block })) (answer.Got (held_at s block).ver (value_of (held_at s block))) tt
+    (stays s (record s { cache = touch s.cache block }) (record { calls = same_call _; lasts = same_lasts _; number = refl; items = refl })))
 
 wrote_go : (s : Serving) (block : BlockId) (value : Option (List ℕ)) → Moves s (put_of (wrote s block value) block value)
 wrote_go s block value =
     let w : Serving = wrote s block value in
     let i : LogIn = log_in.Put block (record { ver = (held_at w block).ver; hop = 0; place = None }) value in
-    from_goes s w (writes w i) (record { calls = same_call _; lasts = same_lasts _; number = refl; items = refl }) (writes_go w i)
+    from_goes s w (serving_write w i) (record { calls = same_call _; lasts = same_lasts _; number = refl; items = refl }) (writes_go w i)
 
-lets_go_kept : (s : Serving) (block : BlockId) → Kept s (lets_go s block)
-lets_go_kept s block =
+blocks_let_go_kept : (s : Serving) (block : BlockId) → Kept s (blocks_let_go s block)
+blocks_let_go_kept s block =
     let t : Serving = record s { tokens = (on_evict s.tokens block).state } in
-    let k : Kept t (notes_gone t block) = notes_gone_kept t block in
-    by_test (Kept s) (is_none (held_at s block).value) (notes_gone t block) s
+    let k : Kept t (note_gone t block) = note_gone_kept t block in
+    by_test (Kept s) (is_none (held_at s block).value) (note_gone t block) s
     (λ _. record { calls = k.calls; lasts = k.lasts; number = k.number; items = k.items }) (λ _. itself s)
 
-let_go : (s : Serving) (block : BlockId) → Moves s (gives (lets_go s block) [])
-let_go s block = stays s (lets_go s block) (lets_go_kept s block)
+let_go : (s : Serving) (block : BlockId) → Moves s (gives (blocks_let_go s block) [])
+let_go s block = stays s (blocks_let_go s block) (blocks_let_go_kept s block)
 
-put_go : (s : Serving) (block : BlockId) (value : Option (List ℕ)) → MakesSo s (Put block value) (changes_if_fits s block value)
-unfolding changes_if_fits changes
+put_go : (s : Serving) (block : BlockId) (value : Option (List ℕ)) → MakesSo s (Put block value) (blocks_change s block value)
+unfolding blocks_change changes
 put_go s block value =
     by_test (MakesSo s (Put block value)) (put_fits block ((held_at s block).ver + 1) value) (changes s block value) (held_back s block)
     (λ _. told_first s (Put block value) (put_of (wrote s block value) block value) (answer.Put (held_at (wrote s block value) block).ver) tt
-    (wrote_go s block value)) (λ _. mute s (Put block value) (gives (lets_go s block) []) None refl tt (let_go s block))
+    (wrote_go s block value)) (λ _. mute s (Put block value) (gives (blocks_let_go s block) []) None refl tt (let_go s block))
 
-put_at_go : (s : Serving) (block : BlockId) (ver : ℕ) (value : Option (List ℕ)) → MakesSo s (PutAt block ver value) (changes_if_fits s block value)
-unfolding changes_if_fits changes
+put_at_go : (s : Serving) (block : BlockId) (ver : ℕ) (value : Option (List ℕ)) → MakesSo s (PutAt block ver value) (blocks_change s block value)
+unfolding blocks_change changes
 put_at_go s block ver value =
     by_test (MakesSo s (PutAt block ver value)) (put_fits block ((held_at s block).ver + 1) value) (changes s block value) (held_back s block)
     (λ _. told_first s (PutAt block ver value) (put_of (wrote s block value) block value) (answer.Put (held_at (wrote s block value) block).ver) tt
-    (wrote_go s block value)) (λ _. mute s (PutAt block ver value) (gives (lets_go s block) []) None refl tt (let_go s block))
+    (wrote_go s block value)) (λ _. mute s (PutAt block ver value) (gives (blocks_let_go s block) []) None refl tt (let_go s block))
 
-puts_go : (s : Serving) (block : BlockId) (value : Option (List ℕ)) → MakesSo s (Put block value) (puts s block value)
-unfolding puts
+puts_go : (s : Serving) (block : BlockId) (value : Option (List ℕ)) → MakesSo s (Put block value) (blocks_put s block value)
+unfolding blocks_put
 puts_go s block value =
-    by_test (MakesSo s (Put block value)) (may_write (held_at s block)) (changes_if_fits s block value) (needs s block Own)
+    by_test (MakesSo s (Put block value)) (may_write (held_at s block)) (blocks_change s block value) (blocks_need s block Own)
     (λ _. put_go s block value) (λ _. needs_go s (Put block value) block Own)
 
 puts_again_go : (s : Serving) (block : BlockId) (ver : ℕ) (value : Option (List ℕ)) → MakesSo s (PutAt block ver value) (puts_again s block ver value)
 puts_again_go s block ver value =
-    by_test (MakesSo s (PutAt block ver value)) ((held_at s block).ver == ver) (changes_if_fits s block value) (changed s block)
+    by_test (MakesSo s (PutAt block ver value)) ((held_at s block).ver == ver) (blocks_change s block value) (changed s block)
     (λ _. put_at_go s block ver value)
-    (λ _. mute s (PutAt block ver value) (gives (lets_go s block) []) (Some answer.Changed) refl tt (let_go s block))
+    (λ _. mute s (PutAt block ver value) (gives (blocks_let_go s block) []) (Some answer.Changed) refl tt (let_go s block))
 
-puts_at_go : (s : Serving) (block : BlockId) (ver : ℕ) (value : Option (List ℕ)) → MakesSo s (PutAt block ver value) (puts_at s block ver value)
-unfolding puts_at
-puts_at_go s block ver value =
-    by_test (MakesSo s (PutAt block ver value)) (may_write (held_at s block)) (puts_again s block ver value) (needs s block Own)
+blocks_put_at_go : (s : Serving) (block : BlockId) (ver : ℕ) (value : Option (List ℕ)) → MakesSo s (PutAt block ver value) (blocks_put_at s block ver value)
+unfolding blocks_put_at
+blocks_put_at_go s block ver value =
+    by_test (MakesSo s (PutAt block ver value)) (may_write (held_at s block)) (puts_again s block ver value) (blocks_need s block Own)
     (λ _. puts_again_go s block ver value) (λ _. needs_go s (PutAt block ver value) block Own)
 
-seals_number : (s : Serving) → (seals s).state.lasting.number ≡ s.lasting.number
-unfolding seals
+seals_number : (s : Serving) → (serving_seal s).state.lasting.number ≡ s.lasting.number
+unfolding serving_seal
 seals_number s = refl
 
-syncs_go : (s : Serving) → MakesSo s Sync (syncs s)
-unfolding syncs
+syncs_go : (s : Serving) → MakesSo s Sync (blocks_sync s)
+unfolding blocks_sync
 syncs_go s = record {
   first = d;
   firstly = seals_go s;
@@ -124,7 +124,7 @@ syncs_go s = record {
 }
   where
     d : Done
-    d = seals s
+    d = serving_seal s
 
     by : (t : Bool) → cond t (Does (Synced d.state.lasting.number) ∷ []) [] ≡ tells s.lasting.number Sync (cond t (Some answer.Synced) None) ++ []
     by true = ap (λ (n : ℕ). Does (Synced n) ∷ []) (seals_number s)
@@ -134,9 +134,9 @@ syncs_go s = record {
     fits true = tt
     fits false = tt
 
-pub makes_go : (s : Serving) (call : BlockCall) → MakesSo s call (makes s call)
-unfolding makes
+pub makes_go : (s : Serving) (call : BlockCall) → MakesSo s call (blocks_make s call)
+unfolding blocks_make
 makes_go s (Get block) = gets_go s block
 makes_go s (Put block value) = puts_go s block value
-makes_go s (PutAt block ver value) = puts_at_go s block ver value
+makes_go s (PutAt block ver value) = blocks_put_at_go s block ver value
 makes_go s Sync = syncs_go s

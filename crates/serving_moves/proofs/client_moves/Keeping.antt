@@ -12,9 +12,9 @@ use Rattle.xfs_base.specs.Steps.{saying, steps, still}
 use Rattle.delta_feed.specs.declared.output.Out.{Out as RangeOut}
 use Rattle.delta_feed.specs.declared.output.Out.TheVariants.{Range}
 use Rattle.delta_feed.specs.FeedState.{FeedState}
-use Rattle.delta_feed.specs.Transition.{pushed, ticked}
+use Rattle.delta_feed.specs.Transition.{feed_push, feed_tick}
 use Rattle.log_owner.specs.declared.promised.Managers.{Managers}
-use Rattle.log_owner.specs.Sending.{pushes, pushes_all, range}
+use Rattle.log_owner.specs.Sending.{sending_push, push_all, range}
 use Rattle.node_base.specs.declared.effects.Effect.TheVariants.{Send, Answer as Answers, Lose, Does}
 use Rattle.version_model.specs.declared.act.Act.{Act}
 use Rattle.version_model.specs.declared.act.Act.TheVariants as act
@@ -74,11 +74,11 @@ all_still_plain outs all = all_weaker IsStill (IsPlain Answering) still_plain ou
 range_still : (managers : Managers) (x : RangeOut) → IsStill (range managers x)
 range_still managers (Range slot first upto rows) = tt
 
-pub pushed_still : (managers : Managers) (feed : FeedState) (slot : ℕ) → AllStill (pushes managers feed slot)
-pushed_still managers feed slot = all_map IsStill (range managers) (range_still managers) (pushed feed slot)
+pub pushed_still : (managers : Managers) (feed : FeedState) (slot : ℕ) → AllStill (sending_push managers feed slot)
+pushed_still managers feed slot = all_map IsStill (range managers) (range_still managers) (feed_push feed slot)
 
-pub all_pushed_still : (managers : Managers) (feed : FeedState) → AllStill (pushes_all managers feed)
-all_pushed_still managers feed = all_map IsStill (range managers) (range_still managers) (ticked feed)
+pub all_pushed_still : (managers : Managers) (feed : FeedState) → AllStill (push_all managers feed)
+all_pushed_still managers feed = all_map IsStill (range managers) (range_still managers) (feed_tick feed)
 
 -- ---- moves
 

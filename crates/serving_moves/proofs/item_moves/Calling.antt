@@ -1,16 +1,16 @@
 -- What the open call makes of the items of a client that serves: whatever it answers, that is the open item. `P` is asked of the plan of the open call, and `J`
 -- is so of what it answers then.
 use Rattle.std.proofs.Common.{subst, ◌≡◌, ℕ, zero, suc, [], ◌∷◌, Option, Some, None, is_some, refl, sym}
-use Rattle.client_call.specs.Calls.{after_answer, call_of}
+use Rattle.client_call.specs.Calls.{plan_answered, call_of}
 use Rattle.client_call.specs.declared.call.Call.{Call}
 use Rattle.client_call.specs.declared.call.Going.{Going}
-use Rattle.client_running.specs.Blocks.{Made, makes}
+use Rattle.client_running.specs.Blocks.{Made, blocks_make}
 use Rattle.client_serving.specs.declared.serving.Serving.{Serving}
-use Rattle.client_running.specs.Opens.{begins_call, call_at, opens}
-use Rattle.client_running.specs.Running.{Ran, answers_call, goes_on, most_steps, ran, runs, runs_call, runs_once, runs_upto}
+use Rattle.client_running.specs.Opens.{begin_call, call_at, opens}
+use Rattle.client_running.specs.Running.{Ran, take_answer, running_go_on, most_steps, ran, run, runs_call, run_once, run_upto}
 use Rattle.client_serving.specs.Sends.{Done, gives}
 use Rattle.file_plan.specs.declared.block_call.BlockAnswer.{BlockAnswer}
-use Rattle.node_base.specs.Beginning.{waiting, work_at}
+use Rattle.node_base.specs.Beginning.{items_wait, work_at}
 use Rattle.node_base.specs.declared.effects.Effect.TheVariants.{Answer as Answers}
 use Rattle.version_model.specs.declared.answer.Answer.TheVariants as answer
 use Rattle.xfs_base.proofs.Booleans.{by_test}
@@ -82,53 +82,53 @@ module _ (P : Plan → Type 0) (J : Answer → Type 0) where
   -- ---- the open call
 
   -- the call goes on, or its item is answered
-  pub goes_on_went : (s : Serving) (going : Going) → GoingSo P J going → Went s (goes_on s going)
-  unfolding goes_on
-  goes_on_went s (goings.On call) so = turns s (record s { call = Some call }) (λ _. so) refl (same (items_of s))
-  goes_on_went s (goings.Ends a) so = record { calls = λ h. h; does = record { its_number = refl; moves = Last (Ends a so) } }
+  pub running_go_on_went : (s : Serving) (going : Going) → GoingSo P J going → Went s (running_go_on s going)
+  unfolding running_go_on
+  running_go_on_went s (goings.On call) so = turns s (record s { call = Some call }) (λ _. so) refl (same (items_of s))
+  running_go_on_went s (goings.Ends a) so = record { calls = λ h. h; does = record { its_number = refl; moves = Last (Ends a so) } }
 
-  module _ (after : (p : Plan) (a : BlockAnswer) → P p → GoingSo P J (after_answer p a))
+  module _ (after : (p : Plan) (a : BlockAnswer) → P p → GoingSo P J (plan_answered p a))
       (starts : (w : Work) (number self : ℕ) → BeginsSo P J (call_of w number self)) where
-    answers_went : (s : Serving) (call : Call) (a : Option BlockAnswer) → P call.plan → Went s (answers_call s call a).done
+    answers_went : (s : Serving) (call : Call) (a : Option BlockAnswer) → P call.plan → Went s (take_answer s call a).done
     answers_went s call None so = turns s (record s { call = Some call }) (λ _. so) refl (same (items_of s))
-    answers_went s call (Some a) so = goes_on_went s (after_answer call.plan a) (after call.plan a so)
+    answers_went s call (Some a) so = running_go_on_went s (plan_answered call.plan a) (after call.plan a so)
 
     call_went : (s : Serving) (call : Option Call) → CallSo P call → Went s (runs_call s call).done
     call_went s None so = turns s s (λ h. h) refl (same (items_of s))
     call_went s (Some call) so =
         let u : Serving = record s { call = None } in
-        let m : Made = makes u call.step in
+        let m : Made = blocks_make u call.step in
         then_went s (still u) (ran call m).done (turns s u (λ _. tt) refl (same (items_of s)))
-        (then_went u m.done (answers_call m.done.state call m.answer).done (went u m.done (makes_go u call.step))
+        (then_went u m.done (take_answer m.done.state call m.answer).done (went u m.done (makes_go u call.step))
         (answers_went m.done.state call m.answer so))
 
-    once_went : (s : Serving) → CallSo P s.call → Went s (runs_once s).done
-    unfolding runs_once
+    once_went : (s : Serving) → CallSo P s.call → Went s (run_once s).done
+    unfolding run_once
     once_went s so = call_went s s.call so
 
-    upto_went : (k : ℕ) (s : Serving) → CallSo P s.call → Went s (runs_upto k s)
-    unfolding runs_upto
+    upto_went : (k : ℕ) (s : Serving) → CallSo P s.call → Went s (run_upto k s)
+    unfolding run_upto
     upto_went zero s so = turns s s (λ h. h) refl (same (items_of s))
     upto_went (suc k) s so =
-        let r : Ran = runs_once s in
+        let r : Ran = run_once s in
         let one : Went s r.done = once_went s so in
-        by_test (Went s) r.goes (saying r.done.outs (runs_upto k r.done.state)) r.done
-        (λ _. then_went s r.done (runs_upto k r.done.state) one (upto_went k r.done.state (one.calls so))) (λ _. one)
+        by_test (Went s) r.goes (saying r.done.outs (run_upto k r.done.state)) r.done
+        (λ _. then_went s r.done (run_upto k r.done.state) one (upto_went k r.done.state (one.calls so))) (λ _. one)
 
     -- what is done, and then the open call runs
-    pub then_runs_went : (s : Serving) (d : Done) → CallSo P s.call → Went s d → Went s (saying d.outs (runs d.state))
-    unfolding runs
-    then_runs_went s d so w = then_went s d (runs_upto most_steps d.state) w (upto_went most_steps d.state (w.calls so))
+    pub then_runs_went : (s : Serving) (d : Done) → CallSo P s.call → Went s d → Went s (saying d.outs (run d.state))
+    unfolding run
+    then_runs_went s d so w = then_went s d (run_upto most_steps d.state) w (upto_went most_steps d.state (w.calls so))
 
     -- ---- a call begins
 
-    begins_went : (s : Serving) (number : ℕ) → CallSo P s.call → (going : Option Going) → BeginsSo P J going → Opens number s (begins_call s number going)
+    begins_went : (s : Serving) (number : ℕ) → CallSo P s.call → (going : Option Going) → BeginsSo P J going → Opens number s (begin_call s number going)
     begins_went s number so None begins =
         record { calls = so; does = record { its_number = refl; begun = AtOnce answer.Done [] [] tt tt tt } }
     begins_went s number so (Some going) begins =
-        let t : Serving = record s { lasting = record s.lasting { items = waiting s.lasting.items number } } in
-        let w : Went t (saying (goes_on t going).outs (runs (goes_on t going).state)) =
-        then_runs_went t (goes_on t going) so (goes_on_went t going begins) in
+        let t : Serving = record s { lasting = record s.lasting { items = items_wait s.lasting.items number } } in
+        let w : Went t (saying (running_go_on t going).outs (run (running_go_on t going).state)) =
+        then_runs_went t (running_go_on t going) so (running_go_on_went t going begins) in
         record { calls = w.calls so; does = record { its_number = w.does.its_number; begun = Waits w.does.moves } }
 
     starts_at : (s : Serving) (number : ℕ) (asked : Option Work) → BeginsSo P J (call_at s number asked)
@@ -139,6 +139,6 @@ module _ (P : Plan → Type 0) (J : Answer → Type 0) where
     unfolding opens
     opens_went s number so =
         by_test (Opens number s) (is_some s.lasting.items.unanswered) (gives s (Answers number answer.Busy ∷ []))
-        (begins_call s number (call_at s number (work_at s.lasting.items number)))
+        (begin_call s number (call_at s number (work_at s.lasting.items number)))
         (λ _. record { calls = so; does = record { its_number = refl; begun = AtOnce answer.Busy [] [] tt tt tt } })
         (λ _. begins_went s number so (call_at s number (work_at s.lasting.items number)) (starts_at s number (work_at s.lasting.items number)))

@@ -3,7 +3,7 @@ use Rattle.std.proofs.Common.{◌≡◌, ℕ, [], Option, Some, None, refl, sym,
 use Rattle.cleaner_serving.specs.declared.emptying.Emptying.{Emptying}
 use Rattle.cleaner_serving.specs.EmptyingEvents.{on_clean, on_packet, on_tick}
 use Rattle.cleaner_serving.specs.Jobs.{Done}
-use Rattle.cleaner_node.specs.CleanerEvents.{Went_to, after_opening, begun_life, crashes, down_at, down_wishes, happens, hears, lasting_of, on_begin, on_deliver, on_time, opened_on, opening_at, opening_wishes, phase_room, restarts, serves_on, serving_at, serving_wishes, takes, wish_of}
+use Rattle.cleaner_node.specs.CleanerEvents.{Went_to, after_opening, begun_life, crash, down_at, down_wishes, happens, cleaner_hear, lasting_of, on_begin, on_deliver, on_time, opened_on, opening_at, opening_wishes, phase_has_room, restart, serves_on, serving_at, serving_wishes, takes, wish_of}
 use Rattle.cleaner_node.specs.declared.cleaner.Cleaner.{Cleaner}
 use Rattle.cleaner_node.specs.declared.cleaner.Phase.{Phase}
 use Rattle.cleaner_node.specs.declared.cleaner.Phase.TheVariants.{Down, Opening, Serving}
@@ -13,8 +13,8 @@ use Rattle.log_owner.specs.declared.opened.Progress.TheVariants as progress
 use Rattle.log_owner.specs.declared.opening.Opening as openings
 use Rattle.log_owner.specs.Opening as opening
 use Rattle.log_owner.specs.Opening.{Went}
-use Rattle.log_owner.specs.Sending.{pushes_all}
-use Rattle.node_base.specs.Beginning.{work_at, begun, next_item, waiting}
+use Rattle.log_owner.specs.Sending.{push_all}
+use Rattle.node_base.specs.Beginning.{work_at, items_begin, next_item, items_wait}
 use Rattle.node_base.specs.declared.items.Items.{Items}
 use Rattle.node_base.specs.declared.peers.Peers.{Peers}
 use Rattle.node_base.specs.Shape.{is_well_formed}
@@ -75,7 +75,7 @@ module _ (l : Lasting) (o : openings.Opening) (what : Do) where
       by (progress.Opened r) says = record {
         its_number = refl;
         event = GoesOn
-            (is_back (log_losses o.stage) IsCleaners l.items w.effects g.plain tt (pushes_all r.promised.managers r.feed)
+            (is_back (log_losses o.stage) IsCleaners l.items w.effects g.plain tt (push_all r.promised.managers r.feed)
             (all_pushed_plain (log_losses o.stage) r.promised.managers r.feed));
       }
       by (progress.Lost name) says =
@@ -88,15 +88,15 @@ module _ (l : Lasting) (number : ℕ) (its : next_item l.items ≡ Some number) 
   m = begun_life l
 
   down_so : (servers : ℕ) (wanted : Option Work) → Turned Begin (Down l) (down_wishes servers m number (wish_of wanted))
-  unfolding restarts
+  unfolding restart
   down_so servers None = record { its_number = refl; event = Begins number refl its (AtOnce answer.Down [] [] tt tt tt) }
   down_so servers (Some (work.Restart node)) =
-      record { its_number = refl; event = Begins number refl its (Waits (Last (Stays (same (waiting (begun l.items) number)) (tt, tt)))) }
+      record { its_number = refl; event = Begins number refl its (Waits (Last (Stays (same (items_wait (items_begin l.items) number)) (tt, tt)))) }
   down_so servers (Some _) = record { its_number = refl; event = Begins number refl its (AtOnce answer.Down [] [] tt tt tt) }
 
   opening_so : (o : openings.Opening) (wanted : Option Work) → work_at m.items number ≡ wanted
       → Turned Begin (Opening l o) (opening_wishes m o number (wish_of wanted))
-  unfolding crashes
+  unfolding crash
   opening_so o None e = record { its_number = refl; event = Begins number refl its (AtOnce answer.Down [] [] tt tt tt) }
   opening_so o (Some (work.Crash node)) e = record { its_number = refl; event = Cuts number [] [] refl its (subst Falls (sym e) tt) tt tt }
   opening_so o (Some (work.Restart node)) e = record { its_number = refl; event = Begins number refl its (AtOnce answer.Up [] [] tt tt tt) }
@@ -117,7 +117,7 @@ module _ (e : Emptying) (number : ℕ) (its : next_item e.lasting.items ≡ Some
       }
 
   serving_so : (wanted : Option Work) → work_at f.lasting.items number ≡ wanted → Turned Begin (Serving e) (serving_wishes f number (wish_of wanted))
-  unfolding crashes
+  unfolding crash
   serving_so None same_ = clean_so 0
   serving_so (Some (work.Crash node)) same_ = record { its_number = refl; event = Cuts number [] [] refl its (subst Falls (sym same_) tt) tt tt }
   serving_so (Some (work.Restart node)) same_ = record { its_number = refl; event = Begins number refl its (AtOnce answer.Up [] [] tt tt tt) }
@@ -144,11 +144,11 @@ begin_turned servers (Serving e) = by (next_item e.lasting.items) refl
 
 -- ---- packets and time
 
-hears_turned : (p : Phase) (packet : Packet) → Turned (Deliver packet) p (hears p packet)
-unfolding hears
+hears_turned : (p : Phase) (packet : Packet) → Turned (Deliver packet) p (cleaner_hear p packet)
+unfolding cleaner_hear
 hears_turned (Down l) packet = unmoved (Deliver packet) (Down l)
 hears_turned (Opening l o) packet =
-    opened_so l o (Deliver packet) (opening.on_packet o l.questions packet) (openly.packet_goes o l.questions packet)
+    opened_so l o (Deliver packet) (opening.opening_take o l.questions packet) (openly.packet_goes o l.questions packet)
 hears_turned (Serving e) packet = served_so e (Deliver packet) (on_packet e packet) (emptied.packet_goes e packet)
 
 time_turned : (p : Phase) → Turned Tick p (on_time p)
@@ -161,11 +161,11 @@ happens_turned : (peers : Peers) (p : Phase) (what : Do) → Turned what p (happ
 unfolding on_deliver
 happens_turned peers p Begin = begin_turned peers.servers p
 happens_turned peers p (Deliver packet) =
-    by_test (Turned (Deliver packet) p) (is_well_formed peers packet) (hears p packet) (still p) (λ _. hears_turned p packet)
+    by_test (Turned (Deliver packet) p) (is_well_formed peers packet) (cleaner_hear p packet) (still p) (λ _. hears_turned p packet)
     (λ _. unmoved (Deliver packet) p)
 happens_turned peers p Tick = time_turned p
 
 pub cleaner_turned : (c : Cleaner) (what : Do) → Turned what c.phase (takes c.peers c.phase what)
 cleaner_turned c what =
-    by_test (Turned what c.phase) (phase_room c.phase) (happens c.peers c.phase what) (still c.phase) (λ _. happens_turned c.peers c.phase what)
+    by_test (Turned what c.phase) (phase_has_room c.phase) (happens c.peers c.phase what) (still c.phase) (λ _. happens_turned c.peers c.phase what)
     (λ _. unmoved what c.phase)

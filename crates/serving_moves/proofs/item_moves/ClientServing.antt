@@ -1,10 +1,10 @@
 -- What a client that serves makes of its items for what comes, for time and for a call on blocks, read off its moves: it answers the open item only where a
 -- segment is lost.
 use Rattle.std.proofs.Common.{◌≡◌, List, Option, Some, None, [], ◌∷◌, inl, ℕ, refl, sym, subst}
-use Rattle.client_running.specs.Blocks.{makes}
+use Rattle.client_running.specs.Blocks.{blocks_make}
 use Rattle.client_serving.specs.declared.serving.Serving.{Serving}
-use Rattle.client_serving.specs.Follow.{seals}
-use Rattle.client_serving.specs.Packets.{on_packet, on_tick}
+use Rattle.client_serving.specs.Follow.{serving_seal}
+use Rattle.client_serving.specs.Packets.{serving_take, on_tick}
 use Rattle.client_serving.specs.Reads.{loses}
 use Rattle.client_serving.specs.Sends.{Done}
 use Rattle.file_plan.specs.declared.block_call.BlockCall.{BlockCall}
@@ -72,14 +72,14 @@ comes_go : (s : Serving) (d : Done) → Comes s d → Goes s d
 comes_go s d (Moved moves) = moves_go s d moves
 comes_go s d (Gone block name) = loses_goes s block name
 
-pub packet_goes : (s : Serving) (packet : Packet) → Goes s (on_packet s packet)
-packet_goes s packet = comes_go s (on_packet s packet) (arriving.packet_goes s packet)
+pub packet_goes : (s : Serving) (packet : Packet) → Goes s (serving_take s packet)
+packet_goes s packet = comes_go s (serving_take s packet) (arriving.packet_goes s packet)
 
 pub tick_goes : (s : Serving) → Goes s (on_tick s)
 tick_goes s = moves_go s (on_tick s) (arriving.tick_goes s)
 
-pub seals_go : (s : Serving) → Goes s (seals s)
-seals_go s = moves_go s (seals s) (following.seals_go s)
+pub seals_go : (s : Serving) → Goes s (serving_seal s)
+seals_go s = moves_go s (serving_seal s) (following.seals_go s)
 
 told_plain : (client : ℕ) (call : BlockCall) (a : Option BlockAnswer) → AllPlain Answering (tells client call a)
 told_plain client call None = tt
@@ -89,14 +89,14 @@ told_plain client (PutAt block named value) (Some (Written ver)) = (tt, tt)
 told_plain client Sync (Some Synced) = (tt, tt)
 told_plain client _ (Some _) = tt
 
-pub makes_go : (s : Serving) (call : BlockCall) → Goes s (makes s call).done
+pub makes_go : (s : Serving) (call : BlockCall) → Goes s (blocks_make s call).done
 makes_go s call =
-    let m : MakesSo s call (makes s call) = blocks.makes_go s call in
-    let said : List Effect = tells s.lasting.number call (makes s call).answer in
+    let m : MakesSo s call (blocks_make s call) = blocks.makes_go s call in
+    let said : List Effect = tells s.lasting.number call (blocks_make s call).answer in
     subst (Goes s) (sym m.all)
     (both_go s m.first (saying said m.last) (moves_go s m.first m.firstly)
     (both_go m.first.state (record { state = m.first.state; outs = said }) m.last
-    (quiet_goes m.first.state (record { state = m.first.state; outs = said }) (itself m.first.state) (told_plain s.lasting.number call (makes s call).answer))
+    (quiet_goes m.first.state (record { state = m.first.state; outs = said }) (itself m.first.state) (told_plain s.lasting.number call (blocks_make s call).answer))
     (moves_go m.first.state m.last m.lastly)))
 
 pub items_stay : (s : Serving) (d : Done) → Goes s d → ItemsStay (items_of s) (items_of d.state)

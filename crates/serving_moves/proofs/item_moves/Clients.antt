@@ -3,20 +3,20 @@ use Rattle.std.proofs.Common.{sym, subst, ◌∷◌, ◌≡◌, ℕ, [], Option,
 use Rattle.client_node.specs.declared.client.Client.{Client}
 use Rattle.client_node.specs.declared.phase.Phase.{Phase}
 use Rattle.client_node.specs.declared.phase.Phase.TheVariants.{Down, Opening, Serving as Serves}
-use Rattle.client_node.specs.Phases.{Went_to, after_opening, begins_item, client_room, down_begins, happens, item_begins, lasting_of, on_begin, on_deliver, on_time, opened_on, opening_begins, serving_begins, takes, wish_of, with_begun}
+use Rattle.client_node.specs.Phases.{Went_to, phase_after, begins_item, client_has_room, down_begins, happens, item_begins, lasting_of, on_begin, on_deliver, client_tick, opened_on, opening_begins, serving_begins, takes, wish_of, with_begun}
 use Rattle.client_running.specs.Opens.{opens}
-use Rattle.client_running.specs.Running.{runs}
+use Rattle.client_running.specs.Running.{run}
 use Rattle.client_serving.specs.declared.lasting.Lasting.{Lasting}
 use Rattle.client_serving.specs.declared.serving.Serving.{Serving}
-use Rattle.client_serving.specs.Packets.{on_packet, on_tick}
+use Rattle.client_serving.specs.Packets.{serving_take, on_tick}
 use Rattle.client_serving.specs.Sends.{Done}
 use Rattle.log_owner.specs.declared.opened.Progress.{Progress}
 use Rattle.log_owner.specs.declared.opened.Progress.TheVariants as progress
 use Rattle.log_owner.specs.declared.opening.Opening as openings
 use Rattle.log_owner.specs.Opening as opening
 use Rattle.log_owner.specs.Opening.{Went as Went_to_open}
-use Rattle.log_owner.specs.Sending.{pushes_all}
-use Rattle.node_base.specs.Beginning.{waiting, begun, next_item, work_at}
+use Rattle.log_owner.specs.Sending.{push_all}
+use Rattle.node_base.specs.Beginning.{items_wait, items_begin, next_item, work_at}
 use Rattle.node_base.specs.declared.items.Items.{Items}
 use Rattle.node_base.specs.Shape.{is_well_formed}
 use Rattle.version_model.specs.declared.answer.Answer.{Answer}
@@ -28,7 +28,7 @@ use Rattle.wire_msg.specs.declared.packet.Do.TheVariants.{Begin, Deliver, Tick}
 use Rattle.wire_msg.specs.declared.packet.Packet.{Packet}
 use Rattle.xfs_base.proofs.Booleans.{by_test}
 use Rattle.xfs_base.specs.Steps.{saying, still}
-use Rattle.client_call.specs.Calls.{after_answer, call_of}
+use Rattle.client_call.specs.Calls.{plan_answered, call_of}
 use Rattle.client_call.specs.declared.call.Call.{Call}
 use Rattle.client_call.specs.declared.call.Going.{Going}
 use Rattle.client_call.specs.declared.call.Going.TheVariants as goings
@@ -83,7 +83,7 @@ module _ (P : Plan → Type 0) (J : Answer → Type 0) where
     opened_so w g = by w.progress g.says
       where
         by : (p : Progress) → openly.SaysLoss p w.effects
-            → Turned what (Opening l o) (saying w.effects (after_opening (record l { questions = w.questions }) capacity p))
+            → Turned what (Opening l o) (saying w.effects (phase_after (record l { questions = w.questions }) capacity p))
         by (progress.Opening r) says =
             record { calls = tt; does = record { its_number = refl; event = GoesOn (goes_on (client_log_losses o.stage) J l.items w.effects (client_plain o.stage w.effects g.plain)) } }
         by (progress.Opened r) says = record {
@@ -91,7 +91,7 @@ module _ (P : Plan → Type 0) (J : Answer → Type 0) where
           does = record {
             its_number = refl;
             event = GoesOn
-                (is_back (client_log_losses o.stage) J l.items w.effects (client_plain o.stage w.effects g.plain) done (Does (Back l.number r.chain) ∷ pushes_all r.promised.managers r.feed)
+                (is_back (client_log_losses o.stage) J l.items w.effects (client_plain o.stage w.effects g.plain) done (Does (Back l.number r.chain) ∷ push_all r.promised.managers r.feed)
                 (may_be_back o.stage l.number r.chain, all_pushed_plain (client_log_losses o.stage) r.promised.managers r.feed));
           };
         }
@@ -102,13 +102,13 @@ module _ (P : Plan → Type 0) (J : Answer → Type 0) where
 
   module _ (l : Lasting) (number : ℕ) (its : next_item l.items ≡ Some number) where
     abbrev m : Lasting
-    m = record l { items = begun l.items }
+    m = record l { items = items_begin l.items }
 
     down_so : (servers : ℕ) (wanted : Option Work) → Turned Begin (Down l) (down_begins servers m number (wish_of wanted))
     down_so servers None = record { calls = tt; does = record { its_number = refl; event = Begins number refl its (AtOnce answer.Down [] [] tt tt tt) } }
     down_so servers (Some (work.Restart node)) = record {
       calls = tt;
-      does = record { its_number = refl; event = Begins number refl its (Waits (Last (Stays (same (waiting (begun l.items) number)) (tt, tt)))) };
+      does = record { its_number = refl; event = Begins number refl its (Waits (Last (Stays (same (items_wait (items_begin l.items) number)) (tt, tt)))) };
     }
     down_so servers (Some (work.Crash node)) =
         record { calls = tt; does = record { its_number = refl; event = Begins number refl its (AtOnce answer.Down [] [] tt tt tt) } }
@@ -125,11 +125,11 @@ module _ (P : Plan → Type 0) (J : Answer → Type 0) where
     opening_so o (Some other) e =
         record { calls = tt; does = record { its_number = refl; event = Begins number refl its (AtOnce answer.Down [] [] tt tt tt) } }
 
-  module _ (done : J answer.Done) (after : (p : Plan) (a : BlockAnswer) → P p → GoingSo P J (after_answer p a))
+  module _ (done : J answer.Done) (after : (p : Plan) (a : BlockAnswer) → P p → GoingSo P J (plan_answered p a))
       (starts : (w : Work) (number self : ℕ) → BeginsSo P J (call_of w number self)) where
     module _ (s : Serving) (number : ℕ) (its : next_item s.lasting.items ≡ Some number) (so : CallSo P s.call) where
       abbrev t : Serving
-      t = record s { lasting = record s.lasting { items = begun s.lasting.items } }
+      t = record s { lasting = record s.lasting { items = items_begin s.lasting.items } }
 
       opens_so : Turned Begin (Serves s) (record { state = Serves (opens t number).state; outs = (opens t number).outs })
       opens_so =
@@ -164,19 +164,19 @@ module _ (P : Plan → Type 0) (J : Answer → Type 0) where
     unfolding on_deliver
     deliver_turned capacity (Down l) packet so = rests (Deliver packet) (Down l) so
     deliver_turned capacity (Opening l o) packet so =
-        opened_so done l o capacity (Deliver packet) (opening.on_packet o l.questions packet) (openly.packet_goes o l.questions packet)
+        opened_so done l o capacity (Deliver packet) (opening.opening_take o l.questions packet) (openly.packet_goes o l.questions packet)
     deliver_turned capacity (Serves s) packet so =
-        let d : Done = on_packet s packet in
-        served s (Deliver packet) (saying d.outs (runs d.state)) so (then_runs_went P J after starts s d so (went P J s d (packet_goes s packet)))
+        let d : Done = serving_take s packet in
+        served s (Deliver packet) (saying d.outs (run d.state)) so (then_runs_went P J after starts s d so (went P J s d (packet_goes s packet)))
 
-    time_turned : (capacity : ℕ) (p : Phase) → PhaseSo P p → Turned Tick p (on_time capacity p)
-    unfolding on_time
+    time_turned : (capacity : ℕ) (p : Phase) → PhaseSo P p → Turned Tick p (client_tick capacity p)
+    unfolding client_tick
     time_turned capacity (Down l) so = rests Tick (Down l) so
     time_turned capacity (Opening l o) so =
         opened_so done l o capacity Tick (opening.on_tick o l.questions) (openly.tick_goes o l.questions)
     time_turned capacity (Serves s) so =
         let d : Done = on_tick s in
-        served s Tick (saying d.outs (runs d.state)) so (then_runs_went P J after starts s d so (went P J s d (tick_goes s)))
+        served s Tick (saying d.outs (run d.state)) so (then_runs_went P J after starts s d so (went P J s d (tick_goes s)))
 
     happens_turned : (c : Client) (what : Do) → PhaseSo P c.phase → Turned what c.phase (happens c what)
     happens_turned c Begin so = begin_turned c.peers.servers c.phase so
@@ -187,7 +187,7 @@ module _ (P : Plan → Type 0) (J : Answer → Type 0) where
 
     pub client_turned : (c : Client) (what : Do) → PhaseSo P c.phase → Turned what c.phase (takes c what)
     client_turned c what so =
-        by_test (Turned what c.phase) (client_room c) (happens c what) (still c.phase) (λ _. happens_turned c what so) (λ _. rests what c.phase so)
+        by_test (Turned what c.phase) (client_has_room c) (happens c what) (still c.phase) (λ _. happens_turned c what so) (λ _. rests what c.phase so)
 
 -- ---- whatever its plan
 
@@ -210,5 +210,5 @@ any_begins (Some going) = any_going going
 
 pub any_turned : (c : Client) (what : Do) → moving.Turned (client_losses c.phase) IsAny IsPrompt Phase items_in number_in what c.phase (takes c what)
 any_turned c what =
-    (client_turned (λ plan. Unit {0}) IsAny tt (λ p a so. any_going (after_answer p a)) (λ w number self. any_begins (call_of w number self)) c what
+    (client_turned (λ plan. Unit {0}) IsAny tt (λ p a so. any_going (plan_answered p a)) (λ w number self. any_begins (call_of w number self)) c what
     (any_call c.phase)).does

@@ -7,8 +7,8 @@ use Rattle.cleaner_serving.specs.Jobs as jobs
 use Rattle.cleaner_serving.specs.Jobs.{Done}
 use Rattle.cleaner_job.specs.declared.hand.Hand.{Hand}
 use Rattle.cleaner_job.specs.declared.job.Job.{Job}
-use Rattle.cleaner_job.specs.Hands.{fetches, fetches_for}
-use Rattle.cleaner_job.specs.Jobs.{check_of, drops, greeted, hand_of, hello_of, is_out, is_whole, job_read, lists_of, usages_of}
+use Rattle.cleaner_job.specs.Hands.{fetches, hand_fetch}
+use Rattle.cleaner_job.specs.Jobs.{check_of, act_dropped, note_greeted, hand_of, hello_of, is_out, is_whole, note_read, lists_of, usages_of}
 use Rattle.cleaner_job.specs.Starting.{cleaner_log}
 use Rattle.client_log.specs.declared.input.In.{In as LogIn}
 use Rattle.client_log.specs.declared.input.In.TheVariants as log_in
@@ -19,17 +19,17 @@ use Rattle.delta_feed.specs.Transition as feed
 use Rattle.group_map.specs.GroupMapState.{GroupMapState}
 use Rattle.log_owner.specs.Opening.{stored}
 use Rattle.log_owner.specs.Promised.{epoch_of}
-use Rattle.log_owner.specs.Sending.{fetch, name_of, pushes_all, server_in}
-use Rattle.node_base.specs.Asking.{drawn, next_ask}
+use Rattle.log_owner.specs.Sending.{fetch, name_of, push_all, server_in}
+use Rattle.node_base.specs.Asking.{draw, next_ask}
 use Rattle.node_base.specs.declared.effects.Effect.{Effect}
 use Rattle.node_base.specs.declared.effects.Effect.TheVariants.{Send, Answer as Answers, Does}
 use Rattle.node_base.specs.declared.items.Items.{Items}
-use Rattle.node_base.specs.Known.{names_known}
-use Rattle.node_base.specs.Maps.{fits, is_older, taken}
+use Rattle.node_base.specs.Known.{names_known_groups}
+use Rattle.node_base.specs.Maps.{fits, is_older, maps_take}
 use Rattle.segment_format.specs.declared.segment.Segment.{Segment}
 use Rattle.segment_reading.specs.declared.reading.Next.{Next}
 use Rattle.segment_reading.specs.declared.reading.Next.TheVariants as next
-use Rattle.segment_reading.specs.Reading.{ReadingState, to_ask}
+use Rattle.segment_reading.specs.Reading.{ReadingState, reading_unanswered}
 use Rattle.stripe_cleaner.specs.declared.input.In.{In}
 use Rattle.stripe_cleaner.specs.declared.input.In.TheVariants as input
 use Rattle.stripe_cleaner.specs.declared.output.Out.{Out}
@@ -87,15 +87,15 @@ stored_plain : (o : LogOut) → AllPlain Silent (stored o)
 stored_plain (log_out.Send fragment member) = (tt, tt)
 stored_plain (log_out.Settled end rows) = tt
 
-maps_go : (e : Emptying) (job : Option Job) → Goes e (jobs.asks_maps e job)
+maps_go : (e : Emptying) (job : Option Job) → Goes e (jobs.ask_maps e job)
 maps_go e None = rests e
 maps_go e (Some job) = plainly e _ refl (same (items_of e)) ((tt, tt))
 
-list_goes : (e : Emptying) (job : Option Job) (server : ℕ) → Goes e (jobs.asks_list e job server)
+list_goes : (e : Emptying) (job : Option Job) (server : ℕ) → Goes e (jobs.ask_list e job server)
 list_goes e None server = rests e
 list_goes e (Some job) server = plainly e _ refl (same (items_of e)) ((tt, tt))
 
-usage_goes : (e : Emptying) (job : Option Job) (slot : ℕ) → Goes e (jobs.asks_usage e job slot)
+usage_goes : (e : Emptying) (job : Option Job) (slot : ℕ) → Goes e (jobs.ask_usage e job slot)
 usage_goes e None slot = rests e
 usage_goes e (Some job) slot = plainly e _ refl (same (items_of e)) ((tt, tt))
 
@@ -107,15 +107,15 @@ checked_same : (e : Emptying) (job : Option Job) (block : BlockId) → ItemsStay
 checked_same e None block = same (items_of e)
 checked_same e (Some job) block = same (items_of e)
 
-check_goes : (e : Emptying) (block : BlockId) (place : Place) → Goes e (jobs.asks_check e block place)
-unfolding jobs.asks_check jobs.checks_block
+check_goes : (e : Emptying) (block : BlockId) (place : Place) → Goes e (jobs.ask_check e block place)
+unfolding jobs.ask_check jobs.emptying_check
 check_goes e block place =
     let c = jobs.checked_in e e.job block in
     from_goes e c.state (jobs.check_sent c.state block place c.ask) refl (checked_same e e.job block) (sent_goes c.state block place c.ask)
 
-for_plain : (name : SegName) (r : Option ReadingState) → AllPlain Silent (fetches_for name r)
+for_plain : (name : SegName) (r : Option ReadingState) → AllPlain Silent (hand_fetch name r)
 for_plain name None = tt
-for_plain name (Some r) = all_map (IsPlain Silent) (fetch name r.ask) (λ member. tt) (to_ask r)
+for_plain name (Some r) = all_map (IsPlain Silent) (fetch name r.ask) (λ member. tt) (reading_unanswered r)
 
 fetches_plain : (hand : Option Hand) → AllPlain Silent (fetches hand)
 fetches_plain None = tt
@@ -125,31 +125,31 @@ holds_same : (e : Emptying) (job : Option Job) (seg : SegRef) → ItemsStay (ite
 holds_same e None seg = same (items_of e)
 holds_same e (Some job) seg = same (items_of e)
 
-reads_go : (e : Emptying) (seg : SegRef) → Goes e (jobs.reads e seg)
-unfolding jobs.reads jobs.holds
+reads_go : (e : Emptying) (seg : SegRef) → Goes e (jobs.emptying_read e seg)
+unfolding jobs.emptying_read jobs.emptying_hold
 reads_go e seg = plainly e _ refl (holds_same e e.job seg) (fetches_plain (hand_of (jobs.holds_in e e.job seg).job))
 
-puts_go : (e : Emptying) (i : LogIn) → Goes e (jobs.puts e i)
-unfolding jobs.puts
+puts_go : (e : Emptying) (i : LogIn) → Goes e (jobs.emptying_put e i)
+unfolding jobs.emptying_put
 puts_go e i = plainly e _ refl (same (items_of e)) (all_flat_map (IsPlain Silent) stored stored_plain (log.transition e.log i).outs)
 
-block_goes : (e : Emptying) (one : BlockId × Entry × Option (List ℕ)) → Goes e (jobs.puts_block e one)
-unfolding jobs.puts_block
+block_goes : (e : Emptying) (one : BlockId × Entry × Option (List ℕ)) → Goes e (jobs.put_block e one)
+unfolding jobs.put_block
 block_goes e one = puts_go e (log_in.Put one.0 one.1 one.2)
 
-moves_go : (e : Emptying) (blocks : List (BlockId × Entry × Option (List ℕ))) → Goes e (jobs.moves e blocks)
-unfolding jobs.moves
+moves_go : (e : Emptying) (blocks : List (BlockId × Entry × Option (List ℕ))) → Goes e (jobs.move_all e blocks)
+unfolding jobs.move_all
 moves_go e blocks =
-    let d : Done = steps jobs.puts_block e blocks in
-    then_goes e d (jobs.puts d.state log_in.Seal) (steps_go jobs.puts_block block_goes e blocks) (puts_go d.state log_in.Seal)
+    let d : Done = steps jobs.put_block e blocks in
+    then_goes e d (jobs.emptying_put d.state log_in.Seal) (steps_go jobs.put_block block_goes e blocks) (puts_go d.state log_in.Seal)
 
-drops_plain : (first : Bool) (name : SegName) → AllPlain Silent (drops first name)
+drops_plain : (first : Bool) (name : SegName) → AllPlain Silent (act_dropped first name)
 drops_plain first name = by_test (AllPlain Silent) first (Does (Dropped name) ∷ []) [] (λ _. (tt, tt)) (λ _. tt)
 
-deletes_go : (e : Emptying) (job : Option Job) (server : ℕ) (name : SegName) → Goes e (jobs.deletes e job server name)
+deletes_go : (e : Emptying) (job : Option Job) (server : ℕ) (name : SegName) → Goes e (jobs.emptying_delete e job server name)
 deletes_go e None server name = rests e
 deletes_go e (Some job) server name =
-    plainly e _ refl (same (items_of e)) (all_append (IsPlain Silent) (drops (is_whole job.hand) name) _ (drops_plain (is_whole job.hand) name) (tt, tt))
+    plainly e _ refl (same (items_of e)) (all_append (IsPlain Silent) (act_dropped (is_whole job.hand) name) _ (drops_plain (is_whole job.hand) name) (tt, tt))
 
 says_go : (e : Emptying) (o : Out) → Goes e (jobs.says e o)
 unfolding jobs.says
@@ -167,19 +167,19 @@ taken_same : (e : Emptying) (job : Option Job) (given : In) → ItemsStay (items
 taken_same e None given = same (items_of e)
 taken_same e (Some job) given = same (items_of e)
 
-cleans_go : (e : Emptying) (given : In) → Goes e (jobs.cleans e given)
-unfolding jobs.cleans jobs.job_takes
+cleans_go : (e : Emptying) (given : In) → Goes e (jobs.emptying_clean e given)
+unfolding jobs.emptying_clean jobs.emptying_take
 cleans_go e given =
     let t = jobs.takes_in e e.job given in
     from_goes e t.state (steps jobs.says t.state t.outs) refl (taken_same e e.job given) (steps_go jobs.says says_go t.state t.outs)
 
 -- ---- what comes for it
 
-ends_go : (e : Emptying) (read : Option Segment) → Goes e (jobs.ends_reading e read)
-unfolding jobs.ends_reading
+ends_go : (e : Emptying) (read : Option Segment) → Goes e (jobs.end_reading e read)
+unfolding jobs.end_reading
 ends_go e read =
-    let f : Emptying = record e { job = job_read e.job } in
-    from_goes e f (jobs.cleans f (input.Read read)) refl (same (items_of e)) (cleans_go f (input.Read read))
+    let f : Emptying = record e { job = note_read e.job } in
+    from_goes e f (jobs.emptying_clean f (input.Read read)) refl (same (items_of e)) (cleans_go f (input.Read read))
 
 confirmed_go : (e : Emptying) (x : Next) → Goes e (jobs.after_confirmed e x)
 confirmed_go e next.Ask = plainly e _ refl (same (items_of e)) (fetches_plain (hand_of e.job))
@@ -190,10 +190,10 @@ confirmed_same : (e : Emptying) (job : Option Job) (ask : ℕ) → ItemsStay (it
 confirmed_same e None ask = same (items_of e)
 confirmed_same e (Some job) ask = same (items_of e)
 
-again_goes : (e : Emptying) → Goes e (jobs.reads_again e)
-unfolding jobs.reads_again jobs.confirmed
+again_goes : (e : Emptying) → Goes e (jobs.emptying_read_again e)
+unfolding jobs.emptying_read_again jobs.confirmed
 again_goes e =
-    let f : Emptying = jobs.with_questions e (drawn e.lasting.questions) in
+    let f : Emptying = jobs.with_questions e (draw e.lasting.questions) in
     let h = jobs.confirmed_in f f.job (next_ask e.lasting.questions) in
     from_goes e h.state (jobs.after_confirmed h.state h.next) refl (confirmed_same f f.job (next_ask e.lasting.questions)) (confirmed_go h.state h.next)
 
@@ -211,7 +211,7 @@ told_same e (Some job) None ask server t = same (items_of e)
 told_same e (Some job) (Some groups) ask server t = same (items_of e)
 
 told_goes : (e : Emptying) (server : Option ℕ) (ask : ℕ) (t : Answered) → Goes e (jobs.on_told e server ask t)
-unfolding jobs.on_told jobs.told_by
+unfolding jobs.on_told jobs.emptying_hear
 told_goes e None ask t = rests e
 told_goes e (Some server) ask t =
     let h = jobs.told_in e e.job e.maps.groups ask server t in
@@ -241,17 +241,17 @@ deleted_goes e (Some server) deleted = cleans_go e (input.Deleted server deleted
 
 -- ---- a job begins
 
-promise_goes : (e : Emptying) (slot : ℕ) → Goes e (emptying.promises_slot e slot)
-unfolding emptying.promises_slot
+promise_goes : (e : Emptying) (slot : ℕ) → Goes e (emptying.promise_slot e slot)
+unfolding emptying.promise_slot
 promise_goes e slot = cleans_go e (input.Promise slot (epoch_of e.promised slot))
 
 -- the item waits, and then there are moves
-pub begins_go : (e : Emptying) (number count : ℕ) → Goes (emptying.with_new_job e number count) (emptying.begins_job e number count)
-unfolding emptying.begins_job emptying.promises_all
+pub begins_go : (e : Emptying) (number count : ℕ) → Goes (emptying.with_new_job e number count) (emptying.begin_job e number count)
+unfolding emptying.begin_job emptying.promise_all
 begins_go e number count =
     let f : Emptying = emptying.with_new_job e number count in
-    let d : Done = steps emptying.promises_slot f (range_with_len 0 8) in
-    then_goes f d (jobs.cleans d.state input.Tick) (steps_go emptying.promises_slot promise_goes f (range_with_len 0 8)) (cleans_go d.state input.Tick)
+    let d : Done = steps emptying.promise_slot f (range_with_len 0 8) in
+    then_goes f d (jobs.emptying_clean d.state input.Tick) (steps_go emptying.promise_slot promise_goes f (range_with_len 0 8)) (cleans_go d.state input.Tick)
 
 -- or it is busy
 abbrev pub Cleans : ℕ → Emptying → Done → Type 0
@@ -261,29 +261,29 @@ pub clean_goes : (e : Emptying) (number count : ℕ) → Cleans number e (emptyi
 unfolding emptying.on_clean
 clean_goes e number count =
     by_test (Cleans number e) (is_some e.lasting.items.unanswered) (record { state = e; outs = Answers number answer.Busy ∷ [] })
-    (emptying.begins_job e number count) (λ _. record { its_number = refl; begun = AtOnce answer.Busy [] [] tt tt tt })
+    (emptying.begin_job e number count) (λ _. record { its_number = refl; begun = AtOnce answer.Busy [] [] tt tt tt })
     (λ _. record { its_number = refl; begun = Waits (begins_go e number count).moves })
 
 -- ---- the log
 
-settles_go : (e : Emptying) (end : End) (rows : List (BlockId × Entry)) → Goes e (emptying.settles e end rows)
-unfolding emptying.settles
+settles_go : (e : Emptying) (end : End) (rows : List (BlockId × Entry)) → Goes e (emptying.emptying_settle e end rows)
+unfolding emptying.emptying_settle
 settles_go e end rows =
     let f : Emptying = emptying.fed e end rows in
-    first_goes e (Does (Filed (name_of cleaner_log end)) ∷ pushes_all f.promised.managers f.feed) (jobs.cleans f input.Moved)
-    (tt, all_pushed_plain Silent f.promised.managers f.feed) (from_goes e f (jobs.cleans f input.Moved) refl (same (items_of e)) (cleans_go f input.Moved))
+    first_goes e (Does (Filed (name_of cleaner_log end)) ∷ push_all f.promised.managers f.feed) (jobs.emptying_clean f input.Moved)
+    (tt, all_pushed_plain Silent f.promised.managers f.feed) (from_goes e f (jobs.emptying_clean f input.Moved) refl (same (items_of e)) (cleans_go f input.Moved))
 
-one_goes : (e : Emptying) (o : LogOut) → Goes e (emptying.writes_one e o)
-unfolding emptying.writes_one
+one_goes : (e : Emptying) (o : LogOut) → Goes e (emptying.write_one e o)
+unfolding emptying.write_one
 one_goes e (log_out.Send fragment member) = plainly e _ refl (same (items_of e)) ((tt, tt))
 one_goes e (log_out.Settled end rows) = settles_go e end rows
 
-writes_go : (e : Emptying) (i : LogIn) → Goes e (emptying.writes e i)
-unfolding emptying.writes
+writes_go : (e : Emptying) (i : LogIn) → Goes e (emptying.emptying_write e i)
+unfolding emptying.emptying_write
 writes_go e i =
     let f : Emptying = record e { log = (log.transition e.log i).state } in
-    from_goes e f (steps emptying.writes_one f (log.transition e.log i).outs) refl (same (items_of e))
-    (steps_go emptying.writes_one one_goes f (log.transition e.log i).outs)
+    from_goes e f (steps emptying.write_one f (log.transition e.log i).outs) refl (same (items_of e))
+    (steps_go emptying.write_one one_goes f (log.transition e.log i).outs)
 
 ack_goes : (e : Emptying) (a : DeltaAck) → Goes e (emptying.on_ack e a)
 unfolding emptying.on_ack
@@ -293,26 +293,26 @@ ack_goes e a =
 
 -- ---- promises
 
-renews_same : (e : Emptying) (slot epoch : ℕ) → ItemsStay (items_of e) (items_of (emptying.renews e slot epoch))
+renews_same : (e : Emptying) (slot epoch : ℕ) → ItemsStay (items_of e) (items_of (emptying.emptying_renew e slot epoch))
 renews_same e slot epoch =
     by_test (λ (f : Emptying). ItemsStay (items_of e) (items_of f)) (nat_lt (epoch_of e.promised slot) epoch) (record e { feed = feed.new_epoch e.feed slot }) e
     (λ _. same (items_of e)) (λ _. same (items_of e))
 
-promises_same : (e : Emptying) (slot epoch manager : ℕ) → ItemsStay (items_of e) (items_of (emptying.promises e slot epoch manager))
-unfolding emptying.promises
+promises_same : (e : Emptying) (slot epoch manager : ℕ) → ItemsStay (items_of e) (items_of (emptying.emptying_promise e slot epoch manager))
+unfolding emptying.emptying_promise
 promises_same e slot epoch manager = renews_same e slot epoch
 
-promised_goes : (e : Emptying) (slot epoch manager : ℕ) (given : In) → Goes e (jobs.cleans (emptying.promises e slot epoch manager) given)
+promised_goes : (e : Emptying) (slot epoch manager : ℕ) (given : In) → Goes e (jobs.emptying_clean (emptying.emptying_promise e slot epoch manager) given)
 promised_goes e slot epoch manager given =
-    let f : Emptying = emptying.promises e slot epoch manager in
-    from_goes e f (jobs.cleans f given) refl (promises_same e slot epoch manager) (cleans_go f given)
+    let f : Emptying = emptying.emptying_promise e slot epoch manager in
+    from_goes e f (jobs.emptying_clean f given) refl (promises_same e slot epoch manager) (cleans_go f given)
 
-polled_goes : (e : Emptying) (manager : ℕ) (p : Poll) → Goes e (emptying.polled e manager p)
+polled_goes : (e : Emptying) (manager : ℕ) (p : Poll) → Goes e (emptying.on_polled e manager p)
 polled_goes e manager p =
-    let kept : Emptying = emptying.promises e p.slot p.epoch manager in
+    let kept : Emptying = emptying.emptying_promise e p.slot p.epoch manager in
     let said : List Effect = Send (node.Manager manager) (body.Report (record { slot = p.slot; epoch = p.epoch; held = []; end = kept.log.end })) ∷ [] in
-    by_test (Goes e) (nat_lt p.epoch (epoch_of e.promised p.slot)) (still e) (emptying.reports e manager p) (λ _. rests e)
-    (λ _. first_goes e said (jobs.cleans kept (input.Promise p.slot p.epoch)) (tt, tt)
+    by_test (Goes e) (nat_lt p.epoch (epoch_of e.promised p.slot)) (still e) (emptying.emptying_report e manager p) (λ _. rests e)
+    (λ _. first_goes e said (jobs.emptying_clean kept (input.Promise p.slot p.epoch)) (tt, tt)
     (promised_goes e p.slot p.epoch manager (input.Promise p.slot p.epoch)))
 
 poll_goes : (e : Emptying) (from : NodeId) (p : Poll) → Goes e (emptying.on_poll e from p)
@@ -322,48 +322,48 @@ poll_goes e _ p = rests e
 
 -- ---- the maps
 
-slot_goes : (e : Emptying) (news : SlotNews) → Goes e (emptying.hears_slot e news)
-unfolding emptying.hears_slot
+slot_goes : (e : Emptying) (news : SlotNews) → Goes e (emptying.hear_slot e news)
+unfolding emptying.hear_slot
 slot_goes e news =
     if_goes (nat_lt (epoch_of e.promised news.slot) news.epoch) e _
     (promised_goes e news.slot news.epoch news.manager (input.Promise news.slot news.epoch))
 
-slots_go : (e : Emptying) (slots : List SlotNews) → Goes e (emptying.hears_slots e slots)
-unfolding emptying.hears_slots
-slots_go e slots = steps_go emptying.hears_slot slot_goes e slots
+slots_go : (e : Emptying) (slots : List SlotNews) → Goes e (emptying.hear_slots e slots)
+unfolding emptying.hear_slots
+slots_go e slots = steps_go emptying.hear_slot slot_goes e slots
 
-takes_news_goes : (e : Emptying) (news : News) → Goes e (emptying.takes_news e news)
-unfolding emptying.takes_news
-takes_news_goes e news =
+take_news_goes : (e : Emptying) (news : News) → Goes e (emptying.take_news e news)
+unfolding emptying.take_news
+take_news_goes e news =
     let newer : Bool = is_older e.maps news in
-    let f : Emptying = record e { maps = taken e.maps news } in
-    let a : Done = emptying.job_regrouped f newer news.groups in
-    let b : Done = emptying.hears_slots a.state news.slots in
-    let c : Done = emptying.log_regrouped b.state newer news.groups in
+    let f : Emptying = record e { maps = maps_take e.maps news } in
+    let a : Done = emptying.regroup_job f newer news.groups in
+    let b : Done = emptying.hear_slots a.state news.slots in
+    let c : Done = emptying.regroup_log b.state newer news.groups in
     from_goes e f (saying a.outs (saying b.outs c)) refl (same (items_of e))
     (then_goes f a (saying b.outs c) (if_goes newer f _ (cleans_go f (input.Maps news.groups)))
     (then_goes a.state b c (slots_go a.state news.slots) (if_goes newer b.state _ (writes_go b.state (log_in.Maps news.groups)))))
 
 news_goes : (e : Emptying) (news : News) → Goes e (emptying.on_news e news)
-news_goes e news = if_goes (fits e.maps news) e _ (takes_news_goes e news)
+news_goes e news = if_goes (fits e.maps news) e _ (take_news_goes e news)
 
-over_goes : (e : Emptying) (slots : List SlotNews) (groups : Option GroupMapState) → Goes e (emptying.welcomes_over e slots groups)
+over_goes : (e : Emptying) (slots : List SlotNews) (groups : Option GroupMapState) → Goes e (emptying.welcome_over e slots groups)
 over_goes e slots None = rests e
 over_goes e slots (Some groups) = cleans_go e (input.Welcome slots groups)
 
-welcomes_go : (e : Emptying) (w : Welcome) → Goes e (emptying.welcomes e w)
-unfolding emptying.welcomes
+welcomes_go : (e : Emptying) (w : Welcome) → Goes e (emptying.emptying_welcome e w)
+unfolding emptying.emptying_welcome
 welcomes_go e w =
-    let f : Emptying = record e { job = greeted e.job } in
+    let f : Emptying = record e { job = note_greeted e.job } in
     if_goes (is_out (hello_of e.job) w.ask) e _
-    (from_goes e f (emptying.welcomes_over f w.news.slots e.maps.groups) refl (same (items_of e)) (over_goes f w.news.slots e.maps.groups))
+    (from_goes e f (emptying.welcome_over f w.news.slots e.maps.groups) refl (same (items_of e)) (over_goes f w.news.slots e.maps.groups))
 
 welcome_goes : (e : Emptying) (w : Welcome) → Goes e (emptying.on_welcome e w)
 unfolding emptying.on_welcome
 welcome_goes e w =
-    let d : Done = emptying.takes_news e w.news in
+    let d : Done = emptying.take_news e w.news in
     if_goes ((w.inc == e.lasting.inc) && fits e.maps w.news) e _
-    (then_goes e d (emptying.welcomes d.state w) (takes_news_goes e w.news) (welcomes_go d.state w))
+    (then_goes e d (emptying.emptying_welcome d.state w) (take_news_goes e w.news) (welcomes_go d.state w))
 
 -- ---- packets and time
 
@@ -385,15 +385,15 @@ body_goes e from _ = rests e
 pub packet_goes : (e : Emptying) (packet : Packet) → Goes e (emptying.on_packet e packet)
 unfolding emptying.on_packet
 packet_goes e packet =
-    by_test (Goes e) (names_known e.maps packet.body) (emptying.on_body e packet.from packet.body) (emptying.asks_for_maps e)
+    by_test (Goes e) (names_known_groups e.maps packet.body) (emptying.on_body e packet.from packet.body) (emptying.ask_for_maps e)
     (λ _. body_goes e packet.from packet.body) (λ _. plainly e _ refl (same (items_of e)) ((tt, tt)))
 
 pub tick_goes : (e : Emptying) → Goes e (emptying.on_tick e)
 unfolding emptying.on_tick
 tick_goes e =
-    let j : Done = jobs.cleans e input.Tick in
-    let l : Done = emptying.writes j.state log_in.Tick in
-    let pushed : List Effect = pushes_all l.state.promised.managers l.state.feed in
+    let j : Done = jobs.emptying_clean e input.Tick in
+    let l : Done = emptying.emptying_write j.state log_in.Tick in
+    let pushed : List Effect = push_all l.state.promised.managers l.state.feed in
     then_goes e j (saying l.outs (record { state = l.state; outs = pushed })) (cleans_go e input.Tick)
     (then_goes j.state l (record { state = l.state; outs = pushed }) (writes_go j.state log_in.Tick)
     (plainly l.state _ refl (same (items_of l.state)) (all_pushed_plain Silent l.state.promised.managers l.state.feed)))

@@ -4,10 +4,10 @@ use Rattle.std.specs.List.{AllByRecursion}
 use Rattle.delta_feed.specs.declared.output.Out.{Out as RangeOut}
 use Rattle.delta_feed.specs.declared.output.Out.TheVariants.{Range}
 use Rattle.delta_feed.specs.FeedState.{FeedState}
-use Rattle.delta_feed.specs.Transition.{pushed, ticked}
+use Rattle.delta_feed.specs.Transition.{feed_push, feed_tick}
 use Rattle.log_owner.specs.declared.promised.Managers.{Managers}
-use Rattle.log_owner.specs.Sending.{pushes, pushes_all, range}
-use Rattle.node_base.specs.Beginning.{answered, is_left, next_item, waiting}
+use Rattle.log_owner.specs.Sending.{sending_push, push_all, range}
+use Rattle.node_base.specs.Beginning.{items_answer, is_left, next_item, items_wait}
 use Rattle.node_base.specs.declared.effects.Effect.{Effect}
 use Rattle.node_base.specs.declared.effects.Effect.TheVariants.{Send, Answer as Answers, Lose, Does}
 use Rattle.node_base.specs.declared.items.Items.{Items}
@@ -52,7 +52,7 @@ next_is items number =
     by_test (λ (o : Option ℕ). o ≡ Some number → number ≡ items.begun + 1) (is_left items) (Some (items.begun + 1)) None
     (λ _ fact. sym (one_number (items.begun + 1) number fact)) (λ _ fact. absurd (no_item number fact))
 
-pub none_open : (items : Items) → ItemsStay items (answered items)
+pub none_open : (items : Items) → ItemsStay items (items_answer items)
 none_open items = record { works = refl; begun = refl; waits = λ item fact. absurd (no_item item fact) }
 
 -- ---- what answers nothing
@@ -103,11 +103,11 @@ all_plain_more losses outs plain = all_weaker (IsPlain losses) (IsPlain Answerin
 range_plain : (losses : Losses) (managers : Managers) (x : RangeOut) → IsPlain losses (range managers x)
 range_plain losses managers (Range slot first upto rows) = tt
 
-pub pushed_plain : (losses : Losses) (managers : Managers) (feed : FeedState) (slot : ℕ) → AllPlain losses (pushes managers feed slot)
-pushed_plain losses managers feed slot = all_map (IsPlain losses) (range managers) (range_plain losses managers) (pushed feed slot)
+pub pushed_plain : (losses : Losses) (managers : Managers) (feed : FeedState) (slot : ℕ) → AllPlain losses (sending_push managers feed slot)
+pushed_plain losses managers feed slot = all_map (IsPlain losses) (range managers) (range_plain losses managers) (feed_push feed slot)
 
-pub all_pushed_plain : (losses : Losses) (managers : Managers) (feed : FeedState) → AllPlain losses (pushes_all managers feed)
-all_pushed_plain losses managers feed = all_map (IsPlain losses) (range managers) (range_plain losses managers) (ticked feed)
+pub all_pushed_plain : (losses : Losses) (managers : Managers) (feed : FeedState) → AllPlain losses (push_all managers feed)
+all_pushed_plain losses managers feed = all_map (IsPlain losses) (range managers) (range_plain losses managers) (feed_tick feed)
 
 pub all_steps : {S O A : Type 0} (step : S → A → Stepped S O) (P : O → Type 0) → ((s : S) (x : A) → AllByRecursion P (step s x).outs)
     → (s : S) (xs : List A) → AllByRecursion P (steps step s xs).outs
@@ -149,7 +149,7 @@ module _ (losses : Losses) (J L : Answer → Type 0) (each : (a : Answer) → J 
   module _ (K M : Answer → Type 0) (prompt : (a : Answer) → K a → M a) (items : Items) (number : ℕ) where
     pub begun_of : (after : Items) (outs : List Effect) → Begun losses J K items number outs after → Begun losses L M items number outs after
     begun_of after outs (AtOnce a first more so plain rest) = AtOnce a first more (prompt a so) plain rest
-    begun_of after outs (Waits moves) = Waits (moves_of (waiting items number) after outs moves)
+    begun_of after outs (Waits moves) = Waits (moves_of (items_wait items number) after outs moves)
 
 -- ---- what a node does
 

@@ -16,15 +16,15 @@ use Rattle.group_map.specs.GroupMapState.{GroupMapState}
 use Rattle.log_owner.specs.Sending.{server_in}
 use Rattle.manager_slots.specs.Numbers.{slot_after}
 use Rattle.manager_slots.specs.SlotTable as table
-use Rattle.manager_slots.specs.SlotTable.{begin_at, cleaned_at, next_active}
+use Rattle.manager_slots.specs.SlotTable.{begin_at, slot_table_clean, next_active}
 use Rattle.manager_serving.specs.Checkpoints as checkpoints
 use Rattle.manager_serving.specs.Checkpoints.{Done}
 use Rattle.manager_serving.specs.declared.checkpointing.Checkpointing.{Checkpointing}
 use Rattle.manager_serving.specs.declared.serving.Serving.{Serving}
 use Rattle.manager_serving.specs.Serving as serving
 use Rattle.node_base.specs.declared.effects.Effect.TheVariants.{Answer as Answers}
-use Rattle.node_base.specs.Known.{names_known}
-use Rattle.node_base.specs.Maps.{fits, is_older, taken}
+use Rattle.node_base.specs.Known.{names_known_groups}
+use Rattle.node_base.specs.Maps.{fits, is_older, maps_take}
 use Rattle.takeover.specs.declared.input.In.{In as TakeIn}
 use Rattle.takeover.specs.declared.input.In.TheVariants as take_in
 use Rattle.version_model.specs.declared.answer.Answer.TheVariants as answer
@@ -72,25 +72,25 @@ and_goes s d f a each = then_goes s d (f d.state) a (each d.state)
 
 -- ---- checkpoints
 
-stored_plain : (o : LogOut) → AllPlain Telling (checkpoints.stored o)
-unfolding checkpoints.stored
+stored_plain : (o : LogOut) → AllPlain Telling (checkpoints.checkpointing_store o)
+unfolding checkpoints.checkpointing_store
 stored_plain (log_out.Send fragment member) = (tt, tt)
 stored_plain (log_out.Settled end rows) = tt
 
-says_go : (s : Serving) (o : WriterOut) → Goes s (checkpoints.says s o)
-unfolding checkpoints.says checkpoints.gives_parts checkpoints.registers
+says_go : (s : Serving) (o : WriterOut) → Goes s (checkpoints.writer_says s o)
+unfolding checkpoints.writer_says checkpoints.give_parts checkpoints.register
 says_go s (writer_out.Parts items) =
-    plainly s _ refl (same s.lasting.items) (all_flat_map (IsPlain Telling) checkpoints.stored stored_plain (log.transition s.log (log_in.Parts items)).outs)
+    plainly s _ refl (same s.lasting.items) (all_flat_map (IsPlain Telling) checkpoints.checkpointing_store stored_plain (log.transition s.log (log_in.Parts items)).outs)
 says_go s (writer_out.Done slot epoch parts horizon) = plainly s _ refl (same s.lasting.items) (tt, tt)
 says_go s writer_out.Kept = rests s
 says_go s (writer_out.Stale epoch) = rests s
 
 writer_goes : (s : Serving) (given : WriterIn) → Goes s (checkpoints.writer_takes s given)
-unfolding checkpoints.writer_takes checkpoints.says_each
+unfolding checkpoints.writer_takes checkpoints.writer_says_each
 writer_goes s given =
     let t : Serving = record s { writer = (writer.transition s.writer given).state } in
-    from_goes s t (steps checkpoints.says t (writer.transition s.writer given).outs) refl (same s.lasting.items)
-    (steps_go checkpoints.says says_go t (writer.transition s.writer given).outs)
+    from_goes s t (steps checkpoints.writer_says t (writer.transition s.writer given).outs) refl (same s.lasting.items)
+    (steps_go checkpoints.writer_says says_go t (writer.transition s.writer given).outs)
 
 settled_goes : (s : Serving) (end : End) → Goes s (checkpoints.on_settled s end)
 unfolding checkpoints.on_settled
@@ -104,8 +104,8 @@ unfolding checkpoints.log_says
 log_goes s (log_out.Send fragment member) = plainly s _ refl (same s.lasting.items) (tt, tt)
 log_goes s (log_out.Settled end rows) = settled_goes s end
 
-writes_go : (s : Serving) (given : LogIn) → Goes s (checkpoints.writes s given)
-unfolding checkpoints.writes checkpoints.log_says_each
+writes_go : (s : Serving) (given : LogIn) → Goes s (checkpoints.serving_write s given)
+unfolding checkpoints.serving_write checkpoints.log_says_each
 writes_go s given =
     let t : Serving = record s { log = (log.transition s.log given).state } in
     from_goes s t (steps checkpoints.log_says t (log.transition s.log given).outs) refl (same s.lasting.items)
@@ -115,10 +115,10 @@ slot_goes : (s : Serving) (o : Option WriterIn) → Goes s (checkpoints.writes_s
 slot_goes s None = rests s
 slot_goes s (Some given) = writer_goes s given
 
-begins_goes : (s : Serving) (slot : ℕ) → Goes s (checkpoints.begins_slot s slot)
-unfolding checkpoints.begins_slot
+begins_goes : (s : Serving) (slot : ℕ) → Goes s (checkpoints.begin_slot s slot)
+unfolding checkpoints.begin_slot
 begins_goes s slot =
-    let t : Serving = record s { slots = cleaned_at s.slots slot } in
+    let t : Serving = record s { slots = slot_table_clean s.slots slot } in
     from_goes s t (checkpoints.writes_slot t (begin_at s.slots slot)) refl (same s.lasting.items) (slot_goes t (begin_at s.slots slot))
 
 pub next_goes : (s : Serving) → Goes s (checkpoints.next_slot s)
@@ -129,7 +129,7 @@ next_goes s = by s.checkpoint
     by_slot job None = record { its_number = refl; moves = Last (Ends (answer.Count job.count) tt) }
     by_slot job (Some slot) =
         let t : Serving = record s { checkpoint = Some (record job { next = slot_after slot }) } in
-        from_goes s t (checkpoints.begins_slot t slot) refl (same s.lasting.items) (begins_goes t slot)
+        from_goes s t (checkpoints.begin_slot t slot) refl (same s.lasting.items) (begins_goes t slot)
 
     by : (checkpoint : Option Checkpointing) → Goes s (checkpoints.next_for s checkpoint)
     by None = rests s
@@ -138,7 +138,7 @@ next_goes s = by s.checkpoint
 answered_goes : (s : Serving) (r : Stepped WriterState WriterOut) → Goes s (checkpoints.answered_by s r)
 answered_goes s r =
     let t : Serving = record s { writer = r.state } in
-    let u : Serving = record s { writer = r.state; checkpoint = fold checkpoints.counted s.checkpoint r.outs } in
+    let u : Serving = record s { writer = r.state; checkpoint = fold checkpoints.checkpointing_count s.checkpoint r.outs } in
     by_test (Goes s) (length r.outs == 0) (still t) (checkpoints.next_slot u) (λ _. plainly s (still t) refl (same s.lasting.items) tt)
     (λ _. from_goes s u (checkpoints.next_slot u) refl (same s.lasting.items) (next_goes u))
 
@@ -149,15 +149,15 @@ ack_goes s ack =
     (checkpoints.answered_by s (writer.transition s.writer (writer_in.Ack ack.epoch s.dones))) (still s)
     (λ _. answered_goes s (writer.transition s.writer (writer_in.Ack ack.epoch s.dones))) (λ _. rests s)
 
-tells_go : (s : Serving) → Goes s (checkpoints.tells_again s)
-unfolding checkpoints.tells_again
+tells_go : (s : Serving) → Goes s (checkpoints.serving_tell_again s)
+unfolding checkpoints.serving_tell_again
 tells_go s = plainly s _ refl (same s.lasting.items) (by s.checkpoint)
   where
-    by_done : (o : Option CkptDone) → AllPlain Telling (checkpoints.done_again o)
+    by_done : (o : Option CkptDone) → AllPlain Telling (checkpoints.send_done o)
     by_done None = tt
     by_done (Some done) = (tt, tt)
 
-    by : (o : Option Checkpointing) → AllPlain Telling (checkpoints.told_again o)
+    by : (o : Option Checkpointing) → AllPlain Telling (checkpoints.checkpointing_tell_again o)
     by None = tt
     by (Some job) = by_done job.done
 
@@ -187,9 +187,9 @@ deltas_goes s (Some log) deltas = slots_go s (table.on_deltas s.slots log deltas
 
 -- ---- takeovers
 
-takes_goes : (s : Serving) (slot : ℕ) (given : TakeIn) → Goes s (serving.takes s slot given)
-unfolding serving.takes
-takes_goes s slot given = asker_goes s (table.takes (serving.asker_of s) slot given) (table_takes (serving.asker_of s) slot given)
+takes_goes : (s : Serving) (slot : ℕ) (given : TakeIn) → Goes s (serving.serving_take s slot given)
+unfolding serving.serving_take
+takes_goes s slot given = asker_goes s (table.slot_table_take (serving.asker_of s) slot given) (table_takes (serving.asker_of s) slot given)
 
 which_goes : (s : Serving) (which : Option (ℕ × ℕ)) (given : ℕ → TakeIn) → Goes s (serving.answered_by s which given)
 which_goes s None given = rests s
@@ -209,31 +209,31 @@ missing_goes s (Some server) missing = which_goes s (serving.fetch_of s missing.
 
 regroups_goes : (s : Serving) (groups : GroupMapState) → Goes s (serving.regroups s groups)
 unfolding serving.regroups
-regroups_goes s groups = asker_goes s (table.regroups_all groups (serving.asker_of s)) (table_regroups groups (serving.asker_of s))
+regroups_goes s groups = asker_goes s (table.slot_table_regroup groups (serving.asker_of s)) (table_regroups groups (serving.asker_of s))
 
-hears_goes : (s : Serving) (clients : ℕ) (slots : List SlotNews) → Goes s (serving.hears_slots s clients slots)
-unfolding serving.hears_slots
+hears_goes : (s : Serving) (clients : ℕ) (slots : List SlotNews) → Goes s (serving.hear_slots s clients slots)
+unfolding serving.hear_slots
 hears_goes s clients slots = by s.maps.groups
   where
     by : (groups : Option GroupMapState) → Goes s (serving.hears_with s clients slots groups)
     by None = rests s
     by (Some groups) =
-        asker_goes s (table.hears_all (serving.hearer_of s clients groups) (serving.asker_of s) slots)
+        asker_goes s (table.hear_each (serving.hearer_of s clients groups) (serving.asker_of s) slots)
         (table_hears (serving.hearer_of s clients groups) (serving.asker_of s) slots)
 
 newer_goes : (s : Serving) (clients : ℕ) (news : News) → Goes s (serving.on_newer s clients news)
 unfolding serving.on_newer
 newer_goes s clients news =
-    and_goes s (serving.and_then (serving.regroups s news.groups) (λ t. serving.hears_slots t clients news.slots))
-    (λ t. checkpoints.writes t (log_in.Maps news.groups))
-    (and_goes s (serving.regroups s news.groups) (λ t. serving.hears_slots t clients news.slots) (regroups_goes s news.groups)
+    and_goes s (serving.and_then (serving.regroups s news.groups) (λ t. serving.hear_slots t clients news.slots))
+    (λ t. checkpoints.serving_write t (log_in.Maps news.groups))
+    (and_goes s (serving.regroups s news.groups) (λ t. serving.hear_slots t clients news.slots) (regroups_goes s news.groups)
     (λ t. hears_goes t clients news.slots)) (λ t. writes_go t (log_in.Maps news.groups))
 
 pub news_goes : (s : Serving) (clients : ℕ) (news : News) → Goes s (serving.on_news s clients news)
 unfolding serving.on_news
 news_goes s clients news =
-    let t : Serving = record s { maps = taken s.maps news } in
-    by_test (Goes s) (is_older s.maps news) (serving.on_newer t clients news) (serving.hears_slots s clients news.slots)
+    let t : Serving = record s { maps = maps_take s.maps news } in
+    by_test (Goes s) (is_older s.maps news) (serving.on_newer t clients news) (serving.hear_slots s clients news.slots)
     (λ _. from_goes s t (serving.on_newer t clients news) refl (same s.lasting.items) (newer_goes t clients news)) (λ _. hears_goes s clients news.slots)
 
 fitting_goes : (s : Serving) (clients : ℕ) (news : News) → Goes s (serving.on_fitting_news s clients news)
@@ -261,30 +261,30 @@ body_goes s clients from (body.Stored stored) = writes_go s (log_in.Acked stored
 body_goes s clients from (body.CkptAck ack) = ack_goes s ack
 body_goes s clients from _ = rests s
 
-pub packet_goes : (s : Serving) (clients : ℕ) (packet : Packet) → Goes s (serving.hears s clients packet)
-unfolding serving.hears serving.asks_for_maps
+pub packet_goes : (s : Serving) (clients : ℕ) (packet : Packet) → Goes s (serving.serving_hear s clients packet)
+unfolding serving.serving_hear serving.ask_for_maps
 packet_goes s clients packet =
-    by_test (Goes s) (names_known s.maps packet.body) (serving.on_body s clients packet.from packet.body) (serving.asks_for_maps s)
+    by_test (Goes s) (names_known_groups s.maps packet.body) (serving.on_body s clients packet.from packet.body) (serving.ask_for_maps s)
     (λ _. body_goes s clients packet.from packet.body) (λ _. plainly s _ refl (same s.lasting.items) (tt, tt))
 
 recalls_go : (s : Serving) → Goes s (serving.recalls_again s)
 unfolding serving.recalls_again
-recalls_go s = slots_go s (table.recalls_all s.slots) (table_recalls s.slots)
+recalls_go s = slots_go s (table.recall_again s.slots) (table_recalls s.slots)
 
-asks_go : (s : Serving) (polls : Bool) → Goes s (serving.asks_again s polls)
-unfolding serving.asks_again
-asks_go s polls = asker_goes s (table.asks_all polls (serving.asker_of s)) (table_asks polls (serving.asker_of s))
+asks_go : (s : Serving) (polls : Bool) → Goes s (serving.serving_ask_again s polls)
+unfolding serving.serving_ask_again
+asks_go s polls = asker_goes s (table.slot_table_ask_again polls (serving.asker_of s)) (table_asks polls (serving.asker_of s))
 
 pub tick_goes : (s : Serving) → Goes s (serving.on_tick s)
 unfolding serving.on_tick
 tick_goes s =
     let a : Done = serving.recalls_again s in
-    let b : Done = serving.and_then a (λ t. serving.asks_again t true) in
-    let c : Done = serving.and_then b (λ t. serving.asks_again t false) in
-    let d : Done = serving.and_then c (λ t. checkpoints.writes t log_in.Tick) in
-    and_goes s d checkpoints.tells_again
-    (and_goes s c (λ t. checkpoints.writes t log_in.Tick)
-    (and_goes s b (λ t. serving.asks_again t false) (and_goes s a (λ t. serving.asks_again t true) (recalls_go s) (λ t. asks_go t true))
+    let b : Done = serving.and_then a (λ t. serving.serving_ask_again t true) in
+    let c : Done = serving.and_then b (λ t. serving.serving_ask_again t false) in
+    let d : Done = serving.and_then c (λ t. checkpoints.serving_write t log_in.Tick) in
+    and_goes s d checkpoints.serving_tell_again
+    (and_goes s c (λ t. checkpoints.serving_write t log_in.Tick)
+    (and_goes s b (λ t. serving.serving_ask_again t false) (and_goes s a (λ t. serving.serving_ask_again t true) (recalls_go s) (λ t. asks_go t true))
     (λ t. asks_go t false)) (λ t. writes_go t log_in.Tick)) tells_go
 
 -- ---- a checkpoint of all slots begins

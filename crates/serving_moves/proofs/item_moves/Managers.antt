@@ -3,8 +3,8 @@ use Rattle.std.proofs.Common.{sym, subst, ◌≡◌, ℕ, [], Option, Some, None
 use Rattle.manager_node.specs.declared.manager.Manager.{Manager}
 use Rattle.manager_node.specs.declared.phase.Phase.{Phase}
 use Rattle.manager_node.specs.declared.phase.Phase.TheVariants.{Down, Waiting, Serving as Serves}
-use Rattle.manager_node.specs.Events.{happens, on_deliver, on_event, on_packet, on_time, on_waiting, on_welcome, takes_welcome}
-use Rattle.manager_node.specs.Phases.{Went_to, begin_down, begin_serving, begin_waiting, crashes, down_item, down_wish, lasting_of, on_begin, phase_has_room, restarts, serves, serving_item, serving_wish, waiting_item, waiting_wish, wish_at, with_begun}
+use Rattle.manager_node.specs.Events.{happens, manager_deliver, on_event, on_packet, on_time, on_waiting, on_welcome, takes_welcome}
+use Rattle.manager_node.specs.Phases.{Went_to, begin_down, begin_serving, begin_waiting, crash, down_item, down_wish, lasting_of, on_begin, phase_has_room, restart, serves, serving_item, serving_wish, waiting_item, waiting_wish, wish_at, with_begun}
 use Rattle.manager_slots.specs.declared.lasting.Lasting.{Lasting as Life}
 use Rattle.manager_serving.specs.Checkpoints as checkpoints
 use Rattle.manager_serving.specs.Checkpoints.{Done}
@@ -57,14 +57,14 @@ module _ (life : Life) (number : ℕ) (its : next_item life.items ≡ Some numbe
   asks = work_at (with_begun life).items number
 
   down_so : (asked : Option Work) → Turned Begin (Down life) (down_wish (with_begun life) number (wish_at asked))
-  unfolding restarts
+  unfolding restart
   down_so None = record { its_number = refl; event = Begins number refl its (AtOnce answer.Down [] [] tt tt tt) }
   down_so (Some (work.Restart node)) = record { its_number = refl; event = Begins number refl its (AtOnce answer.Done [] _ tt tt (tt, tt)) }
   down_so (Some _) = record { its_number = refl; event = Begins number refl its (AtOnce answer.Down [] [] tt tt tt) }
 
   waiting_so : (hello : ℕ) (asked : Option Work) → asks ≡ asked
       → Turned Begin (Waiting life hello) (waiting_wish (with_begun life) hello number (wish_at asked))
-  unfolding crashes
+  unfolding crash
   waiting_so hello None e = record { its_number = refl; event = Begins number refl its (AtOnce (answer.Count 0) [] [] tt tt tt) }
   waiting_so hello (Some (work.Crash node)) e = record { its_number = refl; event = Cuts number [] [] refl its (subst Falls (sym e) tt) tt tt }
   waiting_so hello (Some (work.Restart node)) e = record { its_number = refl; event = Begins number refl its (AtOnce answer.Up [] [] tt tt tt) }
@@ -85,7 +85,7 @@ module _ (s : Serving) (number : ℕ) (its : next_item s.lasting.items ≡ Some 
       }
 
   serving_so : (asked : Option Work) → work_at t.lasting.items number ≡ asked → Turned Begin (Serves s) (serving_wish t number (wish_at asked))
-  unfolding crashes
+  unfolding crash
   serving_so None e = opens_so
   serving_so (Some (work.Crash node)) e = record { its_number = refl; event = Cuts number [] [] refl its (subst Falls (sym e) tt) tt tt }
   serving_so (Some (work.Restart node)) e = record { its_number = refl; event = Begins number refl its (AtOnce answer.Up [] [] tt tt tt) }
@@ -125,7 +125,7 @@ awaited_so peers life hello what _ = unmoved what (Waiting life hello)
 gets_so : (peers : Peers) (p : Phase) (packet : Packet) → Turned (Deliver packet) p (on_packet peers p packet)
 gets_so peers (Down life) packet = unmoved (Deliver packet) (Down life)
 gets_so peers (Waiting life hello) packet = awaited_so peers life hello (Deliver packet) packet.body
-gets_so peers (Serves s) packet = served s (Deliver packet) (serving.hears s peers.clients packet) (packet_goes s peers.clients packet)
+gets_so peers (Serves s) packet = served s (Deliver packet) (serving.serving_hear s peers.clients packet) (packet_goes s peers.clients packet)
 
 time_so : (p : Phase) → Turned Tick p (on_time p)
 unfolding on_time
@@ -134,7 +134,7 @@ time_so (Waiting life hello) = record { its_number = refl; event = GoesOn (Last 
 time_so (Serves s) = served s Tick (serving.on_tick s) (tick_goes s)
 
 event_so : (peers : Peers) (p : Phase) (what : Do) → Turned what p (on_event peers p what)
-unfolding on_deliver
+unfolding manager_deliver
 event_so peers p Begin = begin_so p
 event_so peers p (Deliver packet) =
     by_test (Turned (Deliver packet) p) (is_well_formed peers packet) (on_packet peers p packet) (still p) (λ _. gets_so peers p packet)

@@ -14,7 +14,7 @@ use Rattle.log_owner.specs.declared.opening.Scanning.{Scanning}
 use Rattle.log_owner.specs.declared.opening.Settling.{Settling}
 use Rattle.log_owner.specs.declared.opening.Stage.{Stage}
 use Rattle.log_owner.specs.declared.opening.Stage.TheVariants as stage
-use Rattle.log_owner.specs.Opening.{Moved, Went, at_scan, behind, follows, logged, on_packet, on_tick, opens, said, scanned, scans_on, settles_over, welcomed, welcomed_with, writes, written}
+use Rattle.log_owner.specs.Opening.{Moved, Went, known_scanning, behind, known_follow, logged, opening_take, on_tick, known_go_on, sent_send, scanned, scans_on, settles_over, welcomed, welcomed_with, known_write, written}
 use Rattle.log_scan.specs.declared.input.In.{In as ScanIn}
 use Rattle.log_scan.specs.declared.input.In.TheVariants as input
 use Rattle.log_scan.specs.declared.output.Out.{Out}
@@ -25,7 +25,7 @@ use Rattle.node_base.specs.declared.effects.Effect.{Effect}
 use Rattle.node_base.specs.declared.effects.Effect.TheVariants.{Send, Answer as Answers, Lose, Does}
 use Rattle.node_base.specs.declared.questions.Asked.{Asked}
 use Rattle.node_base.specs.declared.questions.Questions.{Questions}
-use Rattle.node_base.specs.Maps.{taken}
+use Rattle.node_base.specs.Maps.{maps_take}
 use Rattle.node_base.specs.Shape.{is_log}
 use Rattle.token_protocol.specs.Basics.{In}
 use Rattle.version_model.specs.declared.act.Act.{Act}
@@ -36,7 +36,7 @@ use Rattle.xfs_base.proofs.Booleans.{by_test}
 use Rattle.xfs_base.specs.declared.segment.End.{End}
 use Rattle.xfs_base.specs.Steps.{saying, steps, still}
 use Rattle.log_owner.proofs.Behaving as behaving
-use Rattle.node_base.specs.Beginning.{answered, answers_unanswered}
+use Rattle.node_base.specs.Beginning.{items_answer, answers_unanswered}
 use Rattle.node_base.specs.declared.items.Items.{Items}
 use Rattle.version_model.specs.declared.answer.Answer.{Answer}
 use Rattle.version_model.specs.declared.answer.Answer.TheVariants as answer
@@ -91,33 +91,33 @@ said_after outs m so = by m.state m.outs so
     by (progress.Opened o) more h = tt
     by (progress.Lost name) more h = in_behind (Lose name) outs more h
 
-opens_so : (k : Known) (s : Settling) (settled : Option End) → MovedSo (opens k s settled)
-opens_so k s None = tt
-opens_so k s (Some end) = tt
+known_go_on_so : (k : Known) (s : Settling) (settled : Option End) → MovedSo (known_go_on k s settled)
+known_go_on_so k s None = tt
+known_go_on_so k s (Some end) = tt
 
 logged_so : (k : Known) (s : Settling) (r : log.Done) → MovedSo (logged k s r)
 logged_so k s r =
-    said_after (written r.outs).outs (opens k (record s { log = r.state }) (written r.outs).state)
-    (opens_so k (record s { log = r.state }) (written r.outs).state)
+    said_after (written r.outs).outs (known_go_on k (record s { log = r.state }) (written r.outs).state)
+    (known_go_on_so k (record s { log = r.state }) (written r.outs).state)
 
-writes_so : (k : Known) (s : Settling) (i : LogIn) → MovedSo (writes k s i)
-unfolding writes
-writes_so k s i = logged_so k s (log.transition s.log i)
+known_write_so : (k : Known) (s : Settling) (i : LogIn) → MovedSo (known_write k s i)
+unfolding known_write
+known_write_so k s i = logged_so k s (log.transition s.log i)
 
 settles_so : (k : Known) (s : Scanning) (chain : _) (groups : Option GroupMapState) → MovedSo (settles_over k s chain groups)
 settles_so k s chain None = tt
 settles_so k s chain (Some groups) =
-    by_test MovedSo (is_log k.owner.log.0) (writes k (behind k chain groups) (log_in.Parts [])) (still (at_scan k s))
-    (λ _. writes_so k (behind k chain groups) (log_in.Parts [])) (λ _. tt)
+    by_test MovedSo (is_log k.owner.log.0) (known_write k (behind k chain groups) (log_in.Parts [])) (still (known_scanning k s))
+    (λ _. known_write_so k (behind k chain groups) (log_in.Parts [])) (λ _. tt)
 
-none_ended : (k : Known) (s : Scanning) → MovedSo (follows k s None)
-unfolding follows
+none_ended : (k : Known) (s : Scanning) → MovedSo (known_follow k s None)
+unfolding known_follow
 none_ended k s = tt
 
 -- whatever the scan said, what is next says what is lost
-ended_so : (its : Owner) (low : ℕ) (a : Asked) (p : Questions) (e : _) (outs : List Out) → ((k : Known) (s : Scanning) → MovedSo (follows k s e))
-    → (k : Known) (s : Scanning) → MovedSo (follows k s (steps (said its low) (record { asked = a; questions = p; ended = e }) outs).state.ended)
-unfolding follows said
+ended_so : (its : Owner) (low : ℕ) (a : Asked) (p : Questions) (e : _) (outs : List Out) → ((k : Known) (s : Scanning) → MovedSo (known_follow k s e))
+    → (k : Known) (s : Scanning) → MovedSo (known_follow k s (steps (sent_send its low) (record { asked = a; questions = p; ended = e }) outs).state.ended)
+unfolding known_follow sent_send
 ended_so its low a p e [] ends = ends
 ended_so its low a p e (out.Hello own ∷ outs) ends = ended_so its low (asked_as a p own) (drawn_for a p own) e outs ends
 ended_so its low a p e (out.Fence server ∷ outs) ends = ended_so its low a p e outs ends
@@ -131,7 +131,7 @@ scans_on_so k q s i =
     let d = scan.transition s.scan i in
     let r = scanned k.owner d.state.opening.low s.asked q d.outs in
     let next : Scanning = record { scan = d.state; asked = r.state.asked } in
-    said_after r.outs (follows k next r.state.ended) (ended_so k.owner d.state.opening.low s.asked q None d.outs none_ended k next)
+    said_after r.outs (known_follow k next r.state.ended) (ended_so k.owner d.state.opening.low s.asked q None d.outs none_ended k next)
 
 -- ---- the events
 
@@ -141,14 +141,14 @@ with_so k q s news own (Some groups) = scans_on_so _ q _ (input.Welcome own news
 
 welcomed_so : (k : Known) (q : Questions) (s : Scanning) (news : News) (own : ℕ) → WentSo (welcomed k q s news own)
 unfolding welcomed
-welcomed_so k q s news own = with_so (record k { maps = taken k.maps news }) q s news own (taken k.maps news).groups
+welcomed_so k q s news own = with_so (record k { maps = maps_take k.maps news }) q s news own (maps_take k.maps news).groups
 
 walk : Walk Any (λ k q at w. WentSo w)
 walk = record {
   rests = λ o q. tt;
   asks = λ o q. tt;
   scan = λ k q s i comes. scans_on_so k q s i;
-  log = λ k q s i heard. writes_so k s i;
+  log = λ k q s i heard. known_write_so k s i;
   welcome = λ from k q s m own said. welcomed_so k q s m.news own;
   newer = λ from k news q at w said fact. fact;
 }
@@ -160,9 +160,9 @@ pub record Goes (o : Opening) (w : Went) : Type 0 where
   pub plain : AllPlain (log_losses o.stage) w.effects
   pub says : SaysLoss w.progress w.effects
 
-pub packet_goes : (o : Opening) (q : Questions) (p : Packet) → Goes o (on_packet o q p)
+pub packet_goes : (o : Opening) (q : Questions) (p : Packet) → Goes o (opening_take o q p)
 packet_goes o q p = record {
-  plain = stage_plain o.stage (on_packet o q p).effects (behaves_aside o.known.owner (on_packet o q p) (behaving.packet_so o q p)) (packet_settles o q p);
+  plain = stage_plain o.stage (opening_take o q p).effects (behaves_aside o.known.owner (opening_take o q p) (behaving.packet_so o q p)) (packet_settles o q p);
   says = packet_so Any (λ k q at w. WentSo w) walk o q p tt;
 }
 
@@ -196,9 +196,9 @@ module _ (losses : Losses) (J : Answer → Type 0) (items : Items) (outs : List 
   goes_on = Then items outs [] (Stays (same items) plain) (Last (Stays (same items) tt))
 
   pub is_back : J answer.Done → (more : List Effect) → AllPlain losses more
-      → Moves losses J items (outs ++ (more ++ answers_unanswered items.unanswered answer.Done)) (answered items)
+      → Moves losses J items (outs ++ (more ++ answers_unanswered items.unanswered answer.Done)) (items_answer items)
   is_back so more rest =
       Then items outs _ (Stays (same items) plain) (Then items more _ (Stays (same items) rest) (Last (Ends answer.Done so)))
 
-  pub is_lost : (name : SegName) → MayAnswer losses → In (Lose name) outs → Moves losses J items (outs ++ answers_unanswered items.unanswered (answer.Lost name)) (answered items)
+  pub is_lost : (name : SegName) → MayAnswer losses → In (Lose name) outs → Moves losses J items (outs ++ answers_unanswered items.unanswered (answer.Lost name)) (items_answer items)
   is_lost name may among = Last (Loses name outs may plain among)

@@ -171,7 +171,7 @@ synced_well : (p : PlanState) → EndsWell p → EndsWell (plan.on_synced p)
 synced_well (Syncs dir name node) well = tt
 synced_well _ well = well
 
-pub answered_well : (p : PlanState) → EndsWell p → (a : BlockAnswer) → EndsWell (plan.after_answer p a)
+pub answered_well : (p : PlanState) → EndsWell p → (a : BlockAnswer) → EndsWell (plan.file_plan_answered p a)
 answered_well p well (Got ver value) = got_well p well ver value
 answered_well p well (Written ver) = written_well p well
 answered_well p well Changed = changed_well p well
@@ -198,7 +198,7 @@ start_well c ino =
 -- by all answers that it had
 pub all_well : (p : PlanState) (answers : List BlockAnswer) → EndsWell p → EndsWell (plan.after_all p answers)
 all_well p [] well = well
-all_well p (a ∷ answers) well = all_well (plan.after_answer p a) answers (answered_well p well a)
+all_well p (a ∷ answers) well = all_well (plan.file_plan_answered p a) answers (answered_well p well a)
 
 one_reply : (a b : Answer) → Reply a ≡ Reply b → a ≡ b
 one_reply a b e = cc
@@ -207,6 +207,6 @@ no_reply : (step : BlockCall) (a : Answer) → Step step ≡ Reply a → ⊥
 no_reply step a e = cc
 
 -- what it replies is such an answer
-pub replies_well : (p : PlanState) (a : Answer) → EndsWell p → plan.next_call p ≡ Reply a → IsFileReply a
+pub replies_well : (p : PlanState) (a : Answer) → EndsWell p → plan.file_plan_next p ≡ Reply a → IsFileReply a
 replies_well (Ends b) a well e = subst IsFileReply (one_reply b a e) well
 replies_well _ a well e = absurd (no_reply _ a e)

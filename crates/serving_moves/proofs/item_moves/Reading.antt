@@ -1,7 +1,7 @@
 -- What is so of each effect of a move, and of what an item gets as it begins, is so of each effect of an event; and who says that a segment is lost.
 use Rattle.std.proofs.Common.{◌≡◌, ℕ, List, [], ◌∷◌, ◌++◌, Option, Some, None, inl, inr, refl, sym, subst}
 use Rattle.std.specs.List.{AllByRecursion}
-use Rattle.node_base.specs.Beginning.{answers_unanswered, begun, waiting}
+use Rattle.node_base.specs.Beginning.{answers_unanswered, items_begin, items_wait}
 use Rattle.node_base.specs.declared.effects.Effect.{Effect}
 use Rattle.node_base.specs.declared.effects.Effect.TheVariants.{Send, Answer as Answers, Lose, Does}
 use Rattle.node_base.specs.declared.items.Items.{Items}
@@ -43,17 +43,17 @@ module _ (losses : Losses) (J : Answer → Type 0) (Q : Effect → Type 0) (plai
       begun_each : (items after : Items) (number : ℕ) (outs : List Effect) → Begun losses J K items number outs after → AllByRecursion Q outs
       begun_each items after number outs (AtOnce a first more so all rest) =
           all_append Q first (Answers number a ∷ more) (all_so first all) (prompt number a so, all_so more rest)
-      begun_each items after number outs (Waits made) = moves_each (waiting items number) after outs made
+      begun_each items after number outs (Waits made) = moves_each (items_wait items number) after outs made
 
       pub event_each : ((item : ℕ) → Q (Answers item answer.Cut)) → ((item : ℕ) → Q (Answers item answer.Done)) → (before after : Items) (what : Do)
           (outs : List Effect) → Event losses J K before what outs after → AllByRecursion Q outs
       event_each cut done before after what outs (GoesOn made) = moves_each before after outs made
       event_each cut done before after what outs (Idles is) = tt
-      event_each cut done before after what outs (Begins number is next made) = begun_each (begun before) after number outs made
+      event_each cut done before after what outs (Begins number is next made) = begun_each (items_begin before) after number outs made
       event_each cut done before after what outs (Cuts number first more is next falls all rest) =
-          all_append Q first (answers_unanswered (begun before).unanswered answer.Cut ++ Answers number answer.Done ∷ more) (all_so first all)
-          (all_append Q (answers_unanswered (begun before).unanswered answer.Cut) (Answers number answer.Done ∷ more)
-          (open_so (begun before).unanswered answer.Cut cut) (done number, all_so more rest))
+          all_append Q first (answers_unanswered (items_begin before).unanswered answer.Cut ++ Answers number answer.Done ∷ more) (all_so first all)
+          (all_append Q (answers_unanswered (items_begin before).unanswered answer.Cut) (Answers number answer.Done ∷ more)
+          (open_so (items_begin before).unanswered answer.Cut cut) (done number, all_so more rest))
 
 -- ---- losses
 

@@ -1,6 +1,6 @@
 -- What an event makes of the items of the registry: it answers only the item that begins, and none waits.
 use Rattle.std.proofs.Common.{◌≡◌, ℕ, [], ◌∷◌, flat_map, Option, Some, None, refl}
-use Rattle.node_base.specs.Beginning.{begun, next_item, work_at}
+use Rattle.node_base.specs.Beginning.{items_begin, next_item, work_at}
 use Rattle.node_base.specs.declared.effects.Effect.TheVariants.{Send}
 use Rattle.node_base.specs.Nodes.{others}
 use Rattle.node_base.specs.Room.{has_room}
@@ -12,7 +12,7 @@ use Rattle.registry.specs.declared.output.Out.{Out}
 use Rattle.registry.specs.declared.output.Out.TheVariants.{Changed, Epoch, Kept}
 use Rattle.registry_node.specs.declared.node.RegistryNode.{RegistryNode}
 use Rattle.registry_node.specs.Events as events
-use Rattle.registry_node.specs.Events.{Done, move_of, takes, tells_all}
+use Rattle.registry_node.specs.Events.{Done, move_of, takes, tell_all}
 use Rattle.version_model.specs.declared.answer.Answer.TheVariants as answer
 use Rattle.wire_msg.specs.declared.body.Body.{Body}
 use Rattle.wire_msg.specs.declared.body.Body.TheVariants as body
@@ -46,7 +46,7 @@ no_number r = 0
 abbrev pub Turned : Do → RegistryNode → Done → Type 0
 Turned what r d = moving.Turned Silent IsNone IsPrompt RegistryNode items_of no_number what r d
 
-pub all_told : (r : RegistryNode) → AllPlain Silent (tells_all r)
+pub all_told : (r : RegistryNode) → AllPlain Silent (tell_all r)
 all_told r = all_map (IsPlain Silent) (λ to. Send to (body.MapNews (events.news_of r.board))) (λ to. tt) (others r.peers Registry)
 
 plainly : (r : RegistryNode) (what : Do) (d : Done) → ItemsStay r.items d.state.items → AllPlain Silent d.outs → Turned what r d
@@ -54,12 +54,12 @@ plainly r what d stay plain = record { its_number = refl; event = GoesOn (Last (
 
 -- ---- packets
 
-changed_plain : (r : RegistryNode) (o : Out) → AllPlain Silent (events.changed r o)
+changed_plain : (r : RegistryNode) (o : Out) → AllPlain Silent (events.say_one_changed r o)
 changed_plain r Changed = all_told r
 changed_plain r (Epoch epoch) = tt
 changed_plain r (Kept epoch) = tt
 
-kept_plain : (from : NodeId) (done : CkptDone) (o : Out) → AllPlain Silent (events.kept from done o)
+kept_plain : (from : NodeId) (done : CkptDone) (o : Out) → AllPlain Silent (events.say_one_kept from done o)
 kept_plain from done Changed = tt
 kept_plain from done (Epoch epoch) = tt
 kept_plain from done (Kept epoch) = (tt, tt)
@@ -70,11 +70,11 @@ hears_so r what from (body.Hello hello) =
     let made : Made = transition r.board (board.Hello from hello.inc) in
     let now : RegistryNode = record r { board = made.state } in
     plainly r what _ (same r.items)
-    (all_append (IsPlain Silent) (flat_map (events.changed now) made.outs) _
-    (all_flat_map (IsPlain Silent) (events.changed now) (changed_plain now) made.outs) (tt, tt))
+    (all_append (IsPlain Silent) (flat_map (events.say_one_changed now) made.outs) _
+    (all_flat_map (IsPlain Silent) (events.say_one_changed now) (changed_plain now) made.outs) (tt, tt))
 hears_so r what from (body.CkptDone done) =
     plainly r what _ (same r.items)
-    (all_flat_map (IsPlain Silent) (events.kept from done) (kept_plain from done)
+    (all_flat_map (IsPlain Silent) (events.say_one_kept from done) (kept_plain from done)
     (transition r.board (board.Done done.slot done.epoch done.parts done.horizon)).outs)
 hears_so r what from _ = unmoved what r
 
@@ -88,7 +88,7 @@ packet_so r packet =
 
 module _ (r : RegistryNode) (number : ℕ) (its : next_item r.items ≡ Some number) where
   abbrev w : RegistryNode
-  w = record r { items = begun r.items }
+  w = record r { items = items_begin r.items }
 
   -- an item that is not answered
   idle : (b : BoardState) → Turned Begin r (still (record w { board = b }))
@@ -98,7 +98,7 @@ module _ (r : RegistryNode) (number : ℕ) (its : next_item r.items ≡ Some num
   moved_so : (b : BoardState) (epoch : ℕ) → Turned Begin r (events.after_move w number (record { state = b; outs = Changed ∷ Epoch epoch ∷ [] }))
   moved_so b epoch =
       let now : RegistryNode = record w { board = b } in
-      record { its_number = refl; event = Begins number refl its (AtOnce (answer.Epoch epoch) (tells_all now) [] tt (all_told now) tt) }
+      record { its_number = refl; event = Begins number refl its (AtOnce (answer.Epoch epoch) (tell_all now) [] tt (all_told now) tt) }
 
   move_so : (slot manager : ℕ) → Turned Begin r (events.on_move w number slot manager)
   unfolding events.on_move reassign
@@ -114,9 +114,9 @@ begin_so : (r : RegistryNode) → Turned Begin r (events.on_begin r)
 unfolding events.on_begin
 begin_so r = by (next_item r.items) refl
   where
-    by : (item : Option ℕ) → next_item r.items ≡ item → Turned Begin r (events.at_item (record r { items = begun r.items }) item)
+    by : (item : Option ℕ) → next_item r.items ≡ item → Turned Begin r (events.at_item (record r { items = items_begin r.items }) item)
     by None fact = record { its_number = refl; event = Idles refl }
-    by (Some number) fact = item_so r number fact (move_of (work_at (begun r.items) number))
+    by (Some number) fact = item_so r number fact (move_of (work_at (items_begin r.items) number))
 
 -- ---- all events
 

@@ -1,21 +1,21 @@
 -- What an event makes of the items of a storage server: while it goes on it answers the open item alone, as a rebuild is over.
 use Rattle.std.proofs.Common.{sym, subst, ◌≡◌, ℕ, ◌&&◌, ◌==◌, List, [], ◌∷◌, Option, Some, None, is_some, refl}
 use Rattle.std.specs.Ordering.{is_eq}
-use Rattle.fragment_store.specs.Calls.{barred, kept, on_fence as fenced_at, on_list as listed_on, store_refused}
+use Rattle.fragment_store.specs.Calls.{barred, shelf_store, on_fence as fenced_at, on_list as listed_on, refusal}
 use Rattle.fragment_store.specs.ShelfState.{ShelfState, fence_of}
 use Rattle.group_map.specs.GroupMapState.{GroupMapState}
 use Rattle.group_rebuild.specs.declared.input.In.{In}
 use Rattle.group_rebuild.specs.declared.input.In.TheVariants as input
 use Rattle.group_rebuild.specs.declared.output.Out.{Out}
 use Rattle.group_rebuild.specs.declared.output.Out.TheVariants as out
-use Rattle.group_rebuild.specs.RebuildState.{started}
+use Rattle.group_rebuild.specs.RebuildState.{rebuild_start}
 use Rattle.group_rebuild.specs.Transition.{transition}
-use Rattle.node_base.specs.Asking.{drawn, next_ask}
-use Rattle.node_base.specs.Beginning.{begun, next_item, waiting, work_at}
+use Rattle.node_base.specs.Asking.{draw, next_ask}
+use Rattle.node_base.specs.Beginning.{items_begin, next_item, items_wait, work_at}
 use Rattle.node_base.specs.declared.effects.Effect.{Effect}
 use Rattle.node_base.specs.declared.effects.Effect.TheVariants.{Send, Answer as Answers}
-use Rattle.node_base.specs.Known.{names_known}
-use Rattle.node_base.specs.Maps.{fits, is_older, taken}
+use Rattle.node_base.specs.Known.{names_known_groups}
+use Rattle.node_base.specs.Maps.{fits, is_older, maps_take}
 use Rattle.node_base.specs.Shape.{is_well_formed}
 use Rattle.store_nodes.specs.declared.server.Rebuilding.{Rebuilding}
 use Rattle.store_nodes.specs.declared.server.Server.{Server as Node}
@@ -65,11 +65,11 @@ Goes v d = moving.Goes Silent IsRebuilt Node items_of number_of v d
 
 -- ---- the rebuild
 
-lists_plain : (r : Option Rebuilding) (server : ℕ) → AllPlain Silent (rebuild.lists_asked r server)
+lists_plain : (r : Option Rebuilding) (server : ℕ) → AllPlain Silent (rebuild.ask_list r server)
 lists_plain None server = tt
 lists_plain (Some r) server = (tt, tt)
 
-fetch_goes : (v : Node) (r : Option Rebuilding) (server : ℕ) (name : SegName) (own : ℕ) → Goes v (rebuild.fetch_asked v r server name own)
+fetch_goes : (v : Node) (r : Option Rebuilding) (server : ℕ) (name : SegName) (own : ℕ) → Goes v (rebuild.ask_fragment v r server name own)
 fetch_goes v None server name own = rests v
 fetch_goes v (Some r) server name own = plainly v _ refl (same v.items) (tt, tt)
 
@@ -122,8 +122,8 @@ unfolding events.on_store
 store_goes v from store =
     let stored : List Effect =
     Send from (body.Stored (record { name = store.fragment.meta.name; index = store.fragment.meta.index; generation = store.generation })) ∷ [] in
-    let d : Done = record { state = record v { shelf = kept v.shelf store.fragment }; outs = stored } in
-    by_test (Goes v) (is_some (store_refused v.shelf store.fragment.meta.name store.generation)) (still v) d (λ _. rests v)
+    let d : Done = record { state = record v { shelf = shelf_store v.shelf store.fragment }; outs = stored } in
+    by_test (Goes v) (is_some (refusal v.shelf store.fragment.meta.name store.generation)) (still v) d (λ _. rests v)
     (λ _. plainly v d refl (same v.items) (tt, tt))
 
 fence_plain : (from : NodeId) (fence : Fence) (s : ShelfState) → AllPlain Silent (events.fence_told from fence s)
@@ -135,7 +135,7 @@ fence_plain from fence s =
 news_go : (v : Node) (news : News) → Goes v (events.takes_news v news)
 unfolding events.takes_news
 news_go v news =
-    let w : Node = record v { maps = taken v.maps news } in
+    let w : Node = record v { maps = maps_take v.maps news } in
     by_test (Goes v) (is_older v.maps news) (rebuilds w (input.Maps news.groups)) (still v)
     (λ _. from_goes v w (rebuilds w (input.Maps news.groups)) refl (same v.items) (rebuilds_go w (input.Maps news.groups))) (λ _. rests v)
 
@@ -164,7 +164,7 @@ hears_go v from _ = rests v
 known_go : (v : Node) (from : NodeId) (b : Body) → Goes v (events.hears_known v from b)
 unfolding events.asks_for_maps
 known_go v from b =
-    by_test (Goes v) (names_known v.maps b) (events.hears v from b) (events.asks_for_maps v) (λ _. hears_go v from b)
+    by_test (Goes v) (names_known_groups v.maps b) (events.hears v from b) (events.asks_for_maps v) (λ _. hears_go v from b)
     (λ _. plainly v _ refl (same v.items) (tt, tt))
 
 body_goes : (v : Node) (from : NodeId) (b : Body) → Goes v (events.on_body v from b)
@@ -199,7 +199,7 @@ turned v what d g = record { its_number = g.its_number; event = GoesOn g.moves }
 
 module _ (v : Node) (number : ℕ) (its : next_item v.items ≡ Some number) where
   abbrev w : Node
-  w = record v { items = begun v.items }
+  w = record v { items = items_begin v.items }
 
   -- an item that neither is answered nor waits
   idle : Turned Begin v (still w)
@@ -213,9 +213,9 @@ module _ (v : Node) (number : ℕ) (its : next_item v.items ≡ Some number) whe
   rebuild_so None = idle
   rebuild_so (Some groups) =
       let u : Node = record w {
-        items = waiting w.items number;
-        questions = drawn w.questions;
-        rebuilding = Some (record { rebuild = started w.number groups; lists = next_ask w.questions; fetches = record { own = 0; ask = 0 } });
+        items = items_wait w.items number;
+        questions = draw w.questions;
+        rebuilding = Some (record { rebuild = rebuild_start w.number groups; lists = next_ask w.questions; fetches = record { own = 0; ask = 0 } });
       } in
       let g : Goes u (rebuilds u input.Tick) = rebuilds_go u input.Tick in
       record { its_number = g.its_number; event = Begins number refl its (Waits g.moves) }
@@ -233,9 +233,9 @@ begin_so : (v : Node) → Turned Begin v (events.on_begin v)
 unfolding events.on_begin
 begin_so v = by (next_item v.items) refl
   where
-    by : (item : Option ℕ) → next_item v.items ≡ item → Turned Begin v (events.at_item (record v { items = begun v.items }) item)
+    by : (item : Option ℕ) → next_item v.items ≡ item → Turned Begin v (events.at_item (record v { items = items_begin v.items }) item)
     by None fact = record { its_number = refl; event = Idles refl }
-    by (Some number) fact = wish_so v number fact (work_at (begun v.items) number) refl
+    by (Some number) fact = wish_so v number fact (work_at (items_begin v.items) number) refl
 
 -- ---- all events
 

@@ -11,7 +11,7 @@ use Rattle.log_owner.specs.declared.opening.Settling.{Settling}
 use Rattle.log_owner.specs.declared.opening.Stage.{Stage}
 use Rattle.log_owner.specs.declared.opening.Stage.TheVariants as stage
 use Rattle.log_owner.specs.Opened.{filed}
-use Rattle.log_owner.specs.Opening.{Moved, Went, logged, on_packet, on_tick, opens, writes, written, wrote_one}
+use Rattle.log_owner.specs.Opening.{Moved, Went, logged, opening_take, on_tick, known_go_on, known_write, written, send_one}
 use Rattle.node_base.specs.declared.effects.Effect.{Effect}
 use Rattle.node_base.specs.declared.effects.Effect.TheVariants.{Send, Answer as Answers, Lose, Does}
 use Rattle.node_base.specs.declared.questions.Questions.{Questions}
@@ -59,23 +59,23 @@ stage_plain (stage.Settling s) outs plain none = plain_without outs plain none
 abbrev Quietly : Moved → Type 0
 Quietly m = NoLosses m.outs
 
-wrote_none : (before : Option End) (x : LogOut) → NoLosses (wrote_one before x).outs
-unfolding wrote_one
+wrote_none : (before : Option End) (x : LogOut) → NoLosses (send_one before x).outs
+unfolding send_one
 wrote_none before (log_out.Send fragment member) = (tt, tt)
 wrote_none before (log_out.Settled end rows) = tt
 
-opens_none : (k : Known) (s : Settling) (settled : Option End) → Quietly (opens k s settled)
+opens_none : (k : Known) (s : Settling) (settled : Option End) → Quietly (known_go_on k s settled)
 opens_none k s None = tt
 opens_none k s (Some end) = all_append IsNoLoss (map filed s.chain) _ (all_map IsNoLoss filed (λ (x : Segment). tt) s.chain) (tt, tt)
 
 logged_none : (k : Known) (s : Settling) (r : log.Done) → Quietly (logged k s r)
 logged_none k s r =
-    all_append IsNoLoss (written r.outs).outs (opens k (record s { log = r.state }) (written r.outs).state).outs
-    (all_steps wrote_one IsNoLoss wrote_none None r.outs)
+    all_append IsNoLoss (written r.outs).outs (known_go_on k (record s { log = r.state }) (written r.outs).state).outs
+    (all_steps send_one IsNoLoss wrote_none None r.outs)
     (opens_none k (record s { log = r.state }) (written r.outs).state)
 
-writes_none : (k : Known) (s : Settling) (i : LogIn) → Quietly (writes k s i)
-unfolding writes
+writes_none : (k : Known) (s : Settling) (i : LogIn) → Quietly (known_write k s i)
+unfolding known_write
 writes_none k s i = logged_none k s (log.transition s.log i)
 
 -- ---- the events
@@ -96,5 +96,5 @@ walk = record {
 pub tick_settles : (o : Opening) (q : Questions) → UnlessScans o.stage (on_tick o q).effects
 tick_settles o q = tick_so Any (λ k q at w. So at w) walk o q
 
-pub packet_settles : (o : Opening) (q : Questions) (p : Packet) → UnlessScans o.stage (on_packet o q p).effects
+pub packet_settles : (o : Opening) (q : Questions) (p : Packet) → UnlessScans o.stage (opening_take o q p).effects
 packet_settles o q p = packet_so Any (λ k q at w. So at w) walk o q p tt

@@ -40,16 +40,16 @@ use Rattle.serving_moves.specs.item_moves.Moves.Losses.{Telling}
 
 -- ---- one slot
 
-said_plain : (slot epoch : ℕ) (o : SlotOut) → AllPlain Telling (tokens.said slot epoch o)
-unfolding tokens.said
+said_plain : (slot epoch : ℕ) (o : SlotOut) → AllPlain Telling (tokens.tokens_say slot epoch o)
+unfolding tokens.tokens_say
 said_plain slot epoch (slot_out.Live entry) = tt
 said_plain slot epoch slot_out.Dead = tt
 said_plain slot epoch _ = (tt, tt)
 
-takes_plain : (p : SlotPhase) (slot : ℕ) (given : SlotIn) → AllPlain Telling (tokens.takes p slot given).outs
-unfolding tokens.takes
+takes_plain : (p : SlotPhase) (slot : ℕ) (given : SlotIn) → AllPlain Telling (tokens.tokens_take p slot given).outs
+unfolding tokens.tokens_take
 takes_plain (phase.Active a) slot given =
-    all_flat_map (IsPlain Telling) (tokens.said slot a.slot.epoch) (said_plain slot a.slot.epoch) (transition a.slot given).outs
+    all_flat_map (IsPlain Telling) (tokens.tokens_say slot a.slot.epoch) (said_plain slot a.slot.epoch) (transition a.slot given).outs
 takes_plain (phase.Away epoch) slot given = tt
 takes_plain (phase.Taking t) slot given = tt
 takes_plain (phase.Broken epoch seg) slot given = tt
@@ -61,14 +61,14 @@ want_plain (phase.Active a) client want = takes_plain (phase.Active a) (slot_of 
 want_plain (phase.Away epoch) client want = takes_plain (phase.Away epoch) (slot_of want.block.ino.0) (tokens.want_input client want)
 want_plain (phase.Taking t) client want = takes_plain (phase.Taking t) (slot_of want.block.ino.0) (tokens.want_input client want)
 
-checked_plain : (check : Check) (epoch : ℕ) (o : SlotOut) → AllPlain Telling (tokens.check_said check epoch o)
-unfolding tokens.check_said
+checked_plain : (check : Check) (epoch : ℕ) (o : SlotOut) → AllPlain Telling (tokens.tokens_answer check epoch o)
+unfolding tokens.tokens_answer
 checked_plain check epoch o = (tt, tt)
 
 check_plain : (p : SlotPhase) (check : Check) → AllPlain Telling (tokens.on_check p check).outs
 unfolding tokens.on_check
 check_plain (phase.Active a) check =
-    all_flat_map (IsPlain Telling) (tokens.check_said check a.slot.epoch) (checked_plain check a.slot.epoch) (transition a.slot (tokens.check_input check)).outs
+    all_flat_map (IsPlain Telling) (tokens.tokens_answer check a.slot.epoch) (checked_plain check a.slot.epoch) (transition a.slot (tokens.check_input check)).outs
 check_plain (phase.Away epoch) check = tt
 check_plain (phase.Taking t) check = tt
 check_plain (phase.Broken epoch seg) check = tt
@@ -115,43 +115,43 @@ table_usage t asked = by (slice_get t asked.slot)
     by None = tt
     by (Some p) = usage_plain p asked
 
-recalls_plain : (t : Table) (k : ℕ) → AllPlain Telling (table.recalls t k).outs
-unfolding table.recalls
+recalls_plain : (t : Table) (k : ℕ) → AllPlain Telling (table.slot_table_recall t k).outs
+unfolding table.slot_table_recall
 recalls_plain t k = at_slot_plain t k (λ p. tokens.on_tick p k) (λ p. takes_plain p k slot_in.Tick)
 
-pub table_recalls : (t : Table) → AllPlain Telling (table.recalls_all t).outs
-table_recalls t = all_steps table.recalls (IsPlain Telling) recalls_plain t all_slots
+pub table_recalls : (t : Table) → AllPlain Telling (table.recall_again t).outs
+table_recalls t = all_steps table.slot_table_recall (IsPlain Telling) recalls_plain t all_slots
 
 -- ---- takeovers
 
-fetches_plain : (p : SlotPhase) (q : Questions) (server : ℕ) (name : SegName) (own : ℕ) → AllPlain Telling (takeovers.fetches p q server name own).outs
+fetches_plain : (p : SlotPhase) (q : Questions) (server : ℕ) (name : SegName) (own : ℕ) → AllPlain Telling (takeovers.takeovers_fetch p q server name own).outs
 fetches_plain (phase.Taking t) q server name own = (tt, tt)
 fetches_plain _ q server name own = tt
 
-says_plain : (slot : ℕ) (a : Asker) (o : TakeOut) → AllPlain Telling (takeovers.says slot a o).outs
-unfolding takeovers.says
+says_plain : (slot : ℕ) (a : Asker) (o : TakeOut) → AllPlain Telling (takeovers.takeovers_say slot a o).outs
+unfolding takeovers.takeovers_say
 says_plain slot a (take_out.Poll to) = (tt, tt)
 says_plain slot a (take_out.Fetch server name own) = fetches_plain a.phase a.questions server name own
 says_plain slot a (take_out.Active epoch index beliefs applied) = tt
 says_plain slot a (take_out.Lost seg) = (tt, tt)
 
-each_plain : (slot : ℕ) (a : Asker) (outs : List TakeOut) → AllPlain Telling (takeovers.says_each slot a outs).outs
-unfolding takeovers.says_each
-each_plain slot a outs = all_steps (takeovers.says slot) (IsPlain Telling) (says_plain slot) a outs
+each_plain : (slot : ℕ) (a : Asker) (outs : List TakeOut) → AllPlain Telling (takeovers.say_each slot a outs).outs
+unfolding takeovers.say_each
+each_plain slot a outs = all_steps (takeovers.takeovers_say slot) (IsPlain Telling) (says_plain slot) a outs
 
-taken_plain : (a : Asker) (slot : ℕ) (given : TakeIn) → AllPlain Telling (takeovers.takes a slot given).outs
-unfolding takeovers.takes
+taken_plain : (a : Asker) (slot : ℕ) (given : TakeIn) → AllPlain Telling (takeovers.takeovers_take a slot given).outs
+unfolding takeovers.takeovers_take
 taken_plain a slot given =
-    each_plain slot (record a { phase = (takeovers.heard a.phase given).state }) (takeovers.heard a.phase given).outs
+    each_plain slot (record a { phase = (takeovers.outs_of a.phase given).state }) (takeovers.outs_of a.phase given).outs
 
-asked_plain : (a : Asker) (slot : ℕ) (polls : Bool) → AllPlain Telling (takeovers.asks_again a slot polls).outs
-unfolding takeovers.asks_again
+asked_plain : (a : Asker) (slot : ℕ) (polls : Bool) → AllPlain Telling (takeovers.takeovers_ask_again a slot polls).outs
+unfolding takeovers.takeovers_ask_again
 asked_plain a slot polls = each_plain slot _ _
 
 report_plain : (a : Asker) (from : NodeId) (report : Report) → AllPlain Telling (takeovers.on_report a from report).outs
 report_plain a from report =
     by_test (λ (d : Stepped Asker Effect). AllPlain Telling d.outs) (report.epoch == epoch_of a.phase)
-    (takeovers.takes a report.slot (takeovers.report_input from report)) (still a)
+    (takeovers.takeovers_take a report.slot (takeovers.report_input from report)) (still a)
     (λ _. taken_plain a report.slot (takeovers.report_input from report)) (λ _. tt)
 
 at_taken_plain : (a : TableAsker) (slot : ℕ) (event : Asker → Stepped Asker Effect) → ((one : Asker) → AllPlain Telling (event one).outs)
@@ -162,36 +162,36 @@ at_taken_plain a slot event each = by (slice_get a.table slot)
     by None = tt
     by (Some p) = each (asker p a.questions)
 
-pub table_takes : (a : TableAsker) (slot : ℕ) (given : TakeIn) → AllPlain Telling (table.takes a slot given).outs
-unfolding table.takes
-table_takes a slot given = at_taken_plain a slot (λ one. takeovers.takes one slot given) (λ one. taken_plain one slot given)
+pub table_takes : (a : TableAsker) (slot : ℕ) (given : TakeIn) → AllPlain Telling (table.slot_table_take a slot given).outs
+unfolding table.slot_table_take
+table_takes a slot given = at_taken_plain a slot (λ one. takeovers.takeovers_take one slot given) (λ one. taken_plain one slot given)
 
 pub table_report : (a : TableAsker) (from : NodeId) (report : Report) → AllPlain Telling (table.on_report a from report).outs
 unfolding table.on_report
 table_report a from report = at_taken_plain a report.slot (λ one. takeovers.on_report one from report) (λ one. report_plain one from report)
 
-asks_plain : (polls : Bool) (a : TableAsker) (slot : ℕ) → AllPlain Telling (table.asks polls a slot).outs
-unfolding table.asks
-asks_plain polls a slot = at_taken_plain a slot (λ one. takeovers.asks_again one slot polls) (λ one. asked_plain one slot polls)
+asks_plain : (polls : Bool) (a : TableAsker) (slot : ℕ) → AllPlain Telling (table.slot_table_ask polls a slot).outs
+unfolding table.slot_table_ask
+asks_plain polls a slot = at_taken_plain a slot (λ one. takeovers.takeovers_ask_again one slot polls) (λ one. asked_plain one slot polls)
 
-pub table_asks : (polls : Bool) (a : TableAsker) → AllPlain Telling (table.asks_all polls a).outs
-table_asks polls a = all_steps (table.asks polls) (IsPlain Telling) (asks_plain polls) a all_slots
+pub table_asks : (polls : Bool) (a : TableAsker) → AllPlain Telling (table.slot_table_ask_again polls a).outs
+table_asks polls a = all_steps (table.slot_table_ask polls) (IsPlain Telling) (asks_plain polls) a all_slots
 
-regroups_plain : (groups : GroupMapState) (a : TableAsker) (slot : ℕ) → AllPlain Telling (table.regroups groups a slot).outs
+regroups_plain : (groups : GroupMapState) (a : TableAsker) (slot : ℕ) → AllPlain Telling (table.regroup_one groups a slot).outs
 regroups_plain groups a slot = table_takes a slot (take_in.Maps groups)
 
-pub table_regroups : (groups : GroupMapState) (a : TableAsker) → AllPlain Telling (table.regroups_all groups a).outs
-table_regroups groups a = all_steps (table.regroups groups) (IsPlain Telling) (regroups_plain groups) a all_slots
+pub table_regroups : (groups : GroupMapState) (a : TableAsker) → AllPlain Telling (table.slot_table_regroup groups a).outs
+table_regroups groups a = all_steps (table.regroup_one groups) (IsPlain Telling) (regroups_plain groups) a all_slots
 
-hears_of_plain : (h : Hearer) (news : SlotNews) (one : Asker) → AllPlain Telling (table.hears_of h news one).outs
-unfolding table.hears_of
-hears_of_plain h news one =
+hear_of_plain : (h : Hearer) (news : SlotNews) (one : Asker) → AllPlain Telling (table.hear_of h news one).outs
+unfolding table.hear_of
+hear_of_plain h news one =
     by_test (λ (d : Stepped Asker Effect). AllPlain Telling d.outs) (nat_lt (epoch_of one.phase) news.epoch) _ (still one) (λ _. taken_plain _ news.slot take_in.Tick)
     (λ _. tt)
 
-hears_plain : (h : Hearer) (a : TableAsker) (news : SlotNews) → AllPlain Telling (table.hears h a news).outs
-unfolding table.hears
-hears_plain h a news = at_taken_plain a news.slot (table.hears_of h news) (hears_of_plain h news)
+hears_plain : (h : Hearer) (a : TableAsker) (news : SlotNews) → AllPlain Telling (table.slot_table_hear h a news).outs
+unfolding table.slot_table_hear
+hears_plain h a news = at_taken_plain a news.slot (table.hear_of h news) (hear_of_plain h news)
 
-pub table_hears : (h : Hearer) (a : TableAsker) (slots : List SlotNews) → AllPlain Telling (table.hears_all h a slots).outs
-table_hears h a slots = all_steps (table.hears h) (IsPlain Telling) (hears_plain h) a slots
+pub table_hears : (h : Hearer) (a : TableAsker) (slots : List SlotNews) → AllPlain Telling (table.hear_each h a slots).outs
+table_hears h a slots = all_steps (table.slot_table_hear h) (IsPlain Telling) (hears_plain h) a slots

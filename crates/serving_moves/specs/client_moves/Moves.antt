@@ -2,9 +2,9 @@
 use Rattle.std.specs.List.{AllByRecursion}
 use Rattle.std.specs.Prelude.{◌≡◌, ℕ, List, [], ◌∷◌, Option, Some, None}
 use Rattle.client_call.specs.declared.call.Call.{Call}
-use Rattle.client_running.specs.Blocks.{Made, makes}
+use Rattle.client_running.specs.Blocks.{Made, blocks_make}
 use Rattle.client_serving.specs.declared.serving.Serving.{Serving}
-use Rattle.client_serving.specs.Packets.{on_packet, on_tick}
+use Rattle.client_serving.specs.Packets.{serving_take, on_tick}
 use Rattle.client_serving.specs.Reads.{loses}
 use Rattle.client_serving.specs.Sends.{Done}
 use Rattle.file_plan.specs.declared.block_call.BlockAnswer.{BlockAnswer}
@@ -102,13 +102,13 @@ pub record MakesSo (s : Serving) (call : BlockCall) (m : Made) : Type 0 where
 -- What is done as a packet comes, and as time passes, is a list of moves, but where a manager says that a segment is lost; and so is what is done for a call on
 -- blocks, but for the act of which its answer tells.
 abbrev pub PacketsAreMoves : Type 0
-PacketsAreMoves = (s : Serving) (packet : Packet) → Comes s (on_packet s packet)
+PacketsAreMoves = (s : Serving) (packet : Packet) → Comes s (serving_take s packet)
 
 abbrev pub TicksAreMoves : Type 0
 TicksAreMoves = (s : Serving) → Moves s (on_tick s)
 
 abbrev pub CallsAreMoves : Type 0
-CallsAreMoves = (s : Serving) (call : BlockCall) → MakesSo s call (makes s call)
+CallsAreMoves = (s : Serving) (call : BlockCall) → MakesSo s call (blocks_make s call)
 
 -- So the call that is open behind moves was open before them.
 abbrev pub CallsStay : Type 0

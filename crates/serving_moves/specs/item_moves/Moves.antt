@@ -1,7 +1,7 @@
 -- The moves of the items of a node: which have begun, which is open and how it is answered, one thing at a time; and what an event makes of them.
 use Rattle.std.specs.List.{AllByRecursion}
 use Rattle.std.specs.Prelude.{◌≡◌, ℕ, List, [], ◌∷◌, ◌++◌, Some}
-use Rattle.node_base.specs.Beginning.{answered, answers_unanswered, begun, next_item, waiting, work_at}
+use Rattle.node_base.specs.Beginning.{items_answer, answers_unanswered, items_begin, next_item, items_wait, work_at}
 use Rattle.node_base.specs.declared.effects.Effect.{Effect}
 use Rattle.node_base.specs.declared.effects.Effect.TheVariants.{Send, Answer as Answers, Lose, Does}
 use Rattle.node_base.specs.declared.items.Items.{Items}
@@ -112,10 +112,10 @@ pub data Move (losses : Losses) (J : Answer → Type 0) : Items → List Effect 
   -- They stay, and no item is answered.
   Stays : {before after : Items} {outs : List Effect} → ItemsStay before after → AllPlain losses outs → Move losses J before outs after
   -- The open item is answered so, and none is open then.
-  Ends : {items : Items} (a : Answer) → J a → Move losses J items (answers_unanswered items.unanswered a) (answered items)
+  Ends : {items : Items} (a : Answer) → J a → Move losses J items (answers_unanswered items.unanswered a) (items_answer items)
   -- It is said that a segment is lost, and that is the answer of the open item.
   Loses : {items : Items} (name : SegName) (outs : List Effect) → MayAnswer losses → AllPlain losses outs → In (Lose name) outs
-      → Move losses J items (outs ++ answers_unanswered items.unanswered (answer.Lost name)) (answered items)
+      → Move losses J items (outs ++ answers_unanswered items.unanswered (answer.Lost name)) (items_answer items)
 
 -- Any list of moves, oldest first.
 pub data Moves (losses : Losses) (J : Answer → Type 0) : Items → List Effect → Items → Type 0 where
@@ -131,19 +131,19 @@ pub data Begun (losses : Losses) (J K : Answer → Type 0) (items : Items) (numb
   AtOnce : (a : Answer) (first more : List Effect) → K a → AllPlain losses first → AllPlain losses more
       → Begun losses J K items number (first ++ Answers number a ∷ more) items
   -- It waits for its answer, and then there are moves.
-  Waits : {after : Items} {outs : List Effect} → Moves losses J (waiting items number) outs after → Begun losses J K items number outs after
+  Waits : {after : Items} {outs : List Effect} → Moves losses J (items_wait items number) outs after → Begun losses J K items number outs after
 
 -- What an event makes of the items of a node.
 pub data Event (losses : Losses) (J K : Answer → Type 0) (before : Items) (what : Do) : List Effect → Items → Type 0 where
   -- None begins.
   GoesOn : {after : Items} {outs : List Effect} → Moves losses J before outs after → Event losses J K before what outs after
   -- The next one begins, and is neither answered nor open; or none is left.
-  Idles : what ≡ Begin → Event losses J K before what [] (begun before)
+  Idles : what ≡ Begin → Event losses J K before what [] (items_begin before)
   -- The next one begins.
   Begins : {after : Items} {outs : List Effect} (number : ℕ) → what ≡ Begin → next_item before ≡ Some number
-      → Begun losses J K (begun before) number outs after → Event losses J K before what outs after
+      → Begun losses J K (items_begin before) number outs after → Event losses J K before what outs after
   -- The node falls by the next one: the open one is cut, and it is answered behind.
-  Cuts : (number : ℕ) (first more : List Effect) → what ≡ Begin → next_item before ≡ Some number → Falls (work_at (begun before) number)
+  Cuts : (number : ℕ) (first more : List Effect) → what ≡ Begin → next_item before ≡ Some number → Falls (work_at (items_begin before) number)
       → AllPlain losses first → AllPlain losses more
-      → Event losses J K before what (first ++ (answers_unanswered (begun before).unanswered answer.Cut ++ Answers number answer.Done ∷ more))
-      (answered (begun before))
+      → Event losses J K before what (first ++ (answers_unanswered (items_begin before).unanswered answer.Cut ++ Answers number answer.Done ∷ more))
+      (items_answer (items_begin before))

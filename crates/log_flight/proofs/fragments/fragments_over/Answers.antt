@@ -2,7 +2,7 @@ use Rattle.std.proofs.Common.{◌≡◌, List, ◌++◌, length, sym, ap, subst,
 use Rattle.xfs_base.specs.declared.fragment.Fragment.{Fragment}
 use Rattle.segment_format.specs.Text.{text_of}
 use Rattle.stripe_code.specs.Stripe.{IsCut, stripe_of}
-use Rattle.log_flight.specs.Fragments.{pieces_from, pieces_over}
+use Rattle.log_flight.specs.Fragments.{pieces_from, fragments_over}
 use Rattle.log_flight.proofs.Lengths.{text_fits, length-stripe_of}
 use Rattle.log_flight.proofs.fragments.fragments_over.Goals as goal
 
@@ -21,7 +21,7 @@ add_fragments-requires-clause-few c =
     )
 
 pub returns : goal.returns
-unfolding pieces_over
+unfolding fragments_over
 returns c =
     let text = text_of c.args.segment.now in
     let parity = c.args.group.now.parity in

@@ -1,5 +1,5 @@
 use Rattle.std.proofs.Common.{arith}
-use Rattle.manager_map.specs.Slots.{start_entries}
+use Rattle.manager_map.specs.Slots.{manager_map_start}
 use Rattle.manager_map.proofs.Epochs.{moves_follow, moves_epoch, start_epoch}
 use Rattle.manager_map.proofs.laws.epochs_never_fall.Goals as goal
 
@@ -12,5 +12,5 @@ returns-clause-one_manager c = λ slots moves slot. (moves_follow slots moves sl
 pub returns-clause-counted : goal.returns-clause-counted
 returns-clause-counted c = λ managers moves slot within.
     let first = start_epoch managers slot within in
-    let all = moves_epoch (start_entries managers) moves slot within (omega arith) in
+    let all = moves_epoch (manager_map_start managers) moves slot within (omega arith) in
     omega arith

@@ -1,8 +1,8 @@
 use Rattle.std.proofs.Common.{◌≡◌, ◌++◌, drop}
 use Rattle.std.specs.List.{flat_map}
-use Rattle.manager_slots.specs.Tokens.{said}
+use Rattle.manager_slots.specs.Tokens.{tokens_say}
 use Rattle.manager_slots.proofs.tokens.say_each.Given as goal
 
 -- what is sent so far and what is to be sent is all
 abbrev pub invariant-loop-out : goal.invariant-loop-out
-invariant-loop-out l = l.effects ++ flat_map (said l.slot l.epoch) (drop l.out-index l.outs) ≡ l.initial.effects ++ flat_map (said l.slot l.epoch) l.outs
+invariant-loop-out l = l.effects ++ flat_map (tokens_say l.slot l.epoch) (drop l.out-index l.outs) ≡ l.initial.effects ++ flat_map (tokens_say l.slot l.epoch) l.outs

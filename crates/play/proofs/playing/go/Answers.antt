@@ -1,6 +1,6 @@
 use Rattle.std.proofs.Common.{◌≡◌, ◌<◌, suc, sym, ap, ◌∙◌, arith}
 use Rattle.world_base.specs.Schedule.{left}
-use Rattle.play.specs.Manner.{going_of, goes_out}
+use Rattle.play.specs.Manner.{what_next, playing_go}
 use Rattle.play.proofs.Manners.{came_falls, came_rest, done_is_all}
 use Rattle.play.proofs.playing.go.Goals as goal
 
@@ -8,7 +8,7 @@ pub loop-alloc-preserved : goal.loop-alloc-preserved
 loop-alloc-preserved g c =
     let m = g.P.Playing.manner in
     let p = c.loop-alloc.play in
-    let as_many = ap m.unanswered c.what_next-next.ensures.state ∙ g.met.P.Playing.lawful.as_many p (going_of m p).state in (
+    let as_many = ap m.unanswered c.what_next-next.ensures.state ∙ g.met.P.Playing.lawful.as_many p (what_next m p).state in (
       came_rest m g.met.P.Playing.lawful p c.what_next-next.new.self c.come.new.play c.what_next-next.result c.what_next-next.ensures.state
           c.what_next-next.ensures.next c.in_ok-come.ensures.exact (sym c.is_done.ensures ∙ c.if-is_done.false)
           ∙ c.loop-alloc.invariant.0,
@@ -26,11 +26,11 @@ loop-alloc-smaller g c =
     less
 
 pub returns-then-is_done : goal.returns-then-is_done
-unfolding goes_out
+unfolding playing_go
 returns-then-is_done g c =
     let m = g.P.Playing.manner in
     let p = c.loop-alloc.play in
-    let as_many = ap m.unanswered c.what_next-next.ensures.state ∙ g.met.P.Playing.lawful.as_many p (going_of m p).state in
+    let as_many = ap m.unanswered c.what_next-next.ensures.state ∙ g.met.P.Playing.lawful.as_many p (what_next m p).state in
     record {
       exact =
           done_is_all m g.met.P.Playing.lawful p c.what_next-next.new.self c.what_next-next.result c.what_next-next.ensures.state c.what_next-next.ensures.next

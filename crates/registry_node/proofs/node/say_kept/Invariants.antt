@@ -1,8 +1,8 @@
 use Rattle.std.proofs.Common.{◌≡◌, ◌++◌, drop}
 use Rattle.std.specs.List.{flat_map}
-use Rattle.registry_node.specs.Events.{kept}
+use Rattle.registry_node.specs.Events.{say_one_kept}
 use Rattle.registry_node.proofs.node.say_kept.Given as goal
 
 abbrev pub invariant-loop-out : goal.invariant-loop-out
 invariant-loop-out l =
-    l.effects ++ flat_map (kept l.fn.from l.fn.done) (drop l.out-index l.outs) ≡ l.initial.effects ++ flat_map (kept l.fn.from l.fn.done) l.outs
+    l.effects ++ flat_map (say_one_kept l.fn.from l.fn.done) (drop l.out-index l.outs) ≡ l.initial.effects ++ flat_map (say_one_kept l.fn.from l.fn.done) l.outs

@@ -1,7 +1,7 @@
 use Rattle.std.proofs.Common.{◌++◌, ◌-◌, ap, ◌∙◌, drop, length}
-use Rattle.play.specs.Plays.{answers, sent_since}
+use Rattle.play.specs.Plays.{answers, send_since}
 use Rattle.board_play.specs.declared.sent.Sender.TheVariants.{Boards, Registries}
-use Rattle.board_play.specs.Plays.{sent_by, sent_far}
+use Rattle.board_play.specs.Plays.{send_by, send_far}
 use Rattle.board_play.proofs.Happening.{happens_is}
 use Rattle.board_play.proofs.player.Player.happen.Goals as goal
 
@@ -14,23 +14,23 @@ returns-clause-exact g c =
     let acts = c.happen_all.new.world.acts in
     let far =
     c.in_ok-send_far.ensures
-    ∙ ap (λ n. p.sent ++ sent_far event n c.len.result) c.len-told.ensures
-    ∙ ap (λ n. p.sent ++ sent_far event (length p.world.sent) n) c.len.ensures
+    ∙ ap (λ n. p.sent ++ send_far event n c.len.result) c.len-told.ensures
+    ∙ ap (λ n. p.sent ++ send_far event (length p.world.sent) n) c.len.ensures
     in
     let registries =
     c.in_ok-send_by.ensures
-    ∙ ap (λ n. one ++ sent_by Registries n c.len-2.result) (c.len-handed.ensures ∙ ap length c.handed.ensures)
-    ∙ ap (λ n. one ++ sent_by Registries (length p.boards.handed) n) (c.len-2.ensures ∙ ap length c.handed-2.ensures)
+    ∙ ap (λ n. one ++ send_by Registries n c.len-2.result) (c.len-handed.ensures ∙ ap length c.handed.ensures)
+    ∙ ap (λ n. one ++ send_by Registries (length p.boards.handed) n) (c.len-2.ensures ∙ ap length c.handed-2.ensures)
     in
     let boards =
     c.in_ok-send_by-2.ensures
-    ∙ ap (λ n. two ++ sent_by Boards n c.len-3.result) (c.len-mailed.ensures ∙ ap length c.mail.ensures)
-    ∙ ap (λ n. two ++ sent_by Boards (length p.boards.mail) n) (c.len-3.ensures ∙ ap length c.mail-2.ensures)
+    ∙ ap (λ n. two ++ send_by Boards n c.len-3.result) (c.len-mailed.ensures ∙ ap length c.mail.ensures)
+    ∙ ap (λ n. two ++ send_by Boards (length p.boards.mail) n) (c.len-3.ensures ∙ ap length c.mail-2.ensures)
     in
     let schedule =
     c.in_ok-send_since.ensures
-    ∙ ap (λ n. sent_since p.schedule n c.len-4.result) c.len-count.ensures
-    ∙ ap (λ n. sent_since p.schedule (length p.sent) n) c.len-4.ensures
+    ∙ ap (λ n. send_since p.schedule n c.len-4.result) c.len-count.ensures
+    ∙ ap (λ n. send_since p.schedule (length p.sent) n) c.len-4.ensures
     in
     let unanswered =
     c.saturating_sub-self.ensures

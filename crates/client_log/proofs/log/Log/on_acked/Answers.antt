@@ -1,6 +1,6 @@
 use Rattle.std.proofs.Common.{◌≡◌, ◌++◌, OnOk, sym, ap, subst, ◌∙◌, append-nil}
 use Rattle.client_log.specs.LogState.{LogState}
-use Rattle.client_log.specs.Looks.{flight_can_follow, flight_follows}
+use Rattle.client_log.specs.Looks.{flight_can_follow, log_follow}
 use Rattle.client_log.specs.Transition.{Done}
 use Rattle.client_log.proofs.Looks.{acked_stays, acked_goes}
 use Rattle.client_log.proofs.log.Log.on_acked.Goals as goal
@@ -24,10 +24,10 @@ pub returns-in-Some-clause-state : goal.returns-in-Some-clause-state
 returns-in-Some-clause-state c =
     let comes = acked_goes c.args.self.now c.args.name c.args.index c.args.generation c.in-Some.fate (sym c.hear.ensures ∙ c.in-Some.is) in
     subst (λ (s : LogState). OnOk c.follow.result (c.follow.new.self ≡ s))
-    (ap (λ s. (flight_follows s c.in-Some.fate).state) c.note.ensures ∙ ap (λ (d : Done). d.state) (sym comes.goes)) c.follow.ensures.state
+    (ap (λ s. (log_follow s c.in-Some.fate).state) c.note.ensures ∙ ap (λ (d : Done). d.state) (sym comes.goes)) c.follow.ensures.state
 
 pub returns-in-Some-clause-outs : goal.returns-in-Some-clause-outs
 returns-in-Some-clause-outs c =
     let comes = acked_goes c.args.self.now c.args.name c.args.index c.args.generation c.in-Some.fate (sym c.hear.ensures ∙ c.in-Some.is) in
     subst (λ outs. OnOk c.follow.result (c.follow.new.outs ≡ c.args.outs.now ++ outs))
-    (ap (λ s. (flight_follows s c.in-Some.fate).outs) c.note.ensures ∙ ap (λ (d : Done). d.outs) (sym comes.goes)) c.follow.ensures.outs
+    (ap (λ s. (log_follow s c.in-Some.fate).outs) c.note.ensures ∙ ap (λ (d : Done). d.outs) (sym comes.goes)) c.follow.ensures.outs

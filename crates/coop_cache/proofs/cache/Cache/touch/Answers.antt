@@ -3,7 +3,7 @@ use Rattle.std.specs.Map.{keys_of}
 use Rattle.xfs_base.specs.Blocks.{same_block}
 use Rattle.xfs_base.proofs.BlockOrder.{same_block_exact}
 use Rattle.coop_cache.proofs.Keys.{keys-promoted}
-use Rattle.coop_cache.proofs.Orders.{touched-promoted}
+use Rattle.coop_cache.proofs.Orders.{touch-promoted}
 use Rattle.coop_cache.proofs.cache.Cache.touch.Goals as goal
 
 pub returns : goal.returns
@@ -12,4 +12,4 @@ returns c =
     rw (c.promote-was_here.ensures.entries, ← c.self.view_is)
     (ap (λ ks. record { blocks = reverse ks; capacity = before.cap })
     (keys-promoted (same_block c.args.block) c.args.block (same_block_exact c.args.block) before.entries)
-    ∙ touched-promoted before.cap c.args.block (keys_of before.entries) c.len-count.ensures.valid.0)
+    ∙ touch-promoted before.cap c.args.block (keys_of before.entries) c.len-count.ensures.valid.0)

@@ -1,7 +1,7 @@
 use Rattle.std.proofs.Common.{◌∙◌, sym, ap, subst, arith}
 use Rattle.world_base.specs.declared.event.Event.TheVariants.{Begin}
 use Rattle.disk_play.specs.declared.course.Course.{Course}
-use Rattle.disk_play.specs.Courses.{Deck, begins_on, deck_of, happens_on, on_course, one_more, queue_drained, woken}
+use Rattle.disk_play.specs.Courses.{Deck, begins_on, deck_of, happens_on, on_course, one_more, course_drain, course_wake}
 use Rattle.disk_play.specs.Standing.{Stands}
 use Rattle.disk_play.proofs.Begun.{woken_events}
 use Rattle.disk_play.proofs.Passing.{stands_beside, woken_beside}
@@ -18,7 +18,7 @@ happen-requires-clause-stands g c =
     let shelves = c.args.self.now.shelves.items in
     let s =
     subst (λ (d : Course g.row.N.Denot). Stands step first shelf_of script d shelves) (sym c.wake.ensures)
-    (stands_beside step first shelf_of script course (woken course node) shelves (woken_beside course node) c.requires.stands) in
+    (stands_beside step first shelf_of script course (course_wake course node) shelves (woken_beside course node) c.requires.stands) in
     record { run = s.run; stops = s.stops; follow = s.follow }
 
 pub returns-clause-exact : goal.returns-clause-exact
@@ -29,8 +29,8 @@ returns-clause-exact g c =
     let node = c.args.node in
     let shelves = c.args.self.now.shelves.items in
     ap (λ (x : Course g.row.N.Denot). deck_of x c.happen.new.self.shelves.items) c.drain.ensures
-    ∙ ap (λ (d : Deck g.row.N.Denot). on_course queue_drained d) c.in_ok-happen.ensures.exact
-    ∙ ap (λ (x : Course g.row.N.Denot). on_course queue_drained (happens_on step shelf_of (deck_of (one_more x) shelves) (Begin node))) c.wake.ensures
+    ∙ ap (λ (d : Deck g.row.N.Denot). on_course course_drain d) c.in_ok-happen.ensures.exact
+    ∙ ap (λ (x : Course g.row.N.Denot). on_course course_drain (happens_on step shelf_of (deck_of (one_more x) shelves) (Begin node))) c.wake.ensures
 
 pub returns-clause-one_more : goal.returns-clause-one_more
 returns-clause-one_more g c =

@@ -1,6 +1,6 @@
 use Rattle.std.proofs.Common.{◌≡◌, ◌<◌, suc, sym, ap, ◌∙◌, arith}
 use Rattle.play.proofs.Manners.{came_falls, came_rest, done_is_all}
-use Rattle.play.specs.Manner.{goes_out}
+use Rattle.play.specs.Manner.{playing_go}
 use Rattle.play.specs.Plays.{with_schedule}
 use Rattle.world_base.specs.Schedule.{left}
 use Rattle.disk_play.specs.Courses.{deck_of, manner_on, on_course, with_player}
@@ -37,7 +37,7 @@ loop-alloc-smaller g c =
     less
 
 pub returns-then-is_done-clause-exact : goal.returns-then-is_done-clause-exact
-unfolding goes_out
+unfolding playing_go
 returns-then-is_done-clause-exact g c =
     let step = g.N.Actor.transition in
     let shelf_of = g.N.Shelved.shelf_of in

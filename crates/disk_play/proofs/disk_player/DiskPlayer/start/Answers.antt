@@ -1,7 +1,7 @@
 use Rattle.std.proofs.Common.{List, ap, replicate, subst, sym, ◌∙◌}
 use Rattle.std.proofs.lemmas.List.Elements.{recursion_from_All}
 use Rattle.play.specs.declared.player.Player.{Player}
-use Rattle.play.specs.Plays.{starts}
+use Rattle.play.specs.Plays.{player_start}
 use Rattle.disk_play.specs.declared.stop.Stop.{Stop}
 use Rattle.disk_play.specs.Disks.{new_disk}
 use Rattle.disk_play.specs.Standing.{IsNew, Stands}
@@ -17,7 +17,7 @@ returns-clause-stands g c =
     let shelves = c.in_ok-shelves.shelves.items in
     subst (λ (p : Player g.row.N.Denot). Stands step first shelf_of script (record { player = p; stops = c.in_ok-all_running.field-0 }) shelves)
     (sym c.in_ok-start.ensures)
-    (subst (λ (s : List Stop). Stands step first shelf_of script (record { player = starts first script; stops = s }) shelves)
+    (subst (λ (s : List Stop). Stands step first shelf_of script (record { player = player_start first script; stops = s }) shelves)
     (sym c.in_ok-all_running.ensures)
     (starts_stand step first shelf_of g.met.N.Shelved.begins_empty script shelves c.in_ok-shelves.ensures.count c.in_ok-shelves.ensures.each))
 

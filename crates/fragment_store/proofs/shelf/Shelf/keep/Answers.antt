@@ -6,7 +6,7 @@ use Rattle.xfs_base.specs.declared.fragment.Fragment.{Fragment}
 use Rattle.xfs_base.specs.declared.segment.SegName.{SegName}
 use Rattle.xfs_base.specs.Segments.{seg_cmp}
 use Rattle.fragment_store.specs.ShelfState.{ShelfState, IsShelf, held_at, is_held, is_marked}
-use Rattle.fragment_store.specs.Calls.{with_fragment, kept}
+use Rattle.fragment_store.specs.Calls.{with_fragment, shelf_store}
 use Rattle.fragment_store.proofs.Entries.{none_held, lookup-named, held-with, IsShelf-with}
 use Rattle.fragment_store.proofs.Histories.{with_away}
 use Rattle.fragment_store.proofs.shelf.Shelf.keep.Goals as goal
@@ -66,4 +66,4 @@ returns-clause-ok c =
     ap is_some (sym (lookup-named es name c.self.invariant.named)) ∙ sym c.contains_key.ensures ∙ c.if-contains_key.false in
     ap shelf held
     ∙ ap (λ b. cond b (shelf (values_of es)) (shelf (with_fragment c.args.fragment (values_of es)))) (sym absent)
-    ∙ ap (λ s. kept s c.args.fragment) c.self.view_is
+    ∙ ap (λ s. shelf_store s c.args.fragment) c.self.view_is

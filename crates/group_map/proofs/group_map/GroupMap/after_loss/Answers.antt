@@ -5,7 +5,7 @@ use Rattle.group_map.specs.declared.group.Group.{Group}
 use Rattle.group_map.specs.GroupMapState.{GroupMapState}
 use Rattle.group_map.specs.Groups.{numbered, followers, generations_after, retired, is_hit}
 use Rattle.group_map.specs.WellFormed.{IsServer, IsGroupMap}
-use Rattle.group_map.proofs.WellFormedMaps.{IsGroupMap-lost}
+use Rattle.group_map.proofs.WellFormedMaps.{IsGroupMap-after_loss}
 use Rattle.xfs_base.specs.Limits.{u32_end}
 use Rattle.group_map.proofs.group_map.GroupMap.after_loss.Goals as goal
 
@@ -28,6 +28,6 @@ invariant_of-self c =
     (subst (λ (gs : List Group). IsGroupMap
     (record { servers = c.self.inside.servers; generations = generations_after c.self.inside.generations c.args.server c.args.generation; groups = gs }))
     (sym groups)
-    (IsGroupMap-lost
+    (IsGroupMap-after_loss
     (record { servers = c.self.inside.servers; generations = c.self.inside.generations; groups = c.self.inside.groups })
     c.args.server c.args.generation exists room c.self.invariant))

@@ -1,10 +1,10 @@
 use Rattle.std.proofs.Common.{◌≡◌, ℕ, ◌-◌, ◌^◌}
-use Rattle.journals.specs.Answers.{knows}
+use Rattle.journals.specs.Answers.{answers_advance}
 use Rattle.journals.proofs.answers.Answers.advance.Given as goal
 
 -- the same are known as before
 abbrev pub invariant-loop-next : goal.invariant-loop-next
-invariant-loop-next l = (k : ℕ) → knows l.self k ≡ knows l.fn.self k
+invariant-loop-next l = (k : ℕ) → answers_advance l.self k ≡ answers_advance l.fn.self k
 
 -- the number rises
 abbrev pub decreases-loop-next : goal.decreases-loop-next

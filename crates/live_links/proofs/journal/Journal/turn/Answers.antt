@@ -5,7 +5,7 @@ use Rattle.wire_msg.specs.NodeStep.{NodeStep}
 use Rattle.xfs_base.specs.declared.node.NodeId.{NodeId}
 use Rattle.world_base.specs.declared.due.Due.{Due}
 use Rattle.journals.specs.declared.moment.Moment.{Moment}
-use Rattle.journals.specs.Answers.{has_answer, knows}
+use Rattle.journals.specs.Answers.{has_answer, answers_advance}
 use Rattle.journals.specs.Journals.{MayBegin, whats}
 use Rattle.live_links.specs.Acts.{ticks}
 use Rattle.live_links.specs.Answered.{answers_by}
@@ -32,9 +32,9 @@ invariant_of-journal g c =
       acts = acts;
     }
     in
-    let known : (k : ℕ) → knows more k ≡ (knows j.answers k || has_answer node k acts) = λ k.
-    c.in_ok-note_all.ensures.noted k ∙ ap (λ (done : Seq Act). knows j.answers k || has_answer j.name k done) c.as_slice.ensures
-    ∙ ap (λ (by : NodeId). knows j.answers k || has_answer by k acts) j.name_is
+    let known : (k : ℕ) → answers_advance more k ≡ (answers_advance j.answers k || has_answer node k acts) = λ k.
+    c.in_ok-note_all.ensures.noted k ∙ ap (λ (done : Seq Act). answers_advance j.answers k || has_answer j.name k done) c.as_slice.ensures
+    ∙ ap (λ (by : NodeId). answers_advance j.answers k || has_answer by k acts) j.name_is
     in
     record {
       name_is = j.name_is;

@@ -1,6 +1,6 @@
 use Rattle.std.proofs.Common.{List, Option, ◌++◌, sym, refl}
 use Rattle.std.proofs.lemmas.List.{append-nil}
-use Rattle.manager_slots.specs.SlotTable.{asks, in_taken, table_asker}
+use Rattle.manager_slots.specs.SlotTable.{slot_table_ask, in_taken, table_asker}
 use Rattle.manager_slots.specs.Takeovers as takeovers
 use Rattle.node_base.specs.declared.effects.Effect.{Effect}
 use Rattle.node_base.specs.declared.questions.Questions.{Questions}
@@ -10,11 +10,11 @@ use Rattle.manager_slots.proofs.slot_table.SlotTable.ask.Goals as goal
 use Rattle.manager_slots.proofs.slot_table.SlotTable.ask.Goals.{in-Some, in-None}
 
 pub returns-clause-questions : goal.returns-clause-questions
-unfolding asks
+unfolding slot_table_ask
 returns-clause-questions c =
     let f : Option SlotPhase → Questions =
     λ o. (in_taken (table_asker c.args.self.now c.args.questions.now) (c.args.slot)
-    (λ one. takeovers.asks_again one c.args.slot c.args.polls) o).state.questions in
+    (λ one. takeovers.takeovers_ask_again one c.args.slot c.args.polls) o).state.questions in
     elim c.match-get_mut.branch [
       | in-Some w ↦ as_found f _ _ _ _ _ c.get_mut.ensures.item c.self.view_is c.from.ensures _ _ _ w.in-Some.is _ _ w.questions-is w.result-is
           w.ask_again.ensures.questions
@@ -22,12 +22,12 @@ returns-clause-questions c =
     ]
 
 pub returns-clause-effects : goal.returns-clause-effects
-unfolding asks
+unfolding slot_table_ask
 returns-clause-effects c =
     let made = c.args.effects.now in
     let f : Option SlotPhase → List Effect =
     λ o. made ++ (in_taken (table_asker c.args.self.now c.args.questions.now) (c.args.slot)
-    (λ one. takeovers.asks_again one c.args.slot c.args.polls) o).outs in
+    (λ one. takeovers.takeovers_ask_again one c.args.slot c.args.polls) o).outs in
     elim c.match-get_mut.branch [
       | in-Some w ↦ as_found f _ _ _ _ _ c.get_mut.ensures.item c.self.view_is c.from.ensures _ _ _ w.in-Some.is _ _ w.effects-is w.result-is
           w.ask_again.ensures.effects

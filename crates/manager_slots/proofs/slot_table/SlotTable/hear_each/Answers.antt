@@ -1,5 +1,5 @@
 use Rattle.std.proofs.Common.{◌+◌, ◌<◌, ◌++◌, length, ap, ◌∙◌, arith}
-use Rattle.manager_slots.specs.SlotTable.{TableAsker, table_asker, hearer, hears}
+use Rattle.manager_slots.specs.SlotTable.{TableAsker, table_asker, hearer, slot_table_hear}
 use Rattle.manager_slots.proofs.Turns.{table_asker_is, table_on, effects_on}
 use Rattle.manager_slots.proofs.slot_table.SlotTable.hear_each.Goals as goal
 
@@ -8,7 +8,7 @@ loop-news-preserved c =
     let i = c.loop-news.news-index in
     let xs = c.args.slots.now in
     let here : c.loop-news.news-index < length c.args.slots.now = omega arith in
-    let step = hears (hearer c.args.ears c.args.groups.now) in
+    let step = slot_table_hear (hearer c.args.ears c.args.groups.now) in
     let a : TableAsker = table_asker c.loop-news.self c.loop-news.questions in
     let b : TableAsker = table_asker c.hear.new.self c.hear.new.questions in
     let x = c.news-item.result in

@@ -1,6 +1,6 @@
 use Rattle.std.proofs.Common.{List, Option, ◌++◌, sym}
 use Rattle.std.proofs.lemmas.List.{append-nil}
-use Rattle.manager_slots.specs.SlotTable.{recalls, in_slot}
+use Rattle.manager_slots.specs.SlotTable.{slot_table_recall, in_slot}
 use Rattle.manager_slots.specs.Tokens as tokens
 use Rattle.node_base.specs.declared.effects.Effect.{Effect}
 use Rattle.manager_slots.specs.declared.slot_phase.SlotPhase.{SlotPhase}
@@ -9,7 +9,7 @@ use Rattle.manager_slots.proofs.slot_table.SlotTable.recall.Goals as goal
 use Rattle.manager_slots.proofs.slot_table.SlotTable.recall.Goals.{in-Some, in-None}
 
 pub returns-clause-effects : goal.returns-clause-effects
-unfolding recalls
+unfolding slot_table_recall
 returns-clause-effects c =
     let made = c.args.effects.now in
     let f : Option SlotPhase → List Effect = λ o. made ++ (in_slot c.args.self.now (c.args.slot) (λ p. tokens.on_tick p c.args.slot) o).outs in

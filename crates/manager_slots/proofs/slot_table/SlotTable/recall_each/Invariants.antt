@@ -1,13 +1,13 @@
 use Rattle.std.proofs.Common.{◌≡◌, ◌++◌, drop}
 use Rattle.xfs_base.specs.Steps.{steps}
-use Rattle.manager_slots.specs.SlotTable.{recalls}
+use Rattle.manager_slots.specs.SlotTable.{slot_table_recall}
 use Rattle.manager_slots.proofs.slot_table.SlotTable.recall_each.Given as goal
 
 -- what is done so far, and then the slots to come, is all
 abbrev pub invariant-loop-slot : goal.invariant-loop-slot
 invariant-loop-slot l =
-    let rest = steps recalls l.self (drop l.slot-index l.slots) in
-    let all = steps recalls l.initial.self l.slots in
+    let rest = steps slot_table_recall l.self (drop l.slot-index l.slots) in
+    let all = steps slot_table_recall l.initial.self l.slots in
     record {
       state : rest.state ≡ all.state;
       outs : l.effects ++ rest.outs ≡ l.initial.effects ++ all.outs;

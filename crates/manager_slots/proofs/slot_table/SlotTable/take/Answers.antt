@@ -1,6 +1,6 @@
 use Rattle.std.proofs.Common.{List, Option, ◌++◌, sym, refl}
 use Rattle.std.proofs.lemmas.List.{append-nil}
-use Rattle.manager_slots.specs.SlotTable.{takes, in_taken, table_asker}
+use Rattle.manager_slots.specs.SlotTable.{slot_table_take, in_taken, table_asker}
 use Rattle.manager_slots.specs.Takeovers as takeovers
 use Rattle.node_base.specs.declared.effects.Effect.{Effect}
 use Rattle.node_base.specs.declared.questions.Questions.{Questions}
@@ -10,10 +10,10 @@ use Rattle.manager_slots.proofs.slot_table.SlotTable.take.Goals as goal
 use Rattle.manager_slots.proofs.slot_table.SlotTable.take.Goals.{in-Some, in-None+in-Got-1, in-None+in-Maps-1, in-None+in-Report-1, in-None+in-Missing-1}
 
 pub returns-clause-questions : goal.returns-clause-questions
-unfolding takes
+unfolding slot_table_take
 returns-clause-questions c =
     let f : Option SlotPhase → Questions =
-    λ o. (in_taken (table_asker c.args.self.now c.args.questions.now) (c.args.slot) (λ one. takeovers.takes one c.args.slot c.args.input) o).state.questions in
+    λ o. (in_taken (table_asker c.args.self.now c.args.questions.now) (c.args.slot) (λ one. takeovers.takeovers_take one c.args.slot c.args.input) o).state.questions in
     elim c.match-get_mut.branch [
       | in-Some w ↦ as_found f _ _ _ _ _ c.get_mut.ensures.item c.self.view_is c.from.ensures _ _ _ w.in-Some.is _ _ w.questions-is w.result-is
           w.take.ensures.questions
@@ -24,11 +24,11 @@ returns-clause-questions c =
     ]
 
 pub returns-clause-effects : goal.returns-clause-effects
-unfolding takes
+unfolding slot_table_take
 returns-clause-effects c =
     let made = c.args.effects.now in
     let f : Option SlotPhase → List Effect =
-    λ o. made ++ (in_taken (table_asker c.args.self.now c.args.questions.now) (c.args.slot) (λ one. takeovers.takes one c.args.slot c.args.input) o).outs in
+    λ o. made ++ (in_taken (table_asker c.args.self.now c.args.questions.now) (c.args.slot) (λ one. takeovers.takeovers_take one c.args.slot c.args.input) o).outs in
     elim c.match-get_mut.branch [
       | in-Some w ↦ as_found f _ _ _ _ _ c.get_mut.ensures.item c.self.view_is c.from.ensures _ _ _ w.in-Some.is _ _ w.effects-is w.result-is
           w.take.ensures.effects

@@ -1,5 +1,5 @@
 use Rattle.std.proofs.Common.{◌≡◌, subst}
-use Rattle.slot_beliefs.specs.Index.{Indexed, cleaned_index}
+use Rattle.slot_beliefs.specs.Index.{Indexed, block_index_clean}
 use Rattle.slot_beliefs.proofs.Counting.{shown, counted_clean, cleaned_indexed}
 use Rattle.slot_beliefs.proofs.index.BlockIndex.clean.Goals as goal
 
@@ -9,4 +9,4 @@ invariant_of-self c = counted_clean (shown c.self.inside.pages c.self.inside.usa
 pub returns : goal.returns
 returns c =
     let was : Indexed = shown c.self.inside.pages c.self.inside.usage in
-    subst (λ (i : Indexed). shown c.clean.new.self was.usage ≡ cleaned_index i) c.self.view_is (cleaned_indexed was c.clean.new.self c.clean.ensures)
+    subst (λ (i : Indexed). shown c.clean.new.self was.usage ≡ block_index_clean i) c.self.view_is (cleaned_indexed was c.clean.new.self c.clean.ensures)

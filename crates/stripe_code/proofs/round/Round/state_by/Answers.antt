@@ -3,7 +3,7 @@ use Rattle.std.specs.Prelude.{is_some, count_by, unwrap_or}
 use Rattle.stripe_code.specs.declared.round.Answer.{Answer}
 use Rattle.stripe_code.specs.Joined.{HasLengths}
 use Rattle.stripe_code.specs.Round.{RoundSoFar, count_of, len_in, parts_in}
-use Rattle.stripe_code.specs.Stripe.{part_of}
+use Rattle.stripe_code.specs.Stripe.{part_len}
 use Rattle.stripe_code.proofs.Rounds.{round_cut, round_parts, enough_in}
 use Rattle.stripe_code.proofs.round.Round.state_by.Goals as goal
 
@@ -23,7 +23,7 @@ joined_text-requires-clause-lengths c =
     let same : parts ≡ parts_in inside.n inside.answers = c.requires ∙ sym (ap (λ (r : RoundSoFar). parts_in r.n r.answers) c.self.view_is) in
     let len : c.len_or_zero-len.result ≡ unwrap_or (len_in inside.answers) 0 =
     c.len_or_zero-len.ensures ∙ ap (λ (answers : List Answer). unwrap_or (len_in answers) 0) c.as_slice-answers.ensures in
-    subst (λ (n : ℕ). HasLengths (part_of n (length parts - inside.parity)) parts) (sym len) (round_parts round parts c.self.invariant same)
+    subst (λ (n : ℕ). HasLengths (part_len n (length parts - inside.parity)) parts) (sym len) (round_parts round parts c.self.invariant same)
 
 pub joined_text-requires-clause-enough : goal.joined_text-requires-clause-enough
 joined_text-requires-clause-enough c =
