@@ -23,7 +23,6 @@ use Rattle.world_base.specs.Items.{items_of}
 use Rattle.xfs_base.specs.declared.node.NodeId.{NodeId}
 use Rattle.headline.specs.Items.{IsOpen, asked_at, items_in}
 use Rattle.headline.specs.Moments.{acts_in, moment, node_named}
-use Rattle.headline.specs.Standings.Standing.{Fallen, Serves}
 
 pub data Standing : Type 0 where
   -- It has fallen.
