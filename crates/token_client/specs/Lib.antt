@@ -1,5 +1,6 @@
 pub mod Held
 pub mod Laws
+pub mod Marks
 pub mod Readings
 pub mod Repetitions
 pub mod Settling

@@ -7,10 +7,7 @@ ghost use Rattle.token_client.specs.Transition.{fetched_blocks, is_promised, acc
 
 use crate::held::{Held, Wanted};
 use crate::output::Out;
-use crate::table::{
-    drop_all_in, fetched_blocks, grant_next, has_spent, is_answer, is_asking, may_end_fetch,
-    take_held, want_of, wanted_blocks,
-};
+use crate::table::{grant_next, is_answer, is_asking, may_end_fetch, want_of};
 use crate::tokens::Tokens;
 use std::alloc::Global;
 use xfs_base::limits::SLOT_COUNT;
@@ -28,7 +25,7 @@ impl Tokens {
     pub(crate) fn must_ask(&self, block: BlockId, mode: Mode) -> bool
         ensures { result ≡ must_ask (held_of self.now.blocks block) mode }
     {
-        match self.blocks.get(&block) {
+        match self.blocks.get(block) {
             Some(held) => held.must_ask(mode),
             None => Held::new().must_ask(mode),
         }
@@ -54,7 +51,7 @@ impl Tokens {
     pub(crate) fn has_fetch(&self, block: BlockId) -> bool
         ensures { result ≡ is_some (held_of self.now.blocks block).fetch }
     {
-        match self.blocks.get(&block) {
+        match self.blocks.get(block) {
             Some(held) => held.fetch.is_some(),
             None => false,
         }
@@ -70,9 +67,9 @@ impl Tokens {
             return Ok(());
         }
         let req = self.req + 1;
-        let mut held = take_held(&mut self.blocks, block);
+        let mut held = self.blocks.take(block);
         held.ask(req, mode);
-        self.blocks.insert(block, held)?;
+        self.blocks.put(block, held)?;
         self.req = req;
         outs.push(Out::Want {
             block,
@@ -114,9 +111,9 @@ impl Tokens {
         if !self.accepts(block, stamp, inc, req, mode) {
             return Ok(());
         }
-        let mut held = take_held(&mut self.blocks, block);
+        let mut held = self.blocks.take(block);
         held.take_grant(stamp, mode, entry);
-        self.blocks.insert(block, held)?;
+        self.blocks.put(block, held)?;
         outs.push(grant_next(block, mode, entry.place))?;
         Ok(())
     }
@@ -139,9 +136,9 @@ impl Tokens {
         if !self.accepts(block, stamp, inc, req, Mode::Copy) {
             return Ok(());
         }
-        let mut held = take_held(&mut self.blocks, block);
+        let mut held = self.blocks.take(block);
         held.copy_of(stamp, ver, value);
-        self.blocks.insert(block, held)?;
+        self.blocks.put(block, held)?;
         outs.push(Out::Ready { block })?;
         Ok(())
     }
@@ -160,9 +157,9 @@ impl Tokens {
         if !may_end_fetch(&self.blocks, block) {
             return Ok(());
         }
-        let mut held = take_held(&mut self.blocks, block);
+        let mut held = self.blocks.take(block);
         held.end_fetch(value);
-        self.blocks.insert(block, held)?;
+        self.blocks.put(block, held)?;
         outs.push(Out::Ready { block })?;
         Ok(())
     }
@@ -189,9 +186,9 @@ impl Tokens {
         if !is_asking(&self.blocks, block) {
             return Ok(());
         }
-        let mut held = take_held(&mut self.blocks, block);
+        let mut held = self.blocks.take(block);
         held.quit();
-        self.blocks.insert(block, held)?;
+        self.blocks.put(block, held)?;
         Ok(())
     }
 
@@ -229,12 +226,12 @@ impl Tokens {
         ensures state { OnOk result (self.new ≡ (on_promise self.old slot epoch).state) }
         ensures outs { OnOk result (outs.new ≡ outs.old ++ (on_promise self.old slot epoch).outs) }
     {
-        let fetches = fetched_blocks(alloc, &self.blocks, slot)?;
+        let fetches = self.blocks.fetched(alloc, slot)?;
         if !self.may_promise(slot, epoch, &fetches) {
             return Ok(());
         }
         self.epochs[usize::from(slot)] = epoch;
-        drop_all_in(slot, &mut self.blocks);
+        self.blocks.drop_all_in(slot);
         self.ask_copies(outs, &fetches)?;
         Ok(())
     }
@@ -252,9 +249,9 @@ impl Tokens {
             return Ok(());
         }
         let again = want.again + 1;
-        let mut held = take_held(&mut self.blocks, block);
+        let mut held = self.blocks.take(block);
         held.want = Some(Wanted { again, ..want });
-        self.blocks.insert(block, held)?;
+        self.blocks.put(block, held)?;
         outs.push(Out::Want {
             block,
             req: want.req,
@@ -270,10 +267,10 @@ impl Tokens {
         ensures state { OnOk result (self.new ≡ (on_tick self.old).state) }
         ensures outs { OnOk result (outs.new ≡ outs.old ++ (on_tick self.old).outs) }
     {
-        if has_spent(&self.blocks) {
+        if self.blocks.has_spent() {
             return Ok(());
         }
-        let blocks = wanted_blocks(alloc, &self.blocks)?;
+        let blocks = self.blocks.wanted(alloc)?;
         for block in blocks.as_slice() {
             self.ask_again(outs, *block)?;
         }

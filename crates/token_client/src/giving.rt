@@ -4,7 +4,7 @@ ghost use Rattle.token_client.specs.State.{held_of};
 ghost use Rattle.token_client.specs.Transition.{serves, on_forwarded, refetch, give, recalled_above, was_answered, on_recalled, on_wrote, on_settled, on_evict};
 
 use crate::output::Out;
-use crate::table::{is_settled_by, may_evict, may_write, take_held};
+use crate::table::{is_settled_by, may_evict, may_write};
 use crate::tokens::Tokens;
 use std::alloc::Global;
 use xfs_base::{BlockId, List, Mem, Mode, Stamp, Value};
@@ -61,9 +61,9 @@ impl Tokens {
         if !self.has_fetch(block) {
             return Ok(());
         }
-        let mut held = take_held(&mut self.blocks, block);
+        let mut held = self.blocks.take(block);
         held.fetch = None;
-        self.blocks.insert(block, held)?;
+        self.blocks.put(block, held)?;
         self.ask(outs, block, Mode::Copy)?;
         Ok(())
     }
@@ -81,15 +81,15 @@ impl Tokens {
         ensures outs { OnOk result (outs.new ≡ outs.old ++ (give self.old block stamp keep).outs) }
     {
         let dirty = self.is_dirty(block);
-        let mut held = take_held(&mut self.blocks, block);
+        let mut held = self.blocks.take(block);
         if dirty {
             held.put_off(stamp, keep);
-            self.blocks.insert(block, held)?;
+            self.blocks.put(block, held)?;
             outs.push(Out::Flush { block })?;
             Ok(())
         } else {
             held.give_up(stamp, keep);
-            self.blocks.insert(block, held)?;
+            self.blocks.put(block, held)?;
             outs.push(Out::Gave { block, stamp })?;
             Ok(())
         }
@@ -147,9 +147,9 @@ impl Tokens {
         if !may_write(&self.blocks, block) {
             return Ok(());
         }
-        let mut held = take_held(&mut self.blocks, block);
+        let mut held = self.blocks.take(block);
         held.write(value);
-        self.blocks.insert(block, held)?;
+        self.blocks.put(block, held)?;
         Ok(())
     }
 
@@ -162,9 +162,9 @@ impl Tokens {
         if !is_settled_by(&self.blocks, block, ver) {
             return Ok(());
         }
-        let mut held = take_held(&mut self.blocks, block);
+        let mut held = self.blocks.take(block);
         held.settled = ver;
-        self.blocks.insert(block, held)?;
+        self.blocks.put(block, held)?;
         Ok(())
     }
 
@@ -177,9 +177,9 @@ impl Tokens {
         if !may_evict(&self.blocks, block) {
             return Ok(());
         }
-        let mut held = take_held(&mut self.blocks, block);
+        let mut held = self.blocks.take(block);
         held.let_go();
-        self.blocks.insert(block, held)?;
+        self.blocks.put(block, held)?;
         Ok(())
     }
 }

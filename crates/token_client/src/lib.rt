@@ -9,6 +9,7 @@ mod giving;
 pub mod held;
 pub mod input;
 pub mod laws;
+mod marks;
 pub mod output;
 mod readers;
 mod settling;

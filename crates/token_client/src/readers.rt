@@ -5,7 +5,7 @@ ghost use Rattle.token_client.specs.Held.{is_dirty, may_write};
 ghost use Rattle.token_client.specs.State.{held_of, held_in, dirty_in, epoch_of};
 ghost use Rattle.token_client.specs.Repetitions.{repetition};
 
-use crate::table::{dirty_blocks, held_blocks, may_write, repetition};
+use crate::table::{may_write, repetition};
 use crate::tokens::Tokens;
 use std::alloc::Global;
 use xfs_base::{BlockId, List, Mem, Mode, Place, Stamp, Value};
@@ -15,7 +15,7 @@ impl Tokens {
     pub fn mode(&self, block: BlockId) -> Mode
         ensures { result ≡ (held_of self.now.blocks block).mode }
     {
-        match self.blocks.get(&block) {
+        match self.blocks.get(block) {
             Some(held) => held.mode,
             None => Mode::Nothing,
         }
@@ -25,7 +25,7 @@ impl Tokens {
     pub fn ver(&self, block: BlockId) -> u64
         ensures { result ≡ (held_of self.now.blocks block).ver }
     {
-        match self.blocks.get(&block) {
+        match self.blocks.get(block) {
             Some(held) => held.ver,
             None => 0,
         }
@@ -35,7 +35,7 @@ impl Tokens {
     pub fn settled(&self, block: BlockId) -> u64
         ensures { result ≡ (held_of self.now.blocks block).settled }
     {
-        match self.blocks.get(&block) {
+        match self.blocks.get(block) {
             Some(held) => held.settled,
             None => 0,
         }
@@ -45,7 +45,7 @@ impl Tokens {
     pub fn value(&self, block: BlockId) -> Option<&Value>
         ensures { MatchOption result ((held_of self.now.blocks block).value ≡ None) (λ value. (held_of self.now.blocks block).value ≡ Some value.now) }
     {
-        match self.blocks.get(&block) {
+        match self.blocks.get(block) {
             Some(held) => match &held.value {
                 Some(value) => Some(value),
                 None => None,
@@ -58,7 +58,7 @@ impl Tokens {
     pub fn fetching(&self, block: BlockId) -> Option<Place>
         ensures { result ≡ option_map (λ fetch. fetch.place) (held_of self.now.blocks block).fetch }
     {
-        match self.blocks.get(&block) {
+        match self.blocks.get(block) {
             Some(held) => held.fetch.map(|fetch| fetch.place),
             None => None,
         }
@@ -68,7 +68,7 @@ impl Tokens {
     pub fn want(&self, block: BlockId) -> Option<u32>
         ensures { result ≡ option_map (λ want. want.req) (held_of self.now.blocks block).want }
     {
-        match self.blocks.get(&block) {
+        match self.blocks.get(block) {
             Some(held) => held.want.map(|want| want.req),
             None => None,
         }
@@ -79,7 +79,7 @@ impl Tokens {
     pub fn giving(&self, block: BlockId) -> Option<(Stamp, bool)>
         ensures { result ≡ option_map (λ giving. (giving.stamp, giving.keep)) (held_of self.now.blocks block).giving }
     {
-        match self.blocks.get(&block) {
+        match self.blocks.get(block) {
             Some(held) => held.giving.map(|giving| (giving.stamp, giving.keep)),
             None => None,
         }
@@ -89,7 +89,7 @@ impl Tokens {
     pub fn stamp(&self, block: BlockId) -> Stamp
         ensures { result ≡ (held_of self.now.blocks block).stamp }
     {
-        match self.blocks.get(&block) {
+        match self.blocks.get(block) {
             Some(held) => held.stamp,
             None => Stamp { epoch: 0, turn: 0 },
         }
@@ -106,7 +106,7 @@ impl Tokens {
     pub fn repetition(&self, block: BlockId) -> u32
         ensures { result ≡ repetition (held_of self.now.blocks block).want }
     {
-        match self.blocks.get(&block) {
+        match self.blocks.get(block) {
             Some(held) => repetition(held.want),
             None => 0,
         }
@@ -132,14 +132,14 @@ impl Tokens {
     pub fn held(&self, alloc: Global, slot: u8) -> Mem<List<(BlockId, Mode)>>
         ensures { IfOk result (λ held. held ≡ held_in slot self.now.blocks) }
     {
-        held_blocks(alloc, &self.blocks, slot)
+        self.blocks.held(alloc, slot)
     }
 
     /// Whether the newest version of a block isn't settled.
     pub fn is_dirty(&self, block: BlockId) -> bool
         ensures { result ≡ is_dirty (held_of self.now.blocks block) }
     {
-        match self.blocks.get(&block) {
+        match self.blocks.get(block) {
             Some(held) => held.is_dirty(),
             None => false,
         }
@@ -149,6 +149,6 @@ impl Tokens {
     pub fn dirty(&self, alloc: Global) -> Mem<List<BlockId>>
         ensures { IfOk result (λ dirty. dirty ≡ dirty_in self.now.blocks) }
     {
-        dirty_blocks(alloc, &self.blocks)
+        self.blocks.dirty(alloc)
     }
 }

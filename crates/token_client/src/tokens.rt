@@ -4,21 +4,20 @@ ghost use Rattle.xfs_base.specs.Limits.{slot_count};
 ghost use Rattle.token_client.specs.State.{tokens_start};
 ghost use Rattle.token_client.specs.Transition.{transition};
 
-use crate::held::Held;
 use crate::input::In;
 use crate::output::Out;
+use crate::table::Table;
 use std::alloc::Global;
-use std::collections::BTreeMap;
 use std::marker::Model;
 use xfs_base::limits::BY_SLOT;
-use xfs_base::{BlockId, Crosses, List, Mem};
+use xfs_base::{Crosses, List, Mem};
 
 /// The tokens of a client. Contracts see them as a record of their parts (`specs/State.antt`).
 pub struct Tokens {
     pub(crate) inc: u32,
     pub(crate) epochs: [u32; BY_SLOT],
     pub(crate) req: u32,
-    pub(crate) blocks: BTreeMap<BlockId, Held>,
+    pub(crate) blocks: Table,
 }
 
 impl Drop for Tokens {
@@ -38,7 +37,7 @@ impl Model for Tokens {
 
     ghost Value = { TokensState };
 
-    ghost view = { λ a. record { inc = a.inc; epochs = a.epochs; req = a.req; blocks = a.blocks.entries } };
+    ghost view = { λ a. record { inc = a.inc; epochs = a.epochs; req = a.req; blocks = a.blocks } };
 }
 
 impl Crosses for Tokens {}
@@ -55,7 +54,7 @@ impl Tokens {
             inc,
             epochs: promised,
             req: 0,
-            blocks: BTreeMap::new(alloc),
+            blocks: Table::new(alloc),
         })
     }
 
