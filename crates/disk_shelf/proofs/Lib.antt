@@ -1,3 +1,4 @@
+mod Alike
 mod Changes
 mod Crash
 mod Deeds

@@ -66,9 +66,12 @@ told bytes [] = []
 told bytes (logged.Write at len stops ∷ ds) = Write at (take len bytes) stops ∷ told (drop len bytes) ds
 told bytes (logged.Sync stops ∷ ds) = Sync stops ∷ told bytes ds
 
--- each byte belongs to a write, what is read and what is kept are what the deeds make, and there is room to take the one for the other
-pub record IsKept (deeds : List Logged) (written read kept : List ℕ) (room_read room_kept : ℕ) : Type 0 where
+-- Each byte belongs to a write, what is read and what is kept are what the deeds make and begin with so many bytes alike, and there is
+-- room to take the one for the other.
+pub record IsKept (deeds : List Logged) (written read kept : List ℕ) (alike room_read room_kept : ℕ) : Type 0 where
   pub all : total deeds ≡ length written
   pub same : record { read = read; kept = kept } ≡ images (told written deeds)
+  pub within : alike ≤ length kept
+  pub begins : take alike kept ≡ take alike read
   pub shorter : length kept ≤ length read
   pub room : (length read ≤ room_read) × (length read ≤ room_kept)

@@ -83,8 +83,24 @@ pub fn write_both(bytes: &mut Vec<u8>, kept: &mut Vec<u8>, at: usize, piece: &[u
     }
 }
 
-/// After a sync what is read is kept. Where the disk stops within the sync, what it kept is read from then on.
-pub fn refresh(bytes: &mut Vec<u8>, kept: &mut Vec<u8>, stops: bool)
+// Puts what lies behind the first so many bytes of the other ones behind the first so many of these.
+fn follow(bytes: &mut Vec<u8>, other: &[u8], alike: usize)
+    requires within { alike ≤ length bytes.old.items }
+    requires alike { take alike bytes.old.items ≡ take alike other.now }
+    requires shorter { length bytes.old.items ≤ length other.now }
+    requires room { length other.now ≤ vec_capacity bytes.old }
+    ensures items { bytes.new.items ≡ other.now }
+    ensures capacity { vec_capacity bytes.old ≤ vec_capacity bytes.new }
+{
+    bytes.truncate(alike);
+    append(bytes, &other[alike..]);
+}
+
+/// After a sync what is read is kept; the first so many bytes of the two are alike before. Where the disk stops
+/// within the sync, what it kept is read from then on.
+pub fn refresh(bytes: &mut Vec<u8>, kept: &mut Vec<u8>, alike: usize, stops: bool)
+    requires within { alike ≤ length kept.old.items }
+    requires alike { take alike kept.old.items ≡ take alike bytes.old.items }
     requires shorter { length kept.old.items ≤ length bytes.old.items }
     requires room { (length bytes.old.items ≤ vec_capacity bytes.old) × (length bytes.old.items ≤ vec_capacity kept.old) }
     ensures images { record { read = bytes.new.items; kept = kept.new.items } ≡ after_deed (record { read = bytes.old.items; kept = kept.old.items }) (Sync stops) }
@@ -95,6 +111,6 @@ pub fn refresh(bytes: &mut Vec<u8>, kept: &mut Vec<u8>, stops: bool)
     if stops {
         replace(bytes, kept);
     } else {
-        replace(kept, bytes);
+        follow(kept, bytes, alike);
     }
 }

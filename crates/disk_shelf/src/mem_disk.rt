@@ -22,6 +22,8 @@ use xfs_base::{Crosses, Failed, Mem};
 pub struct MemDisk {
     bytes: Vec<u8>,
     kept: Vec<u8>,
+    // so many bytes at the front of both are alike
+    alike: usize,
     deeds: Vec<Logged>,
     written: Vec<u8>,
     passes: Option<u32>,
@@ -34,6 +36,7 @@ impl Drop for MemDisk {
         let MemDisk {
             bytes,
             kept,
+            alike: _,
             deeds,
             written,
             passes: _,
@@ -60,7 +63,7 @@ impl Model for MemDisk {
       bytes_left = min (vec_capacity m.written - length m.written.items) (min (vec_capacity m.bytes) (vec_capacity m.kept) - length m.bytes.items);
     } };
 
-    ghost invariant = { λ m. IsKept m.deeds.items m.written.items m.bytes.items m.kept.items (vec_capacity m.bytes) (vec_capacity m.kept) };
+    ghost invariant = { λ m. IsKept m.deeds.items m.written.items m.bytes.items m.kept.items m.alike (vec_capacity m.bytes) (vec_capacity m.kept) };
 }
 
 impl Crosses for MemDisk {}
@@ -73,6 +76,7 @@ impl MemDisk {
         MemDisk {
             bytes: Vec::new(alloc),
             kept: Vec::new(alloc),
+            alike: 0,
             deeds: Vec::new(alloc),
             written: Vec::new(alloc),
             passes: None,
@@ -252,6 +256,7 @@ impl Disk for MemDisk {
         self.deeds
             .push_reserved(Logged::Write(at, piece.len(), stops));
         append(&mut self.written, piece);
+        self.alike = self.alike.min(at);
         write_both(&mut self.bytes, &mut self.kept, at, piece, stops);
         self.pass(stops)
     }
@@ -272,7 +277,8 @@ impl Disk for MemDisk {
         }
         let stops = self.is_due();
         self.deeds.push_reserved(Logged::Sync(stops));
-        refresh(&mut self.bytes, &mut self.kept, stops);
+        refresh(&mut self.bytes, &mut self.kept, self.alike, stops);
+        self.alike = self.kept.len();
         self.pass(stops)
     }
 }

@@ -1,8 +1,9 @@
-use Rattle.std.proofs.Common.{◌≡◌, List, [], ◌∷◌, ◌++◌, sym, ap, ◌∙◌, arith}
+use Rattle.std.proofs.Common.{◌≡◌, List, [], ◌∷◌, ◌++◌, take, sym, ap, subst, ◌∙◌, arith}
 use Rattle.std.proofs.lemmas.Result.{on_ok_weaker}
 use Rattle.disk_shelf.specs.Deeds.{Deed, Images, after_deed, images}
 use Rattle.disk_shelf.specs.Deeds.Deed.{Sync}
 use Rattle.disk_shelf.specs.MemDisk.{Drive, MemState, acted, passed, is_due, told, total}
+use Rattle.disk_shelf.proofs.Alike.{synced_alike}
 use Rattle.disk_shelf.proofs.Deeds.{deeds_more}
 use Rattle.disk_shelf.proofs.Drives.{acted_deeds, none_by, only_by, runs_on, same_by, went}
 use Rattle.disk_shelf.proofs.Told.{told_sync, total_sync}
@@ -19,6 +20,9 @@ invariant_of-self c =
       all = ap total c.push_reserved.ensures.items ∙ total_sync old.deeds.items stops ∙ kept.all;
       same = c.refresh.ensures.images ∙ ap (λ (i : Images). after_deed i (Sync stops)) kept.same
           ∙ sym (ap images more ∙ deeds_more (record { read = []; kept = [] }) (told old.written.items old.deeds.items) (Sync stops));
+      within = omega (arith, c.len-self-inside.ensures);
+      begins = ap (take c.len-self-inside.result) (subst (λ (i : Images). i.kept ≡ i.read) (sym c.refresh.ensures.images)
+          (synced_alike (record { read = old.bytes.items; kept = old.kept.items }) stops));
       shorter = c.refresh.ensures.shorter;
       room = (omega (arith, kept.room.0, c.refresh.ensures.longer, c.refresh.ensures.capacity.0), omega (arith, kept.room.1, c.refresh.ensures.longer, c.refresh.ensures.capacity.1));
     }

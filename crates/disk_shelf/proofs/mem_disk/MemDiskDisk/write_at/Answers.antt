@@ -1,8 +1,9 @@
-use Rattle.std.proofs.Common.{◌≡◌, ◌≤◌, List, [], ◌∷◌, ◌++◌, length, sym, ap, subst, ◌∙◌, arith, length-append}
+use Rattle.std.proofs.Common.{◌≡◌, ◌≤◌, List, [], ◌∷◌, ◌++◌, length, take, sym, ap, subst, ◌∙◌, arith, length-append}
 use Rattle.std.proofs.lemmas.Result.{on_ok_weaker}
 use Rattle.disk_shelf.specs.Deeds.{Deed, Images, after_deed, images}
 use Rattle.disk_shelf.specs.Deeds.Deed.{Write}
 use Rattle.disk_shelf.specs.MemDisk.{Drive, MemState, acted, passed, is_due, told, total}
+use Rattle.disk_shelf.proofs.Alike.{shorter_alike, still_alike, still_within}
 use Rattle.disk_shelf.proofs.Deeds.{deeds_more}
 use Rattle.disk_shelf.proofs.Drives.{acted_deeds, fits, runs_on, torn_by, went, written_by}
 use Rattle.disk_shelf.proofs.Told.{told_write, total_write}
@@ -19,6 +20,13 @@ invariant_of-self c =
     let more : told c.append.new.bytes.items c.push_reserved.new.self.items ≡ told old.written.items old.deeds.items ++ deed ∷ [] =
     told_write old.written.items piece c.append.new.bytes.items old.deeds.items c.push_reserved.new.self.items at stops kept.all c.append.ensures.items
     c.push_reserved.ensures.items in
+    let before : Images = record { read = old.bytes.items; kept = old.kept.items } in
+    let n = c.min-self-inside.result in
+    let before_write : n ≤ at = omega (arith, c.min-self-inside.ensures) in
+    let fewer : n ≤ old.alike = omega (arith, c.min-self-inside.ensures) in
+    let in_kept : n ≤ length old.kept.items = omega (arith, fewer, kept.within) in
+    let in_read : n ≤ length old.bytes.items = omega (arith, in_kept, kept.shorter) in
+    let alike = shorter_alike n old.alike old.kept.items old.bytes.items fewer kept.begins in
     let room = fits _ _ _ _ _ (subst (λ (m : MemState). length piece ≤ m.bytes_left) (sym c.self.view_is) c.requires.bytes) kept.room.0 kept.room.1 in
     record {
       all = omega (
@@ -31,6 +39,9 @@ invariant_of-self c =
       );
       same = c.write_both.ensures.images ∙ ap (λ (i : Images). after_deed i deed) kept.same
           ∙ sym (ap images more ∙ deeds_more (record { read = []; kept = [] }) (told old.written.items old.deeds.items) deed);
+      within = subst (λ (i : Images). n ≤ length i.kept) (sym c.write_both.ensures.images) (still_within before n at piece stops before_write in_kept in_read);
+      begins = subst (λ (i : Images). take n i.kept ≡ take n i.read) (sym c.write_both.ensures.images)
+          (still_alike before n at piece stops before_write in_kept in_read alike);
       shorter = c.write_both.ensures.shorter;
       room = (omega (arith, room.0, c.write_both.ensures.longer, c.write_both.ensures.capacity.0), omega (arith, room.1, c.write_both.ensures.longer, c.write_both.ensures.capacity.1));
     }
