@@ -5,9 +5,9 @@ use Rattle.group_map.specs.Groups.{group_of, group_map_choose}
 use Rattle.log_flight.specs.Flights.{no_group, group_for}
 use Rattle.log_flight.proofs.starting.group_for.Goals as goal
 
-pub returns-clause-group_map_choose : goal.returns-clause-chosen
+pub returns-clause-chosen : goal.returns-clause-chosen
 unfolding group_for
-returns-clause-group_map_choose c =
+returns-clause-chosen c =
     let map = c.args.groups.now in
     let found : group_of map c.choose.result ≡ Some c.unwrap-group.result.now = rw c.unwrap-group.ensures at c.lookup.ensures.exact in
     let same : c.unwrap-group.result.now ≡ unwrap_or (group_of map (group_map_choose map.groups c.args.log.0 c.args.seq)) no_group =
