@@ -76,7 +76,16 @@ fn time_passes_everywhere(rt: HostRuntime) -> Result<(), Fail> {
 #[test]
 fn given_up_by_one_worker(rt: HostRuntime) -> Result<(), Fail> {
     let alloc = rt.alloc();
-    assert!(rt; ends(&rt, alloc, &["live", "1"], REFUSED, 1, b"\n12 open\nend 7 1\n")?);
+    assert!(rt;
+        ends(
+            &rt,
+            alloc,
+            &["live", "1"],
+            REFUSED,
+            1,
+            b"\n12 open\nend 7 1\n"
+        )?
+    );
     Ok(())
 }
 
@@ -84,7 +93,16 @@ fn given_up_by_one_worker(rt: HostRuntime) -> Result<(), Fail> {
 #[test]
 fn given_up_by_four_workers(rt: HostRuntime) -> Result<(), Fail> {
     let alloc = rt.alloc();
-    assert!(rt; ends(&rt, alloc, &["live", "4"], REFUSED, 1, b"\n12 open\nend 7 1\n")?);
+    assert!(rt;
+        ends(
+            &rt,
+            alloc,
+            &["live", "4"],
+            REFUSED,
+            1,
+            b"\n12 open\nend 7 1\n"
+        )?
+    );
     Ok(())
 }
 
@@ -92,6 +110,15 @@ fn given_up_by_four_workers(rt: HostRuntime) -> Result<(), Fail> {
 #[test]
 fn given_up_with_applications(rt: HostRuntime) -> Result<(), Fail> {
     let alloc = rt.alloc();
-    assert!(rt; ends(&rt, alloc, &["mount", "1"], REFUSED, 1, b"\n12 open\nend 7 1\n")?);
+    assert!(rt;
+        ends(
+            &rt,
+            alloc,
+            &["mount", "1"],
+            REFUSED,
+            1,
+            b"\n12 open\nend 7 1\n"
+        )?
+    );
     Ok(())
 }
