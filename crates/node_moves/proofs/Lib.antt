@@ -6,4 +6,3 @@ pub mod OpeningWalk
 pub mod OpeningMaps
 pub mod Effects
 pub mod SlotPhases
-pub mod server_moves

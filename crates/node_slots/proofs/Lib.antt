@@ -1,2 +1,0 @@
-pub mod client_law
-pub mod node_tie
