@@ -12,7 +12,7 @@ use Rattle.disk_shelf.specs.MemDisk.{Drive, MemState, disk_bytes, new_drive, sta
 use Rattle.disk_shelf.specs.Records.{DiskState, StandsFor, new_state}
 use Rattle.disk_shelf.specs.Records.StandsFor.{Blank}
 use Rattle.disk_shelf.specs.Stops.{ChangesEndByPasses, MemTook, is_answered, is_there}
-use Rattle.shelved_nodes.specs.Changes.{shelf_after}
+use Rattle.shelf_changes.specs.Changes.{shelf_after}
 use Rattle.std.proofs.lemmas.Bool.Decides.{nat_tests}
 use Rattle.disk_play.specs.declared.stop.Fate.{Fate}
 use Rattle.disk_play.specs.declared.stop.Fate.TheVariants.{Answered, Unanswered, Lost}

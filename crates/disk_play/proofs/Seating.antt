@@ -10,7 +10,7 @@ use Rattle.disk_shelf.specs.Kept.{Kept}
 use Rattle.disk_shelf.specs.MemDisk.{MemState}
 use Rattle.fragment_store.specs.ShelfState.{ShelfState}
 use Rattle.script_text.specs.declared.script.Script.{Script}
-use Rattle.shelved_nodes.specs.Changes.{ChangesByOne, shelf_after, shelf_after_one}
+use Rattle.shelf_changes.specs.Changes.{ChangesByOne, shelf_after, shelf_after_one}
 use Rattle.shelved_nodes.proofs.Gives.{none_asked}
 use Rattle.shelved_nodes.specs.Shelves.{ShelvesChange}
 use Rattle.version_model.specs.declared.work.Work.{Work}

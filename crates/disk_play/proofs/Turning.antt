@@ -1,7 +1,7 @@
 -- What an event makes of the shelves of a world: one changes by one call at most, and all others stay.
 use Rattle.std.proofs.Common.{◌≡◌, ◌≢◌, ℕ, List, [], ◌∷◌, Option, Some, None, slice_get, slice_set, refl, sym, ap, subst, ◌∙◌}
 use Rattle.fragment_store.specs.ShelfState.{ShelfState}
-use Rattle.shelved_nodes.specs.Changes.ChangesByOne.{Rests}
+use Rattle.shelf_changes.specs.Changes.ChangesByOne.{Rests}
 use Rattle.shelved_nodes.specs.Shelves.{ShelvesChange}
 use Rattle.wire_msg.specs.declared.packet.Do.{Do}
 use Rattle.wire_msg.specs.NodeStep.{NodeStep}

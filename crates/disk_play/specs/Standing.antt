@@ -4,7 +4,7 @@ use Rattle.disk_shelf.specs.Kept.{Kept}
 use Rattle.disk_shelf.specs.MemDisk.{MemState, disk_bytes, set_to_stop}
 use Rattle.disk_shelf.specs.declared.ask.Ask.{Ask}
 use Rattle.disk_shelf.specs.Records.{StandsFor}
-use Rattle.shelved_nodes.specs.Changes.{ChangesByOne, shelf_after_one}
+use Rattle.shelf_changes.specs.Changes.{ChangesByOne, shelf_after_one}
 use Rattle.fragment_store.specs.ShelfState.{ShelfState}
 use Rattle.script_text.specs.declared.script.Script.{Script}
 use Rattle.version_model.specs.declared.work.Work.{Work}

@@ -6,7 +6,7 @@ ghost use Rattle.disk_shelf.specs.Drives.{reopened};
 ghost use Rattle.disk_shelf.specs.Kept.{Kept};
 ghost use Rattle.disk_shelf.specs.MemDisk.{MemState, disk_bytes};
 ghost use Rattle.disk_shelf.specs.Records.{StandsFor};
-ghost use Rattle.shelved_nodes.specs.Changes.{shelf_after};
+ghost use Rattle.shelf_changes.specs.Changes.{shelf_after};
 ghost use Rattle.disk_play.specs.Standing.{ChangesAt, IsNew, Runs, Took, arm};
 
 use crate::Stop;

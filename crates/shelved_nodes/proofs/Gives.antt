@@ -12,9 +12,9 @@ use Rattle.fragment_store.proofs.Entries.{none_held}
 use Rattle.fragment_store.proofs.Tables.{fence_of-with, held-with, is_marked-with, log_cmp_total}
 use Rattle.fragment_store.specs.Calls.{shelf_store, on_delete, on_fence, on_fill, on_lose, with_fragment}
 use Rattle.fragment_store.specs.ShelfState.{ShelfState, fence_of, held_at, is_held, is_marked, log_cmp, same_name}
-use Rattle.shelved_nodes.specs.Changes.{ChangesByOne, MayMake, shelf_after, shelf_after_one}
-use Rattle.shelved_nodes.specs.Changes.ChangesByOne.{Calls, Rests}
-use Rattle.shelved_nodes.specs.Changes.MayMake.{Deletes, Fences, FillsByAbsence, FillsByFragment, Loses, Stores}
+use Rattle.shelf_changes.specs.Changes.{ChangesByOne, MayMake, shelf_after, shelf_after_one}
+use Rattle.shelf_changes.specs.Changes.ChangesByOne.{Calls, Rests}
+use Rattle.shelf_changes.specs.Changes.MayMake.{Deletes, Fences, FillsByAbsence, FillsByFragment, Loses, Stores}
 use Rattle.wire_msg.specs.declared.body.Body.{Body}
 use Rattle.wire_msg.specs.declared.body.Body.TheVariants as body
 use Rattle.wire_msg.specs.declared.packet.Do.{Do}

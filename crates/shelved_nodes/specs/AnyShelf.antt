@@ -4,7 +4,7 @@ use Rattle.core_world.specs.AnyNode.{any_start, any_step}
 use Rattle.core_world.specs.declared.any_node.AnyNode.{AnyNode}
 use Rattle.core_world.specs.declared.any_node.AnyNode.TheVariants.{Client, Manager, Server, Cleaner, Registry}
 use Rattle.fragment_store.specs.ShelfState.{ShelfState}
-use Rattle.shelved_nodes.proofs.Events.{events_change_by_one}
+use Rattle.shelf_changes.proofs.Events.{events_change_by_one}
 use Rattle.version_model.specs.declared.work.Work.{Work}
 use Rattle.wire_msg.specs.declared.packet.Do.{Do}
 use Rattle.xfs_base.specs.declared.node.NodeId.{NodeId}

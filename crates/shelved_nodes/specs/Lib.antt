@@ -1,4 +1,3 @@
-pub mod Changes
 pub mod AnyShelf
 pub mod Asking
 pub mod Shelves

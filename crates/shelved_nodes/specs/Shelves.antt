@@ -1,7 +1,7 @@
 -- The shelves of nodes, before the first event and after each.
 use Rattle.std.specs.Prelude.{Option, Some, None}
 use Rattle.fragment_store.specs.ShelfState.{ShelfState, new_shelf}
-use Rattle.shelved_nodes.specs.Changes.{ChangesByOne}
+use Rattle.shelf_changes.specs.Changes.{ChangesByOne}
 use Rattle.wire_msg.specs.declared.packet.Do.{Do}
 use Rattle.xfs_base.specs.declared.node.NodeId.{NodeId}
 use Rattle.xfs_base.specs.declared.node.NodeId.TheVariants.{Server}

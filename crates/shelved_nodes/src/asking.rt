@@ -1,7 +1,7 @@
 //! Which call of a shelf an event made, seen from the shelf before and the one after.
 ghost use Rattle.std.specs.Prelude.{◌≡◌, ◌&&◌, IfOk, OnOk, find, not};
 ghost use Rattle.fragment_store.specs.ShelfState.{fence_of, held_at, is_held, is_marked};
-ghost use Rattle.shelved_nodes.specs.Changes.{ChangesByOne, shelf_after_one};
+ghost use Rattle.shelf_changes.specs.Changes.{ChangesByOne, shelf_after_one};
 ghost use Rattle.shelved_nodes.specs.Asking.{StaysBy, StaysDeleted, asked, asked_by, fill_in, fill_of};
 ghost use Rattle.wire_msg.specs.declared.body.Body.TheVariants as body;
 ghost use Rattle.wire_msg.specs.declared.packet.Do.TheVariants.{Begin};

@@ -1,7 +1,7 @@
 use Rattle.std.proofs.Common.{◌≡◌, Option, subst, sym}
 use Rattle.std.specs.Prelude.{IfOk}
 use Rattle.fragment_store.specs.ShelfState.{ShelfState}
-use Rattle.shelved_nodes.specs.Changes.{ChangesByOne, shelf_after_one}
+use Rattle.shelf_changes.specs.Changes.{ChangesByOne, shelf_after_one}
 use Rattle.disk_play.specs.Standing.{GivesOf}
 use Rattle.disk_play.proofs.disk_player.asked_in.Goals as goal
 

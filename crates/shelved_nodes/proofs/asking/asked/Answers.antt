@@ -1,6 +1,6 @@
 use Rattle.std.proofs.Common.{◌≡◌, Option, subst, sym}
 use Rattle.disk_shelf.specs.declared.ask.Ask.{Ask}
-use Rattle.shelved_nodes.specs.Changes.{shelf_after_one}
+use Rattle.shelf_changes.specs.Changes.{shelf_after_one}
 use Rattle.shelved_nodes.proofs.Gives.{asked_gives}
 use Rattle.shelved_nodes.proofs.asking.asked.Goals as goal
 

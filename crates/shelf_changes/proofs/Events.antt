@@ -30,11 +30,11 @@ use Rattle.wire_msg.specs.declared.storage.Missing.{Missing}
 use Rattle.wire_msg.specs.declared.storage.Store.{Store}
 use Rattle.xfs_base.proofs.Booleans.{and_first, by_test, contrary}
 use Rattle.xfs_base.specs.Steps.{still}
-use Rattle.shelved_nodes.proofs.Rebuilding.{Filled, rebuild_fills_one, rebuild_keeps_shelf}
-use Rattle.shelved_nodes.proofs.Rebuilding.Filled.{Nothing, One}
-use Rattle.shelved_nodes.specs.Changes.{ChangesByOne, EventsChangeByOne}
-use Rattle.shelved_nodes.specs.Changes.ChangesByOne.{Calls, Rests}
-use Rattle.shelved_nodes.specs.Changes.MayMake.{Deletes, Fences, FillsByAbsence, FillsByFragment, Loses, Stores}
+use Rattle.shelf_changes.proofs.Rebuilding.{Filled, rebuild_fills_one, rebuild_keeps_shelf}
+use Rattle.shelf_changes.proofs.Rebuilding.Filled.{Nothing, One}
+use Rattle.shelf_changes.specs.Changes.{ChangesByOne, EventsChangeByOne}
+use Rattle.shelf_changes.specs.Changes.ChangesByOne.{Calls, Rests}
+use Rattle.shelf_changes.specs.Changes.MayMake.{Deletes, Fences, FillsByAbsence, FillsByFragment, Loses, Stores}
 
 -- no refusal, where there is none
 none_refused : (o : Option StoreError) → is_some o ≡ false → o ≡ None
