@@ -1,15 +1,17 @@
 -- What a client acts it acts for its items: of blocks it is one stretch of the call that the open item asks for, over all events since the item began, and what no
 -- item asks for is not acted.
 use Rattle.std.specs.List.{filter}
-use Rattle.std.specs.Prelude.{◌≡◌, ℕ, Bool, true, false, List, [], ◌∷◌, ◌++◌, Option, Some, None}
+use Rattle.std.specs.Prelude.{◌≡◌, ◌+◌, ℕ, Bool, true, false, List, [], ◌∷◌, ◌++◌, Option, Some, None}
 use Rattle.client_call.specs.Calls.{plan_answered}
 use Rattle.client_call.specs.declared.call.Call.{Call}
 use Rattle.client_call.specs.declared.call.Going.{Going}
 use Rattle.client_call.specs.declared.call.Going.TheVariants.{Ends, On}
+use Rattle.client_call.specs.declared.call.Plan.TheVariants.{One}
 use Rattle.client_node.specs.declared.client.Client.{Client}
 use Rattle.client_node.specs.declared.phase.Phase.{Phase}
 use Rattle.client_node.specs.declared.phase.Phase.TheVariants.{Down, Opening, Serving as Serves}
 use Rattle.client_node.specs.Phases.{client_step, lasting_of}
+use Rattle.client_running.specs.Blocks.{is_settled}
 use Rattle.client_running.specs.Opens.{call_at}
 use Rattle.client_serving.specs.declared.serving.Serving.{Serving}
 use Rattle.file_plan.specs.declared.block_call.BlockAnswer.{BlockAnswer}
@@ -30,11 +32,11 @@ use Rattle.xfs_base.specs.declared.node.NodeId.{NodeId}
 use Rattle.xfs_base.specs.declared.node.NodeId.TheVariants as nodes
 use Rattle.xfs_base.specs.declared.segment.SegName.{SegName}
 
--- of which kind an answer to a call on blocks is
+-- Of which kind an answer to a call on blocks is. What is written at a named version is the next one.
 abbrev pub IsAnswerTo : BlockCall → BlockAnswer → Type 0
 IsAnswerTo (Get block) (Got ver value) = Unit {0}
 IsAnswerTo (Put block value) (Written ver) = Unit {0}
-IsAnswerTo (PutAt block named value) (Written ver) = Unit {0}
+IsAnswerTo (PutAt block named value) (Written ver) = ver ≡ named + 1
 IsAnswerTo (PutAt block named value) Changed = Unit {0}
 IsAnswerTo Sync Synced = Unit {0}
 IsAnswerTo _ _ = ⊥
@@ -117,6 +119,16 @@ abbrev pub DoesServe : Phase → Type 0
 DoesServe (Serves s) = Unit {0}
 DoesServe _ = ⊥
 
+-- it serves, and nothing waits to be written to its log, or is in flight
+abbrev pub IsDrained : Phase → Type 0
+IsDrained (Serves s) = is_settled s ≡ true
+IsDrained _ = ⊥
+
+-- where the call is one sync, and is open no more behind the event, all that waited is settled
+abbrev pub SyncDrains : Going → Phase → Type 0
+SyncDrains (On call) q = call.plan ≡ One → call.step ≡ Sync → call_in q ≡ None → IsDrained q
+SyncDrains (Ends a) q = Unit {0}
+
 -- it refuses what begins
 abbrev pub IsRefusal : Answer → Type 0
 IsRefusal answer.Busy = Unit {0}
@@ -136,11 +148,12 @@ pub data Acts (client : ℕ) (p : Phase) (what : Do) : List Act → Phase → Ty
   AtOnce : {q : Phase} (number : ℕ) (wanted : Option Work) (a : Answer) → IsRefusal a → IsBegun p what number wanted → call_in q ≡ call_in p → open_in q ≡ open_in p
       → Acts client p what (act.Answered (nodes.Client client) number a ∷ []) q
   -- The call that is open goes on.
-  GoesOn : {q : Phase} {acts : List Act} (call : Call) → call_in p ≡ Some call → ItemStays (open_in p) q → Stretch client (open_in p) (On call) acts (call_in q)
-      → Acts client p what acts q
+  GoesOn : {q : Phase} {acts : List Act} (call : Call) → call_in p ≡ Some call → ItemStays (open_in p) q → SyncDrains (On call) q
+      → Stretch client (open_in p) (On call) acts (call_in q) → Acts client p what acts q
   -- A call of the item that begins is opened, while none is open, and goes on.
   Begins : {s : Serving} {q : Phase} {acts : List Act} (number : ℕ) (wanted : Option Work) (going : Going) → p ≡ Serves s → IsBegun p what number wanted
-      → open_in p ≡ None → call_at s number wanted ≡ Some going → ItemStays (Some number) q → Stretch client (Some number) going acts (call_in q) → Acts client p what acts q
+      → open_in p ≡ None → call_at s number wanted ≡ Some going → ItemStays (Some number) q → SyncDrains going q
+      → Stretch client (Some number) going acts (call_in q) → Acts client p what acts q
   -- A segment is lost, and the open item is answered so.
   Loses : {q : Phase} (name : SegName) → call_in q ≡ None → open_in q ≡ None
       → Acts client p what (answered_so (nodes.Client client) (open_in p) (answer.Lost name)) q

@@ -8,6 +8,7 @@ use Rattle.token_protocol.specs.Basics.{In}
 use Rattle.version_model.specs.declared.act.Act.TheVariants.{Dropped}
 use Rattle.wire_msg.specs.declared.body.Body.TheVariants as body
 use Rattle.wire_msg.specs.declared.packet.Packet.{Packet}
+use Rattle.wire_msg.specs.declared.storage.Delete.{Delete}
 use Rattle.world_base.specs.declared.estate.Estate.{Estate}
 use Rattle.world_base.specs.declared.event.Event.{Event}
 use Rattle.world_base.specs.declared.world.World.{World}
@@ -22,6 +23,10 @@ use Rattle.headline.specs.Moments.{acts_in, moment, node_named}
 abbrev pub Deletes : SegName → List Packet → Type 0
 Deletes name packets = (p : Packet) × In p packets × (p.body ≡ body.Delete (record { name = name }))
 
+-- the cleaner alone tells servers to delete segments
+abbrev pub OnlyTheCleanerDeletes : List Packet → Type 0
+OnlyTheCleanerDeletes sent = (p : Packet) (m : Delete) → In p sent → p.body ≡ body.Delete m → p.from ≡ Cleaner
+
 -- what a server has been told to delete was dropped
 abbrev pub DeletedWasDropped : World AnyNode → Type 0
 DeletedWasDropped w = (name : SegName) → Deletes name w.sent → In (Dropped name) w.acts
@@ -32,8 +37,10 @@ DroppedIsTold e count =
     (event : Event) → slice_get e.events count ≡ Some event → node_of event ≡ Cleaner → (name : SegName)
     → In (Dropped name) (acts_in (moment e count) event) → Deletes name (moment e (suc count)).sent
 
--- at each moment of a run: so no server is told to delete a segment that wasn't dropped by then, or in that event
+-- At each moment of a run: no node but the cleaner has told a server to delete anything, and no server is told to delete a segment that wasn't dropped by then,
+-- or in that event.
 pub record DropsWhatItDeletes (e : Estate AnyNode) : Type 0 where
+  pub alone : (count : ℕ) → OnlyTheCleanerDeletes (moment e count).sent
   pub dropped : (count : ℕ) → DeletedWasDropped (moment e count)
   pub told : (count : ℕ) → DroppedIsTold e count
 

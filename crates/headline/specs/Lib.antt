@@ -22,11 +22,14 @@ pub mod Files
 pub mod Dues
 pub mod Calls
 pub mod ItemActs
+pub mod Courses
+pub mod Linear
 pub mod Torn
 pub mod Openings
 pub mod Takeovers
 pub mod Reads
 pub mod Losses
+pub mod Syncs
 pub mod Bounds
 pub mod Outside
 pub mod Inside

@@ -7,12 +7,25 @@ use Rattle.headline.specs.Answers.{AnswersAreActs, VersionsAreNewest}
 use Rattle.headline.specs.Dues.{AnswersDue}
 use Rattle.headline.specs.Falls.{FallsApartThroughout}
 use Rattle.headline.specs.Files.{FileAnswersArePlanned}
+use Rattle.headline.specs.ItemActs.{CallsAreAnswered, CallsGoOn, ClientsActForItems, OpenCallsHaveRun}
 use Rattle.headline.specs.Items.{ItemsAnsweredOnce}
+use Rattle.headline.specs.Linear.{IsLinearizable}
 use Rattle.headline.specs.Losses.{EachLostActIsEarned, LostAnswersEarned}
 use Rattle.headline.specs.Restarts.{LosesNone, NoDoubtfulRestart}
 use Rattle.headline.specs.Settled.{BlocksAreSettled}
 use Rattle.headline.specs.Standings.{AnswersFit}
+use Rattle.headline.specs.Syncs.{SyncsSettle}
 use Rattle.headline.specs.Versions.{LegalActs, LegalWithoutLosses}
+
+-- Clients act for their items, and for nothing else.
+pub record ActsBelongToItems (e : Estate AnyNode) : Type 0 where
+  -- each event of a client acts for its open item, or for the one that it begins; other nodes neither act on blocks nor fall nor come back as clients do
+  pub events : ClientsActForItems e
+  -- since the Begin of its item an open call has acted on blocks just what its answers so far tell of, and an event in which it goes on acts what follows
+  pub waiting : OpenCallsHaveRun e
+  pub going : CallsGoOn e
+  -- and one that is answered has acted all that its answers tell of, and nothing more
+  pub whole : CallsAreAnswered e
 
 -- Only what is gone is refused as lost.
 pub record LossesEarned (e : Estate AnyNode) : Type 0 where
@@ -27,12 +40,18 @@ WithoutLossesNoDoubt e = LosesNone (works_of e.script.lines) → (count : ℕ) �
 
 -- Of each run of the xFS nodes, whatever messages are lost, repeated or reordered and whichever nodes stop:
 pub record OutsideIsSafe (e : Estate AnyNode) : Type 0 where
+  -- block by block, the calls on blocks are in the order of their acts, each between its Begin and its answer, one legal history of versions: up to the first
+  -- doubtful restart; what a crash takes back was neither synced nor read elsewhere
+  pub linearizable : IsLinearizable e
   -- each item is answered at most once, by its own node, after its Begin: so the text shows for an item its one answer, and as open are counted those that no
   -- act answers
   pub answered_once : ItemsAnsweredOnce e
   -- what a client answers to a call on a block, a sync or a restart it has acted before, in the same event; the cleaner, back, that a segment of its new
   -- incarnation is filed; and an item is cut only where a crash, or the loss of a disk, is answered behind it
   pub answers_acted : AnswersAreActs e
+  -- a client reads, writes, syncs, falls and comes back only for its open item, or the one that it begins, and acts just what the calls on blocks of that were
+  -- answered
+  pub acts_belong : ActsBelongToItems e
   -- and each answer fits where its node stands, before the event and behind it
   pub answers_fit : AnswersFit e
   -- in each event each node serves on until a crash of it begins, and what is due as an item begins is answered in that event
@@ -51,6 +70,9 @@ pub record OutsideIsSafe (e : Estate AnyNode) : Type 0 where
   -- up to the first doubtful restart all that is filed of a block joins to its newest version, with its value, where nobody has it dirty or fell with it; and
   -- where a client has it dirty, to what that knows as settled, all versions above being its own
   pub settled : BlocksAreSettled e
+  -- where a sync is done, its client has nothing dirty; and of each block of which its version is the newest, and with which nobody fell, all that is filed joins
+  -- to that, with its value: up to there
+  pub syncs_settle : SyncsSettle e
   -- only what is gone is refused as lost
   pub losses_earned : LossesEarned e
   -- and where no line of the script has a server lose its disk, no restart is doubtful

@@ -1,4 +1,4 @@
-mod Telling
+pub mod Telling
 mod Foundations
 pub mod Trails
 pub mod Calling
@@ -11,4 +11,4 @@ mod Filing
 mod Cleaners
 mod Others
 pub mod Runs
-mod Answered
+pub mod Answered

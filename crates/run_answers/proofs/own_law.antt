@@ -2,10 +2,10 @@ mod Filing
 mod Moving
 mod Running
 pub mod Clients
-mod Single
+pub mod Single
 mod Events
-mod Others
-mod Runs
-mod Whole
-mod Since
-mod Answered
+pub mod Others
+pub mod Runs
+pub mod Whole
+pub mod Since
+pub mod Answered

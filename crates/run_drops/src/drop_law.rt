@@ -10,8 +10,8 @@ use run_laws::world_logs::runs_keep_logs;
 
 /// What servers are told to delete, whatever messages are lost, repeated or reordered and whichever nodes stop (the 1996 paper, "The Log Cleaner").
 ///
-/// - `dropped`: at each moment of a run a segment that a server has been told to delete was dropped, in an act of an event by then or of that event; and what
-///   the cleaner drops in an event, a server is told to delete in that event.
+/// - `dropped`: at each moment of a run no node but the cleaner has told a server to delete anything; a segment that a server has been told to delete was
+///   dropped, in an act of an event by then or of that event; and what the cleaner drops in an event, a server is told to delete in that event.
 /// - `below`: and it is below the least horizon of its log that the registry keeps, so nobody that opens the log reads it again; of a manager's log nothing is
 ///   deleted.
 pub fn what_is_deleted_was_dropped()

@@ -22,13 +22,16 @@ use run_answers::act_law::{
     answered_versions_are_newest, answers_are_acts, file_answers_are_planned,
 };
 use run_answers::due_law::runs_answer_what_is_due;
+use run_answers::linear_law::runs_are_linearizable;
 use run_answers::once_law::items_are_answered_once;
+use run_answers::own_law::clients_act_for_their_items;
 use run_answers::standing_law::answers_fit_where_a_node_stands;
 use run_drops::drop_law::what_is_deleted_was_dropped;
 use run_holdings::belief_law::managers_believe_their_clients;
 use run_holdings::boot_law::the_cleaner_files_one_segment_of_its_boot;
 use run_holdings::settled_law::what_is_settled_is_the_join;
 use run_holdings::stripe_law::what_is_filed_is_read_back;
+use run_holdings::sync_law::syncs_settle;
 use run_laws::restart_law::without_losses_no_restart_is_doubtful;
 use run_laws::world_law::{
     every_run_has_one_manager, every_run_has_one_owner, what_fell_is_held_by_nobody,
@@ -58,14 +61,17 @@ fn every_run_is_safe()
     what_is_deleted_was_dropped();
     every_runs_acts_are_legal();
     what_is_settled_is_the_join();
+    syncs_settle();
     each_lost_act_is_earned();
     lost_answers_are_said();
     items_are_answered_once();
     answers_are_acts();
+    clients_act_for_their_items();
     answers_fit_where_a_node_stands();
     runs_answer_what_is_due();
     file_answers_are_planned();
     answered_versions_are_newest();
+    runs_are_linearizable();
     without_losses_no_restart_is_doubtful();
 }
 
@@ -76,10 +82,11 @@ fn every_run_is_safe()
 /// - `untouched`: words by which nothing is read, those that are no form and those by which a script is drawn, leave
 ///   the source as it was.
 /// - `headline`: what is so of the run that was played, whatever messages were lost, repeated or reordered and
-///   whichever nodes stopped, with the premises named there (`specs/Headline.antt`, and `specs/Safe.antt` of `headline`): it is one run of the xFS nodes in
-///   which no block has two owners, and only what is gone is refused as lost; up to the first doubtful restart each act
-///   Read is of its block's newest version, and no fall goes below what was synced or read elsewhere. Of `boards` it is
-///   said of the run with one registry that the run with three boards stands for, whichever of them stopped.
+///   whichever nodes stopped, with the premises named there (`specs/Headline.antt`, and `specs/Safe.antt` of `headline`): it is one run of the xFS nodes,
+///   linearizable block by block, in which no block has two owners, and only what is gone is refused as lost; up to the
+///   first doubtful restart each act Read is of its block's newest version, and no fall goes below what was synced or
+///   read elsewhere. Of `boards` it is said of the run with one registry that the run with three boards stands for,
+///   whichever of them stopped.
 /// - `bounds`: where the script has only the lines `bput`, `bget` and `sync`, each item was answered, once, within 128
 ///   deliveries and one tick of each node (`specs/Bounds.antt`). Of `boards` and `disks` nothing is said.
 /// - `disks`: by `disks` the run is the one that its script determines with servers that stop, and so is all that the disk of

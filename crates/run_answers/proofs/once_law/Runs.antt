@@ -100,7 +100,7 @@ each_keeps (any.Registry r) what sound =
 
 module _ (me : NodeId) where
   -- what is answered is its own, and one of those
-  closes_in : (these left : ℕ → Type 0) (acts : List Act) → Closes me these acts left → (node : NodeId) (item : ℕ) (a : Answer)
+  pub closes_in : (these left : ℕ → Type 0) (acts : List Act) → Closes me these acts left → (node : NodeId) (item : ℕ) (a : Answer)
       → In (act.Answered node item a) acts → (node ≡ me) × these item
   closes_in these left [] c node item a among = absurd among
   closes_in these left (act.Answered n i b ∷ acts) c node item a (inl e) =
@@ -147,7 +147,7 @@ answers_itself x what sound node item a among =
 
 -- ---- lists of acts
 
-unanswered_both : (xs ys : List Act) (node : NodeId) (item : ℕ) → IsUnanswered xs node item → IsUnanswered ys node item → IsUnanswered (xs ++ ys) node item
+pub unanswered_both : (xs ys : List Act) (node : NodeId) (item : ℕ) → IsUnanswered xs node item → IsUnanswered ys node item → IsUnanswered (xs ++ ys) node item
 unanswered_both xs ys node item before behind a among = by (in_append xs ys (act.Answered node item a) among)
   where
     by : In (act.Answered node item a) xs ⊎ In (act.Answered node item a) ys → ⊥
@@ -452,6 +452,12 @@ pub node_known : (e : Estate AnyNode) (count : ℕ) (name : NodeId) (x : AnyNode
     → node_in (moment e count).nodes (place_of (moment e count).cluster name) ≡ Some x → Known e name x
 node_known e count name x fact =
     (let s = (stands_at e count).nodes name x fact in record { named = s.named; works = s.works; waits = λ item waits. (s.waits item waits).1 })
+
+-- and an item of it that is open, or that has not begun, no act answers
+pub left_at : (e : Estate AnyNode) (count : ℕ) (name : NodeId) (x : AnyNode)
+    → node_in (moment e count).nodes (place_of (moment e count).cluster name) ≡ Some x → (item : ℕ) → IsOpen (items_in x) item ⊎ ((items_in x).begun < item)
+    → IsUnanswered (moment e count).acts name item
+left_at e count name x fact item left = ((stands_at e count).nodes name x fact).free item left
 
 pub runs_answer_once : EachItemIsAnsweredOnce
 runs_answer_once e run =

@@ -56,14 +56,14 @@ pub record IsIt (item : ℕ) (a : Answer) (open_item : Option ℕ) (x : Answer) 
   pub same : open_item ≡ Some item
   pub answer : x ≡ a
 
-is_it : (client item : ℕ) (a : Answer) (o : Option ℕ) (x : Answer) → In (act.Answered (nodes.Client client) item a) (answered_so (nodes.Client client) o x)
+pub is_it : (client item : ℕ) (a : Answer) (o : Option ℕ) (x : Answer) → In (act.Answered (nodes.Client client) item a) (answered_so (nodes.Client client) o x)
     → IsIt item a o x
 is_it client item a None x among = absurd among
 is_it client item a (Some n) x (inl e) = (let one : n ≡ item = cc in let two : x ≡ a = cc in record { same = ap Some one; answer = two })
 is_it client item a (Some n) x (inr among) = absurd among
 
 -- what an answer to a call on blocks tells of answers no item
-told_no : (client item : ℕ) (a : Answer) (step : BlockCall) (x : BlockAnswer) → In (act.Answered (nodes.Client client) item a) (told client step x) → ⊥
+pub told_no : (client item : ℕ) (a : Answer) (step : BlockCall) (x : BlockAnswer) → In (act.Answered (nodes.Client client) item a) (told client step x) → ⊥
 told_no client item a (Get block) (Got ver value) (inl e) = cc
 told_no client item a (Put block value) (Written ver) (inl e) = cc
 told_no client item a (PutAt block named value) (Written ver) (inl e) = cc
@@ -163,13 +163,13 @@ module _ (e : Estate AnyNode) (count : ℕ) (event : Event) (happens : slice_get
       absurd (no_going its.going (makes_here n s wanted None nq (sym same) (asked n wanted b.asks nq) made))
   run_so q acts (AtOnce n wanted x refuses b calls items) among =
       absurd (refused x refuses (is_it client item a (Some n) x among).answer)
-  run_so q acts (GoesOn call at stays st) among =
+  run_so q acts (GoesOn call at stays drains st) among =
       let end = ends_it a st among in
       let h = (each_has_run e).1 count client c (ap (node_named (moment e count)) named ∙ there) call at acts (call_in q) st in
       let same : h.0 ≡ item = one_number h.0 item (sym h.1.0 ∙ end.0) in
       subst (λ (i : ℕ). HasRun e client i (moment e count).acts acts None) same
       (subst (λ (o : Option Call). HasRun e client h.0 (moment e count).acts acts o) end.1 h.1.1)
-  run_so q acts (Begins {s = s} n wanted going same b free made stays st) among =
+  run_so q acts (Begins {s = s} n wanted going same b free made stays drains st) among =
       let end = ends_it a st among in
       let nq : n ≡ item = one_number n item end.0 in
       let gq : going ≡ its.going = one_going going its.going (makes_here n s wanted (Some going) nq (sym same) (asked n wanted b.asks nq) made) in

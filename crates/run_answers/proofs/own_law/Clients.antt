@@ -1,15 +1,17 @@
 -- What a client acts in one event it acts for its items.
-use Rattle.std.proofs.Common.{◌≡◌, ℕ, false, List, [], ◌∷◌, ◌++◌, append-nil, Option, Some, None, is_some, inl, inr, refl, sym, ap, subst, ◌∙◌}
+use Rattle.std.proofs.Common.{◌≡◌, ℕ, true, false, List, [], ◌∷◌, ◌++◌, append-nil, Option, Some, None, is_some, inl, inr, refl, sym, ap, subst, ◌∙◌}
 use Rattle.client_call.specs.declared.call.Call.{Call}
 use Rattle.client_call.specs.declared.call.Going.{Going}
-use Rattle.client_call.specs.declared.call.Going.TheVariants.{On}
+use Rattle.client_call.specs.declared.call.Going.TheVariants.{On, Ends}
 use Rattle.client_node.specs.declared.client.Client.{Client}
 use Rattle.client_node.specs.declared.phase.Phase.{Phase}
 use Rattle.client_node.specs.declared.phase.Phase.TheVariants.{Down, Opening, Serving as Serves}
 use Rattle.client_node.specs.Crash.{fall_of, flight_of}
 use Rattle.client_node.specs.Phases.{Went_to, phase_after, begins_item, client_has_room, down_begins, happens, item_begins, lasting_of, on_begin, on_deliver, client_tick, opened_on, opening_begins, serving_begins, takes, then_runs, wish_of, with_begun}
 use Rattle.client_running.specs.Opens.{begin_call, call_at, opens}
-use Rattle.client_running.specs.Running.{run}
+use Rattle.client_call.specs.declared.call.Plan.TheVariants.{One}
+use Rattle.client_running.specs.Blocks.{is_settled}
+use Rattle.client_running.specs.Running.{running_go_on, most_steps, run}
 use Rattle.client_serving.specs.declared.lasting.Lasting.{Lasting}
 use Rattle.client_serving.specs.declared.serving.Serving.{Serving}
 use Rattle.client_serving.specs.Packets.{serving_take, on_tick}
@@ -47,14 +49,15 @@ use Rattle.xfs_base.specs.Steps.{saying, still}
 use Rattle.run_answers.proofs.once_law.Items.{begun_open, begun_works}
 use Rattle.run_answers.proofs.own_law.Filing.{acts_then, answered_are, behind_still, its_acts}
 use Rattle.run_answers.proofs.own_law.Moving.{HasLost, IsCalm, Went as Moved_so, comes, none_kept}
-use Rattle.run_answers.proofs.own_law.Running.{Stretched, going_runs, items_after, no_runs, open_runs}
+use Rattle.run_answers.proofs.own_law.Running.{Stretched, going_runs, items_after, no_runs, open_runs, sync_runs}
 use Rattle.run_answers.specs.own_law.Events.{EachClientActsForItems}
-use Rattle.headline.specs.Calls.{Acts, CallHasItem, IsAnswerTo, IsBegun, IsRefusal, Stretch, answered_so, call_in, open_in, told}
+use Rattle.headline.specs.Calls.{Acts, CallHasItem, IsAnswerTo, IsBegun, IsRefusal, Stretch, SyncDrains, answered_so, call_in, open_in, told}
 use Rattle.headline.specs.Calls.Acts.{Rests, Passes, AtOnce, GoesOn, Begins, Loses, Falls, Stops, Returns}
 use Rattle.headline.specs.Calls.Stretch.{Waits, Told}
 use Rattle.client_call.specs.Calls.{plan_answered}
 use Rattle.client_call.specs.declared.call.Plan.{Plan}
 use Rattle.file_plan.specs.declared.block_call.BlockCall.{BlockCall}
+use Rattle.file_plan.specs.declared.block_call.BlockCall.TheVariants.{Sync}
 use Rattle.std.specs.List.{AllByRecursion}
 use Rattle.std.specs.Prelude.{map}
 use Rattle.serving_moves.proofs.item_moves.Keeping.{no_item}
@@ -95,7 +98,7 @@ module _ (client : ℕ) where
       by None is = turned p what (still p) [] refl (Rests is is) sound
       by (Some call) is =
           turned p what (still p) [] refl
-          (GoesOn call is (λ new fact. refl) (subst (Stretch client (open_in p) (On call) []) (sym is) (Waits refl refl))) sound
+          (GoesOn call is (λ new fact. refl) (λ one sync over. absurd (no_call call (sym over ∙ is))) (subst (Stretch client (open_in p) (On call) []) (sym is) (Waits refl refl))) sound
 
   -- a reading more or less leaves where a call stands
   pub reads_on : {item : Option ℕ} {acts : List Act} {after : Option Call} (call new : Call) → new.plan ≡ call.plan → new.step ≡ call.step
@@ -117,6 +120,16 @@ module _ (client : ℕ) where
   rests : (s : Serving) (what : Do) → s.call ≡ None → Turned (Serves s) what (still (Serves s))
   rests s what none = turned (Serves s) what (still (Serves s)) [] refl (Rests none none) (none_sound (Serves s) none)
 
+  sync_drains : (t : Serving) (call : Call) → t.call ≡ Some call → call.plan ≡ One → call.step ≡ Sync → (run t).state.call ≡ None
+      → is_settled (run t).state ≡ true
+  unfolding run
+  sync_drains t call is one sync over = sync_runs most_steps t call is one sync over
+
+  going_drains : (s : Serving) (g : Going) → SyncDrains g (Serves (run (running_go_on s g).state).state)
+  unfolding running_go_on
+  going_drains s (On call) = λ one sync over. sync_drains (record s { call = Some call }) call refl one sync over
+  going_drains s (Ends a) = tt
+
   -- what came is done, and then the open call runs
   module _ (s : Serving) (what : Do) (its : s.lasting.number ≡ client) (sound : CallHasItem (Serves s)) (d : Done) where
     none_runs : IsCalm s d → s.call ≡ None → Turned (Serves s) what (then_runs d)
@@ -137,7 +150,7 @@ module _ (client : ℕ) where
     call_runs c call is =
         turned (Serves s) what (then_runs d) (its_acts me (run d.state).outs) (behind_still me d.outs (run d.state).outs c.still)
         (GoesOn call is
-        (λ n fact. ap (λ (i : Items). i.unanswered) (st.items ∙ (ap (λ (o : Option Call). items_after o d.state.lasting.items) fact ∙ c.kept.items))) same)
+        (λ n fact. ap (λ (i : Items). i.unanswered) (st.items ∙ (ap (λ (o : Option Call). items_after o d.state.lasting.items) fact ∙ c.kept.items))) drains same)
         (stretch_sound d.state (run d.state).state st.items (sound call is).0 (ap (λ (i : Items). i.unanswered) c.kept.items ∙ (sound call is).1))
       where
         new : (n : Call) × (d.state.call ≡ Some n)
@@ -151,6 +164,10 @@ module _ (client : ℕ) where
 
         one : stays.0 ≡ call
         one = one_call stays.0 call (sym stays.1.0 ∙ is)
+
+        drains : SyncDrains (On call) (Serves (run d.state).state)
+        drains plan step over =
+            sync_drains d.state new.0 new.1 ((stays.1.1.0 ∙ ap (λ (x : Call). x.plan) one) ∙ plan) ((stays.1.1.1 ∙ ap (λ (x : Call). x.step) one) ∙ step) over
 
         same : Stretch client s.lasting.items.unanswered (On call) (its_acts me (run d.state).outs) (run d.state).state.call
         same =
@@ -325,7 +342,7 @@ module _ (client : ℕ) where
             let d : Done = begin_call t number (Some going) in
             let st : Stretched client u going d = going_runs client u going its (over free) in
             turned (Serves s) Begin (as_phase d) (its_acts me d.outs) refl (Begins number w going refl (is_begun w e) free made
-            (λ n fact. ap (λ (i : Items). i.unanswered) (st.items ∙ ap (λ (o : Option Call). items_after o u.lasting.items) fact)) st.acts)
+            (λ n fact. ap (λ (i : Items). i.unanswered) (st.items ∙ ap (λ (o : Option Call). items_after o u.lasting.items) fact)) (going_drains u going) st.acts)
             (stretch_sound u d.state st.items number refl)
 
     opens_so : (w : Option Work) → work_at t.lasting.items number ≡ w → Turned (Serves s) Begin (as_phase (opens t number))

@@ -43,10 +43,10 @@ module _ (client : ℕ) (works : List Work) where
   acts_for p what q sound owns its (Passes number wanted same b f made c o) a is among =
       none_for (act.Answered me number answer.Done ∷ []) (λ no. no, tt) a is among
   acts_for p what q sound owns its (AtOnce number wanted x refused b c o) a is among = none_for (act.Answered me number x ∷ []) (λ no. no, tt) a is among
-  acts_for p what q sound owns its {acts} (GoesOn call at stays st) a is among =
+  acts_for p what q sound owns its {acts} (GoesOn call at stays drains st) a is among =
       let has = sound call at in
       (has.0, call_for_item client call (owns has.0 has.1 call at) (subst (λ (o : Option ℕ). Stretch client o (On call) acts (call_in q)) has.1 st) a is among)
-  acts_for p what q sound owns its {acts} (Begins {s = s} number wanted going same begun free made stays st) a is among =
+  acts_for p what q sound owns its {acts} (Begins {s = s} number wanted going same begun free made stays drains st) a is among =
       let asks : asked_at works number ≡ wanted = ap (λ (ws : List Work). asked_at ws number) (sym its) ∙ begun.asks in
       (number, subst (λ (w : Option Work). IsFor client number w acts a) (sym asks) (going_for client going (call_own client s number wanted going made) st a is among))
   acts_for p what q sound owns its (Loses name c o) a is among =

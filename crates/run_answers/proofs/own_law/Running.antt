@@ -1,20 +1,28 @@
 -- The open call runs: a stretch of it.
-use Rattle.std.proofs.Common.{◌≡◌, ℕ, zero, suc, false, List, [], ◌++◌, append-nil, append_assoc, Option, Some, None, refl, sym, ap, subst, ◌∙◌}
+use Rattle.std.proofs.Common.{◌≡◌, ℕ, zero, suc, Bool, true, false, if◌then◌else◌, List, [], ◌∷◌, ◌++◌, append-nil, append_assoc, Option, Some, None, refl, sym, ap, subst, ◌∙◌}
 use Rattle.client_call.specs.Calls.{plan_answered}
 use Rattle.client_call.specs.declared.call.Call.{Call}
 use Rattle.client_call.specs.declared.call.Going.{Going}
 use Rattle.client_call.specs.declared.call.Going.TheVariants.{On, Ends}
-use Rattle.client_running.specs.Blocks.{Made, blocks_make}
+use Rattle.client_call.specs.declared.call.Plan.{Plan}
+use Rattle.client_call.specs.declared.call.Plan.TheVariants.{One}
+use Rattle.client_running.specs.Blocks.{Made, is_settled, blocks_make, blocks_sync}
 use Rattle.client_running.specs.Running.{Ran, running_go_on, if_goes, most_steps, ran, run, runs_call, run_once, run_upto}
 use Rattle.client_serving.specs.declared.serving.Serving.{Serving}
-use Rattle.client_serving.specs.Sends.{Done}
+use Rattle.client_serving.specs.Follow.{serving_seal}
+use Rattle.client_serving.specs.Sends.{Done, gives}
 use Rattle.file_plan.specs.declared.block_call.BlockAnswer.{BlockAnswer}
+use Rattle.file_plan.specs.declared.block_call.BlockAnswer.TheVariants.{Synced}
+use Rattle.file_plan.specs.declared.block_call.BlockCall.{BlockCall}
+use Rattle.file_plan.specs.declared.block_call.BlockCall.TheVariants.{Sync}
 use Rattle.node_base.specs.Beginning.{items_answer}
 use Rattle.node_base.specs.declared.effects.Effect.{Effect}
+use Rattle.node_base.specs.declared.effects.Effect.TheVariants.{Does}
 use Rattle.node_base.specs.declared.items.Items.{Items}
 use Rattle.serving_moves.specs.client_moves.Moves.{Fits}
 use Rattle.headline.specs.Calls.{IsAnswerTo, Stretch, told}
 use Rattle.version_model.specs.declared.act.Act.{Act}
+use Rattle.version_model.specs.declared.act.Act.TheVariants as act
 use Rattle.xfs_base.specs.declared.node.NodeId.{NodeId}
 use Rattle.xfs_base.specs.declared.node.NodeId.TheVariants as nodes
 use Rattle.xfs_base.specs.Steps.{saying, still}
@@ -35,6 +43,45 @@ none_run (suc k) s none = ap (λ (r : Ran). if_goes r (run_upto k)) once
   where
     once : run_once s ≡ record { done = still s; goes = false }
     once = ap (runs_call s) none
+
+-- ---- a call that is one sync
+
+-- where it is open no more, it was answered, with nothing waiting for the log and nothing in flight
+pub sync_runs : (k : ℕ) (t : Serving) (call : Call) → t.call ≡ Some call → call.plan ≡ One → call.step ≡ Sync → (run_upto k t).state.call ≡ None
+    → is_settled (run_upto k t).state ≡ true
+unfolding run_upto run_once blocks_make blocks_sync serving_seal running_go_on
+sync_runs zero t call is one sync = λ over. absurd (no_call call (sym over ∙ is))
+  where
+    no_call : (call : Call) → None ≡ Some call → ⊥
+    no_call call fact = cc
+sync_runs (suc k) t call is one sync =
+    subst Drains (sym (ap (runs_call t) is ∙ ap (λ (step : BlockCall). ran call (blocks_make u step)) sync)) (by (is_settled d.state) refl)
+  where
+    u : Serving
+    u = record t { call = None }
+
+    d : Done
+    d = serving_seal u
+
+    Drains : Ran → Type 0
+    Drains r = (if_goes r (run_upto k)).state.call ≡ None → is_settled (if_goes r (run_upto k)).state ≡ true
+
+    -- what was answered so
+    ended : Plan → Serving
+    ended q = (running_go_on d.state (plan_answered q Synced)).state
+
+    by_plan : (q : Plan) → One ≡ q → is_settled d.state ≡ true → is_settled (run_upto k (ended q)).state ≡ true
+    by_plan q same settled =
+        subst (λ (p : Plan). is_settled (run_upto k (ended p)).state ≡ true) same
+        (ap (λ (x : Done). is_settled x.state) (none_run k (ended One) refl) ∙ settled)
+
+    by : (b : Bool) → is_settled d.state ≡ b
+        → Drains (ran call (record {
+          done = gives d.state (d.outs ++ (if b then Does (act.Synced d.state.lasting.number) ∷ [] else []));
+          answer = if b then Some Synced else None;
+        }))
+    by true settled = λ over. by_plan call.plan (sym one) settled
+    by false settled = λ over. absurd (let clash : Some call ≡ None = over in cc)
 
 module _ (client : ℕ) where
   -- this is a stretch from where a call of the open item stands

@@ -132,7 +132,7 @@ module _ (e : Estate AnyNode) where
     abbrev works : List Work
     works = items_of e.script.lines (node_of event)
 
-    owns : (p : Phase) → p ≡ c.phase → Owns (lasting_of c.phase).number works p
+    pub owns : (p : Phase) → p ≡ c.phase → Owns (lasting_of c.phase).number works p
     owns (Down l) is item waits call fact = absurd cc
     owns (Opening l o) is item waits call fact = absurd cc
     owns (Serves s) is item waits call fact =

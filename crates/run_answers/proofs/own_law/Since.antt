@@ -167,7 +167,7 @@ module _ (e : Estate AnyNode) where
       then_open q acts are (AtOnce number wanted a refused begun calls items) call fact =
           let so = beside client w.acts new c.phase (sym (of_items_same client new) ∙ ap (blocks_by client) are) was call (sym calls ∙ fact) in
           (so.0, (items ∙ so.1.0, so.1.1))
-      then_open q acts are (GoesOn old at stays st) call fact =
+      then_open q acts are (GoesOn old at stays drains st) call fact =
           let had = was old at in
           let on : Stretch client (Some had.0) (On old) acts (Some call) =
           subst (λ (o : Option Call). Stretch client (Some had.0) (On old) acts o) fact
@@ -175,7 +175,7 @@ module _ (e : Estate AnyNode) where
             had.0,
             (stays call fact ∙ had.1.0, more_run client had.0 w.acts new acts old (Some call) had.1.1 (its acts call (Some had.0) (On old) are on) on),
           )
-      then_open q acts are (Begins {s = s} item wanted going same begun free made stays st) call fact =
+      then_open q acts are (Begins {s = s} item wanted going same begun free made stays drains st) call fact =
           let run : Stretch client (Some item) going acts (Some call) =
           subst (λ (o : Option Call). Stretch client (Some item) going acts o) fact st in
           (item, (stays call fact, by wanted begun.asks made (its acts call (Some item) going are run) run))

@@ -31,7 +31,7 @@ module _ (client : ℕ) where
 
   -- ---- acts of blocks of the client
 
-  its_told : (step : BlockCall) (a : BlockAnswer) → blocks_by client (told client step a) ≡ told client step a
+  pub its_told : (step : BlockCall) (a : BlockAnswer) → blocks_by client (told client step a) ≡ told client step a
   its_told (Get block) (Got ver value) = ap (λ (t : Bool). cond t (act.Read client block ver value ∷ []) []) (equal_itself client)
   its_told (Put block value) (Written ver) = ap (λ (t : Bool). cond t (act.Wrote client block value ∷ []) []) (equal_itself client)
   its_told (PutAt block named value) (Written ver) = ap (λ (t : Bool). cond t (act.Wrote client block value ∷ []) []) (equal_itself client)

@@ -39,7 +39,7 @@ use Rattle.run_laws.proofs.world_law.Turning.{next_keeps}
 use Rattle.run_laws.proofs.world_reads.Taking.{moment_next}
 use Rattle.headline.specs.Moments.{moment, node_in}
 use Rattle.run_laws.specs.world_law.Standing.{Scene, SentBy}
-use Rattle.headline.specs.Deletions.{DeletedWasDropped, Deletes, DroppedIsTold}
+use Rattle.headline.specs.Deletions.{DeletedWasDropped, Deletes, DroppedIsTold, OnlyTheCleanerDeletes}
 use Rattle.xfs_base.proofs.Alls.{all_append, all_put, all_weaker}
 use Rattle.xfs_base.specs.declared.node.NodeId.{NodeId}
 use Rattle.xfs_base.specs.declared.node.NodeId.TheVariants.{Client, Manager, Server, Cleaner, Registry}
@@ -139,10 +139,6 @@ any_more acted more sub (any.Server node) h = tt
 any_more acted more sub (any.Cleaner node) h = so_more acted more sub node.phase h
 any_more acted more sub (any.Registry node) h = tt
 
--- the cleaner alone tells servers to delete segments
-abbrev CleanerAlone : List Packet → Type 0
-CleanerAlone sent = (p : Packet) (m : Delete) → In p sent → p.body ≡ body.Delete m → p.from ≡ Cleaner
-
 abbrev NotCleaner : NodeId → Type 0
 NotCleaner Cleaner = ⊥
 NotCleaner _ = Unit {0}
@@ -236,9 +232,9 @@ module _ (moves : CleanerEventsAreMoves) where
       of (Some z) other = z
   got P (y ∷ xs) (suc place) x all fact = got P xs place x all.1 fact
 
-  event_keeps : (w : World AnyNode) (event : Event) → CleanerAlone (next_world any_step w event).sent → GoodWorld w → GoodWorld (next_world any_step w event)
+  event_keeps : (w : World AnyNode) (event : Event) → OnlyTheCleanerDeletes (next_world any_step w event).sent → GoodWorld w → GoodWorld (next_world any_step w event)
   event_keeps w event alone good =
-      next_keeps any_step (λ nodes sent acts. CleanerAlone sent → Good nodes sent acts) w event (λ _. good)
+      next_keeps any_step (λ nodes sent acts. OnlyTheCleanerDeletes sent → Good nodes sent acts) w event (λ _. good)
       (λ place x clock at fact alone. (let t = turned w.acts x (what_of event) clock (got (AnySo (by w.acts)) w.nodes place x good.all fact)
       (λ p m among same. alone p m (in_back w.sent _ p among) same) in
       let more : (name : SegName) → by w.acts name → by (w.acts ++ (any_step x (what_of event)).acts) name =
@@ -305,7 +301,7 @@ module _ (moves : CleanerEventsAreMoves) where
     sender s Cleaner to m h = refl
     sender s Registry to m h = absurd h
 
-    alone : (count : ℕ) → CleanerAlone (moment e count).sent
+    alone : (count : ℕ) → OnlyTheCleanerDeletes (moment e count).sent
     alone count p m among same =
         let stands = (front laws e setup run count 0 (omega arith)).1 in
         sender stands.0 p.from p.to m (subst (SentBy k 0 stands.0 p.from p.to) same (stands.1.facts p among))
@@ -332,7 +328,7 @@ module _ (moves : CleanerEventsAreMoves) where
         by_event None fact = subst GoodWorld (sym (moment_past e count fact)) good
         by_event (Some event) fact =
             let same = moment_next e count event fact in
-            subst GoodWorld (sym same) (event_keeps (moment e count) event (subst (λ (w : World AnyNode). CleanerAlone w.sent) same (alone (suc count))) good)
+            subst GoodWorld (sym same) (event_keeps (moment e count) event (subst (λ (w : World AnyNode). OnlyTheCleanerDeletes w.sent) same (alone (suc count))) good)
 
     good_at : (count : ℕ) → GoodWorld (moment e count)
     good_at zero = subst GoodWorld (sym (moment_first e)) starts
@@ -382,4 +378,4 @@ module _ (moves : CleanerEventsAreMoves) where
                 (f.1.0.cleaner, same_any x (any.Cleaner f.1.0.cleaner) (sym named ∙ f.1.1.placed.cleaner))
 
   pub every_run : NodeLaws → EveryRunDropsWhatItDeletes
-  every_run laws e setup run = record { dropped = dropped_at laws e setup run; told = told_at laws e setup run }
+  every_run laws e setup run = record { alone = alone laws e setup run; dropped = dropped_at laws e setup run; told = told_at laws e setup run }

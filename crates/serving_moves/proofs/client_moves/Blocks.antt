@@ -1,5 +1,6 @@
 -- What a call on blocks makes of a client that serves is a list of moves.
-use Rattle.std.proofs.Common.{◌≡◌, ℕ, ◌+◌, ◌==◌, cond, Bool, true, false, List, [], ◌∷◌, ◌++◌, Option, Some, None, is_none, refl, sym, ap}
+use Rattle.std.proofs.Common.{◌≡◌, ℕ, ◌+◌, ◌==◌, cond, Bool, true, false, List, [], ◌∷◌, ◌++◌, Option, Some, None, is_none, refl, sym, ap, ◌∙◌}
+use Rattle.std.proofs.lemmas.Bool.{eqb-true}
 use Rattle.client_call.specs.Blocks.{value_of}
 use Rattle.coop_cache.specs.Transition.{touch}
 use Rattle.file_plan.specs.declared.block_call.BlockAnswer.{BlockAnswer}
@@ -19,10 +20,13 @@ use Rattle.file_plan.specs.declared.block_call.BlockCall.{BlockCall}
 use Rattle.file_plan.specs.declared.block_call.BlockCall.TheVariants.{Get, Put, PutAt, Sync}
 use Rattle.node_base.specs.declared.effects.Effect.TheVariants.{Does}
 use Rattle.token_client.specs.declared.input.In.TheVariants as input
-use Rattle.token_client.specs.Held.{may_write}
-use Rattle.token_client.specs.Transition.{on_evict}
+use Rattle.token_client.proofs.Tables.{held_of-put_itself}
+use Rattle.token_client.specs.declared.held.Held.{Held}
+use Rattle.token_client.specs.Held.{may_write, held_write}
+use Rattle.token_client.specs.State.{held_of, with_held}
+use Rattle.token_client.specs.Transition.{on_evict, on_wrote}
 use Rattle.version_model.specs.declared.act.Act.TheVariants.{Synced}
-use Rattle.xfs_base.proofs.Booleans.{by_test}
+use Rattle.xfs_base.proofs.Booleans.{by_test, contrary}
 use Rattle.xfs_base.specs.declared.block.BlockId.{BlockId}
 use Rattle.xfs_base.specs.declared.token.Mode.TheVariants.{Copy, Own}
 use Rattle.xfs_base.specs.Modes.{is_nothing}
@@ -83,11 +87,22 @@ put_go s block value =
     (λ _. told_first s (Put block value) (put_of (wrote s block value) block value) (answer.Put (held_at (wrote s block value) block).ver) tt
     (wrote_go s block value)) (λ _. mute s (Put block value) (gives (blocks_let_go s block) []) None refl tt (let_go s block))
 
-put_at_go : (s : Serving) (block : BlockId) (ver : ℕ) (value : Option (List ℕ)) → MakesSo s (PutAt block ver value) (blocks_change s block value)
+-- what may be written has its next version then
+wrote_next : (s : Serving) (block : BlockId) (value : Option (List ℕ)) → may_write (held_at s block) ≡ true
+    → (held_at (wrote s block value) block).ver ≡ (held_at s block).ver + 1
+unfolding on_wrote
+wrote_next s block value may =
+    by_test (λ d. (held_of d.state.blocks block).ver ≡ (held_at s block).ver + 1) (may_write (held_at s block))
+    (still (with_held s.tokens block (held_write (held_at s block) value))) (still s.tokens)
+    (λ _. ap (λ (h : Held). h.ver) (held_of-put_itself block (held_write (held_at s block) value) s.tokens.blocks)) (λ none. contrary (sym none ∙ may))
+
+put_at_go : (s : Serving) (block : BlockId) (ver : ℕ) (value : Option (List ℕ)) → may_write (held_at s block) ≡ true → (held_at s block).ver ≡ ver
+    → MakesSo s (PutAt block ver value) (blocks_change s block value)
 unfolding blocks_change changes
-put_at_go s block ver value =
+put_at_go s block ver value may same =
     by_test (MakesSo s (PutAt block ver value)) (put_fits block ((held_at s block).ver + 1) value) (changes s block value) (held_back s block)
-    (λ _. told_first s (PutAt block ver value) (put_of (wrote s block value) block value) (answer.Put (held_at (wrote s block value) block).ver) tt
+    (λ _. told_first s (PutAt block ver value) (put_of (wrote s block value) block value) (answer.Put (held_at (wrote s block value) block).ver)
+    (wrote_next s block value may ∙ ap (λ n. n + 1) same)
     (wrote_go s block value)) (λ _. mute s (PutAt block ver value) (gives (blocks_let_go s block) []) None refl tt (let_go s block))
 
 puts_go : (s : Serving) (block : BlockId) (value : Option (List ℕ)) → MakesSo s (Put block value) (blocks_put s block value)
@@ -96,17 +111,18 @@ puts_go s block value =
     by_test (MakesSo s (Put block value)) (may_write (held_at s block)) (blocks_change s block value) (blocks_need s block Own)
     (λ _. put_go s block value) (λ _. needs_go s (Put block value) block Own)
 
-puts_again_go : (s : Serving) (block : BlockId) (ver : ℕ) (value : Option (List ℕ)) → MakesSo s (PutAt block ver value) (puts_again s block ver value)
-puts_again_go s block ver value =
+puts_again_go : (s : Serving) (block : BlockId) (ver : ℕ) (value : Option (List ℕ)) → may_write (held_at s block) ≡ true
+    → MakesSo s (PutAt block ver value) (puts_again s block ver value)
+puts_again_go s block ver value may =
     by_test (MakesSo s (PutAt block ver value)) ((held_at s block).ver == ver) (blocks_change s block value) (changed s block)
-    (λ _. put_at_go s block ver value)
+    (λ same. put_at_go s block ver value may (eqb-true (held_at s block).ver ver same))
     (λ _. mute s (PutAt block ver value) (gives (blocks_let_go s block) []) (Some answer.Changed) refl tt (let_go s block))
 
 blocks_put_at_go : (s : Serving) (block : BlockId) (ver : ℕ) (value : Option (List ℕ)) → MakesSo s (PutAt block ver value) (blocks_put_at s block ver value)
 unfolding blocks_put_at
 blocks_put_at_go s block ver value =
     by_test (MakesSo s (PutAt block ver value)) (may_write (held_at s block)) (puts_again s block ver value) (blocks_need s block Own)
-    (λ _. puts_again_go s block ver value) (λ _. needs_go s (PutAt block ver value) block Own)
+    (λ may. puts_again_go s block ver value may) (λ _. needs_go s (PutAt block ver value) block Own)
 
 seals_number : (s : Serving) → (serving_seal s).state.lasting.number ≡ s.lasting.number
 unfolding serving_seal

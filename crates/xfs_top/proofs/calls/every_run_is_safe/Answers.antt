@@ -3,8 +3,15 @@ use Rattle.xfs_top.proofs.calls.every_run_is_safe.Goals as goal
 pub returns : goal.returns
 returns c e setup run = record {
   outside = record {
+    linearizable = c.runs_are_linearizable.ensures.linear e setup run;
     answered_once = c.items_are_answered_once.ensures.runs e run;
     answers_acted = c.answers_are_acts.ensures.acted e;
+    acts_belong = record {
+      events = c.clients_act_for_their_items.ensures.runs e;
+      waiting = (c.clients_act_for_their_items.ensures.calls e).0;
+      going = (c.clients_act_for_their_items.ensures.calls e).1;
+      whole = c.clients_act_for_their_items.ensures.answered e;
+    };
     answers_fit = c.answers_fit_where_a_node_stands.ensures.fits e;
     dues_answered = c.runs_answer_what_is_due.ensures.runs e;
     files_planned = c.file_answers_are_planned.ensures.planned e;
@@ -13,6 +20,7 @@ returns c e setup run = record {
     legal_without_losses = c.every_runs_acts_are_legal.ensures.unlost e setup run;
     falls_apart = c.what_fell_is_held_by_nobody.ensures.apart e setup run;
     settled = c.what_is_settled_is_the_join.ensures.settled e setup run;
+    syncs_settle = c.syncs_settle.ensures.settles e setup run;
     losses_earned = record {
       each = c.each_lost_act_is_earned.ensures.earned e setup run;
       answers = c.lost_answers_are_said.ensures.runs e;

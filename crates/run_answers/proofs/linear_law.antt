@@ -1,0 +1,8 @@
+mod Acts
+mod Courses
+mod Falls
+pub mod Moments
+mod Openings
+mod Stretches
+mod Syncs
+mod Turns

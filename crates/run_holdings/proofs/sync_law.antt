@@ -1,0 +1,3 @@
+mod Always
+mod Clean
+mod Settling
