@@ -1,10 +1,10 @@
 -- The least of what is left.
-use Rattle.std.proofs.Common.{◌≡◌, refl, sym, ap, subst, ◌∙◌, ℕ, ◌+◌, ◌<◌, ◌≤◌, Bool, true, false, cond, List, [], ◌∷◌, ◌++◌, length, Option, Some, None, ◌⊎◌, inl, inr, arith, nat_lt, append_assoc, append-nil, length-append}
+use Rattle.std.proofs.Common.{◌≡◌, refl, sym, ap, subst, ◌∙◌, ℕ, zero, suc, ◌+◌, ◌<◌, ◌≤◌, Bool, true, false, cond, List, [], ◌∷◌, ◌++◌, length, Option, Some, None, ◌⊎◌, inl, inr, arith, nat_lt, append_assoc, append-nil, length-append}
 use Rattle.std.specs.Prelude.{slice_get, slice_set}
 use Rattle.std.proofs.lemmas.Bool.Decides.{nat_tests}
 use Rattle.std.proofs.lemmas.Option.{slice_get_within, same_Some}
 use Rattle.journals.specs.declared.moment.Moment.{Moment}
-use Rattle.journals.specs.Merging.{AllEmpty, IsLeast, IsNext, better, head_clock, least_from, least_of}
+use Rattle.journals.specs.Merging.{AllEmpty, IsLeast, IsNext, better, head_clock, heads_of, least_from, least_of}
 use Rattle.journals.proofs.Gets.{get_end, get_front, get_snoc}
 
 -- this place and clock are those of the least
@@ -94,11 +94,11 @@ one_more seen [] best b = with_empty seen best b
 one_more seen (m ∷ ms) None none = with_first seen m ms none
 one_more seen (m ∷ ms) (Some b) c = with_other seen m ms b c (nat_lt m.clock b.1) refl
 
-best_of : (rests seen : List (List Moment)) (best : Option (ℕ × ℕ)) (n : ℕ) → n ≡ length seen → BestOf seen best → BestOf (seen ++ rests) (least_from best n rests)
+best_of : (rests seen : List (List Moment)) (best : Option (ℕ × ℕ)) (n : ℕ) → n ≡ length seen → BestOf seen best → BestOf (seen ++ rests) (least_from best n (heads_of rests))
 best_of [] seen best n is b = subst (λ all. BestOf all best) (sym (append-nil seen)) b
 best_of (r ∷ rests) seen best n is b =
     let more : BestOf (seen ++ r ∷ []) (better best n (head_clock r)) = subst (λ k. BestOf (seen ++ r ∷ []) (better best k (head_clock r))) (sym is) (one_more seen r best b) in
-    subst (λ all. BestOf all (least_from (better best n (head_clock r)) (n + 1) rests)) (append_assoc seen (r ∷ []) rests)
+    subst (λ all. BestOf all (least_from (better best n (head_clock r)) (n + 1) (heads_of rests))) (append_assoc seen (r ∷ []) rests)
     (best_of rests (seen ++ r ∷ []) (better best n (head_clock r)) (n + 1) (omega (arith, length-append seen (r ∷ []))) more)
 
 none_yet : AllEmpty []
@@ -112,6 +112,16 @@ none_left rests o is none = subst (λ b. BestOf rests b) (sym is ∙ none) (leas
 
 pub chosen_of : (rests : List (List Moment)) (o : Option (ℕ × ℕ)) (b : ℕ × ℕ) → o ≡ least_of rests → o ≡ Some b → Chosen rests b
 chosen_of rests o b is some = subst (λ x. BestOf rests x) (sym is ∙ some) (least_is rests)
+
+-- after one rest more was read from, its clock alone is another
+pub heads_set : (rests : List (List Moment)) (p : ℕ) (r : List Moment) → heads_of (slice_set rests p r) ≡ slice_set (heads_of rests) p (head_clock r)
+heads_set [] p r = refl
+heads_set (x ∷ rests) zero r = refl
+heads_set (x ∷ rests) (suc p) r = ap (λ heads. head_clock x ∷ heads) (heads_set rests p r)
+
+pub heads_count : (rests : List (List Moment)) → length (heads_of rests) ≡ length rests
+heads_count [] = refl
+heads_count (r ∷ rests) = ap suc (heads_count rests)
 
 same_first : (m h : Moment) (ms t : List Moment) → m ∷ ms ≡ h ∷ t → h ≡ m
 same_first m h ms t e = cc

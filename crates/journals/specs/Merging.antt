@@ -1,5 +1,5 @@
 -- Journals that are merged to one run, by clock and place.
-use Rattle.std.specs.Prelude.{◌≡◌, ℕ, ◌+◌, ◌<◌, ◌≤◌, nat_lt, true, List, [], ◌∷◌, length, slice_get, slice_set, Option, Some, None, ◌⊎◌, if◌then◌else◌}
+use Rattle.std.specs.Prelude.{◌≡◌, ℕ, ◌+◌, ◌<◌, ◌≤◌, nat_lt, true, List, [], ◌∷◌, length, map, slice_get, slice_set, Option, Some, None, ◌⊎◌, if◌then◌else◌}
 use Rattle.std.specs.List.{Contains, filter_map}
 use Rattle.wire_msg.specs.declared.packet.Do.{Do}
 use Rattle.wire_msg.specs.declared.packet.Packet.{Packet}
@@ -52,14 +52,18 @@ abbrev pub better : Option (ℕ × ℕ) → ℕ → Option ℕ → Option (ℕ �
 better best place None = best
 better best place (Some clock) = better_of place clock best
 
+-- the clocks of the first moments
+abbrev pub heads_of : List (List Moment) → List (Option ℕ)
+heads_of rests = map head_clock rests
+
 -- the best of these, the first of which stands at a place, and one that is known
-abbrev pub least_from : Option (ℕ × ℕ) → ℕ → List (List Moment) → Option (ℕ × ℕ)
+abbrev pub least_from : Option (ℕ × ℕ) → ℕ → List (Option ℕ) → Option (ℕ × ℕ)
 least_from best place [] = best
-least_from best place (r ∷ rests) = least_from (better best place (head_clock r)) (place + 1) rests
+least_from best place (head ∷ heads) = least_from (better best place head) (place + 1) heads
 
 -- the place of the rest that begins first, and the clock of its first moment
 abbrev pub least_of : List (List Moment) → Option (ℕ × ℕ)
-least_of rests = least_from None 0 rests
+least_of rests = least_from None 0 (heads_of rests)
 
 -- what happened to a node
 abbrev pub what_there : NodeId → Event → Option Do

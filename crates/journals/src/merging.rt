@@ -1,5 +1,5 @@
 //! Merging journals to one run.
-ghost use Rattle.std.specs.Prelude.{◌≡◌, ◌<◌, ℕ, List as Seq, [], ◌∷◌, length, slice_get, slice_set, Some, MatchOption, IfOk};
+ghost use Rattle.std.specs.Prelude.{◌≡◌, ◌<◌, ℕ, List as Seq, [], ◌∷◌, length, slice_get, slice_set, Some, None, MatchOption, IfOk, IfSome};
 ghost use Rattle.std.specs.List.{Contains};
 ghost use Rattle.node_base.specs.Setups.{IsSetup};
 ghost use Rattle.version_model.specs.declared.act.Act.{Act as Deed};
@@ -8,7 +8,7 @@ ghost use Rattle.world_base.specs.NextWorld.{first_node, first_nodes, start_worl
 ghost use Rattle.world_base.specs.Runs.{IsRun};
 ghost use Rattle.journals.specs.declared.moment.Moment.{Moment as One};
 ghost use Rattle.journals.specs.Journals.{acts_in, whats};
-ghost use Rattle.journals.specs.Merging.{AllEmpty, AreTold, IsNext, Rises, Standing, better, least_of, whats_of};
+ghost use Rattle.journals.specs.Merging.{AllEmpty, AreTold, IsNext, Rises, Standing, better, head_clock, heads_of, least_from, whats_of};
 
 use crate::merged::Merged;
 use crate::{Moment, Rest};
@@ -36,36 +36,58 @@ fn better(best: Option<(usize, u64)>, place: usize, clock: Option<u64>) -> Optio
     }
 }
 
-/// The place of the rest that begins with the least clock, and that clock; the least place of several;
-/// none where all are empty.
-fn least(rests: &[Rest]) -> Option<(usize, u64)>
-    ensures { result ≡ least_of rests.now }
+/// The place of the least of these clocks, and that clock; the least place of several; none where there is none.
+fn least(heads: &[Option<u64>]) -> Option<(usize, u64)>
+    ensures { result ≡ least_from None 0 heads.now }
 {
     let mut best = None;
-    for place in 0..rests.len() {
-        best = better(best, place, rests[place].clock());
+    for place in 0..heads.len() {
+        best = better(best, place, heads[place]);
     }
     best
 }
 
-/// Takes the first moment at a place.
-fn pop_at(rests: &mut Vec<Rest>, place: usize) -> Option<Moment>
-    requires { place < length rests.old.items }
-    ensures { MatchOption result (slice_get rests.old.items place ≡ Some [])
-        (λ moment. (tail : Seq One) × (slice_get rests.old.items place ≡ Some (moment ∷ tail)) × (rests.new.items ≡ slice_set rests.old.items place tail)) }
+/// The clocks of the first moments.
+fn heads_of(alloc: Global, rests: &[Rest]) -> Mem<Vec<Option<u64>>>
+    ensures { IfOk result (λ heads. heads.items ≡ heads_of rests.now) }
 {
-    rests[place].pop()
+    let mut heads = Vec::new(alloc);
+    for rest in rests {
+        heads.push(rest.clock())?;
+    }
+    Ok(heads)
 }
 
-/// Takes the moment that comes next, by clock and place; none where none is left.
-fn next_moment(rests: &mut Vec<Rest>) -> Option<(usize, Moment)>
-    ensures { MatchOption result (AllEmpty rests.old.items) (λ next. IsNext rests.old.items rests.new.items next.0 next.1) }
+/// Takes the first moment at a place, and notes the clock of the one behind it.
+fn pop_at(rests: &mut Vec<Rest>, heads: &mut Vec<Option<u64>>, place: usize) -> Option<Moment>
+    requires rests { place < length rests.old.items }
+    requires heads { place < length heads.old.items }
+    ensures { MatchOption result (slice_get rests.old.items place ≡ Some [])
+        (λ moment. (tail : Seq One) × (slice_get rests.old.items place ≡ Some (moment ∷ tail)) × (rests.new.items ≡ slice_set rests.old.items place tail)
+        × (heads.new.items ≡ slice_set heads.old.items place (head_clock tail))) }
 {
-    let place = match least(rests.as_slice()) {
+    let rest = &mut rests[place];
+    match rest.pop() {
+        None => None,
+        Some(moment) => {
+            heads[place] = rest.clock();
+            Some(moment)
+        }
+    }
+}
+
+/// Takes the moment that comes next, by clock and place; none where none is left. The clocks of the first moments are at
+/// hand, and are so afterwards.
+fn next_moment(rests: &mut Vec<Rest>, heads: &mut Vec<Option<u64>>) -> Option<(usize, Moment)>
+    requires { heads.old.items ≡ heads_of rests.old.items }
+    ensures next { MatchOption result (AllEmpty rests.old.items) (λ next. IsNext rests.old.items rests.new.items next.0 next.1) }
+    ensures heads { IfSome result (λ next. heads.new.items ≡ heads_of rests.new.items) }
+{
+    let place = match least(heads.as_slice()) {
         None => return None,
         Some((place, _)) => place,
     };
-    match pop_at(rests, place) {
+    match pop_at(rests, heads, place) {
         None => None,
         Some(moment) => Some((place, moment)),
     }
@@ -93,9 +115,10 @@ pub fn merge<N: Member>(
         → Contains e.world.acts a) }
 {
     let mut merged = Merged::none(alloc, Cluster::of(&script.setup))?;
+    let mut heads = heads_of(alloc, journals.as_slice())?;
     let mut rests = journals;
     loop {
-        let (place, moment) = match next_moment(&mut rests) {
+        let (place, moment) = match next_moment(&mut rests, &mut heads) {
             None => {
                 let (events, world) = merged.into_world(nodes);
                 return Ok(Estate {
