@@ -84,6 +84,12 @@ impl<N: Member, R: RunName> Cell<N, R> {
         self.journal.done()
     }
 
+    /// Whether no mail came, as far as it is known, and no item is due or none may begin: no act would make a turn but by
+    /// time.
+    pub fn rests(&self, may_begin: bool) -> bool {
+        self.ins.is_quiet() && !self.is_to_begin(may_begin)
+    }
+
     /// How many items were begun.
     pub fn begun(&self) -> u64
         ensures { result ≡ begins (whats self.now.journal.moments) }

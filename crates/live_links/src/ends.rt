@@ -1,5 +1,5 @@
 //! The ends of the rings of one node.
-ghost use Rattle.std.specs.Prelude.{◌≡◌, ◌+◌, ◌<◌, ◌≤◌, ◌⊎◌, [], ◌∷◌, ◌++◌, MatchOption, OnOk, slice_get, Some, length};
+ghost use Rattle.std.specs.Prelude.{◌≡◌, ◌+◌, ◌<◌, ◌≤◌, ◌⊎◌, [], ◌∷◌, ◌++◌, MatchOption, IfOk, OnOk, slice_get, Some, length};
 ghost use Rattle.std.specs.List.{Contains};
 ghost use Rattle.rtrb.specs.Ring.{IsPair, SameProducer, known_free, received, sent};
 ghost use Rattle.live_links.specs.declared.letter.Letter.{Letter as One};
@@ -8,19 +8,34 @@ ghost use Rattle.live_links.specs.Ends.{AreStill, AtEach, KnowsRow, Out, RowPair
 use crate::Letter;
 use crate::look::look_row;
 use rtrb::{Consumer, Producer};
+use std::alloc::Global;
 use std::marker::Model;
+use std::sync::Arc;
+use std::sync::atomic::{AtomicU64, Ordering};
 use world_base::Cluster;
 use xfs_base::{List, Mem};
 
-/// The ends by which a node sends, in order of those that receive.
+/// How many packets were pushed to a node, or were to be: a hint, by which it knows when to look at its rings again. No
+/// clause speaks of it.
+pub type Mail = Arc<AtomicU64, Global>;
+
+/// No packet was pushed yet.
+fn no_mail(alloc: Global) -> Mem<Mail> {
+    let mail = Arc::new(alloc, AtomicU64::new(0))?;
+    Ok(mail)
+}
+
+/// The ends by which a node sends, in order of those that receive, with their mail.
 pub struct Outs {
     ends: Vec<Producer<Letter>>,
+    mails: Vec<Mail>,
 }
 
 impl Drop for Outs {
     fn drop(self) {
-        let Outs { ends } = self;
+        let Outs { ends, mails } = self;
         drop(ends);
+        drop(mails);
     }
 }
 
@@ -34,16 +49,25 @@ impl Model for Outs {
 }
 
 /// The ends by which a node receives, in order of those that send. Which of them is asked first moves on with
-/// each packet, so that a node that sends much keeps no other waiting.
+/// each packet, so that a node that sends much keeps no other waiting. None is asked while no mail came since all were
+/// found empty.
 pub struct Ins {
     ends: Vec<Consumer<Letter>>,
     first: usize,
+    mail: Mail,
+    seen: u64,
 }
 
 impl Drop for Ins {
     fn drop(self) {
-        let Ins { ends, first: _ } = self;
+        let Ins {
+            ends,
+            first: _,
+            mail,
+            seen: _,
+        } = self;
         drop(ends);
+        drop(mail);
     }
 }
 
@@ -68,8 +92,18 @@ fn push_on(end: &mut Producer<Letter>, letter: Letter)
     }
 }
 
+/// Tells the node at a place that there is mail.
+fn tell_mail(mails: &[Mail], place: usize) {
+    match mails.get(place) {
+        None => {}
+        Some(mail) => {
+            mail.fetch_add(1, Ordering::SeqCst);
+        }
+    }
+}
+
 /// Pushes a packet on the ring to its node. It is lost where there is none, or where the ring is full.
-fn push_to(cluster: Cluster, ends: &mut Vec<Producer<Letter>>, letter: Letter)
+fn push_to(cluster: Cluster, ends: &mut Vec<Producer<Letter>>, mails: &[Mail], letter: Letter)
     ensures { Sends cluster ends.old.items (letter ∷ []) ends.new.items }
 {
     let place = match cluster.place(letter.packet.as_packet().to) {
@@ -78,15 +112,21 @@ fn push_to(cluster: Cluster, ends: &mut Vec<Producer<Letter>>, letter: Letter)
     };
     if place < ends.len() {
         push_on(&mut ends[place], letter);
+        tell_mail(mails, place);
     }
 }
 
 /// Pushes packets, in their order.
-fn push_each(cluster: Cluster, ends: &mut Vec<Producer<Letter>>, letters: List<Letter>)
+fn push_each(
+    cluster: Cluster,
+    ends: &mut Vec<Producer<Letter>>,
+    mails: &[Mail],
+    letters: List<Letter>,
+)
     ensures { Sends cluster ends.old.items letters ends.new.items }
 {
     for letter in letters.into_vec() {
-        push_to(cluster, ends, letter);
+        push_to(cluster, ends, mails, letter);
     }
 }
 
@@ -149,18 +189,22 @@ impl Outs {
         look_at(&mut self.ends, place, end);
     }
 
-    /// The ends in order of those that receive. It takes no memory.
-    pub fn of(ends: Vec<Producer<Letter>>) -> Outs
-        ensures { result ≡ ends.items }
+    /// No end. It takes no memory.
+    pub(crate) fn none(alloc: Global) -> Outs
+        ensures { result ≡ [] }
     {
-        Outs { ends }
+        Outs {
+            ends: Vec::new(alloc),
+            mails: Vec::new(alloc),
+        }
     }
 
-    /// Adds the end to the next one who receives.
-    pub(crate) fn add(&mut self, end: Producer<Letter>) -> Mem<()>
+    /// Adds the end to the next one who receives, with that one's mail.
+    pub(crate) fn add(&mut self, end: Producer<Letter>, mail: Mail) -> Mem<()>
         ensures { OnOk result (self.new ≡ self.old ++ end ∷ []) }
     {
         self.ends.push(end)?;
+        self.mails.push(mail)?;
         Ok(())
     }
 
@@ -169,7 +213,7 @@ impl Outs {
     pub fn push_all(&mut self, cluster: Cluster, letters: List<Letter>)
         ensures { Sends cluster self.old letters self.new }
     {
-        push_each(cluster, &mut self.ends, letters);
+        push_each(cluster, &mut self.ends, self.mails.as_slice(), letters);
     }
 }
 
@@ -184,11 +228,28 @@ impl Ins {
         look_row(place, &mut self.ends, outs);
     }
 
-    /// The ends in order of those that send. It takes no memory.
-    pub fn of(ends: Vec<Consumer<Letter>>) -> Ins
-        ensures { result ≡ ends.items }
+    /// No end, and no mail.
+    pub(crate) fn none(alloc: Global) -> Mem<Ins>
+        ensures { IfOk result (λ ins. ins ≡ []) }
     {
-        Ins { ends, first: 0 }
+        let mail = no_mail(alloc)?;
+        Ok(Ins {
+            ends: Vec::new(alloc),
+            first: 0,
+            mail,
+            seen: 0,
+        })
+    }
+
+    /// The mail of who receives here.
+    pub(crate) fn mail(&self) -> Mem<Mail> {
+        let mail = self.mail.clone()?;
+        Ok(mail)
+    }
+
+    /// Whether no mail came since all rings were found empty.
+    pub fn is_quiet(&self) -> bool {
+        self.mail.load(Ordering::SeqCst) == self.seen
     }
 
     /// Adds the end of the next one who sends.
@@ -199,14 +260,21 @@ impl Ins {
         Ok(())
     }
 
-    /// Takes the oldest packet of one of the rings that has one; none where nothing is known to be in any ring.
-    /// No packet is given out twice, and none is dropped: one ring gave just this packet, and no other ring gave
-    /// any.
+    /// Takes the oldest packet of one of the rings that has one; none where no mail came since all were empty. No packet is
+    /// given out twice, and none is dropped: one ring gave just this packet, and no other ring gave any.
     pub fn pop(&mut self) -> Option<Letter>
         ensures { MatchOption result (AreStill self.old self.new) (λ letter. TookOne self.old letter self.new) }
     {
+        let count = self.mail.load(Ordering::SeqCst);
+        let quiet = count == self.seen;
+        if quiet {
+            return None;
+        }
         match pop_round(&mut self.ends, self.first) {
-            None => None,
+            None => {
+                self.seen = count;
+                None
+            }
             Some((place, letter)) => {
                 self.first = place.saturating_add(1);
                 Some(letter)

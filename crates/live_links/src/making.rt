@@ -14,10 +14,11 @@ const ROOM: usize = 64;
 fn link_row(alloc: Global, ins: &mut Vec<Ins>) -> Mem<Outs>
     ensures { IfOk result (λ row. IsRowMade ins.old.items row ins.new.items) }
 {
-    let mut row = Outs::of(Vec::new(alloc));
+    let mut row = Outs::none(alloc);
     for to in 0..ins.len() {
         let (out, end) = RingBuffer::<Letter>::new(alloc, ROOM)?;
-        row.add(out)?;
+        let mail = ins[to].mail()?;
+        row.add(out, mail)?;
         ins[to].add(end)?;
     }
     Ok(row)
@@ -29,7 +30,8 @@ fn no_ins(alloc: Global, count: usize) -> Mem<Vec<Ins>>
 {
     let mut ins = Vec::new(alloc);
     for _ in 0..count {
-        ins.push(Ins::of(Vec::new(alloc)))?;
+        let none = Ins::none(alloc)?;
+        ins.push(none)?;
     }
     Ok(ins)
 }

@@ -1,11 +1,11 @@
-use Rattle.std.proofs.Common.{◌≡◌, ◌∙◌, refl, length, Some, arith}
+use Rattle.std.proofs.Common.{◌≡◌, refl, length, Some, arith}
 use Rattle.std.specs.Prelude.{slice_get}
 use Rattle.std.proofs.lemmas.Option.{slice_get_read}
 use Rattle.live_links.proofs.RingRows.{row_made, row_more, row_none}
 use Rattle.live_links.proofs.making.link_row.Goals as goal
 
 pub loop-to-init : goal.loop-to-init
-loop-to-init c = row_none c.args.ins.now.items c.of-row.result (c.of-row.ensures ∙ c.new.ensures.items)
+loop-to-init c = row_none c.args.ins.now.items c.none-row.result c.none-row.ensures
 
 pub loop-to-preserved : goal.loop-to-preserved
 loop-to-preserved c =
