@@ -82,6 +82,7 @@ module _ {N : Type 0} (step : N → Do → NodeStep N) (first : NodeId → Setup
         one_run = l.leads;
         registry = l.going.stands.node;
         begun = grind (arith, l.begins.count);
+        counted = l.going.begun;
         within = l.begins.within;
         handed = λ packet at. l.going.sent packet (one.handed packet at);
       }

@@ -39,6 +39,7 @@ pub record IsOneRun {N : Type 0} (step : N → Do → NodeStep N) (first : NodeI
   pub registry : slice_get end.world.nodes (cleaner_place end.world.cluster + 1) ≡ Some (of (one_registry script end.boards).state.node)
   -- and began its items in their order, each once: so many of them as there were Begins chosen, each of the next item
   pub begun : begins_of Registry (boards_after script events).outs ≡ end.boards.begun
+  pub counted : (one_registry script end.boards).state.begun ≡ end.boards.begun
   pub within : end.boards.begun ≤ length (items_of script.lines Registry)
   -- and sent each packet that a board's registry sent
   pub handed : (packet : Packet) → WasSent end.boards.handed packet → WasSent end.world.sent packet

@@ -1,5 +1,5 @@
 -- The play of a script is what is claimed of it.
-use Rattle.std.proofs.Common.{◌≡◌, refl, ap, subst, List, arith}
+use Rattle.std.proofs.Common.{◌≡◌, ◌∙◌, refl, sym, ap, subst, List, arith}
 use Rattle.board_law.specs.OneRun.{HasRegistry, IsOneRun, RunsWithBoardsAreOneRun}
 use Rattle.node_base.specs.Setups.{IsSetup}
 use Rattle.script_text.specs.declared.script.Script.{Script}
@@ -32,10 +32,13 @@ module _ {N : Type 0} (law : RunsWithBoardsAreOneRun N) (step : N → Do → Nod
         setup = setup;
         end = together p;
         board_run = h.leads;
+        boards = one.boards;
+        one_list = one.one_list;
         world = refl;
         stands = h.events;
         one_run = subst (λ events. IsRun step first script events p.world) h.events one.one_run;
         handed = one.handed;
         begins = record { far = λ node other. far_begins_all node other p.events script.lines order; registry = omega (arith, begun, counted, within) };
         in_order = order;
+        listed = ap (λ events. begins_of Registry events) (sym h.events) ∙ (one.begun ∙ sym one.counted);
       }

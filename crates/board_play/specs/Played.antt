@@ -6,8 +6,10 @@ use Rattle.wire_msg.specs.declared.packet.Do.{Do}
 use Rattle.wire_msg.specs.declared.packet.Packet.{Packet}
 use Rattle.wire_msg.specs.NodeStep.{NodeStep}
 use Rattle.xfs_base.specs.declared.node.NodeId.{NodeId}
+use Rattle.xfs_base.specs.declared.node.NodeId.TheVariants.{Registry}
 use Rattle.xfs_base.specs.declared.setup.Setup.{Setup}
-use Rattle.world_base.specs.Runs.{IsRun, WasSent}
+use Rattle.world_base.specs.Runs.{IsRun, WasSent, begins_of}
+use Rattle.board_law.specs.OneList.{HaveOneList, one_registry}
 use Rattle.board_world.specs.BoardRuns.{IsBoardRun, Together}
 use Rattle.board_world.specs.NextBoards.{boards_after}
 use Rattle.board_play.specs.Begun.{BeginsAllFar, InOrderFar}
@@ -18,6 +20,9 @@ pub record IsBoardPlayed {N : Type 0} (step : N → Do → NodeStep N) (first : 
   -- what happened to nodes and boards is a run of the script with boards
   pub end : Together N
   pub board_run : IsBoardRun step first e.estate.script e.events end
+  -- the boards are those that it makes, and have one list of chosen commands
+  pub boards : end.boards ≡ (boards_after e.estate.script e.events).state
+  pub one_list : HaveOneList e.estate.script end.boards
   -- the events of the estate are those that it stands for, and its world is the one that they make
   pub world : end.world ≡ e.estate.world
   pub stands : (boards_after e.estate.script e.events).outs ≡ e.estate.events
@@ -27,3 +32,5 @@ pub record IsBoardPlayed {N : Type 0} (step : N → Do → NodeStep N) (first : 
   -- each node but the registry begins its items, in the order of their lines, each once and none left out, and the registry its first so many
   pub begins : BeginsAllFar e.estate.script.lines e.estate.events
   pub in_order : InOrderFar e.estate.script.lines e.estate.events
+  -- so many as there are Begins in the list, each of the item that is the next then
+  pub listed : begins_of Registry e.estate.events ≡ (one_registry e.estate.script end.boards).state.begun

@@ -8,4 +8,6 @@ pub mod Places
 pub mod Running
 pub mod Seating
 pub mod Starting
+pub mod Stopping
 pub mod Turning
+mod WithoutStops

@@ -1,3 +1,5 @@
 pub mod Courses
 pub mod Disks
 pub mod Standing
+pub mod Stopped
+pub mod Unstopped

@@ -11,8 +11,11 @@ pub mod playing;
 pub mod replay;
 pub mod settling;
 pub mod stop;
+pub mod stopped;
+pub mod unstopped;
 
 pub use course::Course;
 pub use disk_player::DiskPlayer;
 pub use playing::{DiskEstate, disk_play};
 pub use stop::Stop;
+pub use stopped::stopped_servers_take_no_event;
