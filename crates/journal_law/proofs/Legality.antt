@@ -11,7 +11,8 @@ use Rattle.version_model.specs.declared.verdict.Verdict.{Verdict}
 use Rattle.version_model.specs.declared.verdict.Verdict.TheVariants.{Legal, Illegal}
 use Rattle.world_base.specs.declared.estate.Estate.{Estate}
 use Rattle.journal_law.specs.Journals.{JudgesByLine}
-use Rattle.journal_law.specs.Runs.{told, SaysOfAll, IsSaidOfTheRun}
+use Rattle.headline.specs.Audits.{told}
+use Rattle.journal_law.specs.Runs.{SaysOfAll, IsSaidOfTheRun}
 use Rattle.journal_law.proofs.Runs.{run_judged}
 
 answer_legal : (a : Act) (h : History) → is_answer a ≡ true → IsLegalIn a h
@@ -50,7 +51,7 @@ one_to : (a : Act) (deeds : List Act) (h : History) (t : Bool) → is_answer a �
 one_to a deeds h true e f l = f h (subst (λ k. AreLegalFrom k deeds) (answer_after a h e) l.1)
 one_to a deeds h false e f l = (l.0, f (after_act a h) l.1)
 
-legal_told : (deeds : List Act) (h : History) → AreLegalFrom h deeds → AreLegalFrom h (told deeds)
+pub legal_told : (deeds : List Act) (h : History) → AreLegalFrom h deeds → AreLegalFrom h (told deeds)
 legal_told [] h l = tt
 legal_told (a ∷ deeds) h l = one_to a deeds h (is_answer a) refl (λ k m. legal_told deeds k m) l
 
@@ -61,7 +62,7 @@ same_act : (a b : Act) → Some a ≡ Some b → a ≡ b
 same_act a b e = cc
 
 -- where all are legal the one at a place is
-legal_at : (deeds : List Act) (h : History) (place : ℕ) (act : Act) → AreLegalFrom h deeds → slice_get deeds place ≡ Some act
+pub legal_at : (deeds : List Act) (h : History) (place : ℕ) (act : Act) → AreLegalFrom h deeds → slice_get deeds place ≡ Some act
     → IsLegalIn act (history_after (take place deeds) h)
 legal_at [] h place act l e = absurd (none_some act e)
 legal_at (a ∷ deeds) h zero act l e = subst (λ x. IsLegalIn x h) (same_act a act e) l.0

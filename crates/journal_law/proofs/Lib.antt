@@ -1,5 +1,6 @@
 mod Acts
 mod Bytes
+pub mod Fronts
 mod Journals
 mod Legality
 mod Lines

@@ -27,7 +27,8 @@ use Rattle.xfs_base.specs.Limits.{max_bytes}
 use Rattle.xfs_base.specs.Logs.{writer_of}
 use Rattle.journal_law.specs.Told.{IsTold}
 use Rattle.journal_law.specs.Journals.{Entry, Tells, Other, IsEntry, entry_text, journal_text, acts_in, numbers_from, IsJournal, JudgesByLine}
-use Rattle.journal_law.specs.Runs.{IsOneLine, IsPrinted, told, IsPrintedRun, IsReadAsPrinted, IsJudgedByItsActs}
+use Rattle.headline.specs.Audits.{told}
+use Rattle.journal_law.specs.Runs.{IsOneLine, IsPrinted, IsAnsweredInALine, IsPrintedRun, IsReadAsPrinted, IsJudgedByItsActs}
 use Rattle.journal_law.proofs.Bytes.{Begins, or_true, digit_test, decimal_begins, decimal_plain, plain_lacks, begins_join}
 use Rattle.journal_law.proofs.Lines.{join_lacks, value_lacks, block_plain, node_plain}
 use Rattle.journal_law.proofs.Journals.{journals_read, verdicts}
@@ -95,7 +96,7 @@ fell_lacks : (fs : List Fallen) → Lacks 10 (fell_text fs)
 fell_lacks [] = tt
 fell_lacks (f ∷ fs) = join_lacks (fall_text f) (fell_text fs) (fallen_lacks f) (fell_lacks fs)
 
-act_answer : (a : Act) (fallen : List Fallen) → IsPrinted a → Lacks 10 (answered_text (answer_by (Some a)) fallen)
+act_answer : (a : Act) (fallen : List Fallen) → IsAnsweredInALine a → Lacks 10 (answered_text (answer_by (Some a)) fallen)
 act_answer (acts.Answered node item answer) fallen h = join_lacks (answer_text answer) (fell_text fallen) (answer_lacks answer h) (fell_lacks fallen)
 act_answer (acts.Wrote client block value) fallen h = tt
 act_answer (acts.Read client block ver value) fallen h = tt
@@ -106,13 +107,13 @@ act_answer (acts.Lost node seg) fallen h = tt
 act_answer (acts.Filed seg) fallen h = tt
 act_answer (acts.Dropped seg) fallen h = tt
 
-place_answer : (deeds : List Act) (place : ℕ) (fallen : List Fallen) → AllByRecursion IsPrinted deeds
+place_answer : (deeds : List Act) (place : ℕ) (fallen : List Fallen) → AllByRecursion IsAnsweredInALine deeds
     → Lacks 10 (answered_text (answer_by (slice_get deeds place)) fallen)
 place_answer [] place fallen h = tt
 place_answer (a ∷ deeds) zero fallen h = act_answer a fallen h.0
 place_answer (a ∷ deeds) (suc place) fallen h = place_answer deeds place fallen h.1
 
-reply_lacks : (deeds : List Act) (r : Option Reply) → AllByRecursion IsPrinted deeds → Lacks 10 (reply_text deeds r)
+reply_lacks : (deeds : List Act) (r : Option Reply) → AllByRecursion IsAnsweredInALine deeds → Lacks 10 (reply_text deeds r)
 reply_lacks deeds None h = lacks_test 10 (codes "open") refl
 reply_lacks deeds (Some reply) h = place_answer deeds reply.place reply.fallen h
 
@@ -139,7 +140,7 @@ module _ (deeds : List Act) (table : Table) where
   item_entries number line None = []
   item_entries number line (Some node) = Other (reply_line line.number (item_reply node (number node))) ∷ []
 
-  abbrev lines_entries : List Line → List Line → List Entry
+  abbrev pub lines_entries : List Line → List Line → List Entry
   lines_entries before [] = []
   lines_entries before (line ∷ ls) = item_entries (number_of before) line (actor_of line.work) ++ lines_entries (before ++ line ∷ []) ls
 
@@ -149,16 +150,16 @@ module _ (deeds : List Act) (table : Table) where
       append-nil (line_of (reply_line line.number (item_reply node (number node))))
       ∙ append_assoc (decimal line.number) (32 ∷ item_reply node (number node)) (10 ∷ [])
 
-  item_good : AllByRecursion IsPrinted deeds → (number : NodeId → ℕ) (line : Line) (o : Option NodeId) → AllByRecursion IsEntry (item_entries number line o)
+  item_good : AllByRecursion IsAnsweredInALine deeds → (number : NodeId → ℕ) (line : Line) (o : Option NodeId) → AllByRecursion IsEntry (item_entries number line o)
   item_good h number line None = tt
   item_good h number line (Some node) =
       (reply_entry line.number (item_reply node (number node)) (reply_lacks deeds (reply_of table (record { node = node; number = number node })) h), tt)
 
-journal_join : (xs ys : List Entry) → journal_text (xs ++ ys) ≡ journal_text xs ++ journal_text ys
+pub journal_join : (xs ys : List Entry) → journal_text (xs ++ ys) ≡ journal_text xs ++ journal_text ys
 journal_join [] ys = refl
 journal_join (x ∷ xs) ys = ap (λ t. entry_text x ++ t) (journal_join xs ys) ∙ sym (append_assoc (entry_text x) (journal_text xs) (journal_text ys))
 
-good_join : (xs ys : List Entry) → AllByRecursion IsEntry xs → AllByRecursion IsEntry ys → AllByRecursion IsEntry (xs ++ ys)
+pub good_join : (xs ys : List Entry) → AllByRecursion IsEntry xs → AllByRecursion IsEntry ys → AllByRecursion IsEntry (xs ++ ys)
 good_join [] ys a b = b
 good_join (x ∷ xs) ys a b = (a.0, good_join xs ys a.1 b)
 
@@ -171,7 +172,7 @@ others_join : (xs ys : List Entry) → AllByRecursion IsOther xs → AllByRecurs
 others_join [] ys a b = b
 others_join (x ∷ xs) ys a b = (a.0, others_join xs ys a.1 b)
 
-acts_behind : (xs ys : List Entry) → AllByRecursion IsOther xs → acts_in (xs ++ ys) ≡ acts_in ys
+pub acts_behind : (xs ys : List Entry) → AllByRecursion IsOther xs → acts_in (xs ++ ys) ≡ acts_in ys
 acts_behind [] ys a = refl
 acts_behind (Tells act ∷ xs) ys a = absurd a.0
 acts_behind (Other line ∷ xs) ys a = acts_behind xs ys a.1
@@ -181,20 +182,20 @@ module _ (deeds : List Act) (table : Table) where
   item_others number line None = tt
   item_others number line (Some node) = (tt, tt)
 
-  lines_are : (before ls : List Line) → journal_text (lines_entries deeds table before ls) ≡ lines_text deeds table before ls
+  pub lines_are : (before ls : List Line) → journal_text (lines_entries deeds table before ls) ≡ lines_text deeds table before ls
   lines_are before [] = refl
   lines_are before (line ∷ ls) =
       journal_join (item_entries deeds table (number_of before) line (actor_of line.work)) (lines_entries deeds table (before ++ line ∷ []) ls)
       ∙ ap (λ t. t ++ journal_text (lines_entries deeds table (before ++ line ∷ []) ls)) (item_is deeds table (number_of before) line (actor_of line.work))
       ∙ ap (λ t. item_text deeds table (number_of before) line (actor_of line.work) ++ t) (lines_are (before ++ line ∷ []) ls)
 
-  lines_good : AllByRecursion IsPrinted deeds → (before ls : List Line) → AllByRecursion IsEntry (lines_entries deeds table before ls)
+  pub lines_good : AllByRecursion IsAnsweredInALine deeds → (before ls : List Line) → AllByRecursion IsEntry (lines_entries deeds table before ls)
   lines_good h before [] = tt
   lines_good h before (line ∷ ls) =
       good_join (item_entries deeds table (number_of before) line (actor_of line.work)) (lines_entries deeds table (before ++ line ∷ []) ls)
       (item_good deeds table h (number_of before) line (actor_of line.work)) (lines_good h (before ++ line ∷ []) ls)
 
-  lines_others : (before ls : List Line) → AllByRecursion IsOther (lines_entries deeds table before ls)
+  pub lines_others : (before ls : List Line) → AllByRecursion IsOther (lines_entries deeds table before ls)
   lines_others before [] = tt
   lines_others before (line ∷ ls) =
       others_join (item_entries deeds table (number_of before) line (actor_of line.work)) (lines_entries deeds table (before ++ line ∷ []) ls)
@@ -202,7 +203,22 @@ module _ (deeds : List Act) (table : Table) where
 
 -- ---- the acts
 
-abbrev tells_all : List Act → List Entry
+answer_in_line : (a : Act) → IsPrinted a → IsAnsweredInALine a
+answer_in_line (acts.Answered node item answer) h = h
+answer_in_line (acts.Wrote client block value) h = tt
+answer_in_line (acts.Read client block ver value) h = tt
+answer_in_line (acts.Synced client) h = tt
+answer_in_line (acts.Fell client flight falls) h = tt
+answer_in_line (acts.Back client chain) h = tt
+answer_in_line (acts.Lost node seg) h = tt
+answer_in_line (acts.Filed seg) h = tt
+answer_in_line (acts.Dropped seg) h = tt
+
+answers_in_lines : (deeds : List Act) → AllByRecursion IsPrinted deeds → AllByRecursion IsAnsweredInALine deeds
+answers_in_lines [] h = tt
+answers_in_lines (a ∷ deeds) h = (answer_in_line a h.0, answers_in_lines deeds h.1)
+
+abbrev pub tells_all : List Act → List Entry
 tells_all deeds = map (λ a. Tells a) deeds
 
 answer_has_none : (a : Act) → is_answer a ≡ true → act_text a ≡ []
@@ -232,7 +248,7 @@ one_more : (a : Act) (deeds : List Act) (t : Bool) → is_answer a ≡ t → jou
 one_more a deeds true e f = f ∙ ap (λ x. x ++ acts_text deeds) (sym (answer_has_none a e))
 one_more a deeds false e f = ap (λ x. act_text a ++ x) f
 
-told_are : (deeds : List Act) → journal_text (tells_all (told deeds)) ≡ acts_text deeds
+pub told_are : (deeds : List Act) → journal_text (tells_all (told deeds)) ≡ acts_text deeds
 told_are [] = refl
 told_are (a ∷ deeds) = one_more a deeds (is_answer a) refl (told_are deeds)
 
@@ -241,7 +257,7 @@ one_good : (a : Act) (deeds : List Act) (t : Bool) → is_answer a ≡ t → IsP
 one_good a deeds true e h g = g
 one_good a deeds false e h g = (printed_told a e h, g)
 
-told_good : (deeds : List Act) → AllByRecursion IsPrinted deeds → AllByRecursion IsEntry (tells_all (told deeds))
+pub told_good : (deeds : List Act) → AllByRecursion IsPrinted deeds → AllByRecursion IsEntry (tells_all (told deeds))
 told_good [] h = tt
 told_good (a ∷ deeds) h = one_good a deeds (is_answer a) refl h.0 (told_good deeds h.1)
 
@@ -269,16 +285,16 @@ end_good items unanswered = (
 -- ---- the whole text
 
 module _ {N : Type 0} (e : Estate N) where
-  abbrev head_entries : List Entry
+  abbrev pub head_entries : List Entry
   head_entries = lines_entries e.world.acts (replies_of e.world.acts) [] e.script.lines
 
   abbrev last_entry : Entry
   last_entry = Other (end_line (items_in e) (open_items e))
 
-  abbrev run_entries : List Entry
+  abbrev pub run_entries : List Entry
   run_entries = head_entries ++ (tells_all (told e.world.acts) ++ last_entry ∷ [])
 
-  run_text : e.script.setup.acts ≡ true → journal_text run_entries ≡ text_of e
+  pub run_text : e.script.setup.acts ≡ true → journal_text run_entries ≡ text_of e
   unfolding text_of
   run_text a =
       journal_join head_entries (tells_all (told e.world.acts) ++ last_entry ∷ [])
@@ -289,15 +305,15 @@ module _ {N : Type 0} (e : Estate N) where
       ∙ ap (λ x. acts_text e.world.acts ++ x) (end_is (items_in e) (open_items e))
       ∙ ap (λ t. asked_text t e.world.acts ++ end_text (items_in e) (open_items e)) (sym a))
 
-  run_acts : acts_in run_entries ≡ told e.world.acts
+  pub run_acts : acts_in run_entries ≡ told e.world.acts
   run_acts =
       acts_behind head_entries (tells_all (told e.world.acts) ++ last_entry ∷ []) (lines_others e.world.acts (replies_of e.world.acts) [] e.script.lines)
       ∙ acts_before (told e.world.acts) (end_line (items_in e) (open_items e))
 
-  run_journal : IsPrintedRun e → IsJournal run_entries
+  pub run_journal : IsPrintedRun e → IsJournal run_entries
   run_journal h = record {
     each = good_join head_entries (tells_all (told e.world.acts) ++ last_entry ∷ [])
-        (lines_good e.world.acts (replies_of e.world.acts) h.acts [] e.script.lines)
+        (lines_good e.world.acts (replies_of e.world.acts) (answers_in_lines e.world.acts h.acts) [] e.script.lines)
         (good_join (tells_all (told e.world.acts)) (last_entry ∷ []) (told_good e.world.acts h.acts) (end_good (items_in e) (open_items e), tt));
     short = subst (λ t. length t ≤ max_bytes) (sym (run_text h.asked)) h.short;
   }

@@ -1,11 +1,12 @@
 -- The text of a run is a journal of the run's acts.
-use Rattle.std.specs.Prelude.{◌≡◌, ℕ, ◌≤◌, true, not, List, length, filter, Ok}
+use Rattle.std.specs.Prelude.{◌≡◌, ℕ, ◌≤◌, true, List, ◌++◌, length, Ok}
 use Rattle.std.specs.List.{AllByRecursion}
 use Rattle.xfs_base.specs.Limits.{max_bytes}
+use Rattle.act_text.specs.Acts.{acts_text}
 use Rattle.audit.specs.Journal.{read_journal, IsAudited}
 use Rattle.script_text.specs.Words.{Lacks}
-use Rattle.transcript.specs.Replies.{is_answer}
-use Rattle.transcript.specs.Text.{text_of}
+use Rattle.headline.specs.Audits.{told}
+use Rattle.transcript.specs.Text.{items_text, text_of}
 use Rattle.version_model.specs.Legal.{AreLegal}
 use Rattle.version_model.specs.declared.act.Act.{Act}
 use Rattle.version_model.specs.declared.act.Act.TheVariants as acts
@@ -27,9 +28,10 @@ abbrev pub IsPrinted : Act → Type 0
 IsPrinted (acts.Answered node item answer) = IsOneLine answer
 IsPrinted act = IsTold act
 
--- the acts that have a line
-abbrev pub told : List Act → List Act
-told acts = filter (λ a. not (is_answer a)) acts
+-- an answer of one line, or another act
+abbrev pub IsAnsweredInALine : Act → Type 0
+IsAnsweredInALine (acts.Answered node item answer) = IsOneLine answer
+IsAnsweredInALine act = Unit {0}
 
 -- whether all acts of a run are legal, answers among them, is as the verdict says
 abbrev pub SaysOfAll : List Act → Verdict → Type 0
@@ -55,3 +57,26 @@ module _ {N : Type 0} where
   -- What is said of it is so of all acts of the run.
   abbrev pub IsSaidOfTheRun : Estate N → Type 0
   IsSaidOfTheRun e = IsPrintedRun e → (verdict : Verdict) → IsAudited (text_of e) verdict → SaysOfAll e.world.acts verdict
+
+  -- What is said of it, where all acts of the run are legal, is just that.
+  abbrev pub IsJudgedLegal : Estate N → Type 0
+  IsJudgedLegal e = IsPrintedRun e → AreLegal e.world.acts → IsAudited (text_of e) (Legal (length (told e.world.acts)))
+
+  -- the front of the text of a run that ends with these acts
+  abbrev pub front_of : Estate N → List Act → List ℕ
+  front_of e deeds = items_text e ++ acts_text deeds
+
+  -- each answer of the run is of one line, each of these acts can be told, and the front is not too long
+  pub record IsPrintedFront (e : Estate N) (deeds : List Act) : Type 0 where
+    pub answers : AllByRecursion IsAnsweredInALine e.world.acts
+    pub acts : AllByRecursion IsPrinted deeds
+    pub short : length (front_of e deeds) ≤ max_bytes
+
+  -- What is said of the front that ends with acts that are legal is just that.
+  abbrev pub AreFrontsJudgedLegal : Estate N → Type 0
+  AreFrontsJudgedLegal e = (deeds : List Act) → IsPrintedFront e deeds → AreLegal deeds → IsAudited (front_of e deeds) (Legal (length (told deeds)))
+
+-- Of bytes that are said to be legal nothing else is said.
+abbrev pub LegalIsTheOneVerdict : Type 0
+LegalIsTheOneVerdict =
+    (bytes : List ℕ) (count : ℕ) → IsAudited bytes (Legal count) → (verdict : Verdict) → IsAudited bytes verdict → verdict ≡ Legal count

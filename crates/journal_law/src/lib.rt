@@ -3,7 +3,7 @@
 #![tactic(auto)]
 
 ghost use Rattle.journal_law.specs.Journals.{JournalsAreReadAsPrinted, VerdictsAreOnTheActs};
-ghost use Rattle.journal_law.specs.Runs.{IsReadAsPrinted, IsJudgedByItsActs, IsSaidOfTheRun};
+ghost use Rattle.journal_law.specs.Runs.{AreFrontsJudgedLegal, IsJudgedByItsActs, IsJudgedLegal, IsReadAsPrinted, IsSaidOfTheRun, LegalIsTheOneVerdict};
 ghost use Rattle.journal_law.specs.Told.{ActsAreReadAsPrinted, ActsHaveOneLine, NoOtherActIsRead};
 
 use world_base::Estate;
@@ -37,4 +37,15 @@ pub fn runs_are_read_as_printed<N>(estate: &Estate<N>)
     ensures read { IsReadAsPrinted estate.now }
     ensures judged { IsJudgedByItsActs estate.now }
     ensures said { IsSaidOfTheRun estate.now }
+{}
+
+/// The text of a run whose acts are legal.
+///
+/// - `whole`: it is said to be legal, where it is printed as above.
+/// - `fronts`: so is the front of it that ends with acts that are legal, where each can be told and no answer of the run has a line feed.
+/// - `only`: of bytes of which that is said nothing else is.
+pub fn legal_runs_are_said_to_be<N>(estate: &Estate<N>)
+    ensures whole { IsJudgedLegal estate.now }
+    ensures fronts { AreFrontsJudgedLegal estate.now }
+    ensures only { LegalIsTheOneVerdict }
 {}
