@@ -11,7 +11,7 @@ use Rattle.xfs_base.proofs.Booleans.{by_test}
 use Rattle.run_chart.specs.declared.mark.Mark.{Mark}
 use Rattle.run_chart.specs.declared.mark.Mark.TheVariants as mark
 use Rattle.run_chart.specs.declared.row.Row.{Row}
-use Rattle.run_chart.specs.Marks.{ArrowsOnce, acts_from, arrow_at, comes, is_answer, is_arrow, lost_from, marks_at, marks_of, out_from}
+use Rattle.run_chart.specs.Marks.{ArrowsOnce, acts_from, arrow_at, comes, drawn_at, is_answer, is_arrow, labels_of, lost_from, marks_of, out_from}
 use Rattle.run_chart.specs.Stretches.{within}
 
 abbrev arrows : List Mark → List Mark
@@ -44,6 +44,10 @@ none_done row nth (act ∷ acts) =
     by_test (λ (marks : List Mark). arrows (marks ++ acts_from row (nth + 1) acts) ≡ []) (is_answer act) [] (mark.Done row nth ∷ [])
     (λ _. none_done row (nth + 1) acts) (λ _. none_done row (nth + 1) acts)
 
+none_written : (rows : List Row) → arrows (labels_of rows) ≡ []
+none_written [] = refl
+none_written (row ∷ rows) = none_written rows
+
 -- ---- an arrow is one
 
 all_arrow : (rows : List Row) (row : ℕ) (event : Option Event) → arrows (arrow_at rows row event) ≡ arrow_at rows row event
@@ -56,31 +60,33 @@ module _ (e : Estate AnyNode) (rows : List Row) where
   abbrev its : Row → List Mark
   its row = arrow_at rows row.number (slice_get e.events row.event)
 
-  at_row : (row : Row) → arrows (marks_at e rows row) ≡ its row
-  unfolding marks_at
+  at_row : (row : Row) → arrows (drawn_at e rows row) ≡ its row
+  unfolding drawn_at
   at_row row =
       let out = out_from row.number 0 row.serving in
       let lost = lost_from e.events row.number 0 (within row.sent e.world.sent) in
       let done = acts_from row.number 0 (within row.acts e.world.acts) in
-      let label : List Mark = mark.Label row.number ∷ [] in
-      arrows_append out (its row ++ (lost ++ (done ++ label)))
-      ∙ ap (λ xs. xs ++ arrows (its row ++ (lost ++ (done ++ label)))) (none_out row.number 0 row.serving)
-      ∙ arrows_append (its row) (lost ++ (done ++ label))
-      ∙ ap (λ xs. xs ++ arrows (lost ++ (done ++ label))) (all_arrow rows row.number (slice_get e.events row.event))
+      arrows_append out (its row ++ (lost ++ done))
+      ∙ ap (λ xs. xs ++ arrows (its row ++ (lost ++ done))) (none_out row.number 0 row.serving)
+      ∙ arrows_append (its row) (lost ++ done)
+      ∙ ap (λ xs. xs ++ arrows (lost ++ done)) (all_arrow rows row.number (slice_get e.events row.event))
       ∙ ap (λ xs. its row ++ xs)
-      (arrows_append lost (done ++ label)
-      ∙ ap (λ xs. xs ++ arrows (done ++ label)) (none_lost e.events row.number 0 (within row.sent e.world.sent))
-      ∙ arrows_append done label
-      ∙ ap (λ xs. xs ++ []) (none_done row.number 0 (within row.acts e.world.acts)))
+      (arrows_append lost done
+      ∙ ap (λ xs. xs ++ arrows done) (none_lost e.events row.number 0 (within row.sent e.world.sent))
+      ∙ none_done row.number 0 (within row.acts e.world.acts))
       ∙ append-nil (its row)
 
-  at_rows : (some : List Row) → arrows (flat_map (marks_at e rows) some) ≡ flat_map its some
+  at_rows : (some : List Row) → arrows (flat_map (drawn_at e rows) some) ≡ flat_map its some
   at_rows [] = refl
   at_rows (row ∷ some) =
-      arrows_append (marks_at e rows row) (flat_map (marks_at e rows) some)
-      ∙ ap (λ xs. xs ++ arrows (flat_map (marks_at e rows) some)) (at_row row)
+      arrows_append (drawn_at e rows row) (flat_map (drawn_at e rows) some)
+      ∙ ap (λ xs. xs ++ arrows (flat_map (drawn_at e rows) some)) (at_row row)
       ∙ ap (λ xs. its row ++ xs) (at_rows some)
 
   pub arrows_once : ArrowsOnce e rows
   unfolding marks_of
-  arrows_once = at_rows rows
+  arrows_once =
+      arrows_append (flat_map (drawn_at e rows) rows) (labels_of rows)
+      ∙ ap (λ xs. xs ++ arrows (labels_of rows)) (at_rows rows)
+      ∙ ap (λ xs. flat_map its rows ++ xs) (none_written rows)
+      ∙ append-nil (flat_map its rows)

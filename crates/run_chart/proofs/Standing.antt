@@ -12,7 +12,7 @@ use Rattle.xfs_base.proofs.Booleans.{by_test}
 use Rattle.run_chart.specs.declared.mark.Mark.{Mark}
 use Rattle.run_chart.specs.declared.mark.Mark.TheVariants as mark
 use Rattle.run_chart.specs.declared.row.Row.{Row}
-use Rattle.run_chart.specs.Marks.{MarksStandAtRows, StandAtRows, acts_from, arrow_at, comes, is_answer, lost_from, marks_at, marks_of, out_from, row_of}
+use Rattle.run_chart.specs.Marks.{MarksStandAtRows, StandAtRows, acts_from, arrow_at, comes, drawn_at, is_answer, labels_of, lost_from, marks_of, out_from, row_of}
 use Rattle.run_chart.specs.Rows.{NumberedFrom}
 use Rattle.run_chart.specs.Stretches.{within}
 
@@ -51,25 +51,32 @@ module _ (e : Estate AnyNode) (rows : List Row) where
   abbrev total : ℕ
   total = length rows
 
-  at_row : (row : Row) → row.number < total → All total (marks_at e rows row)
-  unfolding marks_at
+  at_row : (row : Row) → row.number < total → All total (drawn_at e rows row)
+  unfolding drawn_at
   at_row row low =
       let arrow = arrow_at rows row.number (slice_get e.events row.event) in
       let lost = lost_from e.events row.number 0 (within row.sent e.world.sent) in
       let done = acts_from row.number 0 (within row.acts e.world.acts) in
-      let label : List Mark = mark.Label row.number ∷ [] in
-      all_append (Stands total) (out_from row.number 0 row.serving) (arrow ++ (lost ++ (done ++ label))) (outs total row.number low 0 row.serving)
-      (all_append (Stands total) arrow (lost ++ (done ++ label)) (arrows total row.number low rows (slice_get e.events row.event))
-      (all_append (Stands total) lost (done ++ label) (losts total row.number low e.events 0 (within row.sent e.world.sent))
-      (all_append (Stands total) done label (dones total row.number low 0 (within row.acts e.world.acts)) (low, tt))))
+      all_append (Stands total) (out_from row.number 0 row.serving) (arrow ++ (lost ++ done)) (outs total row.number low 0 row.serving)
+      (all_append (Stands total) arrow (lost ++ done) (arrows total row.number low rows (slice_get e.events row.event))
+      (all_append (Stands total) lost done (losts total row.number low e.events 0 (within row.sent e.world.sent))
+      (dones total row.number low 0 (within row.acts e.world.acts))))
 
-  at_rows : (n : ℕ) (some : List Row) → NumberedFrom n some → n + length some ≤ total → All total (flat_map (marks_at e rows) some)
+  at_rows : (n : ℕ) (some : List Row) → NumberedFrom n some → n + length some ≤ total → All total (flat_map (drawn_at e rows) some)
   at_rows n [] t le = tt
   at_rows n (row ∷ some) t le =
       let here : row.number ≡ n = t.0 in
       let low : row.number < total = omega arith in
-      all_append (Stands total) (marks_at e rows row) (flat_map (marks_at e rows) some) (at_row row low) (at_rows (n + 1) some t.1 (omega arith))
+      all_append (Stands total) (drawn_at e rows row) (flat_map (drawn_at e rows) some) (at_row row low) (at_rows (n + 1) some t.1 (omega arith))
+
+  labels : (n : ℕ) (some : List Row) → NumberedFrom n some → n + length some ≤ total → All total (labels_of some)
+  labels n [] t le = tt
+  labels n (row ∷ some) t le =
+      let here : row.number ≡ n = t.0 in
+      (omega arith, labels (n + 1) some t.1 (omega arith))
 
 pub stand_at_rows : MarksStandAtRows
 unfolding marks_of
-stand_at_rows e rows numbered = at_rows e rows 0 rows numbered (omega arith)
+stand_at_rows e rows numbered =
+    all_append (Stands (length rows)) (flat_map (drawn_at e rows) rows) (labels_of rows) (at_rows e rows 0 rows numbered (omega arith))
+    (labels e rows 0 rows numbered (omega arith))

@@ -244,7 +244,7 @@ legend =
 -- the colours
 unfoldable pub style : List ℕ
 style =
-    codes "<style>text{fill:#222;stroke:#fff;stroke-width:2px;paint-order:stroke}path{fill:none}.life{stroke:#ccc}.out,.out path{fill:#999}"
+    codes "<style>text{fill:#222;stroke:#fff;stroke-width:4px;stroke-linejoin:round;paint-order:stroke}path{fill:none}.life{stroke:#ccc}.out,.out path{fill:#999}"
     ++ (codes ".tokens{stroke:#c2452d}.logs{stroke:#2f6db3}.reading{stroke:#3b8a3e}.maps{stroke:#8a5fb0}"
     ++ (codes ".wrote{fill:#c2452d}.read{fill:#3b8a3e}.synced{fill:#c9a227}.filed{fill:#2f6db3}.dropped{fill:#999}.fell{fill:#222}.back{fill:#8a5fb0}.gone{fill:#e0218a}</style>"
     ++ (codes "<defs><marker id='tip' viewBox='0 0 6 6' refX='6' refY='3' markerWidth='6' markerHeight='6' orient='auto'>"

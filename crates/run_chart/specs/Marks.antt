@@ -68,17 +68,22 @@ abbrev pub arrow_at : List Row → ℕ → Option Event → List Mark
 arrow_at rows row None = []
 arrow_at rows row (Some event) = arrow rows row event
 
--- the marks of a row: which nodes don't serve, the packet that comes, those that never do, what is done, and what is written
-unfoldable pub marks_at : Estate AnyNode → List Row → Row → List Mark
-marks_at e rows row =
+-- what is drawn at a row: which nodes don't serve, the packet that comes, those that never do, and what is done
+unfoldable pub drawn_at : Estate AnyNode → List Row → Row → List Mark
+drawn_at e rows row =
     out_from row.number 0 row.serving
     ++ (arrow_at rows row.number (slice_get e.events row.event)
     ++ (lost_from e.events row.number 0 (within row.sent e.world.sent)
-    ++ (acts_from row.number 0 (within row.acts e.world.acts) ++ mark.Label row.number ∷ [])))
+    ++ acts_from row.number 0 (within row.acts e.world.acts)))
 
--- the marks of a picture
+-- what is written at each row
+abbrev pub labels_of : List Row → List Mark
+labels_of [] = []
+labels_of (row ∷ rows) = mark.Label row.number ∷ labels_of rows
+
+-- the marks of a picture: all that is drawn, and above it all that is written, so that no line strikes it through
 unfoldable pub marks_of : Estate AnyNode → List Row → List Mark
-marks_of e rows = flat_map (marks_at e rows) rows
+marks_of e rows = flat_map (drawn_at e rows) rows ++ labels_of rows
 
 -- ---- what is so of them
 

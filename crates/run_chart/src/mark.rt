@@ -1,7 +1,7 @@
 //! The marks of a picture: what is drawn, in the order in which it is.
 ghost use Rattle.std.specs.Prelude.{◌≡◌, ◌++◌, slice_get, IfOk, OnOk};
-ghost use Rattle.std.specs.List.{position};
-ghost use Rattle.run_chart.specs.Marks.{acts_from, arrow, arrow_at, comes, is_answer, is_coming, lost_from, marks_at, marks_of, out_from, sends};
+ghost use Rattle.std.specs.List.{flat_map, position};
+ghost use Rattle.run_chart.specs.Marks.{acts_from, arrow, arrow_at, comes, drawn_at, is_answer, is_coming, labels_of, lost_from, marks_of, out_from, sends};
 
 use crate::label::same_packet;
 use crate::row::Row;
@@ -44,7 +44,8 @@ pub enum Mark {
         /// The number of the act among those of the event, from 0.
         nth: usize,
     },
-    /// What is written at a row: the line that begins or the packet that comes, and the answers.
+    /// What is written at a row: the line that begins or the packet that comes, and the answers. It stands above all that
+    /// is drawn.
     Label {
         /// The row.
         row: usize,
@@ -165,10 +166,10 @@ fn add_acts(marks: &mut List<Mark>, number: usize, acts: &[Act]) -> Mem<()>
     Ok(())
 }
 
-/// Appends the marks of a row.
-#[tactic(auto, unfolding(crate::specs::Marks::marks_at))]
+/// Appends what is drawn at a row.
+#[tactic(auto, unfolding(crate::specs::Marks::drawn_at))]
 fn add_row(marks: &mut List<Mark>, estate: &Estate<AnyNode>, rows: &[Row], row: &Row) -> Mem<()>
-    ensures { OnOk result (marks.new ≡ marks.old ++ marks_at estate.now rows.now row.now) }
+    ensures { OnOk result (marks.new ≡ marks.old ++ drawn_at estate.now rows.now row.now) }
 {
     let events = estate.events.as_slice();
     let number = row.number;
@@ -180,18 +181,36 @@ fn add_row(marks: &mut List<Mark>, estate: &Estate<AnyNode>, rows: &[Row], row: 
         marks,
         number,
         within(estate.world.acts.as_slice(), row.acts),
-    )?;
-    marks.push(Mark::Label { row: number })
+    )
 }
 
-/// The marks of a picture.
+/// Appends what is drawn at all rows.
+fn add_rows(marks: &mut List<Mark>, estate: &Estate<AnyNode>, rows: &[Row]) -> Mem<()>
+    ensures { OnOk result (marks.new ≡ marks.old ++ flat_map (drawn_at estate.now rows.now) rows.now) }
+{
+    for row in rows {
+        add_row(marks, estate, rows, row)?;
+    }
+    Ok(())
+}
+
+/// Appends what is written at each row.
+fn add_labels(marks: &mut List<Mark>, rows: &[Row]) -> Mem<()>
+    ensures { OnOk result (marks.new ≡ marks.old ++ labels_of rows.now) }
+{
+    for row in rows {
+        marks.push(Mark::Label { row: row.number })?;
+    }
+    Ok(())
+}
+
+/// The marks of a picture: above all that is drawn what is written.
 #[tactic(auto, unfolding(crate::specs::Marks::marks_of))]
 pub fn marks_of(alloc: Global, estate: &Estate<AnyNode>, rows: &[Row]) -> Mem<List<Mark>>
     ensures { IfOk result (λ marks. marks ≡ marks_of estate.now rows.now) }
 {
     let mut marks = List::new(alloc);
-    for row in rows {
-        add_row(&mut marks, estate, rows, row)?;
-    }
+    add_rows(&mut marks, estate, rows)?;
+    add_labels(&mut marks, rows)?;
     Ok(marks)
 }

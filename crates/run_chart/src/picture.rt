@@ -253,7 +253,7 @@ fn add_style(out: &mut Text) -> Mem<()>
     ensures { OnOk result (out.new ≡ out.old ++ style) }
 {
     out.add(
-        b"<style>text{fill:#222;stroke:#fff;stroke-width:2px;paint-order:stroke}path{fill:none}.life{stroke:#ccc}.out,.out path{fill:#999}",
+        b"<style>text{fill:#222;stroke:#fff;stroke-width:4px;stroke-linejoin:round;paint-order:stroke}path{fill:none}.life{stroke:#ccc}.out,.out path{fill:#999}",
     )?;
     out.add(
         b".tokens{stroke:#c2452d}.logs{stroke:#2f6db3}.reading{stroke:#3b8a3e}.maps{stroke:#8a5fb0}",

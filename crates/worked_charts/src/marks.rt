@@ -18,9 +18,59 @@ const SCRIPT: &[u8] =
 
 /// Its marks. The first Want is lost, and a round of ticks follows it (rows 1 to 7): the client asks again, and the
 /// registry tells six nodes of its maps. The Want of the second call comes twice, of one row, and so does its Grant,
-/// of two; only the first of these is written.
+/// of two; only the first of these is written. What is written at the rows stands behind all else.
 const MARKS: [Mark; 36] = [
     Mark::Lost { row: 0, nth: 0 },
+    Mark::Arrow {
+        row: 8,
+        sent: Some(1),
+    },
+    Mark::Arrow {
+        row: 9,
+        sent: Some(7),
+    },
+    Mark::Arrow {
+        row: 10,
+        sent: Some(7),
+    },
+    Mark::Arrow {
+        row: 11,
+        sent: Some(7),
+    },
+    Mark::Arrow {
+        row: 12,
+        sent: Some(7),
+    },
+    Mark::Arrow {
+        row: 13,
+        sent: Some(7),
+    },
+    Mark::Arrow {
+        row: 14,
+        sent: Some(7),
+    },
+    Mark::Arrow {
+        row: 15,
+        sent: Some(8),
+    },
+    Mark::Done { row: 15, nth: 0 },
+    Mark::Arrow {
+        row: 17,
+        sent: Some(16),
+    },
+    Mark::Arrow {
+        row: 18,
+        sent: Some(17),
+    },
+    Mark::Done { row: 18, nth: 0 },
+    Mark::Arrow {
+        row: 19,
+        sent: Some(16),
+    },
+    Mark::Arrow {
+        row: 20,
+        sent: Some(19),
+    },
     Mark::Label { row: 0 },
     Mark::Label { row: 1 },
     Mark::Label { row: 2 },
@@ -29,68 +79,18 @@ const MARKS: [Mark; 36] = [
     Mark::Label { row: 5 },
     Mark::Label { row: 6 },
     Mark::Label { row: 7 },
-    Mark::Arrow {
-        row: 8,
-        sent: Some(1),
-    },
     Mark::Label { row: 8 },
-    Mark::Arrow {
-        row: 9,
-        sent: Some(7),
-    },
     Mark::Label { row: 9 },
-    Mark::Arrow {
-        row: 10,
-        sent: Some(7),
-    },
     Mark::Label { row: 10 },
-    Mark::Arrow {
-        row: 11,
-        sent: Some(7),
-    },
     Mark::Label { row: 11 },
-    Mark::Arrow {
-        row: 12,
-        sent: Some(7),
-    },
     Mark::Label { row: 12 },
-    Mark::Arrow {
-        row: 13,
-        sent: Some(7),
-    },
     Mark::Label { row: 13 },
-    Mark::Arrow {
-        row: 14,
-        sent: Some(7),
-    },
     Mark::Label { row: 14 },
-    Mark::Arrow {
-        row: 15,
-        sent: Some(8),
-    },
-    Mark::Done { row: 15, nth: 0 },
     Mark::Label { row: 15 },
     Mark::Label { row: 16 },
-    Mark::Arrow {
-        row: 17,
-        sent: Some(16),
-    },
     Mark::Label { row: 17 },
-    Mark::Arrow {
-        row: 18,
-        sent: Some(17),
-    },
-    Mark::Done { row: 18, nth: 0 },
     Mark::Label { row: 18 },
-    Mark::Arrow {
-        row: 19,
-        sent: Some(16),
-    },
     Mark::Label { row: 19 },
-    Mark::Arrow {
-        row: 20,
-        sent: Some(19),
-    },
     Mark::Label { row: 20 },
 ];
 
