@@ -31,12 +31,12 @@ module _ (setup : Setup) (works : NodeId → List Work) (c : ℕ) (p : ClientPar
     pub attempt : has_room (attempt_of p.flight) ≡ true
     pub again : has_room (asked_again (tokens_at setup works p) (open_block p.call)) ≡ true
 
-  epochs_have_room_lem : epochs_have_room (tokens_at setup works p) ≡ true
+  starts_with_room : epochs_have_room (tokens_at setup works p) ≡ true
   unfolding epochs_have_room
-  epochs_have_room_lem = refl
+  starts_with_room = refl
 
   pub room : HasRoom → client_has_room (client_at setup works c p) ≡ true
-  room h = simp (h.asked, h.req, h.seq, h.attempt, h.again, epochs_have_room_lem)
+  room h = simp (h.asked, h.req, h.seq, h.attempt, h.again, starts_with_room)
 
   -- the call of the next item is open
   abbrev pub opened : Call → ClientPart

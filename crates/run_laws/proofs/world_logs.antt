@@ -30,4 +30,4 @@ pub mod Horizons
 pub mod Line
 pub mod Texts
 pub mod Laws
-pub mod RolesWords
+pub mod OwnLogs

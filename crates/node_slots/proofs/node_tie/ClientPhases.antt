@@ -54,8 +54,8 @@ use Rattle.node_slots.proofs.node_tie.ClientTokens as tokens
 use Rattle.node_slots.proofs.node_tie.SmallWorld.{premise, premise_by}
 
 -- where no counter of a client that serves is near its end, neither is one of its log, nor of its wants
-log_has_room_lem : (s : Serving) → serving_has_room s ≡ true → has_room s.log.end.seq ≡ true
-log_has_room_lem s room =
+its_log_has_room : (s : Serving) → serving_has_room s ≡ true → has_room s.log.end.seq ≡ true
+its_log_has_room s room =
     and_first (has_room s.log.end.seq) (has_room (attempt_of s.log.flight)) (and_first (log_has_room s.log) (tokens_room s)
     (and_second (has_room s.tokens.req) (log_has_room s.log && tokens_room s)
     (and_second (has_room s.maps.version) (has_room s.tokens.req && (log_has_room s.log && tokens_room s)) room)))
@@ -202,7 +202,7 @@ module _ (logs : Bool) (members part limit c : ℕ) (small : part < slot_count) 
       staying.down_begins_so logs members part limit c small pos less n l sees h servers number (work_at (items_begin l.items) number) later
   begin_so servers number (Opening l o) sees h later room =
       opening.opening_begins_so logs members part limit c small pos less n l o sees h number (work_at (items_begin l.items) number)
-  begin_so servers number (Serves s) sees h later room = serving_begins_so s sees h (log_has_room_lem s room) number (work_at (items_begin s.lasting.items) number)
+  begin_so servers number (Serves s) sees h later room = serving_begins_so s sees h (its_log_has_room s room) number (work_at (items_begin s.lasting.items) number)
 
   item_so : (servers : ℕ) (p : Phase) (next : Option ℕ) → ClientAgrees logs part c n p → ClientStands part limit c n p → has_room (lasting_of p).inc ≡ true
       → phase_has_room p ≡ true → Goes p (begins_item servers p next)
@@ -222,7 +222,7 @@ module _ (logs : Bool) (members part limit c : ℕ) (small : part < slot_count) 
   on_deliver_so capacity (Down l) packet sees h gets known room = still_so (Down l) sees h
   on_deliver_so capacity (Opening l o) packet sees h gets known room =
       opening.opening_packet logs members part limit c small pos less n l o sees h capacity packet gets known
-  on_deliver_so capacity (Serves s) packet sees h gets known room = serving_packet s sees h (log_has_room_lem s room) packet gets (wants_have_room s room)
+  on_deliver_so capacity (Serves s) packet sees h gets known room = serving_packet s sees h (its_log_has_room s room) packet gets (wants_have_room s room)
 
   client_deliver_so : (peers : Peers) (capacity : ℕ) (p : Phase) (packet : wire.Packet) → ClientAgrees logs part c n p → ClientStands part limit c n p
       → (is_well_formed peers packet ≡ true → ClientGets logs part limit c n p packet) → phase_has_room p ≡ true → Goes p (client_deliver peers capacity p packet)
@@ -238,7 +238,7 @@ module _ (logs : Bool) (members part limit c : ℕ) (small : part < slot_count) 
   unfolding client_tick
   client_tick_so capacity (Down l) sees h ends room = still_so (Down l) sees h
   client_tick_so capacity (Opening l o) sees h ends room = opening.opening_time logs members part limit c small pos less n l o sees h capacity ends
-  client_tick_so capacity (Serves s) sees h ends room = serving_time s sees h (log_has_room_lem s room)
+  client_tick_so capacity (Serves s) sees h ends room = serving_time s sees h (its_log_has_room s room)
 
   one_packet : (a b : wire.Packet) → Deliver a ≡ Deliver b → a ≡ b
   one_packet a b same = cc

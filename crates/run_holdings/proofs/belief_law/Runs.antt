@@ -29,8 +29,6 @@ use Rattle.xfs_base.specs.Modes.{mode_number}
 use Rattle.wire_msg.specs.declared.body.Body.{Body}
 use Rattle.wire_msg.specs.declared.body.Body.TheVariants as body
 use Rattle.wire_msg.specs.declared.packet.Packet.{Packet}
-use Rattle.wire_msg.specs.declared.tokens.Forward.{Forward}
-use Rattle.wire_msg.specs.declared.tokens.Supply.{Supply}
 use Rattle.world_base.specs.Cluster.{cluster_of, place_of}
 use Rattle.world_base.specs.declared.cluster.Cluster.{Cluster}
 use Rattle.world_base.specs.declared.estate.Estate.{Estate}

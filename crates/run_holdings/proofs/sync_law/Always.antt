@@ -8,7 +8,7 @@ use Rattle.core_world.specs.AnyNode.{any_start, any_step}
 use Rattle.core_world.specs.declared.any_node.AnyNode.{AnyNode}
 use Rattle.core_world.specs.declared.any_node.AnyNode.TheVariants as any
 use Rattle.node_slots.specs.client_law.Events.{HoldsAfterAnyEvents, WhereItServes, after_events}
-use Rattle.run_answers.proofs.linear_law.Moments.{AllSo, each_so}
+use Rattle.run_answers.proofs.linear_law.Moments.{each_so}
 use Rattle.headline.specs.Moments.{moment, node_named}
 use Rattle.version_model.specs.declared.work.Work.{Work}
 use Rattle.wire_msg.specs.declared.packet.Do.{Do}

@@ -1,12 +1,10 @@
 -- Where a sync is done, nothing of its client is dirty, and the join of what was filed is the newest version of each block that the client wrote last.
-use Rattle.std.proofs.Common.{◌≡◌, ◌<◌, ◌≤◌, ◌+◌, ℕ, zero, suc, nat_lt, Bool, true, false, List, [], ◌∷◌, length, slice_get, Option, Some, None, refl, sym, ap, subst, ◌∙◌, arith}
+use Rattle.std.proofs.Common.{◌≡◌, ◌<◌, ◌≤◌, ◌+◌, ℕ, suc, nat_lt, Bool, true, false, List, [], ◌∷◌, length, slice_get, Some, None, refl, sym, ap, subst, ◌∙◌, arith}
 use Rattle.std.proofs.lemmas.Bool.Decides.{nat_tests}
 use Rattle.std.proofs.Math.Nat.{mod-lt}
-use Rattle.client_node.specs.declared.client.Client.{Client}
 use Rattle.client_node.specs.declared.phase.Phase.{Phase}
 use Rattle.client_node.specs.declared.phase.Phase.TheVariants.{Down, Opening, Serving as Serves}
 use Rattle.core_world.specs.declared.any_node.AnyNode.{AnyNode}
-use Rattle.core_world.specs.declared.any_node.AnyNode.TheVariants as any
 use Rattle.node_slots.specs.client_law.Events.{WhereItServes}
 use Rattle.node_slots.specs.client_law.Unsettled.{WritesJustWhatIsDirty, WritesWhatIsDirty}
 use Rattle.headline.specs.Calls.{IsDrained}
@@ -18,7 +16,7 @@ use Rattle.headline.specs.Versions.{OwnsFrom, history_at}
 use Rattle.run_holdings.proofs.sync_law.Always.{always_at}
 use Rattle.run_holdings.proofs.sync_law.Clean.{none_dirty}
 use Rattle.headline.specs.Settled.{BlocksAreSettled, IsSettledAt, NobodyFell, NobodyHasDirty, SettledBelow}
-use Rattle.headline.specs.Syncs.{HasSettled, IsJoined, SyncsSettle}
+use Rattle.headline.specs.Syncs.{IsJoined, SyncsSettle}
 use Rattle.token_client.specs.Held.{is_dirty}
 use Rattle.token_client.specs.State.{TokensState, held_of}
 use Rattle.version_model.specs.declared.history.Version.{Version}
@@ -27,7 +25,6 @@ use Rattle.world_base.specs.declared.estate.Estate.{Estate}
 use Rattle.world_base.specs.declared.world.World.{World}
 use Rattle.xfs_base.specs.Blocks.{slot_of}
 use Rattle.xfs_base.specs.declared.block.BlockId.{BlockId}
-use Rattle.xfs_base.specs.declared.node.NodeId.TheVariants as nodes
 use Rattle.xfs_base.specs.Limits.{slot_count}
 
 -- whoever wrote the last version is the one by whom the newest is

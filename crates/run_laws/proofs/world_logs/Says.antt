@@ -14,7 +14,7 @@ use Rattle.wire_msg.specs.declared.packet.Packet.{Packet}
 use Rattle.world_base.specs.declared.cluster.Cluster.{Cluster}
 use Rattle.run_laws.specs.world_law.Standing as tokens
 use Rattle.run_laws.specs.world_logs.Roles.{asker_by}
-use Rattle.run_laws.proofs.world_logs.RolesWords.{IsOf}
+use Rattle.run_laws.proofs.world_logs.OwnLogs.{IsOf}
 use Rattle.headline.specs.Logs.{Role, log_by, owner_by}
 use Rattle.xfs_base.specs.declared.node.NodeId.{NodeId}
 use Rattle.xfs_base.specs.declared.node.NodeId.TheVariants.{Client, Manager, Server, Cleaner, Registry}

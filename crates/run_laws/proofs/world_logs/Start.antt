@@ -40,7 +40,7 @@ use Rattle.headline.specs.Moments.{node_in}
 use Rattle.run_laws.proofs.world_logs.Fits.{AllHold, NodeHolds}
 use Rattle.run_laws.specs.world_logs.Lines.{IsBegun}
 use Rattle.run_laws.proofs.world_logs.Settings.{map_fits}
-use Rattle.run_laws.proofs.world_logs.RolesWords.{IsOf}
+use Rattle.run_laws.proofs.world_logs.OwnLogs.{IsOf}
 use Rattle.headline.specs.Logs.{IsThere, Role}
 use Rattle.headline.specs.Logs.Role.{OfClient, OfCleaner, OfManager}
 use Rattle.run_laws.specs.world_logs.Standing.{CleanerAs, ClientAs, ManagerAs, OwnerSeen, Seen, Stands}

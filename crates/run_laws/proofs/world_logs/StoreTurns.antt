@@ -29,7 +29,7 @@ use Rattle.run_laws.proofs.world_logs.Leading.{its_of, left_by}
 use Rattle.run_laws.proofs.world_logs.Lists.{in_listed}
 use Rattle.run_laws.proofs.world_logs.Roles.{no_registry, no_server}
 use Rattle.run_laws.specs.world_logs.Roles.{asker_by}
-use Rattle.run_laws.proofs.world_logs.RolesWords.{IsOf}
+use Rattle.run_laws.proofs.world_logs.OwnLogs.{IsOf}
 use Rattle.headline.specs.Logs.{Role, owner_by}
 use Rattle.headline.specs.Logs.Role.{OfClient, OfCleaner, OfManager}
 use Rattle.run_laws.specs.world_logs.Standing.{CleanerAs, ClientAs, ManagerAs}
